@@ -1,0 +1,101 @@
+-- A keyword type answers what each keyword may ask, when it holds and which faults it finds, and how its runs go by
+-- turns. A child is named by the number of the request that its maker made. (Core 2020-12, 7.1 and 10)
+use Rattle.std.specs.Prelude.{Bool, List, Option, false, true, ℕ}
+use Rattle.serde_json.specs.Data.{Data}
+use Rattle.schema_reports.specs.Instance.{Place, Step, Subject, Text}
+use Rattle.schema_reports.specs.Reports.{Described, Error, Outcome, Unit_}
+use Rattle.schema_reports.specs.Matching.{Matching, Pair}
+
+pub data Below : Type 0 where
+  here : Below
+  down : Step → Below
+
+-- a child of a keyword, by the place of its request among those of the maker, asked at its own place or at one below
+pub record Question : Type 0 where
+  pub child : ℕ
+  pub below : Below
+
+pub data Mode : Type 0 where
+  for_verdict for_first for_all for_units : Mode
+
+-- where an error or a match stands: the path from the keyword on, or from the absorbed one named
+pub record Spot : Type 0 where
+  pub absorbed : Option Text
+  pub path : Text
+  pub below : Place
+
+pub record Own : Type 0 where
+  pub spot : Spot
+  pub name : Text
+  pub text : Text
+
+-- an error of its own, or one of a child, which passes unchanged
+pub data Fault : Type 0 where
+  own : Own → Fault
+  passed : Error → Fault
+
+-- what a keyword's evaluation gives beside its verdict
+pub record Gives : Type 0 where
+  pub children : List Unit_
+  pub annotations : Option Data
+  pub errors : List Described
+  pub absorbed : List (Text × List Unit_)
+
+-- what a question answers
+abbrev pub Answers : Type 0
+Answers = Question → Outcome
+
+-- what a maker may reserve a number for
+pub data Kind : Type 0 where
+  of_properties of_items : Kind
+
+-- what a run marks: a child, or the number that its maker got for a kind
+pub data Marked : Type 0 where
+  a_child : ℕ → Marked
+  a_pending : Kind → Marked
+
+abbrev pub same_kind : Kind → Kind → Bool
+same_kind of_properties of_properties = true
+same_kind of_items of_items = true
+same_kind _ _ = false
+
+-- where a match is asked for: at a spot, shown with evaluation path and place or without, and the pattern as the schema has it
+pub record MatchPoint : Type 0 where
+  pub spot : Spot
+  pub located : Bool
+  pub pattern : Option Text
+
+pub data Reply : Type 0 where
+  no_reply : Reply
+  truth : Bool → Reply
+  first_of_it : Option Error → Reply
+  all_of_it : List Error → Reply
+  unit_of_it : Unit_ → Reply
+
+pub data Turn : Type 0 where
+  ask : Question → Mode → Turn
+  match_text : Pair → MatchPoint → Turn
+  mark : Marked → Turn
+  unmark : Turn
+  ecma : Text → Turn
+  done : Turn
+
+-- what stands in the answer of a run
+pub record Answer : Type 0 where
+  pub verdict : Bool
+  pub errors : List Fault
+  pub gives : Gives
+
+-- R is a run's state, with the answer so far
+pub record Keywords (K R : Type 0) : Type 0 where
+  -- whether texts of errors are spoken of: where fractions are about, they are not, and each text counts as empty
+  pub texts : Bool
+  pub may_ask : K → Subject → List Question
+  pub holds : K → Subject → Matching → (Question → Bool) → Bool
+  pub faults : K → Subject → Matching → Answers → List Fault
+  pub units : K → Subject → Matching → (Question → Unit_) → Gives
+  pub most_turns : K → Subject → ℕ
+  pub begin : K → Subject → Mode → R
+  pub turn : K → Subject → R → Reply → R
+  pub step : K → Subject → R → Reply → Turn
+  pub answer : R → Answer

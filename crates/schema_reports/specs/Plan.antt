@@ -1,0 +1,285 @@
+-- A target is a place in a schema, read in a resolver state, a draft and vocabularies; a key is a target as it is
+-- reached. Its plan is what it asks of an instance: always accepted, never accepted, or a list of keywords. Its children
+-- are the subschemas and the references of these keywords. (Core 2020-12, 4.3, 8.2.3, 9.1.2 and 10; RFC 6901, 6)
+use Rattle.std.specs.List.{list_any, starts_with}
+use Rattle.std.specs.Prelude.{Bool, Err, List, None, Ok, Option, Result, Some, [], bytes_eq, codes, count_by, drop, false, find, if◌then◌else◌, is_some, length, nat_le, option_and_then, option_map, slice_get, suc, take, true, unwrap_or, zero, ℕ, ◌&&◌, ◌++◌, ◌-◌, ◌==◌, ◌||◌, ◌∷◌}
+use Rattle.std.specs.Str.Lossy.{utf8_lossy}
+use Rattle.percent_encoding.specs.Percent.{percent_decode, percent_encode_byte}
+use Rattle.serde_json.specs.Data.{Data, Members, boolean, depth, member, no_members, null, object, string}
+use Rattle.schema_reports.specs.Instance.{Place, Text, member_of, same_place}
+use Rattle.schema_reports.specs.Pointer.{joined, pointer_to}
+use Rattle.schema_reports.specs.Drafts.{Draft, SchemaPlace, Vocabularies, at_path, format_assertion_vocabulary, format_vocabulary, has_vocabulary, ref_stands_alone, same_draft, same_schema_place, same_vocabularies}
+use Rattle.schema_reports.specs.Resolving.{Found}
+use Rattle.schema_reports.specs.Making.{Making, Request, a_keyword, compile, nothing, refer, refused}
+use Rattle.schema_reports.specs.Keywords.{Marked, a_child, a_pending, same_kind}
+use Rattle.schema_reports.specs.Parts.{Parts}
+
+-- what a schema place means: the value there, read in a resolver state, a draft and vocabularies
+pub record Target (S : Type 0) : Type 0 where
+  pub place : SchemaPlace
+  pub state : S
+  pub draft : Draft
+  pub vocabularies : Vocabularies
+
+-- a target as it is reached: its location, the part of it that the last reference gave, and how much of it lies outside its resource
+pub record Key (S : Type 0) : Type 0 where
+  pub target : Target S
+  pub location : Text
+  pub base : Text
+  pub start : ℕ
+
+pub data Reference : Type 0 where
+  to_ref to_dynamic to_recursive : Reference
+
+abbrev pub reference_named : Text → Option Reference
+reference_named name = if bytes_eq name (codes "$ref") then Some to_ref else (if bytes_eq name (codes "$dynamicRef") then Some to_dynamic else (if bytes_eq name (codes "$recursiveRef") then Some to_recursive else None))
+
+abbrev pub is_dynamic : Reference → Bool
+is_dynamic to_dynamic = true
+is_dynamic _ = false
+
+-- what follows the first `#`, and what stands before it
+abbrev pub fragment : Text → Text
+fragment [] = []
+fragment (x ∷ xs) = if x == 35 then xs else fragment xs
+
+abbrev pub without_fragment : Text → Text
+without_fragment [] = []
+without_fragment (x ∷ xs) = if x == 35 then [] else x ∷ without_fragment xs
+
+-- how many segments a pointer has, and how long its first n segments are
+abbrev pub segment_count : Text → ℕ
+segment_count location = count_by (λ x. x == 47) location
+
+abbrev pub segments_length : ℕ → Text → ℕ
+segments_length n [] = 0
+segments_length zero (x ∷ xs) = if x == 47 then 0 else suc (segments_length zero xs)
+segments_length (suc n) (x ∷ xs) = if x == 47 then suc (segments_length n xs) else suc (segments_length (suc n) xs)
+
+abbrev pub without_prefix : Place → Place → Place
+without_prefix inner outer = drop (length outer) inner
+
+-- ---- a keyword of a plan
+
+pub data Form (K : Type 0) : Type 0 where
+  keyword : K → List Request → List Text → Form K
+  reference : Reference → Text → Form K
+
+pub record Part (K : Type 0) : Type 0 where
+  pub name : Text
+  pub priority : ℕ
+  pub is_leaf : Bool
+  pub form : Form K
+
+pub data Plan (K : Type 0) : Type 0 where
+  always : Plan K
+  never : Plan K
+  these : List (Part K) → Plan K
+
+-- sorted by priority; parts of one priority stay in order
+abbrev pub placed : {K : Type 0} → Part K → List (Part K) → List (Part K)
+placed x [] = x ∷ []
+placed x (y ∷ ys) = if nat_le x.priority y.priority then x ∷ y ∷ ys else y ∷ placed x ys
+
+abbrev pub sorted : {K : Type 0} → List (Part K) → List (Part K)
+sorted [] = []
+sorted (x ∷ xs) = placed x (sorted xs)
+
+abbrev pub ok_of : {A E : Type 0} → Result A E → Option A
+ok_of (Ok a) = Some a
+ok_of (Err e) = None
+
+-- an edge to a child: its key, what it adds to the evaluation path, and whether it is a reference
+pub record Edge (S : Type 0) : Type 0 where
+  pub key : Key S
+  pub path : Text
+  pub is_reference : Bool
+
+-- the bytes that stand in a URI's fragment as they are; the others are percent-encoded
+abbrev pub stands_plainly : ℕ → Bool
+stands_plainly x = (nat_le 65 x && nat_le x 90) || (nat_le 97 x && nat_le x 122) || (nat_le 48 x && nat_le x 57) || list_any (λ y. x == y) (codes "-._~!$&'()*+,;=:@/")
+
+abbrev pub encoded : Text → Text
+encoded [] = []
+encoded (x ∷ xs) = (if stands_plainly x then x ∷ [] else percent_encode_byte x) ++ encoded xs
+
+abbrev pub option_list : {A : Type 0} → Option A → List A
+option_list None = []
+option_list (Some a) = a ∷ []
+
+module _ {S K R : Type 0} (w : Parts S K R) where
+  abbrev pub schema_at : SchemaPlace → Data
+  schema_at p = unwrap_or (w.resolver.value p) null
+
+  abbrev pub schema_of : Key S → Data
+  schema_of k = schema_at k.target.place
+
+  -- the URI of the key's resource, with the pointer from `start` on; a base of scheme `json-schema` gives none
+  abbrev pub absolute_of : Key S → Text → Option Text
+  absolute_of k location = if starts_with (λ x y. x == y) (w.resolver.base_uri k.target.state) (codes "json-schema:") then None
+      else Some (without_fragment (w.resolver.base_uri k.target.state) ++ (35 ∷ encoded (drop k.start location)))
+
+  -- ---- children
+
+  -- the subschema at a path below
+  abbrev pub inside : Key S → Place → S → Draft → Key S
+  inside k path state draft = record {
+    target = record {
+      place = at_path k.target.place path;
+      state = state;
+      draft = draft;
+      vocabularies = if same_draft draft k.target.draft then k.target.vocabularies else w.resolver.find_vocabularies state draft (at_path k.target.place path);
+    };
+    location = k.location ++ pointer_to path;
+    base = k.base;
+    start = elim (w.resolver.id draft (schema_at (at_path k.target.place path))) [ None ↦ k.start | Some id ↦ length (k.location ++ pointer_to path) ];
+  }
+
+  abbrev pub subschema : Key S → Place → Option (Edge S)
+  subschema k path = let place = at_path k.target.place path in
+      let draft = w.resolver.detect k.target.draft (schema_at place) in
+      option_map (λ state. record { key = inside k path state draft; path = pointer_to path; is_reference = false }) (ok_of (w.resolver.in_subresource k.target.state draft place))
+
+  -- what a reference's text leads to
+  abbrev pub found : Key S → Reference → Text → Result (Found S) Text
+  found k to_recursive text = w.resolver.lookup_recursive k.target.state
+  found k kind [] = w.resolver.lookup k.target.state (codes "#") (is_dynamic kind)
+  found k kind (x ∷ text) = w.resolver.lookup k.target.state (x ∷ text) (is_dynamic kind)
+
+  -- the pointer that a fragment is, or else, for a name, the target's path below the root of its resource
+  abbrev pub location_by : Found S → Text → Text
+  location_by f [] = []
+  location_by f (x ∷ xs) = if x == 47 then utf8_lossy (percent_decode (x ∷ xs)) else pointer_to (without_prefix f.place.path (w.resolver.resource_root f.state).path)
+
+  -- ---- how much of a pointer lies outside the innermost resource that it passes into
+
+  abbrev pub lies_on_way : Place → SchemaPlace → Bool
+  lies_on_way path q = same_place q.path (take (length q.path) path)
+
+  -- the innermost subresource with an identifier on the way from a place down to a path, at most h subresources down; else what is given
+  abbrev pub innermost : ℕ → Draft → SchemaPlace → Place → SchemaPlace → SchemaPlace
+  innermost zero draft p path given = given
+  innermost (suc h) draft p path given = elim (find (lies_on_way path) (w.resolver.subresources_of draft p)) [
+    | None ↦ given
+    | Some q ↦ let inner = w.resolver.detect draft (schema_at q) in
+        innermost h inner q path (if is_some (w.resolver.id inner (schema_at q)) then q else given)
+  ]
+
+  -- the place that a pointer with so many segments counts from
+  abbrev pub counts_from : SchemaPlace → ℕ → SchemaPlace
+  counts_from p segments = record { document = p.document; path = take (length p.path - segments) p.path }
+
+  abbrev pub start_of : Draft → Found S → Text → ℕ
+  start_of draft f location =
+      let from = counts_from f.place (segment_count location) in
+      let inner = innermost (suc (length f.place.path)) (w.resolver.detect draft (schema_at from)) from f.place.path from in
+      segments_length (length inner.path - length from.path) location
+
+  -- a name's location lies in the innermost resource
+  abbrev pub start_by : Draft → Found S → Text → ℕ
+  start_by draft f [] = 0
+  start_by draft f (x ∷ xs) = if x == 47 then start_of draft f (location_by f (x ∷ xs)) else 0
+
+  abbrev pub referred_at : Found S → Text → ℕ → Key S
+  referred_at f location start = record {
+    target = record { place = f.place; state = f.state; draft = f.draft; vocabularies = w.resolver.find_vocabularies f.state f.draft f.place };
+    location = location;
+    base = location;
+    start = start;
+  }
+
+  abbrev pub referred : Draft → Found S → Reference → Text → Key S
+  referred draft f to_recursive text = referred_at f [] 0
+  referred draft f kind text = referred_at f (location_by f (fragment text)) (start_by draft f (fragment text))
+
+  -- the edge of a reference that stands under the keyword `name`
+  abbrev pub reference_edge : Key S → Text → Reference → Text → Option (Edge S)
+  reference_edge k name kind text = option_map (λ f. record { key = referred k.target.draft f kind text; path = joined [] name; is_reference = true }) (ok_of (found k kind text))
+
+  -- a reference other than `$recursiveRef` to the very object that holds it is no keyword
+  abbrev pub is_self : Key S → Reference → Text → Bool
+  is_self k to_recursive text = false
+  is_self k kind text = unwrap_or (option_map (λ f. same_schema_place f.place k.target.place) (ok_of (found k kind text))) false
+
+  abbrev pub requested : Key S → Text → Request → Option (Edge S)
+  requested k name (compile path) = subschema k path
+  requested k name (refer text) = if is_self k to_ref text then None else reference_edge k name to_ref text
+
+  -- the child that a keyword knows by the number of its request
+  abbrev pub child : Key S → Text → List Request → ℕ → Option (Edge S)
+  child k name requests i = option_and_then (requested k name) (slice_get requests i)
+
+  -- ---- the plan
+
+  -- the option, or else by the vocabularies or in drafts 4 to 7
+  abbrev pub checks_formats : Key S → Bool
+  checks_formats k = unwrap_or w.formats (ref_stands_alone k.target.draft || has_vocabulary k.target.vocabularies format_assertion_vocabulary || has_vocabulary k.target.vocabularies format_vocabulary)
+
+  abbrev pub making : Key S → Members → Bool → Text → Making K
+  making k whole custom name = w.table.make custom name whole k.target.draft k.target.vocabularies (checks_formats k) (is_self k to_ref)
+
+  abbrev pub part_made : Text → ℕ → Bool → Making K → Option (Part K)
+  part_made name priority leaf m = elim m.ends [ a_keyword meaning absorbed ↦ Some (record { name = name; priority = priority; is_leaf = leaf; form = keyword meaning m.requests absorbed }) | nothing ↦ None | refused text ↦ None ]
+
+  abbrev pub reference_part : Key S → Text → ℕ → Reference → Data → Option (Part K)
+  reference_part k name priority kind (string text) = if is_self k kind text then None else Some (record { name = name; priority = priority; is_leaf = false; form = reference kind text })
+  reference_part k name priority kind _ = None
+
+  -- the built-in table decides; references are the engine's own
+  abbrev pub builtin_part : Key S → Members → Text → Data → Option (Part K)
+  builtin_part k whole name value = elim (w.table.builtin k.target.draft k.target.vocabularies name) [
+    | None ↦ None
+    | Some b ↦ elim (reference_named name) [
+      | Some kind ↦ reference_part k name b.priority kind value
+      | None ↦ part_made name b.priority b.is_leaf (making k whole false name)
+    ]
+  ]
+
+  abbrev pub part : Key S → Members → Text → Data → Option (Part K)
+  part k whole name value = elim (w.table.owns name) [
+    | true ↦ part_made name 80 false (making k whole true name)
+    | false ↦ builtin_part k whole name value
+  ]
+
+  -- the parts of the members in the order of their names
+  abbrev pub parts : Key S → Members → Members → List (Part K)
+  parts k whole no_members = []
+  parts k whole (member name value rest) = option_list (part k whole name value) ++ parts k whole rest
+
+  abbrev pub plan_alone : Option (Part K) → Plan K
+  plan_alone None = always
+  plan_alone (Some p) = these (p ∷ [])
+
+  abbrev pub plan_of : Key S → Data → Plan K
+  plan_of k (boolean true) = always
+  plan_of k (boolean false) = never
+  plan_of k (object ms) = elim (if ref_stands_alone k.target.draft then member_of (codes "$ref") ms else None) [
+    | Some value ↦ plan_alone (reference_part k (codes "$ref") 70 to_ref value)
+    | None ↦ these (sorted (parts k ms ms))
+  ]
+  plan_of k _ = always
+
+  abbrev pub plan : Key S → Plan K
+  plan k = plan_of k (schema_of k)
+
+  -- how deep subschemas can lie in one another
+  abbrev pub height : Key S → ℕ
+  height k = suc (depth (schema_of k))
+
+  -- ---- equality of keys
+
+  abbrev pub same_target : Target S → Target S → Bool
+  same_target a b = same_schema_place a.place b.place && w.resolver.same_state a.state b.state && same_draft a.draft b.draft && same_vocabularies a.vocabularies b.vocabularies
+
+  abbrev pub same_key : Key S → Key S → Bool
+  same_key a b = same_target a.target b.target && bytes_eq a.location b.location && bytes_eq a.base b.base && (a.start == b.start)
+
+  abbrev pub same_edge_key : Option (Edge S) → Option (Edge S) → Bool
+  same_edge_key (Some a) (Some b) = same_key a.key b.key
+  same_edge_key _ _ = false
+
+  -- two marks of a keyword are of one key
+  abbrev pub same_child : Key S → Text → List Request → Marked → Marked → Bool
+  same_child k name requests (a_child i) (a_child j) = (i == j) || same_edge_key (child k name requests i) (child k name requests j)
+  same_child k name requests (a_pending a) (a_pending b) = same_kind a b
+  same_child k name requests _ _ = false

@@ -1,0 +1,21 @@
+-- A pointer is the text of a place: a `/` before each segment, in which `~` is written `~0` and `/` is written `~1`.
+-- (RFC 6901, 3 and 4)
+use Rattle.std.specs.Prelude.{[], decimal, if◌then◌else◌, ◌++◌, ◌==◌, ◌∷◌}
+use Rattle.schema_reports.specs.Instance.{Place, Step, Text, to_item, to_member, to_name}
+
+abbrev pub escaped : Text → Text
+escaped [] = []
+escaped (x ∷ xs) = (if x == 126 then 126 ∷ 48 ∷ [] else (if x == 47 then 126 ∷ 49 ∷ [] else x ∷ [])) ++ escaped xs
+
+abbrev pub joined : Text → Text → Text
+joined location segment = location ++ (47 ∷ escaped segment)
+
+-- a name's place is shown by its object's pointer
+abbrev pub step_text : Step → Text
+step_text (to_member k) = 47 ∷ escaped k
+step_text (to_item n) = 47 ∷ decimal n
+step_text (to_name k) = []
+
+abbrev pub pointer_to : Place → Text
+pointer_to [] = []
+pointer_to (s ∷ p) = step_text s ++ pointer_to p

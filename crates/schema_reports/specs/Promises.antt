@@ -1,0 +1,80 @@
+-- What a cover's members say, and so what the four calls answer where they decide.
+use Rattle.std.specs.Prelude.{List, None, Option, Some, [], length, ℕ, ◌++◌, ◌<◌, ◌↔◌, ◌∷◌, ◌≡◌, ◌≤◌}
+use Rattle.serde_json.specs.Data.{Data}
+use Rattle.schema_reports.specs.Instance.{Place, Subject, Text}
+use Rattle.schema_reports.specs.Reports.{Error}
+use Rattle.schema_reports.specs.Matching.{Assumptions, Completion, Extends, Matcher, completion_of}
+use Rattle.schema_reports.specs.Keywords.{Keywords}
+use Rattle.schema_reports.specs.Parts.{Parts}
+use Rattle.schema_reports.specs.Plan.{Key}
+use Rattle.schema_reports.specs.Meaning.{unfold_}
+use Rattle.schema_reports.specs.Units.{plain_units}
+use Rattle.schema_reports.specs.Runs.{Met, first_error, run}
+use Rattle.schema_reports.specs.Cover.{Call, Cover, Decides, Sense, branch_at, evaluate, iter_errors, plain, validate}
+use Rattle.schema_reports.specs.Shared.{EachAccepts, Kept, Shared}
+use Rattle.schema_reports.specs.Laws.{EachKeeps}
+use Rattle.schema_reports.specs.Guarded.{Nodes, guarded_sense}
+use Rattle.schema_reports.specs.Headline.{ErrorsSay, FirstSays, FirstShared, IsFailure, Lists, VerdictSays}
+use Rattle.schema_reports.specs.Members.{Follows, Partly, Speaks, all_accept, is_nil, listed, shared_with}
+
+module _ {S K R : Type 0} (w : Parts S K R) where
+  -- a plain run under assumptions speaks, in each mode, for every completion that extends them
+  abbrev pub RunsSpeak : Type 0
+  RunsSpeak = EachKeeps w.keywords → (instance : Data) (as' : Assumptions) (c : Completion)
+      → Extends (completion_of as') as' → Extends c as' → (n : ℕ) (k : Key S) (path : Text) (p : Place)
+      → Speaks as' (run w instance as' n k path p) (unfold_ w instance c n k path p) (plain_units w instance c n k path p)
+
+  -- where the first run of `evaluate` meets no unfinished match, its units are the plain ones under every completion
+  abbrev pub UnitsArePlain : Type 0
+  UnitsArePlain = EachKeeps w.keywords → (instance : Data) (n : ℕ) (root : Key S) → branch_at (plain w instance n root) evaluate [] ≡ None
+      → (c : Completion) → (run w instance [] n root [] []).units tt ≡ plain_units w instance c n root [] []
+
+  abbrev pub PlainFollows : Type 0
+  PlainFollows = EachKeeps w.keywords → (instance : Data) (n : ℕ) (root : Key S) → Follows (plain w instance n root)
+
+-- and so does a run over numbered nodes, returns or none
+abbrev pub NodesFollow : {K R : Type 0} → Keywords K R → Type 0
+NodesFollow {K} keywords = EachKeeps keywords → (matcher : Matcher) (nodes : Nodes K) (subject_of : Place → Subject) (n i : ℕ)
+    → Follows (guarded_sense keywords matcher nodes subject_of n i)
+
+-- the failure is one of the call, if its first run meets an unfinished match
+abbrev pub FailsWith : Sense → Call → Error → Type 0
+FailsWith v call e = (m : Met) → branch_at v call [] ≡ Some m → IsFailure v call e
+
+-- the members of a call that decides, the last of which assumes a yes everywhere
+abbrev pub AreMembers : Sense → Call → List Assumptions → Assumptions → Type 0
+AreMembers v call others last = Cover v call [] (others ++ last ∷ []) × (length (others ++ last ∷ []) ≤ 32)
+
+abbrev pub VerdictOfMembers : Type 0
+VerdictOfMembers = (v : Sense) → Follows v → (call : Call) (ms : List Assumptions) → Cover v call [] ms → length ms ≤ 32 → VerdictSays v call (all_accept v ms)
+
+abbrev pub SharedOfMembers : Type 0
+SharedOfMembers = (v : Sense) → Follows v → (others : List Assumptions) (last : Assumptions) → Cover v iter_errors [] (others ++ last ∷ []) → Shared v (shared_with v others last)
+
+abbrev pub ErrorsOfMembers : Type 0
+ErrorsOfMembers = (v : Sense) → Follows v → (others : List Assumptions) (last : Assumptions) (failure : Error) → AreMembers v iter_errors others last → FailsWith v iter_errors failure
+    → ErrorsSay v (listed v others last failure)
+
+abbrev pub FirstOfMembers : Type 0
+FirstOfMembers = (v : Sense) → Follows v → (others : List Assumptions) (last : Assumptions) (failure : Error) → AreMembers v validate others last → FailsWith v validate failure
+    → FirstSays v (first_error (listed v others last failure))
+
+abbrev pub EvaluationOfMembers : Type 0
+EvaluationOfMembers = (v : Sense) → Follows v → (others : List Assumptions) (last : Assumptions) (failure : Error) → AreMembers v evaluate others last → FailsWith v evaluate failure
+    → VerdictSays v evaluate (is_nil (listed v others last failure))
+
+-- a call has one cover, and so doesn't decide where that has more than 32 members
+abbrev pub OneCover : Type 0
+OneCover = (v : Sense) (call : Call) (ms ns : List Assumptions) → Cover v call [] ms → Cover v call [] ns → ms ≡ ns
+
+-- a call doesn't decide where a part of its cover has more than 32 lists
+abbrev pub UndecidedPast : Type 0
+UndecidedPast = (v : Sense) (call : Call) (n : ℕ) → Partly v call [] n → 32 < n → ¬ (Decides v call)
+
+-- no error is listed exactly where every completion accepts
+abbrev pub NoneListed : Type 0
+NoneListed = (v : Sense) → Follows v → (call : Call) (es : List Error) → Lists v call es → (es ≡ []) ↔ EachAccepts v
+
+-- the first error is the head of the errors listed, where some are shared
+abbrev pub FirstIsHead : Type 0
+FirstIsHead = (v : Sense) (errors kept : List Error) (o : Option Error) → Kept v errors kept → FirstShared v errors o → o ≡ first_error kept

@@ -1,0 +1,100 @@
+-- The units of a schema at a place, with every reference looked up anew, in the order of its plan. (Core 2020-12, 12.4)
+use Rattle.std.specs.List.{list_all}
+use Rattle.std.specs.Prelude.{Bool, List, None, Option, Some, [], bytes_eq, codes, false, filter, flat_map, if◌then◌else◌, map, nat_le, not, true, ℕ, ◌++◌, ◌||◌, ◌∷◌}
+use Rattle.serde_json.specs.Data.{Data, Members, member, no_members, object}
+use Rattle.schema_reports.specs.Instance.{Place, Subject, Text}
+use Rattle.schema_reports.specs.Pointer.{joined}
+use Rattle.schema_reports.specs.Reports.{Described, Unit_, children_of, report_of, unit, units_of}
+use Rattle.schema_reports.specs.Drafts.{ref_stands_alone}
+use Rattle.schema_reports.specs.Matching.{Completion, Matching, matching}
+use Rattle.schema_reports.specs.Keywords.{Gives, Keywords, Question}
+use Rattle.schema_reports.specs.Parts.{Parts}
+use Rattle.schema_reports.specs.Plan.{Edge, Form, Key, Part, always, keyword, never, plan, reference, schema_of, these}
+use Rattle.schema_reports.specs.Meaning.{Where, asked, at, false_text, referred_to, subject, unfolded}
+
+abbrev pub no_unit : Unit_
+no_unit = unit (record { valid = true; place = []; evaluation_path = []; schema_path = []; absolute = None; annotations = None; errors = [] }) (units_of [])
+
+abbrev pub keyword_unit : Where → Text → Bool → Gives → Unit_
+keyword_unit x name valid g = unit (record {
+  valid = valid;
+  place = x.place;
+  evaluation_path = joined x.path name;
+  schema_path = joined x.location name;
+  absolute = x.absolute (joined x.location name);
+  annotations = g.annotations;
+  errors = g.errors;
+}) (units_of g.children)
+
+-- a keyword's own unit, and those that it absorbs, each with its keyword's name
+abbrev pub PartUnits : Type 0
+PartUnits = Unit_ × List (Text × Unit_)
+
+abbrev pub keyword_units : {K R : Type 0} → Keywords K R → Where → Text → K → Subject → Matching → (Question → Unit_) → PartUnits
+keyword_units keywords x name m s matches answers =
+    let g = keywords.units m s matches answers in
+    let valid = keywords.holds m s matches (λ q. (report_of (answers q)).valid) in (
+      keyword_unit x name valid g,
+      map (λ a. (a.0, keyword_unit x a.0 valid (record { children = a.1; annotations = None; errors = []; absorbed = [] }))) g.absorbed,
+    )
+
+abbrev pub reference_units : Where → Text → Unit_ → PartUnits
+reference_units x name u = (unit (record (report_of u) { evaluation_path = joined x.path name }) (children_of u), [])
+
+-- the units of an entry, with its priority
+pub record Entry : Type 0 where
+  pub priority : ℕ
+  pub units : PartUnits
+
+abbrev pub is_type : Text × Unit_ → Bool
+is_type a = bytes_eq a.0 (codes "type")
+
+-- the absorbed `type` first, and the absorbed counts before the first entry of priority 22 or more
+abbrev pub in_order : List Unit_ → List Entry → List Unit_
+in_order counts [] = counts
+in_order counts (x ∷ xs) = if nat_le 22 x.priority then counts ++ (x.units.0 ∷ map (λ y. y.units.0) xs) else x.units.0 ∷ in_order counts xs
+
+abbrev pub entry_units : List Entry → List Unit_
+entry_units xs = let absorbed = flat_map (λ x. x.units.1) xs in
+    map (λ a. a.1) (filter is_type absorbed) ++ in_order (map (λ a. a.1) (filter (λ a. not (is_type a)) absorbed)) xs
+
+abbrev pub schema_unit : Where → Bool → Option Data → List Described → List Unit_ → Unit_
+schema_unit x valid annotations errors children = unit (record { valid = valid; place = x.place; evaluation_path = x.path; schema_path = x.location; absolute = x.absolute x.location; annotations = annotations; errors = errors }) (units_of children)
+
+abbrev pub true_unit : Where → Unit_
+true_unit x = schema_unit x true None [] []
+
+abbrev pub false_unit : Bool → Where → Subject → Unit_
+false_unit texts x s = schema_unit x false None (record { name = codes "falseSchema"; text = false_text texts s } ∷ []) []
+
+abbrev pub plan_unit : Where → Option Data → List Entry → Unit_
+plan_unit x annotations xs = schema_unit x (list_all (λ u. (report_of u).valid) (entry_units xs)) annotations [] (entry_units xs)
+
+module _ {S K R : Type 0} (w : Parts S K R) where
+  -- members that neither the table nor the built-in keywords know
+  abbrev pub unknown : Key S → Members → Members
+  unknown k no_members = no_members
+  unknown k (member name value rest) = if w.table.owns name || w.resolver.is_known_keyword k.target.draft name then unknown k rest else member name value (unknown k rest)
+
+  abbrev pub annotations_of : Key S → Option Data
+  annotations_of k = elim (schema_of w k) [
+    | object ms ↦ elim (unknown k ms) [ no_members ↦ None | member name value rest ↦ if ref_stands_alone k.target.draft then None else Some (object (unknown k ms)) ]
+    | _ ↦ None
+  ]
+
+module _ {S K R : Type 0} (w : Parts S K R) (instance : Data) where
+  module _ (c : Completion) where
+    abbrev pub part_units : Key S → Text → Place → (Edge S → Place → Unit_) → Text → Form K → PartUnits
+    part_units k path p ask name (keyword m requests absorbed) = keyword_units w.keywords (at w instance k path p) name m (subject w instance p) (matching w.matcher c) (asked w instance no_unit k name requests p ask)
+    part_units k path p ask name (reference kind text) = reference_units (at w instance k path p) name (referred_to w instance no_unit k name kind text p ask)
+
+    abbrev pub entries_of : Key S → Text → Place → (Edge S → Place → Unit_) → List (Part K) → List Entry
+    entries_of k path p ask [] = []
+    entries_of k path p ask (x ∷ xs) = record { priority = x.priority; units = part_units k path p ask x.name x.form } ∷ entries_of k path p ask xs
+
+    abbrev pub unit_of : Key S → Text → Place → (Edge S → Place → Unit_) → Unit_
+    unit_of k path p ask = elim (plan w k) [ always ↦ true_unit (at w instance k path p) | never ↦ false_unit w.keywords.texts (at w instance k path p) (subject w instance p) | these xs ↦ plan_unit (at w instance k path p) (annotations_of w k) (entries_of k path p ask xs) ]
+
+    -- the tree of units with references followed n deep
+    abbrev pub plain_units : ℕ → Key S → Text → Place → Unit_
+    plain_units = unfolded w instance no_unit unit_of

@@ -1,0 +1,2 @@
+//! Reports, keywords and unfinished matches, and the definitions that every contract cites.
+#![tactic(auto)]
