@@ -1,0 +1,359 @@
+-- A number's run is its key's, where the questions that both ask are answered by the same runs.
+use Rattle.std.proofs.Common.{◌≡◌, ℕ, zero, suc, ◌+◌, ◌<◌, ◌≤◌, ◌==◌, Bool, true, false, ◌||◌, ◌&&◌, List, [], ◌∷◌, ◌++◌, length, refl, sym, subst, ◌∙◌, ap, ap₂, arith, true≢false}
+use Rattle.std.specs.Prelude.{Contains, Option, Some, None, Decides, slice_get, map, All, nat_eq}
+use Rattle.std.specs.List.{list_any}
+use Rattle.std.proofs.lemmas.Bool.{eqb-true}
+use Rattle.std.proofs.lemmas.Slice.Eq.{bytes_eq-Decides}
+use Rattle.serde_json.specs.Data.{Data}
+use Rattle.schema_reports.specs.Instance.{Text, Place, Step, to_member, to_item, to_name, same_step, same_place, Subject}
+use Rattle.schema_reports.specs.Reports.{Outcome, accepted, Unit_, report_of}
+use Rattle.schema_reports.specs.Drafts.{Draft, draft_4, draft_6, draft_7, draft_2019_09, draft_2020_12, draft_unknown, SchemaPlace, Vocabulary, Vocabularies, core_vocabulary, applicator_vocabulary, unevaluated_vocabulary, validation_vocabulary, metadata_vocabulary, format_vocabulary, format_annotation_vocabulary, format_assertion_vocabulary, content_vocabulary, custom_vocabulary, same_vocabulary, same_vocabularies, same_draft}
+use Rattle.schema_reports.specs.Keywords.{Keywords, Marked, a_child, a_pending, same_kind, Below, here, down, Question, Gives, Mode, Reply, no_reply, truth, Turn, ask, match_text, mark, unmark, ecma, done}
+use Rattle.schema_reports.specs.Matching.{Matcher, Match, finished, unfinished, Completion, completed, Assumptions, matching, Matching, completion_of}
+use Rattle.schema_reports.specs.Parts.{Parts}
+use Rattle.schema_reports.specs.Making.{Request}
+use Rattle.schema_reports.specs.Plan.{Target, Key, Edge, Part, Form, keyword, reference, Reference, Plan, always, never, these, plan, child, reference_edge, same_target, same_key, same_edge_key, same_child}
+use Rattle.schema_reports.specs.Meaning.{subject, Where, at, place_below, asked, referred_to, outcome_of, unfold_}
+use Rattle.schema_reports.specs.Returns.{Asked, questions, Return}
+use Rattle.schema_reports.specs.Units.{no_unit, keyword_unit, PartUnits, keyword_units, reference_units, Entry, true_unit, false_unit, plan_unit, annotations_of, part_units, entries_of, unit_of}
+use Rattle.schema_reports.specs.Laws.{EachKeeps, AsksRightly, AlwaysAsksRightly}
+use Rattle.schema_reports.specs.Runs.{Run, no_run, reply_in, Met, Site, site_at, turns, keyword_met, Looked, plan_met, part_met, looked, run_node, run}
+use Rattle.schema_reports.specs.Cover.{Sense, plain, mode_of}
+use Rattle.schema_reports.specs.Guarded.{NodeEdge, Children, node_child, same_node, same_edge, NodeForm, node_keyword, node_reference, NodePart, NodePlan, node_always, node_never, node_these, Nodes, node_at, node_asked, node_outcome, node_part_units, node_entries_of, node_unit, node_part_met, node_looked, guarded_within, guarded_node, guarded_sense}
+use Rattle.schema_reports.specs.Numbered.{Numbers, IsNumber, SameEdge, SameForm, SamePart, SameParts, SamePlan, StandsFor, AreNumbered, Ranked, left, ValuesInside, MakersAskBelow, NumbersMeanUnfolding, NumbersMeanPlain}
+use Rattle.schema_reports.proofs.Reading.{Reads, reads_of}
+use Rattle.schema_reports.proofs.Questions.{later}
+use Rattle.schema_reports.proofs.Depths.{ByMeasure, measure_on, measure_less, measure_first, ByTrail, trail_on, trail_less, trail_first}
+use Rattle.schema_reports.proofs.AtPlaces.{at_places}
+use Rattle.schema_reports.proofs.Reaching.{at_keys}
+use Rattle.schema_reports.proofs.Inside.{subschemas_inside}
+use Rattle.schema_reports.proofs.Local.{each_asked}
+use Rattle.schema_reports.proofs.Products.{both_left, both_right}
+use Rattle.schema_reports.proofs.Simulates.{BothAsk, one_key, same_text, same_number, both_true, place_itself, target_itself, says_unfolding}
+use Rattle.schema_reports.proofs.SameOutcome.{FormsAsk, at_same, keyword_asked, reference_asked, whole_asks, part_same, outcomes_same, numbers_say_unfolding}
+
+-- ---- keys that are the same are equal
+
+step_is : (s t : Step) → same_step s t ≡ true → s ≡ t
+step_is (to_member k) (to_member l) e = ap to_member ((bytes_eq-Decides k l).0 e)
+step_is (to_item m) (to_item n) e = ap to_item (eqb-true m n e)
+step_is (to_name k) (to_name l) e = ap to_name ((bytes_eq-Decides k l).0 e)
+step_is (to_member k) (to_item n) e = absurd (true≢false (sym e))
+step_is (to_member k) (to_name n) e = absurd (true≢false (sym e))
+step_is (to_item k) (to_member n) e = absurd (true≢false (sym e))
+step_is (to_item k) (to_name n) e = absurd (true≢false (sym e))
+step_is (to_name k) (to_member n) e = absurd (true≢false (sym e))
+step_is (to_name k) (to_item n) e = absurd (true≢false (sym e))
+
+place_is : (p q : Place) → same_place p q ≡ true → p ≡ q
+place_is [] [] e = refl
+place_is (s ∷ p) (t ∷ q) e = ap₂ (λ x xs. x ∷ xs) (step_is s t (both_left _ _ e)) (place_is p q (both_right _ _ e))
+place_is [] (t ∷ q) e = absurd (true≢false (sym e))
+place_is (s ∷ p) [] e = absurd (true≢false (sym e))
+
+abbrev VocabularyIs : Vocabulary → Vocabulary → Type 0
+VocabularyIs a b = same_vocabulary a b ≡ true → a ≡ b
+
+vocabulary_is : (a b : Vocabulary) → VocabularyIs a b
+vocabulary_is core_vocabulary b = elim b as (λ b. VocabularyIs core_vocabulary b) [ core_vocabulary ↦ λ e. refl | applicator_vocabulary ↦ λ e. absurd (true≢false (sym e)) | unevaluated_vocabulary ↦ λ e. absurd (true≢false (sym e)) | validation_vocabulary ↦ λ e. absurd (true≢false (sym e)) | metadata_vocabulary ↦ λ e. absurd (true≢false (sym e)) | format_vocabulary ↦ λ e. absurd (true≢false (sym e)) | format_annotation_vocabulary ↦ λ e. absurd (true≢false (sym e)) | format_assertion_vocabulary ↦ λ e. absurd (true≢false (sym e)) | content_vocabulary ↦ λ e. absurd (true≢false (sym e)) | custom_vocabulary u ↦ λ e. absurd (true≢false (sym e)) ]
+vocabulary_is applicator_vocabulary b = elim b as (λ b. VocabularyIs applicator_vocabulary b) [ core_vocabulary ↦ λ e. absurd (true≢false (sym e)) | applicator_vocabulary ↦ λ e. refl | unevaluated_vocabulary ↦ λ e. absurd (true≢false (sym e)) | validation_vocabulary ↦ λ e. absurd (true≢false (sym e)) | metadata_vocabulary ↦ λ e. absurd (true≢false (sym e)) | format_vocabulary ↦ λ e. absurd (true≢false (sym e)) | format_annotation_vocabulary ↦ λ e. absurd (true≢false (sym e)) | format_assertion_vocabulary ↦ λ e. absurd (true≢false (sym e)) | content_vocabulary ↦ λ e. absurd (true≢false (sym e)) | custom_vocabulary u ↦ λ e. absurd (true≢false (sym e)) ]
+vocabulary_is unevaluated_vocabulary b = elim b as (λ b. VocabularyIs unevaluated_vocabulary b) [ core_vocabulary ↦ λ e. absurd (true≢false (sym e)) | applicator_vocabulary ↦ λ e. absurd (true≢false (sym e)) | unevaluated_vocabulary ↦ λ e. refl | validation_vocabulary ↦ λ e. absurd (true≢false (sym e)) | metadata_vocabulary ↦ λ e. absurd (true≢false (sym e)) | format_vocabulary ↦ λ e. absurd (true≢false (sym e)) | format_annotation_vocabulary ↦ λ e. absurd (true≢false (sym e)) | format_assertion_vocabulary ↦ λ e. absurd (true≢false (sym e)) | content_vocabulary ↦ λ e. absurd (true≢false (sym e)) | custom_vocabulary u ↦ λ e. absurd (true≢false (sym e)) ]
+vocabulary_is validation_vocabulary b = elim b as (λ b. VocabularyIs validation_vocabulary b) [ core_vocabulary ↦ λ e. absurd (true≢false (sym e)) | applicator_vocabulary ↦ λ e. absurd (true≢false (sym e)) | unevaluated_vocabulary ↦ λ e. absurd (true≢false (sym e)) | validation_vocabulary ↦ λ e. refl | metadata_vocabulary ↦ λ e. absurd (true≢false (sym e)) | format_vocabulary ↦ λ e. absurd (true≢false (sym e)) | format_annotation_vocabulary ↦ λ e. absurd (true≢false (sym e)) | format_assertion_vocabulary ↦ λ e. absurd (true≢false (sym e)) | content_vocabulary ↦ λ e. absurd (true≢false (sym e)) | custom_vocabulary u ↦ λ e. absurd (true≢false (sym e)) ]
+vocabulary_is metadata_vocabulary b = elim b as (λ b. VocabularyIs metadata_vocabulary b) [ core_vocabulary ↦ λ e. absurd (true≢false (sym e)) | applicator_vocabulary ↦ λ e. absurd (true≢false (sym e)) | unevaluated_vocabulary ↦ λ e. absurd (true≢false (sym e)) | validation_vocabulary ↦ λ e. absurd (true≢false (sym e)) | metadata_vocabulary ↦ λ e. refl | format_vocabulary ↦ λ e. absurd (true≢false (sym e)) | format_annotation_vocabulary ↦ λ e. absurd (true≢false (sym e)) | format_assertion_vocabulary ↦ λ e. absurd (true≢false (sym e)) | content_vocabulary ↦ λ e. absurd (true≢false (sym e)) | custom_vocabulary u ↦ λ e. absurd (true≢false (sym e)) ]
+vocabulary_is format_vocabulary b = elim b as (λ b. VocabularyIs format_vocabulary b) [ core_vocabulary ↦ λ e. absurd (true≢false (sym e)) | applicator_vocabulary ↦ λ e. absurd (true≢false (sym e)) | unevaluated_vocabulary ↦ λ e. absurd (true≢false (sym e)) | validation_vocabulary ↦ λ e. absurd (true≢false (sym e)) | metadata_vocabulary ↦ λ e. absurd (true≢false (sym e)) | format_vocabulary ↦ λ e. refl | format_annotation_vocabulary ↦ λ e. absurd (true≢false (sym e)) | format_assertion_vocabulary ↦ λ e. absurd (true≢false (sym e)) | content_vocabulary ↦ λ e. absurd (true≢false (sym e)) | custom_vocabulary u ↦ λ e. absurd (true≢false (sym e)) ]
+vocabulary_is format_annotation_vocabulary b = elim b as (λ b. VocabularyIs format_annotation_vocabulary b) [ core_vocabulary ↦ λ e. absurd (true≢false (sym e)) | applicator_vocabulary ↦ λ e. absurd (true≢false (sym e)) | unevaluated_vocabulary ↦ λ e. absurd (true≢false (sym e)) | validation_vocabulary ↦ λ e. absurd (true≢false (sym e)) | metadata_vocabulary ↦ λ e. absurd (true≢false (sym e)) | format_vocabulary ↦ λ e. absurd (true≢false (sym e)) | format_annotation_vocabulary ↦ λ e. refl | format_assertion_vocabulary ↦ λ e. absurd (true≢false (sym e)) | content_vocabulary ↦ λ e. absurd (true≢false (sym e)) | custom_vocabulary u ↦ λ e. absurd (true≢false (sym e)) ]
+vocabulary_is format_assertion_vocabulary b = elim b as (λ b. VocabularyIs format_assertion_vocabulary b) [ core_vocabulary ↦ λ e. absurd (true≢false (sym e)) | applicator_vocabulary ↦ λ e. absurd (true≢false (sym e)) | unevaluated_vocabulary ↦ λ e. absurd (true≢false (sym e)) | validation_vocabulary ↦ λ e. absurd (true≢false (sym e)) | metadata_vocabulary ↦ λ e. absurd (true≢false (sym e)) | format_vocabulary ↦ λ e. absurd (true≢false (sym e)) | format_annotation_vocabulary ↦ λ e. absurd (true≢false (sym e)) | format_assertion_vocabulary ↦ λ e. refl | content_vocabulary ↦ λ e. absurd (true≢false (sym e)) | custom_vocabulary u ↦ λ e. absurd (true≢false (sym e)) ]
+vocabulary_is content_vocabulary b = elim b as (λ b. VocabularyIs content_vocabulary b) [ core_vocabulary ↦ λ e. absurd (true≢false (sym e)) | applicator_vocabulary ↦ λ e. absurd (true≢false (sym e)) | unevaluated_vocabulary ↦ λ e. absurd (true≢false (sym e)) | validation_vocabulary ↦ λ e. absurd (true≢false (sym e)) | metadata_vocabulary ↦ λ e. absurd (true≢false (sym e)) | format_vocabulary ↦ λ e. absurd (true≢false (sym e)) | format_annotation_vocabulary ↦ λ e. absurd (true≢false (sym e)) | format_assertion_vocabulary ↦ λ e. absurd (true≢false (sym e)) | content_vocabulary ↦ λ e. refl | custom_vocabulary u ↦ λ e. absurd (true≢false (sym e)) ]
+vocabulary_is (custom_vocabulary t) b = elim b as (λ b. VocabularyIs (custom_vocabulary t) b) [ core_vocabulary ↦ λ e. absurd (true≢false (sym e)) | applicator_vocabulary ↦ λ e. absurd (true≢false (sym e)) | unevaluated_vocabulary ↦ λ e. absurd (true≢false (sym e)) | validation_vocabulary ↦ λ e. absurd (true≢false (sym e)) | metadata_vocabulary ↦ λ e. absurd (true≢false (sym e)) | format_vocabulary ↦ λ e. absurd (true≢false (sym e)) | format_annotation_vocabulary ↦ λ e. absurd (true≢false (sym e)) | format_assertion_vocabulary ↦ λ e. absurd (true≢false (sym e)) | content_vocabulary ↦ λ e. absurd (true≢false (sym e)) | custom_vocabulary u ↦ λ e. ap custom_vocabulary ((bytes_eq-Decides t u).0 e) ]
+
+vocabularies_is : (ts us : Vocabularies) → same_vocabularies ts us ≡ true → ts ≡ us
+vocabularies_is [] [] e = refl
+vocabularies_is (t ∷ ts) (u ∷ us) e = ap₂ (λ x xs. x ∷ xs) (vocabulary_is t u (both_left _ _ e)) (vocabularies_is ts us (both_right _ _ e))
+vocabularies_is [] (u ∷ us) e = absurd (true≢false (sym e))
+vocabularies_is (t ∷ ts) [] e = absurd (true≢false (sym e))
+
+draft_number : Draft → ℕ
+draft_number draft_4 = 0
+draft_number draft_6 = 1
+draft_number draft_7 = 2
+draft_number draft_2019_09 = 3
+draft_number draft_2020_12 = 4
+draft_number draft_unknown = 5
+
+abbrev DraftIs : Draft → Draft → Type 0
+DraftIs a b = same_draft a b ≡ true → a ≡ b
+
+draft_is : (a b : Draft) → DraftIs a b
+draft_is draft_4 b = elim b as (λ b. DraftIs draft_4 b) [ draft_4 ↦ λ e. refl | draft_6 ↦ λ e. absurd (true≢false (sym e)) | draft_7 ↦ λ e. absurd (true≢false (sym e)) | draft_2019_09 ↦ λ e. absurd (true≢false (sym e)) | draft_2020_12 ↦ λ e. absurd (true≢false (sym e)) | draft_unknown ↦ λ e. absurd (true≢false (sym e)) ]
+draft_is draft_6 b = elim b as (λ b. DraftIs draft_6 b) [ draft_6 ↦ λ e. refl | draft_4 ↦ λ e. absurd (true≢false (sym e)) | draft_7 ↦ λ e. absurd (true≢false (sym e)) | draft_2019_09 ↦ λ e. absurd (true≢false (sym e)) | draft_2020_12 ↦ λ e. absurd (true≢false (sym e)) | draft_unknown ↦ λ e. absurd (true≢false (sym e)) ]
+draft_is draft_7 b = elim b as (λ b. DraftIs draft_7 b) [ draft_7 ↦ λ e. refl | draft_6 ↦ λ e. absurd (true≢false (sym e)) | draft_4 ↦ λ e. absurd (true≢false (sym e)) | draft_2019_09 ↦ λ e. absurd (true≢false (sym e)) | draft_2020_12 ↦ λ e. absurd (true≢false (sym e)) | draft_unknown ↦ λ e. absurd (true≢false (sym e)) ]
+draft_is draft_2019_09 b = elim b as (λ b. DraftIs draft_2019_09 b) [ draft_2019_09 ↦ λ e. refl | draft_6 ↦ λ e. absurd (true≢false (sym e)) | draft_7 ↦ λ e. absurd (true≢false (sym e)) | draft_4 ↦ λ e. absurd (true≢false (sym e)) | draft_2020_12 ↦ λ e. absurd (true≢false (sym e)) | draft_unknown ↦ λ e. absurd (true≢false (sym e)) ]
+draft_is draft_2020_12 b = elim b as (λ b. DraftIs draft_2020_12 b) [ draft_2020_12 ↦ λ e. refl | draft_6 ↦ λ e. absurd (true≢false (sym e)) | draft_7 ↦ λ e. absurd (true≢false (sym e)) | draft_2019_09 ↦ λ e. absurd (true≢false (sym e)) | draft_4 ↦ λ e. absurd (true≢false (sym e)) | draft_unknown ↦ λ e. absurd (true≢false (sym e)) ]
+draft_is draft_unknown b = elim b as (λ b. DraftIs draft_unknown b) [ draft_unknown ↦ λ e. refl | draft_6 ↦ λ e. absurd (true≢false (sym e)) | draft_7 ↦ λ e. absurd (true≢false (sym e)) | draft_2019_09 ↦ λ e. absurd (true≢false (sym e)) | draft_2020_12 ↦ λ e. absurd (true≢false (sym e)) | draft_4 ↦ λ e. absurd (true≢false (sym e)) ]
+
+schema_place_is : (a b : SchemaPlace) → a.document ≡ b.document → a.path ≡ b.path → a ≡ b
+schema_place_is a b d p = λ j. record { document = d j; path = p j }
+
+target_is : {S : Type 0} (a b : Target S) → a.place ≡ b.place → a.state ≡ b.state → a.draft ≡ b.draft → a.vocabularies ≡ b.vocabularies → a ≡ b
+target_is a b p s d v = λ j. record { place = p j; state = s j; draft = d j; vocabularies = v j }
+
+module _ {S K R : Type 0} (w : Parts S K R) (states : (a b : S) → Decides (w.resolver.same_state a b) (a ≡ b)) where
+  state_itself : (s : S) → w.resolver.same_state s s ≡ true
+  state_itself s = (states s s).1 refl
+
+  same_target_is : (a b : Target S) → same_target w a b ≡ true → a ≡ b
+  same_target_is a b e =
+      let e1 = both_left _ _ e in
+      let e2 = both_left _ _ e1 in
+      let e3 = both_left _ _ e2 in
+      target_is a b (schema_place_is a.place b.place (eqb-true _ _ (both_left _ _ e3)) (place_is _ _ (both_right _ _ e3)))
+      ((states a.state b.state).0 (both_right _ _ e2)) (draft_is a.draft b.draft (both_right _ _ e1)) (vocabularies_is _ _ (both_right _ _ e))
+
+  same_key_is : (a b : Key S) → same_key w a b ≡ true → a ≡ b
+  same_key_is a b e =
+      let e1 = both_left _ _ e in
+      let e2 = both_left _ _ e1 in
+      let target = same_target_is a.target b.target (both_left _ _ e2) in
+      let location = (bytes_eq-Decides a.location b.location).0 (both_right _ _ e2) in
+      let base = (bytes_eq-Decides a.base b.base).0 (both_right _ _ e1) in
+      let start = eqb-true a.start b.start (both_right _ _ e) in
+      λ j. record { target = target j; location = location j; base = base j; start = start j }
+
+  key_itself : (k : Key S) → same_key w k k ≡ true
+  key_itself k = both_true _ _ (both_true _ _ (both_true _ _ (target_itself w state_itself k.target) (same_text k.location)) (same_text k.base)) (same_number k.start)
+
+-- two tests that pass together
+one_truth : (a b : Bool) → (a ≡ true → b ≡ true) → (b ≡ true → a ≡ true) → a ≡ b
+one_truth true b f g = sym (f refl)
+one_truth false true f g = g refl
+one_truth false false f g = refl
+
+-- ---- what the turns of a keyword meet
+
+module _ {K R : Type 0} (keywords : Keywords K R) (matcher : Matcher) (as' : Assumptions) (x : Where) (s : Subject) (same : Marked → Marked → Bool) (name : Text) (m : K) where
+  abbrev one_turn : (Question → Run) → (List Marked → Reply → List Met) → List Marked → Turn → List Met
+  one_turn run_of rest marks t = elim t [
+    | ask q mode ↦ let child = run_of q in child.met mode ++ rest marks (reply_in mode child)
+    | match_text a point ↦ elim (matcher.is_match a.pattern a.subject) [
+      | finished b ↦ rest marks (truth b)
+      | unfinished reason ↦ record { pair = a; site = site_at x name point } ∷ rest marks (truth (completed (completion_of as') a))
+    ]
+    | mark i ↦ rest (i ∷ marks) (truth (list_any (same i) marks))
+    | unmark ↦ rest (elim marks [ [] ↦ [] | i ∷ more ↦ more ]) no_reply
+    | ecma text ↦ rest marks (truth (matcher.is_ecma text))
+    | done ↦ []
+  ]
+
+  module _ (absorbed : List Text) (f g : Question → Run) (alike : (q : Question) → Contains (keywords.may_ask m s) q → f q ≡ g q) where
+    match_same : (o : Match) (a b c d : List Met) (u : Met) → a ≡ b → c ≡ d
+        → ◌≡◌ {A = List Met} (elim o [ finished t ↦ a | unfinished reason ↦ u ∷ c ]) (elim o [ finished t ↦ b | unfinished reason ↦ u ∷ d ])
+    match_same (finished t) a b c d u p q = p
+    match_same (unfinished r) a b c d u p q = ap (λ l. u ∷ l) q
+
+    match_same' : (o : Match) (a b : Bool → List Met) (c d : List Met) (u : Met) → ((t : Bool) → a t ≡ b t) → c ≡ d
+        → ◌≡◌ {A = List Met} (elim o [ finished t ↦ a t | unfinished reason ↦ u ∷ c ]) (elim o [ finished t ↦ b t | unfinished reason ↦ u ∷ d ])
+    match_same' (finished t) a b c d u p q = p t
+    match_same' (unfinished r) a b c d u p q = ap (λ l. u ∷ l) q
+
+    turn_same : (rest rest' : List Marked → Reply → List Met) → ((marks : List Marked) (reply : Reply) → rest marks reply ≡ rest' marks reply)
+        → (marks : List Marked) (t : Turn) → AsksRightly keywords m s absorbed t → one_turn f rest marks t ≡ one_turn g rest' marks t
+    turn_same rest rest' h marks (ask q mode) is = ap (λ r. r.met mode ++ rest marks (reply_in mode r)) (alike q is) ∙ ap (λ l. (g q).met mode ++ l) (h marks (reply_in mode (g q)))
+    turn_same rest rest' h marks (match_text a point) is = match_same' (matcher.is_match a.pattern a.subject) (λ b. rest marks (truth b)) (λ b. rest' marks (truth b)) _ _ _ (λ t. h marks (truth t)) (h marks _)
+    turn_same rest rest' h marks (mark i) is = h (i ∷ marks) _
+    turn_same rest rest' h marks unmark is = h _ no_reply
+    turn_same rest rest' h marks (ecma text) is = h marks _
+    turn_same rest rest' h marks done is = refl
+
+    pub turns_same : (n : ℕ) (marks : List Marked) (r : R) (reply : Reply) → AlwaysAsksRightly keywords m s absorbed n r reply
+        → turns keywords matcher as' x s f same name m n marks r reply ≡ turns keywords matcher as' x s g same name m n marks r reply
+    turns_same zero marks r reply a = refl
+    turns_same (suc n) marks r reply a = turn_same _ _ (λ marks' reply'. turns_same n marks' (keywords.turn m s r reply) reply' (a.1 reply')) marks (keywords.step m s r reply) a.0
+
+module _ {S K R : Type 0} (w : Parts S K R) (instance : Data) (keys : Numbers S) (nodes : Nodes K) (reads : Reads w.keywords)
+    (states : (a b : S) → Decides (w.resolver.same_state a b) (a ≡ b)) (numbered : AreNumbered w keys nodes)
+    (i : ℕ) (k : Key S) (stands : StandsFor w keys nodes i k) (path : Text) (p : Place) where
+  Here : Text → NodeForm K → Form K → NodeEdge → Below → Edge S → Type 0
+  Here = FormsAsk w instance keys nodes reads i k stands path p
+
+  x-at : ◌≡◌ {A = Where} (node_at w.keywords w.matcher nodes (subject w instance) i path p) (at w instance k path p)
+  x-at = at_same w instance keys nodes reads i k stands path p
+
+  -- two children have one number where they have one key
+  same_children : (name : Text) (m : K) (es : Children) (m' : K) (requests : List Request) (absorbed : List Text) → SameForm w keys nodes k name (node_keyword m es) (keyword m' requests absorbed)
+      → (a b : Marked) → same_edge es a b ≡ same_child w k name requests a b
+  same_children name m es m' requests absorbed s (a_pending a) (a_pending b) = refl
+  same_children name m es m' requests absorbed s (a_pending a) (a_child b) = refl
+  same_children name m es m' requests absorbed s (a_child a) (a_pending b) = refl
+  same_children name m es m' requests absorbed s (a_child a) (a_child b) = ap (λ t. (a == b) || t) (go (node_child es a) (child w k name requests a) (node_child es b) (child w k name requests b) (s.1 a) (s.1 b))
+    where
+      inner : (e : NodeEdge) (edge : Edge S) → IsNumber keys e.node edge.key → (o : Option NodeEdge) (o' : Option (Edge S)) → SameEdge w keys nodes o o' → same_node (Some e) o ≡ same_edge_key w (Some edge) o'
+      inner e edge h None None t = refl
+      inner e edge h (Some e') (Some edge') t = one_truth _ _
+          (λ is. subst (λ l. same_key w edge.key l ≡ true) (one_key keys e.node edge.key edge'.key h (subst (λ n. IsNumber keys n edge'.key) (sym (eqb-true e.node e'.node is)) t.0)) (key_itself w states edge.key))
+          (λ is. subst (λ n. (e.node == n) ≡ true) (numbered.once e.node e'.node edge.key h (subst (λ l. IsNumber keys e'.node l) (sym (same_key_is w states edge.key edge'.key is)) t.0)) (same_number e.node))
+      inner e edge h None (Some edge') t = absurd t
+      inner e edge h (Some e') None t = absurd t
+
+      go : (o : Option NodeEdge) (o' : Option (Edge S)) (u : Option NodeEdge) (u' : Option (Edge S)) → SameEdge w keys nodes o o' → SameEdge w keys nodes u u' → same_node o u ≡ same_edge_key w o' u'
+      go None None u u' t t' = refl
+      go (Some e) (Some edge) u u' t t' = inner e edge t.0 u u' t'
+      go None (Some edge) u u' t t' = absurd t
+      go (Some e) None u u' t t' = absurd t
+
+  -- ---- units
+
+  module _ (c : Completion) (f : NodeEdge → Below → Unit_) (g : Edge S → Place → Unit_) where
+    units_same : (x : Where) (name : Text) (a b : Gives) (u v : Bool) → a ≡ b → u ≡ v
+        → ◌≡◌ {A = PartUnits} (keyword_unit x name u a, map (λ z. (z.0, keyword_unit x z.0 u (record { children = z.1; annotations = None; errors = []; absorbed = [] }))) a.absorbed)
+        (keyword_unit x name v b, map (λ z. (z.0, keyword_unit x z.0 v (record { children = z.1; annotations = None; errors = []; absorbed = [] }))) b.absorbed)
+    units_same x name a b u v e h = ap₂ (λ (y : Gives) (t : Bool). (keyword_unit x name t y, map (λ z. (z.0, keyword_unit x z.0 t (record { children = z.1; annotations = None; errors = []; absorbed = [] }))) y.absorbed)) e h
+
+    form_units : (name : Text) (x : NodeForm K) (y : Form K) → SameForm w keys nodes k name x y
+        → ((e : NodeEdge) (b : Below) (edge : Edge S) → Here name x y e b edge → f e b ≡ g edge (place_below p b))
+        → node_part_units w.keywords w.matcher nodes (subject w instance) c i path p f name x ≡ part_units w instance c k path p g name y
+    unfolding Here
+    form_units name (node_keyword m es) (keyword m' requests absorbed) s h =
+        let t : Subject = subject w instance p in
+        let qs : List Question = w.keywords.may_ask m' t in
+        let each = keyword_asked w instance keys nodes reads i k stands path p no_unit f g name m es m' requests absorbed s h in
+        (λ j. keyword_units w.keywords (x-at j) name (s.0 j) t (matching w.matcher c) (node_asked w.keywords w.matcher nodes (subject w instance) no_unit es f))
+        ∙ units_same (at w instance k path p) name _ _ _ _
+        (reads.units_read m' t (matching w.matcher c) _ _ (each_asked _ qs each))
+        (reads.holds_reads m' t (matching w.matcher c) _ _ (each_asked _ qs (λ q is. ap (λ u. (report_of u).valid) (each q is))))
+    form_units name (node_reference e) (reference kind text) s h = λ j. reference_units (x-at j) name (reference_asked w instance keys nodes reads i k stands path p no_unit f g name e kind text s h j)
+    form_units name (node_keyword m es) (reference kind text) s h = absurd s
+    form_units name (node_reference e) (keyword m' requests absorbed) s h = absurd s
+
+    entry_same : (x : NodePart K) (y : Part K) → SamePart w keys nodes k x y → ((e : NodeEdge) (b : Below) (edge : Edge S) → Here y.name x.form y.form e b edge → f e b ≡ g edge (place_below p b))
+        → ◌≡◌ {A = Entry} (record { priority = x.priority; units = node_part_units w.keywords w.matcher nodes (subject w instance) c i path p f x.name x.form }) (record { priority = y.priority; units = part_units w instance c k path p g y.name y.form })
+    entry_same x y s h =
+        let e : node_part_units w.keywords w.matcher nodes (subject w instance) c i path p f x.name x.form ≡ part_units w instance c k path p g y.name y.form
+        = ap (λ n. node_part_units w.keywords w.matcher nodes (subject w instance) c i path p f n x.form) s.name ∙ form_units y.name x.form y.form s.form h in
+        λ j. record { priority = s.priority j; units = e j }
+
+    entries_same : (xs : List (NodePart K)) (ys : List (Part K)) → SameParts w keys nodes k xs ys
+        → ((x : NodePart K) (y : Part K) → Contains xs x → Contains ys y → (e : NodeEdge) (b : Below) (edge : Edge S) → Here y.name x.form y.form e b edge → f e b ≡ g edge (place_below p b))
+        → node_entries_of w.keywords w.matcher nodes (subject w instance) c i path p f xs ≡ entries_of w instance c k path p g ys
+    entries_same [] [] s h = refl
+    entries_same (x ∷ xs) (y ∷ ys) s h = ap₂ (λ (z : Entry) zs. z ∷ zs) (entry_same x y s.0 (h x y (zero, omega arith, refl) (zero, omega arith, refl))) (entries_same xs ys s.1 (λ x' y' in_x in_y. h x' y' (later x xs x' in_x) (later y ys y' in_y)))
+    entries_same [] (y ∷ ys) s h = absurd s
+    entries_same (x ∷ xs) [] s h = absurd s
+
+    plan_units : (n : NodePlan K) (o : Plan K) → nodes.entries i ≡ n → plan w k ≡ o → SamePlan w keys nodes k n o
+        → ((e : NodeEdge) (b : Below) (edge : Edge S) → BothAsk w instance keys nodes i k p e b edge → f e b ≡ g edge (place_below p b))
+        → ◌≡◌ {A = Unit_} (elim n [
+          | node_always ↦ true_unit (node_at w.keywords w.matcher nodes (subject w instance) i path p)
+          | node_never ↦ false_unit w.keywords.texts (node_at w.keywords w.matcher nodes (subject w instance) i path p) (subject w instance p)
+          | node_these xs ↦ plan_unit (node_at w.keywords w.matcher nodes (subject w instance) i path p) (nodes.annotations i) (node_entries_of w.keywords w.matcher nodes (subject w instance) c i path p f xs)
+        ])
+        (elim o [ always ↦ true_unit (at w instance k path p) | never ↦ false_unit w.keywords.texts (at w instance k path p) (subject w instance p) | these ys ↦ plan_unit (at w instance k path p) (annotations_of w k) (entries_of w instance c k path p g ys) ])
+    unfolding Here
+    plan_units node_always always is_n is_o s h = λ j. true_unit (x-at j)
+    plan_units node_never never is_n is_o s h = λ j. false_unit w.keywords.texts (x-at j) (subject w instance p)
+    plan_units (node_these xs) (these ys) is_n is_o s h =
+        let e = entries_same xs ys s (whole_asks w instance keys nodes reads i k stands path p no_unit f g xs ys is_n is_o h) in
+        λ j. plan_unit (x-at j) (stands.annotations j) (e j)
+    plan_units node_always never is_n is_o s h = absurd s
+    plan_units node_always (these ys) is_n is_o s h = absurd s
+    plan_units node_never always is_n is_o s h = absurd s
+    plan_units node_never (these ys) is_n is_o s h = absurd s
+    plan_units (node_these xs) always is_n is_o s h = absurd s
+    plan_units (node_these xs) never is_n is_o s h = absurd s
+
+  -- ---- what is met
+
+  module _ (as' : Assumptions) (f : NodeEdge → Below → Run) (g : Edge S → Place → Run) where
+    form_met : (name : Text) (x : NodeForm K) (y : Form K) → SameForm w keys nodes k name x y
+        → ((e : NodeEdge) (b : Below) (edge : Edge S) → Here name x y e b edge → f e b ≡ g edge (place_below p b))
+        → (mode : Mode) → node_part_met w.keywords w.matcher nodes (subject w instance) as' i path p f name x mode ≡ part_met w instance as' k path p g name y mode
+    unfolding Here
+    form_met name (node_keyword m es) (keyword m' requests absorbed) s h mode =
+        let t : Subject = subject w instance p in
+        let each = keyword_asked w instance keys nodes reads i k stands path p no_run f g name m es m' requests absorbed s h in
+        let same = same_children name m es m' requests absorbed s in
+        (λ j. keyword_met w.keywords w.matcher as' (x-at j) t (node_asked w.keywords w.matcher nodes (subject w instance) no_run es f) (λ a b. same a b j) name (s.0 j) mode)
+        ∙ turns_same w.keywords w.matcher as' (at w instance k path p) t (same_child w k name requests) name m' (reads.absorbs m') _ _ each (w.keywords.most_turns m' t) [] (w.keywords.begin m' t mode) no_reply (reads.asks m' t mode)
+    form_met name (node_reference e) (reference kind text) s h mode = ap (λ r. r.met mode) (reference_asked w instance keys nodes reads i k stands path p no_run f g name e kind text s h)
+    form_met name (node_keyword m es) (reference kind text) s h mode = absurd s
+    form_met name (node_reference e) (keyword m' requests absorbed) s h mode = absurd s
+
+    looked_same : (xs : List (NodePart K)) (ys : List (Part K)) → SameParts w keys nodes k xs ys
+        → ((x : NodePart K) (y : Part K) → Contains xs x → Contains ys y → (e : NodeEdge) (b : Below) (edge : Edge S) → Here y.name x.form y.form e b edge → f e b ≡ g edge (place_below p b))
+        → node_looked w.keywords w.matcher nodes (subject w instance) as' i path p f xs ≡ looked w instance as' k path p g ys
+    unfolding Here
+    looked_same [] [] s h = refl
+    looked_same (x ∷ xs) (y ∷ ys) s h =
+        let first = h x y (zero, omega arith, refl) (zero, omega arith, refl) in
+        let outcome = part_same w instance keys nodes reads i k stands path p (completion_of as') (λ e b. (f e b).outcome tt) (λ e q. (g e q).outcome tt) x y s.0 (λ e b edge a. ap (λ r. r.outcome tt) (first e b edge a)) in
+        let met : (mode : Mode) → node_part_met w.keywords w.matcher nodes (subject w instance) as' i path p f x.name x.form mode ≡ part_met w instance as' k path p g y.name y.form mode
+        = λ mode. ap (λ n. node_part_met w.keywords w.matcher nodes (subject w instance) as' i path p f n x.form mode) s.0.name ∙ form_met y.name x.form y.form s.0.form first mode in
+        let rest = looked_same xs ys s.1 (λ x' y' in_x in_y. h x' y' (later x xs x' in_x) (later y ys y' in_y)) in
+        λ j. record { is_leaf = s.0.is_leaf j; holds = (outcome j).verdict; met = λ mode. met mode j } ∷ rest j
+    looked_same [] (y ∷ ys) s h = absurd s
+    looked_same (x ∷ xs) [] s h = absurd s
+
+    plan_meets : (mode : Mode) (n : NodePlan K) (o : Plan K) → nodes.entries i ≡ n → plan w k ≡ o → SamePlan w keys nodes k n o
+        → ((e : NodeEdge) (b : Below) (edge : Edge S) → BothAsk w instance keys nodes i k p e b edge → f e b ≡ g edge (place_below p b))
+        → ◌≡◌ {A = List Met} (elim n [ node_always ↦ [] | node_never ↦ [] | node_these xs ↦ plan_met mode (node_looked w.keywords w.matcher nodes (subject w instance) as' i path p f xs) ])
+        (elim o [ always ↦ [] | never ↦ [] | these ys ↦ plan_met mode (looked w instance as' k path p g ys) ])
+    unfolding Here
+    plan_meets mode node_always always is_n is_o s h = refl
+    plan_meets mode node_never never is_n is_o s h = refl
+    plan_meets mode (node_these xs) (these ys) is_n is_o s h = ap (plan_met mode) (looked_same xs ys s (whole_asks w instance keys nodes reads i k stands path p no_run f g xs ys is_n is_o h))
+    plan_meets mode node_always never is_n is_o s h = absurd s
+    plan_meets mode node_always (these ys) is_n is_o s h = absurd s
+    plan_meets mode node_never always is_n is_o s h = absurd s
+    plan_meets mode node_never (these ys) is_n is_o s h = absurd s
+    plan_meets mode (node_these xs) always is_n is_o s h = absurd s
+    plan_meets mode (node_these xs) never is_n is_o s h = absurd s
+
+    pub runs_same : ((e : NodeEdge) (b : Below) (edge : Edge S) → BothAsk w instance keys nodes i k p e b edge → f e b ≡ g edge (place_below p b))
+        → guarded_node w.keywords w.matcher nodes (subject w instance) as' i path p f ≡ run_node w instance as' k path p g
+    runs_same h =
+        let c : Completion = completion_of as' in
+        let outcome = outcomes_same w instance keys nodes reads i k stands path p c (λ e b. (f e b).outcome tt) (λ e q. (g e q).outcome tt) (λ e b edge a. ap (λ r. r.outcome tt) (h e b edge a)) in
+        let units = plan_units c (λ e b. (f e b).units tt) (λ e q. (g e q).units tt) (nodes.entries i) (plan w k) refl refl stands.entries (λ e b edge a. ap (λ r. r.units tt) (h e b edge a)) in
+        let met : (mode : Mode) → (guarded_node w.keywords w.matcher nodes (subject w instance) as' i path p f).met mode ≡ (run_node w instance as' k path p g).met mode
+        = λ mode. plan_meets mode (nodes.entries i) (plan w k) refl refl stands.entries h in
+        λ j. record { outcome = λ t. outcome j; units = λ t. units j; met = λ mode. met mode j }
+
+-- both senses, by any way to say which depth is enough
+module _ {S K R : Type 0} (w : Parts S K R) (keys : Numbers S) (nodes : Nodes K) (laws : EachKeeps w.keywords) (values : ValuesInside w) (makers : MakersAskBelow w.table)
+    (states : (a b : S) → Decides (w.resolver.same_state a b) (a ≡ b)) (numbered : AreNumbered w keys nodes) (ranked : Ranked nodes (length keys))
+    (instance : Data) (i : ℕ) (k : Key S) (number : IsNumber keys i k) (none : ¬ (Return w instance (record { key = k; path = []; place = [] })))
+    (Enough : ℕ → ℕ → List ℕ → Asked w instance → Type 0)
+    (on : (n i j : ℕ) (busy busy' : List ℕ) (a c : Asked w instance) → Contains (questions w instance a) c → left nodes (length keys) j (subject w instance c.place) busy' < left nodes (length keys) i (subject w instance a.place) busy
+    → Enough n i busy a → Enough n j busy' c)
+    (one_less : (n i j : ℕ) (busy busy' : List ℕ) (a c : Asked w instance) → Contains (questions w instance a) c → left nodes (length keys) j (subject w instance c.place) busy' < left nodes (length keys) i (subject w instance a.place) busy
+    → Enough n i busy a → (n' : ℕ) × (n ≡ suc n') × Enough n' j busy' c) where
+  senses_agree : (m n : ℕ) → left nodes (length keys) i (subject w instance []) [] < m → Enough n i [] (record { key = k; path = []; place = [] })
+      → guarded_sense w.keywords w.matcher nodes (subject w instance) m i ≡ plain w instance n k
+  senses_agree m n low enough =
+      let inner = subschemas_inside w values makers in
+      let says : (c : Completion) → guarded_within accepted (node_outcome w.keywords w.matcher nodes (subject w instance) c) m i [] [] [] ≡ unfold_ w instance c n k [] []
+      = λ c. says_unfolding w instance keys nodes inner (state_itself w states) ranked accepted (node_outcome w.keywords w.matcher nodes (subject w instance) c) (outcome_of w instance c)
+      (λ i' k' number' path' p' f g h. outcomes_same w instance keys nodes (reads_of w.keywords laws) i' k' (numbered.stands i' k' number') path' p' c f g h)
+      (record { key = k; path = []; place = [] }) none Enough on one_less m n i number low enough in
+      let runs : (as' : Assumptions) → guarded_within no_run (guarded_node w.keywords w.matcher nodes (subject w instance) as') m i [] [] [] ≡ run w instance as' n k [] []
+      = λ as'. says_unfolding w instance keys nodes inner (state_itself w states) ranked no_run (guarded_node w.keywords w.matcher nodes (subject w instance) as') (run_node w instance as')
+      (λ i' k' number' path' p' f g h. runs_same w instance keys nodes (reads_of w.keywords laws) states numbered i' k' (numbered.stands i' k' number') path' p' as' f g h)
+      (record { key = k; path = []; place = [] }) none Enough on one_less m n i number low enough in
+      λ j. record { says = λ c. says c j; meets = λ call as'. (runs as' j).met (mode_of call as'); is_match = w.matcher.is_match }
+
+pub numbers_mean_unfolding : {S K R : Type 0} (w : Parts S K R) (keys : Numbers S) (nodes : Nodes K) → NumbersMeanUnfolding w keys nodes
+numbers_mean_unfolding w keys nodes laws values makers states numbered ranked instance i k number none m n low low' =
+    senses_agree w keys nodes laws values makers states numbered ranked instance i k number none (ByMeasure w instance keys nodes) (measure_on w instance keys nodes) (measure_less w instance keys nodes) m n low
+    (measure_first w instance keys nodes n i (record { key = k; path = []; place = [] }) low')
+
+pub numbers_mean_plain : {S K R : Type 0} (w : Parts S K R) (keys : Numbers S) (nodes : Nodes K) → NumbersMeanPlain w keys nodes
+numbers_mean_plain {S} w keys nodes laws values makers states numbered ranked instance i k number none reached reach m n low enough =
+    let at_reached = at_keys w instance k reached reach in
+    let root : Asked w instance = record { key = k; path = []; place = [] } in
+    let there = at_places w instance (reads_of w.keywords laws) k in
+    let one_target : (a b l : Target S) → same_target w a l ≡ true → same_target w b l ≡ true → same_target w a b ≡ true
+    = λ a b l e f. subst (λ x. same_target w a x ≡ true) (same_target_is w states a l e ∙ sym (same_target_is w states b l f)) (target_itself w (state_itself w states) a) in
+    let one_place : (a b p : Place) → same_place a p ≡ true → same_place b p ≡ true → same_place a b ≡ true
+    = λ a b p e f. subst (λ x. same_place a x ≡ true) (place_is a p e ∙ sym (place_is b p f)) (place_itself a) in
+    senses_agree w keys nodes laws values makers states numbered ranked instance i k number none (ByTrail w instance keys nodes root none reached at_reached there one_target one_place)
+    (trail_on w instance keys nodes root none reached at_reached there one_target one_place) (trail_less w instance keys nodes root none reached at_reached there one_target one_place) m n low
+    (trail_first w instance keys nodes root none reached at_reached there one_target one_place n i (omega arith))
