@@ -1,0 +1,32 @@
+//! What is proved of numbered nodes, for every schema and all parts: each function states one law, and does nothing.
+
+ghost use Rattle.std.specs.Prelude.{ℕ};
+ghost use Rattle.serde_json.specs.Data.{Data};
+ghost use Rattle.schema_reports.specs.Parts.{Parts};
+ghost use Rattle.schema_reports.specs.Guarded.{Nodes};
+ghost use Rattle.schema_reports.specs.Numbered.{GuardedIsPlain, GuardedSettles, Numbers, NumbersMeanPlain, NumbersMeanUnfolding, NumbersSayUnfolding};
+
+/// What numbered nodes say settles at some depth, whether questions return or not.
+pub fn guarded_settles<S, K, R>()
+    ensures settles { (w : Parts S K R) (instance : Data) (nodes : Nodes K) (count : ℕ) → GuardedSettles w instance nodes count }
+{}
+
+/// Where no question returns, a number says what unfolding says of its key.
+pub fn numbers_say_unfolding<S, K, R>()
+    ensures says { (w : Parts S K R) (keys : Numbers S) (nodes : Nodes K) → NumbersSayUnfolding w keys nodes }
+{}
+
+/// Where no question returns, the sense of a number is that of its key, unfolded.
+pub fn numbers_mean_unfolding<S, K, R>()
+    ensures means { (w : Parts S K R) (keys : Numbers S) (nodes : Nodes K) → NumbersMeanUnfolding w keys nodes }
+{}
+
+/// Where no question returns, the sense of a number is the plain one of its key.
+pub fn numbers_mean_plain<S, K, R>()
+    ensures means { (w : Parts S K R) (keys : Numbers S) (nodes : Nodes K) → NumbersMeanPlain w keys nodes }
+{}
+
+/// A call that answers the headline's sentence of its nodes answers it of the plain meaning.
+pub fn guarded_is_plain<S, K, R>()
+    ensures answers { (w : Parts S K R) (keys : Numbers S) (nodes : Nodes K) → GuardedIsPlain w keys nodes }
+{}
