@@ -5,11 +5,9 @@ use Rattle.std.specs.List.{list_any}
 use Rattle.std.proofs.Math.Nat.{mul-le-mul_left}
 use Rattle.serde_json.specs.Data.{Data, null, boolean, number, string, array, object, Items, no_items, item, Members, no_members, member, depth, items_depth, members_depth}
 use Rattle.schema_reports.specs.Instance.{Text, Place, Step, to_member, to_item, to_name, Subject, a_value, a_name, member_of, item_of, after_step, subject_from, subject_at}
-use Rattle.schema_reports.specs.Parts.{Parts}
-use Rattle.schema_reports.specs.Meaning.{subject}
 use Rattle.schema_reports.specs.Laws.{IsPresent}
 use Rattle.schema_reports.specs.Guarded.{Nodes}
-use Rattle.schema_reports.specs.Numbered.{free, subject_height, highest, left}
+use Rattle.schema_reports.specs.Numbered.{free, subject_height, highest, left, subject_in}
 
 some_is : {A : Type 0} (x y : A) → Some x ≡ Some y → x ≡ y
 some_is x y e = cc
@@ -38,7 +36,8 @@ name_falls k (Some d) n y h = let u : 0 ≡ subject_height y = ap subject_height
 none_is : {A P : Type 0} (y : A) → ◌≡◌ {A = Option A} None (Some y) → P
 none_is y h = absurd (let f : ⊥ = cc in f)
 
-step_falls : (s : Step) (x y : Subject) → after_step s x ≡ Some y → subject_height y < subject_height x
+-- what a step leads to is lower
+pub step_falls : (s : Step) (x y : Subject) → after_step s x ≡ Some y → subject_height y < subject_height x
 step_falls (to_member k) (a_value (object ms)) y h = value_falls (member_of k ms) _ y (λ d e. let r = member_depth k ms d e in omega arith) h
 step_falls (to_name k) (a_value (object ms)) y h = name_falls k (member_of k ms) _ y h
 step_falls (to_item n) (a_value (array ds)) y h = value_falls (item_of n ds) _ y (λ d e. let r = item_depth n ds d e in omega arith) h
@@ -97,9 +96,9 @@ none_below (to_item n) = refl
 none_below (to_name k) = refl
 
 -- what stands one step below a place is lower
-pub below_falls : {S K R : Type 0} (w : Parts S K R) (instance : Data) (p : Place) (s : Step) → IsPresent (subject w instance p) (s ∷ [])
-    → subject_height (subject w instance (p ++ s ∷ [])) < subject_height (subject w instance p)
-below_falls w instance p s h = subst (λ o. subject_height (unwrap_or o (a_value null)) < subject_height (subject w instance p)) (sym (from_below p s (a_value instance))) (go (subject_at instance p) h)
+pub below_falls : (instance : Data) (p : Place) (s : Step) → IsPresent (subject_in instance p) (s ∷ [])
+    → subject_height (subject_in instance (p ++ s ∷ [])) < subject_height (subject_in instance p)
+below_falls instance p s h = subst (λ o. subject_height (unwrap_or o (a_value null)) < subject_height (subject_in instance p)) (sym (from_below p s (a_value instance))) (go (subject_at instance p) h)
   where
     present : (o : Option Subject) → is_some (option_and_then (subject_from []) o) ≡ true → (y : Subject) × (o ≡ Some y)
     present None e = absurd (let f : ⊥ = cc in f)

@@ -92,7 +92,7 @@ module _ {S K R : Type 0} (w : Parts S K R) (instance : Data) (keys : Numbers S)
     pub number : IsNumber keys e.node edge.key
     pub path : e.path ≡ edge.path
     pub asks : Asks w instance k p edge (place_below p b)
-    pub node_asks : NodeAsks w instance nodes i p e b
+    pub node_asks : NodeAsks instance nodes i p e b
     pub is_edge : Contains (edges w k) edge
 
 module _ {S K R : Type 0} (w : Parts S K R) (instance : Data) (keys : Numbers S) (nodes : Nodes K)
@@ -201,9 +201,9 @@ module _ {S K R : Type 0} (w : Parts S K R) (instance : Data) (keys : Numbers S)
         ∙ by_kind edge.is_reference _ _ _ (λ is. reference_step m ih n e.node c busy' pair.number way' k (one_less n i e.node busy busy' a c q falls most) (omega arith))
         (λ is. let f = inside a.key edge pair.is_edge is in ih n h e.node c busy' pair.number way' k (on n i e.node busy busy' a c q falls most) (omega arith) (omega arith)) in
         by_guard e.guarded (list_any (λ j. j == e.node) (progress_below busy b)) _ _ _
-        (λ is. reaches (progress_below busy b) carried' (free_falls w instance nodes (length keys) ranked i a.place busy e b l pair.node_asks is))
+        (λ is. reaches (progress_below busy b) carried' (free_falls instance nodes (length keys) ranked i a.place busy e b l pair.node_asks is))
         (not_again a c busy b e.node refl pair.number q carried)
-        (λ is. reaches (e.node ∷ progress_below busy b) (carried_entered c (progress_below busy b) e.node pair.number way' carried') (guarded_falls w instance nodes (length keys) ranked i a.place busy e b l pair.node_asks is))
+        (λ is. reaches (e.node ∷ progress_below busy b) (carried_entered c (progress_below busy b) e.node pair.number way' carried') (guarded_falls instance nodes (length keys) ranked i a.place busy e b l pair.node_asks is))
 
     simulates : (m : ℕ) → Simulates m
     unfolding Simulates measure over

@@ -25,6 +25,7 @@ pub mod MapPointers
 pub mod Guarded
 pub mod Greatest
 pub mod Headline
+pub mod Depths
 pub mod Numbered
 pub mod Members
 pub mod Promises

@@ -1,22 +1,24 @@
 -- Numbers that stand for keys, what falls with each question, and that numbers say what unfolding says.
 use Rattle.std.specs.List.{list_any}
-use Rattle.std.specs.Prelude.{All, Bool, Contains, Decides, List, None, Option, Some, [], false, if◌then◌else◌, length, max, slice_get, suc, true, zero, ℕ, ◌*◌, ◌+◌, ◌<◌, ◌==◌, ◌∷◌, ◌≡◌, ◌≤◌}
-use Rattle.serde_json.specs.Data.{Data, Members, depth}
+use Rattle.std.specs.Prelude.{All, Bool, Contains, Decides, List, None, Option, Some, [], false, if◌then◌else◌, length, max, slice_get, suc, true, unwrap_or, zero, ℕ, ◌*◌, ◌+◌, ◌<◌, ◌==◌, ◌∷◌, ◌≡◌, ◌≤◌}
+use Rattle.serde_json.specs.Data.{Data, Members, depth, null}
 use Rattle.schema_reports.specs.Instance.{Place, Subject, Text, a_name, a_value, subject_at}
 use Rattle.schema_reports.specs.Reports.{Error, Outcome, Unit_, accepted, report_of}
 use Rattle.schema_reports.specs.Drafts.{Draft, SchemaPlace, Vocabularies, at_path}
-use Rattle.schema_reports.specs.Matching.{Completion}
+use Rattle.schema_reports.specs.Matching.{Assumptions, Completion, Matcher, completion_of}
 use Rattle.schema_reports.specs.Making.{Request, Table, compile, refer}
+use Rattle.schema_reports.specs.Keywords.{Keywords}
 use Rattle.schema_reports.specs.Parts.{Parts}
 use Rattle.schema_reports.specs.Plan.{Edge, Form, Key, Part, Plan, absolute_of, always, child, height, keyword, never, plan, reference, reference_edge, schema_at, these}
 use Rattle.schema_reports.specs.Meaning.{subject, unfold_}
-use Rattle.schema_reports.specs.Units.{annotations_of}
+use Rattle.schema_reports.specs.Units.{annotations_of, no_unit}
 use Rattle.schema_reports.specs.Returns.{Return}
+use Rattle.schema_reports.specs.Runs.{no_run}
 use Rattle.schema_reports.specs.Cover.{evaluate, is_valid, plain}
 use Rattle.schema_reports.specs.Laws.{EachKeeps}
 use Rattle.schema_reports.specs.Reach.{IsReach, deep_enough}
 use Rattle.schema_reports.specs.Paths.{edges}
-use Rattle.schema_reports.specs.Guarded.{NodeEdge, NodeForm, NodePart, NodePlan, Nodes, guarded_sense, guarded_within, node_always, node_child, node_edges, node_keyword, node_never, node_outcome, node_reference, node_these}
+use Rattle.schema_reports.specs.Guarded.{NodeEdge, NodeForm, NodePart, NodePlan, Nodes, guarded_node, guarded_sense, guarded_within, node_always, node_child, node_edges, node_keyword, node_never, node_outcome, node_reference, node_these, node_unit}
 use Rattle.schema_reports.specs.Headline.{ErrorsSay, EvaluateAnswer, FirstSays, Guardedly, IsValidAnswer, IterErrorsAnswer, ValidateAnswer, VerdictSays}
 
 -- ---- numbers that stand for keys
@@ -117,6 +119,29 @@ MakersAskBelow table = (custom : Bool) (name : Text) (whole : Members) (draft : 
     → All IsBelow (table.make custom name whole draft vocabularies formats is_self).requests
 
 -- ---- the statements
+
+-- what stands at a place of an instance; null where nothing does
+abbrev pub subject_in : Data → Place → Subject
+subject_in instance p = unwrap_or (subject_at instance p) (a_value null)
+
+module _ {K R : Type 0} (keywords : Keywords K R) where
+  -- a run's outcome and its units are those that its nodes have under the run's completion
+  abbrev pub RunsSayOutcomes : Type 0
+  RunsSayOutcomes = (matcher : Matcher) (nodes : Nodes K) (subject_of : Place → Subject) (as' : Assumptions) (n i : ℕ) (path : Text) (p : Place) (busy : List ℕ)
+      → ((guarded_within no_run (guarded_node keywords matcher nodes subject_of as') n i path p busy).outcome tt ≡ guarded_within accepted (node_outcome keywords matcher nodes subject_of (completion_of as')) n i path p busy)
+      × ((guarded_within no_run (guarded_node keywords matcher nodes subject_of as') n i path p busy).units tt ≡ guarded_within no_unit (node_unit keywords matcher nodes subject_of (completion_of as')) n i path p busy)
+
+  -- from the measure on, every depth gives the same run, returns or none: what it says, its units, and what it meets in each mode
+  abbrev pub GuardedRunsSettle : Type 0
+  GuardedRunsSettle = EachKeeps keywords → (matcher : Matcher) (nodes : Nodes K) (count : ℕ) → Ranked nodes count → (instance : Data) (as' : Assumptions) (i : ℕ) (path : Text) (p : Place) (busy : List ℕ) → i < count
+      → (m n : ℕ) → left nodes count i (subject_in instance p) busy < m → left nodes count i (subject_in instance p) busy < n
+      → guarded_within no_run (guarded_node keywords matcher nodes (subject_in instance) as') m i path p busy ≡ guarded_within no_run (guarded_node keywords matcher nodes (subject_in instance) as') n i path p busy
+
+  -- and the same sense
+  abbrev pub GuardedSenseSettles : Type 0
+  GuardedSenseSettles = EachKeeps keywords → (matcher : Matcher) (nodes : Nodes K) (count : ℕ) → Ranked nodes count → (instance : Data) (i : ℕ) → i < count
+      → (m n : ℕ) → left nodes count i (a_value instance) [] < m → left nodes count i (a_value instance) [] < n
+      → guarded_sense keywords matcher nodes (subject_in instance) m i ≡ guarded_sense keywords matcher nodes (subject_in instance) n i
 
 module _ {S K R : Type 0} (w : Parts S K R) (instance : Data) (nodes : Nodes K) (count : ℕ) where
   abbrev pub guarded_says : Completion → ℕ → ℕ → Text → Place → List ℕ → Outcome
