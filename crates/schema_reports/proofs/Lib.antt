@@ -16,3 +16,7 @@ pub mod SameOutcome
 pub mod SameRun
 mod Deep
 mod Counted
+pub mod RunsRead
+mod PlainRuns
+pub mod NodeRuns
+pub mod DepthsAgree

@@ -11,7 +11,7 @@ use Rattle.schema_reports.specs.Matching.{Completion, Matching, matching}
 use Rattle.schema_reports.specs.Making.{Request}
 use Rattle.schema_reports.specs.Plan.{Key, Edge, height, Part, Form, keyword, reference, Reference, Plan, always, never, these, plan, child, reference_edge}
 use Rattle.schema_reports.specs.Meaning.{Where, at, subject, asked, referred_to, place_below, part_outcome, parts_outcome, outcome_of, keyword_outcome, reference_outcome, false_outcome, fault_error, both, unfold_}
-use Rattle.schema_reports.proofs.Stable as stable
+use Rattle.schema_reports.proofs.Reading.{Reads}
 use Rattle.schema_reports.proofs.Questions.{PartAsks, by_keyword, by_reference, Asks}
 
 pub same_outcome : {v v' : Bool} {es es' : List Error} → v ≡ v' → es ≡ es' → ◌≡◌ {A = Outcome} (record { verdict = v; errors = es }) (record { verdict = v'; errors = es' })
@@ -20,24 +20,17 @@ same_outcome p q = λ i. record { verdict = p i; errors = q i }
 pub each_asked : {A : Type 0} (P : A → Type 0) (xs : List A) → ((x : A) → Contains xs x → P x) → All P xs
 each_asked P xs h = λ i d is. h _ (All-contains_itself xs i d is)
 
--- the two laws of reading, for every keyword
-pub record ReadsWhereAsked {K R : Type 0} (keywords : Keywords K R) : Type 0 where
-  pub holds_reads : (m : K) (s : Subject) (matches : Matching) (a b : Question → Bool) → All (λ q. a q ≡ b q) (keywords.may_ask m s)
-      → keywords.holds m s matches a ≡ keywords.holds m s matches b
-  pub faults_read : (m : K) (s : Subject) (matches : Matching) (a b : Answers) → All (λ q. a q ≡ b q) (keywords.may_ask m s)
-      → keywords.faults m s matches a ≡ keywords.faults m s matches b
-
 Contains-later : {A : Type 0} (x : A) (xs : List A) (y : A) → Contains xs y → Contains (x ∷ xs) y
 Contains-later x xs y (i, is, at_i) = (suc i, omega arith, at_i)
 
-module _ {S K R : Type 0} (w : Parts S K R) (instance : Data) (c : Completion) (reads : ReadsWhereAsked w.keywords) where
+module _ {S K R : Type 0} (w : Parts S K R) (instance : Data) (c : Completion) (reads : Reads w.keywords) where
   module _ (k : Key S) (path : Text) (p : Place) (f g : Edge S → Place → Outcome) where
     asked_same : (o : Option (Edge S)) (q : Place) → ((edge : Edge S) → o ≡ Some edge → f edge q ≡ g edge q)
         → ◌≡◌ {A = Outcome} (elim o [ None ↦ accepted | Some edge ↦ f edge q ]) (elim o [ None ↦ accepted | Some edge ↦ g edge q ])
     asked_same None q e = refl
     asked_same (Some edge) q e = e edge refl
 
-    part_same : (name : Text) (form : Form K) → ((edge : Edge S) (q : Place) → PartAsks w instance k p name form edge q → f edge q ≡ g edge q)
+    pub part_same : (name : Text) (form : Form K) → ((edge : Edge S) (q : Place) → PartAsks w instance k p name form edge q → f edge q ≡ g edge q)
         → part_outcome w instance c k path p f name form ≡ part_outcome w instance c k path p g name form
     part_same name (keyword m requests absorbed) e =
         let each : (q : Question) → Contains (w.keywords.may_ask m (subject w instance p)) q
@@ -64,8 +57,3 @@ module _ {S K R : Type 0} (w : Parts S K R) (instance : Data) (c : Completion) (
   pub outcome_local : (k : Key S) (path : Text) (p : Place) (f g : Edge S → Place → Outcome)
       → ((edge : Edge S) (q : Place) → Asks w instance k p edge q → f edge q ≡ g edge q) → outcome_of w instance c k path p f ≡ outcome_of w instance c k path p g
   outcome_local k path p f g e = plan_same k path p f g (plan w k) (λ xs is x in_xs edge q asks. e edge q (record { xs = xs; is_plan = is; part = x; is_part = in_xs; asks = asks }))
-
-  -- every greater depth gives the same, where no chain of questions goes through more than n references
-  pub unfold_stable : (n m : ℕ) → n ≤ m → (k : Key S) (path : Text) (p : Place) → stable.Shallow w instance accepted (outcome_of w instance c) (Asks w instance) outcome_local n k p
-      → unfold_ w instance c m k path p ≡ unfold_ w instance c n k path p
-  unfold_stable = stable.stable w instance accepted (outcome_of w instance c) (Asks w instance) outcome_local

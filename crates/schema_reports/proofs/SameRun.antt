@@ -23,6 +23,7 @@ use Rattle.schema_reports.specs.Guarded.{NodeEdge, Children, node_child, same_no
 use Rattle.schema_reports.specs.Numbered.{Numbers, IsNumber, SameEdge, SameForm, SamePart, SameParts, SamePlan, StandsFor, AreNumbered, Ranked, left, ValuesInside, MakersAskBelow, NumbersMeanUnfolding, NumbersMeanPlain}
 use Rattle.schema_reports.proofs.Reading.{Reads, reads_of}
 use Rattle.schema_reports.proofs.Questions.{later}
+use Rattle.schema_reports.proofs.RunsRead.{met_reads, units_read}
 use Rattle.schema_reports.proofs.Depths.{ByMeasure, measure_on, measure_less, measure_first, ByTrail, trail_on, trail_less, trail_first}
 use Rattle.schema_reports.proofs.AtPlaces.{at_places}
 use Rattle.schema_reports.proofs.Reaching.{at_keys}
@@ -91,6 +92,9 @@ draft_is draft_2019_09 b = elim b as (λ b. DraftIs draft_2019_09 b) [ draft_201
 draft_is draft_2020_12 b = elim b as (λ b. DraftIs draft_2020_12 b) [ draft_2020_12 ↦ λ e. refl | draft_6 ↦ λ e. absurd (true≢false (sym e)) | draft_7 ↦ λ e. absurd (true≢false (sym e)) | draft_2019_09 ↦ λ e. absurd (true≢false (sym e)) | draft_4 ↦ λ e. absurd (true≢false (sym e)) | draft_unknown ↦ λ e. absurd (true≢false (sym e)) ]
 draft_is draft_unknown b = elim b as (λ b. DraftIs draft_unknown b) [ draft_unknown ↦ λ e. refl | draft_6 ↦ λ e. absurd (true≢false (sym e)) | draft_7 ↦ λ e. absurd (true≢false (sym e)) | draft_2019_09 ↦ λ e. absurd (true≢false (sym e)) | draft_2020_12 ↦ λ e. absurd (true≢false (sym e)) | draft_4 ↦ λ e. absurd (true≢false (sym e)) ]
 
+pub one_place : (a b p : Place) → same_place a p ≡ true → same_place b p ≡ true → same_place a b ≡ true
+one_place a b p e f = subst (λ x. same_place a x ≡ true) (place_is a p e ∙ sym (place_is b p f)) (place_itself a)
+
 schema_place_is : (a b : SchemaPlace) → a.document ≡ b.document → a.path ≡ b.path → a ≡ b
 schema_place_is a b d p = λ j. record { document = d j; path = p j }
 
@@ -122,52 +126,15 @@ module _ {S K R : Type 0} (w : Parts S K R) (states : (a b : S) → Decides (w.r
   key_itself : (k : Key S) → same_key w k k ≡ true
   key_itself k = both_true _ _ (both_true _ _ (both_true _ _ (target_itself w state_itself k.target) (same_text k.location)) (same_text k.base)) (same_number k.start)
 
+  -- targets that are the same as one are the same
+  pub one_target : (a b k : Target S) → same_target w a k ≡ true → same_target w b k ≡ true → same_target w a b ≡ true
+  one_target a b k e f = subst (λ x. same_target w a x ≡ true) (same_target_is a k e ∙ sym (same_target_is b k f)) (target_itself w state_itself a)
+
 -- two tests that pass together
 one_truth : (a b : Bool) → (a ≡ true → b ≡ true) → (b ≡ true → a ≡ true) → a ≡ b
 one_truth true b f g = sym (f refl)
 one_truth false true f g = g refl
 one_truth false false f g = refl
-
--- ---- what the turns of a keyword meet
-
-module _ {K R : Type 0} (keywords : Keywords K R) (matcher : Matcher) (as' : Assumptions) (x : Where) (s : Subject) (same : Marked → Marked → Bool) (name : Text) (m : K) where
-  abbrev one_turn : (Question → Run) → (List Marked → Reply → List Met) → List Marked → Turn → List Met
-  one_turn run_of rest marks t = elim t [
-    | ask q mode ↦ let child = run_of q in child.met mode ++ rest marks (reply_in mode child)
-    | match_text a point ↦ elim (matcher.is_match a.pattern a.subject) [
-      | finished b ↦ rest marks (truth b)
-      | unfinished reason ↦ record { pair = a; site = site_at x name point } ∷ rest marks (truth (completed (completion_of as') a))
-    ]
-    | mark i ↦ rest (i ∷ marks) (truth (list_any (same i) marks))
-    | unmark ↦ rest (elim marks [ [] ↦ [] | i ∷ more ↦ more ]) no_reply
-    | ecma text ↦ rest marks (truth (matcher.is_ecma text))
-    | done ↦ []
-  ]
-
-  module _ (absorbed : List Text) (f g : Question → Run) (alike : (q : Question) → Contains (keywords.may_ask m s) q → f q ≡ g q) where
-    match_same : (o : Match) (a b c d : List Met) (u : Met) → a ≡ b → c ≡ d
-        → ◌≡◌ {A = List Met} (elim o [ finished t ↦ a | unfinished reason ↦ u ∷ c ]) (elim o [ finished t ↦ b | unfinished reason ↦ u ∷ d ])
-    match_same (finished t) a b c d u p q = p
-    match_same (unfinished r) a b c d u p q = ap (λ l. u ∷ l) q
-
-    match_same' : (o : Match) (a b : Bool → List Met) (c d : List Met) (u : Met) → ((t : Bool) → a t ≡ b t) → c ≡ d
-        → ◌≡◌ {A = List Met} (elim o [ finished t ↦ a t | unfinished reason ↦ u ∷ c ]) (elim o [ finished t ↦ b t | unfinished reason ↦ u ∷ d ])
-    match_same' (finished t) a b c d u p q = p t
-    match_same' (unfinished r) a b c d u p q = ap (λ l. u ∷ l) q
-
-    turn_same : (rest rest' : List Marked → Reply → List Met) → ((marks : List Marked) (reply : Reply) → rest marks reply ≡ rest' marks reply)
-        → (marks : List Marked) (t : Turn) → AsksRightly keywords m s absorbed t → one_turn f rest marks t ≡ one_turn g rest' marks t
-    turn_same rest rest' h marks (ask q mode) is = ap (λ r. r.met mode ++ rest marks (reply_in mode r)) (alike q is) ∙ ap (λ l. (g q).met mode ++ l) (h marks (reply_in mode (g q)))
-    turn_same rest rest' h marks (match_text a point) is = match_same' (matcher.is_match a.pattern a.subject) (λ b. rest marks (truth b)) (λ b. rest' marks (truth b)) _ _ _ (λ t. h marks (truth t)) (h marks _)
-    turn_same rest rest' h marks (mark i) is = h (i ∷ marks) _
-    turn_same rest rest' h marks unmark is = h _ no_reply
-    turn_same rest rest' h marks (ecma text) is = h marks _
-    turn_same rest rest' h marks done is = refl
-
-    pub turns_same : (n : ℕ) (marks : List Marked) (r : R) (reply : Reply) → AlwaysAsksRightly keywords m s absorbed n r reply
-        → turns keywords matcher as' x s f same name m n marks r reply ≡ turns keywords matcher as' x s g same name m n marks r reply
-    turns_same zero marks r reply a = refl
-    turns_same (suc n) marks r reply a = turn_same _ _ (λ marks' reply'. turns_same n marks' (keywords.turn m s r reply) reply' (a.1 reply')) marks (keywords.step m s r reply) a.0
 
 module _ {S K R : Type 0} (w : Parts S K R) (instance : Data) (keys : Numbers S) (nodes : Nodes K) (reads : Reads w.keywords)
     (states : (a b : S) → Decides (w.resolver.same_state a b) (a ≡ b)) (numbered : AreNumbered w keys nodes)
@@ -203,23 +170,15 @@ module _ {S K R : Type 0} (w : Parts S K R) (instance : Data) (keys : Numbers S)
   -- ---- units
 
   module _ (c : Completion) (f : NodeEdge → Below → Unit_) (g : Edge S → Place → Unit_) where
-    units_same : (x : Where) (name : Text) (a b : Gives) (u v : Bool) → a ≡ b → u ≡ v
-        → ◌≡◌ {A = PartUnits} (keyword_unit x name u a, map (λ z. (z.0, keyword_unit x z.0 u (record { children = z.1; annotations = None; errors = []; absorbed = [] }))) a.absorbed)
-        (keyword_unit x name v b, map (λ z. (z.0, keyword_unit x z.0 v (record { children = z.1; annotations = None; errors = []; absorbed = [] }))) b.absorbed)
-    units_same x name a b u v e h = ap₂ (λ (y : Gives) (t : Bool). (keyword_unit x name t y, map (λ z. (z.0, keyword_unit x z.0 t (record { children = z.1; annotations = None; errors = []; absorbed = [] }))) y.absorbed)) e h
-
     form_units : (name : Text) (x : NodeForm K) (y : Form K) → SameForm w keys nodes k name x y
         → ((e : NodeEdge) (b : Below) (edge : Edge S) → Here name x y e b edge → f e b ≡ g edge (place_below p b))
         → node_part_units w.keywords w.matcher nodes (subject w instance) c i path p f name x ≡ part_units w instance c k path p g name y
     unfolding Here
     form_units name (node_keyword m es) (keyword m' requests absorbed) s h =
         let t : Subject = subject w instance p in
-        let qs : List Question = w.keywords.may_ask m' t in
         let each = keyword_asked w instance keys nodes reads i k stands path p no_unit f g name m es m' requests absorbed s h in
         (λ j. keyword_units w.keywords (x-at j) name (s.0 j) t (matching w.matcher c) (node_asked w.keywords w.matcher nodes (subject w instance) no_unit es f))
-        ∙ units_same (at w instance k path p) name _ _ _ _
-        (reads.units_read m' t (matching w.matcher c) _ _ (each_asked _ qs each))
-        (reads.holds_reads m' t (matching w.matcher c) _ _ (each_asked _ qs (λ q is. ap (λ u. (report_of u).valid) (each q is))))
+        ∙ units_read w.keywords reads (at w instance k path p) name m' t (matching w.matcher c) _ _ each
     form_units name (node_reference e) (reference kind text) s h = λ j. reference_units (x-at j) name (reference_asked w instance keys nodes reads i k stands path p no_unit f g name e kind text s h j)
     form_units name (node_keyword m es) (reference kind text) s h = absurd s
     form_units name (node_reference e) (keyword m' requests absorbed) s h = absurd s
@@ -272,7 +231,7 @@ module _ {S K R : Type 0} (w : Parts S K R) (instance : Data) (keys : Numbers S)
         let each = keyword_asked w instance keys nodes reads i k stands path p no_run f g name m es m' requests absorbed s h in
         let same = same_children name m es m' requests absorbed s in
         (λ j. keyword_met w.keywords w.matcher as' (x-at j) t (node_asked w.keywords w.matcher nodes (subject w instance) no_run es f) (λ a b. same a b j) name (s.0 j) mode)
-        ∙ turns_same w.keywords w.matcher as' (at w instance k path p) t (same_child w k name requests) name m' (reads.absorbs m') _ _ each (w.keywords.most_turns m' t) [] (w.keywords.begin m' t mode) no_reply (reads.asks m' t mode)
+        ∙ met_reads w.keywords reads (at w instance k path p) name m' t w.matcher as' (same_child w k name requests) mode _ _ each
     form_met name (node_reference e) (reference kind text) s h mode = ap (λ r. r.met mode) (reference_asked w instance keys nodes reads i k stands path p no_run f g name e kind text s h)
     form_met name (node_keyword m es) (reference kind text) s h mode = absurd s
     form_met name (node_reference e) (keyword m' requests absorbed) s h mode = absurd s
@@ -350,10 +309,6 @@ numbers_mean_plain {S} w keys nodes laws values makers states numbered ranked in
     let at_reached = at_keys w instance k reached reach in
     let root : Asked w instance = record { key = k; path = []; place = [] } in
     let there = at_places w instance (reads_of w.keywords laws) k in
-    let one_target : (a b l : Target S) → same_target w a l ≡ true → same_target w b l ≡ true → same_target w a b ≡ true
-    = λ a b l e f. subst (λ x. same_target w a x ≡ true) (same_target_is w states a l e ∙ sym (same_target_is w states b l f)) (target_itself w (state_itself w states) a) in
-    let one_place : (a b p : Place) → same_place a p ≡ true → same_place b p ≡ true → same_place a b ≡ true
-    = λ a b p e f. subst (λ x. same_place a x ≡ true) (place_is a p e ∙ sym (place_is b p f)) (place_itself a) in
-    senses_agree w keys nodes laws values makers states numbered ranked instance i k number none (ByTrail w instance keys nodes root none reached at_reached there one_target one_place)
-    (trail_on w instance keys nodes root none reached at_reached there one_target one_place) (trail_less w instance keys nodes root none reached at_reached there one_target one_place) m n low
-    (trail_first w instance keys nodes root none reached at_reached there one_target one_place n i (omega arith))
+    senses_agree w keys nodes laws values makers states numbered ranked instance i k number none (ByTrail w instance keys nodes root none reached at_reached there (one_target w states) one_place)
+    (trail_on w instance keys nodes root none reached at_reached there (one_target w states) one_place) (trail_less w instance keys nodes root none reached at_reached there (one_target w states) one_place) m n low
+    (trail_first w instance keys nodes root none reached at_reached there (one_target w states) one_place n i (omega arith))

@@ -66,7 +66,7 @@ module _ {K : Type 0} (instance : Data) (nodes : Nodes K) where
 
 module _ {K R : Type 0} (keywords : Keywords K R) (matcher : Matcher) (instance : Data) (nodes : Nodes K) where
   module _ (reads : Reads keywords) (c : Completion) (i : ℕ) (path : Text) (p : Place) (f g : NodeEdge → Below → Outcome) where
-    FormAsks : NodeForm K → NodeEdge → Below → Type 0
+    abbrev pub FormAsks : NodeForm K → NodeEdge → Below → Type 0
     FormAsks x e b = Contains (form_edges x) e × IsPresent (subject_in instance p) (steps_below b)
 
     asked_same : (o : Option NodeEdge) (b : Below) → ((e : NodeEdge) → o ≡ Some e → f e b ≡ g e b)
@@ -74,9 +74,8 @@ module _ {K R : Type 0} (keywords : Keywords K R) (matcher : Matcher) (instance 
     asked_same None b h = refl
     asked_same (Some e) b h = h e refl
 
-    part_same : (name : Text) (x : NodeForm K) → ((e : NodeEdge) (b : Below) → FormAsks x e b → f e b ≡ g e b)
+    pub part_same : (name : Text) (x : NodeForm K) → ((e : NodeEdge) (b : Below) → FormAsks x e b → f e b ≡ g e b)
         → node_part keywords matcher nodes (subject_in instance) c i path p f name x ≡ node_part keywords matcher nodes (subject_in instance) c i path p g name x
-    unfolding FormAsks
     part_same name (node_keyword m es) h =
         let s : Subject = subject_in instance p in
         let qs : List Question = keywords.may_ask m s in
@@ -95,7 +94,6 @@ module _ {K R : Type 0} (keywords : Keywords K R) (matcher : Matcher) (instance 
     plan_same : (o : NodePlan K) → nodes.entries i ≡ o → ((e : NodeEdge) (b : Below) → NodeAsks instance nodes i p e b → f e b ≡ g e b)
         → ◌≡◌ {A = Outcome} (elim o [ node_always ↦ accepted | node_never ↦ false_outcome keywords.texts (node_at keywords matcher nodes (subject_in instance) i path p) (subject_in instance p) | node_these xs ↦ node_parts keywords matcher nodes (subject_in instance) c i path p f xs ])
         (elim o [ node_always ↦ accepted | node_never ↦ false_outcome keywords.texts (node_at keywords matcher nodes (subject_in instance) i path p) (subject_in instance p) | node_these xs ↦ node_parts keywords matcher nodes (subject_in instance) c i path p g xs ])
-    unfolding FormAsks
     plan_same node_always is h = refl
     plan_same node_never is h = refl
     plan_same (node_these xs) is h = parts_same xs (λ x in_xs e b asks. h e b (record { edge = subst (λ o. Contains (node_edges o) e) (sym is) (in_flat_map (λ y. form_edges y.form) xs x e in_xs asks.0); present = asks.1 }))

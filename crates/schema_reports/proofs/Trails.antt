@@ -75,6 +75,10 @@ module _ {S K R : Type 0} (w : Parts S K R) (instance : Data) (root : Asked w in
     pub grid : List (Key S × Place)
     grid = product keys (places instance)
 
+    pub length-grid : length grid ≡ length keys * length (places instance)
+    unfolding grid
+    length-grid = length-product keys (places instance)
+
     pub on_grid : (a : Asked w instance) → LeadsTo w instance root a → list_any (test a) grid ≡ true
     unfolding test grid
     on_grid a l = any_product (λ k. same_target w a.key.target k.target) (same_place a.place) keys (places instance) (at_keys a l) (at_places a l)

@@ -4,7 +4,9 @@ ghost use Rattle.std.specs.Prelude.{ℕ};
 ghost use Rattle.serde_json.specs.Data.{Data};
 ghost use Rattle.schema_reports.specs.Parts.{Parts};
 ghost use Rattle.schema_reports.specs.Guarded.{Nodes};
-ghost use Rattle.schema_reports.specs.Numbered.{GuardedIsPlain, GuardedSettles, Numbers, NumbersMeanPlain, NumbersMeanUnfolding, NumbersSayUnfolding};
+ghost use Rattle.schema_reports.specs.Keywords.{Keywords};
+ghost use Rattle.schema_reports.specs.Depths.{DepthsAgree};
+ghost use Rattle.schema_reports.specs.Numbered.{GuardedRunsSettle, GuardedSenseSettles, RunsSayOutcomes, GuardedIsPlain, GuardedSettles, Numbers, NumbersMeanPlain, NumbersMeanUnfolding, NumbersSayUnfolding};
 
 /// What numbered nodes say settles at some depth, whether questions return or not.
 pub fn guarded_settles<S, K, R>()
@@ -29,4 +31,24 @@ pub fn numbers_mean_plain<S, K, R>()
 /// A call that answers the headline's sentence of its nodes answers it of the plain meaning.
 pub fn guarded_is_plain<S, K, R>()
     ensures answers { (w : Parts S K R) (keys : Numbers S) (nodes : Nodes K) → GuardedIsPlain w keys nodes }
+{}
+
+/// A run of numbered nodes has the outcome and the units that the nodes have under its completion.
+pub fn runs_say_outcomes<K, R>()
+    ensures says { (keywords : Keywords K R) → RunsSayOutcomes keywords }
+{}
+
+/// Each run of numbered nodes settles at some depth, whether questions return or not.
+pub fn guarded_runs_settle<K, R>()
+    ensures settles { (keywords : Keywords K R) → GuardedRunsSettle keywords }
+{}
+
+/// And so does their sense.
+pub fn guarded_sense_settles<K, R>()
+    ensures settles { (keywords : Keywords K R) → GuardedSenseSettles keywords }
+{}
+
+/// Where no question returns, every depth that is enough gives one plain meaning.
+pub fn depths_agree<S, K, R>()
+    ensures agree { (w : Parts S K R) → DepthsAgree w }
 {}
