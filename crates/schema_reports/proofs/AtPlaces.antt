@@ -1,5 +1,5 @@
 -- Questions come only to places of the instance.
-use Rattle.std.proofs.Common.{◌≡◌, ℕ, zero, suc, ◌+◌, ◌<◌, ◌≤◌, ◌==◌, ◌&&◌, ◌||◌, Bool, true, false, cond, List, [], ◌∷◌, ◌++◌, length, map, refl, sym, subst, ◌∙◌, ap, arith, true≢false}
+use Rattle.std.proofs.Common.{◌≡◌, ℕ, zero, suc, ◌+◌, ◌==◌, ◌&&◌, ◌||◌, Bool, true, false, cond, List, [], ◌∷◌, ◌++◌, map, refl, sym, subst, ◌∙◌, ap, arith, true≢false}
 use Rattle.std.specs.Prelude.{Contains, Option, Some, None, is_some, option_and_then, option_map, unwrap_or, All, filter_map, flat_map, bytes_eq}
 use Rattle.std.specs.List.{list_any, cons_option}
 use Rattle.std.proofs.lemmas.List.Elements.{All-head, All-tail}
@@ -11,11 +11,11 @@ use Rattle.schema_reports.specs.Making.{Request}
 use Rattle.schema_reports.specs.Plan.{Key, Edge, Part, Form, keyword, reference, Plan, always, never, these, plan, child, reference_edge}
 use Rattle.schema_reports.specs.Meaning.{subject, place_below}
 use Rattle.schema_reports.specs.Returns.{Asked, part_questions, questions, LeadsTo, stays, asks}
-use Rattle.schema_reports.specs.Laws.{IsPresent, steps_below, EachKeeps}
+use Rattle.schema_reports.specs.Laws.{IsPresent, steps_below}
 use Rattle.schema_reports.proofs.Products.{or_left, or_right, any-append_left, any-append_right, both_true}
-use Rattle.schema_reports.proofs.Reading.{Reads, reads_of}
+use Rattle.schema_reports.proofs.Reading.{Reads}
 use Rattle.schema_reports.proofs.Falls.{from_below}
-use Rattle.schema_reports.proofs.Simulates.{same_text, same_number}
+use Rattle.schema_reports.proofs.Simulates.{same_number}
 
 any_map : (s t : Step) (p : Place) (ps : List Place) → same_step s t ≡ true → list_any (same_place p) ps ≡ true → list_any (same_place (s ∷ p)) (map (λ q. t ∷ q) ps) ≡ true
 any_map s t p [] e h = absurd (true≢false (sym h))

@@ -1,20 +1,10 @@
 -- Where no chain of questions returns, as many references as there are targets and places are deep enough.
-use Rattle.std.proofs.Common.{◌≡◌, ℕ, zero, suc, ◌+◌, ◌≤◌, ◌<◌, List, [], ◌∷◌, ◌++◌, length, map, refl, ap, sym, subst, ◌∙◌, Bool, true, false, ◌||◌, arith}
-use Rattle.std.specs.Prelude.{Contains, Option, Some, None, ⊤, nat_eq, option_map, filter_map, flat_map}
-use Rattle.std.specs.List.{AllByRecursion, IsDistinct, list_any, cons_option}
-use Rattle.std.proofs.lemmas.Map.Steps.{length-le_from_distinct_below}
-use Rattle.std.proofs.lemmas.Bool.{eqb-true}
-use Rattle.std.proofs.lemmas.List.{length-map}
-use Rattle.std.proofs.lemmas.Bool.Decides.{eqb_tells}
-use Rattle.std.proofs.lemmas.List.Elements.{Contains-append_left, Contains-append_right}
+use Rattle.std.proofs.Common.{◌≡◌, ℕ, zero, suc, ◌+◌, ◌≤◌, ◌<◌, List, length, true, arith}
 use Rattle.serde_json.specs.Data.{Data}
 use Rattle.schema_reports.specs.Instance.{Text, Place}
-use Rattle.schema_reports.specs.Reports.{Outcome, accepted}
 use Rattle.schema_reports.specs.Parts.{Parts}
-use Rattle.schema_reports.specs.Matching.{Completion}
-use Rattle.schema_reports.specs.Keywords.{Question}
-use Rattle.schema_reports.specs.Plan.{Key, Edge, Part, Form, keyword, reference, Plan, always, never, these, plan, child, reference_edge}
-use Rattle.schema_reports.specs.Returns.{Asked, questions, part_questions, LeadsTo, stays, asks, Return, same_question}
+use Rattle.schema_reports.specs.Plan.{Key, Edge}
+use Rattle.schema_reports.specs.Returns.{Asked, LeadsTo, Return, same_question}
 use Rattle.schema_reports.specs.Meaning.{unfolded}
 use Rattle.schema_reports.proofs.Stable as stable
 use Rattle.schema_reports.proofs.Questions.{Asks, asked_in}

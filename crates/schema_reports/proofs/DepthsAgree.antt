@@ -1,16 +1,15 @@
 -- Every depth from the keys reached times the places on gives one meaning, where no question returns.
 use Rattle.std.proofs.Common.{◌≡◌, ℕ, List, [], ◌≤◌}
-use Rattle.std.specs.Prelude.{Contains, Decides}
-use Rattle.std.specs.List.{list_any}
+use Rattle.std.specs.Prelude.{Decides}
 use Rattle.serde_json.specs.Data.{Data}
-use Rattle.schema_reports.specs.Instance.{Place, Text, places, same_place}
+use Rattle.schema_reports.specs.Instance.{Place, Text}
 use Rattle.schema_reports.specs.Reports.{accepted}
 use Rattle.schema_reports.specs.Matching.{Assumptions, Completion}
 use Rattle.schema_reports.specs.Parts.{Parts}
-use Rattle.schema_reports.specs.Plan.{Edge, Key, same_target}
+use Rattle.schema_reports.specs.Plan.{Edge, Key}
 use Rattle.schema_reports.specs.Meaning.{outcome_of, unfold_, unfolded}
-use Rattle.schema_reports.specs.Units.{no_unit, plain_units, unit_of}
-use Rattle.schema_reports.specs.Returns.{Asked, LeadsTo, Return}
+use Rattle.schema_reports.specs.Units.{no_unit, unit_of}
+use Rattle.schema_reports.specs.Returns.{Return}
 use Rattle.schema_reports.specs.Runs.{no_run, run, run_node}
 use Rattle.schema_reports.specs.Cover.{mode_of}
 use Rattle.schema_reports.specs.Laws.{EachKeeps}

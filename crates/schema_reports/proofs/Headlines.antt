@@ -1,13 +1,13 @@
 -- What a validator answers of its nodes, it answers of the plain meaning, where no question returns.
-use Rattle.std.proofs.Common.{◌≡◌, ℕ, zero, suc, ◌+◌, ◌<◌, ◌≤◌, Bool, List, [], length, refl, sym, subst, arith, max}
-use Rattle.std.specs.Prelude.{Option, Decides}
+use Rattle.std.proofs.Common.{◌≡◌, ℕ, suc, ◌+◌, [], length, subst, arith}
+use Rattle.std.specs.Prelude.{Decides}
 use Rattle.serde_json.specs.Data.{Data}
 use Rattle.schema_reports.specs.Parts.{Parts}
 use Rattle.schema_reports.specs.Plan.{Key}
 use Rattle.schema_reports.specs.Meaning.{subject}
 use Rattle.schema_reports.specs.Cover.{Sense, is_valid, evaluate}
 use Rattle.schema_reports.specs.Laws.{EachKeeps}
-use Rattle.schema_reports.specs.Guarded.{Nodes, guarded_sense}
+use Rattle.schema_reports.specs.Guarded.{Nodes}
 use Rattle.schema_reports.specs.Headline.{Plainly, Guardedly, VerdictSays, FirstSays, ErrorsSay}
 use Rattle.schema_reports.specs.Reports.{report_of}
 use Rattle.schema_reports.specs.Numbered.{Numbers, IsNumber, AreNumbered, Ranked, left, ValuesInside, MakersAskBelow, GuardedIsPlain}

@@ -1,18 +1,18 @@
 -- Subschemas lie strictly inside their schema.
-use Rattle.std.proofs.Common.{◌≡◌, ℕ, zero, suc, ◌+◌, ◌<◌, ◌≤◌, Bool, true, false, cond, List, [], ◌∷◌, ◌++◌, length, refl, sym, subst, ◌∙◌, ap, arith, true≢false}
+use Rattle.std.proofs.Common.{◌≡◌, ℕ, zero, suc, ◌<◌, Bool, true, false, cond, List, [], ◌∷◌, ◌++◌, refl, subst, arith, true≢false}
 use Rattle.std.specs.Prelude.{Contains, Option, Some, None, option_map, unwrap_or, filter_map, flat_map, All, nat_le, codes}
 use Rattle.std.specs.List.{cons_option}
 use Rattle.std.proofs.lemmas.List.Elements.{All-head, All-tail}
 use Rattle.serde_json.specs.Data.{Data, null, boolean, number, string, array, object, Members, no_members, member, depth}
-use Rattle.schema_reports.specs.Instance.{Text, Place, Step, Subject, a_value, subject_at, member_of}
+use Rattle.schema_reports.specs.Instance.{Text, Place, Step, a_value, subject_at, member_of}
 use Rattle.schema_reports.specs.Pointer.{joined, pointer_to}
-use Rattle.schema_reports.specs.Drafts.{Draft, at_path, ref_stands_alone}
+use Rattle.schema_reports.specs.Drafts.{at_path, ref_stands_alone}
 use Rattle.schema_reports.specs.Parts.{Parts}
 use Rattle.schema_reports.specs.Making.{Request, compile, refer, Making, Made, a_keyword, nothing, refused, Builtin}
 use Rattle.schema_reports.specs.Resolving.{Found}
-use Rattle.schema_reports.specs.Plan.{Key, Part, Form, keyword, reference, Reference, to_ref, reference_named, Plan, always, never, these, Edge, plan, plan_of, plan_alone, parts, part, builtin_part, part_made, reference_part, making, option_list, sorted, placed, requested, subschema, inside, referred, reference_edge, is_self, found, ok_of, schema_at, schema_of, height}
-use Rattle.schema_reports.specs.Paths.{edges, part_edges}
-use Rattle.schema_reports.specs.Numbered.{subject_height, ValuesInside, IsBelow, MakersAskBelow, SubschemasInside}
+use Rattle.schema_reports.specs.Plan.{Key, Part, Form, keyword, reference, Reference, to_ref, reference_named, Plan, always, never, these, Edge, plan, plan_of, plan_alone, parts, part, builtin_part, part_made, reference_part, making, option_list, sorted, placed, requested, inside, referred, reference_edge, is_self, found, ok_of, schema_at, schema_of, height}
+use Rattle.schema_reports.specs.Paths.{part_edges}
+use Rattle.schema_reports.specs.Numbered.{ValuesInside, IsBelow, MakersAskBelow, SubschemasInside}
 use Rattle.schema_reports.proofs.Falls.{path_falls}
 
 module _ {S K R : Type 0} (w : Parts S K R) (values : ValuesInside w) (makers : MakersAskBelow w.table) where

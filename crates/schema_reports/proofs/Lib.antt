@@ -1,22 +1,22 @@
-mod Stable
-mod Questions
-mod Reading
+pub mod Questions
+pub mod Reading
 pub mod Falls
-mod Local
+pub mod Local
+pub mod RunsRead
+pub mod Settles
+pub mod NodeRuns
+mod Stable
 mod Products
 mod Trails
 mod Depths
-mod AtPlaces
-mod Reaching
-mod Headlines
-mod Inside
-pub mod Settles
+pub mod AtPlaces
+pub mod Reaching
+pub mod Inside
 pub mod Simulates
 pub mod SameOutcome
 pub mod SameRun
+pub mod Headlines
 mod Deep
 mod Counted
-pub mod RunsRead
-mod PlainRuns
-pub mod NodeRuns
+pub mod PlainRuns
 pub mod DepthsAgree

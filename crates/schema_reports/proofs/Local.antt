@@ -1,27 +1,23 @@
 -- An outcome reads its answers only where the keywords may ask.
-use Rattle.std.proofs.Common.{◌≡◌, ℕ, zero, suc, ◌≤◌, List, [], ◌∷◌, refl, ap, ap₂, sym, ◌∙◌, Bool, true, false, arith}
+use Rattle.std.proofs.Common.{◌≡◌, zero, List, [], ◌∷◌, refl, ap, ap₂, Bool, arith}
 use Rattle.std.specs.Prelude.{All, Contains, Option, Some, None, map}
-use Rattle.std.proofs.lemmas.List.Elements.{All-head, All-tail, All-cons, All-contains, All-contains_itself}
+use Rattle.std.proofs.lemmas.List.Elements.{All-contains_itself}
 use Rattle.serde_json.specs.Data.{Data}
-use Rattle.schema_reports.specs.Instance.{Text, Place, Subject}
+use Rattle.schema_reports.specs.Instance.{Text, Place}
 use Rattle.schema_reports.specs.Reports.{Error, Outcome, accepted}
 use Rattle.schema_reports.specs.Parts.{Parts}
-use Rattle.schema_reports.specs.Keywords.{Keywords, Question, Answers}
-use Rattle.schema_reports.specs.Matching.{Completion, Matching, matching}
-use Rattle.schema_reports.specs.Making.{Request}
-use Rattle.schema_reports.specs.Plan.{Key, Edge, height, Part, Form, keyword, reference, Reference, Plan, always, never, these, plan, child, reference_edge}
-use Rattle.schema_reports.specs.Meaning.{Where, at, subject, asked, referred_to, place_below, part_outcome, parts_outcome, outcome_of, keyword_outcome, reference_outcome, false_outcome, fault_error, both, unfold_}
+use Rattle.schema_reports.specs.Keywords.{Question}
+use Rattle.schema_reports.specs.Matching.{Completion, matching}
+use Rattle.schema_reports.specs.Plan.{Key, Edge, Part, Form, keyword, reference, Plan, always, never, these, plan, child, reference_edge}
+use Rattle.schema_reports.specs.Meaning.{at, subject, asked, place_below, part_outcome, parts_outcome, outcome_of, reference_outcome, false_outcome, fault_error, both}
 use Rattle.schema_reports.proofs.Reading.{Reads}
-use Rattle.schema_reports.proofs.Questions.{PartAsks, by_keyword, by_reference, Asks}
+use Rattle.schema_reports.proofs.Questions.{later, PartAsks, by_keyword, by_reference, Asks}
 
 pub same_outcome : {v v' : Bool} {es es' : List Error} → v ≡ v' → es ≡ es' → ◌≡◌ {A = Outcome} (record { verdict = v; errors = es }) (record { verdict = v'; errors = es' })
 same_outcome p q = λ i. record { verdict = p i; errors = q i }
 
 pub each_asked : {A : Type 0} (P : A → Type 0) (xs : List A) → ((x : A) → Contains xs x → P x) → All P xs
 each_asked P xs h = λ i d is. h _ (All-contains_itself xs i d is)
-
-Contains-later : {A : Type 0} (x : A) (xs : List A) (y : A) → Contains xs y → Contains (x ∷ xs) y
-Contains-later x xs y (i, is, at_i) = (suc i, omega arith, at_i)
 
 module _ {S K R : Type 0} (w : Parts S K R) (instance : Data) (c : Completion) (reads : Reads w.keywords) where
   module _ (k : Key S) (path : Text) (p : Place) (f g : Edge S → Place → Outcome) where
@@ -45,7 +41,7 @@ module _ {S K R : Type 0} (w : Parts S K R) (instance : Data) (c : Completion) (
     parts_same : (xs : List (Part K)) → ((x : Part K) → Contains xs x → (edge : Edge S) (q : Place) → PartAsks w instance k p x.name x.form edge q → f edge q ≡ g edge q)
         → parts_outcome w instance c k path p f xs ≡ parts_outcome w instance c k path p g xs
     parts_same [] e = refl
-    parts_same (x ∷ xs) e = ap₂ both (part_same x.name x.form (e x (zero, omega arith, refl))) (parts_same xs (λ y is. e y (Contains-later x xs y is)))
+    parts_same (x ∷ xs) e = ap₂ both (part_same x.name x.form (e x (zero, omega arith, refl))) (parts_same xs (λ y is. e y (later x xs y is)))
 
     plan_same : (o : Plan K) → ((xs : List (Part K)) → o ≡ these xs → (x : Part K) → Contains xs x → (edge : Edge S) (q : Place) → PartAsks w instance k p x.name x.form edge q → f edge q ≡ g edge q)
         → ◌≡◌ {A = Outcome} (elim o [ always ↦ accepted | never ↦ false_outcome w.keywords.texts (at w instance k path p) (subject w instance p) | these xs ↦ parts_outcome w instance c k path p f xs ])

@@ -1,19 +1,19 @@
 -- A run of numbered nodes reads its answers only where the keywords may ask, and so it settles as outcomes do.
-use Rattle.std.proofs.Common.{◌≡◌, ℕ, zero, suc, ◌<◌, ◌==◌, Bool, true, false, List, [], ◌∷◌, ◌++◌, refl, subst, sym, ap, ap₂, ◌∙◌, arith}
+use Rattle.std.proofs.Common.{◌≡◌, ℕ, zero, suc, ◌==◌, Bool, true, false, List, [], ◌∷◌, ◌++◌, refl, subst, sym, ap, ap₂, ◌∙◌, arith}
 use Rattle.std.specs.Prelude.{Contains, Option, Some, None}
 use Rattle.std.specs.List.{list_any}
 use Rattle.std.proofs.lemmas.List.Elements.{All-contains}
 use Rattle.serde_json.specs.Data.{Data}
 use Rattle.schema_reports.specs.Instance.{Text, Place, Subject}
-use Rattle.schema_reports.specs.Reports.{Outcome, Unit_, accepted}
+use Rattle.schema_reports.specs.Reports.{Unit_, accepted}
 use Rattle.schema_reports.specs.Matching.{Assumptions, Completion, Matcher, completion_of, matching}
 use Rattle.schema_reports.specs.Keywords.{Below, Keywords, Mode, Question, here}
 use Rattle.schema_reports.specs.Meaning.{place_below}
 use Rattle.schema_reports.specs.Units.{Entry, false_unit, no_unit, plan_unit, reference_units, true_unit}
 use Rattle.schema_reports.specs.Runs.{Looked, Met, Run, no_run, plan_met}
 use Rattle.schema_reports.specs.Cover.{mode_of}
-use Rattle.schema_reports.specs.Laws.{EachKeeps, IsPresent, steps_below}
-use Rattle.schema_reports.specs.Guarded.{Children, NodeEdge, NodeForm, NodePart, NodePlan, Nodes, across, form_edges, guarded_node, guarded_sense, guarded_within, node_always, node_asked, node_at, node_child, node_edges, node_entries_of, node_keyword, node_looked, node_never, node_outcome, node_part_met, node_part_units, node_reference, node_these, node_unit, progress_below, same_edge}
+use Rattle.schema_reports.specs.Laws.{IsPresent, steps_below}
+use Rattle.schema_reports.specs.Guarded.{Children, NodeEdge, NodeForm, NodePart, NodePlan, Nodes, across, form_edges, guarded_node, guarded_within, node_always, node_asked, node_at, node_child, node_edges, node_entries_of, node_keyword, node_looked, node_never, node_outcome, node_part_met, node_part_units, node_reference, node_these, node_unit, progress_below, same_edge}
 use Rattle.schema_reports.specs.Numbered.{GuardedRunsSettle, GuardedSenseSettles, RunsSayOutcomes, subject_in}
 use Rattle.schema_reports.proofs.Reading.{Reads, reads_of}
 use Rattle.schema_reports.proofs.Questions.{later, in_flat_map}

@@ -1,15 +1,15 @@
 -- A plain run reads its answers only where the keywords may ask.
-use Rattle.std.proofs.Common.{◌≡◌, ℕ, zero, suc, List, [], ◌∷◌, ◌++◌, refl, ap, ap₂, arith}
+use Rattle.std.proofs.Common.{◌≡◌, zero, List, [], ◌∷◌, refl, ap, ap₂, arith}
 use Rattle.std.specs.Prelude.{Contains, Option, Some, None}
 use Rattle.serde_json.specs.Data.{Data}
-use Rattle.schema_reports.specs.Instance.{Text, Place, Subject}
+use Rattle.schema_reports.specs.Instance.{Text, Place}
 use Rattle.schema_reports.specs.Reports.{Unit_}
 use Rattle.schema_reports.specs.Matching.{Assumptions, Completion, completion_of, matching}
 use Rattle.schema_reports.specs.Making.{Request}
 use Rattle.schema_reports.specs.Keywords.{Mode, Question}
 use Rattle.schema_reports.specs.Parts.{Parts}
 use Rattle.schema_reports.specs.Plan.{Key, Edge, Part, Form, keyword, reference, Reference, Plan, always, never, these, plan, child, reference_edge, same_child}
-use Rattle.schema_reports.specs.Meaning.{at, subject, asked, referred_to, place_below, part_outcome, outcome_of}
+use Rattle.schema_reports.specs.Meaning.{at, subject, asked, referred_to, place_below}
 use Rattle.schema_reports.specs.Units.{Entry, annotations_of, entries_of, false_unit, no_unit, part_units, plan_unit, reference_units, true_unit, unit_of}
 use Rattle.schema_reports.specs.Runs.{Looked, Met, Run, looked, no_run, part_met, plan_met, run_node}
 use Rattle.schema_reports.proofs.Reading.{Reads}

@@ -5,7 +5,7 @@ use Rattle.schema_reports.specs.Instance.{Subject, Text}
 use Rattle.schema_reports.specs.Reports.{Unit_}
 use Rattle.schema_reports.specs.Keywords.{Keywords, Question, Answers, Mode, no_reply}
 use Rattle.schema_reports.specs.Matching.{Matching}
-use Rattle.schema_reports.specs.Laws.{IsPresent, steps_below, AlwaysAsksRightly, KeepsLaws, EachKeeps}
+use Rattle.schema_reports.specs.Laws.{IsPresent, steps_below, AlwaysAsksRightly, EachKeeps}
 
 -- what a keyword may ask is there, and what it says is read off those answers alone
 pub record Reads {K R : Type 0} (keywords : Keywords K R) : Type 0 where

@@ -30,20 +30,15 @@ module _ {K R : Type 0} (keywords : Keywords K R) (matcher : Matcher) (as' : Ass
   ]
 
   module _ (absorbed : List Text) (f g : Question → Run) (alike : (q : Question) → Contains (keywords.may_ask m s) q → f q ≡ g q) where
-    match_same : (o : Match) (a b c d : List Met) (u : Met) → a ≡ b → c ≡ d
-        → ◌≡◌ {A = List Met} (elim o [ finished t ↦ a | unfinished reason ↦ u ∷ c ]) (elim o [ finished t ↦ b | unfinished reason ↦ u ∷ d ])
-    match_same (finished t) a b c d u p q = p
-    match_same (unfinished r) a b c d u p q = ap (λ l. u ∷ l) q
-
-    match_same' : (o : Match) (a b : Bool → List Met) (c d : List Met) (u : Met) → ((t : Bool) → a t ≡ b t) → c ≡ d
+    match_same : (o : Match) (a b : Bool → List Met) (c d : List Met) (u : Met) → ((t : Bool) → a t ≡ b t) → c ≡ d
         → ◌≡◌ {A = List Met} (elim o [ finished t ↦ a t | unfinished reason ↦ u ∷ c ]) (elim o [ finished t ↦ b t | unfinished reason ↦ u ∷ d ])
-    match_same' (finished t) a b c d u p q = p t
-    match_same' (unfinished r) a b c d u p q = ap (λ l. u ∷ l) q
+    match_same (finished t) a b c d u p q = p t
+    match_same (unfinished r) a b c d u p q = ap (λ l. u ∷ l) q
 
     turn_same : (rest rest' : List Marked → Reply → List Met) → ((marks : List Marked) (reply : Reply) → rest marks reply ≡ rest' marks reply)
         → (marks : List Marked) (t : Turn) → AsksRightly keywords m s absorbed t → one_turn f rest marks t ≡ one_turn g rest' marks t
     turn_same rest rest' h marks (ask q mode) is = ap (λ r. r.met mode ++ rest marks (reply_in mode r)) (alike q is) ∙ ap (λ l. (g q).met mode ++ l) (h marks (reply_in mode (g q)))
-    turn_same rest rest' h marks (match_text a point) is = match_same' (matcher.is_match a.pattern a.subject) (λ b. rest marks (truth b)) (λ b. rest' marks (truth b)) _ _ _ (λ t. h marks (truth t)) (h marks _)
+    turn_same rest rest' h marks (match_text a point) is = match_same (matcher.is_match a.pattern a.subject) (λ b. rest marks (truth b)) (λ b. rest' marks (truth b)) _ _ _ (λ t. h marks (truth t)) (h marks _)
     turn_same rest rest' h marks (mark i) is = h (i ∷ marks) _
     turn_same rest rest' h marks unmark is = h _ no_reply
     turn_same rest rest' h marks (ecma text) is = h marks _

@@ -1,24 +1,23 @@
 -- A number's outcome is its key's, where the questions that both ask are answered alike.
-use Rattle.std.proofs.Common.{◌≡◌, ℕ, zero, suc, ◌+◌, ◌<◌, ◌≤◌, Bool, true, false, List, [], ◌∷◌, ◌++◌, length, refl, sym, subst, ◌∙◌, ap, ap₂, arith}
-use Rattle.std.specs.Prelude.{Contains, Option, Some, None, slice_get, filter_map, flat_map, map, All, option_and_then}
+use Rattle.std.proofs.Common.{◌≡◌, ℕ, zero, List, [], ◌∷◌, refl, sym, subst, ◌∙◌, ap, ap₂, arith}
+use Rattle.std.specs.Prelude.{Contains, Option, Some, None, flat_map, map}
 use Rattle.std.proofs.lemmas.List.Elements.{All-contains}
 use Rattle.serde_json.specs.Data.{Data}
 use Rattle.schema_reports.specs.Instance.{Text, Place, Subject}
 use Rattle.schema_reports.specs.Reports.{Outcome, accepted}
 use Rattle.schema_reports.specs.Parts.{Parts}
 use Rattle.schema_reports.specs.Matching.{Completion, matching}
-use Rattle.schema_reports.specs.Keywords.{Below, here, down, Question}
+use Rattle.schema_reports.specs.Keywords.{Below, here, Question}
 use Rattle.schema_reports.specs.Making.{Request}
-use Rattle.schema_reports.specs.Plan.{Key, Edge, Part, Form, keyword, reference, Reference, Plan, always, never, these, plan, child, requested, reference_edge, absolute_of, option_list}
-use Rattle.schema_reports.specs.Meaning.{subject, Where, at, place_below, asked, referred_to, keyword_outcome, reference_outcome, false_outcome, fault_error, both, part_outcome, parts_outcome, outcome_of, unfold_}
-use Rattle.schema_reports.specs.Returns.{Asked, Return}
+use Rattle.schema_reports.specs.Plan.{Key, Edge, Part, Form, keyword, reference, Reference, Plan, always, never, these, plan, child, requested, reference_edge, option_list}
+use Rattle.schema_reports.specs.Meaning.{subject, Where, at, place_below, asked, referred_to, keyword_outcome, reference_outcome, false_outcome, fault_error, both, part_outcome, parts_outcome, outcome_of}
 use Rattle.schema_reports.specs.Paths.{edges, part_edges}
 use Rattle.schema_reports.specs.Laws.{IsPresent, steps_below}
 use Rattle.schema_reports.specs.Guarded.{NodeEdge, Children, node_child, NodeForm, node_keyword, node_reference, NodePart, NodePlan, node_always, node_never, node_these, Nodes, form_edges, node_edges, node_at, node_asked, node_part, node_parts, node_outcome}
-use Rattle.schema_reports.specs.Numbered.{Numbers, IsNumber, SameEdge, SameForm, SamePart, SameParts, SamePlan, StandsFor, AreNumbered, Ranked, left, SubschemasInside, NumbersSayUnfolding}
+use Rattle.schema_reports.specs.Numbered.{Numbers, IsNumber, SameEdge, SameForm, SamePart, SameParts, SamePlan, StandsFor, NumbersSayUnfolding}
 use Rattle.schema_reports.proofs.Reading.{Reads, reads_of}
 use Rattle.schema_reports.proofs.Questions.{later, in_flat_map, PartAsks, by_keyword, by_reference, Asks}
-use Rattle.schema_reports.proofs.Settles.{picked, NodeAsks}
+use Rattle.schema_reports.proofs.Settles.{picked}
 use Rattle.schema_reports.proofs.Simulates.{BothAsk, says_unfolding}
 use Rattle.schema_reports.proofs.Depths.{ByMeasure, measure_on, measure_less, measure_first}
 use Rattle.schema_reports.proofs.Inside.{subschemas_inside}

@@ -1,25 +1,24 @@
 -- A number's run is its key's, where the questions that both ask are answered by the same runs.
-use Rattle.std.proofs.Common.{◌≡◌, ℕ, zero, suc, ◌+◌, ◌<◌, ◌≤◌, ◌==◌, Bool, true, false, ◌||◌, ◌&&◌, List, [], ◌∷◌, ◌++◌, length, refl, sym, subst, ◌∙◌, ap, ap₂, arith, true≢false}
-use Rattle.std.specs.Prelude.{Contains, Option, Some, None, Decides, slice_get, map, All, nat_eq}
-use Rattle.std.specs.List.{list_any}
+use Rattle.std.proofs.Common.{◌≡◌, ℕ, zero, suc, ◌<◌, ◌==◌, Bool, true, false, ◌||◌, List, [], ◌∷◌, length, refl, sym, subst, ◌∙◌, ap, ap₂, arith, true≢false}
+use Rattle.std.specs.Prelude.{Contains, Option, Some, None, Decides}
 use Rattle.std.proofs.lemmas.Bool.{eqb-true}
 use Rattle.std.proofs.lemmas.Slice.Eq.{bytes_eq-Decides}
 use Rattle.serde_json.specs.Data.{Data}
 use Rattle.schema_reports.specs.Instance.{Text, Place, Step, to_member, to_item, to_name, same_step, same_place, Subject}
-use Rattle.schema_reports.specs.Reports.{Outcome, accepted, Unit_, report_of}
+use Rattle.schema_reports.specs.Reports.{accepted, Unit_}
 use Rattle.schema_reports.specs.Drafts.{Draft, draft_4, draft_6, draft_7, draft_2019_09, draft_2020_12, draft_unknown, SchemaPlace, Vocabulary, Vocabularies, core_vocabulary, applicator_vocabulary, unevaluated_vocabulary, validation_vocabulary, metadata_vocabulary, format_vocabulary, format_annotation_vocabulary, format_assertion_vocabulary, content_vocabulary, custom_vocabulary, same_vocabulary, same_vocabularies, same_draft}
-use Rattle.schema_reports.specs.Keywords.{Keywords, Marked, a_child, a_pending, same_kind, Below, here, down, Question, Gives, Mode, Reply, no_reply, truth, Turn, ask, match_text, mark, unmark, ecma, done}
-use Rattle.schema_reports.specs.Matching.{Matcher, Match, finished, unfinished, Completion, completed, Assumptions, matching, Matching, completion_of}
+use Rattle.schema_reports.specs.Keywords.{Marked, a_child, a_pending, Below, Mode}
+use Rattle.schema_reports.specs.Matching.{Completion, Assumptions, matching, completion_of}
 use Rattle.schema_reports.specs.Parts.{Parts}
 use Rattle.schema_reports.specs.Making.{Request}
-use Rattle.schema_reports.specs.Plan.{Target, Key, Edge, Part, Form, keyword, reference, Reference, Plan, always, never, these, plan, child, reference_edge, same_target, same_key, same_edge_key, same_child}
-use Rattle.schema_reports.specs.Meaning.{subject, Where, at, place_below, asked, referred_to, outcome_of, unfold_}
+use Rattle.schema_reports.specs.Plan.{Target, Key, Edge, Part, Form, keyword, reference, Plan, always, never, these, plan, child, same_target, same_key, same_edge_key, same_child}
+use Rattle.schema_reports.specs.Meaning.{subject, Where, at, place_below, outcome_of, unfold_}
 use Rattle.schema_reports.specs.Returns.{Asked, questions, Return}
-use Rattle.schema_reports.specs.Units.{no_unit, keyword_unit, PartUnits, keyword_units, reference_units, Entry, true_unit, false_unit, plan_unit, annotations_of, part_units, entries_of, unit_of}
-use Rattle.schema_reports.specs.Laws.{EachKeeps, AsksRightly, AlwaysAsksRightly}
-use Rattle.schema_reports.specs.Runs.{Run, no_run, reply_in, Met, Site, site_at, turns, keyword_met, Looked, plan_met, part_met, looked, run_node, run}
-use Rattle.schema_reports.specs.Cover.{Sense, plain, mode_of}
-use Rattle.schema_reports.specs.Guarded.{NodeEdge, Children, node_child, same_node, same_edge, NodeForm, node_keyword, node_reference, NodePart, NodePlan, node_always, node_never, node_these, Nodes, node_at, node_asked, node_outcome, node_part_units, node_entries_of, node_unit, node_part_met, node_looked, guarded_within, guarded_node, guarded_sense}
+use Rattle.schema_reports.specs.Units.{no_unit, keyword_units, reference_units, Entry, true_unit, false_unit, plan_unit, annotations_of, part_units, entries_of}
+use Rattle.schema_reports.specs.Laws.{EachKeeps}
+use Rattle.schema_reports.specs.Runs.{Run, no_run, Met, keyword_met, plan_met, part_met, looked, run_node, run}
+use Rattle.schema_reports.specs.Cover.{plain, mode_of}
+use Rattle.schema_reports.specs.Guarded.{NodeEdge, Children, node_child, same_node, same_edge, NodeForm, node_keyword, node_reference, NodePart, NodePlan, node_always, node_never, node_these, Nodes, node_at, node_asked, node_outcome, node_part_units, node_entries_of, node_part_met, node_looked, guarded_within, guarded_node, guarded_sense}
 use Rattle.schema_reports.specs.Numbered.{Numbers, IsNumber, SameEdge, SameForm, SamePart, SameParts, SamePlan, StandsFor, AreNumbered, Ranked, left, ValuesInside, MakersAskBelow, NumbersMeanUnfolding, NumbersMeanPlain}
 use Rattle.schema_reports.proofs.Reading.{Reads, reads_of}
 use Rattle.schema_reports.proofs.Questions.{later}
@@ -28,10 +27,9 @@ use Rattle.schema_reports.proofs.Depths.{ByMeasure, measure_on, measure_less, me
 use Rattle.schema_reports.proofs.AtPlaces.{at_places}
 use Rattle.schema_reports.proofs.Reaching.{at_keys}
 use Rattle.schema_reports.proofs.Inside.{subschemas_inside}
-use Rattle.schema_reports.proofs.Local.{each_asked}
 use Rattle.schema_reports.proofs.Products.{both_left, both_right}
 use Rattle.schema_reports.proofs.Simulates.{BothAsk, one_key, same_text, same_number, both_true, place_itself, target_itself, says_unfolding}
-use Rattle.schema_reports.proofs.SameOutcome.{FormsAsk, at_same, keyword_asked, reference_asked, whole_asks, part_same, outcomes_same, numbers_say_unfolding}
+use Rattle.schema_reports.proofs.SameOutcome.{FormsAsk, at_same, keyword_asked, reference_asked, whole_asks, part_same, outcomes_same}
 
 -- ---- keys that are the same are equal
 

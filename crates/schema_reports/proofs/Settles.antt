@@ -1,6 +1,6 @@
 -- What numbered nodes say settles, since the measure falls with each question.
-use Rattle.std.proofs.Common.{◌≡◌, ℕ, zero, suc, ◌+◌, ◌<◌, ◌≤◌, ◌==◌, Bool, true, false, List, [], ◌∷◌, ◌++◌, length, refl, sym, subst, ◌∙◌, ap, ap₂, arith}
-use Rattle.std.specs.Prelude.{Contains, Option, Some, None, option_and_then, slice_get, filter_map, flat_map, map, All}
+use Rattle.std.proofs.Common.{◌≡◌, ℕ, zero, suc, ◌<◌, ◌==◌, Bool, true, false, List, [], ◌∷◌, refl, sym, subst, ap, ap₂, arith}
+use Rattle.std.specs.Prelude.{Contains, Option, Some, None, option_and_then, slice_get, filter_map, map}
 use Rattle.std.specs.List.{list_any, cons_option}
 use Rattle.serde_json.specs.Data.{Data}
 use Rattle.schema_reports.specs.Instance.{Text, Place, Subject}
@@ -10,7 +10,7 @@ use Rattle.schema_reports.specs.Matching.{Completion, Matcher, matching}
 use Rattle.schema_reports.specs.Keywords.{Keywords, Below, here, down, Question}
 use Rattle.schema_reports.specs.Meaning.{subject, place_below, fault_error, reference_outcome, false_outcome, both}
 use Rattle.schema_reports.specs.Laws.{IsPresent, steps_below}
-use Rattle.schema_reports.specs.Guarded.{NodeEdge, Children, node_child, NodeForm, node_keyword, node_reference, NodePart, NodePlan, node_always, node_never, node_these, Nodes, form_edges, node_edges, progress_below, across, guarded_within, node_at, node_asked, node_part, node_parts, node_outcome}
+use Rattle.schema_reports.specs.Guarded.{NodeEdge, node_child, NodeForm, node_keyword, node_reference, NodePart, NodePlan, node_always, node_never, node_these, Nodes, form_edges, node_edges, progress_below, guarded_within, node_at, node_asked, node_part, node_parts, node_outcome}
 use Rattle.schema_reports.specs.Numbered.{Ranked, left, subject_in, GuardedSettles}
 use Rattle.schema_reports.proofs.Reading.{Reads, reads_of}
 use Rattle.schema_reports.proofs.Questions.{later, in_flat_map}

@@ -1,30 +1,23 @@
 -- Where no question returns, a number says what unfolding says of its key.
-use Rattle.std.proofs.Common.{◌≡◌, ℕ, zero, suc, ◌+◌, ◌<◌, ◌≤◌, ◌==◌, Bool, true, false, ◌&&◌, ◌||◌, List, [], ◌∷◌, ◌++◌, length, refl, sym, subst, ◌∙◌, ap, ap₂, arith, rules, true≢false, inl, inr}
-use Rattle.std.specs.Prelude.{Contains, Option, Some, None, ◌⊎◌, slice_get, filter_map, flat_map, map, All, option_and_then, bytes_eq}
+use Rattle.std.proofs.Common.{◌≡◌, ℕ, zero, suc, ◌<◌, ◌≤◌, ◌==◌, Bool, true, false, ◌&&◌, ◌||◌, List, [], ◌∷◌, ◌++◌, length, refl, sym, subst, ◌∙◌, ap, arith, rules, true≢false, inl, inr}
+use Rattle.std.specs.Prelude.{Contains, Option, Some, None, ◌⊎◌, bytes_eq}
 use Rattle.std.specs.List.{list_any}
-use Rattle.std.proofs.lemmas.List.Elements.{All-contains}
 use Rattle.std.proofs.lemmas.Option.{slice_get_within}
 use Rattle.std.proofs.lemmas.Bool.{eqb-true}
 use Rattle.std.proofs.lemmas.Slice.Eq.{bytes_eq-Decides}
 use Rattle.serde_json.specs.Data.{Data}
-use Rattle.schema_reports.specs.Instance.{Text, Place, Step, to_member, to_item, to_name, same_step, same_place, Subject}
-use Rattle.schema_reports.specs.Reports.{Outcome, accepted}
-use Rattle.schema_reports.specs.Drafts.{Draft, draft_4, draft_6, draft_7, draft_2019_09, draft_2020_12, draft_unknown, SchemaPlace, Vocabulary, Vocabularies, core_vocabulary, applicator_vocabulary, unevaluated_vocabulary, validation_vocabulary, metadata_vocabulary, format_vocabulary, format_annotation_vocabulary, format_assertion_vocabulary, content_vocabulary, custom_vocabulary, same_vocabulary, same_vocabularies, same_draft}
+use Rattle.schema_reports.specs.Instance.{Text, Place, Step, to_member, to_item, to_name, same_step, same_place}
+use Rattle.schema_reports.specs.Drafts.{Draft, draft_4, draft_6, draft_7, draft_2019_09, draft_2020_12, draft_unknown, Vocabulary, Vocabularies, core_vocabulary, applicator_vocabulary, unevaluated_vocabulary, validation_vocabulary, metadata_vocabulary, format_vocabulary, format_annotation_vocabulary, format_assertion_vocabulary, content_vocabulary, custom_vocabulary, same_vocabulary, same_vocabularies, same_draft}
 use Rattle.schema_reports.specs.Parts.{Parts}
-use Rattle.schema_reports.specs.Matching.{Completion, matching}
-use Rattle.schema_reports.specs.Keywords.{Below, here, down, Question}
-use Rattle.schema_reports.specs.Making.{Request}
-use Rattle.schema_reports.specs.Plan.{Target, Key, Edge, Part, Form, keyword, reference, Reference, Plan, always, never, these, plan, child, requested, reference_edge, absolute_of, height, same_target, option_list}
-use Rattle.schema_reports.specs.Meaning.{subject, Where, at, place_below, within, unfolded, asked, referred_to, keyword_outcome, reference_outcome, false_outcome, fault_error, both, part_outcome, parts_outcome, outcome_of, unfold_}
-use Rattle.schema_reports.specs.Returns.{Asked, questions, LeadsTo, stays, asks, Return, same_question}
-use Rattle.schema_reports.specs.Paths.{edges, part_edges}
-use Rattle.schema_reports.specs.Laws.{IsPresent, steps_below}
-use Rattle.schema_reports.specs.Guarded.{NodeEdge, Children, node_child, NodeForm, node_keyword, node_reference, NodePart, NodePlan, node_always, node_never, node_these, Nodes, form_edges, node_edges, progress_below, across, guarded_within, node_at, node_asked, node_part, node_parts, node_outcome}
-use Rattle.schema_reports.specs.Numbered.{Numbers, IsNumber, SameEdge, SameForm, SamePart, SameParts, SamePlan, StandsFor, AreNumbered, Ranked, left, SubschemasInside, NumbersSayUnfolding}
-use Rattle.schema_reports.proofs.Reading.{Reads, reads_of}
-use Rattle.schema_reports.proofs.Questions.{later, in_flat_map, PartAsks, by_keyword, by_reference, Asks, asked_in, further, goes_by}
-use Rattle.schema_reports.proofs.Settles.{picked, NodeAsks, free_falls, guarded_falls}
-use Rattle.schema_reports.proofs.Local.{same_outcome, each_asked}
+use Rattle.schema_reports.specs.Keywords.{Below, here, down}
+use Rattle.schema_reports.specs.Plan.{Target, Key, Edge, height, same_target}
+use Rattle.schema_reports.specs.Meaning.{subject, place_below, within, unfolded}
+use Rattle.schema_reports.specs.Returns.{Asked, questions, LeadsTo, stays, Return}
+use Rattle.schema_reports.specs.Paths.{edges}
+use Rattle.schema_reports.specs.Guarded.{NodeEdge, Nodes, progress_below, across, guarded_within}
+use Rattle.schema_reports.specs.Numbered.{Numbers, IsNumber, Ranked, left, SubschemasInside}
+use Rattle.schema_reports.proofs.Questions.{Asks, asked_in, further, goes_by}
+use Rattle.schema_reports.proofs.Settles.{NodeAsks, free_falls, guarded_falls}
 
 -- ---- what is equal is the same
 

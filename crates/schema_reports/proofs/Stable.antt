@@ -1,5 +1,5 @@
 -- Unfolding deeper changes nothing where no chain of questions goes through so many references.
-use Rattle.std.proofs.Common.{◌≡◌, ℕ, zero, suc, ◌≤◌, List, [], ◌∷◌, refl, ap, sym, ◌∙◌, Bool, true, false, arith}
+use Rattle.std.proofs.Common.{◌≡◌, ℕ, zero, suc, ◌≤◌, refl, Bool, true, false, arith}
 use Rattle.serde_json.specs.Data.{Data}
 use Rattle.schema_reports.specs.Instance.{Text, Place}
 use Rattle.schema_reports.specs.Parts.{Parts}

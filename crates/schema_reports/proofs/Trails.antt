@@ -1,12 +1,12 @@
 -- The questions behind one, on a way that never returns, are fewer than the targets times the places.
-use Rattle.std.proofs.Common.{◌≡◌, ℕ, zero, suc, ◌+◌, ◌*◌, ◌≤◌, ◌<◌, List, [], ◌∷◌, ◌++◌, length, map, refl, ap, sym, subst, ◌∙◌, Bool, true, false, ◌||◌, ◌&&◌, arith}
-use Rattle.std.specs.Prelude.{Contains, nat_eq, ⊤}
+use Rattle.std.proofs.Common.{◌≡◌, ℕ, ◌*◌, ◌≤◌, ◌<◌, List, [], ◌∷◌, length, map, refl, sym, subst, Bool, true, false, ◌&&◌, arith}
+use Rattle.std.specs.Prelude.{Contains, nat_eq}
 use Rattle.std.specs.List.{AllByRecursion, IsDistinct, list_any}
 use Rattle.std.proofs.lemmas.Map.Steps.{length-le_from_distinct_below}
 use Rattle.std.proofs.lemmas.Bool.{eqb-true}
 use Rattle.std.proofs.lemmas.List.{length-map}
 use Rattle.serde_json.specs.Data.{Data}
-use Rattle.schema_reports.specs.Instance.{Text, Place, same_place, places}
+use Rattle.schema_reports.specs.Instance.{Place, same_place, places}
 use Rattle.schema_reports.specs.Parts.{Parts}
 use Rattle.schema_reports.specs.Plan.{Target, Key, same_target}
 use Rattle.schema_reports.specs.Returns.{Asked, questions, LeadsTo, stays, asks, Return, same_question}

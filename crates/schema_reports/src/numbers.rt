@@ -1,12 +1,12 @@
 //! What is proved of numbered nodes, for every schema and all parts: each function states one law, and does nothing.
 
-ghost use Rattle.std.specs.Prelude.{ℕ};
-ghost use Rattle.serde_json.specs.Data.{Data};
-ghost use Rattle.schema_reports.specs.Parts.{Parts};
+ghost use Rattle.schema_reports.specs.Depths.{DepthsAgree};
 ghost use Rattle.schema_reports.specs.Guarded.{Nodes};
 ghost use Rattle.schema_reports.specs.Keywords.{Keywords};
-ghost use Rattle.schema_reports.specs.Depths.{DepthsAgree};
-ghost use Rattle.schema_reports.specs.Numbered.{GuardedRunsSettle, GuardedSenseSettles, RunsSayOutcomes, GuardedIsPlain, GuardedSettles, Numbers, NumbersMeanPlain, NumbersMeanUnfolding, NumbersSayUnfolding};
+ghost use Rattle.schema_reports.specs.Numbered.{GuardedIsPlain, GuardedRunsSettle, GuardedSenseSettles, GuardedSettles, Numbers, NumbersMeanPlain, NumbersMeanUnfolding, NumbersSayUnfolding, RunsSayOutcomes};
+ghost use Rattle.schema_reports.specs.Parts.{Parts};
+ghost use Rattle.serde_json.specs.Data.{Data};
+ghost use Rattle.std.specs.Prelude.{ℕ};
 
 /// What numbered nodes say settles at some depth, whether questions return or not.
 pub fn guarded_settles<S, K, R>()
