@@ -1,6 +1,6 @@
 -- A keyword table makes keywords of the members of an object: what a maker asks for in turn, and how it ends. No node
 -- number occurs in what it says, so none can change what it asks for or how it ends. (Core 2020-12, 4.3.1 and 6.5)
-use Rattle.std.specs.Prelude.{Bool, List, Option, ℕ}
+use Rattle.std.specs.Prelude.{Bool, List, Option, [], if◌then◌else◌, ℕ, ◌∷◌}
 use Rattle.serde_json.specs.Data.{Members}
 use Rattle.schema_reports.specs.Instance.{Place, Text}
 use Rattle.schema_reports.specs.Reports.{OwnedError}
@@ -17,10 +17,26 @@ pub data Made (K : Type 0) : Type 0 where
   nothing : Made K
   refused : OwnedError → Made K
 
+-- what a maker does: it asks, and goes on in one way where it got a number, and in another where a reference was
+-- skipped because it leads to the very object; then it ends
+pub data Script (K : Type 0) : Type 0 where
+  then_compile : Place → Script K → Script K
+  then_refer : Text → Script K → Script K → Script K
+  then_end : Made K → Script K
+
 -- a maker's requests in order, and how it ends
 pub record Making (K : Type 0) : Type 0 where
   pub requests : List Request
   pub ends : Made K
+
+abbrev pub after_request : {K : Type 0} → Request → Making K → Making K
+after_request r m = record { requests = r ∷ m.requests; ends = m.ends }
+
+-- what a maker asks for and how it ends; `is_self` says which references lead to the very object
+abbrev pub followed : {K : Type 0} → (Text → Bool) → Script K → Making K
+followed is_self (then_compile path s) = after_request (compile path) (followed is_self s)
+followed is_self (then_refer text s skipped) = after_request (refer text) (if is_self text then followed is_self skipped else followed is_self s)
+followed is_self (then_end m) = record { requests = []; ends = m }
 
 -- an entry of the table of built-in keywords
 pub record Builtin : Type 0 where
@@ -31,5 +47,5 @@ pub record Builtin : Type 0 where
 pub record Table (K : Type 0) : Type 0 where
   pub owns : Text → Bool
   pub builtin : Draft → Vocabularies → Text → Option Builtin
-  -- `make custom name object draft vocabularies formats is_self`; `is_self` says which references lead to the very object
-  pub make : Bool → Text → Members → Draft → Vocabularies → Bool → (Text → Bool) → Making K
+  -- `script custom name object draft vocabularies formats`: what the maker of a member does, as a keyword of the table's own or as a built-in one
+  pub script : Bool → Text → Members → Draft → Vocabularies → Bool → Script K

@@ -6,7 +6,7 @@ use Rattle.schema_reports.specs.Instance.{Place, Subject, Text, a_name, a_value,
 use Rattle.schema_reports.specs.Reports.{Error, Outcome, Unit_, accepted, report_of}
 use Rattle.schema_reports.specs.Drafts.{Draft, SchemaPlace, Vocabularies, at_path}
 use Rattle.schema_reports.specs.Matching.{Assumptions, Completion, Matcher, completion_of}
-use Rattle.schema_reports.specs.Making.{Request, Table, compile, refer}
+use Rattle.schema_reports.specs.Making.{Request, Table, compile, refer, followed}
 use Rattle.schema_reports.specs.Keywords.{Keywords}
 use Rattle.schema_reports.specs.Parts.{Parts}
 use Rattle.schema_reports.specs.Plan.{Edge, Form, Key, Part, Plan, absolute_of, always, child, height, keyword, never, plan, reference, reference_edge, schema_at, these}
@@ -116,7 +116,7 @@ IsBelow (refer text) = Unit {0}
 
 abbrev pub MakersAskBelow : {K : Type 0} → Table K → Type 0
 MakersAskBelow table = (custom : Bool) (name : Text) (whole : Members) (draft : Draft) (vocabularies : Vocabularies) (formats : Bool) (is_self : Text → Bool)
-    → All IsBelow (table.make custom name whole draft vocabularies formats is_self).requests
+    → All IsBelow (followed is_self (table.script custom name whole draft vocabularies formats)).requests
 
 -- ---- the statements
 

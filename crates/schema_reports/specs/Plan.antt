@@ -10,7 +10,7 @@ use Rattle.schema_reports.specs.Instance.{Place, Text, member_of, same_place}
 use Rattle.schema_reports.specs.Pointer.{joined, pointer_to}
 use Rattle.schema_reports.specs.Drafts.{Draft, SchemaPlace, Vocabularies, at_path, format_assertion_vocabulary, format_vocabulary, has_vocabulary, ref_stands_alone, same_draft, same_schema_place, same_vocabularies}
 use Rattle.schema_reports.specs.Resolving.{Found}
-use Rattle.schema_reports.specs.Making.{Making, Request, a_keyword, compile, nothing, refer, refused}
+use Rattle.schema_reports.specs.Making.{Making, Request, a_keyword, compile, followed, nothing, refer, refused}
 use Rattle.schema_reports.specs.Keywords.{Marked, a_child, a_pending, same_kind}
 use Rattle.schema_reports.specs.Parts.{Parts}
 
@@ -216,7 +216,7 @@ module _ {S K R : Type 0} (w : Parts S K R) where
   checks_formats k = unwrap_or w.formats (ref_stands_alone k.target.draft || has_vocabulary k.target.vocabularies format_assertion_vocabulary || has_vocabulary k.target.vocabularies format_vocabulary)
 
   abbrev pub making : Key S → Members → Bool → Text → Making K
-  making k whole custom name = w.table.make custom name whole k.target.draft k.target.vocabularies (checks_formats k) (is_self k to_ref)
+  making k whole custom name = followed (is_self k to_ref) (w.table.script custom name whole k.target.draft k.target.vocabularies (checks_formats k))
 
   abbrev pub part_made : Text → ℕ → Bool → Making K → Option (Part K)
   part_made name priority leaf m = elim m.ends [ a_keyword meaning absorbed ↦ Some (record { name = name; priority = priority; is_leaf = leaf; form = keyword meaning m.requests absorbed }) | nothing ↦ None | refused text ↦ None ]
