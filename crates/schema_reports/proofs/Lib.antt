@@ -1,1 +1,6 @@
 pub mod TurnsGiveRuns
+mod CoversApart
+mod SameTurns
+mod Plans
+mod Senses
+mod Sentences

@@ -1,2 +1,4 @@
 //! Reports, keywords and unfinished matches, and the definitions that every contract cites.
 #![tactic(auto)]
+
+pub mod covers;
