@@ -4,3 +4,4 @@ mod SameTurns
 mod Plans
 mod Senses
 mod Sentences
+mod Valid
