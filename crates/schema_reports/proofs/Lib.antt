@@ -5,3 +5,5 @@ mod Plans
 mod Senses
 mod Sentences
 mod Valid
+mod Runs
+mod PlainSense
