@@ -7,3 +7,4 @@ mod Sentences
 mod Valid
 mod Runs
 mod PlainSense
+pub mod GuardedSense
