@@ -1,5 +1,21 @@
 //! Laws of covers: what its members say is what every completion says.
-ghost use Rattle.schema_reports.specs.Promises.{EvaluationOfMembers, ErrorsOfMembers, FirstIsHead, FirstOfMembers, NoneListed, OneCover, SharedOfMembers, UndecidedPast, VerdictOfMembers};
+ghost use Rattle.schema_reports.specs.Keywords.{Keywords};
+ghost use Rattle.schema_reports.specs.Parts.{Parts};
+ghost use Rattle.schema_reports.specs.Promises.{EvaluationOfMembers, ErrorsOfMembers, FirstIsHead, FirstOfMembers, NodesFollow, NoneListed, OneCover, PlainFollows, RunsSpeak, SharedOfMembers, UndecidedPast, UnitsArePlain, VerdictOfMembers};
+
+/// A run under assumptions speaks for every completion that extends them.
+pub fn runs_speak<S, K, R>()
+    ensures speak { (w : Parts S K R) → RunsSpeak w }
+    ensures units { (w : Parts S K R) → UnitsArePlain w }
+    ensures plain { (w : Parts S K R) → PlainFollows w }
+{
+}
+
+/// So does a run over numbered nodes, returns or none.
+pub fn nodes_speak<K, R>()
+    ensures follow { (keywords : Keywords K R) → NodesFollow keywords }
+{
+}
 
 /// The members of a cover say what every completion says.
 pub fn members_speak()
