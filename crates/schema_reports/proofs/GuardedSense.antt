@@ -1,6 +1,6 @@
 -- What numbered nodes say under guards is a plain run's too.
-use Rattle.std.proofs.Common.{◌≡◌, ℕ, zero, suc, List, [], ◌∷◌, ◌++◌, refl, ap, ap₂, sym, subst, ◌∙◌, Bool, true, false, ◌&&◌, ◌==◌, map}
-use Rattle.std.specs.Prelude.{Option, Some, None, option_map, slice_get}
+use Rattle.std.proofs.Common.{◌≡◌, ℕ, zero, suc, List, [], ◌∷◌, ◌++◌, refl, ap, ap₂, sym, subst, ◌∙◌, Bool, true, false, ◌==◌, map}
+use Rattle.std.specs.Prelude.{Option, Some, None, option_map}
 use Rattle.std.specs.List.{list_all, list_any}
 use Rattle.schema_reports.specs.Instance.{Text, Place, Subject}
 use Rattle.schema_reports.specs.Pointer.{joined}
@@ -21,7 +21,6 @@ use Rattle.schema_reports.proofs.Valid.{EntriesValid, none_left, one_more, entri
 use Rattle.schema_reports.proofs.Runs.{given_units, one_more_entry}
 
 module _ {K R : Type 0} (keywords : Keywords K R) (matcher : Matcher) (nodes : Nodes K) (subject_of : Place → Subject) (absorbs : K → List Text) (laws : (m : K) → KeepsLaws keywords m (absorbs m)) where
-
   -- ---- under one completion
 
   module _ (c : Completion) (i : ℕ) (path : Text) (p : Place) (g : NodeEdge → Below → Outcome) (u : NodeEdge → Below → Unit_)
@@ -51,7 +50,7 @@ module _ {K R : Type 0} (keywords : Keywords K R) (matcher : Matcher) (nodes : N
     form_absorbed : (name : Text) (form : NodeForm K) → (Out name form).verdict ≡ true → list_all held (Units_of name form).1 ≡ true
     form_absorbed name (node_keyword m es) e =
         absorbed_held (node_at keywords matcher nodes subject_of i path p) (keywords.holds m (subject_of p) (matching matcher c) (λ q. (report_of (node_asked keywords matcher nodes subject_of no_unit es u q)).valid))
-          (keywords.units m (subject_of p) (matching matcher c) (node_asked keywords matcher nodes subject_of no_unit es u)).absorbed (form_valid name (node_keyword m es) ∙ e)
+        (keywords.units m (subject_of p) (matching matcher c) (node_asked keywords matcher nodes subject_of no_unit es u)).absorbed (form_valid name (node_keyword m es) ∙ e)
     form_absorbed name (node_reference e) h = refl
 
     parts_agree : (xs : List (NodePart K)) → Agrees (node_parts keywords matcher nodes subject_of c i path p g xs)
@@ -73,10 +72,11 @@ module _ {K R : Type 0} (keywords : Keywords K R) (matcher : Matcher) (nodes : N
     pub node_valid : (report_of (node_unit keywords matcher nodes subject_of c i path p u)).valid ≡ (node_outcome keywords matcher nodes subject_of c i path p g).verdict
     node_valid = go (nodes.entries i)
       where
-        go : (o : NodePlan K) → (report_of (elim o
-                [ node_always ↦ true_unit (node_at keywords matcher nodes subject_of i path p)
-                | node_never ↦ false_unit keywords.texts (node_at keywords matcher nodes subject_of i path p) (subject_of p)
-                | node_these xs ↦ plan_unit (node_at keywords matcher nodes subject_of i path p) (nodes.annotations i) (node_entries_of keywords matcher nodes subject_of c i path p u xs) ])).valid
+        go : (o : NodePlan K) → (report_of (elim o [
+          | node_always ↦ true_unit (node_at keywords matcher nodes subject_of i path p)
+          | node_never ↦ false_unit keywords.texts (node_at keywords matcher nodes subject_of i path p) (subject_of p)
+          | node_these xs ↦ plan_unit (node_at keywords matcher nodes subject_of i path p) (nodes.annotations i) (node_entries_of keywords matcher nodes subject_of c i path p u xs)
+        ])).valid
             ≡ (let x : Outcome = elim o [ node_always ↦ accepted | node_never ↦ false_outcome keywords.texts (node_at keywords matcher nodes subject_of i path p) (subject_of p) | node_these xs ↦ node_parts keywords matcher nodes subject_of c i path p g xs ] in x.verdict)
         go node_always = refl
         go node_never = refl
@@ -143,10 +143,12 @@ module _ {K R : Type 0} (keywords : Keywords K R) (matcher : Matcher) (nodes : N
       along : (xs : List (NodePart K)) → Along as' (Look xs) (node_parts keywords matcher nodes subject_of (completion_of as') i path p g1 xs) (node_parts keywords matcher nodes subject_of c i path p g xs)
       along [] = ends
       along (x ∷ xs) = goes
-          (record { holds = refl
-            ; agrees_a = part_agrees (completion_of as') i path p g1 u1 (λ e b. (speaks e b).run_agrees) (λ e b. (speaks e b).run_valid) x.name x.form
-            ; agrees_b = part_agrees c i path p g u (λ e b. (speaks e b).agrees) (λ e b. (speaks e b).valid) x.name x.form
-            ; in_mode = λ mode e. in_form x.name x.form mode e }) (along xs)
+          (record {
+            holds = refl;
+            agrees_a = part_agrees (completion_of as') i path p g1 u1 (λ e b. (speaks e b).run_agrees) (λ e b. (speaks e b).run_valid) x.name x.form;
+            agrees_b = part_agrees c i path p g u (λ e b. (speaks e b).agrees) (λ e b. (speaks e b).valid) x.name x.form;
+            in_mode = λ mode e. in_form x.name x.form mode e;
+          }) (along xs)
 
       abbrev OwnUnits : Text → NodeForm K → PartUnits
       OwnUnits = node_part_units keywords matcher nodes subject_of (completion_of as') i path p u1
@@ -158,10 +160,10 @@ module _ {K R : Type 0} (keywords : Keywords K R) (matcher : Matcher) (nodes : N
           → OwnUnits name form ≡ ItsUnits name form
       form_units name (node_keyword m es) e =
           let same : (keywords.units m (subject_of p) (matching matcher (completion_of as')) (Asked no_unit es u1) ≡ keywords.units m (subject_of p) (matching matcher c) (Asked no_unit es u))
-                × ((Own name (node_keyword m es)).verdict ≡ (Its name (node_keyword m es)).verdict)
-              = same_units keywords matcher as' c mine ext (node_at keywords matcher nodes subject_of i path p) (subject_of p)
-                  (Asked no_run es f) (Asked accepted es g1) (Asked accepted es g) (Asked no_unit es u1) (Asked no_unit es u) (same_edge es) name m
-                  (λ q. option_outcome (node_child es q.child) _) (λ q. option_units (node_child es q.child) _) (λ q. option_speaks (node_child es q.child) _) (absorbs m) (laws m) e in
+          × ((Own name (node_keyword m es)).verdict ≡ (Its name (node_keyword m es)).verdict)
+          = same_units keywords matcher as' c mine ext (node_at keywords matcher nodes subject_of i path p) (subject_of p)
+          (Asked no_run es f) (Asked accepted es g1) (Asked accepted es g) (Asked no_unit es u1) (Asked no_unit es u) (same_edge es) name m
+          (λ q. option_outcome (node_child es q.child) _) (λ q. option_units (node_child es q.child) _) (λ q. option_speaks (node_child es q.child) _) (absorbs m) (laws m) e in
           let own_valid = form_valid (completion_of as') i path p g1 u1 (λ e b. (speaks e b).run_agrees) (λ e b. (speaks e b).run_valid) name (node_keyword m es) in
           let its_valid = form_valid c i path p g u (λ e b. (speaks e b).agrees) (λ e b. (speaks e b).valid) name (node_keyword m es) in
           ap₂ (given_units (node_at keywords matcher nodes subject_of i path p) name) same.0 (own_valid ∙ (same.1 ∙ sym its_valid))
@@ -174,27 +176,28 @@ module _ {K R : Type 0} (keywords : Keywords K R) (matcher : Matcher) (nodes : N
 
       in_plan : (o : NodePlan K) (mode : Mode) → AllAssumed as' (elim o [ node_always ↦ [] | node_never ↦ [] | node_these xs ↦ plan_met mode (Look xs) ])
           → SameIn mode (elim o [ node_always ↦ accepted | node_never ↦ false_outcome keywords.texts (node_at keywords matcher nodes subject_of i path p) (subject_of p) | node_these xs ↦ node_parts keywords matcher nodes subject_of (completion_of as') i path p g1 xs ])
-              (elim o [ node_always ↦ accepted | node_never ↦ false_outcome keywords.texts (node_at keywords matcher nodes subject_of i path p) (subject_of p) | node_these xs ↦ node_parts keywords matcher nodes subject_of c i path p g xs ])
+          (elim o [ node_always ↦ accepted | node_never ↦ false_outcome keywords.texts (node_at keywords matcher nodes subject_of i path p) (subject_of p) | node_these xs ↦ node_parts keywords matcher nodes subject_of c i path p g xs ])
       in_plan node_always mode e = same_itself_in mode _
       in_plan node_never mode e = same_itself_in mode _
       in_plan (node_these xs) mode e = along_in_mode as' mode (along xs) e
 
       units_in_plan : (o : NodePlan K) → AllAssumed as' (elim o [ node_always ↦ [] | node_never ↦ [] | node_these xs ↦ plan_met for_units (Look xs) ])
           → ◌≡◌ {A = Unit_}
-            (elim o [ node_always ↦ true_unit (node_at keywords matcher nodes subject_of i path p) | node_never ↦ false_unit keywords.texts (node_at keywords matcher nodes subject_of i path p) (subject_of p) | node_these xs ↦ plan_unit (node_at keywords matcher nodes subject_of i path p) (nodes.annotations i) (node_entries_of keywords matcher nodes subject_of (completion_of as') i path p u1 xs) ])
-            (elim o [ node_always ↦ true_unit (node_at keywords matcher nodes subject_of i path p) | node_never ↦ false_unit keywords.texts (node_at keywords matcher nodes subject_of i path p) (subject_of p) | node_these xs ↦ plan_unit (node_at keywords matcher nodes subject_of i path p) (nodes.annotations i) (node_entries_of keywords matcher nodes subject_of c i path p u xs) ])
+          (elim o [ node_always ↦ true_unit (node_at keywords matcher nodes subject_of i path p) | node_never ↦ false_unit keywords.texts (node_at keywords matcher nodes subject_of i path p) (subject_of p) | node_these xs ↦ plan_unit (node_at keywords matcher nodes subject_of i path p) (nodes.annotations i) (node_entries_of keywords matcher nodes subject_of (completion_of as') i path p u1 xs) ])
+          (elim o [ node_always ↦ true_unit (node_at keywords matcher nodes subject_of i path p) | node_never ↦ false_unit keywords.texts (node_at keywords matcher nodes subject_of i path p) (subject_of p) | node_these xs ↦ plan_unit (node_at keywords matcher nodes subject_of i path p) (nodes.annotations i) (node_entries_of keywords matcher nodes subject_of c i path p u xs) ])
       units_in_plan node_always e = refl
       units_in_plan node_never e = refl
       units_in_plan (node_these xs) e = ap (plan_unit (node_at keywords matcher nodes subject_of i path p) (nodes.annotations i)) (entries_same xs e)
 
       node_speaks : Speaks as' (guarded_node keywords matcher nodes subject_of as' i path p f) (node_outcome keywords matcher nodes subject_of c i path p g) (node_unit keywords matcher nodes subject_of c i path p u)
-      node_speaks = record
-          { run_agrees = node_agrees (completion_of as') i path p g1 u1 (λ e b. (speaks e b).run_agrees) (λ e b. (speaks e b).run_valid)
-          ; agrees = node_agrees c i path p g u (λ e b. (speaks e b).agrees) (λ e b. (speaks e b).valid)
-          ; run_valid = node_valid (completion_of as') i path p g1 u1 (λ e b. (speaks e b).run_agrees) (λ e b. (speaks e b).run_valid)
-          ; valid = node_valid c i path p g u (λ e b. (speaks e b).agrees) (λ e b. (speaks e b).valid)
-          ; in_mode = in_plan (nodes.entries i)
-          ; units = units_in_plan (nodes.entries i) }
+      node_speaks = record {
+        run_agrees = node_agrees (completion_of as') i path p g1 u1 (λ e b. (speaks e b).run_agrees) (λ e b. (speaks e b).run_valid);
+        agrees = node_agrees c i path p g u (λ e b. (speaks e b).agrees) (λ e b. (speaks e b).valid);
+        run_valid = node_valid (completion_of as') i path p g1 u1 (λ e b. (speaks e b).run_agrees) (λ e b. (speaks e b).run_valid);
+        valid = node_valid c i path p g u (λ e b. (speaks e b).agrees) (λ e b. (speaks e b).valid);
+        in_mode = in_plan (nodes.entries i);
+        units = units_in_plan (nodes.entries i);
+      }
 
     by : {r r' : Run} {o o' : Outcome} {v v' : Unit_} (t : Bool) → Speaks as' r o v → Speaks as' r' o' v'
         → Speaks as' (elim t [ true ↦ r | false ↦ r' ]) (elim t [ true ↦ o | false ↦ o' ]) (elim t [ true ↦ v | false ↦ v' ])
@@ -203,14 +206,14 @@ module _ {K R : Type 0} (keywords : Keywords K R) (matcher : Matcher) (nodes : N
 
     pub guarded_speaks : (n i : ℕ) (path : Text) (p : Place) (busy : List ℕ)
         → Speaks as' (guarded_within no_run (guarded_node keywords matcher nodes subject_of as') n i path p busy)
-            (guarded_within accepted (node_outcome keywords matcher nodes subject_of c) n i path p busy)
-            (guarded_within no_unit (node_unit keywords matcher nodes subject_of c) n i path p busy)
+        (guarded_within accepted (node_outcome keywords matcher nodes subject_of c) n i path p busy)
+        (guarded_within no_unit (node_unit keywords matcher nodes subject_of c) n i path p busy)
     guarded_speaks zero i path p busy = yes_speaks
     guarded_speaks (suc n) i path p busy = node_speaks i path p _ _ _ (λ e b.
         by e.guarded
-          (by (list_any (λ j. j == e.node) (progress_below busy b)) yes_speaks
-            (guarded_speaks n e.node (path ++ e.path) (place_below p b) (e.node ∷ progress_below busy b)))
-          (guarded_speaks n e.node (path ++ e.path) (place_below p b) (progress_below busy b)))
+        (by (list_any (λ j. j == e.node) (progress_below busy b)) yes_speaks
+        (guarded_speaks n e.node (path ++ e.path) (place_below p b) (e.node ∷ progress_below busy b)))
+        (guarded_speaks n e.node (path ++ e.path) (place_below p b) (progress_below busy b)))
 
 module _ {K R : Type 0} (keywords : Keywords K R) (matcher : Matcher) (nodes : Nodes K) (subject_of : Place → Subject) (as' : Assumptions) where
   by_kind : (t : Bool) (r r' : Run) (x x' : Outcome) → r.outcome tt ≡ x → r'.outcome tt ≡ x'
@@ -226,17 +229,18 @@ module _ {K R : Type 0} (keywords : Keywords K R) (matcher : Matcher) (nodes : N
       let Go : NodeEdge → Below → List ℕ → Run = λ e b l. guarded_within no_run (guarded_node keywords matcher nodes subject_of as') n e.node (path ++ e.path) (place_below p b) l in
       ap (node_outcome keywords matcher nodes subject_of (completion_of as') i path p)
       (λ j e b. by_kind e.guarded
-          (elim (list_any (λ k. k == e.node) (Busy b)) [ true ↦ no_run | false ↦ Go e b (e.node ∷ Busy b) ]) (Go e b (Busy b)) _ _
-          (by_kind (list_any (λ k. k == e.node) (Busy b)) no_run (Go e b (e.node ∷ Busy b)) accepted _ refl (guarded_outcome n e.node (path ++ e.path) (place_below p b) (e.node ∷ Busy b)))
-          (guarded_outcome n e.node (path ++ e.path) (place_below p b) (Busy b)) j)
+      (elim (list_any (λ k. k == e.node) (Busy b)) [ true ↦ no_run | false ↦ Go e b (e.node ∷ Busy b) ]) (Go e b (Busy b)) _ _
+      (by_kind (list_any (λ k. k == e.node) (Busy b)) no_run (Go e b (e.node ∷ Busy b)) accepted _ refl (guarded_outcome n e.node (path ++ e.path) (place_below p b) (e.node ∷ Busy b)))
+      (guarded_outcome n e.node (path ++ e.path) (place_below p b) (Busy b)) j)
 
 pub guarded_follows : {K R : Type 0} (keywords : Keywords K R) (matcher : Matcher) (nodes : Nodes K) (subject_of : Place → Subject) (absorbs : K → List Text) (laws : (m : K) → KeepsLaws keywords m (absorbs m)) (n i : ℕ)
     → Follows (guarded_sense keywords matcher nodes subject_of n i)
-guarded_follows keywords matcher nodes subject_of absorbs laws n i = record
-    { agrees = λ c. (guarded_speaks keywords matcher nodes subject_of absorbs laws [] c (λ a b is. absurd (cc is)) (λ a b is. absurd (cc is)) n i [] [] []).agrees
-    ; speaks = λ call as' c mine ext e. subst (λ o. SameIn (mode_of call as') o (guarded_within accepted (node_outcome keywords matcher nodes subject_of c) n i [] [] []))
-        (guarded_outcome keywords matcher nodes subject_of as' n i [] [] [])
-        ((guarded_speaks keywords matcher nodes subject_of absorbs laws as' c mine ext n i [] [] []).in_mode (mode_of call as') e) }
+guarded_follows keywords matcher nodes subject_of absorbs laws n i = record {
+  agrees = λ c. (guarded_speaks keywords matcher nodes subject_of absorbs laws [] c (λ a b is. absurd (cc is)) (λ a b is. absurd (cc is)) n i [] [] []).agrees;
+  speaks = λ call as' c mine ext e. subst (λ o. SameIn (mode_of call as') o (guarded_within accepted (node_outcome keywords matcher nodes subject_of c) n i [] [] []))
+      (guarded_outcome keywords matcher nodes subject_of as' n i [] [] [])
+      ((guarded_speaks keywords matcher nodes subject_of absorbs laws as' c mine ext n i [] [] []).in_mode (mode_of call as') e);
+}
 
 pub all_nodes_follow : {K R : Type 0} (keywords : Keywords K R) → NodesFollow keywords
 all_nodes_follow keywords each matcher nodes subject_of n i = guarded_follows keywords matcher nodes subject_of (λ m. (each m).0) (λ m. (each m).1) n i

@@ -8,3 +8,4 @@ mod Valid
 mod Runs
 mod PlainSense
 pub mod GuardedSense
+pub mod NothingMet

@@ -15,7 +15,7 @@ use Rattle.schema_reports.specs.Runs.{Run, looked, plan_met, part_met, no_run, r
 use Rattle.schema_reports.specs.Laws.{Agrees, KeepsLaws}
 use Rattle.schema_reports.specs.Members.{AllAssumed, SameIn, Speaks}
 use Rattle.schema_reports.proofs.SameTurns.{assumed_front, assumed_back, keyword_same, same_units}
-use Rattle.schema_reports.proofs.Plans.{EntrySpeaks, Along, ends, goes, along_in_mode, same_itself_in, first_stamped}
+use Rattle.schema_reports.proofs.Plans.{Along, ends, goes, along_in_mode, same_itself_in, first_stamped}
 use Rattle.schema_reports.proofs.Valid.{part_agrees, node_agrees, node_valid, form_valid}
 
 -- a keyword's units, by what it gives and its verdict
@@ -29,7 +29,6 @@ one_more_entry priority e es = λ i. record { priority = priority; units = e i }
 
 module _ {S K R : Type 0} (w : Parts S K R) (instance : Data) (absorbs : K → List Text) (laws : (m : K) → KeepsLaws w.keywords m (absorbs m))
     (as' : Assumptions) (c : Completion) (mine : Extends (completion_of as') as') (ext : Extends c as') where
-
   no_run_speaks : Speaks as' no_run accepted no_unit
   no_run_speaks = record { run_agrees = (λ e. refl, λ e. refl); agrees = (λ e. refl, λ e. refl); run_valid = refl; valid = refl; in_mode = λ mode e. same_itself_in mode accepted; units = λ e. refl }
 
@@ -91,17 +90,17 @@ module _ {S K R : Type 0} (w : Parts S K R) (instance : Data) (absorbs : K → L
         → part_units w instance (completion_of as') k path p u1 name form ≡ part_units w instance c k path p u name form
     form_units name (keyword m requests absorbed) e =
         let same : (w.keywords.units m (subject w instance p) (matching w.matcher (completion_of as')) (asked w instance no_unit k name requests p u1) ≡ w.keywords.units m (subject w instance p) (matching w.matcher c) (asked w instance no_unit k name requests p u))
-              × ((own_outcome name (keyword m requests absorbed)).verdict ≡ (its_outcome name (keyword m requests absorbed)).verdict)
-            = same_units w.keywords w.matcher as' c mine ext (at w instance k path p) (subject w instance p)
-                (asked w instance no_run k name requests p f) (asked w instance accepted k name requests p g1) (asked w instance accepted k name requests p g)
-                (asked w instance no_unit k name requests p u1) (asked w instance no_unit k name requests p u) (same_child w k name requests) name m
-                (λ q. option_outcome (child w k name requests q.child) _) (λ q. option_units (child w k name requests q.child) _) (λ q. option_speaks (child w k name requests q.child) _) (absorbs m) (laws m) e in
+        × ((own_outcome name (keyword m requests absorbed)).verdict ≡ (its_outcome name (keyword m requests absorbed)).verdict)
+        = same_units w.keywords w.matcher as' c mine ext (at w instance k path p) (subject w instance p)
+        (asked w instance no_run k name requests p f) (asked w instance accepted k name requests p g1) (asked w instance accepted k name requests p g)
+        (asked w instance no_unit k name requests p u1) (asked w instance no_unit k name requests p u) (same_child w k name requests) name m
+        (λ q. option_outcome (child w k name requests q.child) _) (λ q. option_units (child w k name requests q.child) _) (λ q. option_speaks (child w k name requests q.child) _) (absorbs m) (laws m) e in
         let own_valid = form_valid w instance absorbs laws (completion_of as') k path p g1 u1 (λ e q. (speaks e q).run_agrees) (λ e q. (speaks e q).run_valid) name (keyword m requests absorbed) in
         let its_valid = form_valid w instance absorbs laws c k path p g u (λ e q. (speaks e q).agrees) (λ e q. (speaks e q).valid) name (keyword m requests absorbed) in
         ap₂ (given_units (at w instance k path p) name) same.0 (own_valid ∙ (same.1 ∙ sym its_valid))
     form_units name (reference kind text) e =
         ap (reference_units (at w instance k path p) name)
-          (sym (option_units (reference_edge w k name kind text) p) ∙ (option_speaks (reference_edge w k name kind text) p).units e)
+        (sym (option_units (reference_edge w k name kind text) p) ∙ (option_speaks (reference_edge w k name kind text) p).units e)
 
     entries_same : (xs : List (Part K)) → AllAssumed as' (plan_met for_units (looked w instance as' k path p f xs))
         → entries_of w instance (completion_of as') k path p u1 xs ≡ entries_of w instance c k path p u xs
@@ -110,28 +109,28 @@ module _ {S K R : Type 0} (w : Parts S K R) (instance : Data) (absorbs : K → L
 
     in_plan : (o : Plan K) (mode : Mode) → AllAssumed as' (elim o [ always ↦ [] | never ↦ [] | these xs ↦ plan_met mode (looked w instance as' k path p f xs) ])
         → SameIn mode (elim o [ always ↦ accepted | never ↦ false_outcome w.keywords.texts (at w instance k path p) (subject w instance p) | these xs ↦ parts_outcome w instance (completion_of as') k path p g1 xs ])
-            (elim o [ always ↦ accepted | never ↦ false_outcome w.keywords.texts (at w instance k path p) (subject w instance p) | these xs ↦ parts_outcome w instance c k path p g xs ])
+        (elim o [ always ↦ accepted | never ↦ false_outcome w.keywords.texts (at w instance k path p) (subject w instance p) | these xs ↦ parts_outcome w instance c k path p g xs ])
     in_plan always mode e = same_itself_in mode _
     in_plan never mode e = same_itself_in mode _
     in_plan (these xs) mode e = along_in_mode as' mode (along xs) e
 
     units_in_plan : (o : Plan K) → AllAssumed as' (elim o [ always ↦ [] | never ↦ [] | these xs ↦ plan_met for_units (looked w instance as' k path p f xs) ])
         → ◌≡◌ {A = Unit_}
-          (elim o [ always ↦ true_unit (at w instance k path p) | never ↦ false_unit w.keywords.texts (at w instance k path p) (subject w instance p) | these xs ↦ plan_unit (at w instance k path p) (annotations_of w k) (entries_of w instance (completion_of as') k path p u1 xs) ])
-          (elim o [ always ↦ true_unit (at w instance k path p) | never ↦ false_unit w.keywords.texts (at w instance k path p) (subject w instance p) | these xs ↦ plan_unit (at w instance k path p) (annotations_of w k) (entries_of w instance c k path p u xs) ])
+        (elim o [ always ↦ true_unit (at w instance k path p) | never ↦ false_unit w.keywords.texts (at w instance k path p) (subject w instance p) | these xs ↦ plan_unit (at w instance k path p) (annotations_of w k) (entries_of w instance (completion_of as') k path p u1 xs) ])
+        (elim o [ always ↦ true_unit (at w instance k path p) | never ↦ false_unit w.keywords.texts (at w instance k path p) (subject w instance p) | these xs ↦ plan_unit (at w instance k path p) (annotations_of w k) (entries_of w instance c k path p u xs) ])
     units_in_plan always e = refl
     units_in_plan never e = refl
     units_in_plan (these xs) e = ap (plan_unit (at w instance k path p) (annotations_of w k)) (entries_same xs e)
 
-
     node_speaks : Speaks as' (run_node w instance as' k path p f) (outcome_of w instance c k path p g) (unit_of w instance c k path p u)
-    node_speaks = record
-        { run_agrees = node_agrees w instance absorbs laws (completion_of as') k path p g1 u1 (λ e q. (speaks e q).run_agrees) (λ e q. (speaks e q).run_valid)
-        ; agrees = node_agrees w instance absorbs laws c k path p g u (λ e q. (speaks e q).agrees) (λ e q. (speaks e q).valid)
-        ; run_valid = node_valid w instance absorbs laws (completion_of as') k path p g1 u1 (λ e q. (speaks e q).run_agrees) (λ e q. (speaks e q).run_valid)
-        ; valid = node_valid w instance absorbs laws c k path p g u (λ e q. (speaks e q).agrees) (λ e q. (speaks e q).valid)
-        ; in_mode = in_plan (plan w k)
-        ; units = units_in_plan (plan w k) }
+    node_speaks = record {
+      run_agrees = node_agrees w instance absorbs laws (completion_of as') k path p g1 u1 (λ e q. (speaks e q).run_agrees) (λ e q. (speaks e q).run_valid);
+      agrees = node_agrees w instance absorbs laws c k path p g u (λ e q. (speaks e q).agrees) (λ e q. (speaks e q).valid);
+      run_valid = node_valid w instance absorbs laws (completion_of as') k path p g1 u1 (λ e q. (speaks e q).run_agrees) (λ e q. (speaks e q).run_valid);
+      valid = node_valid w instance absorbs laws c k path p g u (λ e q. (speaks e q).agrees) (λ e q. (speaks e q).valid);
+      in_mode = in_plan (plan w k);
+      units = units_in_plan (plan w k);
+    }
 
   -- ---- unfolding
 
@@ -139,7 +138,7 @@ module _ {S K R : Type 0} (w : Parts S K R) (instance : Data) (absorbs : K → L
       → ((k : Key S) (path : Text) (p : Place) → Speaks as' (a k path p) (b k path p) (d k path p))
       → (h : ℕ) (k : Key S) (path : Text) (p : Place)
       → Speaks as' (within w instance no_run (run_node w instance as') a h k path p)
-          (within w instance accepted (outcome_of w instance c) b h k path p) (within w instance no_unit (unit_of w instance c) d h k path p)
+      (within w instance accepted (outcome_of w instance c) b h k path p) (within w instance no_unit (unit_of w instance c) d h k path p)
   within_speaks a b d s zero k path p = no_run_speaks
   within_speaks a b d s (suc h) k path p = node_speaks k path p _ _ _ (λ edge q. by edge.is_reference (s edge.key (path ++ edge.path) q) (within_speaks a b d s h edge.key (path ++ edge.path) q))
     where

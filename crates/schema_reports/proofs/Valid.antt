@@ -1,5 +1,5 @@
 -- A unit is valid exactly where its verdict is yes, and a verdict is yes exactly where there is no error.
-use Rattle.std.proofs.Common.{◌≡◌, ℕ, List, [], ◌∷◌, ◌++◌, refl, ap, ap₂, ◌∙◌, Bool, true, false, not, cond, ◌&&◌, map}
+use Rattle.std.proofs.Common.{◌≡◌, List, [], ◌∷◌, ◌++◌, refl, ap, ap₂, ◌∙◌, Bool, true, false, not, cond, ◌&&◌, map}
 use Rattle.std.specs.Prelude.{Option, Some, None, filter, flat_map, nat_le, ◌↔◌}
 use Rattle.std.specs.List.{list_all}
 use Rattle.std.proofs.lemmas.List.Folds.{list_all-append, list_all-map}
@@ -87,8 +87,8 @@ entries_valid {xs} {o} valid =
     let types : List Unit_ = map (λ (a : Text × Unit_). a.1) (filter is_type absorbed) in
     let others : List Unit_ = map (λ (a : Text × Unit_). a.1) (filter (λ a. not (is_type a)) absorbed) in
     list_all-append is_valid_unit types (in_order others xs)
-      ∙ (ap (λ z. list_all is_valid_unit types && z) (all-in_order is_valid_unit others xs ∙ ap (λ z. list_all is_valid_unit others && z) (own_valid valid))
-      ∙ and_same (list_all is_valid_unit types) (list_all is_valid_unit others) o.verdict (λ is. some_held is_type absorbed (all_held valid is)) (λ is. some_held (λ a. not (is_type a)) absorbed (all_held valid is)))
+    ∙ (ap (λ z. list_all is_valid_unit types && z) (all-in_order is_valid_unit others xs ∙ ap (λ z. list_all is_valid_unit others && z) (own_valid valid))
+    ∙ and_same (list_all is_valid_unit types) (list_all is_valid_unit others) o.verdict (λ is. some_held is_type absorbed (all_held valid is)) (λ is. some_held (λ a. not (is_type a)) absorbed (all_held valid is)))
 
 pub absorbed_held : (x : Where) (v : Bool) (xs : List (Text × List Unit_)) → v ≡ true
     → list_all held (map (λ (a : Text × List Unit_). (a.0, keyword_unit x a.0 v (record { children = a.1; annotations = None; errors = []; absorbed = [] }))) xs) ≡ true
@@ -101,7 +101,6 @@ mapped_agrees f v xs h = (λ e. ap (map f) (h.0 e), λ e. h.1 (map_none f xs e))
 module _ {S K R : Type 0} (w : Parts S K R) (instance : Data) (absorbs : K → List Text) (laws : (m : K) → KeepsLaws w.keywords m (absorbs m))
     (c : Completion) (k : Key S) (path : Text) (p : Place) (g : Edge S → Place → Outcome) (u : Edge S → Place → Unit_)
     (agrees : (e : Edge S) (q : Place) → Agrees (g e q)) (valid : (e : Edge S) (q : Place) → (report_of (u e q)).valid ≡ (g e q).verdict) where
-
   option_agrees : (o : Option (Edge S)) (q : Place) → Agrees (elim o [ None ↦ accepted | Some e ↦ g e q ])
   option_agrees None q = (λ e. refl, λ e. refl)
   option_agrees (Some e) q = agrees e q
@@ -131,8 +130,8 @@ module _ {S K R : Type 0} (w : Parts S K R) (instance : Data) (absorbs : K → L
   form_absorbed : (name : Text) (form : Form K) → (part_outcome w instance c k path p g name form).verdict ≡ true → list_all held (part_units w instance c k path p u name form).1 ≡ true
   form_absorbed name (keyword m requests absorbed) e =
       absorbed_held (at w instance k path p) (w.keywords.holds m (subject w instance p) (matching w.matcher c) (λ q. (report_of (asked w instance no_unit k name requests p u q)).valid))
-        (w.keywords.units m (subject w instance p) (matching w.matcher c) (asked w instance no_unit k name requests p u)).absorbed
-        (form_valid name (keyword m requests absorbed) ∙ e)
+      (w.keywords.units m (subject w instance p) (matching w.matcher c) (asked w instance no_unit k name requests p u)).absorbed
+      (form_valid name (keyword m requests absorbed) ∙ e)
   form_absorbed name (reference kind text) e = refl
 
   parts_valid : (xs : List (Part K)) → EntriesValid (entries_of w instance c k path p u xs) (parts_outcome w instance c k path p g xs)
@@ -151,7 +150,7 @@ module _ {S K R : Type 0} (w : Parts S K R) (instance : Data) (absorbs : K → L
   node_valid = go (plan w k)
     where
       go : (o : Plan K) → (report_of (elim o
-              [ always ↦ true_unit (at w instance k path p) | never ↦ false_unit w.keywords.texts (at w instance k path p) (subject w instance p) | these xs ↦ plan_unit (at w instance k path p) (annotations_of w k) (entries_of w instance c k path p u xs) ])).valid
+          [ always ↦ true_unit (at w instance k path p) | never ↦ false_unit w.keywords.texts (at w instance k path p) (subject w instance p) | these xs ↦ plan_unit (at w instance k path p) (annotations_of w k) (entries_of w instance c k path p u xs) ])).valid
           ≡ (let x : Outcome = elim o [ always ↦ accepted | never ↦ false_outcome w.keywords.texts (at w instance k path p) (subject w instance p) | these xs ↦ parts_outcome w instance c k path p g xs ] in x.verdict)
       go always = refl
       go never = refl

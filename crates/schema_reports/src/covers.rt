@@ -8,14 +8,12 @@ pub fn runs_speak<S, K, R>()
     ensures speak { (w : Parts S K R) → RunsSpeak w }
     ensures units { (w : Parts S K R) → UnitsArePlain w }
     ensures plain { (w : Parts S K R) → PlainFollows w }
-{
-}
+{}
 
 /// So does a run over numbered nodes, returns or none.
 pub fn nodes_speak<K, R>()
     ensures follow { (keywords : Keywords K R) → NodesFollow keywords }
-{
-}
+{}
 
 /// The members of a cover say what every completion says.
 pub fn members_speak()
