@@ -1,10 +1,9 @@
 -- A cover takes the completions apart, and so which errors all completions share is decided by its members.
-use Rattle.std.proofs.Common.{◌≡◌, ℕ, zero, suc, ◌+◌, ◌*◌, List, [], ◌∷◌, ◌++◌, length, refl, ap, sym, subst, ◌∙◌, Bool, true, false, ◌&&◌, arith, cond, not, ◌<◌, get_or, ◌⊎◌, inl, inr}
-use Rattle.std.specs.Prelude.{All, Contains, Option, Some, None, find, option_map, is_some, Decides, filter, ⊤}
+use Rattle.std.proofs.Common.{◌≡◌, zero, suc, List, [], ◌∷◌, ◌++◌, refl, ap, sym, subst, ◌∙◌, Bool, true, false, ◌&&◌, arith, cond, not, ◌⊎◌, inl, inr}
+use Rattle.std.specs.Prelude.{All, Contains, Option, Some, None, find, option_map, is_some, Decides, filter}
 use Rattle.std.specs.List.{list_any}
 use Rattle.std.proofs.lemmas.List.Elements.{Contains-append_left, Contains-append_right, Contains-append_cases, All-contains}
 use Rattle.std.proofs.lemmas.List.Sums.{AllPass-from_list_all, list_all-from_AllPass}
-use Rattle.std.proofs.lemmas.List.{length-append}
 use Rattle.std.proofs.lemmas.Slice.Eq.{bytes_eq-Decides}
 use Rattle.schema_reports.specs.Reports.{Error, same_error}
 use Rattle.schema_reports.specs.Matching.{Pair, same_pair, Completion, completed, all_match, Assumptions, assumed, completion_of, Extends}
@@ -48,16 +47,6 @@ module _ (v : Sense) (call : Call) where
       go false is no_side yes_side = let (x, in_it, ext) = no_side (extended c as' m false h is) in (x, Contains-append_left ns ys x in_it, ext)
       go true is no_side yes_side = let (x, in_it, ext) = yes_side (extended c as' m true h is) in (x, Contains-append_right ns ys x in_it, ext)
 
-  -- a run for each member, and one for each branching
-  pub runs : {as' : Assumptions} {ms : List Assumptions} → Cover v call as' ms → ℕ
-  runs (whole e) = 1
-  runs (split m e ns ys) = suc (runs ns + runs ys)
-
-  pub runs_count : {as' : Assumptions} {ms : List Assumptions} (t : Cover v call as' ms) → runs t + 1 ≡ 2 * length ms
-  unfolding runs
-  runs_count (whole e) = refl
-  runs_count (split {no = ns} {yes = ys} m e s t) = let a = runs_count s in let b = runs_count t in omega (arith, length-append ns ys)
-
 -- the run of a member speaks for every completion that extends it
 abbrev pub Faithful : Sense → List Assumptions → Type 0
 Faithful v ms = (c : Completion) → All (λ m. Extends c m → v.says c ≡ v.says (completion_of m)) ms
@@ -97,32 +86,15 @@ find_passes p (y ∷ ys) x e = go (p y) refl e (find_passes p ys x)
     go true is e' rest = subst (λ z. p z ≡ true) (Some-is y x e') is
     go false is e' rest = rest e'
 
-same_itself : (a : Pair) → same_pair a a ≡ true
+pub same_itself : (a : Pair) → same_pair a a ≡ true
 same_itself a = rw ((bytes_eq-Decides a.pattern a.pattern).1 refl, (bytes_eq-Decides a.subject a.subject).1 refl)
 
-abbrev pub Pairwise : {A : Type 0} → (A → A → Type 0) → List A → Type 0
-Pairwise r [] = ⊤
-Pairwise r (x ∷ xs) = ((y : _) → Contains xs y → r x y) × Pairwise r xs
-
-Pairwise-append : {A : Type 0} (r : A → A → Type 0) (xs ys : List A) → Pairwise r xs → Pairwise r ys → ((x y : A) → Contains xs x → Contains ys y → r x y) → Pairwise r (xs ++ ys)
-Pairwise-append r [] ys a b h = b
-Pairwise-append r (x ∷ xs) ys (f, a) b h = (head, Pairwise-append r xs ys a b (λ x' y in_xs in_ys. h x' y (later x' in_xs) in_ys))
-  where
-    later : (x' : _) → Contains xs x' → Contains (x ∷ xs) x'
-    later x' (i, is, at_i) = (suc i, omega arith, at_i)
-
-    head : (y : _) → Contains (xs ++ ys) y → r x y
-    head y in_it = elim (Contains-append_cases xs ys y in_it) [ inl in_xs ↦ f y in_xs | inr in_ys ↦ h x y (zero, omega arith, refl) in_ys ]
-
-abbrev pub Apart : Assumptions → Assumptions → Type 0
-Apart x y = (c : Completion) → Extends c x → Extends c y → ⊥
-
-only_one : {A : Type 0} (y x : A) (i : ℕ) → i < length (y ∷ []) → get_or (y ∷ []) i x ≡ x → y ≡ x
-only_one y x zero is e = e
-only_one y x (suc i) is e = absurd (omega arith)
+pub only_one : {A : Type 0} (y x : A) → Contains (y ∷ []) x → y ≡ x
+only_one y x (zero, is, e) = e
+only_one y x (suc i, is, e) = absurd (omega arith)
 
 module _ (v : Sense) (call : Call) where
-  answers : (c : Completion) (as' : Assumptions) (m : Met) (b : Bool) → Extends c (assuming m b as') → completed c m.pair ≡ b
+  pub answers : (c : Completion) (as' : Assumptions) (m : Met) (b : Bool) → Extends c (assuming m b as') → completed c m.pair ≡ b
   answers c as' m b h = h m.pair b (rw (same_itself m.pair))
 
   pub unassumed : (as' : Assumptions) (m : Met) → branch_at v call as' ≡ Some m → assumed as' m.pair ≡ None
@@ -139,15 +111,10 @@ module _ (v : Sense) (call : Call) where
       go true s k = absurd (cc (sym is, ap (assumed as') (same_is a m.pair s), unassumed as' m e))
       go false s k = k is
 
-  up : {as' : Assumptions} {ms : List Assumptions} (c : Completion) (x : Assumptions) → Cover v call as' ms → Contains ms x → Extends c x → Extends c as'
-  up c x (whole e) (i, is, at_i) h = subst (Extends c) (sym (only_one _ x i is at_i)) h
+  pub up : {as' : Assumptions} {ms : List Assumptions} (c : Completion) (x : Assumptions) → Cover v call as' ms → Contains ms x → Extends c x → Extends c as'
+  up c x (whole e) in_it h = subst (Extends c) (sym (only_one _ x in_it)) h
   up {as'} c x (split {no = ns} {yes = ys} m e s t) in_it h = go (Contains-append_cases ns ys x in_it) (λ k. up c x s k h) (λ k. up c x t k h)
     where
       go : Contains ns x ⊎ Contains ys x → (Contains ns x → Extends c (assuming m false as')) → (Contains ys x → Extends c (assuming m true as')) → Extends c as'
       go (inl k) f g = shorter c as' m false e (f k)
       go (inr k) f g = shorter c as' m true e (g k)
-
-  pub once : {as' : Assumptions} {ms : List Assumptions} → Cover v call as' ms → Pairwise Apart ms
-  once (whole e) = (λ y (i, is, at_i). absurd (omega arith), tt)
-  once {as'} (split {no = ns} {yes = ys} m e s t) = Pairwise-append Apart ns ys (once s) (once t)
-      (λ x y in_ns in_ys c ex ey. absurd (cc (answers c as' m false (up c x s in_ns ex), answers c as' m true (up c y t in_ys ey))))

@@ -9,3 +9,5 @@ mod Runs
 mod PlainSense
 pub mod GuardedSense
 pub mod NothingMet
+mod CoverCounts
+mod OneKeyword

@@ -1,5 +1,5 @@
 -- What the members of a cover answer is what every completion does.
-use Rattle.std.proofs.Common.{◌≡◌, zero, suc, List, [], ◌∷◌, ◌++◌, refl, ap, sym, subst, ◌∙◌, Bool, true, false, cond, ◌||◌, arith, append_assoc, get_or, ◌⊎◌, inl, inr}
+use Rattle.std.proofs.Common.{◌≡◌, List, [], ◌∷◌, ◌++◌, refl, ap, sym, subst, ◌∙◌, Bool, true, false, cond, ◌||◌, append_assoc, get_or, ◌⊎◌, inl, inr}
 use Rattle.std.specs.Prelude.{Option, Some, None, Contains, find, option_map, filter_map, ⊤, ◌↔◌}
 use Rattle.std.specs.List.{list_any, cons_option}
 use Rattle.std.proofs.lemmas.List.Elements.{All-contains_itself, Contains-append_cases}
@@ -11,7 +11,7 @@ use Rattle.schema_reports.specs.Runs.{Met}
 use Rattle.schema_reports.specs.Cover.{Call, mode_of, Sense, Cover, whole, split, assuming}
 use Rattle.schema_reports.specs.Shared.{EachAccepts}
 use Rattle.schema_reports.specs.Members.{AllAssumed, SameIn, Follows, verdict_of, all_accept}
-use Rattle.schema_reports.proofs.CoversApart.{covered, Faithful, extended, same_is, Some-is, unassumed}
+use Rattle.schema_reports.proofs.CoversApart.{only_one, covered, Faithful, extended, same_is, Some-is, unassumed}
 use Rattle.schema_reports.proofs.Plans.{settled_verdict}
 
 -- ---- the completion of a list in which no pair stands twice extends it
@@ -30,7 +30,7 @@ not_among (x ∷ xs) a e = go (same_pair a x.pair) x.outcome refl refl e (not_am
     go false true is o h k = ap (λ z. z || list_any (same_pair a) (filter_map yes_pair xs)) is ∙ k h
     go false false is o h k = k h
 
-own_extended : (as' : Assumptions) (m : Met) (b : Bool) → assumed as' m.pair ≡ None → Extends (completion_of as') as' → Extends (completion_of (assuming m b as')) (assuming m b as')
+pub own_extended : (as' : Assumptions) (m : Met) (b : Bool) → assumed as' m.pair ≡ None → Extends (completion_of as') as' → Extends (completion_of (assuming m b as')) (assuming m b as')
 own_extended as' m true new h a b' is = go (same_pair a m.pair) is (h a b')
   where
     go : (t : Bool) → option_map (λ x. x.outcome) (cond t (Some (record { pair = m.pair; outcome = true })) (find (λ x. same_pair a x.pair) as')) ≡ Some b'
@@ -49,10 +49,6 @@ own_extended as' m false new h a b' is = go (same_pair a m.pair) refl is (h a b'
 abbrev pub Longer : Assumptions → Type 0
 Longer [] = ⊥
 Longer (a ∷ as') = ⊤
-
-only_one : {A : Type 0} (y x : A) → Contains (y ∷ []) x → y ≡ x
-only_one y x (zero, is, e) = e
-only_one y x (suc i, is, e) = absurd (omega arith)
 
 module _ (v : Sense) (call : Call) where
   pub record IsMember (m : Assumptions) : Type 0 where

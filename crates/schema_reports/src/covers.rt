@@ -1,7 +1,7 @@
 //! Laws of covers: what its members say is what every completion says.
 ghost use Rattle.schema_reports.specs.Keywords.{Keywords};
 ghost use Rattle.schema_reports.specs.Parts.{Parts};
-ghost use Rattle.schema_reports.specs.Promises.{EvaluationOfMembers, ErrorsOfMembers, FirstIsHead, FirstOfMembers, NodesFollow, NoneListed, OneCover, PlainFollows, RunsSpeak, SharedOfMembers, UndecidedPast, UnitsArePlain, VerdictOfMembers};
+ghost use Rattle.schema_reports.specs.Promises.{EvaluationOfMembers, ErrorsOfMembers, FirstIsHead, FirstOfMembers, MembersDiffer, MembersRun, NodesFollow, NoneListed, OneCover, OneMember, PairsDiffer, PlainFollows, RunsOfCover, RunsSpeak, SharedOfMembers, UndecidedPast, UnitsArePlain, VerdictOfMembers};
 
 /// A run under assumptions speaks for every completion that extends them.
 pub fn runs_speak<S, K, R>()
@@ -30,4 +30,21 @@ pub fn calls_agree()
     ensures undecided { UndecidedPast }
     ensures none { NoneListed }
     ensures head { FirstIsHead }
+{}
+
+/// Each completion extends exactly one member of a cover.
+pub fn members_are_apart()
+    ensures one { OneMember }
+{}
+
+/// A cover of L members takes 2 L - 1 runs.
+pub fn runs_are_counted()
+    ensures counted { RunsOfCover }
+{}
+
+/// A call's branches are on distinct pairs, so each member's completion extends it.
+pub fn branches_differ()
+    ensures pairs { PairsDiffer }
+    ensures members { MembersRun }
+    ensures differ { MembersDiffer }
 {}
