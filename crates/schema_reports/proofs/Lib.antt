@@ -3,11 +3,11 @@ mod CoversApart
 mod SameTurns
 mod Plans
 mod Senses
-mod Sentences
+pub mod Sentences
 mod Valid
 mod Runs
-mod PlainSense
+pub mod PlainSense
 pub mod GuardedSense
 pub mod NothingMet
-mod CoverCounts
+pub mod CoverCounts
 mod OneKeyword

@@ -27,7 +27,7 @@ IsPresent s p = is_some (subject_from p s) ≡ true
 abbrev pub SpotInside : Subject → List Text → Spot → Type 0
 SpotInside s absorbed spot = IsPresent s spot.below × ((path : Place) × (spot.path ≡ pointer_to path)) × (elim spot.absorbed [ None ↦ Unit {0} | Some name ↦ Contains absorbed name ])
 
--- a turn asks a child for less than its units, or is the last
+-- a turn asks a child, and not for its units, or is the last
 abbrev pub IsAskAlone : Turn → Type 0
 IsAskAlone (ask q mode) = ¬ (mode ≡ for_units)
 IsAskAlone done = Unit {0}
@@ -49,6 +49,7 @@ module _ {K R : Type 0} (keywords : Keywords K R) (m : K) (s : Subject) where
   AlwaysAsksRightly absorbed zero r reply = Unit {0}
   AlwaysAsksRightly absorbed (suc n) r reply = AsksRightly absorbed (keywords.step m s r reply) × ((next : Reply) → AlwaysAsksRightly absorbed n (keywords.turn m s r reply) next)
 
+  -- each of at most n more turns does so, whatever is replied
   abbrev pub AlwaysAsksAlone : ℕ → R → Reply → Type 0
   AlwaysAsksAlone zero r reply = Unit {0}
   AlwaysAsksAlone (suc n) r reply = IsAskAlone (keywords.step m s r reply) × ((next : Reply) → AlwaysAsksAlone n (keywords.turn m s r reply) next)
