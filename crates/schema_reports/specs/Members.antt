@@ -1,11 +1,11 @@
 -- What a run under assumptions says of every completion that extends them.
 use Rattle.std.specs.List.{list_all}
-use Rattle.std.specs.Prelude.{Bool, List, None, Some, [], false, filter, find, is_some, not, true, ℕ, ◌++◌, ◌+◌, ◌∷◌, ◌≡◌}
+use Rattle.std.specs.Prelude.{Bool, Contains, List, None, Some, [], false, filter, find, is_some, not, slice_get, true, ℕ, ◌++◌, ◌+◌, ◌∷◌, ◌≡◌}
 use Rattle.schema_reports.specs.Reports.{Error, Outcome, Unit_, report_of}
 use Rattle.schema_reports.specs.Matching.{Assumptions, Completion, Extends, assumed, completion_of}
 use Rattle.schema_reports.specs.Keywords.{Mode, for_all, for_first, for_units, for_verdict}
 use Rattle.schema_reports.specs.Runs.{Met, Run, first_error}
-use Rattle.schema_reports.specs.Cover.{Call, Sense, assuming, branch_at, mode_of}
+use Rattle.schema_reports.specs.Cover.{Call, IsRun, Sense, assuming, branch_at, mode_of}
 use Rattle.schema_reports.specs.Shared.{errors_of, in_each}
 use Rattle.schema_reports.specs.Laws.{Agrees}
 
@@ -70,3 +70,19 @@ module _ (v : Sense) where
   pub data Partly (call : Call) : Assumptions → ℕ → Type 0 where
     waits : {as' : Assumptions} → Partly call as' 1
     splits : {as' : Assumptions} {a b : ℕ} (m : Met) → branch_at v call as' ≡ Some m → Partly call (assuming m false as') a → Partly call (assuming m true as') b → Partly call as' (a + b)
+
+-- ---- positions
+
+-- nothing stands twice
+abbrev pub StandOnce : {A : Type 0} → List A → Type 0
+StandOnce {A} xs = (i j : ℕ) (x : A) → slice_get xs i ≡ Some x → slice_get xs j ≡ Some x → i ≡ j
+
+-- the completion extends the member that stands at a position
+abbrev pub ExtendsAt : Completion → List Assumptions → ℕ → Type 0
+ExtendsAt c ms i = (m : Assumptions) × (slice_get ms i ≡ Some m) × Extends c m
+
+-- the lists under which a call runs, each once
+pub record RunsAre (v : Sense) (call : Call) (runs : List Assumptions) : Type 0 where
+  pub each : (as' : Assumptions) → IsRun v call as' → Contains runs as'
+  pub only : (as' : Assumptions) → Contains runs as' → IsRun v call as'
+  pub once : StandOnce runs

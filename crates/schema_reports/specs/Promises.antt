@@ -1,5 +1,5 @@
 -- What a cover's members say, and so what the four calls answer where they decide.
-use Rattle.std.specs.Prelude.{List, None, Option, Some, [], length, ℕ, ◌++◌, ◌<◌, ◌↔◌, ◌∷◌, ◌≡◌, ◌≤◌}
+use Rattle.std.specs.Prelude.{Contains, List, None, Option, Some, [], length, map, ℕ, ◌*◌, ◌+◌, ◌++◌, ◌<◌, ◌↔◌, ◌∷◌, ◌≡◌, ◌≤◌}
 use Rattle.serde_json.specs.Data.{Data}
 use Rattle.schema_reports.specs.Instance.{Place, Subject, Text}
 use Rattle.schema_reports.specs.Reports.{Error}
@@ -10,12 +10,12 @@ use Rattle.schema_reports.specs.Plan.{Key}
 use Rattle.schema_reports.specs.Meaning.{unfold_}
 use Rattle.schema_reports.specs.Units.{plain_units}
 use Rattle.schema_reports.specs.Runs.{Met, first_error, run}
-use Rattle.schema_reports.specs.Cover.{Call, Cover, Decides, Sense, branch_at, evaluate, iter_errors, plain, validate}
+use Rattle.schema_reports.specs.Cover.{Call, Cover, Decides, IsRun, Sense, branch_at, evaluate, iter_errors, plain, validate}
 use Rattle.schema_reports.specs.Shared.{EachAccepts, Kept, Shared}
 use Rattle.schema_reports.specs.Laws.{EachKeeps}
 use Rattle.schema_reports.specs.Guarded.{Nodes, guarded_sense}
 use Rattle.schema_reports.specs.Headline.{ErrorsSay, FirstSays, FirstShared, IsFailure, Lists, VerdictSays}
-use Rattle.schema_reports.specs.Members.{Follows, Partly, Speaks, all_accept, is_nil, listed, shared_with}
+use Rattle.schema_reports.specs.Members.{ExtendsAt, Follows, Partly, RunsAre, Speaks, StandOnce, all_accept, is_nil, listed, shared_with}
 
 module _ {S K R : Type 0} (w : Parts S K R) where
   -- a plain run under assumptions speaks, in each mode, for every completion that extends them
@@ -78,3 +78,23 @@ NoneListed = (v : Sense) → Follows v → (call : Call) (es : List Error) → L
 -- the first error is the head of the errors listed, where some are shared
 abbrev pub FirstIsHead : Type 0
 FirstIsHead = (v : Sense) (errors kept : List Error) (o : Option Error) → Kept v errors kept → FirstShared v errors o → o ≡ first_error kept
+
+-- each completion extends exactly one member of a cover
+abbrev pub OneMember : Type 0
+OneMember = (v : Sense) (call : Call) (ms : List Assumptions) → Cover v call [] ms → (c : Completion) → (i : ℕ) × ExtendsAt c ms i × ((j : ℕ) → ExtendsAt c ms j → j ≡ i)
+
+-- a cover of L members takes 2 L - 1 runs
+abbrev pub RunsOfCover : Type 0
+RunsOfCover = (v : Sense) (call : Call) (ms : List Assumptions) → Cover v call [] ms → (runs : List Assumptions) × RunsAre v call runs × (length runs + 1 ≡ 2 * length ms)
+
+-- a call's branches are on distinct pairs: in no run's list does a pair stand twice, so its completion extends it
+abbrev pub PairsDiffer : Type 0
+PairsDiffer = (v : Sense) (call : Call) (as' : Assumptions) → IsRun v call as' → StandOnce (map (λ a. a.pair) as') × Extends (completion_of as') as'
+
+-- a member is the list of a run that branches no more
+abbrev pub MembersRun : Type 0
+MembersRun = (v : Sense) (call : Call) (ms : List Assumptions) → Cover v call [] ms → (m : Assumptions) → Contains ms m → IsRun v call m × (branch_at v call m ≡ None)
+
+-- and so in no member's list does a pair stand twice, and its completion extends it
+abbrev pub MembersDiffer : Type 0
+MembersDiffer = (v : Sense) (call : Call) (ms : List Assumptions) → Cover v call [] ms → (m : Assumptions) → Contains ms m → StandOnce (map (λ a. a.pair) m) × Extends (completion_of m) m

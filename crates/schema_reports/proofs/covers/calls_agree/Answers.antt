@@ -1,0 +1,14 @@
+use Rattle.schema_reports.proofs.Sentences.{one_cover, undecided_past, listed_none, first_is_head}
+use Rattle.schema_reports.proofs.covers.calls_agree.Goals as goal
+
+pub returns-clause-one : goal.returns-clause-one
+returns-clause-one c = λ v call ms ns s t. one_cover v call s t
+
+pub returns-clause-none : goal.returns-clause-none
+returns-clause-none c = λ v follows call es it. listed_none v call follows es it
+
+pub returns-clause-head : goal.returns-clause-head
+returns-clause-head c = λ v errors kept o k f. first_is_head v k f
+
+pub returns-clause-undecided : goal.returns-clause-undecided
+returns-clause-undecided c = λ v call n part many. undecided_past v call n part many
