@@ -33,3 +33,4 @@ pub mod GuardedSense
 pub mod NothingMet
 pub mod CoverCounts
 mod OneKeyword
+pub mod SensesMeant

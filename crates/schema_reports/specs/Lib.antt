@@ -27,5 +27,6 @@ pub mod Greatest
 pub mod Headline
 pub mod Depths
 pub mod Numbered
+pub mod Means
 pub mod Members
 pub mod Promises

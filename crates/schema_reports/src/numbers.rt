@@ -52,3 +52,10 @@ pub fn guarded_sense_settles<K, R>()
 pub fn depths_agree<S, K, R>()
     ensures agree { (w : Parts S K R) → DepthsAgree w }
 {}
+
+ghost use Rattle.schema_reports.specs.Means.{NumbersMean};
+
+/// Numbers that stand for keys mean the plain meaning of the root's key.
+pub fn numbers_mean<S, K, R>()
+    ensures { (w : Parts S K R) (keys : Numbers S) (nodes : Nodes K) → NumbersMean w keys nodes }
+{}
