@@ -34,3 +34,5 @@ pub mod NothingMet
 pub mod CoverCounts
 mod OneKeyword
 pub mod SensesMeant
+mod PlanForms
+pub mod WholeNumbers

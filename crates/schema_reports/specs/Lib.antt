@@ -28,5 +28,6 @@ pub mod Headline
 pub mod Depths
 pub mod Numbered
 pub mod Means
+pub mod Fractions
 pub mod Members
 pub mod Promises

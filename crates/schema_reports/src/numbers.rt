@@ -59,3 +59,11 @@ ghost use Rattle.schema_reports.specs.Means.{NumbersMean};
 pub fn numbers_mean<S, K, R>()
     ensures { (w : Parts S K R) (keys : Numbers S) (nodes : Nodes K) → NumbersMean w keys nodes }
 {}
+
+ghost use Rattle.std.specs.Prelude.{Bool};
+ghost use Rattle.schema_reports.specs.Fractions.{NumbersAreWhole};
+
+/// The keywords of a number are whole where its key's schema holds no fraction.
+pub fn numbers_are_whole<S, K, R>()
+    ensures { (w : Parts S K R) (is_whole : K → Bool) (keys : Numbers S) (nodes : Nodes K) → NumbersAreWhole w is_whole keys nodes }
+{}
