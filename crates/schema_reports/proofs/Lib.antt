@@ -36,3 +36,4 @@ mod OneKeyword
 pub mod SensesMeant
 mod PlanForms
 pub mod WholeNumbers
+pub mod ErrorsLead
