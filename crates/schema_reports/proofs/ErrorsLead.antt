@@ -11,7 +11,7 @@ use Rattle.schema_reports.specs.Parts.{Parts}
 use Rattle.schema_reports.specs.Matching.{Completion, Matching, matching}
 use Rattle.schema_reports.specs.Making.{Request}
 use Rattle.schema_reports.specs.Keywords.{Answers, Below, here, down, Question, Spot, Own, Fault, own, passed}
-use Rattle.schema_reports.specs.Plan.{Key, Edge, Part, Form, keyword, reference, Reference, Plan, always, never, these, plan, plan_of, child, requested, reference_edge, height, absolute_of}
+use Rattle.schema_reports.specs.Plan.{Key, Edge, Part, Form, keyword, reference, Reference, Plan, always, never, these, plan, plan_of, child, requested, reference_edge, height, schema_of, absolute_of}
 use Rattle.schema_reports.specs.Meaning.{Where, subject, at, place_below, stamped, error_at, fault_error, false_error, false_outcome, asked, referred_to, keyword_outcome, reference_outcome, part_outcome, parts_outcome, outcome_of, within, unfolded, unfold_}
 use Rattle.schema_reports.specs.Laws.{IsPresent, steps_below, SpotInside, StandsInside, PassesUnchanged, KeepsLaws}
 use Rattle.schema_reports.specs.Paths.{Walks, stands, goes, Leads, IsRest, edges, part_edges, names}
@@ -19,6 +19,7 @@ use Rattle.schema_reports.specs.Numbered.{subject_in}
 use Rattle.schema_reports.specs.ErrorsLead.{EachKeepsAbsorbing, MakesAbsorbing, innermost, keyword_location, IsPartOf, Passes, begins, passes, EndsIn, PointsAt, ErrorsLead}
 use Rattle.schema_reports.proofs.Questions.{later, in_flat_map}
 use Rattle.schema_reports.proofs.Settles.{picked}
+use Rattle.schema_reports.proofs.SameOutcome.{in_option_list}
 use Rattle.schema_reports.proofs.PlanForms.{EachForm, PlanForms, plan_forms}
 
 -- ---- places
@@ -145,7 +146,7 @@ module _ {S K R : Type 0} (w : Parts S K R) (root : Key S) where
       false_leads is = here_leads [] (absolute_of w k k.location) (subst (EndsIn w k [] (absolute_of w k k.location)) (sym is) (refl, refl)) _ (sym (append-nil path)) (sym (append-nil k.location)) there refl
 
       module _ (xs : List (Part K)) (is_plan : plan w k ≡ these xs) (x : Part K) (in_xs : Contains xs x) where
-        is_part : IsPartOf w (plan w k) x
+        pub is_part : IsPartOf w (plan w k) x
         is_part = subst (λ o. IsPartOf w o x) (sym is_plan) in_xs
 
         -- an error that passes through the keyword has its absolute location, or else the keyword's
@@ -190,3 +191,86 @@ module _ {S K R : Type 0} (w : Parts S K R) (root : Key S) where
               (λ f in_fs. fault_leads answers (λ q may. h q may (stands_at instance p q.below there (All-contains (λ q'. IsPresent s (steps_below q'.below)) (w.keywords.may_ask m s) q (laws.present s) may)))
                   f (All-contains (StandsInside s absorbed) fs f (laws.stands s matches answers) in_fs) (All-contains (PassesUnchanged answers (w.keywords.may_ask m s)) fs f (laws.passes s matches answers) in_fs))
               fs (All-contains_itself fs))
+
+-- ---- all errors of a target, where its questions are answered by errors that lead
+
+module _ {S K R : Type 0} (w : Parts S K R) (absorbs : K → List Text) (laws : EachKeepsAbsorbing w.keywords absorbs) (makers : MakesAbsorbing absorbs w.table) (root : Key S) (instance : Data) where
+  -- a keyword that a maker makes keeps its laws, absorbing what its part says
+  pub keeps : (k : Key S) (xs : List (Part K)) → plan w k ≡ these xs → (x : Part K) → Contains xs x → (m : K) (requests : List Request) (absorbed : List Text) → x.form ≡ keyword m requests absorbed
+      → KeepsLaws w.keywords m absorbed
+  keeps k xs is_plan x in_xs m requests absorbed is_form =
+      let forms : EachForm (Absorbing w absorbs) xs = subst (PlanForms (Absorbing w absorbs)) is_plan (absorbing w absorbs makers k (schema_of w k)) in
+      let e : absorbed ≡ absorbs m = subst (Absorbing w absorbs) is_form (each_form (Absorbing w absorbs) xs forms x in_xs) in
+      subst (KeepsLaws w.keywords m) (sym e) (laws m)
+
+  -- each error of what is answered leads, after these locations
+  abbrev pub AllLead : List (Option Text) → Outcome → Type 0
+  AllLead locations o = All (Leading w root instance locations) o.errors
+
+  module _ (c : Completion) where
+    module _ (path : Text) (k : Key S) (locations : List (Option Text)) (way : Passes w root path k locations) (p : Place) (there : Stands instance p) (ask : Edge S → Place → Outcome)
+        (answers : (x : Part K) (edge : Edge S) (q : Place) → Passes w root (path ++ edge.path) edge.key (keyword_location w k x.name ∷ locations) → Stands instance q → AllLead (keyword_location w k x.name ∷ locations) (ask edge q)) where
+      module _ (xs : List (Part K)) (is_plan : plan w k ≡ these xs) where
+        edge_leads : (x : Part K) → Contains xs x → (o : Option (Edge S)) (q : Place) → Stands instance q → ((edge : Edge S) → o ≡ Some edge → Contains (part_edges w k x.name x.form) edge)
+            → AllLead (keyword_location w k x.name ∷ locations) (elim o [ None ↦ accepted | Some edge ↦ ask edge q ])
+        edge_leads x in_xs None q at_q h = All-nil (Leading w root instance (keyword_location w k x.name ∷ locations))
+        edge_leads x in_xs (Some edge) q at_q h = answers x edge q (passes x edge way (is_part w root instance path k locations way p there xs is_plan x in_xs) (h edge refl)) at_q
+
+        form_leads : (x : Part K) → Contains xs x → (form : Form K) → x.form ≡ form → AllLead locations (part_outcome w instance c k path p ask x.name form)
+        form_leads x in_xs (keyword m requests absorbed) is = keyword_leads w root instance path k locations way p there xs is_plan x in_xs m requests absorbed is (keeps k xs is_plan x in_xs m requests absorbed is)
+            (matching w.matcher c) (asked w instance accepted k x.name requests p ask)
+            (λ q may at_q. edge_leads x in_xs (child w k x.name requests q.child) (place_below p q.below) at_q
+                (λ edge e. subst (λ form. Contains (part_edges w k x.name form) edge) (sym is) (picked (requested w k x.name) requests q.child edge e)))
+        form_leads x in_xs (reference kind text) is =
+            let o : Outcome = referred_to w instance accepted k x.name kind text p ask in
+            All-map (Leading w root instance locations) (stamped (keyword_location w k x.name)) o.errors
+            (each_passed w root instance path k locations way p there xs is_plan x in_xs o.errors
+                (edge_leads x in_xs (reference_edge w k x.name kind text) p there (λ edge e. subst (λ form. Contains (part_edges w k x.name form) edge) (sym is) (in_option_list (reference_edge w k x.name kind text) edge e))))
+
+        parts_lead : (ys : List (Part K)) → ((y : Part K) → Contains ys y → Contains xs y) → AllLead locations (parts_outcome w instance c k path p ask ys)
+        parts_lead [] h = All-nil (Leading w root instance locations)
+        parts_lead (y ∷ ys) h =
+            let a : Outcome = part_outcome w instance c k path p ask y.name y.form in
+            let b : Outcome = parts_outcome w instance c k path p ask ys in
+            All-append (Leading w root instance locations) a.errors b.errors (form_leads y (h y (zero, omega arith, refl)) y.form refl) (parts_lead ys (λ z is. h z (later y ys z is)))
+
+      plan_leads : (o : Plan K) → plan w k ≡ o → AllLead locations (elim o [ always ↦ accepted | never ↦ false_outcome w.keywords.texts (at w instance k path p) (subject w instance p) | these xs ↦ parts_outcome w instance c k path p ask xs ])
+      plan_leads always is = All-nil (Leading w root instance locations)
+      plan_leads never is = All-cons (Leading w root instance locations) _ [] (false_leads w root instance path k locations way p there is) (All-nil (Leading w root instance locations))
+      plan_leads (these xs) is = parts_lead xs is xs (λ y in_xs. in_xs)
+
+      outcome_leads : AllLead locations (outcome_of w instance c k path p ask)
+      outcome_leads = plan_leads (plan w k) refl
+
+    -- ---- the plain meaning at any depth
+
+    abbrev Always : (Key S → Text → Place → Outcome) → Type 0
+    Always say = (path : Text) (k : Key S) (locations : List (Option Text)) → Passes w root path k locations → (p : Place) → Stands instance p → AllLead locations (say k path p)
+
+    by_kind : (b : Bool) (locations : List (Option Text)) (x y : Outcome) → AllLead locations x → AllLead locations y → AllLead locations (elim b [ true ↦ x | false ↦ y ])
+    by_kind true locations x y f g = f
+    by_kind false locations x y f g = g
+
+    within_leads : (across : Key S → Text → Place → Outcome) → Always across → (h : ℕ) → Always (within w instance accepted (outcome_of w instance c) across h)
+    within_leads across f zero path k locations way p there = All-nil (Leading w root instance locations)
+    within_leads across f (suc h) path k locations way p there =
+        let say : Key S → Text → Place → Outcome = within w instance accepted (outcome_of w instance c) across h in
+        outcome_leads path k locations way p there
+        (λ edge q. elim edge.is_reference [ true ↦ across edge.key (path ++ edge.path) q | false ↦ say edge.key (path ++ edge.path) q ])
+        (λ x edge q way' at_q. by_kind edge.is_reference (keyword_location w k x.name ∷ locations) (across edge.key (path ++ edge.path) q) (say edge.key (path ++ edge.path) q)
+            (f (path ++ edge.path) edge.key (keyword_location w k x.name ∷ locations) way' q at_q)
+            (within_leads across f h (path ++ edge.path) edge.key (keyword_location w k x.name ∷ locations) way' q at_q))
+
+    unfolding_leads : (n : ℕ) → Always (unfold_ w instance c n)
+    unfolding_leads zero path k = within_leads (λ k' path' p'. accepted) (λ path' k' locations way p there. All-nil (Leading w root instance locations)) (height w k) path k
+    unfolding_leads (suc n) path k = within_leads (unfold_ w instance c n) (unfolding_leads n) (height w k) path k
+
+  -- at the root no keyword is on the way
+  pub at_root : (o : Outcome) → AllLead [] o → All (PointsAt w root instance) o.errors
+  at_root o h = All-weaker (Leading w root instance []) (PointsAt w root instance) (λ e. subst (PointsAt w root instance) (stamped_never e)) o.errors h
+
+  pub plain_leads : (c : Completion) (n : ℕ) → All (PointsAt w root instance) (unfold_ w instance c n root [] []).errors
+  plain_leads c n = at_root (unfold_ w instance c n root [] []) (unfolding_leads c n [] root [] begins [] refl)
+
+pub errors_lead : {S K R : Type 0} (w : Parts S K R) (absorbs : K → List Text) → ErrorsLead w absorbs
+errors_lead w absorbs laws makers instance c n root = plain_leads w absorbs laws makers root instance c n

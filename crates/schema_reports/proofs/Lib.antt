@@ -37,3 +37,4 @@ pub mod SensesMeant
 mod PlanForms
 pub mod WholeNumbers
 pub mod ErrorsLead
+pub mod NodeErrorsLead
