@@ -4,17 +4,17 @@ use Rattle.std.specs.Prelude.{All, Contains, Option, Some, None, option_and_then
 use Rattle.std.proofs.lemmas.List.{append_assoc, append-nil}
 use Rattle.std.proofs.lemmas.List.Elements.{All-nil, All-cons, All-map, All-append, All-weaker, All-contains, All-contains_itself}
 use Rattle.serde_json.specs.Data.{Data, null, boolean, number, string, array, object}
-use Rattle.schema_reports.specs.Instance.{Text, Place, Step, Subject, a_value, after_step, subject_from, subject_at}
+use Rattle.schema_reports.specs.Instance.{Text, Place, Subject, a_value, after_step, subject_from, subject_at}
 use Rattle.schema_reports.specs.Pointer.{joined, pointer_to}
 use Rattle.schema_reports.specs.Reports.{Error, Outcome, accepted}
 use Rattle.schema_reports.specs.Parts.{Parts}
 use Rattle.schema_reports.specs.Matching.{Completion, Matching, matching}
 use Rattle.schema_reports.specs.Making.{Request}
-use Rattle.schema_reports.specs.Keywords.{Answers, Below, here, down, Question, Spot, Own, Fault, own, passed}
-use Rattle.schema_reports.specs.Plan.{Key, Edge, Part, Form, keyword, reference, Reference, Plan, always, never, these, plan, plan_of, child, requested, reference_edge, height, schema_of, absolute_of}
-use Rattle.schema_reports.specs.Meaning.{Where, subject, at, place_below, stamped, error_at, fault_error, false_error, false_outcome, asked, referred_to, keyword_outcome, reference_outcome, part_outcome, parts_outcome, outcome_of, within, unfolded, unfold_}
+use Rattle.schema_reports.specs.Keywords.{Answers, Below, here, down, Question, Own, Fault, own, passed}
+use Rattle.schema_reports.specs.Plan.{Key, Edge, Part, Form, keyword, reference, Plan, always, never, these, plan, plan_of, child, requested, reference_edge, height, schema_of, absolute_of}
+use Rattle.schema_reports.specs.Meaning.{subject, at, place_below, stamped, fault_error, false_error, false_outcome, asked, referred_to, keyword_outcome, part_outcome, parts_outcome, outcome_of, within, unfold_}
 use Rattle.schema_reports.specs.Laws.{IsPresent, steps_below, SpotInside, StandsInside, PassesUnchanged, KeepsLaws}
-use Rattle.schema_reports.specs.Paths.{Walks, stands, goes, Leads, IsRest, edges, part_edges, names}
+use Rattle.schema_reports.specs.Paths.{Walks, stands, goes, part_edges, names}
 use Rattle.schema_reports.specs.Numbered.{subject_in}
 use Rattle.schema_reports.specs.ErrorsLead.{EachKeepsAbsorbing, MakesAbsorbing, innermost, keyword_location, IsPartOf, Passes, begins, passes, EndsIn, PointsAt, ErrorsLead}
 use Rattle.schema_reports.proofs.Questions.{later, in_flat_map}
@@ -189,7 +189,7 @@ module _ {S K R : Type 0} (w : Parts S K R) (root : Key S) where
               All-map (Leading locations) (fault_error (at w instance k path p) x.name) fs
               (All-weaker (Contains fs) (λ f. Leading locations (fault_error (at w instance k path p) x.name f))
               (λ f in_fs. fault_leads answers (λ q may. h q may (stands_at instance p q.below there (All-contains (λ q'. IsPresent s (steps_below q'.below)) (w.keywords.may_ask m s) q (laws.present s) may)))
-                  f (All-contains (StandsInside s absorbed) fs f (laws.stands s matches answers) in_fs) (All-contains (PassesUnchanged answers (w.keywords.may_ask m s)) fs f (laws.passes s matches answers) in_fs))
+              f (All-contains (StandsInside s absorbed) fs f (laws.stands s matches answers) in_fs) (All-contains (PassesUnchanged answers (w.keywords.may_ask m s)) fs f (laws.passes s matches answers) in_fs))
               fs (All-contains_itself fs))
 
 -- ---- all errors of a target, where its questions are answered by errors that lead
@@ -220,12 +220,12 @@ module _ {S K R : Type 0} (w : Parts S K R) (absorbs : K → List Text) (laws : 
         form_leads x in_xs (keyword m requests absorbed) is = keyword_leads w root instance path k locations way p there xs is_plan x in_xs m requests absorbed is (keeps k xs is_plan x in_xs m requests absorbed is)
             (matching w.matcher c) (asked w instance accepted k x.name requests p ask)
             (λ q may at_q. edge_leads x in_xs (child w k x.name requests q.child) (place_below p q.below) at_q
-                (λ edge e. subst (λ form. Contains (part_edges w k x.name form) edge) (sym is) (picked (requested w k x.name) requests q.child edge e)))
+            (λ edge e. subst (λ form. Contains (part_edges w k x.name form) edge) (sym is) (picked (requested w k x.name) requests q.child edge e)))
         form_leads x in_xs (reference kind text) is =
             let o : Outcome = referred_to w instance accepted k x.name kind text p ask in
             All-map (Leading w root instance locations) (stamped (keyword_location w k x.name)) o.errors
             (each_passed w root instance path k locations way p there xs is_plan x in_xs o.errors
-                (edge_leads x in_xs (reference_edge w k x.name kind text) p there (λ edge e. subst (λ form. Contains (part_edges w k x.name form) edge) (sym is) (in_option_list (reference_edge w k x.name kind text) edge e))))
+            (edge_leads x in_xs (reference_edge w k x.name kind text) p there (λ edge e. subst (λ form. Contains (part_edges w k x.name form) edge) (sym is) (in_option_list (reference_edge w k x.name kind text) edge e))))
 
         parts_lead : (ys : List (Part K)) → ((y : Part K) → Contains ys y → Contains xs y) → AllLead locations (parts_outcome w instance c k path p ask ys)
         parts_lead [] h = All-nil (Leading w root instance locations)
@@ -258,8 +258,8 @@ module _ {S K R : Type 0} (w : Parts S K R) (absorbs : K → List Text) (laws : 
         outcome_leads path k locations way p there
         (λ edge q. elim edge.is_reference [ true ↦ across edge.key (path ++ edge.path) q | false ↦ say edge.key (path ++ edge.path) q ])
         (λ x edge q way' at_q. by_kind edge.is_reference (keyword_location w k x.name ∷ locations) (across edge.key (path ++ edge.path) q) (say edge.key (path ++ edge.path) q)
-            (f (path ++ edge.path) edge.key (keyword_location w k x.name ∷ locations) way' q at_q)
-            (within_leads across f h (path ++ edge.path) edge.key (keyword_location w k x.name ∷ locations) way' q at_q))
+        (f (path ++ edge.path) edge.key (keyword_location w k x.name ∷ locations) way' q at_q)
+        (within_leads across f h (path ++ edge.path) edge.key (keyword_location w k x.name ∷ locations) way' q at_q))
 
     unfolding_leads : (n : ℕ) → Always (unfold_ w instance c n)
     unfolding_leads zero path k = within_leads (λ k' path' p'. accepted) (λ path' k' locations way p there. All-nil (Leading w root instance locations)) (height w k) path k

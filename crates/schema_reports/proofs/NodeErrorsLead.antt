@@ -1,19 +1,18 @@
 -- Errors of numbered nodes point at a keyword and at a value, whether questions return or not.
-use Rattle.std.proofs.Common.{◌≡◌, ℕ, zero, suc, Bool, true, false, ◌==◌, List, [], ◌∷◌, ◌++◌, refl, sym, subst, ap, arith}
-use Rattle.std.specs.Prelude.{All, Contains, Option, Some, None}
+use Rattle.std.proofs.Common.{◌≡◌, ℕ, zero, suc, Bool, true, false, ◌==◌, List, [], ◌∷◌, ◌++◌, refl, sym, subst, arith}
+use Rattle.std.specs.Prelude.{Contains, Option, Some, None}
 use Rattle.std.specs.List.{list_any}
 use Rattle.std.proofs.lemmas.List.Elements.{All-nil, All-cons, All-map, All-append}
 use Rattle.serde_json.specs.Data.{Data}
-use Rattle.schema_reports.specs.Instance.{Text, Place, Subject}
+use Rattle.schema_reports.specs.Instance.{Text, Place}
 use Rattle.schema_reports.specs.Reports.{Outcome, accepted}
 use Rattle.schema_reports.specs.Parts.{Parts}
 use Rattle.schema_reports.specs.Matching.{Completion, matching}
-use Rattle.schema_reports.specs.Making.{Request}
 use Rattle.schema_reports.specs.Keywords.{Below, here}
 use Rattle.schema_reports.specs.Plan.{Key, Edge, Part, Form, keyword, reference, Plan, always, never, these, plan, child, requested, reference_edge}
 use Rattle.schema_reports.specs.Meaning.{Where, at, place_below, stamped, false_outcome, keyword_outcome, reference_outcome}
 use Rattle.schema_reports.specs.Paths.{part_edges}
-use Rattle.schema_reports.specs.Guarded.{NodeEdge, Children, node_child, NodeForm, node_keyword, node_reference, NodePart, NodePlan, node_always, node_never, node_these, Nodes, progress_below, across, guarded_within, node_at, node_asked, node_part, node_parts, node_outcome}
+use Rattle.schema_reports.specs.Guarded.{NodeEdge, node_child, NodeForm, node_keyword, node_reference, NodePart, NodePlan, node_always, node_never, node_these, Nodes, progress_below, across, guarded_within, node_at, node_asked, node_part, node_parts, node_outcome}
 use Rattle.schema_reports.specs.Numbered.{Numbers, IsNumber, SameEdge, SameForm, SamePart, SameParts, SamePlan, StandsFor, AreNumbered, subject_in}
 use Rattle.schema_reports.specs.ErrorsLead.{EachKeepsAbsorbing, MakesAbsorbing, keyword_location, Passes, begins, passes, NodeErrorsLead}
 use Rattle.schema_reports.proofs.Questions.{later}
@@ -46,16 +45,16 @@ module _ {S K R : Type 0} (w : Parts S K R) (absorbs : K → List Text) (laws : 
           let answered = node_asked w.keywords w.matcher nodes (subject_in instance) accepted es go in
           subst (λ (word : K). Lead locations (keyword_outcome w.keywords (node_at w.keywords w.matcher nodes (subject_in instance) i path p) y.name word (subject_in instance p) (matching w.matcher c) answered)) (sym s.0)
           (subst (λ (x' : Where). Lead locations (keyword_outcome w.keywords x' y.name m' (subject_in instance p) (matching w.matcher c) answered)) (sym at_same)
-              (keyword_leads w root instance path k locations way p there ys is_plan y in_ys m' requests absorbed is (keeps w absorbs laws makers root instance k ys is_plan y in_ys m' requests absorbed is)
-                  (matching w.matcher c) answered
-                  (λ q may at_q. edge_leads (node_child es q.child) (child w k y.name requests q.child) q.below (s.1 q.child) at_q
-                      (λ edge e. subst (λ form. Contains (part_edges w k y.name form) edge) (sym is) (picked (requested w k y.name) requests q.child edge e)))))
+          (keyword_leads w root instance path k locations way p there ys is_plan y in_ys m' requests absorbed is (keeps w absorbs laws makers root instance k ys is_plan y in_ys m' requests absorbed is)
+          (matching w.matcher c) answered
+          (λ q may at_q. edge_leads (node_child es q.child) (child w k y.name requests q.child) q.below (s.1 q.child) at_q
+          (λ edge e. subst (λ form. Contains (part_edges w k y.name form) edge) (sym is) (picked (requested w k y.name) requests q.child edge e)))))
       form_leads (node_reference e) (reference kind text) is s =
           subst (λ (x' : Where). Lead locations (reference_outcome x' y.name (go e here))) (sym at_same)
           (All-map (Leading w root instance locations) (stamped (keyword_location w k y.name)) (go e here).errors
-              (each_passed w root instance path k locations way p there ys is_plan y in_ys (go e here).errors
-                  (edge_leads (Some e) (reference_edge w k y.name kind text) here s there
-                      (λ edge e'. subst (λ form. Contains (part_edges w k y.name form) edge) (sym is) (in_option_list (reference_edge w k y.name kind text) edge e')))))
+          (each_passed w root instance path k locations way p there ys is_plan y in_ys (go e here).errors
+          (edge_leads (Some e) (reference_edge w k y.name kind text) here s there
+          (λ edge e'. subst (λ form. Contains (part_edges w k y.name form) edge) (sym is) (in_option_list (reference_edge w k y.name kind text) edge e')))))
       form_leads (node_keyword m es) (reference kind text) is s = absurd s
       form_leads (node_reference e) (keyword m' requests absorbed) is s = absurd s
 
@@ -101,12 +100,12 @@ module _ {S K R : Type 0} (w : Parts S K R) (absorbs : K → List Text) (laws : 
       outcome_leads c i k (numbered.stands i k number) path locations way p there
       (across accepted (node_outcome w.keywords w.matcher nodes (subject_in instance) c) say path p busy)
       (λ x edge e b number' same_path way' at_b.
-          let above : List (Option Text) = keyword_location w k x.name ∷ locations in
-          let way'' : Passes w root (path ++ e.path) edge.key above = subst (λ (t : Text). Passes w root (path ++ t) edge.key above) (sym same_path) way' in
-          let again : (busy' : List ℕ) → Lead above (say e.node (path ++ e.path) (place_below p b) busy') = guarded_leads numbered c n e.node edge.key number' (path ++ e.path) above way'' (place_below p b) at_b in
-          by_guard e.guarded (list_any (λ j. j == e.node) (progress_below busy b)) above
-          (say e.node (path ++ e.path) (place_below p b) (progress_below busy b)) (say e.node (path ++ e.path) (place_below p b) (e.node ∷ progress_below busy b))
-          (again (progress_below busy b)) (again (e.node ∷ progress_below busy b)))
+      let above : List (Option Text) = keyword_location w k x.name ∷ locations in
+      let way'' : Passes w root (path ++ e.path) edge.key above = subst (λ (t : Text). Passes w root (path ++ t) edge.key above) (sym same_path) way' in
+      let again : (busy' : List ℕ) → Lead above (say e.node (path ++ e.path) (place_below p b) busy') = guarded_leads numbered c n e.node edge.key number' (path ++ e.path) above way'' (place_below p b) at_b in
+      by_guard e.guarded (list_any (λ j. j == e.node) (progress_below busy b)) above
+      (say e.node (path ++ e.path) (place_below p b) (progress_below busy b)) (say e.node (path ++ e.path) (place_below p b) (e.node ∷ progress_below busy b))
+      (again (progress_below busy b)) (again (e.node ∷ progress_below busy b)))
 
 pub node_errors_lead : {S K R : Type 0} (w : Parts S K R) (absorbs : K → List Text) (keys : Numbers S) (nodes : Nodes K) → NodeErrorsLead w absorbs keys nodes
 node_errors_lead w absorbs keys nodes laws makers numbered instance c n i root number =
