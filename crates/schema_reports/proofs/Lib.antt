@@ -38,3 +38,4 @@ mod PlanForms
 pub mod WholeNumbers
 pub mod ErrorsLead
 pub mod NodeErrorsLead
+pub mod ListedLead

@@ -1,7 +1,7 @@
 -- An error points at a keyword and at a value. Its evaluation path leads from the root to a target and goes on to one of
 -- the target's keywords; its schema path is the target's location, going on alike; its place lies inside the instance;
 -- and its absolute location is that of the innermost keyword on the way that has one. (Core 2020-12, 12.3)
-use Rattle.std.specs.Prelude.{All, Bool, Contains, List, None, Option, Some, [], is_some, true, ℕ, ◌++◌, ◌∷◌, ◌≡◌}
+use Rattle.std.specs.Prelude.{All, Bool, Contains, List, None, Option, Some, [], is_some, true, ℕ, ◌++◌, ◌∷◌, ◌≡◌, ◌⊎◌}
 use Rattle.serde_json.specs.Data.{Data, Members}
 use Rattle.schema_reports.specs.Instance.{Place, Text, subject_at}
 use Rattle.schema_reports.specs.Pointer.{joined, pointer_to}
@@ -15,6 +15,8 @@ use Rattle.schema_reports.specs.Plan.{Edge, Key, Part, Plan, absolute_of, always
 use Rattle.schema_reports.specs.Meaning.{unfold_}
 use Rattle.schema_reports.specs.Paths.{Leads, names, part_edges}
 use Rattle.schema_reports.specs.Laws.{KeepsLaws}
+use Rattle.schema_reports.specs.Cover.{Decides, Sense, iter_errors, validate}
+use Rattle.schema_reports.specs.Headline.{Either, ErrorsSay, FirstSays, IsFailure, OneFailure}
 use Rattle.schema_reports.specs.Guarded.{Nodes, guarded_within, node_outcome}
 use Rattle.schema_reports.specs.Numbered.{AreNumbered, IsNumber, Numbers, subject_in}
 
@@ -85,3 +87,19 @@ abbrev pub NodeErrorsLead : {S K R : Type 0} → Parts S K R → (K → List Tex
 NodeErrorsLead {S} w absorbs keys nodes = EachKeepsAbsorbing w.keywords absorbs → MakesAbsorbing absorbs w.table → AreNumbered w keys nodes
     → (instance : Data) (c : Completion) (n i : ℕ) (root : Key S) → IsNumber keys i root
     → All (PointsAt w root instance) (guarded_within accepted (node_outcome w.keywords w.matcher nodes (subject_in instance) c) n i [] [] []).errors
+
+-- ---- what the calls give
+
+module _ {S K R : Type 0} (w : Parts S K R) (root : Key S) (instance : Data) where
+  -- each error of a sense points at keyword and value, under every completion
+  abbrev pub EachLeads : Sense → Type 0
+  EachLeads v = (c : Completion) → All (PointsAt w root instance) (v.says c).errors
+
+  -- then so does each error that is listed, or the list is the one failure
+  abbrev pub ListedLead : Type 0
+  ListedLead = (v : Sense) → EachLeads v → (errors : List Error) → ErrorsSay v errors
+      → Either (Decides v iter_errors) (All (PointsAt w root instance) errors ⊎ OneFailure v iter_errors errors) (OneFailure v iter_errors errors)
+
+  -- and so does a first error, or it is the failure
+  abbrev pub FirstLeads : Type 0
+  FirstLeads = (v : Sense) → EachLeads v → (e : Error) → FirstSays v (Some e) → Either (Decides v validate) (PointsAt w root instance e ⊎ IsFailure v validate e) (IsFailure v validate e)
