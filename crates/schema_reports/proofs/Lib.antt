@@ -36,3 +36,6 @@ mod OneKeyword
 pub mod SensesMeant
 mod PlanForms
 pub mod WholeNumbers
+pub mod ErrorsLead
+pub mod NodeErrorsLead
+pub mod ListedLead

@@ -23,7 +23,7 @@ use Rattle.schema_reports.proofs.Depths.{ByMeasure, measure_on, measure_less, me
 use Rattle.schema_reports.proofs.Inside.{subschemas_inside}
 use Rattle.schema_reports.proofs.Local.{same_outcome, each_asked}
 
-in_option_list : {A : Type 0} (o : Option A) (x : A) → o ≡ Some x → Contains (option_list o) x
+pub in_option_list : {A : Type 0} (o : Option A) (x : A) → o ≡ Some x → Contains (option_list o) x
 in_option_list o x e = subst (λ u. Contains (option_list u) x) (sym e) (zero, omega arith, refl)
 
 module _ {S K R : Type 0} (w : Parts S K R) (instance : Data) (keys : Numbers S) (nodes : Nodes K) where

@@ -31,3 +31,4 @@ pub mod Means
 pub mod Fractions
 pub mod Members
 pub mod Promises
+pub mod ErrorsLead

@@ -3,3 +3,4 @@
 
 pub mod covers;
 pub mod numbers;
+pub mod paths;
