@@ -75,5 +75,3 @@ abbrev pub same_place : Place → Place → Bool
 same_place [] [] = true
 same_place (s ∷ p) (t ∷ q) = same_step s t && same_place p q
 same_place _ _ = false
-
--- ---- pointers (RFC 6901): `~` is written `~0`, and `/` is written `~1`
