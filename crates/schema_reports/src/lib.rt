@@ -2,5 +2,12 @@
 #![tactic(auto)]
 
 pub mod covers;
+pub mod instance;
+pub mod keywords;
+pub mod location;
 pub mod numbers;
 pub mod paths;
+pub mod reports;
+pub mod rows;
+#[cfg(test)]
+mod tests;

@@ -1,0 +1,60 @@
+-- The escapes of a text, character by character.
+use Rattle.std.proofs.Common.{◌≡◌, ℕ, suc, ◌<◌, ◌≤◌, ◌+◌, cond, eqb, List, [], ◌∷◌, ◌++◌, length, get_or, drop, inl, inr, refl, sym, ap, ap₂, ◌∙◌, arith, append_assoc, append-nil}
+use Rattle.std.proofs.lemmas.Bool.{cases_lt}
+use Rattle.std.proofs.lemmas.Bool.Decides.{nat_tests}
+use Rattle.std.proofs.lemmas.Str.{inside_one, encode_ascii, chars-encodes}
+use Rattle.std.specs.Str.{chars, IsUtf8}
+use Rattle.std.proofs.lemmas.List.{at_drop_more, at_drop_all}
+use lib.Utf8.{encode, encodes}
+use Rattle.schema_reports.specs.Pointer.{escaped}
+
+pub escaped-append : (xs ys : List ℕ) → escaped (xs ++ ys) ≡ escaped xs ++ escaped ys
+escaped-append [] ys = refl
+escaped-append (x ∷ xs) ys =
+    let b = escaped (x ∷ []) in
+    ap (λ r. (cond (eqb x 126) (126 ∷ 48 ∷ []) (cond (eqb x 47) (126 ∷ 49 ∷ []) (x ∷ []))) ++ r) (escaped-append xs ys) ∙ sym (append_assoc (cond (eqb x 126) (126 ∷ 48 ∷ []) (cond (eqb x 47) (126 ∷ 49 ∷ []) (x ∷ []))) _ _)
+
+plain_byte : (x : ℕ) → 128 ≤ x → cond (eqb x 126) (126 ∷ 48 ∷ []) (cond (eqb x 47) (126 ∷ 49 ∷ []) (x ∷ [])) ≡ x ∷ []
+plain_byte x h = grind (arith, nat_tests)
+
+escaped_high : (xs : List ℕ) → ((k : ℕ) → k < length xs → 128 ≤ get_or xs k 0) → escaped xs ≡ xs
+escaped_high [] h = refl
+escaped_high (x ∷ xs) h =
+    let high : 128 ≤ x = h 0 (omega arith) in
+    ap₂ (λ (a b : List ℕ). a ++ b) (plain_byte x high) (escaped_high xs (λ k below. h (suc k) (omega arith)))
+
+-- a character from 128 on has no byte below 128
+escaped_wide : (c : ℕ) → 128 ≤ c → escaped (encode c) ≡ encode c
+escaped_wide c big =
+    let high : (k : ℕ) → k < length (encode c) → 128 ≤ get_or (encode c) k 0 = λ k below. elim (cases_lt (get_or (encode c) k 0) 128) [
+      | inl low ↦ absurd (omega (arith, inside_one c [] (encode c) k (sym (append-nil _)) below low))
+      | inr h ↦ h
+    ] in
+    escaped_high (encode c) high
+
+pub escaped_tilde : escaped (encode 126) ≡ 126 ∷ 48 ∷ []
+escaped_tilde = ap escaped (encode_ascii 126 (omega arith))
+
+pub escaped_slash : escaped (encode 47) ≡ 126 ∷ 49 ∷ []
+escaped_slash = ap escaped (encode_ascii 47 (omega arith))
+
+plain_small : (x : ℕ) → (x ≡ 126 → ⊥) → (x ≡ 47 → ⊥) → cond (eqb x 126) (126 ∷ 48 ∷ []) (cond (eqb x 47) (126 ∷ 49 ∷ []) (x ∷ [])) ++ [] ≡ x ∷ []
+plain_small x h k = grind (arith, nat_tests)
+
+pub escaped_other : (c : ℕ) → (c ≡ 126 → ⊥) → (c ≡ 47 → ⊥) → escaped (encode c) ≡ encode c
+escaped_other c h k = elim (cases_lt c 128) [
+  | inl small ↦ ap escaped (encode_ascii c small) ∙ plain_small c h k ∙ sym (encode_ascii c small)
+  | inr big ↦ escaped_wide c big
+]
+
+-- the escapes of the characters that are left, at one more
+pub escaped_left : (cs : List ℕ) (n c : ℕ) → (n < length cs) × (c ≡ get_or cs n c) → escaped (encodes (drop n cs)) ≡ escaped (encode c) ++ escaped (encodes (drop (n + 1) cs))
+escaped_left cs n c h =
+    at_drop_more (λ xs. escaped (encodes xs)) cs n c h.0 ∙ ap (λ x. escaped (encode x ++ encodes (drop (n + 1) cs))) (sym h.1) ∙ escaped-append (encode c) (encodes (drop (n + 1) cs))
+
+pub escaped_end : (cs : List ℕ) (n : ℕ) → length cs ≤ n → escaped (encodes (drop n cs)) ≡ []
+escaped_end cs n h = at_drop_all (λ xs. escaped (encodes xs)) cs n h
+
+-- the characters of a text spell it
+pub spelled : (bs : List ℕ) → IsUtf8 bs → encodes (chars bs) ≡ bs
+spelled bs u = ap (λ x. encodes (chars x)) (sym u.1.1) ∙ ap encodes (chars-encodes u.0 u.1.0) ∙ u.1.1

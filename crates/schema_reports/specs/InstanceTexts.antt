@@ -1,0 +1,8 @@
+-- Whether the text of an instance is spoken of: a float's text is not.
+use Rattle.std.specs.Prelude.{Bool, false}
+use Rattle.serde_json.specs.Written.{has_float}
+use Rattle.schema_reports.specs.Instance.{Subject, a_name, a_value}
+
+abbrev pub subject_has_float : Subject → Bool
+subject_has_float (a_value d) = has_float d
+subject_has_float (a_name name) = false

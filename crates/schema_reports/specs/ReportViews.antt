@@ -1,0 +1,44 @@
+-- The code's errors, as the definitions have them. Where texts are not spoken of, each counts as empty.
+use Rattle.std.specs.Prelude.{◌≡◌, [], Bool, Option, Some, String, string_bytes, option_map, if◌then◌else◌}
+use Rattle.serde_json.specs.Data.{Data}
+use Rattle.schema_reports.specs.Instance.{Place, Text, subject_at}
+use Rattle.schema_reports.specs.Meaning.{Where}
+use Rattle.schema_reports.specs.Reports.{Error}
+use Rattle.schema_reports.specs.InstanceViews.{subject_of}
+use Rattle.std.specs.declared.alloc.Global.{Global}
+use Rattle.serde_json.specs.View.{view}
+use Rattle.schema_reports.specs.Reports as spec
+use Rattle.schema_reports.specs.declared.reports.ValidationError.{ValidationError}
+use Rattle.schema_reports.specs.declared.reports.OwnedError.{OwnedError}
+
+abbrev pub spoken : Bool → Text → Text
+spoken texts t = if texts then t else []
+
+abbrev pub error_of : Bool → ValidationError → Error
+error_of texts e = record {
+  place = e.place;
+  schema_path = e.schema_path;
+  evaluation_path = e.evaluation_path;
+  absolute = option_map string_bytes e.absolute_keyword_location;
+  name = string_bytes e.keyword;
+  text = spoken texts (string_bytes e.text);
+}
+
+-- where a schema is at work, with the absolute location of its own location alone
+abbrev pub where_of : Place → Text → Text → Option (String Global) → Where
+where_of place location path absolute = record { place = place; path = path; location = location; absolute = λ _. option_map string_bytes absolute }
+
+-- the instance that it borrows is what stands at its place
+abbrev pub BorrowsItsPlace : Data → ValidationError → Type 0
+BorrowsItsPlace d e = subject_at d e.place ≡ Some (subject_of e.instance)
+
+abbrev pub owned_error_of : OwnedError → spec.OwnedError
+owned_error_of e = record {
+  instance = view e.instance;
+  instance_path = e.instance_path;
+  schema_path = e.schema_path;
+  evaluation_path = e.evaluation_path;
+  absolute = option_map string_bytes e.absolute_keyword_location;
+  name = string_bytes e.keyword;
+  text = string_bytes e.text;
+}

@@ -1,0 +1,224 @@
+//! Instances and their places.
+ghost use Rattle.std.specs.Prelude.{◌≡◌, ℕ, List, [], ◌∷◌, ◌++◌, IfOk, option_map, Option, Some, None, map, IfSome, false, string_bytes};
+ghost use Rattle.schema_reports.specs.Instance.{same_place, same_step, after_step, to_member, to_item, to_name};
+ghost use Rattle.schema_reports.specs.Pointer.{pointer_to, step_text};
+ghost use Rattle.schema_reports.specs.InstanceTexts.{subject_has_float};
+ghost use Rattle.schema_reports.specs.Meaning.{subject_text};
+ghost use Rattle.schema_reports.specs.Owned.{value_of};
+ghost use Rattle.json.specs.Print.{quoted};
+ghost use Rattle.serde_json.specs.Find.{get};
+ghost use Rattle.serde_json.specs.View.{view};
+ghost use Rattle.schema_reports.specs.InstanceViews.{subject_of, step_of};
+
+use crate::location::{Location, LocationSegment, OutOfMemory};
+use serde_json::Value;
+use std::alloc::Global;
+use std::marker::Model;
+
+/// What is validated: a value, or the name of a member, which counts as a text.
+#[derive(Clone, Copy)]
+pub enum Instance<'i> {
+    Value(&'i Value),
+    Name(&'i str),
+}
+
+/// From a place to one below it. Names are borrowed from the instance.
+#[derive(Clone, Copy)]
+pub enum InstanceStep<'i> {
+    Member(&'i str),
+    Item(usize),
+    NameOf(&'i str),
+}
+
+// The name and the value of a member, both as the object holds them.
+fn named_member<'i>(value: &'i Value, name: &str) -> Option<(&'i str, &'i Value)>
+    ensures value { option_map (λ r. view r.1.now) result ≡ get name.now (view value.now) }
+    ensures name { IfSome result (λ r. r.0.now ≡ name.now) }
+{
+    match value.as_object() {
+        Some(map) => match map.get_key_value(name) {
+            Some((key, inner)) => Some((key.as_str(), inner)),
+            None => None,
+        },
+        None => None,
+    }
+}
+
+impl<'i> Instance<'i> {
+    /// The member with this name, where the instance is an object that has it, and the step there, by the object's own copy of the name.
+    pub fn member(self, name: &str) -> Option<(Instance<'i>, InstanceStep<'i>)>
+        ensures member { option_map (λ r. subject_of r.0) result ≡ after_step (to_member name.now) (subject_of self.entry) }
+        ensures step { IfSome result (λ r. step_of r.1 ≡ to_member name.now) }
+    {
+        match self {
+            Instance::Value(value) => match named_member(value, name) {
+                Some((key, inner)) => Some((Instance::Value(inner), InstanceStep::Member(key))),
+                None => None,
+            },
+            Instance::Name(_) => None,
+        }
+    }
+
+    /// The item at this index, where the instance is an array that has it, and the step there.
+    pub fn item(self, index: usize) -> Option<(Instance<'i>, InstanceStep<'i>)>
+        ensures item { option_map (λ r. subject_of r.0) result ≡ after_step (to_item index) (subject_of self.entry) }
+        ensures step { IfSome result (λ r. step_of r.1 ≡ to_item index) }
+    {
+        match self {
+            Instance::Value(value) => match value.get(index) {
+                Some(inner) => Some((Instance::Value(inner), InstanceStep::Item(index))),
+                None => None,
+            },
+            Instance::Name(_) => None,
+        }
+    }
+
+    /// The name of a member, where the instance is an object that has it, and the step there, by the object's own copy of the name.
+    pub fn name_of(self, name: &str) -> Option<(Instance<'i>, InstanceStep<'i>)>
+        ensures name { option_map (λ r. subject_of r.0) result ≡ after_step (to_name name.now) (subject_of self.entry) }
+        ensures step { IfSome result (λ r. step_of r.1 ≡ to_name name.now) }
+    {
+        match self {
+            Instance::Value(value) => match named_member(value, name) {
+                Some((key, _)) => Some((Instance::Name(key), InstanceStep::NameOf(key))),
+                None => None,
+            },
+            Instance::Name(_) => None,
+        }
+    }
+
+    /// The compact text, as JSON; a name is quoted. No digits are promised where a number is a float.
+    pub fn text(self, alloc: Global) -> Result<String, OutOfMemory>
+        ensures text { IfOk result (λ s. subject_has_float (subject_of self.entry) ≡ false → string_bytes s ≡ subject_text (subject_of self.entry)) }
+    {
+        match self {
+            Instance::Value(value) => value.to_string(alloc),
+            Instance::Name(name) => quoted_text(alloc, name),
+        }
+    }
+
+    /// The instance as a value of its own; a name is a text.
+    pub fn to_value(self, alloc: Global) -> Result<Value, OutOfMemory>
+        ensures value { IfOk result (λ v. view v ≡ value_of (subject_of self.entry)) }
+    {
+        match self {
+            Instance::Value(value) => value.clone(),
+            Instance::Name(name) => Ok(Value::String(String::from_str(alloc, name)?)),
+        }
+    }
+}
+
+// The text of a name.
+fn quoted_text(alloc: Global, name: &str) -> Result<String, OutOfMemory>
+    ensures text { IfOk result (λ s. string_bytes s ≡ quoted name.now) }
+{
+    let value = Value::String(String::from_str(alloc, name)?);
+    value.to_string(alloc)
+}
+
+/// A place of an instance: the steps from the root down.
+#[derive(Drop)]
+pub struct Place<'i> {
+    steps: Vec<InstanceStep<'i>>,
+}
+
+impl<'i> Model for Place<'i> {
+    ghost use Rattle.std.specs.Prelude.{List, map};
+    ghost use Rattle.schema_reports.specs.Instance.{Step};
+    ghost use Rattle.schema_reports.specs.InstanceTexts.{subject_has_float};
+    ghost use Rattle.schema_reports.specs.Meaning.{subject_text};
+    ghost use Rattle.schema_reports.specs.Owned.{value_of};
+    ghost use Rattle.json.specs.Print.{quoted};
+    ghost use Rattle.serde_json.specs.Find.{get};
+    ghost use Rattle.serde_json.specs.View.{view};
+    ghost use Rattle.schema_reports.specs.InstanceViews.{step_of};
+
+    ghost Value = { List Step };
+
+    ghost view = { λ p. map step_of p.steps.items };
+}
+
+/// Whether two steps are the same.
+pub fn same_step(a: InstanceStep<'_>, b: InstanceStep<'_>) -> bool
+    ensures same { result ≡ same_step (step_of a.entry) (step_of b.entry) }
+{
+    match (a, b) {
+        (InstanceStep::Member(x), InstanceStep::Member(y)) => x == y,
+        (InstanceStep::Item(x), InstanceStep::Item(y)) => x == y,
+        (InstanceStep::NameOf(x), InstanceStep::NameOf(y)) => x == y,
+        _ => false,
+    }
+}
+
+// Whether both are the same steps in the same order.
+fn same_steps(a: &[InstanceStep<'_>], b: &[InstanceStep<'_>]) -> bool
+    ensures same { result ≡ same_place (map step_of a.now) (map step_of b.now) }
+{
+    if a.len() != b.len() {
+        return false;
+    }
+    for (i, step) in a.iter().enumerate() {
+        if !same_step(*step, b[i]) {
+            return false;
+        }
+    }
+    true
+}
+
+// The pointer after one step more.
+fn join_step(location: Location, step: InstanceStep<'_>) -> Result<Location, OutOfMemory>
+    ensures joined { IfOk result (λ l. l ≡ location ++ step_text (step_of step.entry)) }
+{
+    match step {
+        InstanceStep::Member(name) => location.join(LocationSegment::Property(name)),
+        InstanceStep::Item(index) => location.join(LocationSegment::Index(index)),
+        InstanceStep::NameOf(_) => Ok(location),
+    }
+}
+
+impl<'i> Place<'i> {
+    /// The root.
+    pub fn root(alloc: Global) -> Place<'i>
+        ensures root { result ≡ [] }
+    {
+        Place {
+            steps: Vec::new(alloc),
+        }
+    }
+
+    /// Whether both are one place.
+    pub fn same(&self, other: &Place<'_>) -> bool
+        ensures same { result ≡ same_place self.now other.now }
+    {
+        same_steps(self.steps.as_slice(), other.steps.as_slice())
+    }
+
+    /// The same place in memory of its own.
+    pub fn copy(&self) -> Result<Place<'i>, OutOfMemory>
+        ensures same { IfOk result (λ p. p ≡ self.now) }
+    {
+        Ok(Place {
+            steps: self.steps.clone()?,
+        })
+    }
+
+    /// The place one step below.
+    pub fn below(&self, step: InstanceStep<'i>) -> Result<Place<'i>, OutOfMemory>
+        ensures below { IfOk result (λ p. p ≡ self.now ++ step_of step.entry ∷ []) }
+    {
+        let mut place = self.copy()?;
+        place.steps.push(step)?;
+        Ok(place)
+    }
+
+    /// The pointer of the place; a name's place is shown by its object's pointer.
+    pub fn pointer(&self, alloc: Global) -> Result<Location, OutOfMemory>
+        ensures pointer { IfOk result (λ l. l ≡ pointer_to self.now) }
+    {
+        let mut location = Location::new(alloc);
+        for step in self.steps.iter() {
+            location = join_step(location, *step)?;
+        }
+        Ok(location)
+    }
+}

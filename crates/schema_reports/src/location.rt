@@ -1,0 +1,120 @@
+//! Pointer texts (RFC 6901).
+ghost use Rattle.std.specs.Prelude.{◌≡◌, ℕ, List, [], ◌∷◌, ◌++◌, IfOk, string_bytes, decimal};
+ghost use Rattle.std.specs.Char.{encode_utf8};
+ghost use Rattle.schema_reports.specs.Pointer.{escaped};
+ghost use Rattle.schema_reports.specs.LocationViews.{segment_text, segment_of};
+
+use std::alloc::{AllocError, Global};
+use std::marker::Model;
+
+/// Memory could not be had; it is answered only where a growth was refused.
+pub type OutOfMemory = AllocError;
+
+/// One segment of a pointer: the name of a member, or the index of an item.
+#[derive(Clone, Copy)]
+pub enum LocationSegment<'a> {
+    Property(&'a str),
+    Index(usize),
+}
+
+/// The text of a JSON Pointer. Contracts see its bytes.
+#[derive(Drop)]
+pub struct Location {
+    text: String,
+}
+
+impl Model for Location {
+    ghost use Rattle.std.specs.Prelude.{List, ℕ, string_bytes};
+
+    ghost Value = { List ℕ };
+
+    ghost view = { λ l. string_bytes l.text };
+}
+
+// One character, escaped.
+fn push_escaped_char(text: &mut String, c: char) -> Result<(), OutOfMemory>
+    ensures escaped { IfOk result (λ _. string_bytes text.new ≡ string_bytes text.old ++ escaped (encode_utf8 c)) }
+{
+    if c == '~' {
+        text.push_str("~0")
+    } else if c == '/' {
+        text.push_str("~1")
+    } else {
+        text.push(c)
+    }
+}
+
+// A name, with `~` as `~0` and `/` as `~1`.
+fn push_escaped(text: &mut String, name: &str) -> Result<(), OutOfMemory>
+    ensures escaped { IfOk result (λ _. string_bytes text.new ≡ string_bytes text.old ++ escaped name.now) }
+{
+    for c in name.chars() {
+        push_escaped_char(text, c)?;
+    }
+    Ok(())
+}
+
+// An index in decimal.
+fn push_decimal(text: &mut String, index: usize) -> Result<(), OutOfMemory>
+    ensures decimal { IfOk result (λ _. string_bytes text.new ≡ string_bytes text.old ++ decimal index) }
+{
+    write!(text, "{index}")
+}
+
+impl Location {
+    /// The pointer of the root, which is empty.
+    pub fn new(alloc: Global) -> Location
+        ensures empty { result ≡ [] }
+    {
+        Location {
+            text: String::new(alloc),
+        }
+    }
+
+    /// The pointer with this text, taken as it is.
+    pub fn from_escaped(alloc: Global, text: &str) -> Result<Location, OutOfMemory>
+        ensures same { IfOk result (λ l. l ≡ text.now) }
+    {
+        Ok(Location {
+            text: String::from_str(alloc, text)?,
+        })
+    }
+
+    /// The text.
+    pub fn as_str(&self) -> &str
+        ensures text { result.now ≡ self.now }
+    {
+        self.text.as_str()
+    }
+
+    /// The pointer with one segment more: `/` and the name with `~` as `~0` and `/` as `~1`, or `/` and the index in decimal.
+    pub fn join(&self, segment: LocationSegment<'_>) -> Result<Location, OutOfMemory>
+        ensures joined { IfOk result (λ l. l ≡ self.now ++ segment_text (segment_of segment.entry)) }
+    {
+        let mut text = self.text.clone()?;
+        text.push('/')?;
+        match segment {
+            LocationSegment::Property(name) => push_escaped(&mut text, name)?,
+            LocationSegment::Index(index) => push_decimal(&mut text, index)?,
+        }
+        Ok(Location { text })
+    }
+
+    /// The pointer followed by another.
+    pub fn append(&self, rest: &Location) -> Result<Location, OutOfMemory>
+        ensures appended { IfOk result (λ l. l ≡ self.now ++ rest.now) }
+    {
+        let mut text = self.text.clone()?;
+        text.push_str(rest.text.as_str())?;
+        Ok(Location { text })
+    }
+
+    /// The same pointer in memory of its own.
+    pub fn copy(&self) -> Result<Location, OutOfMemory>
+        ensures same { IfOk result (λ l. l ≡ self.now) }
+    {
+        Ok(Location {
+            text: self.text.clone()?,
+        })
+    }
+}

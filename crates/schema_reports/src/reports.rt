@@ -1,0 +1,183 @@
+//! Errors: where the instance and the schema disagree.
+ghost use Rattle.std.specs.Prelude.{◌≡◌, List, Bool, true, false, IfOk, option_map, Some, map, drop, string_bytes};
+ghost use Rattle.std.specs.Iterator.{YieldsFirst, item_count};
+ghost use Rattle.schema_reports.specs.Pointer.{pointer_to};
+ghost use Rattle.schema_reports.specs.Meaning.{false_error};
+ghost use Rattle.schema_reports.specs.Owned.{owned, prefixed};
+ghost use Rattle.schema_reports.specs.InstanceTexts.{subject_has_float};
+ghost use Rattle.schema_reports.specs.InstanceViews.{subject_of};
+ghost use Rattle.schema_reports.specs.ReportViews.{error_of, owned_error_of, where_of};
+
+use crate::instance::{Instance, Place};
+use crate::location::{Location, OutOfMemory};
+use std::alloc::Global;
+use std::fmt;
+use std::marker::Model;
+use std::vec::IntoIter;
+
+/// An error. The instance is borrowed, and stands at the place.
+#[derive(Drop)]
+pub struct ValidationError<'i> {
+    pub instance: Instance<'i>,
+    pub place: Place<'i>,
+    pub schema_path: Location,
+    pub evaluation_path: Location,
+    pub absolute_keyword_location: Option<String>,
+    pub keyword: String,
+    pub text: String,
+}
+
+/// An error that holds its instance, apart from any run.
+#[derive(Drop)]
+pub struct OwnedError {
+    pub instance: serde_json::Value,
+    pub instance_path: Location,
+    pub schema_path: Location,
+    pub evaluation_path: Location,
+    pub absolute_keyword_location: Option<String>,
+    pub keyword: String,
+    pub text: String,
+}
+
+impl fmt::Display for ValidationError<'_> {
+    ghost output = { λ e. Some (string_bytes e.text) };
+
+    fn fmt<W: fmt::Write>(&self, f: &mut fmt::Formatter<W>) -> fmt::Result {
+        write!(f, "{}", self.text)
+    }
+}
+
+impl fmt::Display for OwnedError {
+    ghost output = { λ e. Some (string_bytes e.text) };
+
+    fn fmt<W: fmt::Write>(&self, f: &mut fmt::Formatter<W>) -> fmt::Result {
+        write!(f, "{}", self.text)
+    }
+}
+
+// The same text, where there is one, in memory of its own.
+fn copy_text(text: &Option<String>) -> Result<Option<String>, OutOfMemory>
+    ensures same { IfOk result (λ t. option_map string_bytes t ≡ option_map string_bytes text.now) }
+{
+    match text {
+        Some(text) => Ok(Some(text.clone()?)),
+        None => Ok(None),
+    }
+}
+
+impl<'i> ValidationError<'i> {
+    /// The error of the schema `false`, which refuses each instance. Its text shows the instance, with no digits promised for a float.
+    pub fn false_schema(
+        alloc: Global,
+        instance: Instance<'i>,
+        place: Place<'i>,
+        schema_path: Location,
+        evaluation_path: Location,
+        absolute: Option<String>,
+    ) -> Result<ValidationError<'i>, OutOfMemory>
+        ensures error { IfOk result
+            (λ e. (texts : Bool) → (texts ≡ true → subject_has_float (subject_of instance.entry) ≡ false)
+            → error_of texts e ≡ false_error texts (where_of place.entry schema_path evaluation_path absolute) (subject_of instance.entry)) }
+        ensures borrows { IfOk result (λ e. e.instance ≡ instance.entry) }
+    {
+        let mut text = String::from_str(alloc, "False schema does not allow ")?;
+        text.push_str(instance.text(alloc)?.as_str())?;
+        let keyword = String::from_str(alloc, "falseSchema")?;
+        Ok(ValidationError {
+            instance,
+            place,
+            schema_path,
+            evaluation_path,
+            absolute_keyword_location: absolute,
+            keyword,
+            text,
+        })
+    }
+
+    /// The pointer of the instance's place.
+    pub fn instance_path(&self, alloc: Global) -> Result<Location, OutOfMemory>
+        ensures pointer { IfOk result (λ l. l ≡ pointer_to self.now.place) }
+    {
+        self.place.pointer(alloc)
+    }
+
+    /// The name that the keyword gave: `falseSchema` for a false schema.
+    pub fn keyword(&self) -> &str
+        ensures name { result.now ≡ string_bytes self.now.keyword }
+    {
+        self.keyword.as_str()
+    }
+
+    /// The error with an instance of its own: a name is a text.
+    pub fn to_owned(&self, alloc: Global) -> Result<OwnedError, OutOfMemory>
+        ensures owned { IfOk result (λ o. owned_error_of o ≡ owned (subject_of self.now.instance) (error_of true self.now)) }
+    {
+        Ok(OwnedError {
+            instance: self.instance.to_value(alloc)?,
+            instance_path: self.place.pointer(alloc)?,
+            schema_path: self.schema_path.copy()?,
+            evaluation_path: self.evaluation_path.copy()?,
+            absolute_keyword_location: copy_text(&self.absolute_keyword_location)?,
+            keyword: self.keyword.clone()?,
+            text: self.text.clone()?,
+        })
+    }
+}
+
+impl OwnedError {
+    /// The error as seen from above: the location stands before the instance path, and nothing else changes.
+    pub fn with_instance_path_prefix(self, location: &Location) -> Result<OwnedError, OutOfMemory>
+        ensures prefixed { IfOk result (λ o. owned_error_of o ≡ prefixed location.now (owned_error_of self)) }
+    {
+        let instance_path = location.append(&self.instance_path)?;
+        Ok(OwnedError {
+            instance_path,
+            ..self
+        })
+    }
+}
+
+/// Errors in order, which end. Contracts see those that are left.
+#[derive(Drop)]
+pub struct ErrorIterator<'i> {
+    errors: IntoIter<ValidationError<'i>>,
+}
+
+impl<'i> Model for ErrorIterator<'i> {
+    ghost use Rattle.std.specs.Prelude.{◌≡◌, List, length};
+    ghost use Rattle.std.specs.Vec.Iter.{into_iter_items, into_iter_len};
+    ghost use Rattle.schema_reports.specs.declared.reports.ValidationError.{ValidationError};
+    ghost use Rattle.std.specs.Coded.{codes};
+    ghost use Rattle.serde_json.specs.contracts.value.Value as e;
+
+    ghost Value = { List ValidationError };
+
+    ghost coded = { Prim.hlevel (codes, e.the_row.coded) };
+
+    ghost view = { λ e. into_iter_items e.errors };
+
+    ghost invariant = { λ e. into_iter_len e.errors ≡ length (into_iter_items e.errors) };
+}
+
+impl<'i> ErrorIterator<'i> {
+    /// These errors, in their order.
+    pub fn new(errors: Vec<ValidationError<'i>>) -> ErrorIterator<'i>
+        ensures errors { result ≡ errors.entry.items }
+    {
+        ErrorIterator {
+            errors: errors.into_iter(),
+        }
+    }
+}
+
+impl<'i> Iterator for ErrorIterator<'i> {
+    type Item = ValidationError<'i>;
+
+    ghost next_gives = { YieldsFirst (λ s. s) };
+
+    ghost remaining = { item_count (λ s. s) };
+
+    fn next(&mut self) -> Option<ValidationError<'i>> {
+        self.errors.next()
+    }
+}
