@@ -1,0 +1,155 @@
+ghost use Rattle.std.specs.Prelude.{◌≡◌, Some, option_map};
+ghost use Rattle.schema_reports.specs.KeywordTable.{content, entry_of, is_before_2019_09, is_in_force, plain_form, support_of};
+ghost use Rattle.schema_reports.specs.KeywordViews.{builtin_text, draft_of, entry_seen, form_of, support_seen, vocabulary_of};
+
+use crate::keywords::builtin::BuiltinKeyword;
+use crate::keywords::drafts::Draft;
+use crate::keywords::entries::{BuiltinEntry, KeywordForm, Support};
+use crate::keywords::vocabularies::{Vocabulary, VocabularySet};
+
+/// The standard's keyword of a name and its form, where the draft has the keyword and the vocabulary that it needs is
+/// in force.
+pub fn get_for_draft(draft: Draft, vocabularies: &VocabularySet, name: &str) -> Option<BuiltinEntry>
+    ensures entry { option_map entry_seen result ≡ entry_of (draft_of draft) vocabularies.now name.now }
+{
+    let keyword = BuiltinKeyword::named(name)?;
+    let support = support(keyword, draft)?;
+    let is_met = match &support.need {
+        None => true,
+        Some(vocabulary) => has_vocabulary(draft, vocabularies, vocabulary),
+    };
+    if is_met {
+        Some(BuiltinEntry {
+            keyword,
+            form: support.form,
+        })
+    } else {
+        None
+    }
+}
+
+/// Whether a vocabulary is in force: always before 2019-09, always where it is the core, and else where it is in the
+/// set.
+pub fn has_vocabulary(draft: Draft, vocabularies: &VocabularySet, vocabulary: &Vocabulary) -> bool
+    ensures in_force { result ≡ is_in_force (draft_of draft) vocabularies.now (vocabulary_of vocabulary.now) }
+{
+    has_no_vocabularies(draft)
+        || matches!(vocabulary, Vocabulary::Core)
+        || vocabularies.contains(vocabulary)
+}
+
+fn has_no_vocabularies(draft: Draft) -> bool
+    ensures before { result ≡ is_before_2019_09 (draft_of draft) }
+{
+    match draft {
+        Draft::Draft4 | Draft::Draft6 | Draft::Draft7 => true,
+        Draft::Draft201909 | Draft::Draft202012 | Draft::Unknown => false,
+    }
+}
+
+fn always(form: KeywordForm) -> Option<Support>
+    ensures free { option_map support_seen result ≡ Some (record { need = None; form = form_of form }) }
+{
+    Some(Support { need: None, form })
+}
+
+fn by(vocabulary: Vocabulary) -> Option<Support>
+    ensures needs { option_map support_seen result ≡ Some (record { need = Some (vocabulary_of vocabulary); form = plain_form }) }
+{
+    Some(Support {
+        need: Some(vocabulary),
+        form: KeywordForm::Plain,
+    })
+}
+
+fn by_content() -> Option<Support>
+    ensures content { option_map support_seen result ≡ content }
+{
+    Some(Support {
+        need: Some(Vocabulary::Content),
+        form: KeywordForm::Annotating,
+    })
+}
+
+fn support(keyword: BuiltinKeyword, draft: Draft) -> Option<Support>
+    ensures support { option_map support_seen result ≡ support_of (draft_of draft) (builtin_text keyword) }
+{
+    match keyword {
+        BuiltinKeyword::TypeKeyword | BuiltinKeyword::Minimum | BuiltinKeyword::Maximum => {
+            match draft {
+                Draft::Draft4 => always(KeywordForm::Draft4),
+                _ => by(Vocabulary::Validation),
+            }
+        }
+        BuiltinKeyword::Const
+        | BuiltinKeyword::ExclusiveMinimum
+        | BuiltinKeyword::ExclusiveMaximum => match draft {
+            Draft::Draft4 => None,
+            _ => by(Vocabulary::Validation),
+        },
+        BuiltinKeyword::Enum
+        | BuiltinKeyword::MultipleOf
+        | BuiltinKeyword::MinLength
+        | BuiltinKeyword::MaxLength
+        | BuiltinKeyword::MinItems
+        | BuiltinKeyword::MaxItems
+        | BuiltinKeyword::MinProperties
+        | BuiltinKeyword::MaxProperties
+        | BuiltinKeyword::Required
+        | BuiltinKeyword::Pattern
+        | BuiltinKeyword::UniqueItems => by(Vocabulary::Validation),
+        BuiltinKeyword::DependentRequired => match draft {
+            Draft::Draft4 | Draft::Draft6 | Draft::Draft7 => None,
+            _ => by(Vocabulary::Validation),
+        },
+        BuiltinKeyword::Format | BuiltinKeyword::Ref => always(KeywordForm::Plain),
+        BuiltinKeyword::ContentEncoding | BuiltinKeyword::ContentMediaType => match draft {
+            Draft::Draft4 => None,
+            Draft::Draft6 | Draft::Draft7 => always(KeywordForm::Plain),
+            _ => by_content(),
+        },
+        BuiltinKeyword::ContentSchema => match draft {
+            Draft::Draft4 | Draft::Draft6 | Draft::Draft7 => None,
+            _ => by_content(),
+        },
+        BuiltinKeyword::Properties
+        | BuiltinKeyword::PatternProperties
+        | BuiltinKeyword::AdditionalProperties
+        | BuiltinKeyword::Items
+        | BuiltinKeyword::AdditionalItems
+        | BuiltinKeyword::Dependencies
+        | BuiltinKeyword::AllOf
+        | BuiltinKeyword::AnyOf
+        | BuiltinKeyword::OneOf
+        | BuiltinKeyword::Not => by(Vocabulary::Applicator),
+        BuiltinKeyword::PropertyNames | BuiltinKeyword::Contains => match draft {
+            Draft::Draft4 => None,
+            _ => by(Vocabulary::Applicator),
+        },
+        BuiltinKeyword::PrefixItems => match draft {
+            Draft::Draft202012 | Draft::Unknown => by(Vocabulary::Applicator),
+            _ => None,
+        },
+        BuiltinKeyword::DependentSchemas => match draft {
+            Draft::Draft4 | Draft::Draft6 | Draft::Draft7 => None,
+            _ => by(Vocabulary::Applicator),
+        },
+        BuiltinKeyword::If => match draft {
+            Draft::Draft4 | Draft::Draft6 => None,
+            _ => by(Vocabulary::Applicator),
+        },
+        BuiltinKeyword::UnevaluatedProperties | BuiltinKeyword::UnevaluatedItems => match draft {
+            Draft::Draft4 | Draft::Draft6 | Draft::Draft7 => None,
+            Draft::Draft201909 => by(Vocabulary::Applicator),
+            Draft::Draft202012 | Draft::Unknown => by(Vocabulary::Unevaluated),
+        },
+        BuiltinKeyword::RecursiveRef => match draft {
+            Draft::Draft201909 => always(KeywordForm::Plain),
+            _ => None,
+        },
+        BuiltinKeyword::DynamicRef => match draft {
+            Draft::Draft202012 | Draft::Unknown => always(KeywordForm::Plain),
+            _ => None,
+        },
+    }
+}

@@ -1,0 +1,85 @@
+ghost use Rattle.std.specs.Prelude.{◌≡◌};
+ghost use Rattle.schema_reports.specs.KeywordTable.{HasFortyTwoRows, LeavesAreCheap, RowsAreInOrder, builtin_name, leaf_of, priority_of};
+ghost use Rattle.schema_reports.specs.KeywordViews.{builtin_text, keyword_seen};
+
+use crate::keywords::builtin::BuiltinKeyword;
+use crate::keywords::keyword::Keyword;
+
+/// How late a keyword is asked: cheap assertions come first, then what applies subschemas, then references, and the
+/// user's keywords last.
+pub fn keyword_priority(keyword: &Keyword) -> u8
+    ensures priority { priority_of (keyword_seen keyword.now) ≡ Some result }
+{
+    match keyword {
+        Keyword::Builtin(keyword) => builtin_priority(*keyword),
+        Keyword::Custom(_) => 80,
+    }
+}
+
+/// Whether a keyword speaks of the instance itself and applies no subschema.
+pub fn keyword_is_leaf(keyword: &Keyword) -> bool
+    ensures leaf { leaf_of (keyword_seen keyword.now) ≡ Some result }
+{
+    match keyword {
+        Keyword::Builtin(BuiltinKeyword::ContentSchema) | Keyword::Custom(_) => false,
+        Keyword::Builtin(keyword) => builtin_priority(*keyword) < 40,
+    }
+}
+
+fn builtin_priority(keyword: BuiltinKeyword) -> u8
+    ensures priority { priority_of (builtin_name (builtin_text keyword)) ≡ Some result }
+{
+    match keyword {
+        BuiltinKeyword::TypeKeyword => 1,
+        BuiltinKeyword::Const => 5,
+        BuiltinKeyword::Enum => 6,
+        BuiltinKeyword::Minimum => 10,
+        BuiltinKeyword::Maximum => 11,
+        BuiltinKeyword::ExclusiveMinimum => 12,
+        BuiltinKeyword::ExclusiveMaximum => 13,
+        BuiltinKeyword::MultipleOf => 14,
+        BuiltinKeyword::MinLength => 20,
+        BuiltinKeyword::MaxLength => 21,
+        BuiltinKeyword::MinItems => 22,
+        BuiltinKeyword::MaxItems => 23,
+        BuiltinKeyword::MinProperties => 24,
+        BuiltinKeyword::MaxProperties => 25,
+        BuiltinKeyword::Required => 26,
+        BuiltinKeyword::DependentRequired => 27,
+        BuiltinKeyword::Pattern => 30,
+        BuiltinKeyword::Format => 31,
+        BuiltinKeyword::ContentEncoding => 32,
+        BuiltinKeyword::ContentMediaType => 33,
+        BuiltinKeyword::ContentSchema => 34,
+        BuiltinKeyword::UniqueItems => 35,
+        BuiltinKeyword::Properties => 40,
+        BuiltinKeyword::PatternProperties => 41,
+        BuiltinKeyword::AdditionalProperties => 42,
+        BuiltinKeyword::PropertyNames => 43,
+        BuiltinKeyword::Items => 44,
+        BuiltinKeyword::PrefixItems => 45,
+        BuiltinKeyword::AdditionalItems => 46,
+        BuiltinKeyword::Contains => 47,
+        BuiltinKeyword::Dependencies => 48,
+        BuiltinKeyword::DependentSchemas => 49,
+        BuiltinKeyword::AllOf => 50,
+        BuiltinKeyword::AnyOf => 51,
+        BuiltinKeyword::OneOf => 52,
+        BuiltinKeyword::Not => 53,
+        BuiltinKeyword::If => 54,
+        BuiltinKeyword::UnevaluatedProperties => 60,
+        BuiltinKeyword::UnevaluatedItems => 61,
+        BuiltinKeyword::Ref => 70,
+        BuiltinKeyword::RecursiveRef => 71,
+        BuiltinKeyword::DynamicRef => 72,
+    }
+}
+
+/// What holds of the table: it has 42 rows of names and priorities of their own, in the order of the priorities, and
+/// its leaves are the keywords of priority below 40 other than `contentSchema`. The function does nothing when it
+/// runs.
+pub fn keyword_table_facts()
+    ensures rows { HasFortyTwoRows }
+    ensures order { RowsAreInOrder }
+    ensures leaves { LeavesAreCheap }
+{}

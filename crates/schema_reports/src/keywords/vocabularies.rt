@@ -1,0 +1,174 @@
+ghost use Rattle.std.specs.Prelude.{◌≡◌, bytes_eq, map, string_bytes};
+ghost use Rattle.std.specs.List.{list_any};
+
+use std::alloc::{AllocError, Global};
+use std::marker::Model;
+
+/// A set of keywords that a meta-schema asks for: one of the standard's, or another one by its URI.
+#[derive(Clone, Debug, PartialEq, Eq, PartialOrd, Ord, Hash, Drop)]
+pub enum Vocabulary {
+    Core,
+    Applicator,
+    Unevaluated,
+    Validation,
+    Metadata,
+    Format,
+    FormatAnnotation,
+    FormatAssertion,
+    Content,
+    Custom(String),
+}
+
+/// A set of vocabularies: which of the standard's are in it, and the others by their URIs, each once, in the order in
+/// which they came.
+///
+/// Contracts see it as the list of them, the standard's first.
+#[derive(Debug, Drop)]
+pub struct VocabularySet {
+    core: bool,
+    applicator: bool,
+    unevaluated: bool,
+    validation: bool,
+    metadata: bool,
+    format: bool,
+    format_annotation: bool,
+    format_assertion: bool,
+    content: bool,
+    custom: Vec<String>,
+}
+
+impl Model for VocabularySet {
+    ghost use Rattle.std.specs.Prelude.{List, [], ◌∷◌, map, string_bytes};
+    ghost use Rattle.schema_reports.specs.Drafts.{Vocabulary};
+    ghost use Rattle.schema_reports.specs.VocabularySets.{listed};
+
+    ghost Value = { List Vocabulary };
+
+    ghost view = { λ s. listed (s.core ∷ s.applicator ∷ s.unevaluated ∷ s.validation ∷ s.metadata ∷ s.format ∷ s.format_annotation ∷ s.format_assertion ∷ s.content ∷ []) (map string_bytes s.custom.items) };
+}
+
+impl VocabularySet {
+    ghost use Rattle.std.specs.Prelude.{◌≡◌, [], map, IfOk, OnErr, OnOk, string_bytes};
+    ghost use Rattle.schema_reports.specs.Drafts.{has_vocabulary};
+    ghost use Rattle.schema_reports.specs.KeywordViews.{vocabulary_of};
+    ghost use Rattle.schema_reports.specs.VocabularySets.{AddsOnly, custom_of, with_uri};
+
+    /// The empty set. It takes no memory.
+    pub fn new(alloc: Global) -> VocabularySet
+        ensures empty { result ≡ [] }
+    {
+        VocabularySet {
+            core: false,
+            applicator: false,
+            unevaluated: false,
+            validation: false,
+            metadata: false,
+            format: false,
+            format_annotation: false,
+            format_assertion: false,
+            content: false,
+            custom: Vec::new(alloc),
+        }
+    }
+
+    /// Whether the vocabulary is in the set. It takes no memory.
+    pub fn contains(&self, vocabulary: &Vocabulary) -> bool
+        ensures member { result ≡ has_vocabulary self.now (vocabulary_of vocabulary.now) }
+    {
+        match vocabulary {
+            Vocabulary::Core => self.core,
+            Vocabulary::Applicator => self.applicator,
+            Vocabulary::Unevaluated => self.unevaluated,
+            Vocabulary::Validation => self.validation,
+            Vocabulary::Metadata => self.metadata,
+            Vocabulary::Format => self.format,
+            Vocabulary::FormatAnnotation => self.format_annotation,
+            Vocabulary::FormatAssertion => self.format_assertion,
+            Vocabulary::Content => self.content,
+            Vocabulary::Custom(uri) => contains_text(&self.custom, uri),
+        }
+    }
+
+    /// Puts a vocabulary into the set; one that is in it already changes nothing.
+    ///
+    /// # Errors
+    ///
+    /// Want of memory, which leaves the set as it was.
+    pub fn add(&mut self, vocabulary: Vocabulary) -> Result<(), AllocError>
+        ensures member { OnOk result (AddsOnly self.old self.new (vocabulary_of vocabulary)) }
+        ensures custom { OnOk result (custom_of self.new ≡ with_uri (vocabulary_of vocabulary) (custom_of self.old)) }
+        ensures kept { OnErr result (self.new ≡ self.old) }
+    {
+        match vocabulary {
+            Vocabulary::Core => self.core = true,
+            Vocabulary::Applicator => self.applicator = true,
+            Vocabulary::Unevaluated => self.unevaluated = true,
+            Vocabulary::Validation => self.validation = true,
+            Vocabulary::Metadata => self.metadata = true,
+            Vocabulary::Format => self.format = true,
+            Vocabulary::FormatAnnotation => self.format_annotation = true,
+            Vocabulary::FormatAssertion => self.format_assertion = true,
+            Vocabulary::Content => self.content = true,
+            Vocabulary::Custom(uri) => {
+                if !contains_text(&self.custom, &uri) {
+                    self.custom.push(uri)?;
+                }
+            }
+        }
+        Ok(())
+    }
+
+    /// The set with one more vocabulary.
+    ///
+    /// # Errors
+    ///
+    /// Want of memory.
+    pub fn with(self, vocabulary: Vocabulary) -> Result<VocabularySet, AllocError>
+        ensures member { IfOk result (λ set. AddsOnly self set (vocabulary_of vocabulary)) }
+        ensures custom { IfOk result (λ set. custom_of set ≡ with_uri (vocabulary_of vocabulary) (custom_of self)) }
+    {
+        let mut set = self;
+        set.add(vocabulary)?;
+        Ok(set)
+    }
+
+    /// A set of the same vocabularies.
+    ///
+    /// # Errors
+    ///
+    /// Want of memory.
+    pub fn duplicate(&self) -> Result<VocabularySet, AllocError>
+        ensures same { IfOk result (λ set. set ≡ self.now) }
+    {
+        Ok(VocabularySet {
+            core: self.core,
+            applicator: self.applicator,
+            unevaluated: self.unevaluated,
+            validation: self.validation,
+            metadata: self.metadata,
+            format: self.format,
+            format_annotation: self.format_annotation,
+            format_assertion: self.format_assertion,
+            content: self.content,
+            custom: self.custom.clone()?,
+        })
+    }
+
+    /// The URIs of the vocabularies that are not the standard's, in the order in which they came.
+    pub fn custom(&self) -> &[String]
+        ensures custom { map string_bytes result.now ≡ custom_of self.now }
+    {
+        &self.custom
+    }
+}
+
+fn contains_text(texts: &[String], text: &String) -> bool
+    ensures found { result ≡ list_any (bytes_eq (string_bytes text.now)) (map string_bytes texts.now) }
+{
+    for other in texts {
+        if text.as_str() == other.as_str() {
+            return true;
+        }
+    }
+    false
+}
