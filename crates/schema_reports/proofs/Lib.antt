@@ -39,3 +39,14 @@ pub mod WholeNumbers
 pub mod ErrorsLead
 pub mod NodeErrorsLead
 pub mod ListedLead
+pub mod WorkedRows
+pub mod RowsNumbered
+pub mod KeywordNames
+pub mod VocabularyLists
+pub mod AnyLeft
+pub mod ClonedTexts
+pub mod Places
+pub mod Escaped
+pub mod Found
+pub mod Heights
+pub mod FloatFree

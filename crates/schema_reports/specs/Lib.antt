@@ -32,3 +32,13 @@ pub mod Fractions
 pub mod Members
 pub mod Promises
 pub mod ErrorsLead
+pub mod VocabularySets
+pub mod KeywordTable
+pub mod KeywordViews
+pub mod RowsBench
+pub mod Rows
+pub mod LocationViews
+pub mod InstanceViews
+pub mod ReportViews
+pub mod InstanceTexts
+pub mod Owned
