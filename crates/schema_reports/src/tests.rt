@@ -97,22 +97,27 @@ fn errors(rt: HostRuntime) -> Result<(), OutOfMemory> {
     let alloc = rt.alloc();
     let value = json!(in alloc; {"a": [1, null]})?;
     let error = refusal(alloc, &value)?;
+    let text = error.to_string(alloc)?;
+    let path = error.instance_path(alloc)?;
     assert_eq!(rt;
-        error.to_string(alloc)?.as_str(),
+        text.as_str(),
         "False schema does not allow {\"a\":[1,null]}"
     );
     assert_eq!(rt; error.keyword(), "falseSchema");
-    assert_eq!(rt; error.instance_path(alloc)?.as_str(), "/a");
-    let owned = error.to_owned(alloc)?;
-    assert_eq!(rt; owned.schema_path.as_str(), "/properties/a");
+    assert_eq!(rt; path.as_str(), "/a");
+    Ok(())
+}
+
+#[test]
+fn owned_errors(rt: HostRuntime) -> Result<(), OutOfMemory> {
+    let alloc = rt.alloc();
+    let value = json!(in alloc; [])?;
     let outer = Location::from_escaped(alloc, "/outer")?;
+    let owned = refusal(alloc, &value)?.to_owned(alloc)?;
     let owned = owned.with_instance_path_prefix(&outer)?;
+    let text = owned.to_string(alloc)?;
     assert_eq!(rt; owned.instance_path.as_str(), "/outer/a");
-    assert_eq!(rt; owned.keyword.as_str(), "falseSchema");
-    assert_eq!(rt;
-        owned.to_string(alloc)?.as_str(),
-        "False schema does not allow {\"a\":[1,null]}"
-    );
+    assert_eq!(rt; text.as_str(), "False schema does not allow []");
     Ok(())
 }
 
