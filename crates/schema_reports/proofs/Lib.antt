@@ -43,6 +43,7 @@ pub mod WorkedRows
 pub mod RowsNumbered
 pub mod KeywordNames
 pub mod VocabularyLists
+pub mod SameVocabularies
 pub mod AnyLeft
 pub mod ClonedTexts
 pub mod Places
