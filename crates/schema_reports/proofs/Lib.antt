@@ -42,7 +42,9 @@ pub mod ListedLead
 pub mod WorkedRows
 pub mod RowsNumbered
 pub mod KeywordNames
+pub mod KeywordRows
 pub mod VocabularyLists
+pub mod SameVocabularies
 pub mod AnyLeft
 pub mod ClonedTexts
 pub mod Places

@@ -6,7 +6,7 @@ use Rattle.std.proofs.lemmas.Slice.Eq.{bytes_eq-Decides}
 use Rattle.serde_json.specs.Data.{Data}
 use Rattle.schema_reports.specs.Instance.{Text, Place, Step, to_member, to_item, to_name, same_step, same_place, Subject}
 use Rattle.schema_reports.specs.Reports.{accepted, Unit_}
-use Rattle.schema_reports.specs.Drafts.{Draft, draft_4, draft_6, draft_7, draft_2019_09, draft_2020_12, draft_unknown, SchemaPlace, Vocabulary, Vocabularies, core_vocabulary, applicator_vocabulary, unevaluated_vocabulary, validation_vocabulary, metadata_vocabulary, format_vocabulary, format_annotation_vocabulary, format_assertion_vocabulary, content_vocabulary, custom_vocabulary, same_vocabulary, same_vocabularies, same_draft}
+use Rattle.schema_reports.specs.Drafts.{Draft, draft_4, draft_6, draft_7, draft_2019_09, draft_2020_12, draft_unknown, SchemaPlace, same_draft}
 use Rattle.schema_reports.specs.Keywords.{Marked, a_child, a_pending, Below, Mode}
 use Rattle.schema_reports.specs.Matching.{Completion, Assumptions, matching, completion_of}
 use Rattle.schema_reports.specs.Parts.{Parts}
@@ -28,6 +28,7 @@ use Rattle.schema_reports.proofs.AtPlaces.{at_places}
 use Rattle.schema_reports.proofs.Reaching.{at_keys}
 use Rattle.schema_reports.proofs.Inside.{subschemas_inside}
 use Rattle.schema_reports.proofs.Products.{both_left, both_right}
+use Rattle.schema_reports.proofs.SameVocabularies.{vocabularies_is}
 use Rattle.schema_reports.proofs.Simulates.{BothAsk, one_key, same_text, same_number, both_true, place_itself, target_itself, says_unfolding}
 use Rattle.schema_reports.proofs.SameOutcome.{FormsAsk, at_same, keyword_asked, reference_asked, whole_asks, part_same, outcomes_same}
 
@@ -49,27 +50,6 @@ place_is [] [] e = refl
 place_is (s ∷ p) (t ∷ q) e = ap₂ (λ x xs. x ∷ xs) (step_is s t (both_left _ _ e)) (place_is p q (both_right _ _ e))
 place_is [] (t ∷ q) e = absurd (true≢false (sym e))
 place_is (s ∷ p) [] e = absurd (true≢false (sym e))
-
-abbrev VocabularyIs : Vocabulary → Vocabulary → Type 0
-VocabularyIs a b = same_vocabulary a b ≡ true → a ≡ b
-
-vocabulary_is : (a b : Vocabulary) → VocabularyIs a b
-vocabulary_is core_vocabulary b = elim b as (λ b. VocabularyIs core_vocabulary b) [ core_vocabulary ↦ λ e. refl | applicator_vocabulary ↦ λ e. absurd (true≢false (sym e)) | unevaluated_vocabulary ↦ λ e. absurd (true≢false (sym e)) | validation_vocabulary ↦ λ e. absurd (true≢false (sym e)) | metadata_vocabulary ↦ λ e. absurd (true≢false (sym e)) | format_vocabulary ↦ λ e. absurd (true≢false (sym e)) | format_annotation_vocabulary ↦ λ e. absurd (true≢false (sym e)) | format_assertion_vocabulary ↦ λ e. absurd (true≢false (sym e)) | content_vocabulary ↦ λ e. absurd (true≢false (sym e)) | custom_vocabulary u ↦ λ e. absurd (true≢false (sym e)) ]
-vocabulary_is applicator_vocabulary b = elim b as (λ b. VocabularyIs applicator_vocabulary b) [ core_vocabulary ↦ λ e. absurd (true≢false (sym e)) | applicator_vocabulary ↦ λ e. refl | unevaluated_vocabulary ↦ λ e. absurd (true≢false (sym e)) | validation_vocabulary ↦ λ e. absurd (true≢false (sym e)) | metadata_vocabulary ↦ λ e. absurd (true≢false (sym e)) | format_vocabulary ↦ λ e. absurd (true≢false (sym e)) | format_annotation_vocabulary ↦ λ e. absurd (true≢false (sym e)) | format_assertion_vocabulary ↦ λ e. absurd (true≢false (sym e)) | content_vocabulary ↦ λ e. absurd (true≢false (sym e)) | custom_vocabulary u ↦ λ e. absurd (true≢false (sym e)) ]
-vocabulary_is unevaluated_vocabulary b = elim b as (λ b. VocabularyIs unevaluated_vocabulary b) [ core_vocabulary ↦ λ e. absurd (true≢false (sym e)) | applicator_vocabulary ↦ λ e. absurd (true≢false (sym e)) | unevaluated_vocabulary ↦ λ e. refl | validation_vocabulary ↦ λ e. absurd (true≢false (sym e)) | metadata_vocabulary ↦ λ e. absurd (true≢false (sym e)) | format_vocabulary ↦ λ e. absurd (true≢false (sym e)) | format_annotation_vocabulary ↦ λ e. absurd (true≢false (sym e)) | format_assertion_vocabulary ↦ λ e. absurd (true≢false (sym e)) | content_vocabulary ↦ λ e. absurd (true≢false (sym e)) | custom_vocabulary u ↦ λ e. absurd (true≢false (sym e)) ]
-vocabulary_is validation_vocabulary b = elim b as (λ b. VocabularyIs validation_vocabulary b) [ core_vocabulary ↦ λ e. absurd (true≢false (sym e)) | applicator_vocabulary ↦ λ e. absurd (true≢false (sym e)) | unevaluated_vocabulary ↦ λ e. absurd (true≢false (sym e)) | validation_vocabulary ↦ λ e. refl | metadata_vocabulary ↦ λ e. absurd (true≢false (sym e)) | format_vocabulary ↦ λ e. absurd (true≢false (sym e)) | format_annotation_vocabulary ↦ λ e. absurd (true≢false (sym e)) | format_assertion_vocabulary ↦ λ e. absurd (true≢false (sym e)) | content_vocabulary ↦ λ e. absurd (true≢false (sym e)) | custom_vocabulary u ↦ λ e. absurd (true≢false (sym e)) ]
-vocabulary_is metadata_vocabulary b = elim b as (λ b. VocabularyIs metadata_vocabulary b) [ core_vocabulary ↦ λ e. absurd (true≢false (sym e)) | applicator_vocabulary ↦ λ e. absurd (true≢false (sym e)) | unevaluated_vocabulary ↦ λ e. absurd (true≢false (sym e)) | validation_vocabulary ↦ λ e. absurd (true≢false (sym e)) | metadata_vocabulary ↦ λ e. refl | format_vocabulary ↦ λ e. absurd (true≢false (sym e)) | format_annotation_vocabulary ↦ λ e. absurd (true≢false (sym e)) | format_assertion_vocabulary ↦ λ e. absurd (true≢false (sym e)) | content_vocabulary ↦ λ e. absurd (true≢false (sym e)) | custom_vocabulary u ↦ λ e. absurd (true≢false (sym e)) ]
-vocabulary_is format_vocabulary b = elim b as (λ b. VocabularyIs format_vocabulary b) [ core_vocabulary ↦ λ e. absurd (true≢false (sym e)) | applicator_vocabulary ↦ λ e. absurd (true≢false (sym e)) | unevaluated_vocabulary ↦ λ e. absurd (true≢false (sym e)) | validation_vocabulary ↦ λ e. absurd (true≢false (sym e)) | metadata_vocabulary ↦ λ e. absurd (true≢false (sym e)) | format_vocabulary ↦ λ e. refl | format_annotation_vocabulary ↦ λ e. absurd (true≢false (sym e)) | format_assertion_vocabulary ↦ λ e. absurd (true≢false (sym e)) | content_vocabulary ↦ λ e. absurd (true≢false (sym e)) | custom_vocabulary u ↦ λ e. absurd (true≢false (sym e)) ]
-vocabulary_is format_annotation_vocabulary b = elim b as (λ b. VocabularyIs format_annotation_vocabulary b) [ core_vocabulary ↦ λ e. absurd (true≢false (sym e)) | applicator_vocabulary ↦ λ e. absurd (true≢false (sym e)) | unevaluated_vocabulary ↦ λ e. absurd (true≢false (sym e)) | validation_vocabulary ↦ λ e. absurd (true≢false (sym e)) | metadata_vocabulary ↦ λ e. absurd (true≢false (sym e)) | format_vocabulary ↦ λ e. absurd (true≢false (sym e)) | format_annotation_vocabulary ↦ λ e. refl | format_assertion_vocabulary ↦ λ e. absurd (true≢false (sym e)) | content_vocabulary ↦ λ e. absurd (true≢false (sym e)) | custom_vocabulary u ↦ λ e. absurd (true≢false (sym e)) ]
-vocabulary_is format_assertion_vocabulary b = elim b as (λ b. VocabularyIs format_assertion_vocabulary b) [ core_vocabulary ↦ λ e. absurd (true≢false (sym e)) | applicator_vocabulary ↦ λ e. absurd (true≢false (sym e)) | unevaluated_vocabulary ↦ λ e. absurd (true≢false (sym e)) | validation_vocabulary ↦ λ e. absurd (true≢false (sym e)) | metadata_vocabulary ↦ λ e. absurd (true≢false (sym e)) | format_vocabulary ↦ λ e. absurd (true≢false (sym e)) | format_annotation_vocabulary ↦ λ e. absurd (true≢false (sym e)) | format_assertion_vocabulary ↦ λ e. refl | content_vocabulary ↦ λ e. absurd (true≢false (sym e)) | custom_vocabulary u ↦ λ e. absurd (true≢false (sym e)) ]
-vocabulary_is content_vocabulary b = elim b as (λ b. VocabularyIs content_vocabulary b) [ core_vocabulary ↦ λ e. absurd (true≢false (sym e)) | applicator_vocabulary ↦ λ e. absurd (true≢false (sym e)) | unevaluated_vocabulary ↦ λ e. absurd (true≢false (sym e)) | validation_vocabulary ↦ λ e. absurd (true≢false (sym e)) | metadata_vocabulary ↦ λ e. absurd (true≢false (sym e)) | format_vocabulary ↦ λ e. absurd (true≢false (sym e)) | format_annotation_vocabulary ↦ λ e. absurd (true≢false (sym e)) | format_assertion_vocabulary ↦ λ e. absurd (true≢false (sym e)) | content_vocabulary ↦ λ e. refl | custom_vocabulary u ↦ λ e. absurd (true≢false (sym e)) ]
-vocabulary_is (custom_vocabulary t) b = elim b as (λ b. VocabularyIs (custom_vocabulary t) b) [ core_vocabulary ↦ λ e. absurd (true≢false (sym e)) | applicator_vocabulary ↦ λ e. absurd (true≢false (sym e)) | unevaluated_vocabulary ↦ λ e. absurd (true≢false (sym e)) | validation_vocabulary ↦ λ e. absurd (true≢false (sym e)) | metadata_vocabulary ↦ λ e. absurd (true≢false (sym e)) | format_vocabulary ↦ λ e. absurd (true≢false (sym e)) | format_annotation_vocabulary ↦ λ e. absurd (true≢false (sym e)) | format_assertion_vocabulary ↦ λ e. absurd (true≢false (sym e)) | content_vocabulary ↦ λ e. absurd (true≢false (sym e)) | custom_vocabulary u ↦ λ e. ap custom_vocabulary ((bytes_eq-Decides t u).0 e) ]
-
-vocabularies_is : (ts us : Vocabularies) → same_vocabularies ts us ≡ true → ts ≡ us
-vocabularies_is [] [] e = refl
-vocabularies_is (t ∷ ts) (u ∷ us) e = ap₂ (λ x xs. x ∷ xs) (vocabulary_is t u (both_left _ _ e)) (vocabularies_is ts us (both_right _ _ e))
-vocabularies_is [] (u ∷ us) e = absurd (true≢false (sym e))
-vocabularies_is (t ∷ ts) [] e = absurd (true≢false (sym e))
 
 draft_number : Draft → ℕ
 draft_number draft_4 = 0

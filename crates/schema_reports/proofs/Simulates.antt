@@ -7,7 +7,7 @@ use Rattle.std.proofs.lemmas.Bool.{eqb-true}
 use Rattle.std.proofs.lemmas.Slice.Eq.{bytes_eq-Decides}
 use Rattle.serde_json.specs.Data.{Data}
 use Rattle.schema_reports.specs.Instance.{Text, Place, Step, to_member, to_item, to_name, same_step, same_place}
-use Rattle.schema_reports.specs.Drafts.{Draft, draft_4, draft_6, draft_7, draft_2019_09, draft_2020_12, draft_unknown, Vocabulary, Vocabularies, core_vocabulary, applicator_vocabulary, unevaluated_vocabulary, validation_vocabulary, metadata_vocabulary, format_vocabulary, format_annotation_vocabulary, format_assertion_vocabulary, content_vocabulary, custom_vocabulary, same_vocabulary, same_vocabularies, same_draft}
+use Rattle.schema_reports.specs.Drafts.{Draft, draft_4, draft_6, draft_7, draft_2019_09, draft_2020_12, draft_unknown, same_draft}
 use Rattle.schema_reports.specs.Parts.{Parts}
 use Rattle.schema_reports.specs.Keywords.{Below, here, down}
 use Rattle.schema_reports.specs.Plan.{Target, Key, Edge, height, same_target}
@@ -17,6 +17,7 @@ use Rattle.schema_reports.specs.Paths.{edges}
 use Rattle.schema_reports.specs.Guarded.{NodeEdge, Nodes, progress_below, across, guarded_within}
 use Rattle.schema_reports.specs.Numbered.{Numbers, IsNumber, Ranked, left, SubschemasInside}
 use Rattle.schema_reports.proofs.Questions.{Asks, asked_in, further, goes_by}
+use Rattle.schema_reports.proofs.SameVocabularies.{vocabularies_itself}
 use Rattle.schema_reports.proofs.Settles.{NodeAsks, free_falls, guarded_falls}
 
 -- ---- what is equal is the same
@@ -47,22 +48,6 @@ draft_itself draft_7 = refl
 draft_itself draft_2019_09 = refl
 draft_itself draft_2020_12 = refl
 draft_itself draft_unknown = refl
-
-vocabulary_itself : (v : Vocabulary) → same_vocabulary v v ≡ true
-vocabulary_itself core_vocabulary = refl
-vocabulary_itself applicator_vocabulary = refl
-vocabulary_itself unevaluated_vocabulary = refl
-vocabulary_itself validation_vocabulary = refl
-vocabulary_itself metadata_vocabulary = refl
-vocabulary_itself format_vocabulary = refl
-vocabulary_itself format_annotation_vocabulary = refl
-vocabulary_itself format_assertion_vocabulary = refl
-vocabulary_itself content_vocabulary = refl
-vocabulary_itself (custom_vocabulary t) = same_text t
-
-vocabularies_itself : (ts : Vocabularies) → same_vocabularies ts ts ≡ true
-vocabularies_itself [] = refl
-vocabularies_itself (t ∷ ts) = both_true _ _ (vocabulary_itself t) (vocabularies_itself ts)
 
 pub target_itself : {S K R : Type 0} (w : Parts S K R) → ((s : S) → w.resolver.same_state s s ≡ true) → (t : Target S) → same_target w t t ≡ true
 target_itself w state t = both_true _ _ (both_true _ _ (both_true _ _ (both_true _ _ (same_number t.place.document) (place_itself t.place.path)) (state t.state)) (draft_itself t.draft)) (vocabularies_itself t.vocabularies)

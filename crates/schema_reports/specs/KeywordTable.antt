@@ -4,6 +4,7 @@
 use Rattle.std.specs.List.{list_all}
 use Rattle.std.specs.Prelude.{Bool, List, None, Option, Some, [], bytes_eq, codes, false, find, if◌then◌else◌, length, nat_le, nat_lt, not, option_and_then, option_map, true, ℕ, ◌&&◌, ◌||◌, ◌∷◌, ◌≡◌}
 use Rattle.schema_reports.specs.Instance.{Text}
+use Rattle.schema_reports.specs.Making.{Builtin}
 use Rattle.schema_reports.specs.Drafts.{Draft, Vocabularies, Vocabulary, applicator_vocabulary, content_vocabulary, core_vocabulary, draft_2019_09, draft_2020_12, draft_4, draft_6, draft_7, draft_unknown, has_vocabulary, same_vocabulary, unevaluated_vocabulary, validation_vocabulary}
 
 -- a keyword as it stands; with the meaning that draft 4 gives it; or as an annotation, which asserts nothing
@@ -139,6 +140,16 @@ entry_by draft vocabularies name s = if is_met draft vocabularies s.need then So
 -- the keyword of a name and its form, where the draft has it and its need is met
 abbrev pub entry_of : Draft → Vocabularies → Text → Option Entry
 entry_of draft vocabularies name = option_and_then (entry_by draft vocabularies name) (support_of draft name)
+
+abbrev pub builtin_of : Row → Builtin
+builtin_of r = record { name = r.name; priority = r.priority; is_leaf = r.is_leaf }
+
+abbrev pub builtin_by : Entry → Option Builtin
+builtin_by e = option_map builtin_of (row_named e.name)
+
+-- what the table gives a member of this name: the name, priority and leaf of the row of its entry
+abbrev pub builtin_in : Draft → Vocabularies → Text → Option Builtin
+builtin_in draft vocabularies name = option_and_then builtin_by (entry_of draft vocabularies name)
 
 -- ---- keywords, built-in ones and those of the user, by their names
 

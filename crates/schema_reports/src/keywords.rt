@@ -11,9 +11,9 @@ pub mod vocabularies;
 
 pub use builtin::BuiltinKeyword;
 pub use drafts::Draft;
-pub use entries::{BuiltinEntry, KeywordForm};
+pub use entries::{BuiltinEntry, BuiltinRow, KeywordForm};
 pub use keyword::Keyword;
-pub use lookup::{get_for_draft, has_vocabulary};
+pub use lookup::{builtin_row, get_for_draft, has_vocabulary};
 pub use nullability::{NotNullable, Nullability, Nullable};
 pub use priorities::{keyword_is_leaf, keyword_priority};
 pub use vocabularies::{Vocabulary, VocabularySet};

@@ -17,6 +17,15 @@ pub struct BuiltinEntry {
     pub form: KeywordForm,
 }
 
+/// What the table says of a keyword of the standard that a draft has: its entry, how late it is asked, and whether it
+/// speaks of the instance itself and applies no subschema.
+#[derive(Clone, Copy, Debug, PartialEq, Eq, Hash)]
+pub struct BuiltinRow {
+    pub entry: BuiltinEntry,
+    pub priority: u8,
+    pub is_leaf: bool,
+}
+
 /// How a draft has a keyword: by which vocabulary, if by any, and in which form.
 #[derive(Debug, Drop)]
 pub struct Support {

@@ -1,10 +1,12 @@
 ghost use Rattle.std.specs.Prelude.{◌≡◌, Some, option_map};
-ghost use Rattle.schema_reports.specs.KeywordTable.{content, entry_of, is_before_2019_09, is_in_force, plain_form, support_of};
+ghost use Rattle.schema_reports.specs.KeywordTable.{builtin_in, content, entry_of, is_before_2019_09, is_in_force, plain_form, support_of};
 ghost use Rattle.schema_reports.specs.KeywordViews.{builtin_text, draft_of, entry_seen, form_of, support_seen, vocabulary_of};
 
 use crate::keywords::builtin::BuiltinKeyword;
 use crate::keywords::drafts::Draft;
-use crate::keywords::entries::{BuiltinEntry, KeywordForm, Support};
+use crate::keywords::entries::{BuiltinEntry, BuiltinRow, KeywordForm, Support};
+use crate::keywords::keyword::Keyword;
+use crate::keywords::priorities::{keyword_is_leaf, keyword_priority};
 use crate::keywords::vocabularies::{Vocabulary, VocabularySet};
 
 /// The standard's keyword of a name and its form, where the draft has the keyword and the vocabulary that it needs is
@@ -26,6 +28,21 @@ pub fn get_for_draft(draft: Draft, vocabularies: &VocabularySet, name: &str) -> 
     } else {
         None
     }
+}
+
+/// What the table gives a member of this name: the keyword's entry, its priority and whether it is a leaf, where
+/// [`get_for_draft`] has an entry. It takes no memory.
+pub fn builtin_row(draft: Draft, vocabularies: &VocabularySet, name: &str) -> Option<BuiltinRow>
+    ensures row { option_map (λ r. record { name = name.now; priority = r.priority; is_leaf = r.is_leaf }) result ≡ builtin_in (draft_of draft) vocabularies.now name.now }
+    ensures entry { option_map (λ r. entry_seen r.entry) result ≡ entry_of (draft_of draft) vocabularies.now name.now }
+{
+    let entry = get_for_draft(draft, vocabularies, name)?;
+    let keyword = Keyword::Builtin(entry.keyword);
+    Some(BuiltinRow {
+        entry,
+        priority: keyword_priority(&keyword),
+        is_leaf: keyword_is_leaf(&keyword),
+    })
 }
 
 /// Whether a vocabulary is in force: always before 2019-09, always where it is the core, and else where it is in the

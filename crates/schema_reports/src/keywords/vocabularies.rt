@@ -49,7 +49,7 @@ impl Model for VocabularySet {
 
 impl VocabularySet {
     ghost use Rattle.std.specs.Prelude.{◌≡◌, [], map, IfOk, OnErr, OnOk, string_bytes};
-    ghost use Rattle.schema_reports.specs.Drafts.{has_vocabulary};
+    ghost use Rattle.schema_reports.specs.Drafts.{has_vocabulary, same_vocabularies};
     ghost use Rattle.schema_reports.specs.KeywordViews.{vocabulary_of};
     ghost use Rattle.schema_reports.specs.VocabularySets.{AddsOnly, custom_of, with_uri};
 
@@ -152,6 +152,36 @@ impl VocabularySet {
             content: self.content,
             custom: self.custom.clone()?,
         })
+    }
+
+    /// Whether both sets have the same vocabularies, those that are not the standard's in the same order. It takes no
+    /// memory.
+    pub fn same(&self, other: &VocabularySet) -> bool
+        ensures same { result ≡ same_vocabularies self.now other.now }
+    {
+        let own = [
+            self.core,
+            self.applicator,
+            self.unevaluated,
+            self.validation,
+            self.metadata,
+            self.format,
+            self.format_annotation,
+            self.format_assertion,
+            self.content,
+        ];
+        let others = [
+            other.core,
+            other.applicator,
+            other.unevaluated,
+            other.validation,
+            other.metadata,
+            other.format,
+            other.format_annotation,
+            other.format_assertion,
+            other.content,
+        ];
+        own == others && self.custom == other.custom
     }
 
     /// The URIs of the vocabularies that are not the standard's, in the order in which they came.
