@@ -52,3 +52,11 @@ pub mod Escaped
 pub mod Found
 pub mod Heights
 pub mod FloatFree
+mod Forest
+mod SearchCounts
+mod SharedLists
+mod SearchedSense
+mod SearchedFailure
+mod SearchedSays
+mod SearchedErrors
+pub mod Remembering

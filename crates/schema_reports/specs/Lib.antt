@@ -42,3 +42,9 @@ pub mod InstanceViews
 pub mod ReportViews
 pub mod InstanceTexts
 pub mod Owned
+pub mod MatchViews
+pub mod Unfinished
+pub mod Search
+pub mod Searched
+pub mod SharedResults
+pub mod Outcomes

@@ -10,6 +10,8 @@ ghost use Rattle.serde_json.specs.Find.{get};
 ghost use Rattle.serde_json.specs.View.{view};
 ghost use Rattle.schema_reports.specs.InstanceViews.{subject_of, step_of};
 
+mod at;
+
 use crate::location::{Location, LocationSegment, OutOfMemory};
 use serde_json::Value;
 use std::alloc::Global;

@@ -1,0 +1,106 @@
+-- The search over unfinished matches makes one run for each list of assumptions that it finds: its runs grow a tree.
+-- Nothing is known of a run but how each use of it changes the state that it holds.
+use Rattle.std.specs.List.{list_all}
+use Rattle.std.specs.Prelude.{Bool, List, None, Option, Some, [], false, length, true, ℕ, ◌*◌, ◌++◌, ◌+◌, ◌<◌, ◌∷◌, ◌≡◌, ◌≤◌}
+use Rattle.schema_reports.specs.Matching.{Assumptions}
+use Rattle.schema_reports.specs.Runs.{Met}
+use Rattle.schema_reports.specs.Cover.{assuming}
+use Rattle.schema_reports.specs.Unfinished.{Failure, Remembered, located_by_all, starting}
+
+-- a list of assumptions: its run is still to be made; or it is a member, with its run's result; or it branches on the first match that its run met and that is not among them, once with a no and once with a yes
+pub data Tree (T : Type 0) : Type 0 where
+  unrun : Tree T
+  member : Remembered → T → Tree T
+  branch : Remembered → Failure → Tree T → Tree T → Tree T
+
+module _ {S T : Type 0} (Step : S → Remembered → Remembered → T → S → Type 0) where
+  -- what grows from a list, each run being a step of the state: the list's own run, then those of its no, then those of its yes
+  abbrev pub Grows : Assumptions → S → Tree T → S → Type 0
+  Grows as' s unrun end = s ≡ end
+  Grows as' s (member r result) end = Step s (starting as') r result end × (r.unassumed ≡ None)
+  Grows as' s (branch r f if_no if_yes) end =
+      (result : T)
+      × (s1 : S)
+      × (s2 : S)
+      × Step s (starting as') r result s1
+      × (r.unassumed ≡ Some f)
+      × Grows (assuming f.met false as') s1 if_no s2
+      × Grows (assuming f.met true as') s2 if_yes end
+
+  -- what grows from a call's first run, which has been made and met a match that it did not assume
+  abbrev pub GrowsFrom : Remembered → S → Tree T → S → Type 0
+  GrowsFrom first s unrun end = ⊥
+  GrowsFrom first s (member r result) end = ⊥
+  GrowsFrom first s (branch r f if_no if_yes) end =
+      (s2 : S)
+      × (r ≡ first)
+      × (first.unassumed ≡ Some f)
+      × Grows (assuming f.met false first.assumptions) s if_no s2
+      × Grows (assuming f.met true first.assumptions) s2 if_yes end
+
+module _ {T : Type 0} where
+  -- the members' results, those that assume a no first
+  abbrev pub results_of : Tree T → List T
+  results_of unrun = []
+  results_of (member r result) = result ∷ []
+  results_of (branch r f if_no if_yes) = results_of if_no ++ results_of if_yes
+
+  -- the members' assumptions, in the same order
+  abbrev pub lists_of : Assumptions → Tree T → List Assumptions
+  lists_of as' unrun = []
+  lists_of as' (member r result) = as' ∷ []
+  lists_of as' (branch r f if_no if_yes) = lists_of (assuming f.met false as') if_no ++ lists_of (assuming f.met true as') if_yes
+
+  -- how many runs were made
+  abbrev pub runs : Tree T → ℕ
+  runs unrun = 0
+  runs (member r result) = 1
+  runs (branch r f if_no if_yes) = 1 + (runs if_no + runs if_yes)
+
+  -- how many lists are still to be run
+  abbrev pub waiting : Tree T → ℕ
+  waiting unrun = 1
+  waiting (member r result) = 0
+  waiting (branch r f if_no if_yes) = waiting if_no + waiting if_yes
+
+  -- how many lists are members or are still to be run
+  abbrev pub ends : Tree T → ℕ
+  ends unrun = 1
+  ends (member r result) = 1
+  ends (branch r f if_no if_yes) = ends if_no + ends if_yes
+
+  -- the sites that the runs remember, run by run
+  abbrev pub sites : Tree T → List (List Met)
+  sites unrun = []
+  sites (member r result) = r.located ∷ []
+  sites (branch r f if_no if_yes) = r.located ∷ (sites if_no ++ sites if_yes)
+
+abbrev pub all_yes : Assumptions → Bool
+all_yes as' = list_all (λ a. a.outcome) as'
+
+module _ {S T : Type 0} (Step : S → Remembered → Remembered → T → S → Type 0) (first : Remembered) (start : S) (limit : ℕ) where
+  -- the runs that the search made, the first one among them, and the failure: the first match that the first run met and did not assume, at the first of the sites of it that has an instance path
+  pub record Made (tree : Tree T) (failure : Failure) : Type 0 where
+    pub unassumed : Failure
+    pub is_first : first.unassumed ≡ Some unassumed
+    pub end : S
+    pub grows : GrowsFrom Step first start tree end
+    pub few : runs tree ≤ limit
+    pub located : failure ≡ located_by_all unassumed (sites tree)
+
+  -- every run was made that the first one calls for; each is a member's or a branching's, and the last member assumes a yes everywhere, if the first run does
+  pub record Whole (tree : Tree T) : Type 0 where
+    pub none_waits : waiting tree ≡ 0
+    pub runs_are : runs tree + 1 ≡ 2 * ends tree
+    pub results_are : length (results_of tree) ≡ ends tree
+    pub counted : length (lists_of first.assumptions tree) ≡ ends tree
+    pub others : List Assumptions
+    pub last : Assumptions
+    pub lists_are : lists_of first.assumptions tree ≡ others ++ last ∷ []
+    pub last_yes : all_yes first.assumptions ≡ true → all_yes last ≡ true
+
+  -- more runs are called for than the limit allows
+  pub record Cut (tree : Tree T) : Type 0 where
+    pub some_wait : 0 < waiting tree
+    pub runs_are : runs tree ≡ limit
+    pub many : limit + 1 < 2 * ends tree

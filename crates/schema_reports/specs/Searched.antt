@@ -1,0 +1,38 @@
+-- What the search over a sense's runs says of every completion.
+use Rattle.std.specs.Prelude.{Bool, Contains, List, None, Option, Some, [], codes, is_some, option_map, true, unwrap_or, ◌∷◌, ◌≡◌, ◌≤◌, ◌++◌}
+use Rattle.schema_reports.specs.Matching.{Assumptions, unfinished}
+use Rattle.schema_reports.specs.Reports.{Error}
+use Rattle.schema_reports.specs.Runs.{Met}
+use Rattle.schema_reports.specs.Cover.{Call, IsRun, Sense, branch_at}
+use Rattle.schema_reports.specs.Headline.{reason_text}
+use Rattle.schema_reports.specs.Unfinished.{Failure, Remembered, starting}
+
+-- the states that a run's uses lead to
+pub data Reaches {S T : Type 0} (Step : S → Remembered → Remembered → T → S → Type 0) (start : S) : S → Type 0 where
+  here : Reaches Step start start
+  next : (s : S) (given r : Remembered) (result : T) (end : S) → Reaches Step start s → Step s given r result end → Reaches Step start end
+
+module _ (v : Sense) (call : Call) where
+  -- a run under assumptions remembers the first match that the sense's run meets and that is not assumed, and sites of that run alone
+  pub record Remembers (as' : Assumptions) (r : Remembered) : Type 0 where
+    pub first : option_map (λ (f : Failure). f.met) r.unassumed ≡ branch_at v call as'
+    pub reason : (f : Failure) → r.unassumed ≡ Some f → v.is_match f.met.pair.pattern f.met.pair.subject ≡ unfinished f.reason
+    pub sites : (m : Met) → Contains r.located m → Contains (v.meets call as') m × (is_some m.site.located ≡ true)
+
+  -- each use of the run, under a list under which the call runs, is the sense's run; where it meets no match but those assumed, its result is what the sense says under that list, as far as is looked at
+  pub record IsRunOf {S T V : Type 0} (Step : S → Remembered → Remembered → T → S → Type 0) (first : Remembered) (start : S) (view : T → V) (says : Assumptions → V) : Type 0 where
+    pub assumes_none : first.assumptions ≡ []
+    pub remembers_first : Remembers [] first
+    pub remembers : (s : S) (as' : Assumptions) (r : Remembered) (result : T) (end : S) → Reaches Step start s → IsRun v call as' → Step s (starting as') r result end → Remembers as' r
+    pub gives : (s : S) (as' : Assumptions) (r : Remembered) (result : T) (end : S) → Reaches Step start s → IsRun v call as' → Step s (starting as') r result end → r.unassumed ≡ None → view result ≡ says as'
+
+-- the error of a failure; where its site has no evaluation path, that is the schema path, and the place is the root
+abbrev pub failure_error : Failure → Error
+failure_error f = let at = unwrap_or f.met.site.located (f.met.site.schema_path, []) in record {
+  place = at.1;
+  schema_path = f.met.site.schema_path;
+  evaluation_path = at.0;
+  absolute = None;
+  name = codes "pattern";
+  text = reason_text (unwrap_or f.met.site.pattern f.met.pair.pattern) (unfinished f.reason);
+}

@@ -1,0 +1,44 @@
+//! What stands at a place.
+ghost use Rattle.std.specs.Prelude.{◌≡◌, map, option_map};
+ghost use Rattle.schema_reports.specs.Instance.{after_step, subject_from};
+ghost use Rattle.schema_reports.specs.InstanceViews.{step_of, subject_of};
+
+use super::{Instance, InstanceStep, Place};
+
+// What a step leads to.
+fn after<'i>(instance: Instance<'i>, step: InstanceStep<'_>) -> Option<Instance<'i>>
+    ensures after { option_map subject_of result ≡ after_step (step_of step.entry) (subject_of instance.entry) }
+{
+    let found = match step {
+        InstanceStep::Member(name) => instance.member(name),
+        InstanceStep::Item(index) => instance.item(index),
+        InstanceStep::NameOf(name) => instance.name_of(name),
+    };
+    match found {
+        Some((below, _)) => Some(below),
+        None => None,
+    }
+}
+
+// What stands where the steps lead to.
+fn at_steps<'i>(instance: Instance<'i>, steps: &[InstanceStep<'_>]) -> Option<Instance<'i>>
+    ensures at { option_map subject_of result ≡ subject_from (map step_of steps.now) (subject_of instance.entry) }
+{
+    let mut current = instance;
+    for (i, step) in steps.iter().enumerate() {
+        match after(current, *step) {
+            Some(below) => current = below,
+            None => return None,
+        }
+    }
+    Some(current)
+}
+
+impl<'i> Instance<'i> {
+    /// What stands at this place of the instance, if there is one.
+    pub fn at(self, place: &Place<'_>) -> Option<Instance<'i>>
+        ensures at { option_map subject_of result ≡ subject_from place.now (subject_of self.entry) }
+    {
+        at_steps(self, place.steps.as_slice())
+    }
+}

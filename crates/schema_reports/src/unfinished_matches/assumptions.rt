@@ -1,0 +1,235 @@
+//! What a run assumes, and what it remembers of the unfinished matches that it meets.
+ghost use Rattle.std.specs.Prelude.{◌≡◌, ◌∷◌, [], IfOk, IsTrue, OnErr, OnOk, is_some};
+ghost use Rattle.schema_reports.specs.Matching.{assumed};
+ghost use Rattle.schema_reports.specs.MatchViews.{reason_of};
+ghost use Rattle.schema_reports.specs.Unfinished.{is_known, meet, meet_known, noted, or_no, site_of, starting};
+
+use super::site::{
+    LocatedMatch, MatchFailure, MatchSite, Reason, UnfinishedMatch, place_of,
+};
+use crate::location::OutOfMemory;
+use std::alloc::{AllocError, Global};
+use std::marker::Model;
+
+/// An unfinished match, and what it is assumed to come out as.
+#[derive(Drop)]
+struct AssumedMatch {
+    unfinished: UnfinishedMatch,
+    matches: bool,
+}
+
+impl Model for AssumedMatch {
+    ghost use Rattle.schema_reports.specs.Matching.{Assumed};
+
+    ghost Value = { Assumed };
+
+    ghost view = { λ a. record { pair = a.unfinished; outcome = a.matches } };
+}
+
+impl AssumedMatch {
+    fn copy(&self) -> Result<AssumedMatch, OutOfMemory>
+        ensures { IfOk result (λ a. a ≡ self.now) }
+    {
+        let unfinished = self.unfinished.copy()?;
+        Ok(AssumedMatch {
+            unfinished,
+            matches: self.matches,
+        })
+    }
+}
+
+/// What is assumed of some unfinished matches, the one assumed last first.
+#[derive(Drop)]
+pub(super) struct AssumedOutcomes {
+    matches: Vec<AssumedMatch>,
+}
+
+impl Model for AssumedOutcomes {
+    ghost use Rattle.std.specs.Prelude.{List};
+    ghost use Rattle.schema_reports.specs.Matching.{Assumed};
+
+    ghost Value = { List Assumed };
+
+    ghost view = { λ a. a.matches.items };
+}
+
+impl AssumedOutcomes {
+    /// Nothing is assumed.
+    pub(super) fn new(alloc: Global) -> AssumedOutcomes
+        ensures { result ≡ [] }
+    {
+        AssumedOutcomes {
+            matches: Vec::new(alloc),
+        }
+    }
+
+    /// The same in memory of its own.
+    pub(super) fn copy(&self, alloc: Global) -> Result<AssumedOutcomes, OutOfMemory>
+        ensures { IfOk result (λ a. a ≡ self.now) }
+    {
+        let mut matches = Vec::new(alloc);
+        for assumed in &self.matches {
+            matches.push(assumed.copy()?)?;
+        }
+        Ok(AssumedOutcomes { matches })
+    }
+
+    /// One match more is assumed to come out so.
+    pub(super) fn with(self, unfinished: UnfinishedMatch, matches: bool) -> Result<AssumedOutcomes, OutOfMemory>
+        ensures { IfOk result (λ a. a ≡ record { pair = unfinished; outcome = matches } ∷ self) }
+    {
+        let mut list = self.matches;
+        let first = AssumedMatch {
+            unfinished,
+            matches,
+        };
+        match list.insert(0, first) {
+            Ok(()) => Ok(AssumedOutcomes { matches: list }),
+            Err(_) => Err(AllocError),
+        }
+    }
+}
+
+// The outcome that is assumed of a match.
+fn assumed_outcome(list: &[AssumedMatch], pattern: &str, subject: &str) -> Option<bool>
+    ensures { result ≡ assumed list.now (record { pattern = pattern.now; subject = subject.now }) }
+{
+    for (i, one) in list.iter().enumerate() {
+        if one.unfinished.is(pattern, subject) {
+            return Some(one.matches);
+        }
+    }
+    None
+}
+
+/// What a run assumes, and what it remembers of the unfinished matches that it meets: the first one that is not assumed,
+/// and for each match the first site where it was met that has an instance path.
+#[derive(Drop)]
+pub struct MatchAssumptions<'i> {
+    alloc: Global,
+    assumed: AssumedOutcomes,
+    unassumed: Option<MatchFailure<'i>>,
+    located: Vec<LocatedMatch<'i>>,
+}
+
+impl<'i> Model for MatchAssumptions<'i> {
+    ghost use Rattle.schema_reports.specs.Unfinished.{Remembered};
+
+    ghost Value = { Remembered };
+
+    ghost view = { λ a. record { assumptions = a.assumed; unassumed = a.unassumed; located = a.located.items } };
+}
+
+impl<'i> MatchAssumptions<'i> {
+    /// What the first run of a call starts from: it assumes nothing.
+    pub fn new(alloc: Global) -> MatchAssumptions<'i>
+        ensures starts { result ≡ starting [] }
+    {
+        MatchAssumptions::assuming(alloc, AssumedOutcomes::new(alloc))
+    }
+
+    /// What a run starts from that assumes these outcomes.
+    pub(super) fn assuming(alloc: Global, assumed: AssumedOutcomes) -> MatchAssumptions<'i>
+        ensures starts { result ≡ starting assumed }
+    {
+        MatchAssumptions {
+            alloc,
+            assumed,
+            unassumed: None,
+            located: Vec::new(alloc),
+        }
+    }
+
+    /// The assumed outcomes, the first unfinished match that is not among them, and the sites with an instance path.
+    pub(super) fn into_parts(self) -> (AssumedOutcomes, Option<MatchFailure<'i>>, Vec<LocatedMatch<'i>>)
+        ensures assumed { result.0 ≡ self.entry.assumptions }
+        ensures unassumed { result.1 ≡ self.entry.unassumed }
+        ensures located { result.2.items ≡ self.entry.located }
+    {
+        (self.assumed, self.unassumed, self.located)
+    }
+}
+
+// Whether one of these sites is of this match.
+fn has_site(sites: &[LocatedMatch<'_>], pattern: &str, subject: &str) -> bool
+    ensures { result ≡ is_some (site_of sites.now (record { pattern = pattern.now; subject = subject.now })) }
+{
+    place_of(sites, pattern, subject).is_some()
+}
+
+// Remembers the site, where it has an instance path and there is none of the match yet.
+fn note<'i>(sites: &mut Vec<LocatedMatch<'i>>, unfinished: &UnfinishedMatch, site: &MatchSite<'i>) -> Result<(), OutOfMemory>
+    ensures ok { OnOk result (sites.new.items ≡ noted sites.old.items (record { pair = unfinished.now; site = site.now })) }
+    ensures err { OnErr result (sites.new.items ≡ sites.old.items) }
+{
+    if !site.has_place() {
+        return Ok(());
+    }
+    if has_site(sites, unfinished.pattern(), unfinished.subject()) {
+        return Ok(());
+    }
+    let unfinished = unfinished.copy()?;
+    let site = site.copy()?;
+    sites.push(LocatedMatch::new(unfinished, site))?;
+    Ok(())
+}
+
+impl<'i> MatchAssumptions<'i> {
+    /// Whether the match is known to be unfinished: it is assumed, or it is the first one that was not, or a site of it is
+    /// remembered.
+    pub fn is_unfinished(&self, pattern: &str, subject: &str) -> bool
+        ensures known { result ≡ is_known self.now (record { pattern = pattern.now; subject = subject.now }) }
+    {
+        if assumed_outcome(&self.assumed.matches, pattern, subject).is_some() {
+            return true;
+        }
+        if let Some(first) = &self.unassumed {
+            if first.unfinished().is(pattern, subject) {
+                return true;
+            }
+        }
+        has_site(&self.located, pattern, subject)
+    }
+
+    /// Whether an unfinished match was met that is not assumed.
+    pub fn met_unassumed(&self) -> bool
+        ensures met { result ≡ is_some self.now.unassumed }
+    {
+        self.unassumed.is_some()
+    }
+
+    /// What a match that the matcher left unfinished comes out as: as assumed, or no. It is remembered with its site.
+    /// Where memory is wanted, nothing is.
+    pub fn resolve(&mut self, pattern: &str, subject: &str, reason: Reason, site: MatchSite<'i>) -> Result<bool, OutOfMemory>
+        ensures answer { IfOk result (λ b. b ≡ or_no (assumed self.old.assumptions (record { pattern = pattern.now; subject = subject.now }))) }
+        ensures ok { OnOk result (self.new ≡ meet self.old (record { met = record { pair = record { pattern = pattern.now; subject = subject.now }; site = site.entry }; reason = reason_of reason })) }
+        ensures err { OnErr result (self.new ≡ self.old) }
+    {
+        let unfinished = UnfinishedMatch::new(self.alloc, pattern, subject)?;
+        note(&mut self.located, &unfinished, &site)?;
+        match assumed_outcome(&self.assumed.matches, pattern, subject) {
+            Some(matches) => Ok(matches),
+            None => {
+                if self.unassumed.is_none() {
+                    self.unassumed = Some(MatchFailure::new(unfinished, reason, site));
+                }
+                Ok(false)
+            }
+        }
+    }
+
+    /// The same of a match that is known to be unfinished: the matcher need not be asked again.
+    pub fn resolve_unfinished(&mut self, pattern: &str, subject: &str, site: MatchSite<'i>) -> Result<bool, OutOfMemory>
+        requires known { IsTrue (is_known self.old (record { pattern = pattern.now; subject = subject.now })) }
+        ensures answer { IfOk result (λ b. b ≡ or_no (assumed self.old.assumptions (record { pattern = pattern.now; subject = subject.now }))) }
+        ensures ok { OnOk result (self.new ≡ meet_known self.old (record { pair = record { pattern = pattern.now; subject = subject.now }; site = site.entry })) }
+        ensures err { OnErr result (self.new ≡ self.old) }
+    {
+        let unfinished = UnfinishedMatch::new(self.alloc, pattern, subject)?;
+        note(&mut self.located, &unfinished, &site)?;
+        match assumed_outcome(&self.assumed.matches, pattern, subject) {
+            Some(matches) => Ok(matches),
+            None => Ok(false),
+        }
+    }
+}

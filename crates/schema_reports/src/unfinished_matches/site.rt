@@ -1,0 +1,358 @@
+//! Unfinished matches, and where they are met.
+ghost use Rattle.std.specs.Prelude.{[], IfOk, MatchOption, None, Some, is_some, length, slice_index_or, string_bytes, true, unwrap_or, ◌<◌, ◌≡◌};
+ghost use Rattle.schema_reports.specs.Headline.{reason_text};
+ghost use Rattle.schema_reports.specs.Instance.{a_value, subject_at};
+ghost use Rattle.schema_reports.specs.InstanceViews.{subject_of};
+ghost use Rattle.schema_reports.specs.Matching.{same_pair, unfinished};
+ghost use Rattle.schema_reports.specs.ReportViews.{error_of};
+ghost use Rattle.schema_reports.specs.Searched.{failure_error};
+ghost use Rattle.serde_json.specs.View.{view};
+ghost use Rattle.schema_reports.specs.MatchViews.{reason_of};
+ghost use Rattle.schema_reports.specs.Runs.{Met, Site};
+ghost use Rattle.schema_reports.specs.Unfinished.{located_by, or_pattern, site_of};
+
+use crate::instance::{Instance, Place};
+use crate::location::{Location, OutOfMemory};
+use crate::reports::ValidationError;
+use crate::text::Text;
+use serde_json::Value;
+use std::alloc::Global;
+use std::marker::Model;
+
+/// Why a match was not finished: a limit was reached, which the text tells of, or the engine failed.
+#[derive(Drop)]
+pub enum Reason {
+    Limit(Text),
+    Engine,
+}
+
+/// What a matcher says of a pattern and a subject.
+#[derive(Drop)]
+pub enum Match {
+    Finished(bool),
+    Unfinished(Reason),
+}
+
+/// A match that the matcher could not finish: the compiled pattern and the subject.
+#[derive(Drop)]
+pub(super) struct UnfinishedMatch {
+    pattern: Text,
+    subject: Text,
+}
+
+impl Model for UnfinishedMatch {
+    ghost use Rattle.schema_reports.specs.Matching.{Pair};
+
+    ghost Value = { Pair };
+
+    ghost view = { λ u. record { pattern = u.pattern; subject = u.subject } };
+}
+
+impl UnfinishedMatch {
+    /// The match of this pattern and this subject.
+    pub(super) fn new(alloc: Global, pattern: &str, subject: &str) -> Result<UnfinishedMatch, OutOfMemory>
+        ensures pair { IfOk result (λ u. u ≡ record { pattern = pattern.now; subject = subject.now }) }
+    {
+        let pattern = Text::new(alloc, pattern)?;
+        let subject = Text::new(alloc, subject)?;
+        Ok(UnfinishedMatch { pattern, subject })
+    }
+
+    /// Whether it is the match of this pattern and this subject.
+    pub(super) fn is(&self, pattern: &str, subject: &str) -> bool
+        ensures same { result ≡ same_pair (record { pattern = pattern.now; subject = subject.now }) self.now }
+    {
+        self.pattern.is(pattern) && self.subject.is(subject)
+    }
+
+    /// The compiled pattern.
+    pub(super) fn pattern(&self) -> &str
+        ensures { result.now ≡ self.now.pattern }
+    {
+        self.pattern.as_str()
+    }
+
+    /// The subject.
+    pub(super) fn subject(&self) -> &str
+        ensures { result.now ≡ self.now.subject }
+    {
+        self.subject.as_str()
+    }
+
+    /// The same match in memory of its own.
+    pub(super) fn copy(&self) -> Result<UnfinishedMatch, OutOfMemory>
+        ensures same { IfOk result (λ u. u ≡ self.now) }
+    {
+        let pattern = self.pattern.copy()?;
+        let subject = self.subject.copy()?;
+        Ok(UnfinishedMatch { pattern, subject })
+    }
+}
+
+/// Where a match was met: a schema path; where the run knows them, the evaluation path and the place of the subject; and
+/// the pattern as the schema has it, where it is not the compiled one.
+#[derive(Drop)]
+pub struct MatchSite<'i> {
+    schema_path: Location,
+    located: Option<(Location, Place<'i>)>,
+    pattern: Option<Text>,
+}
+
+impl<'i> Model for MatchSite<'i> {
+    ghost use Rattle.schema_reports.specs.Runs.{Site};
+
+    ghost Value = { Site };
+
+    ghost view = { λ s. record { schema_path = s.schema_path; located = s.located; pattern = s.pattern } };
+}
+
+impl<'i> MatchSite<'i> {
+    /// A site with its schema path alone.
+    pub fn schema(schema_path: Location) -> MatchSite<'i>
+        ensures site { result ≡ record { schema_path = schema_path; located = None; pattern = None } }
+    {
+        MatchSite {
+            schema_path,
+            located: None,
+            pattern: None,
+        }
+    }
+
+    /// A site with its evaluation path and its place too.
+    pub fn located(schema_path: Location, evaluation_path: Location, place: Place<'i>) -> MatchSite<'i>
+        ensures site { result ≡ record { schema_path = schema_path; located = Some (evaluation_path, place.entry); pattern = None } }
+    {
+        MatchSite {
+            schema_path,
+            located: Some((evaluation_path, place)),
+            pattern: None,
+        }
+    }
+
+    /// The site with the pattern as the schema has it.
+    pub fn pattern(self, alloc: Global, pattern: &str) -> Result<MatchSite<'i>, OutOfMemory>
+        ensures site { IfOk result (λ s. s ≡ record self.entry { pattern = Some pattern.now }) }
+    {
+        let pattern = Text::new(alloc, pattern)?;
+        Ok(MatchSite {
+            schema_path: self.schema_path,
+            located: self.located,
+            pattern: Some(pattern),
+        })
+    }
+}
+
+fn copied_pattern(pattern: &Option<Text>) -> Result<Option<Text>, OutOfMemory>
+    ensures { IfOk result (λ p. p ≡ pattern.now) }
+{
+    match pattern {
+        None => Ok(None),
+        Some(pattern) => Ok(Some(pattern.copy()?)),
+    }
+}
+
+fn copied_place<'i>(located: &Option<(Location, Place<'i>)>) -> Result<Option<(Location, Place<'i>)>, OutOfMemory>
+    ensures { IfOk result (λ l. l ≡ located.now) }
+{
+    match located {
+        None => Ok(None),
+        Some(located) => {
+            let evaluation_path = located.0.copy()?;
+            let place = located.1.copy()?;
+            Ok(Some((evaluation_path, place)))
+        }
+    }
+}
+
+impl<'i> MatchSite<'i> {
+    /// Whether it has an instance path.
+    pub(super) fn has_place(&self) -> bool
+        ensures { result ≡ is_some self.now.located }
+    {
+        self.located.is_some()
+    }
+
+    /// The same site in memory of its own.
+    pub(super) fn copy(&self) -> Result<MatchSite<'i>, OutOfMemory>
+        ensures same { IfOk result (λ s. s ≡ self.now) }
+    {
+        let schema_path = self.schema_path.copy()?;
+        let located = copied_place(&self.located)?;
+        let pattern = copied_pattern(&self.pattern)?;
+        Ok(MatchSite {
+            schema_path,
+            located,
+            pattern,
+        })
+    }
+
+    // Takes over the other site, and keeps its pattern where the other has none.
+    fn take_over(&mut self, other: MatchSite<'i>)
+        ensures { self.new ≡ record other.entry { pattern = or_pattern other.entry.pattern self.old.pattern } }
+    {
+        let mut other = other;
+        if other.pattern.is_none() {
+            other.pattern = self.pattern.take();
+        }
+        *self = other;
+    }
+}
+
+/// An unfinished match at a site that has an instance path.
+#[derive(Drop)]
+pub(super) struct LocatedMatch<'i> {
+    unfinished: UnfinishedMatch,
+    site: MatchSite<'i>,
+}
+
+impl<'i> Model for LocatedMatch<'i> {
+    ghost use Rattle.schema_reports.specs.Runs.{Met};
+
+    ghost Value = { Met };
+
+    ghost view = { λ l. record { pair = l.unfinished; site = l.site } };
+}
+
+impl<'i> LocatedMatch<'i> {
+    /// This match at this site.
+    pub(super) fn new(unfinished: UnfinishedMatch, site: MatchSite<'i>) -> LocatedMatch<'i>
+        ensures { result ≡ record { pair = unfinished; site = site.entry } }
+    {
+        LocatedMatch { unfinished, site }
+    }
+}
+
+/// An unfinished match at a site, and the reason.
+#[derive(Drop)]
+pub struct MatchFailure<'i> {
+    unfinished: UnfinishedMatch,
+    reason: Reason,
+    site: MatchSite<'i>,
+}
+
+impl<'i> Model for MatchFailure<'i> {
+    ghost use Rattle.schema_reports.specs.MatchViews.{reason_of};
+    ghost use Rattle.schema_reports.specs.Unfinished.{Failure};
+
+    ghost Value = { Failure };
+
+    ghost view = { λ f. record { met = record { pair = f.unfinished; site = f.site }; reason = reason_of f.reason } };
+}
+
+impl<'i> MatchFailure<'i> {
+    /// The failure of this match at this site.
+    pub(super) fn new(unfinished: UnfinishedMatch, reason: Reason, site: MatchSite<'i>) -> MatchFailure<'i>
+        ensures failure { result ≡ record { met = record { pair = unfinished; site = site.entry }; reason = reason_of reason } }
+    {
+        MatchFailure {
+            unfinished,
+            reason,
+            site,
+        }
+    }
+
+    /// The match.
+    pub(super) fn unfinished(&self) -> &UnfinishedMatch
+        ensures { result.now ≡ self.now.met.pair }
+    {
+        &self.unfinished
+    }
+
+    /// The match alone.
+    pub(super) fn into_unfinished(self) -> UnfinishedMatch
+        ensures { result ≡ self.entry.met.pair }
+    {
+        self.unfinished
+    }
+
+    /// Takes over the first of these sites that is of this match, where its own has no instance path.
+    pub(super) fn locate(&mut self, located: Vec<LocatedMatch<'i>>)
+        ensures { self.new ≡ located_by self.old located.entry.items }
+    {
+        if self.site.located.is_some() {
+            return;
+        }
+        let mut located = located;
+        if let Some(at) = place_of(&located, self.unfinished.pattern(), self.unfinished.subject()) {
+            let found = located.remove(at);
+            self.site.take_over(found.site);
+        }
+    }
+}
+
+// The text of a match that stays unfinished.
+fn reason_text(alloc: Global, reason: Reason, pattern: &str) -> Result<String, OutOfMemory>
+    ensures text { IfOk result (λ t. string_bytes t ≡ reason_text pattern.now (unfinished (reason_of reason))) }
+{
+    match reason {
+        Reason::Limit(text) => Ok(text.into_string()),
+        Reason::Engine => format!(in alloc; "Regex engine failed to evaluate pattern '{pattern}'"),
+    }
+}
+
+// The paths of a site; without an evaluation path, that is the schema path, and the place is the root.
+fn place_or_root<'i>(alloc: Global, located: Option<(Location, Place<'i>)>, schema_path: &Location) -> Result<(Location, Place<'i>), OutOfMemory>
+    ensures at { IfOk result (λ l. l ≡ unwrap_or located.entry (schema_path.now, [])) }
+{
+    match located {
+        Some(located) => Ok(located),
+        None => {
+            let evaluation_path = schema_path.copy()?;
+            Ok((evaluation_path, Place::root(alloc)))
+        }
+    }
+}
+
+// What stands at the place, or else the root.
+fn at_or_root<'i>(root: &'i Value, place: &Place<'i>) -> Instance<'i>
+    ensures at { subject_of result ≡ unwrap_or (subject_at (view root.now) place.now) (a_value (view root.now)) }
+{
+    match Instance::Value(root).at(place) {
+        Some(found) => found,
+        None => Instance::Value(root),
+    }
+}
+
+impl<'i> MatchFailure<'i> {
+    /// The failure as an error, whose instance is what stands at its place.
+    pub(super) fn into_error(self, alloc: Global, root: &'i Value) -> Result<ValidationError<'i>, OutOfMemory>
+        ensures error { IfOk result (λ e. error_of true e ≡ failure_error self.entry) }
+        ensures instance { IfOk result (λ e. subject_of e.instance ≡ unwrap_or (subject_at (view root.now) e.place) (a_value (view root.now))) }
+    {
+        let MatchFailure {
+            unfinished,
+            reason,
+            site,
+        } = self;
+        let shown = match &site.pattern {
+            Some(pattern) => pattern.as_str(),
+            None => unfinished.pattern(),
+        };
+        let text = reason_text(alloc, reason, shown)?;
+        let (evaluation_path, place) = place_or_root(alloc, site.located, &site.schema_path)?;
+        let instance = at_or_root(root, &place);
+        let keyword = String::from_str(alloc, "pattern")?;
+        Ok(ValidationError {
+            instance,
+            place,
+            schema_path: site.schema_path,
+            evaluation_path,
+            absolute_keyword_location: None,
+            keyword,
+            text,
+        })
+    }
+}
+
+/// The position of the first of these sites that is of this match.
+pub(super) fn place_of(sites: &[LocatedMatch<'_>], pattern: &str, subject: &str) -> Option<usize>
+    ensures variant { is_some result ≡ is_some (site_of sites.now (record { pattern = pattern.now; subject = subject.now })) }
+    ensures place { MatchOption result (site_of sites.now (record { pattern = pattern.now; subject = subject.now }) ≡ None) (λ i. (i < length sites.now) × ((d : Met) → site_of sites.now (record { pattern = pattern.now; subject = subject.now }) ≡ Some (slice_index_or sites.now i d).site)) }
+{
+    for (i, one) in sites.iter().enumerate() {
+        if one.unfinished.is(pattern, subject) {
+            return Some(i);
+        }
+    }
+    None
+}

@@ -1,0 +1,51 @@
+//! What a call says over a search: of a sense whose runs these are, what every completion says.
+ghost use Rattle.std.specs.Prelude.{Bool, IfOk, IsSome, Ok, true, ◌↔◌, ◌≡◌};
+ghost use Rattle.serde_json.specs.View.{view};
+ghost use Rattle.schema_reports.specs.Cover.{Call, Decides, Sense, evaluate, iter_errors, validate};
+ghost use Rattle.schema_reports.specs.Headline.{ErrorsSay, FirstSays, VerdictSays};
+ghost use Rattle.schema_reports.specs.Members.{Follows, is_nil, verdict_of};
+ghost use Rattle.schema_reports.specs.Outcomes.{errors_in, none_in};
+ghost use Rattle.schema_reports.specs.Runs.{first_error};
+ghost use Rattle.schema_reports.specs.Searched.{IsRunOf};
+ghost use Rattle.schema_reports.specs.Shared.{EachAccepts, errors_of};
+
+use super::assumptions::MatchAssumptions;
+use super::search::assume_each_outcome;
+use super::shared::{errors, validity};
+use crate::location::OutOfMemory;
+use crate::reports::ValidationError;
+use serde_json::Value;
+use std::alloc::Global;
+
+/// Whether every completion accepts, where the call decides; else no. The first run has been made, and met an unfinished
+/// match.
+pub fn validity_under_each<'i, F: FnMut(MatchAssumptions<'i>) -> Result<(MatchAssumptions<'i>, bool), OutOfMemory>>(
+    alloc: Global,
+    run: F,
+    first: (MatchAssumptions<'i>, bool),
+) -> Result<bool, OutOfMemory>
+    requires callable { F.IsAlwaysCallable run }
+    requires met { IsSome first.0.unassumed }
+    ensures says { (v : Sense) (call : Call) → Follows v → IsRunOf v call (λ s x m t end. F.step s x (Ok (m, t)) end) first.entry.0 run (λ (b : Bool). b) (verdict_of v) → IfOk result (λ b. VerdictSays v call b) }
+    ensures exactly { (v : Sense) (call : Call) → Follows v → IsRunOf v call (λ s x m t end. F.step s x (Ok (m, t)) end) first.entry.0 run (λ (b : Bool). b) (verdict_of v) → IfOk result (λ b. (b ≡ true) ↔ (Decides v call × EachAccepts v)) }
+{
+    Ok(validity(assume_each_outcome(alloc, run, first)?))
+}
+
+/// The errors that all completions share, or one failure; where the call doesn't decide, one failure. The first run has
+/// been made, and met an unfinished match.
+pub fn errors_under_each<'i, F: FnMut(MatchAssumptions<'i>) -> Result<(MatchAssumptions<'i>, Vec<ValidationError<'i>>), OutOfMemory>>(
+    alloc: Global,
+    run: F,
+    first: (MatchAssumptions<'i>, Vec<ValidationError<'i>>),
+    root: &'i Value,
+) -> Result<Vec<ValidationError<'i>>, OutOfMemory>
+    requires callable { F.IsAlwaysCallable run }
+    requires met { IsSome first.0.unassumed }
+    ensures errors { (v : Sense) → Follows v → IsRunOf v iter_errors (λ s x m t end. F.step s x (Ok (m, t)) end) first.entry.0 run errors_in (errors_of v) → IfOk result (λ es. ErrorsSay v (errors_in es)) }
+    ensures first { (v : Sense) → Follows v → IsRunOf v validate (λ s x m t end. F.step s x (Ok (m, t)) end) first.entry.0 run errors_in (errors_of v) → IfOk result (λ es. FirstSays v (first_error (errors_in es))) }
+    ensures evaluation { (v : Sense) → Follows v → IsRunOf v evaluate (λ s x m t end. F.step s x (Ok (m, t)) end) first.entry.0 run none_in (λ m. is_nil (errors_of v m)) → IfOk result (λ es. VerdictSays v evaluate (none_in es)) }
+{
+    let outcomes = assume_each_outcome(alloc, run, first)?;
+    Ok(errors(alloc, outcomes, root)?)
+}
