@@ -23,6 +23,7 @@ name_of_entry draft vocabularies name e h = go (support_of draft name) h
     met : (b : Bool) (form : Form) → (if b then Some (record { name = name; form = form }) else None) ≡ Some e → name ≡ e.name
     met true form k = let same : (let s : Entry = record { name = name; form = form } in s ≡ e) = cc in ap (λ (s : Entry). s.name) same
     met false form k = absurd (let f : ⊥ = cc in f)
+
     go : (o : Option Support) → option_and_then (entry_by draft vocabularies name) o ≡ Some e → name ≡ e.name
     go None k = absurd (let f : ⊥ = cc in f)
     go (Some s) k = met (is_met draft vocabularies s.need) s.form k

@@ -74,9 +74,9 @@ module _ (a b d e f g h i j : Bool) (us : List Text) (a' b' d' e' f' g' h' i' j'
       let fs : List Bool = a ∷ b ∷ d ∷ e ∷ f ∷ g ∷ h ∷ i ∷ j ∷ [] in
       let gs : List Bool = a' ∷ b' ∷ d' ∷ e' ∷ f' ∷ g' ∷ h' ∷ i' ∷ j' ∷ [] in
       one_test (same_vocabularies (listed fs us) (listed gs vs)) (pointwise beq fs gs && pointwise bytes_eq us vs)
-        (λ h. let same : listed fs us ≡ listed gs vs = vocabularies_is (listed fs us) (listed gs vs) h in
-              rw ((flags_decide fs gs).1 (flags_of same)) ((uris_decide us vs).1 (uris_of fs gs us vs same)))
-        (λ h. let flags : fs ≡ gs = (flags_decide fs gs).0 (both_left _ _ h) in
-              let uris : us ≡ vs = (uris_decide us vs).0 (both_right _ _ h) in
-              let equal : listed fs us ≡ listed gs vs = ap₂ listed flags uris in
-              rw equal (vocabularies_itself (listed gs vs)))
+      (λ h. let same : listed fs us ≡ listed gs vs = vocabularies_is (listed fs us) (listed gs vs) h in
+      rw ((flags_decide fs gs).1 (flags_of same)) ((uris_decide us vs).1 (uris_of fs gs us vs same)))
+      (λ h. let flags : fs ≡ gs = (flags_decide fs gs).0 (both_left _ _ h) in
+      let uris : us ≡ vs = (uris_decide us vs).0 (both_right _ _ h) in
+      let equal : listed fs us ≡ listed gs vs = ap₂ listed flags uris in
+      rw equal (vocabularies_itself (listed gs vs)))

@@ -403,6 +403,24 @@ fn knows_every_name(rt: HostRuntime) {
     }
 }
 
+/// In each draft, of each name, the form, priority and leaf that the published table has there.
+#[test]
+fn finds_the_rows_of_every_draft(rt: HostRuntime) -> Result<(), Fail> {
+    let all = needed_but(rt.alloc(), &None)?;
+    for (name, priority, is_leaf, cells) in rows() {
+        for draft in drafts() {
+            let published = form_in(cell_in(draft, cells)).map(|form| (form, *priority, *is_leaf));
+            let found = builtin_row(draft, &all, name).map(|row| (
+                row.entry.form,
+                row.priority,
+                row.is_leaf,
+            ));
+            assert_eq!(rt; found, published, "{name} in {draft:?}");
+        }
+    }
+    Ok(())
+}
+
 fn entry(keyword: BuiltinKeyword, form: KeywordForm) -> Option<BuiltinEntry> {
     Some(BuiltinEntry { keyword, form })
 }
@@ -487,12 +505,15 @@ fn keeps_vocabularies(rt: HostRuntime) -> Result<(), Fail> {
     set.add(Vocabulary::Custom(String::from_str(alloc, "http://v/y")?))?;
     set.add(Vocabulary::FormatAssertion)?;
     let copy = set.duplicate()?;
+    assert!(rt; copy.same(&set));
     assert!(rt; copy.contains(&custom));
     assert!(rt; copy.contains(&Vocabulary::FormatAssertion));
     assert!(rt; !copy.contains(&Vocabulary::FormatAnnotation));
     let uris = copy.custom();
     assert_eq!(rt; uris.len(), 2);
     assert_eq!(rt; uris.first().map(|uri| uri.as_str()), Some("http://v/y"));
+    set.add(Vocabulary::FormatAnnotation)?;
+    assert!(rt; !copy.same(&set));
     Ok(())
 }
 

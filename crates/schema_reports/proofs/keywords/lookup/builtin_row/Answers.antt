@@ -1,4 +1,3 @@
-use Rattle.std.proofs.Common.{sym}
 use Rattle.schema_reports.specs.KeywordViews.{draft_of, entry_seen}
 use Rattle.schema_reports.proofs.KeywordRows.{builtin_given}
 use Rattle.schema_reports.proofs.keywords.lookup.builtin_row.Goals as goal

@@ -1,9 +1,8 @@
-use Rattle.std.proofs.Common.{ap, sym, ◌∙◌}
+use Rattle.std.proofs.Common.{sym, ◌∙◌}
 use Rattle.std.specs.Cmp.Derive.Mapped.{pointwise-map}
 use Rattle.std.specs.Cmp.Lexicographic.{pointwise}
-use Rattle.std.specs.Prelude.{Bool, List, [], bytes_eq, false, map, string_bytes, true, ◌&&◌, ◌∷◌, ◌≡◌}
+use Rattle.std.specs.Prelude.{[], bytes_eq, false, map, string_bytes, true, ◌∷◌, ◌≡◌}
 use Rattle.std.proofs.Math.Bool.{beq}
-use Rattle.schema_reports.specs.Drafts.{same_vocabularies}
 use Rattle.schema_reports.proofs.SameVocabularies.{same_listed}
 use Rattle.schema_reports.proofs.keywords.vocabularies.VocabularySet.same.Goals as goal
 
