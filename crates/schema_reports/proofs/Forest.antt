@@ -1,7 +1,6 @@
 -- Trees that grow from the lists that wait on the stack.
-use Rattle.std.proofs.Common.{◌≡◌, ℕ, ◌+◌, ◌<◌, List, [], ◌∷◌, ◌++◌, Some, None, true, false, sym, ◌∙◌, ap, subst, refl, append_assoc, arith, length, reverse}
+use Rattle.std.proofs.Common.{◌≡◌, ℕ, ◌+◌, List, [], ◌∷◌, ◌++◌, Some, None, true, false, sym, ◌∙◌, ap, subst, refl, append_assoc, arith, length, reverse}
 use Rattle.std.proofs.lemmas.List.{append-nil, reverse-append}
-use Rattle.std.proofs.lemmas.Grind.{common_steps}
 use Rattle.schema_reports.specs.Matching.{Assumptions}
 use Rattle.schema_reports.specs.Runs.{Met}
 use Rattle.schema_reports.specs.Cover.{assuming}

@@ -1,8 +1,8 @@
 -- A run that meets a match that it knows remembers what it would have remembered on asking the matcher.
-use Rattle.std.proofs.Common.{◌≡◌, zero, suc, List, [], ◌∷◌, ◌++◌, Bool, true, false, ◌||◌, cond, Some, None, refl, sym, ◌∙◌, ap, subst, arith, ◌⊎◌, inl, inr}
+use Rattle.std.proofs.Common.{◌≡◌, List, [], ◌∷◌, ◌++◌, Bool, true, false, ◌||◌, cond, Some, None, refl, sym, ◌∙◌, ap, subst, arith, ◌⊎◌, inl, inr}
 use Rattle.std.specs.Prelude.{Contains, Option, find, is_some, option_map}
 use Rattle.std.proofs.lemmas.List.Elements.{Contains-append_cases}
-use Rattle.schema_reports.specs.Matching.{Assumptions, Pair, Reason, assumed, same_pair}
+use Rattle.schema_reports.specs.Matching.{Assumptions, Reason, assumed, same_pair}
 use Rattle.schema_reports.specs.Runs.{Met}
 use Rattle.schema_reports.specs.Unfinished.{Failure, Remembered, first_unassumed, is_known, is_of, meet, meet_known, noted, site_of, starting}
 use Rattle.schema_reports.proofs.CoversApart.{only_one, same_is}

@@ -1,9 +1,9 @@
 -- What a tree of runs counts.
-use Rattle.std.proofs.Common.{◌≡◌, ℕ, ◌+◌, ◌*◌, ◌<◌, List, [], ◌∷◌, ◌++◌, Bool, true, false, sym, ◌∙◌, ap, refl, arith, length, append_assoc}
+use Rattle.std.proofs.Common.{◌≡◌, ℕ, ◌+◌, ◌*◌, ◌<◌, List, [], ◌∷◌, ◌++◌, true, false, sym, ◌∙◌, ap, refl, arith, length, append_assoc}
 use Rattle.std.proofs.lemmas.List.{length-append}
 use Rattle.schema_reports.specs.Matching.{Assumptions}
 use Rattle.schema_reports.specs.Cover.{assuming}
-use Rattle.schema_reports.specs.Unfinished.{Failure, Remembered}
+use Rattle.schema_reports.specs.Unfinished.{Remembered}
 use Rattle.schema_reports.specs.Search.{Cut, Tree, Whole, all_yes, branch, ends, lists_of, member, results_of, runs, unrun, waiting}
 
 pub runs_and_waiting : {T : Type 0} (tree : Tree T) → runs tree + waiting tree + 1 ≡ 2 * ends tree

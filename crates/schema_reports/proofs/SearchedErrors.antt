@@ -1,20 +1,20 @@
 -- The errors of the search over a sense's runs are those that the sense's call lists.
-use Rattle.std.proofs.Common.{◌≡◌, ℕ, ◌+◌, ◌*◌, ◌<◌, ◌≤◌, List, [], ◌∷◌, ◌++◌, Bool, true, false, ◌&&◌, ◌||◌, cond, Some, None, sym, ◌∙◌, ap, ap₂, subst, refl, arith, length, map}
+use Rattle.std.proofs.Common.{◌≡◌, ℕ, List, [], ◌∷◌, ◌++◌, Bool, true, false, ◌&&◌, ◌||◌, cond, Some, sym, ◌∙◌, ap, ap₂, subst, refl, arith, map}
 use Rattle.std.specs.Prelude.{Option, filter, option_map}
 use Rattle.std.specs.List.{list_all, list_any}
 use Rattle.std.specs.Global.{Vec}
 use Rattle.serde_json.specs.Data.{Data}
-use Rattle.schema_reports.specs.Matching.{Assumptions, unfinished}
+use Rattle.schema_reports.specs.Matching.{Assumptions}
 use Rattle.schema_reports.specs.Reports.{Error, same_error}
 use Rattle.schema_reports.specs.Runs.{first_error}
-use Rattle.schema_reports.specs.Cover.{Call, Cover, Decides, Sense, branch_at, evaluate, iter_errors, validate}
+use Rattle.schema_reports.specs.Cover.{Call, Sense, branch_at, evaluate, iter_errors, validate}
 use Rattle.schema_reports.specs.Headline.{ErrorsSay, FirstSays, IsFailure, VerdictSays}
 use Rattle.schema_reports.specs.Members.{Follows, is_nil, listed, none_has, or_failure, shared_with}
 use Rattle.schema_reports.specs.Shared.{errors_of, in_each}
 use Rattle.schema_reports.specs.ReportViews.{error_of}
-use Rattle.schema_reports.specs.Unfinished.{Failure, Remembered, located_by_all}
-use Rattle.schema_reports.specs.Search.{Cut, Made, Tree, Whole, lists_of, results_of, sites}
-use Rattle.schema_reports.specs.SharedResults.{IsSharedBy, OneError, OrFailure, has_key, in_each_of, is_empty, or_none, shared_among}
+use Rattle.schema_reports.specs.Unfinished.{Failure, Remembered}
+use Rattle.schema_reports.specs.Search.{Made, Tree, lists_of, results_of, sites}
+use Rattle.schema_reports.specs.SharedResults.{IsSharedBy, OrFailure, has_key, in_each_of, is_empty, or_none, shared_among}
 use Rattle.schema_reports.specs.Outcomes.{AreErrors, AreOutcomes, errors_in, none_in}
 use Rattle.schema_reports.specs.Searched.{IsRunOf, failure_error}
 use Rattle.schema_reports.specs.declared.reports.ValidationError.{ValidationError}
@@ -23,7 +23,7 @@ use Rattle.schema_reports.specs.declared.unfinished_matches.search.Outcomes.TheV
 use Rattle.schema_reports.proofs.CoversApart.{both_left, both_right}
 use Rattle.schema_reports.proofs.Sentences.{errors_say, evaluate_says, first_says}
 use Rattle.schema_reports.proofs.SharedLists.{map_last}
-use Rattle.schema_reports.proofs.SearchedSense.{call_part, map_append}
+use Rattle.schema_reports.proofs.SearchedSense.{call_part}
 use Rattle.schema_reports.proofs.SearchedFailure.{IsAt, at_all, at_first, is_failure}
 use Rattle.schema_reports.proofs.SearchedSays.{all_map, are_few, not_decided}
 
@@ -201,27 +201,29 @@ module _ (v : Sense) (follows : Follows v) (root : Data) {S : Type 0} (Step : S 
       let m = are_few v iter_errors Step first start errors_in (errors_of v) is 64 tree f made whole in
       let it = listed_is root f v m.others m.last (map (λ (r : Vec ValidationError). r.items) results.items) o es.items (told_results tree results.items (lists_of [] tree) same m.same ∙ ap (map (errors_of v)) m.split) shared answer in
       subst (ErrorsSay v) (sym it) (errors_say v follows m.others m.last (failure_error f) (lists_of [] tree) m.cover m.split (omega (arith, m.few)) (λ x e. fails v iter_errors Step first start errors_in (errors_of v) is 64 tree f made))
-  all_errors_say is (Undecided f) (tree, made, cut) es one =
-      (λ d. absurd (not_decided v iter_errors Step first start errors_in (errors_of v) is tree f made cut d),
-       λ n. (failure_error f, fails v iter_errors Step first start errors_in (errors_of v) is 64 tree f made, ap told one.alone ∙ ap (λ z. z ∷ []) one.is))
+  all_errors_say is (Undecided f) (tree, made, cut) es one = (
+    λ d. absurd (not_decided v iter_errors Step first start errors_in (errors_of v) is tree f made cut d),
+    λ n. (failure_error f, fails v iter_errors Step first start errors_in (errors_of v) is 64 tree f made, ap told one.alone ∙ ap (λ z. z ∷ []) one.is),
+  )
 
   pub first_error_says : IsRunOf v validate Step first start errors_in (errors_of v) → (o : Outcomes (Vec ValidationError)) → AreOutcomes Step first start 64 o → (es : Vec ValidationError) → AreErrors root o es.items → FirstSays v (first_error (errors_in es))
   first_error_says is (Assumed results f) (tree, made, whole, same) es (o, shared, answer) =
       let m = are_few v validate Step first start errors_in (errors_of v) is 64 tree f made whole in
       let it = listed_is root f v m.others m.last (map (λ (r : Vec ValidationError). r.items) results.items) o es.items (told_results tree results.items (lists_of [] tree) same m.same ∙ ap (map (errors_of v)) m.split) shared answer in
       subst (λ z. FirstSays v (first_error z)) (sym it) (first_says v follows m.others m.last (failure_error f) (lists_of [] tree) m.cover m.split (omega (arith, m.few)) (λ x e. fails v validate Step first start errors_in (errors_of v) is 64 tree f made))
-  first_error_says is (Undecided f) (tree, made, cut) es one =
-      (λ d. absurd (not_decided v validate Step first start errors_in (errors_of v) is tree f made cut d),
-       λ n. (failure_error f, fails v validate Step first start errors_in (errors_of v) is 64 tree f made, ap (λ z. first_error (told z)) one.alone ∙ ap Some one.is))
+  first_error_says is (Undecided f) (tree, made, cut) es one = (
+    λ d. absurd (not_decided v validate Step first start errors_in (errors_of v) is tree f made cut d),
+    λ n. (failure_error f, fails v validate Step first start errors_in (errors_of v) is 64 tree f made, ap (λ z. first_error (told z)) one.alone ∙ ap Some one.is),
+  )
 
   pub evaluation_says : IsRunOf v evaluate Step first start none_in (λ m. is_nil (errors_of v m)) → (o : Outcomes (Vec ValidationError)) → AreOutcomes Step first start 64 o → (es : Vec ValidationError) → AreErrors root o es.items → VerdictSays v evaluate (none_in es)
   evaluation_says is (Assumed results f) (tree, made, whole, same) es (o, shared, answer) =
       let m = are_few v evaluate Step first start none_in (λ x. is_nil (errors_of v x)) is 64 tree f made whole in
       let it = none_answer root f (map (λ (r : Vec ValidationError). r.items) results.items) o es.items shared answer in
       let none : list_all is_empty (map (λ (r : Vec ValidationError). r.items) results.items) ≡ none_has v (lists_of [] tree) =
-            all_map is_empty (λ (r : Vec ValidationError). r.items) results.items ∙ (sym (all_map (λ b. b) none_in results.items) ∙ (ap (λ z. list_all (λ b. b) (map none_in z)) same
-            ∙ (ap (list_all (λ b. b)) m.same ∙ all_map (λ b. b) (λ x. is_nil (errors_of v x)) (lists_of [] tree)))) in
+      all_map is_empty (λ (r : Vec ValidationError). r.items) results.items ∙ (sym (all_map (λ b. b) none_in results.items) ∙ (ap (λ z. list_all (λ b. b) (map none_in z)) same
+      ∙ (ap (list_all (λ b. b)) m.same ∙ all_map (λ b. b) (λ x. is_nil (errors_of v x)) (lists_of [] tree)))) in
       subst (VerdictSays v evaluate) (nil_listed v m.others m.last (failure_error f) ∙ (ap (none_has v) (sym m.split) ∙ (sym none ∙ sym it)))
-        (evaluate_says v follows m.others m.last (failure_error f) (lists_of [] tree) m.cover m.split (omega (arith, m.few)) (λ x e. fails v evaluate Step first start none_in (λ y. is_nil (errors_of v y)) is 64 tree f made))
+      (evaluate_says v follows m.others m.last (failure_error f) (lists_of [] tree) m.cover m.split (omega (arith, m.few)) (λ x e. fails v evaluate Step first start none_in (λ y. is_nil (errors_of v y)) is 64 tree f made))
   evaluation_says is (Undecided f) (tree, made, cut) es one =
       (λ d. absurd (not_decided v evaluate Step first start none_in (λ x. is_nil (errors_of v x)) is tree f made cut d), λ n. ap is_empty one.alone)

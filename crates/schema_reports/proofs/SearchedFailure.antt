@@ -1,13 +1,13 @@
 -- The failure of a search over a sense's runs is one of the call's.
-use Rattle.std.proofs.Common.{◌≡◌, zero, suc, List, [], ◌∷◌, ◌++◌, Bool, true, false, cond, not, Some, None, sym, ◌∙◌, ap, ap₂, subst, refl, arith, ◌⊎◌, inl, inr}
+use Rattle.std.proofs.Common.{◌≡◌, zero, suc, List, [], ◌∷◌, Bool, true, false, cond, not, Some, None, sym, ◌∙◌, ap, ap₂, subst, refl, arith, ◌⊎◌, inl, inr}
 use Rattle.std.specs.Prelude.{Option, option_map, is_some, Contains, find, unwrap_or}
 use Rattle.schema_reports.specs.Instance.{Place, Text}
 use Rattle.schema_reports.specs.Matching.{Assumptions, assumed, same_pair, unfinished}
 use Rattle.schema_reports.specs.Reports.{Error}
-use Rattle.schema_reports.specs.Runs.{Met, Site}
+use Rattle.schema_reports.specs.Runs.{Met}
 use Rattle.schema_reports.specs.Cover.{Call, IsRun, Sense, branch_at, first_run}
 use Rattle.schema_reports.specs.Headline.{IsFailure, reason_text, shown_pattern}
-use Rattle.schema_reports.specs.Unfinished.{Failure, located_by, located_by_all, or_pattern, preferred, site_of}
+use Rattle.schema_reports.specs.Unfinished.{Failure, located_by, located_by_all, or_pattern, preferred}
 use Rattle.schema_reports.specs.Searched.{failure_error}
 use Rattle.schema_reports.proofs.CoversApart.{Some-is, same_is}
 use Rattle.schema_reports.proofs.SearchedSense.{AllSited, Sited}
@@ -45,8 +45,17 @@ module _ (v : Sense) (call : Call) (u : Failure) where
 
   pub at_first : branch_at v call [] ≡ Some u.met → IsAt u
   at_first e = record {
-    run = []; is_run = first_run; met = u.met; meets = (found (λ x. not (is_some (assumed [] x.pair))) (v.meets call []) u.met e).0;
-    same = refl; pair = refl; reason = refl; schema = refl; located = refl; pattern = own_pattern u.met.site.pattern; state = inl refl;
+    run = [];
+    is_run = first_run;
+    met = u.met;
+    meets = (found (λ x. not (is_some (assumed [] x.pair))) (v.meets call []) u.met e).0;
+    same = refl;
+    pair = refl;
+    reason = refl;
+    schema = refl;
+    located = refl;
+    pattern = own_pattern u.met.site.pattern;
+    state = inl refl;
   }
 
   at_next : (f : Failure) (ms : List Met) → Sited v call ms → IsAt f → IsAt (located_by f ms)
@@ -60,9 +69,15 @@ module _ (v : Sense) (call : Call) (u : Failure) where
           let (in_ms, passes) = found (λ x. same_pair f.met.pair x.pair) ms m e' in
           let old : f.met.site.pattern ≡ u.met.site.pattern = elim h.state [ inl p ↦ p | inr q ↦ absurd (cc (e, q)) ] in
           record {
-            run = as'; is_run = run; met = m; meets = (inside m in_ms).0;
+            run = as';
+            is_run = run;
+            met = m;
+            meets = (inside m in_ms).0;
             same = sym (same_is f.met.pair m.pair passes) ∙ h.pair;
-            pair = h.pair; reason = h.reason; schema = refl; located = refl;
+            pair = h.pair;
+            reason = h.reason;
+            schema = refl;
+            located = refl;
             pattern = ap (or_pattern m.site.pattern) old;
             state = inr (inside m in_ms).1;
           }

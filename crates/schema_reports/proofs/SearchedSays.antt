@@ -1,7 +1,7 @@
 -- What the search over a sense's runs answers, that is what the sense's call says.
-use Rattle.std.proofs.Common.{◌≡◌, ℕ, ◌+◌, ◌*◌, ◌<◌, ◌≤◌, List, [], ◌∷◌, ◌++◌, Bool, true, false, ◌&&◌, ◌||◌, cond, Some, None, sym, ◌∙◌, ap, ap₂, subst, refl, arith, length, map}
-use Rattle.std.specs.Prelude.{Option, filter, ◌↔◌}
-use Rattle.std.specs.List.{list_all, list_any}
+use Rattle.std.proofs.Common.{◌≡◌, ℕ, ◌+◌, ◌*◌, ◌≤◌, List, [], ◌∷◌, ◌++◌, Bool, true, false, ◌&&◌, sym, ◌∙◌, ap, subst, refl, arith, length, map}
+use Rattle.std.specs.Prelude.{◌↔◌}
+use Rattle.std.specs.List.{list_all}
 use Rattle.schema_reports.specs.Matching.{Assumptions}
 use Rattle.schema_reports.specs.Cover.{Call, Cover, Decides, Sense}
 use Rattle.schema_reports.specs.Headline.{VerdictSays}

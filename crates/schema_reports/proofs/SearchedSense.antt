@@ -1,7 +1,6 @@
 -- The tree that a sense's runs grow is the sense's cover, or a part of it.
-use Rattle.std.proofs.Common.{◌≡◌, ℕ, ◌+◌, ◌*◌, ◌<◌, ◌≤◌, List, [], ◌∷◌, ◌++◌, Bool, true, false, Some, None, sym, ◌∙◌, ap, ap₂, subst, refl, arith, length, map}
-use Rattle.std.specs.Prelude.{Option, ⊤, option_map, is_some, Contains}
-use Rattle.std.specs.List.{list_all}
+use Rattle.std.proofs.Common.{◌≡◌, List, [], ◌∷◌, ◌++◌, true, false, Some, None, sym, ◌∙◌, ap, ap₂, subst, refl, arith, map}
+use Rattle.std.specs.Prelude.{⊤, option_map, is_some, Contains}
 use Rattle.schema_reports.specs.Matching.{Assumptions}
 use Rattle.schema_reports.specs.Runs.{Met}
 use Rattle.schema_reports.specs.Cover.{Call, Cover, IsRun, Sense, assuming, branch_at, first_run, further, split, whole}

@@ -1,5 +1,5 @@
 -- What all results share.
-use Rattle.std.proofs.Common.{◌≡◌, List, [], ◌∷◌, ◌++◌, None, Some, Bool, ap, map, refl, sym, ◌∙◌, true, false, cond}
+use Rattle.std.proofs.Common.{◌≡◌, List, [], ◌∷◌, ◌++◌, ap, map, refl}
 use Rattle.std.specs.Prelude.{Option}
 use Rattle.std.specs.List.{list_all}
 use Rattle.schema_reports.specs.SharedResults.{IsSharedBy, is_empty, or_none, shared_among}

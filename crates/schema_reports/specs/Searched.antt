@@ -1,5 +1,5 @@
 -- What the search over a sense's runs says of every completion.
-use Rattle.std.specs.Prelude.{Bool, Contains, List, None, Option, Some, [], codes, is_some, option_map, true, unwrap_or, ◌∷◌, ◌≡◌, ◌≤◌, ◌++◌}
+use Rattle.std.specs.Prelude.{Contains, None, Some, [], codes, is_some, option_map, true, unwrap_or, ◌≡◌}
 use Rattle.schema_reports.specs.Matching.{Assumptions, unfinished}
 use Rattle.schema_reports.specs.Reports.{Error}
 use Rattle.schema_reports.specs.Runs.{Met}

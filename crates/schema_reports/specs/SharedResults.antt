@@ -1,8 +1,8 @@
 -- The errors that all results of a search share.
 use Rattle.std.specs.List.{list_all, list_any}
-use Rattle.std.specs.Prelude.{Bool, List, None, Option, Some, [], false, filter, map, true, unwrap_or, ◌++◌, ◌∷◌, ◌≡◌}
+use Rattle.std.specs.Prelude.{Bool, List, None, Option, Some, [], false, filter, true, unwrap_or, ◌++◌, ◌∷◌, ◌≡◌}
 use Rattle.serde_json.specs.Data.{Data}
-use Rattle.schema_reports.specs.Instance.{Subject, a_value, subject_at}
+use Rattle.schema_reports.specs.Instance.{a_value, subject_at}
 use Rattle.schema_reports.specs.InstanceViews.{subject_of}
 use Rattle.schema_reports.specs.Reports.{same_error}
 use Rattle.schema_reports.specs.ReportViews.{error_of}

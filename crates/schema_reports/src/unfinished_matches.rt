@@ -3,10 +3,9 @@ mod assumptions;
 mod search;
 mod shared;
 mod site;
-mod under_each;
-
 #[cfg(test)]
 mod tests;
+mod under_each;
 
 pub use assumptions::MatchAssumptions;
 pub use search::{MAX_ASSUMED_RUNS, Outcomes, assume_each_outcome};

@@ -4,9 +4,7 @@ ghost use Rattle.schema_reports.specs.Matching.{assumed};
 ghost use Rattle.schema_reports.specs.MatchViews.{reason_of};
 ghost use Rattle.schema_reports.specs.Unfinished.{is_known, meet, meet_known, noted, or_no, site_of, starting};
 
-use super::site::{
-    LocatedMatch, MatchFailure, MatchSite, Reason, UnfinishedMatch, place_of,
-};
+use super::site::{LocatedMatch, MatchFailure, MatchSite, Reason, UnfinishedMatch, place_of};
 use crate::location::OutOfMemory;
 use std::alloc::{AllocError, Global};
 use std::marker::Model;
@@ -75,7 +73,11 @@ impl AssumedOutcomes {
     }
 
     /// One match more is assumed to come out so.
-    pub(super) fn with(self, unfinished: UnfinishedMatch, matches: bool) -> Result<AssumedOutcomes, OutOfMemory>
+    pub(super) fn with(
+        self,
+        unfinished: UnfinishedMatch,
+        matches: bool,
+    ) -> Result<AssumedOutcomes, OutOfMemory>
         ensures { IfOk result (λ a. a ≡ record { pair = unfinished; outcome = matches } ∷ self) }
     {
         let mut list = self.matches;
@@ -141,7 +143,13 @@ impl<'i> MatchAssumptions<'i> {
     }
 
     /// The assumed outcomes, the first unfinished match that is not among them, and the sites with an instance path.
-    pub(super) fn into_parts(self) -> (AssumedOutcomes, Option<MatchFailure<'i>>, Vec<LocatedMatch<'i>>)
+    pub(super) fn into_parts(
+        self,
+    ) -> (
+        AssumedOutcomes,
+        Option<MatchFailure<'i>>,
+        Vec<LocatedMatch<'i>>,
+    )
         ensures assumed { result.0 ≡ self.entry.assumptions }
         ensures unassumed { result.1 ≡ self.entry.unassumed }
         ensures located { result.2.items ≡ self.entry.located }
@@ -158,7 +166,11 @@ fn has_site(sites: &[LocatedMatch<'_>], pattern: &str, subject: &str) -> bool
 }
 
 // Remembers the site, where it has an instance path and there is none of the match yet.
-fn note<'i>(sites: &mut Vec<LocatedMatch<'i>>, unfinished: &UnfinishedMatch, site: &MatchSite<'i>) -> Result<(), OutOfMemory>
+fn note<'i>(
+    sites: &mut Vec<LocatedMatch<'i>>,
+    unfinished: &UnfinishedMatch,
+    site: &MatchSite<'i>,
+) -> Result<(), OutOfMemory>
     ensures ok { OnOk result (sites.new.items ≡ noted sites.old.items (record { pair = unfinished.now; site = site.now })) }
     ensures err { OnErr result (sites.new.items ≡ sites.old.items) }
 {
@@ -200,7 +212,13 @@ impl<'i> MatchAssumptions<'i> {
 
     /// What a match that the matcher left unfinished comes out as: as assumed, or no. It is remembered with its site.
     /// Where memory is wanted, nothing is.
-    pub fn resolve(&mut self, pattern: &str, subject: &str, reason: Reason, site: MatchSite<'i>) -> Result<bool, OutOfMemory>
+    pub fn resolve(
+        &mut self,
+        pattern: &str,
+        subject: &str,
+        reason: Reason,
+        site: MatchSite<'i>,
+    ) -> Result<bool, OutOfMemory>
         ensures answer { IfOk result (λ b. b ≡ or_no (assumed self.old.assumptions (record { pattern = pattern.now; subject = subject.now }))) }
         ensures ok { OnOk result (self.new ≡ meet self.old (record { met = record { pair = record { pattern = pattern.now; subject = subject.now }; site = site.entry }; reason = reason_of reason })) }
         ensures err { OnErr result (self.new ≡ self.old) }
@@ -219,7 +237,12 @@ impl<'i> MatchAssumptions<'i> {
     }
 
     /// The same of a match that is known to be unfinished: the matcher need not be asked again.
-    pub fn resolve_unfinished(&mut self, pattern: &str, subject: &str, site: MatchSite<'i>) -> Result<bool, OutOfMemory>
+    pub fn resolve_unfinished(
+        &mut self,
+        pattern: &str,
+        subject: &str,
+        site: MatchSite<'i>,
+    ) -> Result<bool, OutOfMemory>
         requires known { IsTrue (is_known self.old (record { pattern = pattern.now; subject = subject.now })) }
         ensures answer { IfOk result (λ b. b ≡ or_no (assumed self.old.assumptions (record { pattern = pattern.now; subject = subject.now }))) }
         ensures ok { OnOk result (self.new ≡ meet_known self.old (record { pair = record { pattern = pattern.now; subject = subject.now }; site = site.entry })) }

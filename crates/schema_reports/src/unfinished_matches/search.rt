@@ -24,7 +24,12 @@ pub enum Outcomes<'i, T> {
 }
 
 // Pushes the two lists that assume an outcome of the match, yes below no.
-fn push_both(alloc: Global, pending: &mut Vec<AssumedOutcomes>, assumed: AssumedOutcomes, unfinished: UnfinishedMatch) -> Result<(), OutOfMemory>
+fn push_both(
+    alloc: Global,
+    pending: &mut Vec<AssumedOutcomes>,
+    assumed: AssumedOutcomes,
+    unfinished: UnfinishedMatch,
+) -> Result<(), OutOfMemory>
     ensures { IfOk result (λ _. pending.new.items ≡ pending.old.items ++ (record { pair = unfinished; outcome = true } ∷ assumed) ∷ [] ++ (record { pair = unfinished; outcome = false } ∷ assumed) ∷ []) }
 {
     let yes = assumed.copy(alloc)?.with(unfinished.copy()?, true)?;
@@ -35,7 +40,11 @@ fn push_both(alloc: Global, pending: &mut Vec<AssumedOutcomes>, assumed: Assumed
 }
 
 /// Makes the runs that the unfinished matches call for, at most so many. The first run has been made, and met one.
-fn assume_within<'i, T: Drop, F: FnMut(MatchAssumptions<'i>) -> Result<(MatchAssumptions<'i>, T), OutOfMemory>>(
+fn assume_within<
+    'i,
+    T: Drop,
+    F: FnMut(MatchAssumptions<'i>) -> Result<(MatchAssumptions<'i>, T), OutOfMemory>,
+>(
     alloc: Global,
     mut run: F,
     first: (MatchAssumptions<'i>, T),
@@ -71,11 +80,11 @@ fn assume_within<'i, T: Drop, F: FnMut(MatchAssumptions<'i>) -> Result<(MatchAss
 }
 
 /// Makes the runs that the unfinished matches call for. The first run has been made, and met one.
-pub fn assume_each_outcome<'i, T: Drop, F: FnMut(MatchAssumptions<'i>) -> Result<(MatchAssumptions<'i>, T), OutOfMemory>>(
-    alloc: Global,
-    run: F,
-    first: (MatchAssumptions<'i>, T),
-) -> Result<Outcomes<'i, T>, OutOfMemory>
+pub fn assume_each_outcome<
+    'i,
+    T: Drop,
+    F: FnMut(MatchAssumptions<'i>) -> Result<(MatchAssumptions<'i>, T), OutOfMemory>,
+>(alloc: Global, run: F, first: (MatchAssumptions<'i>, T)) -> Result<Outcomes<'i, T>, OutOfMemory>
     requires callable { F.IsAlwaysCallable run }
     requires met { IsSome first.0.unassumed }
     ensures outcomes { IfOk result (AreOutcomes (λ s x m t end. F.step s x (Ok (m, t)) end) first.entry.0 run MAX_ASSUMED_RUNS) }

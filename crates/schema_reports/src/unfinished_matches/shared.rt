@@ -34,19 +34,29 @@ pub fn validity(outcomes: Outcomes<'_, bool>) -> bool
 }
 
 // Whether two errors are the same in all paths and the text.
-fn is_same_key(alloc: Global, one: &ValidationError<'_>, other: &ValidationError<'_>) -> Result<bool, OutOfMemory>
+fn is_same_key(
+    alloc: Global,
+    one: &ValidationError<'_>,
+    other: &ValidationError<'_>,
+) -> Result<bool, OutOfMemory>
     ensures same { IfOk result (λ b. b ≡ same_key one.now other.now) }
 {
     let one_path = one.instance_path(alloc)?;
     let other_path = other.instance_path(alloc)?;
-    Ok(one_path.as_str() == other_path.as_str()
-        && one.schema_path.as_str() == other.schema_path.as_str()
-        && one.evaluation_path.as_str() == other.evaluation_path.as_str()
-        && one.text.as_str() == other.text.as_str())
+    Ok(
+        one_path.as_str() == other_path.as_str()
+            && one.schema_path.as_str() == other.schema_path.as_str()
+            && one.evaluation_path.as_str() == other.evaluation_path.as_str()
+            && one.text.as_str() == other.text.as_str(),
+    )
 }
 
 // Whether one of the errors is the same.
-fn has_key_of(alloc: Global, errors: &[ValidationError<'_>], error: &ValidationError<'_>) -> Result<bool, OutOfMemory>
+fn has_key_of(
+    alloc: Global,
+    errors: &[ValidationError<'_>],
+    error: &ValidationError<'_>,
+) -> Result<bool, OutOfMemory>
     ensures has { IfOk result (λ b. b ≡ has_key errors.now error.now) }
 {
     for (i, one) in errors.iter().enumerate() {
@@ -58,7 +68,11 @@ fn has_key_of(alloc: Global, errors: &[ValidationError<'_>], error: &ValidationE
 }
 
 // Whether each result has such an error.
-fn is_in_each(alloc: Global, results: &[Vec<ValidationError<'_>>], error: &ValidationError<'_>) -> Result<bool, OutOfMemory>
+fn is_in_each(
+    alloc: Global,
+    results: &[Vec<ValidationError<'_>>],
+    error: &ValidationError<'_>,
+) -> Result<bool, OutOfMemory>
     ensures each { IfOk result (λ b. b ≡ in_each_of (map (λ r. r.items) results.now) error.now) }
 {
     for (i, one) in results.iter().enumerate() {
@@ -82,7 +96,11 @@ fn are_empty(results: &[Vec<ValidationError<'_>>]) -> bool
 }
 
 // Those of the errors whose key each of the results has, in their order.
-fn kept<'i>(alloc: Global, errors: Vec<ValidationError<'i>>, results: &[Vec<ValidationError<'i>>]) -> Result<Vec<ValidationError<'i>>, OutOfMemory>
+fn kept<'i>(
+    alloc: Global,
+    errors: Vec<ValidationError<'i>>,
+    results: &[Vec<ValidationError<'i>>],
+) -> Result<Vec<ValidationError<'i>>, OutOfMemory>
     ensures kept { IfOk result (λ k. k.items ≡ filter (in_each_of (map (λ r. r.items) results.now)) errors.entry.items) }
 {
     let mut kept = Vec::new(alloc);
@@ -107,11 +125,18 @@ fn all_empty(others: &[Vec<ValidationError<'_>>], last: &[ValidationError<'_>]) 
 fn or_none<'i>(shared: Vec<ValidationError<'i>>, empty: bool) -> Option<Vec<ValidationError<'i>>>
     ensures { option_map (λ r. r.items) result ≡ or_none shared.entry.items empty }
 {
-    if shared.is_empty() && !empty { None } else { Some(shared) }
+    if shared.is_empty() && !empty {
+        None
+    } else {
+        Some(shared)
+    }
 }
 
 // The errors that all results share, or none where they share none and some result has one.
-fn shared_errors<'i>(alloc: Global, results: Vec<Vec<ValidationError<'i>>>) -> Result<Option<Vec<ValidationError<'i>>>, OutOfMemory>
+fn shared_errors<'i>(
+    alloc: Global,
+    results: Vec<Vec<ValidationError<'i>>>,
+) -> Result<Option<Vec<ValidationError<'i>>>, OutOfMemory>
     ensures shared { IfOk result (λ o. IsSharedBy (map (λ r. r.items) results.entry.items) (option_map (λ r. r.items) o)) }
 {
     let mut others = results;
@@ -125,7 +150,11 @@ fn shared_errors<'i>(alloc: Global, results: Vec<Vec<ValidationError<'i>>>) -> R
 
 /// The errors that every result has, in the order of the last one; where there is none although some result has an error, or
 /// where there were too many combinations, the failure alone.
-pub fn errors<'i>(alloc: Global, outcomes: Outcomes<'i, Vec<ValidationError<'i>>>, root: &'i Value) -> Result<Vec<ValidationError<'i>>, OutOfMemory>
+pub fn errors<'i>(
+    alloc: Global,
+    outcomes: Outcomes<'i, Vec<ValidationError<'i>>>,
+    root: &'i Value,
+) -> Result<Vec<ValidationError<'i>>, OutOfMemory>
     ensures shared { IfOk result (λ es. AreErrors (view root.now) outcomes.entry es.items) }
 {
     let failure = match outcomes {

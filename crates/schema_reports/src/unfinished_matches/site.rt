@@ -50,7 +50,11 @@ impl Model for UnfinishedMatch {
 
 impl UnfinishedMatch {
     /// The match of this pattern and this subject.
-    pub(super) fn new(alloc: Global, pattern: &str, subject: &str) -> Result<UnfinishedMatch, OutOfMemory>
+    pub(super) fn new(
+        alloc: Global,
+        pattern: &str,
+        subject: &str,
+    ) -> Result<UnfinishedMatch, OutOfMemory>
         ensures pair { IfOk result (λ u. u ≡ record { pattern = pattern.now; subject = subject.now }) }
     {
         let pattern = Text::new(alloc, pattern)?;
@@ -119,7 +123,11 @@ impl<'i> MatchSite<'i> {
     }
 
     /// A site with its evaluation path and its place too.
-    pub fn located(schema_path: Location, evaluation_path: Location, place: Place<'i>) -> MatchSite<'i>
+    pub fn located(
+        schema_path: Location,
+        evaluation_path: Location,
+        place: Place<'i>,
+    ) -> MatchSite<'i>
         ensures site { result ≡ record { schema_path = schema_path; located = Some (evaluation_path, place.entry); pattern = None } }
     {
         MatchSite {
@@ -151,7 +159,9 @@ fn copied_pattern(pattern: &Option<Text>) -> Result<Option<Text>, OutOfMemory>
     }
 }
 
-fn copied_place<'i>(located: &Option<(Location, Place<'i>)>) -> Result<Option<(Location, Place<'i>)>, OutOfMemory>
+fn copied_place<'i>(
+    located: &Option<(Location, Place<'i>)>,
+) -> Result<Option<(Location, Place<'i>)>, OutOfMemory>
     ensures { IfOk result (λ l. l ≡ located.now) }
 {
     match located {
@@ -241,7 +251,11 @@ impl<'i> Model for MatchFailure<'i> {
 
 impl<'i> MatchFailure<'i> {
     /// The failure of this match at this site.
-    pub(super) fn new(unfinished: UnfinishedMatch, reason: Reason, site: MatchSite<'i>) -> MatchFailure<'i>
+    pub(super) fn new(
+        unfinished: UnfinishedMatch,
+        reason: Reason,
+        site: MatchSite<'i>,
+    ) -> MatchFailure<'i>
         ensures failure { result ≡ record { met = record { pair = unfinished; site = site.entry }; reason = reason_of reason } }
     {
         MatchFailure {
@@ -273,7 +287,11 @@ impl<'i> MatchFailure<'i> {
             return;
         }
         let mut located = located;
-        if let Some(at) = place_of(&located, self.unfinished.pattern(), self.unfinished.subject()) {
+        if let Some(at) = place_of(
+            &located,
+            self.unfinished.pattern(),
+            self.unfinished.subject(),
+        ) {
             let found = located.remove(at);
             self.site.take_over(found.site);
         }
@@ -291,7 +309,11 @@ fn reason_text(alloc: Global, reason: Reason, pattern: &str) -> Result<String, O
 }
 
 // The paths of a site; without an evaluation path, that is the schema path, and the place is the root.
-fn place_or_root<'i>(alloc: Global, located: Option<(Location, Place<'i>)>, schema_path: &Location) -> Result<(Location, Place<'i>), OutOfMemory>
+fn place_or_root<'i>(
+    alloc: Global,
+    located: Option<(Location, Place<'i>)>,
+    schema_path: &Location,
+) -> Result<(Location, Place<'i>), OutOfMemory>
     ensures at { IfOk result (λ l. l ≡ unwrap_or located.entry (schema_path.now, [])) }
 {
     match located {
@@ -315,7 +337,11 @@ fn at_or_root<'i>(root: &'i Value, place: &Place<'i>) -> Instance<'i>
 
 impl<'i> MatchFailure<'i> {
     /// The failure as an error, whose instance is what stands at its place.
-    pub(super) fn into_error(self, alloc: Global, root: &'i Value) -> Result<ValidationError<'i>, OutOfMemory>
+    pub(super) fn into_error(
+        self,
+        alloc: Global,
+        root: &'i Value,
+    ) -> Result<ValidationError<'i>, OutOfMemory>
         ensures error { IfOk result (λ e. error_of true e ≡ failure_error self.entry) }
         ensures instance { IfOk result (λ e. subject_of e.instance ≡ unwrap_or (subject_at (view root.now) e.place) (a_value (view root.now))) }
     {

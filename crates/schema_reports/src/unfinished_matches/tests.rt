@@ -2,8 +2,7 @@
 use super::site::UnfinishedMatch;
 use super::{
     MatchAssumptions, MatchFailure, MatchSite, Outcomes, Reason, assume_each_outcome, errors,
-    errors_under_each, validity,
-    validity_under_each,
+    errors_under_each, validity, validity_under_each,
 };
 use crate::instance::{Instance, InstanceStep, Place};
 use crate::location::{Location, OutOfMemory};
@@ -13,7 +12,12 @@ use serde_json::{Value, json};
 use std::alloc::Global;
 
 // An error at the root with this schema path and this text.
-fn error_at<'i>(alloc: Global, root: &'i Value, path: &str, text: &str) -> Result<ValidationError<'i>, OutOfMemory> {
+fn error_at<'i>(
+    alloc: Global,
+    root: &'i Value,
+    path: &str,
+    text: &str,
+) -> Result<ValidationError<'i>, OutOfMemory> {
     let schema_path = Location::from_escaped(alloc, path)?;
     let evaluation_path = schema_path.copy()?;
     Ok(ValidationError {
@@ -27,7 +31,12 @@ fn error_at<'i>(alloc: Global, root: &'i Value, path: &str, text: &str) -> Resul
     })
 }
 
-fn two_errors<'i>(alloc: Global, root: &'i Value, one: &str, other: &str) -> Result<Vec<ValidationError<'i>>, OutOfMemory> {
+fn two_errors<'i>(
+    alloc: Global,
+    root: &'i Value,
+    one: &str,
+    other: &str,
+) -> Result<Vec<ValidationError<'i>>, OutOfMemory> {
     let mut list = Vec::new(alloc);
     list.push(error_at(alloc, root, one, one)?)?;
     list.push(error_at(alloc, root, other, other)?)?;
@@ -56,7 +65,12 @@ fn have_texts(list: &[ValidationError<'_>], texts: &[&str]) -> bool {
     true
 }
 
-fn shared_of<'i>(alloc: Global, root: &'i Value, one: Vec<ValidationError<'i>>, other: Vec<ValidationError<'i>>) -> Result<Vec<ValidationError<'i>>, OutOfMemory> {
+fn shared_of<'i>(
+    alloc: Global,
+    root: &'i Value,
+    one: Vec<ValidationError<'i>>,
+    other: Vec<ValidationError<'i>>,
+) -> Result<Vec<ValidationError<'i>>, OutOfMemory> {
     let mut results = Vec::new(alloc);
     results.push(one)?;
     results.push(other)?;
@@ -73,7 +87,12 @@ fn what_two_results_share(rt: HostRuntime) -> Result<(), OutOfMemory> {
     assert!(rt; have_texts(&shared, &["/a", "/b"]));
     let one = two_errors(alloc, &root, "/b", "/a")?;
     let alone = shared_of(alloc, &root, one, two_errors(alloc, &root, "/c", "/d")?)?;
-    assert!(rt; have_texts(&alone, &["Regex engine failed to evaluate pattern 'compiled'"]));
+    assert!(rt;
+        have_texts(
+            &alone,
+            &["Regex engine failed to evaluate pattern 'compiled'"]
+        )
+    );
     let none = shared_of(alloc, &root, Vec::new(alloc), Vec::new(alloc))?;
     assert!(rt; have_texts(&none, &[]));
     Ok(())
@@ -91,10 +110,19 @@ fn an_undecided_search_fails(rt: HostRuntime) -> Result<(), OutOfMemory> {
 }
 
 // A run that meets each of these patterns once, and accepts whatever comes out.
-fn meet_each<'i>(alloc: Global, patterns: &[&str], met: MatchAssumptions<'i>) -> Result<(MatchAssumptions<'i>, bool), OutOfMemory> {
+fn meet_each<'i>(
+    alloc: Global,
+    patterns: &[&str],
+    met: MatchAssumptions<'i>,
+) -> Result<(MatchAssumptions<'i>, bool), OutOfMemory> {
     let mut met = met;
     for pattern in patterns.iter() {
-        met.resolve(pattern, "abc", Reason::Engine, schema_site(alloc, "/anyOf/0/pattern")?)?;
+        met.resolve(
+            pattern,
+            "abc",
+            Reason::Engine,
+            schema_site(alloc, "/anyOf/0/pattern")?,
+        )?;
     }
     Ok((met, true))
 }
@@ -119,9 +147,17 @@ fn accepted_with_at_most_five(rt: HostRuntime) -> Result<(), OutOfMemory> {
 }
 
 // A run that meets one match at two places, and accepts where both come out alike.
-fn meet_twice<'i>(alloc: Global, met: MatchAssumptions<'i>) -> Result<(MatchAssumptions<'i>, bool), OutOfMemory> {
+fn meet_twice<'i>(
+    alloc: Global,
+    met: MatchAssumptions<'i>,
+) -> Result<(MatchAssumptions<'i>, bool), OutOfMemory> {
     let mut met = met;
-    let one = met.resolve("p", "abc", Reason::Engine, schema_site(alloc, "/a/pattern")?)?;
+    let one = met.resolve(
+        "p",
+        "abc",
+        Reason::Engine,
+        schema_site(alloc, "/a/pattern")?,
+    )?;
     let other = if met.is_unfinished("p", "abc") {
         met.resolve_unfinished("p", "abc", schema_site(alloc, "/b/pattern")?)?
     } else {
@@ -144,7 +180,11 @@ fn one_outcome_for_both(rt: HostRuntime) -> Result<(), OutOfMemory> {
 }
 
 // A run that meets a match as a verdict and then, where that comes out as a yes, at a place, and refuses there.
-fn meet_at<'i>(alloc: Global, root: &'i Value, met: MatchAssumptions<'i>) -> Result<(MatchAssumptions<'i>, Vec<ValidationError<'i>>), OutOfMemory> {
+fn meet_at<'i>(
+    alloc: Global,
+    root: &'i Value,
+    met: MatchAssumptions<'i>,
+) -> Result<(MatchAssumptions<'i>, Vec<ValidationError<'i>>), OutOfMemory> {
     let mut met = met;
     let site = schema_site(alloc, "/not/pattern")?.pattern(alloc, "source")?;
     let mut list = Vec::new(alloc);
@@ -166,10 +206,18 @@ fn a_site_with_a_place_is_taken(rt: HostRuntime) -> Result<(), OutOfMemory> {
     let first = meet_at(alloc, &root, MatchAssumptions::new(alloc))?;
     if first.0.met_unassumed() {
         let alone = errors_under_each(alloc, |met| meet_at(alloc, &root, met), first, &root)?;
-        assert!(rt; have_texts(&alone, &["Regex engine failed to evaluate pattern 'source'"]));
+        assert!(rt;
+            have_texts(
+                &alone,
+                &["Regex engine failed to evaluate pattern 'source'"]
+            )
+        );
         for error in &alone {
             assert_eq!(rt; error.schema_path.as_str(), "/$defs/s/pattern");
-            assert_eq!(rt; error.evaluation_path.as_str(), "/properties/a/$ref/pattern");
+            assert_eq!(rt;
+                error.evaluation_path.as_str(),
+                "/properties/a/$ref/pattern"
+            );
             assert_eq!(rt; error.instance_path(alloc)?.as_str(), "/a");
             assert_eq!(rt; error.instance.text(alloc)?.as_str(), "\"abc\"");
         }

@@ -19,11 +19,10 @@ use std::alloc::Global;
 
 /// Whether every completion accepts, where the call decides; else no. The first run has been made, and met an unfinished
 /// match.
-pub fn validity_under_each<'i, F: FnMut(MatchAssumptions<'i>) -> Result<(MatchAssumptions<'i>, bool), OutOfMemory>>(
-    alloc: Global,
-    run: F,
-    first: (MatchAssumptions<'i>, bool),
-) -> Result<bool, OutOfMemory>
+pub fn validity_under_each<
+    'i,
+    F: FnMut(MatchAssumptions<'i>) -> Result<(MatchAssumptions<'i>, bool), OutOfMemory>,
+>(alloc: Global, run: F, first: (MatchAssumptions<'i>, bool)) -> Result<bool, OutOfMemory>
     requires callable { F.IsAlwaysCallable run }
     requires met { IsSome first.0.unassumed }
     ensures says { (v : Sense) (call : Call) → Follows v → IsRunOf v call (λ s x m t end. F.step s x (Ok (m, t)) end) first.entry.0 run (λ (b : Bool). b) (verdict_of v) → IfOk result (λ b. VerdictSays v call b) }
@@ -34,7 +33,12 @@ pub fn validity_under_each<'i, F: FnMut(MatchAssumptions<'i>) -> Result<(MatchAs
 
 /// The errors that all completions share, or one failure; where the call doesn't decide, one failure. The first run has
 /// been made, and met an unfinished match.
-pub fn errors_under_each<'i, F: FnMut(MatchAssumptions<'i>) -> Result<(MatchAssumptions<'i>, Vec<ValidationError<'i>>), OutOfMemory>>(
+pub fn errors_under_each<
+    'i,
+    F: FnMut(
+        MatchAssumptions<'i>,
+    ) -> Result<(MatchAssumptions<'i>, Vec<ValidationError<'i>>), OutOfMemory>,
+>(
     alloc: Global,
     run: F,
     first: (MatchAssumptions<'i>, Vec<ValidationError<'i>>),

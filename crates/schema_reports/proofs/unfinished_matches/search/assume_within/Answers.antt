@@ -1,4 +1,4 @@
-use Rattle.std.proofs.Common.{rules, arith, of_calls, ◌≡◌, ◌≤◌, ◌++◌, ◌∷◌, [], ℕ, ◌+◌, ◌<◌, length, Bool, List, Some, Ok, None, sym, ◌∙◌, ap, subst, true, false}
+use Rattle.std.proofs.Common.{rules, arith, of_calls, ◌≡◌, ◌++◌, ◌∷◌, [], Some, sym, ◌∙◌, ap, true, false}
 use Rattle.std.proofs.lemmas.Grind.{common_steps}
 use Rattle.schema_reports.specs.Cover.{assuming}
 use Rattle.schema_reports.specs.Unfinished.{Failure, located_by}
@@ -11,7 +11,7 @@ loop-outcomes-init g c = record {
   callable = search rules;
   within = omega arith;
   completes =
-    λ u is.
+      λ u is.
       let eu : c.unwrap-failure.result ≡ u = cc in
       let el : c.locate.new.self ≡ located_by u c.args.first.0.located = cc (c.locate.ensures, c.into_parts-assumed.ensures.located) in
       let ef : c.locate.new.self.met.pair ≡ u.met.pair = ap (λ (f : Failure). f.met.pair) el in
@@ -24,7 +24,7 @@ loop-outcomes-preserved-in-None-unassumed g c = record {
   callable = search of_calls;
   within = omega arith;
   completes =
-    λ u is.
+      λ u is.
       let step = rw (c.assuming.ensures.starts, c.in_ok-given.ensures) at c.in_ok-met.ensures in
       stack_member _ c.args.first.0 u c.args.run _ _ c.in-Some.outcomes _ _ _ _ c.in_ok-met.met c.in_ok-met.result c.run.new.self _ _ c.in-Some.ensures.items (c.loop-outcomes.invariant.completes u is) step (cc) c.in_ok-push-in-None.ensures.items (rw c.into_parts-unassumed.ensures.located at c.locate-in-Some.ensures);
 }
@@ -34,7 +34,7 @@ loop-outcomes-preserved g c = record {
   callable = search of_calls;
   within = omega arith;
   completes =
-    λ u is.
+      λ u is.
       let step = rw (c.assuming.ensures.starts, c.in_ok-given.ensures) at c.in_ok-met.ensures in
       let some : c.in_ok-met.met.unassumed ≡ Some c.in-Some-unassumed.next = sym c.into_parts-unassumed.ensures.unassumed ∙ c.in-Some-unassumed.is in
       let ei : c.push_both-in-Some-unassumed.new.pending.items ≡ c.pop.new.self.items ++ assuming c.in-Some-unassumed.next.met true c.in-Some.outcomes ∷ [] ++ assuming c.in-Some-unassumed.next.met false c.in-Some.outcomes ∷ [] = rw c.into_unfinished.ensures at c.in_ok-push_both-in-Some-unassumed.ensures in

@@ -1,4 +1,4 @@
-use Rattle.std.proofs.Common.{◌≡◌, ◌++◌, ◌∷◌, [], None, Some, ap, refl, sym, ◌∙◌}
+use Rattle.std.proofs.Common.{◌++◌, ◌∷◌, [], None, Some, ap, refl, ◌∙◌}
 use Rattle.schema_reports.specs.SharedResults.{OneError}
 use Rattle.serde_json.specs.View.{view}
 use Rattle.schema_reports.proofs.unfinished_matches.shared.errors.Goals.{in-Undecided, in-Assumed+in_ok-shared-in-Assumed+in-None}

@@ -1,0 +1,11 @@
+pub mod Pairs
+pub mod Replies
+pub mod Faults
+pub mod NodeRuns
+pub mod NodeParts
+pub mod KeywordTurns
+pub mod NodeOutcomes
+pub mod NodeRanks
+pub mod NodesFilled
+pub mod RankedTable
+pub mod PartLaws

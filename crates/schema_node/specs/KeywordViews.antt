@@ -1,0 +1,113 @@
+-- What passes between the engine and a keyword, as the definitions have it.
+use Rattle.std.specs.Prelude.{◌≡◌, List, [], ◌∷◌, ◌++◌, Bool, true, false, Option, Some, None, string_bytes, map, option_map}
+use Rattle.schema_reports.specs.Instance.{Subject, to_member, to_item, to_name}
+use Rattle.schema_reports.specs.InstanceTexts.{subject_has_float}
+use Rattle.schema_reports.specs.InstanceViews.{step_of}
+use Rattle.schema_reports.specs.ReportViews.{spoken, error_of}
+use Rattle.schema_reports.specs.Keywords as spec
+use Rattle.schema_node.specs.declared.context.keyword.Mode.{Mode}
+use Rattle.schema_node.specs.declared.context.keyword.Mode.TheVariants as mode
+use Rattle.schema_node.specs.declared.context.keyword.Below.{Below}
+use Rattle.schema_node.specs.declared.context.keyword.Below.TheVariants as below
+use Rattle.schema_node.specs.declared.context.keyword.PendingKind.{PendingKind}
+use Rattle.schema_node.specs.declared.context.keyword.PendingKind.TheVariants as kind
+use Rattle.schema_node.specs.declared.context.keyword.Marked.{Marked}
+use Rattle.schema_node.specs.declared.context.keyword.Marked.TheVariants as marked
+use Rattle.schema_node.specs.declared.context.keyword.Spot.{Spot}
+use Rattle.schema_node.specs.declared.context.keyword.MatchPoint.{MatchPoint}
+use Rattle.schema_node.specs.declared.context.keyword.Step as step_module
+use Rattle.schema_node.specs.declared.context.keyword.Step.TheVariants as step
+use Rattle.schema_node.specs.declared.context.keyword.Reply.{Reply}
+use Rattle.schema_node.specs.declared.context.keyword.Reply.TheVariants as reply
+use Rattle.schema_node.specs.declared.context.keyword.OwnError.{OwnError}
+use Rattle.schema_node.specs.declared.context.keyword.Fault.{Fault}
+use Rattle.schema_node.specs.declared.context.keyword.Fault.TheVariants as fault
+use Rattle.schema_node.specs.declared.context.keyword.Answer.{Answer}
+use Rattle.schema_node.specs.declared.context.keyword.Answer.TheVariants as answer
+
+abbrev pub mode_of : Mode → spec.Mode
+mode_of mode.Verdict = spec.for_verdict
+mode_of mode.First = spec.for_first
+mode_of mode.All = spec.for_all
+mode_of mode.Evaluate = spec.for_units
+
+abbrev pub below_of : Below → spec.Below
+below_of below.Here = spec.here
+below_of (below.Member k) = spec.down (to_member k.now)
+below_of (below.Item n) = spec.down (to_item n)
+below_of (below.NameOf k) = spec.down (to_name k.now)
+
+abbrev pub kind_of : PendingKind → spec.Kind
+kind_of kind.Properties = spec.of_properties
+kind_of kind.Items = spec.of_items
+
+abbrev pub marked_of : Marked → spec.Marked
+marked_of (marked.Child n) = spec.a_child n
+marked_of (marked.Pending k) = spec.a_pending (kind_of k)
+
+abbrev pub spot_of : Spot → spec.Spot
+spot_of s = record { absorbed = option_map (λ t. t.now) s.absorbed; path = s.path.now; below = map step_of s.below.now }
+
+abbrev pub point_of : MatchPoint → spec.MatchPoint
+point_of p = record { spot = spot_of p.spot; located = p.located; pattern = option_map (λ t. t.now) p.pattern }
+
+abbrev pub turn_of : step_module.Step → spec.Turn
+turn_of (step.Ask child b m) = spec.ask (record { child = child; below = below_of b }) (mode_of m)
+turn_of (step.Match pattern subject point) = spec.match_text (record { pattern = pattern.now; subject = subject.now }) (point_of point)
+turn_of (step.Mark m) = spec.mark (marked_of m)
+turn_of step.Unmark = spec.unmark
+turn_of (step.Ecma text) = spec.ecma text.now
+turn_of step.Done = spec.done
+
+abbrev pub reply_of : Bool → Reply → spec.Reply
+reply_of texts reply.Nothing = spec.no_reply
+reply_of texts (reply.Truth b) = spec.truth b
+reply_of texts (reply.First e) = spec.first_of_it (option_map (error_of texts) e)
+reply_of texts (reply.All es) = spec.all_of_it (map (error_of texts) es.items)
+
+abbrev pub own_of : Bool → OwnError → spec.Own
+own_of texts e = record {
+  spot = record { absorbed = option_map string_bytes e.absorbed; path = string_bytes e.path; below = map step_of e.below.items };
+  name = string_bytes e.keyword;
+  text = spoken texts (string_bytes e.text);
+}
+
+abbrev pub fault_of : Bool → Fault → spec.Fault
+fault_of texts (fault.Own e) = spec.own (own_of texts e)
+fault_of texts (fault.Passed e) = spec.passed (error_of texts e)
+
+abbrev pub no_gives : spec.Gives
+no_gives = record { children = []; annotations = None; errors = []; absorbed = [] }
+
+abbrev pub is_nil : {A : Type 0} → List A → Bool
+is_nil [] = true
+is_nil (x ∷ xs) = false
+
+abbrev pub option_list : {A : Type 0} → Option A → List A
+option_list None = []
+option_list (Some a) = a ∷ []
+
+-- an answer with these errors, which accepts where there are none
+abbrev pub with_errors : List spec.Fault → spec.Answer
+with_errors fs = record { verdict = is_nil fs; errors = fs; gives = no_gives }
+
+abbrev pub answer_of : Bool → Answer → spec.Answer
+answer_of texts (answer.Verdict b) = record { verdict = b; errors = []; gives = no_gives }
+answer_of texts (answer.First f) = with_errors (option_list (option_map (fault_of texts) f))
+answer_of texts (answer.All fs) = with_errors (map (fault_of texts) fs.items)
+
+-- how an answer begins
+abbrev pub fresh : spec.Answer
+fresh = with_errors []
+
+-- the answer in a mode, with one fault more
+abbrev pub added : spec.Mode → spec.Answer → spec.Fault → spec.Answer
+added spec.for_verdict a f = record a { verdict = false }
+added spec.for_first a f = elim a.errors [ [] ↦ with_errors (f ∷ []) | g ∷ gs ↦ a ]
+added spec.for_all a f = with_errors (a.errors ++ f ∷ [])
+added spec.for_units a f = a
+
+-- texts are spoken of only where neither the keyword nor the instance holds a fraction
+pub record Tells (texts is_whole : Bool) (s : Subject) : Type 0 where
+  pub keyword : texts ≡ true → is_whole ≡ true
+  pub instance : texts ≡ true → subject_has_float s ≡ false

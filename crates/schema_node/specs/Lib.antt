@@ -1,0 +1,12 @@
+pub mod SchemaViews
+pub mod ResolverViews
+pub mod KeywordViews
+pub mod MakerViews
+pub mod NodeTable
+pub mod NodeViews
+pub mod Progress
+pub mod ProgressViews
+pub mod FaultViews
+pub mod NodeRuns
+pub mod Turning
+pub mod ValidatorViews

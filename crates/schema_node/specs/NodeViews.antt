@@ -1,0 +1,34 @@
+-- The code's nodes as data.
+use Rattle.std.specs.Prelude.{ℕ, Option, None, string_bytes, map, option_map}
+use Rattle.schema_reports.specs.Instance.{Text}
+use Rattle.schema_reports.specs.Guarded as spec
+use Rattle.schema_node.specs.NodeTable.{NodeEntry}
+use Rattle.schema_node.specs.declared.node.Edge.{Edge}
+use Rattle.schema_node.specs.declared.node.EntryForm.{EntryForm}
+use Rattle.schema_node.specs.declared.node.EntryForm.TheVariants.{Keyword, Reference}
+use Rattle.schema_node.specs.declared.node.Entry.{Entry}
+use Rattle.schema_node.specs.declared.node.NodeForm.{NodeForm}
+use Rattle.schema_node.specs.declared.node.NodeForm.TheVariants.{Always, Never, Keywords}
+use Rattle.schema_node.specs.declared.node.Node.{Node}
+
+abbrev pub edge_of : Edge → spec.NodeEdge
+edge_of e = record { node = e.node.0; path = e.path; guarded = e.guarded }
+
+abbrev pub form_of : {K : Type 0} → EntryForm K → spec.NodeForm K
+form_of (Keyword k es) = spec.node_keyword k (map (option_map edge_of) es.items)
+form_of (Reference e) = spec.node_reference (edge_of e)
+
+abbrev pub entry_of : {K : Type 0} → Entry K → spec.NodePart K
+entry_of x = record { name = string_bytes x.name; priority = x.priority; is_leaf = x.is_leaf; form = form_of x.form }
+
+abbrev pub plan_of : {K : Type 0} → NodeForm K → spec.NodePlan K
+plan_of Always = spec.node_always
+plan_of Never = spec.node_never
+plan_of (Keywords xs) = spec.node_these (map entry_of xs.items)
+
+abbrev pub node_of : {K : Type 0} → Node K → NodeEntry K
+node_of n = record { location = n.location; base = option_map string_bytes n.base; start = n.start; rank = n.rank; annotations = n.annotations; plan = option_map plan_of n.form }
+
+-- a node whose number is reserved
+abbrev pub reserved_node : {K : Type 0} → Text → Option Text → ℕ → NodeEntry K
+reserved_node location base start = record { location = location; base = base; start = start; rank = 0; annotations = None; plan = None }

@@ -1,0 +1,29 @@
+-- What the code's resolver answers, as the definitions have it.
+use Rattle.std.specs.Prelude.{◌≡◌, Some, Result, Err, string_bytes}
+use Rattle.serde_json.specs.Data.{Data}
+use Rattle.schema_reports.specs.Instance.{Text, Place, subject_at, a_value}
+use Rattle.schema_reports.specs.Drafts as spec
+use Rattle.schema_reports.specs.Resolving.{Found, Entrance, Resolver}
+use Rattle.schema_reports.specs.KeywordViews.{draft_of}
+use Rattle.schema_node.specs.declared.context.schema_place.SchemaPlace.{SchemaPlace}
+use Rattle.schema_node.specs.declared.context.resolver.Target.{Target}
+use Rattle.schema_node.specs.declared.context.resolver.LookupError.{LookupError}
+use Rattle.schema_node.specs.declared.context.resolver.LookupError.TheVariants.{Refused, OutOfMemory}
+
+abbrev pub place_of : SchemaPlace → spec.SchemaPlace
+place_of p = record { document = p.document; path = p.path }
+
+abbrev pub entrance_of : {S P : Type 0} → (S → P) → S × SchemaPlace → Entrance P
+entrance_of point e = record { place = place_of e.1; state = point e.0 }
+
+abbrev pub found_of : {S P : Type 0} → (S → P) → Target S → Found P
+found_of point t = record { place = place_of t.place; state = point t.state; draft = draft_of t.draft }
+
+-- a refusal has the text that the definitions give it; want of memory says nothing
+abbrev pub Refuses : {A : Type 0} → Result A Text → LookupError → Type 0
+Refuses r (Refused t) = r ≡ Err (string_bytes t)
+Refuses r OutOfMemory = Unit {0}
+
+-- what stands at a path below a place stands there inside the place's value
+abbrev pub IsInside : {S : Type 0} → Resolver S → Type 0
+IsInside r = (p : spec.SchemaPlace) (path : Place) (inner : Data) → r.value (spec.at_path p path) ≡ Some inner → (outer : Data) × (r.value p ≡ Some outer) × (subject_at outer path ≡ Some (a_value inner))

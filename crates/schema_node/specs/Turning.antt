@@ -1,0 +1,35 @@
+-- How a keyword's run stands between two turns.
+use Rattle.std.specs.Prelude.{◌<◌, ℕ, false, [], None}
+use Rattle.schema_reports.specs.Instance.{Subject}
+use Rattle.schema_reports.specs.Reports.{Outcome, Unit_, no_units, unit}
+use Rattle.schema_reports.specs.Matching.{matching}
+use Rattle.schema_reports.specs.Keywords.{Answer, Answers, Keywords, Mode, Reply}
+use Rattle.schema_reports.specs.Laws.{AlwaysAsksAlone, IsRight}
+use Rattle.schema_reports.specs.Turns.{Standing}
+use Rattle.schema_node.specs.NodeRuns.{Reading}
+
+-- a unit that has the verdict of an outcome
+abbrev pub unit_with : Outcome → Unit_
+unit_with o = unit (record { valid = o.verdict; place = []; evaluation_path = []; schema_path = []; absolute = None; annotations = None; errors = [] }) no_units
+
+-- a run that marks nothing, in a reading
+abbrev pub stands_at : {R : Type 0} → Subject → Reading → Answers → R → Reply → Standing R
+stands_at s x answers r reply = record {
+  subject = s;
+  matches = matching x.matcher x.completion;
+  answers = answers;
+  unit_at = λ q. unit_with (answers q);
+  same = λ a b. false;
+  marks = [];
+  state = r;
+  reply = reply;
+}
+
+-- it stands well, and ends in what is right
+pub record OnItsWay {K R : Type 0} (keywords : Keywords K R) (m : K) (end_of : Standing R → Answer) (Fits : Standing R → Type 0) (s : Subject) (x : Reading) (mode : Mode) (answers : Answers) (r : R) (reply : Reply) : Type 0 where
+  pub fits : Fits (stands_at s x answers r reply)
+  pub right : IsRight keywords m s (matching x.matcher x.completion) answers (λ q. unit_with (answers q)) (λ a b. false) mode (end_of (stands_at s x answers r reply))
+
+-- for more turns than are left it only asks its children
+abbrev pub AskedAlone : {K R : Type 0} → Keywords K R → K → Subject → (R → ℕ) → R → Reply → Type 0
+AskedAlone keywords m s remaining r reply = (n : ℕ) × (remaining r < n) × AlwaysAsksAlone keywords m s n r reply

@@ -1,0 +1,8 @@
+//! The traits of the parts that are handed in, and the context of a run.
+pub mod keyword;
+pub mod matcher;
+pub mod meta;
+pub mod resolver;
+pub mod schema_place;
+pub mod table;
+pub mod validation;

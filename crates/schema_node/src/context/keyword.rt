@@ -1,0 +1,158 @@
+//! The keyword type, which puts questions to the engine by turns.
+ghost use Rattle.std.specs.Prelude.{◌≡◌, ℕ, All, Bool, List, [], ◌∷◌, ◌++◌, true, false, IfOk};
+ghost use Rattle.serde_json.specs.Data.{Data};
+ghost use Rattle.schema_reports.specs.Instance.{Text, Subject};
+ghost use Rattle.schema_reports.specs.InstanceViews.{subject_of};
+ghost use Rattle.schema_reports.specs.Keywords as spec;
+ghost use Rattle.schema_reports.specs.Turns.{Standing, TurnLaws, FunctionLaws};
+ghost use Rattle.schema_reports.specs.ReportViews.{BorrowsItsPlace};
+ghost use Rattle.schema_node.specs.FaultViews.{errors_in, faults_in, PassesBorrowed};
+ghost use Rattle.schema_node.specs.KeywordViews.{mode_of, reply_of, answer_of, fresh, turn_of, fault_of, added, Tells};
+
+use schema_reports::instance::{Instance, InstanceStep};
+use schema_reports::location::OutOfMemory;
+use schema_reports::reports::ValidationError;
+use std::alloc::Global;
+
+/// What is wanted of a run.
+#[derive(Clone, Copy, PartialEq, Eq)]
+pub enum Mode {
+    Verdict,
+    First,
+    All,
+    Evaluate,
+}
+
+/// Where a question is asked: at the keyword's own place, or one step below it.
+#[derive(Clone, Copy)]
+pub enum Below<'s> {
+    Here,
+    Member(&'s str),
+    Item(usize),
+    NameOf(&'s str),
+}
+
+/// What a maker may have a number reserved for.
+#[derive(Clone, Copy, PartialEq, Eq)]
+pub enum PendingKind {
+    Properties,
+    Items,
+}
+
+/// What a run marks: a child by the number of its request, or the number that the maker got for a kind.
+#[derive(Clone, Copy)]
+pub enum Marked {
+    Child(usize),
+    Pending(PendingKind),
+}
+
+/// Where something stands of a keyword: a path from it on, or from one that it absorbs, and steps below its place.
+#[derive(Clone, Copy)]
+pub struct Spot<'s> {
+    pub absorbed: Option<&'s str>,
+    pub path: &'s str,
+    pub below: &'s [InstanceStep<'s>],
+}
+
+/// Where a match is asked for; `located` says that evaluation path and place are shown, `pattern` is the schema's own.
+#[derive(Clone, Copy)]
+pub struct MatchPoint<'s> {
+    pub spot: Spot<'s>,
+    pub located: bool,
+    pub pattern: Option<&'s str>,
+}
+
+/// What a turn asks for. A child is named by the number of the request that the keyword's maker made.
+#[derive(Clone, Copy)]
+pub enum Step<'s> {
+    Ask(usize, Below<'s>, Mode),
+    Match(&'s str, &'s str, MatchPoint<'s>),
+    Mark(Marked),
+    Unmark,
+    Ecma(&'s str),
+    Done,
+}
+
+/// What the next turn is told: nothing, or what was asked for.
+#[derive(Drop)]
+pub enum Reply<'i> {
+    Nothing,
+    Truth(bool),
+    First(Option<ValidationError<'i>>),
+    All(Vec<ValidationError<'i>>),
+}
+
+/// An error of the keyword's own. The engine joins the paths.
+#[derive(Drop)]
+pub struct OwnError<'i> {
+    pub absorbed: Option<String>,
+    pub path: String,
+    pub below: Vec<InstanceStep<'i>>,
+    pub keyword: String,
+    pub text: String,
+}
+
+/// An error of the keyword's own, or one of a child, which passes unchanged.
+#[derive(Drop)]
+pub enum Fault<'i> {
+    Own(OwnError<'i>),
+    Passed(ValidationError<'i>),
+}
+
+/// What a run has found so far, by its mode.
+#[derive(Drop)]
+pub enum Answer<'i> {
+    Verdict(bool),
+    First(Option<Fault<'i>>),
+    All(Vec<Fault<'i>>),
+}
+
+/// A keyword. What it may ask, when it holds and which faults it finds are functions of what is known of it apart from
+/// its representation, its shape. `texts` says whether texts of errors are spoken of.
+pub trait Validate: Drop {
+    type Run: Drop;
+
+    type Shape;
+
+    ghost words: { Bool → spec.Keywords Self.Shape (Self.Run × spec.Answer) };
+
+    ghost shape: { Self → Self.Shape };
+
+    ghost absorbed: { Self.Shape → List Text };
+    // whether no text of it holds a fraction of the schema
+    ghost is_whole: { Self.Shape → Bool };
+
+    ghost remaining: { Self.Shape → Subject → (Self.Run × spec.Answer) → ℕ };
+
+    ghost ends: { Bool → Self.Shape → Standing (Self.Run × spec.Answer) → spec.Answer };
+
+    ghost fits: { Bool → Self.Shape → Standing (Self.Run × spec.Answer) → Type 0 };
+
+    /// Begins a run. The answer begins as accepted, with no errors.
+    fn begin(&self, alloc: Global, instance: Instance, mode: Mode) -> Result<Self::Run, OutOfMemory>
+        ensures begins { IfOk result (λ run. (texts : Bool) → (words texts).begin (shape self.now) (subject_of instance.entry) (mode_of mode) ≡ (run, fresh)) };
+
+    /// Takes a turn, with what the turn before asked for. An error that it passes on borrows its place as the reply's did.
+    fn turn<'s, 'i: 's>(
+        &'s self,
+        alloc: Global,
+        run: &mut Self::Run,
+        instance: Instance<'i>,
+        reply: Reply<'i>,
+        answer: &mut Answer<'i>,
+    ) -> Result<Step<'s>, OutOfMemory>
+        ensures turns { IfOk result (λ _. (texts : Bool) → Tells texts (is_whole (shape self.now)) (subject_of instance.entry)
+            → (words texts).turn (shape self.now) (subject_of instance.entry) (run.old, answer_of texts answer.old) (reply_of texts reply.entry) ≡ (run.new, answer_of texts answer.new)) }
+        ensures steps { IfOk result (λ step. (texts : Bool) → Tells texts (is_whole (shape self.now)) (subject_of instance.entry)
+            → (words texts).step (shape self.now) (subject_of instance.entry) (run.old, answer_of texts answer.old) (reply_of texts reply.entry) ≡ turn_of step) }
+        ensures borrows { IfOk result (λ _. (root : Data) → All (BorrowsItsPlace root) (errors_in reply.entry)
+            → All (PassesBorrowed root) (faults_in answer.old) → All (PassesBorrowed root) (faults_in answer.new)) };
+
+    ghost speaks: { (texts : Bool) → (words texts).texts ≡ texts };
+
+    ghost answers: { (texts : Bool) (run : Self.Run) (a : spec.Answer) → (words texts).answer (run, a) ≡ a };
+
+    ghost turn_laws: { (texts : Bool) (m : Self.Shape) → TurnLaws (words texts) m (absorbed m) (remaining m) (ends texts m) (fits texts m) };
+
+    ghost function_laws: { (texts : Bool) (m : Self.Shape) → FunctionLaws (words texts) m (absorbed m) };
+}

@@ -1,0 +1,157 @@
+//! Numbered nodes: what a schema is once it is compiled.
+ghost use Rattle.std.specs.Prelude.{◌≡◌, ◌++◌, [], ◌∷◌, length, OnOk, OnErr, IfOk, option_map, string_bytes, Some, slice_get, slice_set, ◌<◌, ℕ};
+ghost use Rattle.schema_node.specs.NodeViews.{plan_of, reserved_node, node_of};
+ghost use Rattle.schema_node.specs.NodeTable.{NodeEntry, IsReserved, AreFilled, Fills, IsRanked};
+
+pub mod absolute;
+pub mod faults;
+pub mod replies;
+pub mod run;
+pub mod validators;
+
+use schema_reports::location::{Location, OutOfMemory};
+use serde_json::Value;
+use std::alloc::Global;
+use std::marker::Model;
+
+/// The number of a node.
+#[derive(Clone, Copy, PartialEq, Eq)]
+pub struct SchemaNode(pub usize);
+
+/// An edge to a node: what the use adds to the evaluation path, and whether it leads to a node in progress.
+#[derive(Drop)]
+pub struct Edge {
+    pub node: SchemaNode,
+    pub path: Location,
+    pub guarded: bool,
+}
+
+/// A keyword with what each request of its maker got (none where it was skipped), or a reference.
+#[derive(Drop)]
+pub enum EntryForm<K> {
+    Keyword(K, Vec<Option<Edge>>),
+    Reference(Edge),
+}
+
+/// One keyword of a schema.
+#[derive(Drop)]
+pub struct Entry<K> {
+    pub name: String,
+    pub priority: u8,
+    pub is_leaf: bool,
+    pub form: EntryForm<K>,
+}
+
+/// What a node asks of an instance.
+#[derive(Drop)]
+pub enum NodeForm<K> {
+    Always,
+    Never,
+    Keywords(Vec<Entry<K>>),
+}
+
+/// A node. Its form is none while its number is reserved.
+#[derive(Drop)]
+pub struct Node<K> {
+    pub location: Location,
+    /// The URI of its resource, where absolute locations are shown, and how much of the location lies outside it.
+    pub base: Option<String>,
+    pub start: usize,
+    pub rank: usize,
+    /// The members that no keyword knows, as an object, where there are any.
+    pub annotations: Option<Value>,
+    pub form: Option<NodeForm<K>>,
+}
+
+/// The nodes by number. An edge that nothing guards leads to a node of lower rank.
+#[derive(Drop)]
+pub struct Nodes<K> {
+    nodes: Vec<Node<K>>,
+    finished: usize,
+}
+
+impl<K> Model for Nodes<K> {
+    ghost use Rattle.std.specs.Prelude.{map, List};
+    ghost use Rattle.schema_node.specs.NodeTable.{NodeEntry, IsRanked};
+    ghost use Rattle.schema_node.specs.NodeViews.{node_of};
+
+    ghost Value = { List (NodeEntry K) };
+
+    ghost use Rattle.serde_json.specs.contracts.value.Value as value;
+    ghost use Rattle.std.specs.Coded.{codes};
+
+    ghost coded = { Prim.hlevel (codes, value.the_row.coded) };
+
+    ghost view = { λ n. map node_of n.nodes.items };
+
+    ghost invariant = { λ n. IsRanked (map node_of n.nodes.items) n.finished };
+}
+
+ghost use Rattle.std.specs.Prelude.{None};
+
+impl<K: Drop> Nodes<K> {
+    /// No node.
+    pub fn new(alloc: Global) -> Nodes<K>
+        ensures empty { result ≡ [] }
+    {
+        Nodes {
+            nodes: Vec::new(alloc),
+            finished: 0,
+        }
+    }
+
+    /// How many nodes there are, reserved ones among them.
+    pub fn len(&self) -> usize
+        ensures count { result ≡ length self.now }
+        ensures ranked { (finished : ℕ) × IsRanked self.now finished }
+    {
+        self.nodes.len()
+    }
+
+    // The node with a number.
+    fn node(&self, node: SchemaNode) -> &Node<K>
+        requires known { node.0 < length self.now }
+        ensures found { slice_get self.now node.0 ≡ Some (node_of result.now) }
+    {
+        &self.nodes[node.0]
+    }
+
+    /// Reserves the next number, for a node at this location.
+    pub fn reserve(
+        &mut self,
+        location: Location,
+        base: Option<String>,
+        start: usize,
+    ) -> Result<SchemaNode, OutOfMemory>
+        ensures number { IfOk result (λ i. i.0 ≡ length self.old) }
+        ensures added { OnOk result (self.new ≡ self.old ++ reserved_node location (option_map string_bytes base) start ∷ []) }
+        ensures unchanged { OnErr result (self.new ≡ self.old) }
+    {
+        let number = self.nodes.len();
+        self.nodes.push(Node {
+            location,
+            base,
+            start,
+            rank: 0,
+            annotations: None,
+            form: None,
+        })?;
+        Ok(SchemaNode(number))
+    }
+
+    /// Gives a reserved number its form and its annotations.
+    pub fn fill(&mut self, node: SchemaNode, form: NodeForm<K>, annotations: Option<Value>)
+        requires reserved { IsReserved self.old node.0 }
+        requires ready { AreFilled self.old (plan_of form) }
+        ensures filled { Fills self.old node.0 annotations (plan_of form) self.new }
+    {
+        let count = self.nodes.len();
+        let _within = count;
+        let rank = self.finished;
+        self.finished += 1;
+        let place = &mut self.nodes[node.0];
+        place.rank = rank;
+        place.annotations = annotations;
+        place.form = Some(form);
+    }
+}

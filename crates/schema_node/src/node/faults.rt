@@ -1,0 +1,249 @@
+//! What a keyword has found, as errors at its place.
+ghost use Rattle.std.specs.Prelude.{◌≡◌, ◌++◌, IfOk, Bool, All, Some, [], map, option_map, slice_get, string_bytes, unwrap_or};
+ghost use Rattle.serde_json.specs.Data.{Data};
+ghost use Rattle.schema_reports.specs.Instance.{after_step, subject_at, subject_from};
+ghost use Rattle.schema_reports.specs.InstanceViews.{step_of, subject_of};
+ghost use Rattle.schema_reports.specs.Laws.{IsPresent};
+ghost use Rattle.schema_reports.specs.Meaning.{fault_error};
+ghost use Rattle.schema_reports.specs.Pointer.{joined};
+ghost use Rattle.schema_reports.specs.ReportViews.{error_of, BorrowsItsPlace};
+ghost use Rattle.schema_node.specs.FaultViews.{answer_reply, errors_in, faults_in, FaultsLieInside, LiesInside};
+ghost use Rattle.schema_node.specs.KeywordViews.{answer_of, fault_of, fresh, mode_of, own_of, reply_of};
+ghost use Rattle.schema_reports.specs.Keywords.{own};
+ghost use Rattle.schema_node.specs.NodeRuns.{entry_where};
+ghost use Rattle.schema_node.specs.NodeViews.{node_of};
+
+use crate::context::keyword::{Answer, Fault, Mode, OwnError, Reply};
+use crate::node::Node;
+use crate::node::replies::{keyword_location, stamped_error};
+use schema_reports::instance::{Instance, InstanceStep, Place};
+use schema_reports::location::{Location, LocationSegment, OutOfMemory};
+use schema_reports::reports::ValidationError;
+use std::alloc::Global;
+
+/// An answer that has found nothing yet.
+pub fn begun<'i>(alloc: Global, mode: Mode) -> Answer<'i>
+    ensures fresh { (texts : Bool) → answer_of texts result ≡ fresh }
+    ensures no_faults { faults_in result ≡ [] }
+{
+    match mode {
+        Mode::Verdict => Answer::Verdict(true),
+        Mode::First => Answer::First(None),
+        Mode::All => Answer::All(Vec::new(alloc)),
+        Mode::Evaluate => Answer::Verdict(true),
+    }
+}
+
+// What a step leads to.
+fn after<'i>(instance: Instance<'i>, step: InstanceStep<'i>) -> Option<Instance<'i>>
+    ensures after { option_map subject_of result ≡ after_step (step_of step.entry) (subject_of instance.entry) }
+{
+    let found = match step {
+        InstanceStep::Member(name) => instance.member(name),
+        InstanceStep::Item(index) => instance.item(index),
+        InstanceStep::NameOf(name) => instance.name_of(name),
+    };
+    match found {
+        Some((inner, _)) => Some(inner),
+        None => None,
+    }
+}
+
+// What stands some steps below, or the instance itself where the steps lead nowhere.
+fn instance_below<'i>(instance: Instance<'i>, steps: &[InstanceStep<'i>]) -> Instance<'i>
+    ensures below { IsPresent (subject_of instance.entry) (map step_of steps.now) → subject_from (map step_of steps.now) (subject_of instance.entry) ≡ Some (subject_of result) }
+{
+    let mut found = instance;
+    for step in steps {
+        match after(found, *step) {
+            Some(inner) => found = inner,
+            None => return instance,
+        }
+    }
+    found
+}
+
+// The place some steps below.
+fn place_below<'i>(place: &Place<'i>, steps: &[InstanceStep<'i>]) -> Result<Place<'i>, OutOfMemory>
+    ensures below { IfOk result (λ p. p ≡ place.now ++ map step_of steps.now) }
+{
+    let mut lower = place.copy()?;
+    for step in steps {
+        lower = lower.below(*step)?;
+    }
+    Ok(lower)
+}
+
+// A path from the keyword on, or from the one that it absorbs.
+fn spot_path(
+    alloc: Global,
+    location: &Location,
+    absorbed: &Option<String>,
+    name: &String,
+    rest: &String,
+) -> Result<Location, OutOfMemory>
+    ensures path { IfOk result (λ l. l ≡ joined location.now (unwrap_or (option_map string_bytes absorbed.now) (string_bytes name.now)) ++ string_bytes rest.now) }
+{
+    let name = match absorbed {
+        Some(absorbed) => absorbed.as_str(),
+        None => name.as_str(),
+    };
+    let rest = Location::from_escaped(alloc, rest.as_str())?;
+    location
+        .join(LocationSegment::Property(name))?
+        .append(&rest)
+}
+
+// An error of the keyword's own.
+fn own_error<'i, K>(
+    alloc: Global,
+    node: &Node<K>,
+    name: &String,
+    instance: Instance<'i>,
+    place: &Place<'i>,
+    path: &Location,
+    found: OwnError<'i>,
+) -> Result<ValidationError<'i>, OutOfMemory>
+    ensures error { IfOk result (λ e. (texts : Bool) → error_of texts e
+        ≡ fault_error (entry_where (node_of node.now) path.now place.now) (string_bytes name.now) (own (own_of texts found.entry))) }
+    ensures borrows { IfOk result (λ e. (root : Data) → subject_at root place.now ≡ Some (subject_of instance.entry)
+        → IsPresent (subject_of instance.entry) (map step_of found.entry.below.items) → BorrowsItsPlace root e) }
+{
+    let schema_path = spot_path(alloc, &node.location, &found.absorbed, name, &found.path)?;
+    let evaluation_path = spot_path(alloc, path, &found.absorbed, name, &found.path)?;
+    let absolute_keyword_location = keyword_location(alloc, node, name)?;
+    let place = place_below(place, found.below.as_slice())?;
+    let instance = instance_below(instance, found.below.as_slice());
+    Ok(ValidationError {
+        instance,
+        place,
+        schema_path,
+        evaluation_path,
+        absolute_keyword_location,
+        keyword: found.keyword,
+        text: found.text,
+    })
+}
+
+// A fault as an error: its own, or one that passes.
+fn error_by<'i, K>(
+    alloc: Global,
+    node: &Node<K>,
+    name: &String,
+    instance: Instance<'i>,
+    place: &Place<'i>,
+    path: &Location,
+    fault: Fault<'i>,
+) -> Result<ValidationError<'i>, OutOfMemory>
+    ensures error { IfOk result (λ e. (texts : Bool) → error_of texts e
+        ≡ fault_error (entry_where (node_of node.now) path.now place.now) (string_bytes name.now) (fault_of texts fault.entry)) }
+    ensures borrows { IfOk result (λ e. (root : Data) → subject_at root place.now ≡ Some (subject_of instance.entry)
+        → LiesInside root (subject_of instance.entry) fault.entry → BorrowsItsPlace root e) }
+{
+    match fault {
+        Fault::Own(found) => own_error(alloc, node, name, instance, place, path, found),
+        Fault::Passed(error) => stamped_error(alloc, node, name, error),
+    }
+}
+
+// Each fault as an error, in order.
+fn errors_by<'i, K>(
+    alloc: Global,
+    node: &Node<K>,
+    name: &String,
+    instance: Instance<'i>,
+    place: &Place<'i>,
+    path: &Location,
+    faults: Vec<Fault<'i>>,
+) -> Result<Vec<ValidationError<'i>>, OutOfMemory>
+    ensures errors { IfOk result (λ es. (texts : Bool) → map (error_of texts) es.items
+        ≡ map (fault_error (entry_where (node_of node.now) path.now place.now) (string_bytes name.now)) (map (fault_of texts) faults.entry.items)) }
+    ensures borrows { IfOk result (λ es. (root : Data) → subject_at root place.now ≡ Some (subject_of instance.entry)
+        → All (LiesInside root (subject_of instance.entry)) faults.entry.items → All (BorrowsItsPlace root) es.items) }
+{
+    let mut errors = Vec::new(alloc);
+    for fault in faults {
+        errors.push(error_by(alloc, node, name, instance, place, path, fault)?)?;
+    }
+    Ok(errors)
+}
+
+// Whether an answer is a yes.
+fn is_accepting(answer: &Answer<'_>) -> bool
+    ensures verdict { (texts : Bool) → result ≡ (answer_of texts answer.now).verdict }
+{
+    match answer {
+        Answer::Verdict(yes) => *yes,
+        Answer::First(found) => found.is_none(),
+        Answer::All(faults) => faults.is_empty(),
+    }
+}
+
+// The faults of an answer.
+fn all_faults<'i>(alloc: Global, answer: Answer<'i>) -> Result<Vec<Fault<'i>>, OutOfMemory>
+    ensures faults { IfOk result (λ fs. fs.items ≡ faults_in answer.entry) }
+{
+    match answer {
+        Answer::Verdict(_) => Ok(Vec::new(alloc)),
+        Answer::First(found) => {
+            let mut faults = Vec::new(alloc);
+            match found {
+                Some(fault) => faults.push(fault)?,
+                None => {}
+            }
+            Ok(faults)
+        }
+        Answer::All(faults) => Ok(faults),
+    }
+}
+
+// The first fault of an answer.
+fn first_fault<'i>(answer: Answer<'i>) -> Option<Fault<'i>>
+    ensures first { result ≡ slice_get (faults_in answer.entry) 0 }
+{
+    match answer {
+        Answer::Verdict(_) => None,
+        Answer::First(found) => found,
+        Answer::All(mut faults) => {
+            if faults.is_empty() {
+                None
+            } else {
+                Some(faults.remove(0))
+            }
+        }
+    }
+}
+
+/// What an answer says in a mode, as a reply.
+pub fn finished<'i, K>(
+    alloc: Global,
+    node: &Node<K>,
+    name: &String,
+    instance: Instance<'i>,
+    place: &Place<'i>,
+    path: &Location,
+    mode: Mode,
+    answer: Answer<'i>,
+) -> Result<Reply<'i>, OutOfMemory>
+    ensures reply { IfOk result (λ r. (texts : Bool) → reply_of texts r
+        ≡ answer_reply (mode_of mode) (entry_where (node_of node.now) path.now place.now) (string_bytes name.now) (answer_of texts answer.entry)) }
+    ensures borrows { IfOk result (λ r. (root : Data) → subject_at root place.now ≡ Some (subject_of instance.entry)
+        → FaultsLieInside (mode_of mode) root (subject_of instance.entry) answer.entry → All (BorrowsItsPlace root) (errors_in r)) }
+{
+    match mode {
+        Mode::Verdict => Ok(Reply::Truth(is_accepting(&answer))),
+        Mode::First => match first_fault(answer) {
+            None => Ok(Reply::First(None)),
+            Some(fault) => {
+                let error = error_by(alloc, node, name, instance, place, path, fault)?;
+                Ok(Reply::First(Some(error)))
+            }
+        },
+        Mode::All => {
+            let faults = all_faults(alloc, answer)?;
+            let errors = errors_by(alloc, node, name, instance, place, path, faults)?;
+            Ok(Reply::All(errors))
+        }
+        Mode::Evaluate => Ok(Reply::Nothing),
+    }
+}

@@ -1,0 +1,227 @@
+//! Replies of runs, by the mode.
+ghost use Rattle.std.specs.Prelude.{◌≡◌, IfOk, Bool, true, false, All, [], Some};
+ghost use Rattle.serde_json.specs.Data.{Data};
+ghost use Rattle.schema_reports.specs.Reports.{Outcome, accepted};
+ghost use Rattle.schema_reports.specs.Pointer.{joined};
+ghost use Rattle.schema_reports.specs.Meaning.{both};
+ghost use Rattle.schema_reports.specs.Instance.{Place, Text, subject_at};
+ghost use Rattle.schema_reports.specs.InstanceTexts.{subject_has_float};
+ghost use Rattle.schema_reports.specs.InstanceViews.{subject_of};
+ghost use Rattle.schema_reports.specs.ReportViews.{error_of, BorrowsItsPlace};
+ghost use Rattle.schema_reports.specs.Meaning.{stamped, false_outcome, false_error};
+ghost use Rattle.std.specs.Prelude.{string_bytes, option_map, map};
+ghost use Rattle.schema_node.specs.KeywordViews.{mode_of, reply_of};
+ghost use Rattle.schema_node.specs.NodeTable.{absolute_in};
+ghost use Rattle.schema_node.specs.NodeViews.{node_of};
+ghost use Rattle.schema_node.specs.FaultViews.{errors_in};
+ghost use Rattle.schema_node.specs.NodeRuns.{reply_by, entry_where, refuses, accepts, Joins, Stamps};
+
+use crate::context::keyword::{Mode, Reply};
+use crate::node::Node;
+use crate::node::absolute::absolute_location;
+use schema_reports::instance::{Instance, Place};
+use schema_reports::location::{Location, LocationSegment, OutOfMemory};
+use schema_reports::reports::ValidationError;
+use std::alloc::Global;
+
+/// A yes without errors.
+pub fn accepted<'i>(alloc: Global, mode: Mode) -> Reply<'i>
+    ensures accepts { (texts : Bool) → reply_of texts result ≡ reply_by (mode_of mode) accepted }
+    ensures no_errors { errors_in result ≡ [] }
+{
+    match mode {
+        Mode::Verdict => Reply::Truth(true),
+        Mode::First => Reply::First(None),
+        Mode::All => Reply::All(Vec::new(alloc)),
+        Mode::Evaluate => Reply::Nothing,
+    }
+}
+
+/// Whether the reply is a no: no further reply of the same mode changes what it says, unless all errors are wanted.
+pub fn is_settled(reply: &Reply<'_>) -> bool
+    ensures settled { (texts : Bool) → result ≡ refuses (reply_of texts reply.now) }
+{
+    match reply {
+        Reply::Nothing => false,
+        Reply::Truth(yes) => !*yes,
+        Reply::First(found) => found.is_some(),
+        Reply::All(_) => false,
+    }
+}
+
+/// Whether the reply is a verdict that says yes.
+pub fn is_yes(reply: &Reply<'_>) -> bool
+    ensures yes { (texts : Bool) → result ≡ accepts (reply_of texts reply.now) }
+{
+    match reply {
+        Reply::Nothing => false,
+        Reply::Truth(yes) => *yes,
+        Reply::First(_) => false,
+        Reply::All(_) => false,
+    }
+}
+
+/// Both replies, the first one first.
+pub fn joined<'i>(found: Reply<'i>, more: Reply<'i>) -> Result<Reply<'i>, OutOfMemory>
+    ensures both { IfOk result (λ r. (texts : Bool) → Joins (reply_of texts found.entry) (reply_of texts more.entry) (reply_of texts r)) }
+    ensures borrows { IfOk result (λ r. (root : Data) → All (BorrowsItsPlace root) (errors_in found.entry) → All (BorrowsItsPlace root) (errors_in more.entry) → All (BorrowsItsPlace root) (errors_in r)) }
+{
+    match found {
+        Reply::Nothing => Ok(more),
+        Reply::Truth(a) => match more {
+            Reply::Truth(b) => Ok(Reply::Truth(a && b)),
+            Reply::Nothing => Ok(Reply::Truth(a)),
+            Reply::First(_) => Ok(Reply::Truth(a)),
+            Reply::All(_) => Ok(Reply::Truth(a)),
+        },
+        Reply::First(a) => match a {
+            Some(error) => Ok(Reply::First(Some(error))),
+            None => Ok(more),
+        },
+        Reply::All(mut errors) => match more {
+            Reply::All(mut others) => {
+                errors.append(&mut others)?;
+                Ok(Reply::All(errors))
+            }
+            Reply::Nothing => Ok(Reply::All(errors)),
+            Reply::Truth(_) => Ok(Reply::All(errors)),
+            Reply::First(_) => Ok(Reply::All(errors)),
+        },
+    }
+}
+
+/// The absolute location of a keyword of the node.
+pub fn keyword_location<K>(
+    alloc: Global,
+    node: &Node<K>,
+    name: &String,
+) -> Result<Option<String>, OutOfMemory>
+    ensures absolute { IfOk result (λ t. option_map string_bytes t ≡ absolute_in (node_of node.now) (joined (node_of node.now).location (string_bytes name.now))) }
+{
+    let location = node
+        .location
+        .join(LocationSegment::Property(name.as_str()))?;
+    absolute_location(alloc, node, &location)
+}
+
+/// The error with the absolute location of a keyword of the node, where it has none yet.
+pub fn stamped_error<'i, K>(
+    alloc: Global,
+    node: &Node<K>,
+    name: &String,
+    error: ValidationError<'i>,
+) -> Result<ValidationError<'i>, OutOfMemory>
+    ensures stamped { IfOk result (λ e. (texts : Bool) → error_of texts e
+        ≡ stamped (absolute_in (node_of node.now) (joined (node_of node.now).location (string_bytes name.now))) (error_of texts error.entry)) }
+    ensures place { IfOk result (λ e. e.place ≡ error.entry.place) }
+    ensures instance { IfOk result (λ e. e.instance ≡ error.entry.instance) }
+{
+    match error.absolute_keyword_location {
+        Some(_) => Ok(error),
+        None => {
+            let absolute = keyword_location(alloc, node, name)?;
+            Ok(ValidationError {
+                absolute_keyword_location: absolute,
+                ..error
+            })
+        }
+    }
+}
+
+// Each error with the absolute location of a keyword of the node, where it has none yet.
+fn stamped_errors<'i, K>(
+    alloc: Global,
+    node: &Node<K>,
+    name: &String,
+    errors: Vec<ValidationError<'i>>,
+) -> Result<Vec<ValidationError<'i>>, OutOfMemory>
+    ensures stamped { IfOk result (λ es. (texts : Bool) → map (error_of texts) es.items
+        ≡ map (stamped (absolute_in (node_of node.now) (joined (node_of node.now).location (string_bytes name.now)))) (map (error_of texts) errors.entry.items)) }
+    ensures borrows { IfOk result (λ es. (root : Data) → All (BorrowsItsPlace root) errors.entry.items → All (BorrowsItsPlace root) es.items) }
+{
+    let mut stamped = Vec::new(alloc);
+    for error in errors {
+        stamped.push(stamped_error(alloc, node, name, error)?)?;
+    }
+    Ok(stamped)
+}
+
+/// The reply with its errors stamped so.
+pub fn stamped_reply<'i, K>(
+    alloc: Global,
+    node: &Node<K>,
+    name: &String,
+    reply: Reply<'i>,
+) -> Result<Reply<'i>, OutOfMemory>
+    ensures stamped { IfOk result (λ r. (texts : Bool)
+        → Stamps (absolute_in (node_of node.now) (joined (node_of node.now).location (string_bytes name.now))) (reply_of texts reply.entry) (reply_of texts r)) }
+    ensures borrows { IfOk result (λ r. (root : Data) → All (BorrowsItsPlace root) (errors_in reply.entry) → All (BorrowsItsPlace root) (errors_in r)) }
+{
+    match reply {
+        Reply::Nothing => Ok(Reply::Nothing),
+        Reply::Truth(yes) => Ok(Reply::Truth(yes)),
+        Reply::First(found) => match found {
+            None => Ok(Reply::First(None)),
+            Some(error) => {
+                let error = stamped_error(alloc, node, name, error)?;
+                Ok(Reply::First(Some(error)))
+            }
+        },
+        Reply::All(errors) => {
+            let errors = stamped_errors(alloc, node, name, errors)?;
+            Ok(Reply::All(errors))
+        }
+    }
+}
+
+/// The reply of the schema `false`.
+pub fn refused<'i, K>(
+    alloc: Global,
+    node: &Node<K>,
+    instance: Instance<'i>,
+    place: &Place<'i>,
+    path: &Location,
+    mode: Mode,
+) -> Result<Reply<'i>, OutOfMemory>
+    ensures refuses { IfOk result (λ r. (texts : Bool) → (texts ≡ true → subject_has_float (subject_of instance.entry) ≡ false) → reply_of texts r
+        ≡ reply_by (mode_of mode) (false_outcome texts (entry_where (node_of node.now) path.now place.now) (subject_of instance.entry))) }
+    ensures borrows { IfOk result (λ r. (root : Data) → subject_at root place.now ≡ Some (subject_of instance.entry) → All (BorrowsItsPlace root) (errors_in r)) }
+{
+    match mode {
+        Mode::Verdict => Ok(Reply::Truth(false)),
+        Mode::First => {
+            let error = false_error(alloc, node, instance, place, path)?;
+            Ok(Reply::First(Some(error)))
+        }
+        Mode::All => {
+            let mut errors = Vec::new(alloc);
+            errors.push(false_error(alloc, node, instance, place, path)?)?;
+            Ok(Reply::All(errors))
+        }
+        Mode::Evaluate => Ok(Reply::Nothing),
+    }
+}
+
+// The error of the schema `false`.
+fn false_error<'i, K>(
+    alloc: Global,
+    node: &Node<K>,
+    instance: Instance<'i>,
+    place: &Place<'i>,
+    path: &Location,
+) -> Result<ValidationError<'i>, OutOfMemory>
+    ensures error { IfOk result (λ e. (texts : Bool) → (texts ≡ true → subject_has_float (subject_of instance.entry) ≡ false) → error_of texts e
+        ≡ false_error texts (entry_where (node_of node.now) path.now place.now) (subject_of instance.entry)) }
+    ensures place { IfOk result (λ e. e.place ≡ place.now) }
+    ensures instance { IfOk result (λ e. e.instance ≡ instance.entry) }
+{
+    let absolute = absolute_location(alloc, node, &node.location)?;
+    ValidationError::false_schema(
+        alloc,
+        instance,
+        place.copy()?,
+        node.location.copy()?,
+        path.copy()?,
+        absolute,
+    )
+}

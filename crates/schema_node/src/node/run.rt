@@ -1,0 +1,381 @@
+//! Runs of nodes over instances.
+ghost use Rattle.std.specs.Prelude.{◌≡◌, ◌<◌, ℕ, All, Bool, IfOk, Some, MatchOption, length, map, option_map, slice_get, string_bytes};
+ghost use Rattle.serde_json.specs.Data.{Data};
+ghost use Rattle.schema_reports.specs.Instance.{after_step, subject_at};
+ghost use Rattle.schema_reports.specs.InstanceViews.{subject_of, step_of};
+ghost use Rattle.schema_reports.specs.Keywords.{down, here, for_units};
+ghost use Rattle.schema_reports.specs.Laws.{AsksAlone, IsPresent, steps_below};
+ghost use Rattle.schema_reports.specs.Matching.{Assumptions, Matcher};
+ghost use Rattle.schema_reports.specs.Numbered.{left, subject_in};
+ghost use Rattle.schema_reports.specs.ReportViews.{BorrowsItsPlace};
+ghost use Rattle.schema_reports.specs.Runs.{no_run, reply_in};
+ghost use Rattle.schema_node.specs.FaultViews.{errors_in};
+ghost use Rattle.schema_reports.specs.Guarded.{guarded_node, guarded_within, node_child, node_keyword};
+ghost use Rattle.schema_node.specs.KeywordViews.{below_of, mode_of, reply_of};
+ghost use Rattle.schema_node.specs.NodeTable.{numbered, shaped_form, shaped_part, IsRanked};
+ghost use Rattle.schema_node.specs.NodeViews.{edge_of, entry_of, form_of, node_of};
+ghost use Rattle.schema_node.specs.NodeRuns.{Ready, TellsAll, HasForm, HasParts, NodeReplies, EdgeReplies, ChildReplies, FormReplies, HasChildren, PartsReply};
+ghost use Rattle.schema_node.specs.Progress.{busy_at, NoDeeper};
+
+use crate::context::keyword::{Below, Mode, Reply, Step, Validate};
+use crate::context::validation::ValidationContext;
+use crate::node::faults::{begun, finished};
+use crate::node::replies::{accepted, is_settled, is_yes, joined, refused, stamped_reply};
+use crate::node::{Edge, Entry, EntryForm, NodeForm, Nodes, SchemaNode};
+use schema_reports::instance::{Instance, InstanceStep, Place};
+use schema_reports::location::{Location, OutOfMemory};
+use std::alloc::Global;
+
+// What stands one step below, and the step; none where the question is asked here.
+fn one_below<'i>(
+    instance: Instance<'i>,
+    below: Below<'_>,
+) -> Option<(Instance<'i>, InstanceStep<'i>)>
+    requires present { IsPresent (subject_of instance) (steps_below (below_of below)) }
+    ensures below { MatchOption result (below_of below.entry ≡ here)
+        (λ r. (below_of below.entry ≡ down (step_of r.1)) × (after_step (step_of r.1) (subject_of instance.entry) ≡ Some (subject_of r.0))) }
+{
+    let found = match below {
+        Below::Here => return None,
+        Below::Member(name) => instance.member(name),
+        Below::Item(index) => instance.item(index),
+        Below::NameOf(name) => instance.name_of(name),
+    };
+    match found {
+        Some(lower) => Some(lower),
+        None => unreachable!(),
+    }
+}
+
+// The edge that a request got.
+fn child_edge(children: &[Option<Edge>], child: usize) -> Option<&Edge>
+    ensures edge { option_map (λ e. edge_of e.now) result ≡ node_child (map (option_map edge_of) children.now) child }
+{
+    match children.get(child) {
+        Some(Some(edge)) => Some(edge),
+        _ => None,
+    }
+}
+
+// The reply of a node at a place.
+#[cycle(run)]
+fn run_node<'i, K: Validate>(
+    nodes: &Nodes<K>,
+    alloc: Global,
+    node: SchemaNode,
+    instance: Instance<'i>,
+    place: &Place<'i>,
+    path: &Location,
+    mode: Mode,
+    context: &mut ValidationContext<'i>,
+) -> Result<Reply<'i>, OutOfMemory>
+    requires known { node.0 < length nodes.now }
+    requires ready { Ready K.words (numbered K.shape nodes.now) (length nodes.now) }
+    requires above { NoDeeper place.now context.old }
+    requires wanted { ¬ (mode_of mode ≡ for_units) }
+    ensures kept { IfOk result (λ _. context.new ≡ context.old) }
+    ensures says { IfOk result (λ r. NodeReplies K.words K.is_whole (numbered K.shape nodes.now) (length nodes.now)
+        (mode_of mode) path.now place.now (busy_at place.now context.old) (subject_of instance.entry) node.0 r) }
+{
+    let found = nodes.node(node);
+    match &found.form {
+        None => Ok(accepted(alloc, mode)),
+        Some(form) => match form {
+            NodeForm::Always => Ok(accepted(alloc, mode)),
+            NodeForm::Never => Ok(refused(alloc, found, instance, place, path, mode)?),
+            NodeForm::Keywords(entries) => Ok(run_entries(
+                nodes,
+                alloc,
+                node,
+                entries.as_slice(),
+                instance,
+                place,
+                path,
+                mode,
+                context,
+            )?),
+        },
+    }
+}
+
+// The reply of the entries, in their order; no more of them are asked once a no is all that is wanted.
+#[cycle(run)]
+fn run_entries<'i, K: Validate>(
+    nodes: &Nodes<K>,
+    alloc: Global,
+    node: SchemaNode,
+    entries: &[Entry<K>],
+    instance: Instance<'i>,
+    place: &Place<'i>,
+    path: &Location,
+    mode: Mode,
+    context: &mut ValidationContext<'i>,
+) -> Result<Reply<'i>, OutOfMemory>
+    requires known { node.0 < length nodes.now }
+    requires parts { HasParts (numbered K.shape nodes.now) node.0 (map (shaped_part K.shape) (map entry_of entries.now)) }
+    requires ready { Ready K.words (numbered K.shape nodes.now) (length nodes.now) }
+    requires above { NoDeeper place.now context.old }
+    requires wanted { ¬ (mode_of mode ≡ for_units) }
+    ensures kept { IfOk result (λ _. context.new ≡ context.old) }
+    ensures says { IfOk result (λ r. PartsReply K.words K.is_whole (numbered K.shape nodes.now) (length nodes.now)
+        (mode_of mode) path.now place.now (busy_at place.now context.old) (subject_of instance.entry) node.0 (map (shaped_part K.shape) (map entry_of entries.now)) r) }
+{
+    let mut found = accepted(alloc, mode);
+    for entry in entries {
+        let more = run_entry(
+            nodes, alloc, node, entry, instance, place, path, mode, context,
+        )?;
+        found = joined(found, more)?;
+        if is_settled(&found) {
+            return Ok(found);
+        }
+    }
+    Ok(found)
+}
+
+// The reply of an entry. A leaf is asked for its verdict first, and for errors only where that is a no.
+#[cycle(run)]
+fn run_entry<'i, K: Validate>(
+    nodes: &Nodes<K>,
+    alloc: Global,
+    node: SchemaNode,
+    entry: &Entry<K>,
+    instance: Instance<'i>,
+    place: &Place<'i>,
+    path: &Location,
+    mode: Mode,
+    context: &mut ValidationContext<'i>,
+) -> Result<Reply<'i>, OutOfMemory>
+    requires known { node.0 < length nodes.now }
+    requires form { HasForm (numbered K.shape nodes.now) node.0 (shaped_form K.shape (form_of entry.now.form)) }
+    requires ready { Ready K.words (numbered K.shape nodes.now) (length nodes.now) }
+    requires above { NoDeeper place.now context.old }
+    requires wanted { ¬ (mode_of mode ≡ for_units) }
+    ensures kept { IfOk result (λ _. context.new ≡ context.old) }
+    ensures says { IfOk result (λ r. FormReplies K.words K.is_whole (numbered K.shape nodes.now) (length nodes.now)
+        (mode_of mode) path.now place.now (busy_at place.now context.old) (subject_of instance.entry) node.0 (string_bytes entry.now.name) (shaped_form K.shape (form_of entry.now.form)) r) }
+{
+    if entry.is_leaf && mode != Mode::Verdict {
+        let verdict = run_form(
+            nodes,
+            alloc,
+            node,
+            entry,
+            instance,
+            place,
+            path,
+            Mode::Verdict,
+            context,
+        )?;
+        if is_yes(&verdict) {
+            return Ok(accepted(alloc, mode));
+        }
+        return Ok(run_form(
+            nodes, alloc, node, entry, instance, place, path, mode, context,
+        )?);
+    }
+    Ok(run_form(
+        nodes, alloc, node, entry, instance, place, path, mode, context,
+    )?)
+}
+
+// The reply of an entry's keyword, or of the node that its reference leads to.
+#[cycle(run)]
+fn run_form<'i, K: Validate>(
+    nodes: &Nodes<K>,
+    alloc: Global,
+    node: SchemaNode,
+    entry: &Entry<K>,
+    instance: Instance<'i>,
+    place: &Place<'i>,
+    path: &Location,
+    mode: Mode,
+    context: &mut ValidationContext<'i>,
+) -> Result<Reply<'i>, OutOfMemory>
+    requires known { node.0 < length nodes.now }
+    requires form { HasForm (numbered K.shape nodes.now) node.0 (shaped_form K.shape (form_of entry.now.form)) }
+    requires ready { Ready K.words (numbered K.shape nodes.now) (length nodes.now) }
+    requires above { NoDeeper place.now context.old }
+    requires wanted { ¬ (mode_of mode ≡ for_units) }
+    ensures kept { IfOk result (λ _. context.new ≡ context.old) }
+    ensures says { IfOk result (λ r. FormReplies K.words K.is_whole (numbered K.shape nodes.now) (length nodes.now)
+        (mode_of mode) path.now place.now (busy_at place.now context.old) (subject_of instance.entry) node.0 (string_bytes entry.now.name) (shaped_form K.shape (form_of entry.now.form)) r) }
+{
+    match &entry.form {
+        EntryForm::Keyword(keyword, children) => Ok(run_keyword(
+            nodes,
+            alloc,
+            node,
+            &entry.name,
+            keyword,
+            children.as_slice(),
+            instance,
+            place,
+            path,
+            mode,
+            context,
+        )?),
+        EntryForm::Reference(edge) => {
+            let reply = run_edge(nodes, alloc, edge, instance, place, path, mode, context)?;
+            Ok(stamped_reply(alloc, nodes.node(node), &entry.name, reply)?)
+        }
+    }
+}
+
+// The reply of a keyword, turn by turn.
+#[cycle(run)]
+fn run_keyword<'i, K: Validate>(
+    nodes: &Nodes<K>,
+    alloc: Global,
+    node: SchemaNode,
+    name: &String,
+    keyword: &K,
+    children: &[Option<Edge>],
+    instance: Instance<'i>,
+    place: &Place<'i>,
+    path: &Location,
+    mode: Mode,
+    context: &mut ValidationContext<'i>,
+) -> Result<Reply<'i>, OutOfMemory>
+    requires known { node.0 < length nodes.now }
+    requires form { HasForm (numbered K.shape nodes.now) node.0 (node_keyword (K.shape keyword.now) (map (option_map edge_of) children.now)) }
+    requires ready { Ready K.words (numbered K.shape nodes.now) (length nodes.now) }
+    requires above { NoDeeper place.now context.old }
+    requires wanted { ¬ (mode_of mode ≡ for_units) }
+    ensures kept { IfOk result (λ _. context.new ≡ context.old) }
+    ensures says { IfOk result (λ r. FormReplies K.words K.is_whole (numbered K.shape nodes.now) (length nodes.now)
+        (mode_of mode) path.now place.now (busy_at place.now context.old) (subject_of instance.entry) node.0 (string_bytes name.now) (node_keyword (K.shape keyword.now) (map (option_map edge_of) children.now)) r) }
+{
+    let mut run = keyword.begin(alloc, instance, mode)?;
+    let mut answer = begun(alloc, mode);
+    let mut reply = Reply::Nothing;
+    'turns: loop {
+        match keyword.turn(alloc, &mut run, instance, reply, &mut answer)? {
+            Step::Ask(child, below, wanted) => {
+                reply = run_child(
+                    nodes, alloc, node, children, child, below, instance, place, path, wanted,
+                    context,
+                )?;
+            }
+            Step::Done => {
+                return finished(
+                    alloc,
+                    nodes.node(node),
+                    name,
+                    instance,
+                    place,
+                    path,
+                    mode,
+                    answer,
+                );
+            }
+            Step::Match(_, _, _) => unreachable!(),
+            Step::Mark(_) => unreachable!(),
+            Step::Unmark => unreachable!(),
+            Step::Ecma(_) => unreachable!(),
+        }
+    }
+}
+
+// The reply of a keyword's child, here or one step below; yes where its request got none.
+#[cycle(run)]
+fn run_child<'i, K: Validate>(
+    nodes: &Nodes<K>,
+    alloc: Global,
+    node: SchemaNode,
+    children: &[Option<Edge>],
+    child: usize,
+    below: Below<'_>,
+    instance: Instance<'i>,
+    place: &Place<'i>,
+    path: &Location,
+    mode: Mode,
+    context: &mut ValidationContext<'i>,
+) -> Result<Reply<'i>, OutOfMemory>
+    requires known { node.0 < length nodes.now }
+    requires children { HasChildren (numbered K.shape nodes.now) node.0 (map (option_map edge_of) children.now) }
+    requires present { IsPresent (subject_of instance) (steps_below (below_of below)) }
+    requires ready { Ready K.words (numbered K.shape nodes.now) (length nodes.now) }
+    requires above { NoDeeper place.now context.old }
+    requires wanted { ¬ (mode_of mode ≡ for_units) }
+    ensures kept { IfOk result (λ _. context.new ≡ context.old) }
+    ensures says { IfOk result (λ r. ChildReplies K.words K.is_whole (numbered K.shape nodes.now) (length nodes.now)
+        (mode_of mode) path.now place.now (busy_at place.now context.old) (subject_of instance.entry) node.0 (map (option_map edge_of) children.now) (record { child = child; below = below_of below.entry }) r) }
+{
+    match child_edge(children, child) {
+        None => Ok(accepted(alloc, mode)),
+        Some(edge) => match one_below(instance, below) {
+            None => Ok(run_edge(nodes, alloc, edge, instance, place, path, mode, context)?),
+            Some((inner, step)) => {
+                let lower = place.below(step)?;
+                Ok(run_edge(nodes, alloc, edge, inner, &lower, path, mode, context)?)
+            }
+        },
+    }
+}
+
+// The reply of the node that an edge leads to; yes where the edge is guarded and the pair is in progress.
+#[cycle(run)]
+fn run_edge<'i, K: Validate>(
+    nodes: &Nodes<K>,
+    alloc: Global,
+    edge: &Edge,
+    instance: Instance<'i>,
+    place: &Place<'i>,
+    path: &Location,
+    mode: Mode,
+    context: &mut ValidationContext<'i>,
+) -> Result<Reply<'i>, OutOfMemory>
+    requires known { edge.now.node.0 < length nodes.now }
+    requires ready { Ready K.words (numbered K.shape nodes.now) (length nodes.now) }
+    requires above { NoDeeper place.now context.old }
+    requires wanted { ¬ (mode_of mode ≡ for_units) }
+    ensures kept { IfOk result (λ _. context.new ≡ context.old) }
+    ensures says { IfOk result (λ r. EdgeReplies K.words K.is_whole (numbered K.shape nodes.now) (length nodes.now)
+        (mode_of mode) path.now place.now (busy_at place.now context.old) (subject_of instance.entry) (edge_of edge.now) r) }
+{
+    let whole = path.append(&edge.path)?;
+    if !edge.guarded {
+        return Ok(run_node(
+            nodes, alloc, edge.node, instance, place, &whole, mode, context,
+        )?);
+    }
+    if context.enter(edge.node, place)? {
+        return Ok(accepted(alloc, mode));
+    }
+    let reply = run_node(
+        nodes, alloc, edge.node, instance, place, &whole, mode, context,
+    )?;
+    context.exit(edge.node, place);
+    Ok(reply)
+}
+
+impl<K: Validate> Nodes<K> {
+    /// Runs a node over what stands at a place, for its verdict, its first error or all errors, with the path that led to
+    /// it. The pairs in progress are as before, unless memory is wanting. Each error borrows what stands at its place.
+    pub fn run<'i>(
+        &self,
+        alloc: Global,
+        node: SchemaNode,
+        instance: Instance<'i>,
+        place: &Place<'i>,
+        path: &Location,
+        mode: Mode,
+        context: &mut ValidationContext<'i>,
+    ) -> Result<Reply<'i>, OutOfMemory>
+        requires known { node.0 < length self.now }
+        requires above { NoDeeper place.now context.old }
+        requires wanted { ¬ (mode_of mode ≡ for_units) }
+        requires asks_alone { (texts : Bool) → AsksAlone (K.words texts) }
+        ensures kept { IfOk result (λ _. context.new ≡ context.old) }
+        ensures replies { IfOk result (λ r. (root : Data) (texts : Bool) → subject_at root place.now ≡ Some (subject_of instance.entry)
+            → TellsAll texts root K.is_whole (numbered K.shape self.now) (length self.now) → (matcher : Matcher) (as' : Assumptions) (n : ℕ)
+            → left (numbered K.shape self.now) (length self.now) node.0 (subject_of instance.entry) (busy_at place.now context.old) < n
+            → reply_of texts r ≡ reply_in (mode_of mode)
+            (guarded_within no_run (guarded_node (K.words texts) matcher (numbered K.shape self.now) (subject_in root) as') n node.0 path.now place.now (busy_at place.now context.old))) }
+        ensures borrows { IfOk result (λ r. (root : Data) → subject_at root place.now ≡ Some (subject_of instance.entry) → All (BorrowsItsPlace root) (errors_in r)) }
+    {
+        let _ = &self.nodes;
+        run_node(self, alloc, node, instance, place, path, mode, context)
+    }
+}
