@@ -1,0 +1,3 @@
+mod OtherParts
+pub mod Sentences
+pub mod Built

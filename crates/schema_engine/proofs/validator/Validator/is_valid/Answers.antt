@@ -1,0 +1,13 @@
+use Rattle.std.proofs.Common.{◌≡◌, map, option_map}
+use Rattle.serde_json.specs.View.{view}
+use Rattle.schema_reports.specs.Cover.{Sense, is_valid}
+use Rattle.schema_reports.specs.Headline.{VerdictSays, ErrorsSay, FirstSays}
+use Rattle.schema_reports.specs.ReportViews.{error_of}
+use Rattle.schema_reports.proofs.SensesMeant.{of_every_sense}
+use Rattle.schema_node.specs.NodeTable.{numbered}
+use Rattle.schema_engine.proofs.validator.Validator.is_valid.Goals as goal
+
+pub returns-clause-senses : goal.returns-clause-senses
+returns-clause-senses g c = λ texts speaks.
+    let p = c.args.self.now in
+    of_every_sense (g.K.Validate.words texts) (g.M.Matcher.matching p.matcher) (numbered g.K.Validate.shape p.nodes) p.root (view c.args.instance.now) (λ (v : Sense). VerdictSays v is_valid c.in_ok-verdict.field-0) (c.in_ok-verdict.ensures.depth texts speaks)

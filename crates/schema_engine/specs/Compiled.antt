@@ -1,0 +1,17 @@
+-- Nodes that are compiled from a root's key: numbers stand for the keys that it reaches, each once.
+use Rattle.std.specs.Prelude.{◌≡◌, ℕ, List, Some, map, length, slice_get, All}
+use Rattle.schema_reports.specs.Parts.{Parts}
+use Rattle.schema_reports.specs.Plan.{Key}
+use Rattle.schema_reports.specs.Reach.{Reached}
+use Rattle.schema_reports.specs.Refusals.{Compiles}
+use Rattle.schema_reports.specs.Numbered.{AreNumbered, Ranked}
+use Rattle.schema_node.specs.NodeTable.{NodeEntry, numbered}
+
+pub record IsCompiled {S K R C : Type 0} (w : Parts S K R) (shape : C → K) (root : Key S) (nodes : List (NodeEntry C)) (number : ℕ) : Type 0 where
+  pub keys : List (Key S)
+  pub lengths : length nodes ≡ length keys
+  pub numbers : AreNumbered w (map Some keys) (numbered shape nodes)
+  pub ranked : Ranked (numbered shape nodes) (length nodes)
+  pub is_root : slice_get keys number ≡ Some root
+  pub reached : (i : ℕ) (k : Key S) → slice_get keys i ≡ Some k → Reached w root k
+  pub compiles : Compiles w root

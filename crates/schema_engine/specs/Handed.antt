@@ -1,0 +1,55 @@
+-- Everything that is handed in to a build, as one record, and what a build answers.
+use Rattle.std.specs.Prelude.{◌≡◌, ℕ, List, [], Bool, true, Option, None}
+use Rattle.serde_json.specs.Data.{Data, Members}
+use Rattle.schema_reports.specs.Instance.{Text}
+use Rattle.schema_reports.specs.Drafts.{Draft, Vocabularies}
+use Rattle.schema_reports.specs.Resolving.{Resolver}
+use Rattle.schema_reports.specs.Making.{Builtin, Script, Table}
+use Rattle.schema_reports.specs.Matching.{Matcher, finished}
+use Rattle.schema_reports.specs.Keywords.{Keywords, done}
+use Rattle.schema_reports.specs.Parts.{Parts}
+
+-- the options that a build reads
+pub record Options : Type 0 where
+  pub draft : Option Draft
+  pub base : Option Text
+  pub formats : Option Bool
+  pub declared : List Text
+  pub limit : ℕ
+
+abbrev pub default_options : Options
+default_options = record { draft = None; base = None; formats = None; declared = []; limit = 65536 }
+
+-- the table that a keyword table and the built-in one make together
+abbrev pub table_of : {K : Type 0} → (Text → Bool) → (Draft → Vocabularies → Text → Option Builtin) → (Bool → Text → Members → Draft → Vocabularies → Bool → Script K) → Table K
+table_of owns builtin script = record { owns = owns; builtin = builtin; script = script }
+
+abbrev pub parts_of : {S K R : Type 0} → Resolver S → Table K → Matcher → Keywords K R → Options → Parts S K R
+parts_of resolver table matcher keywords options = record {
+  resolver = resolver;
+  table = table;
+  matcher = matcher;
+  keywords = keywords;
+  draft = options.draft;
+  base = options.base;
+  formats = options.formats;
+  declared = options.declared;
+}
+
+-- what the compiler reads of the parts: no matcher, and of the keywords only how they are made
+abbrev pub no_matcher : Matcher
+no_matcher = record { is_match = λ pattern text. finished true; is_ecma = λ text. true }
+
+abbrev pub no_keywords : {K : Type 0} → Keywords K (Unit {0})
+no_keywords = record {
+  texts = true;
+  may_ask = λ m s. [];
+  holds = λ m s matching ask. true;
+  faults = λ m s matching answers. [];
+  units = λ m s matching ask. record { children = []; annotations = None; errors = []; absorbed = [] };
+  most_turns = λ m s. 0;
+  begin = λ m s mode. tt;
+  turn = λ m s r reply. tt;
+  step = λ m s r reply. done;
+  answer = λ r. record { verdict = true; errors = []; gives = record { children = []; annotations = None; errors = []; absorbed = [] } };
+}

@@ -1,0 +1,5 @@
+pub mod Program
+pub mod Compiled
+pub mod Handed
+pub mod Answers
+pub mod Promised

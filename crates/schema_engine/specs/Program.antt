@@ -1,0 +1,36 @@
+-- A validator as data, and what its nodes say of an instance.
+use Rattle.std.specs.Prelude.{◌≡◌, ℕ, List, Bool, true, false, length}
+use Rattle.serde_json.specs.Data.{Data}
+use Rattle.serde_json.specs.Written.{has_float}
+use Rattle.schema_reports.specs.Drafts.{Draft}
+use Rattle.schema_reports.specs.Matching.{Matcher}
+use Rattle.schema_reports.specs.Keywords.{Keywords}
+use Rattle.schema_reports.specs.Cover.{Sense}
+use Rattle.schema_reports.specs.Means as means
+use Rattle.schema_reports.specs.Fractions.{AreWhole}
+use Rattle.schema_node.specs.NodeTable.{NodeEntry, numbered}
+
+-- the nodes, the number of the root's, the root's draft, and the matcher
+pub record Program (K M : Type 0) : Type 0 where
+  pub nodes : List (NodeEntry K)
+  pub root : ℕ
+  pub draft : Draft
+  pub matcher : M
+
+-- S is what is known of a keyword, R a run with its answer so far
+module _ {K S R M : Type 0} (shape : K → S) (words : Bool → Keywords S R) (is_whole : S → Bool) (matching : M → Matcher) (p : Program K M) (instance : Data) where
+  -- texts of errors are spoken of only where the instance holds no fraction and every keyword is whole
+  abbrev pub Speaks : Bool → Type 0
+  Speaks texts = texts ≡ true → (has_float instance ≡ false) × AreWhole is_whole (numbered shape p.nodes) (length p.nodes)
+
+  -- the nodes mean this sense
+  abbrev pub Means : Bool → Sense → Type 0
+  Means texts v = means.Means (words texts) (matching p.matcher) (numbered shape p.nodes) p.root instance v
+
+  -- what is said of every sense that the nodes mean
+  abbrev pub OfEverySense : (Bool → Sense → Type 0) → Type 0
+  OfEverySense fact = (texts : Bool) → Speaks texts → means.OfEverySense (words texts) (matching p.matcher) (numbered shape p.nodes) p.root instance (fact texts)
+
+  -- what is said of the nodes from some depth on, where chains of questions return too
+  abbrev pub FromSomeDepth : (Bool → Sense → Type 0) → Type 0
+  FromSomeDepth fact = (texts : Bool) → Speaks texts → means.FromSomeDepth (words texts) (matching p.matcher) (numbered shape p.nodes) p.root instance (fact texts)

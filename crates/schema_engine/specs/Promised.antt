@@ -1,0 +1,25 @@
+-- What a build promises: for every root key of the schema and every instance, the validator means the plain meaning of
+-- schema and parts, where no chain of questions returns.
+use Rattle.std.specs.Prelude.{Bool}
+use Rattle.serde_json.specs.Data.{Data}
+use Rattle.schema_reports.specs.Matching.{Matcher}
+use Rattle.schema_reports.specs.Resolving.{Resolver}
+use Rattle.schema_reports.specs.Making.{Table}
+use Rattle.schema_reports.specs.Keywords.{Keywords}
+use Rattle.schema_reports.specs.Parts.{Parts}
+use Rattle.schema_reports.specs.Plan.{Key}
+use Rattle.schema_reports.specs.Root.{IsRoot}
+use Rattle.schema_reports.specs.Headline.{SpeaksRightly, Plainly}
+use Rattle.schema_engine.specs.Program.{Program, Speaks, Means}
+use Rattle.schema_engine.specs.Handed.{Options, parts_of}
+
+-- S is what a state stands for, K what is known of a keyword, R a run with its answer so far
+module _ {S K R : Type 0} (resolver : Resolver S) (table : Table K) (matcher : Matcher) (words : Bool → Keywords K R) (options : Options) (schema : Data) where
+  -- P of every root key of the schema, for an instance of which texts are spoken rightly
+  abbrev pub OfSchema : Data → (Bool → Parts S K R → Key S → Type 0) → Type 0
+  OfSchema instance P = (texts : Bool) (root : Key S) → IsRoot (parts_of resolver table matcher (words texts) options) schema root
+      → SpeaksRightly (parts_of resolver table matcher (words texts) options) root instance → P texts (parts_of resolver table matcher (words texts) options) root
+
+  abbrev pub MeansSchema : {C M : Type 0} → (C → K) → (K → Bool) → (M → Matcher) → Program C M → Type 0
+  MeansSchema shape is_whole matching p = (instance : Data)
+      → OfSchema instance (λ texts w root. Speaks shape words is_whole matching p instance texts × Plainly w root instance (Means shape words is_whole matching p instance texts))

@@ -1,0 +1,4 @@
+//! Validators, and what they answer of instances.
+#![tactic(auto)]
+
+pub mod validator;

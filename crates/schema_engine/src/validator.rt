@@ -1,0 +1,173 @@
+//! A validator: what it answers of instances.
+ghost use Rattle.std.specs.Prelude.{◌≡◌, ℕ, List, Bool, Option, IfOk, All, IfSome, option_map, map, length, ◌<◌};
+ghost use Rattle.serde_json.specs.View.{view};
+ghost use Rattle.schema_reports.specs.Laws.{AsksAlone};
+ghost use Rattle.schema_reports.specs.Cover.{is_valid};
+ghost use Rattle.schema_reports.specs.Headline.{VerdictSays, ErrorsSay, FirstSays};
+ghost use Rattle.schema_reports.specs.KeywordViews.{draft_of};
+ghost use Rattle.schema_reports.specs.ReportViews.{error_of, BorrowsItsPlace};
+ghost use Rattle.schema_engine.specs.Program.{OfEverySense, FromSomeDepth};
+ghost use Rattle.schema_node.specs.FaultViews.{errors_in};
+ghost use Rattle.schema_node.specs.KeywordViews.{mode_of};
+ghost use Rattle.schema_reports.specs.Keywords.{for_units};
+ghost use Rattle.schema_engine.specs.Answers.{SaysReply, refusal_of};
+
+use schema_node::context::keyword::{Mode, Reply, Validate};
+use schema_node::context::matcher::Matcher;
+use schema_node::context::validation::ValidationContext;
+use schema_node::node::{Nodes, SchemaNode};
+use schema_reports::keywords::Draft;
+use schema_reports::instance::{Instance, Place};
+use schema_reports::location::{Location, OutOfMemory};
+use schema_reports::reports::{ErrorIterator, ValidationError};
+use serde_json::Value;
+use std::alloc::Global;
+use std::marker::Model;
+
+/// A schema, compiled. It is asked of many instances, and no call changes it.
+#[derive(Drop)]
+pub struct Validator<K, M> {
+    nodes: Nodes<K>,
+    root: SchemaNode,
+    draft: Draft,
+    matcher: M,
+}
+
+impl<K, M> Model for Validator<K, M> {
+    ghost use Rattle.schema_reports.specs.KeywordViews.{draft_of};
+    ghost use Rattle.schema_engine.specs.Program.{Program};
+    ghost use Rattle.std.specs.Prelude.{◌<◌, length};
+    ghost use Rattle.serde_json.specs.contracts.value.Value as value;
+    ghost use Rattle.std.specs.Coded.{codes};
+
+    ghost Value = { Program K M };
+
+    ghost coded = { Prim.hlevel (codes, value.the_row.coded) };
+
+    ghost view = { λ v. record { nodes = v.nodes; root = v.root.0; draft = draft_of v.draft; matcher = v.matcher } };
+
+    ghost invariant = { λ v. v.root.0 < length v.nodes };
+}
+
+// A refusal with the error, if there is one.
+fn unless_refused<'i>(error: Option<ValidationError<'i>>) -> Result<(), ValidationError<'i>>
+    ensures refusal { refusal_of result ≡ error.entry }
+{
+    match error {
+        Some(error) => Err(error),
+        None => Ok(()),
+    }
+}
+
+impl<K: Validate, M: Matcher> Validator<K, M> {
+    /// A validator of compiled nodes: the number of the root's node, the root's draft, and the matcher. It takes no memory.
+    pub fn new(nodes: Nodes<K>, root: SchemaNode, draft: Draft, matcher: M) -> Validator<K, M>
+        requires inside { root.0 < length nodes }
+        ensures made { result ≡ record { nodes = nodes; root = root.0; draft = draft_of draft; matcher = matcher } }
+    {
+        Validator {
+            nodes,
+            root,
+            draft,
+            matcher,
+        }
+    }
+
+    /// The draft of the schema's root. It takes no memory.
+    pub fn draft(&self) -> Draft
+        ensures draft { draft_of result ≡ self.now.draft }
+    {
+        self.draft
+    }
+
+    /// The number of the root's node. It takes no memory.
+    pub fn root(&self) -> SchemaNode
+        ensures root { result.0 ≡ self.now.root }
+    {
+        self.root
+    }
+
+    /// The nodes. It takes no memory.
+    pub fn nodes(&self) -> &Nodes<K>
+        ensures nodes { result.now ≡ self.now.nodes }
+    {
+        &self.nodes
+    }
+
+    // What the root's node says of an instance.
+    fn asked<'i>(&self, alloc: Global, instance: &'i Value, mode: Mode) -> Result<Reply<'i>, OutOfMemory>
+        requires asks_alone { (texts : Bool) → AsksAlone (K.words texts) }
+        requires wanted { ¬ (mode_of mode ≡ for_units) }
+        ensures says { IfOk result (λ r. SaysReply K.shape K.words K.is_whole M.matching self.now (view instance.now) mode r) }
+        ensures borrows { IfOk result (λ r. All (BorrowsItsPlace (view instance.now)) (errors_in r)) }
+    {
+        let place = Place::root(alloc);
+        let path = Location::new(alloc);
+        let mut context = ValidationContext::new(alloc);
+        Ok(self.nodes.run(alloc, self.root, Instance::Value(instance), &place, &path, mode, &mut context)?)
+    }
+
+    // The verdict of the root's node.
+    fn verdict(&self, alloc: Global, instance: &Value) -> Result<bool, OutOfMemory>
+        requires asks_alone { (texts : Bool) → AsksAlone (K.words texts) }
+        ensures depth { IfOk result (λ valid. FromSomeDepth K.shape K.words K.is_whole M.matching self.now (view instance.now) (λ texts v. VerdictSays v is_valid valid)) }
+    {
+        match self.asked(alloc, instance, Mode::Verdict)? {
+            Reply::Truth(valid) => Ok(valid),
+            _ => unreachable!(),
+        }
+    }
+
+    // The first error of the root's node.
+    fn first<'i>(&self, alloc: Global, instance: &'i Value) -> Result<Option<ValidationError<'i>>, OutOfMemory>
+        requires asks_alone { (texts : Bool) → AsksAlone (K.words texts) }
+        ensures depth { IfOk result (λ e. FromSomeDepth K.shape K.words K.is_whole M.matching self.now (view instance.now) (λ texts v. FirstSays v (option_map (error_of texts) e))) }
+        ensures borrows { IfOk result (λ e. IfSome e (BorrowsItsPlace (view instance.now))) }
+    {
+        match self.asked(alloc, instance, Mode::First)? {
+            Reply::First(error) => Ok(error),
+            _ => unreachable!(),
+        }
+    }
+
+    // All errors of the root's node.
+    fn errors<'i>(&self, alloc: Global, instance: &'i Value) -> Result<Vec<ValidationError<'i>>, OutOfMemory>
+        requires asks_alone { (texts : Bool) → AsksAlone (K.words texts) }
+        ensures depth { IfOk result (λ es. FromSomeDepth K.shape K.words K.is_whole M.matching self.now (view instance.now) (λ texts v. ErrorsSay v (map (error_of texts) es.items))) }
+        ensures borrows { IfOk result (λ es. All (BorrowsItsPlace (view instance.now)) es.items) }
+    {
+        match self.asked(alloc, instance, Mode::All)? {
+            Reply::All(errors) => Ok(errors),
+            _ => unreachable!(),
+        }
+    }
+
+    /// Whether the instance is accepted.
+    pub fn is_valid(&self, alloc: Global, instance: &Value) -> Result<bool, OutOfMemory>
+        requires asks_alone { (texts : Bool) → AsksAlone (K.words texts) }
+        ensures depth { IfOk result (λ valid. FromSomeDepth K.shape K.words K.is_whole M.matching self.now (view instance.now) (λ texts v. VerdictSays v is_valid valid)) }
+        ensures senses { IfOk result (λ valid. OfEverySense K.shape K.words K.is_whole M.matching self.now (view instance.now) (λ texts v. VerdictSays v is_valid valid)) }
+    {
+        Ok(self.verdict(alloc, instance)?)
+    }
+
+    /// The first error, or none where the instance is accepted.
+    pub fn validate<'i>(&self, alloc: Global, instance: &'i Value) -> Result<Result<(), ValidationError<'i>>, OutOfMemory>
+        requires asks_alone { (texts : Bool) → AsksAlone (K.words texts) }
+        ensures depth { IfOk result (λ r. FromSomeDepth K.shape K.words K.is_whole M.matching self.now (view instance.now) (λ texts v. FirstSays v (option_map (error_of texts) (refusal_of r)))) }
+        ensures senses { IfOk result (λ r. OfEverySense K.shape K.words K.is_whole M.matching self.now (view instance.now) (λ texts v. FirstSays v (option_map (error_of texts) (refusal_of r)))) }
+        ensures borrows { IfOk result (λ r. IfSome (refusal_of r) (BorrowsItsPlace (view instance.now))) }
+    {
+        Ok(unless_refused(self.first(alloc, instance)?))
+    }
+
+    /// All errors, in order; none where the instance is accepted.
+    pub fn iter_errors<'i>(&self, alloc: Global, instance: &'i Value) -> Result<ErrorIterator<'i>, OutOfMemory>
+        requires asks_alone { (texts : Bool) → AsksAlone (K.words texts) }
+        ensures depth { IfOk result (λ es. FromSomeDepth K.shape K.words K.is_whole M.matching self.now (view instance.now) (λ texts v. ErrorsSay v (map (error_of texts) es))) }
+        ensures senses { IfOk result (λ es. OfEverySense K.shape K.words K.is_whole M.matching self.now (view instance.now) (λ texts v. ErrorsSay v (map (error_of texts) es))) }
+        ensures borrows { IfOk result (λ es. All (BorrowsItsPlace (view instance.now)) es) }
+    {
+        Ok(ErrorIterator::new(self.errors(alloc, instance)?))
+    }
+}
