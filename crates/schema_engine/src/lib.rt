@@ -1,4 +1,5 @@
 //! Validators, and what they answer of instances.
 #![tactic(auto)]
 
+pub mod compiled;
 pub mod validator;
