@@ -1,23 +1,20 @@
 -- A validator that is compiled from a root means the plain meaning of schema and parts.
-use Rattle.std.proofs.Common.{◌≡◌, ℕ, zero, suc, ◌<◌, Bool, true, false, List, [], ◌∷◌, length, map, refl, sym, ◌∙◌, ap, subst, arith}
-use Rattle.std.specs.Prelude.{Option, Some, None, All, slice_get, Decides, ◌↔◌}
+use Rattle.std.proofs.Common.{◌≡◌, ℕ, zero, suc, ◌<◌, Bool, true, List, [], ◌∷◌, length, map, refl, sym, ◌∙◌, ap, subst, arith}
+use Rattle.std.specs.Prelude.{Some, slice_get, Decides, ◌↔◌}
 use Rattle.std.proofs.lemmas.List.{length-map}
 use Rattle.serde_json.specs.Data.{Data, Members}
-use Rattle.serde_json.specs.Written.{has_float}
 use Rattle.schema_reports.specs.Instance.{Text}
 use Rattle.schema_reports.specs.Drafts.{Draft, Vocabularies}
 use Rattle.schema_reports.specs.Matching.{Matcher}
 use Rattle.schema_reports.specs.Resolving.{Resolver}
-use Rattle.schema_reports.specs.Making.{Table, Script}
+use Rattle.schema_reports.specs.Making.{Table}
 use Rattle.schema_reports.specs.Keywords.{Keywords}
 use Rattle.schema_reports.specs.Parts.{Parts}
-use Rattle.schema_reports.specs.Plan.{Key, schema_of}
+use Rattle.schema_reports.specs.Plan.{Key}
 use Rattle.schema_reports.specs.Root.{IsRoot}
-use Rattle.schema_reports.specs.Reach.{Reached}
 use Rattle.schema_reports.specs.Laws.{EachKeeps}
 use Rattle.schema_reports.specs.Headline.{SpeaksRightly, Plainly}
-use Rattle.schema_reports.specs.Guarded.{Nodes}
-use Rattle.schema_reports.specs.Numbered.{AreNumbered, Ranked, ValuesInside, MakersAskBelow, IsNumber}
+use Rattle.schema_reports.specs.Numbered.{AreNumbered, Ranked, MakersAskBelow}
 use Rattle.schema_reports.specs.Fractions.{MakesWhole, AreWhole}
 use Rattle.schema_reports.specs.Means as means
 use Rattle.schema_reports.proofs.SensesMeant.{numbers_mean}

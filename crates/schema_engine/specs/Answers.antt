@@ -1,5 +1,5 @@
 -- What the run of the root's node answers: at every great enough depth, what its guarded meaning does, by the mode.
-use Rattle.std.specs.Prelude.{◌≡◌, ℕ, ◌<◌, List, [], ◌∷◌, Bool, length, Option, Some, None, Result, Ok, Err}
+use Rattle.std.specs.Prelude.{◌≡◌, ℕ, ◌<◌, [], Bool, length, Option, Some, None, Result, Ok, Err}
 use Rattle.serde_json.specs.Data.{Data}
 use Rattle.schema_reports.specs.Matching.{Matcher}
 use Rattle.schema_reports.specs.Keywords.{Keywords}
@@ -7,7 +7,6 @@ use Rattle.schema_reports.specs.Runs.{reply_in, no_run}
 use Rattle.schema_reports.specs.Guarded.{guarded_within, guarded_node}
 use Rattle.schema_reports.specs.Numbered.{left, subject_in}
 use Rattle.schema_reports.specs.declared.reports.ValidationError.{ValidationError}
-use Rattle.schema_node.specs.declared.context.keyword.Reply.TheVariants as reply
 use Rattle.schema_node.specs.KeywordViews.{mode_of, reply_of}
 use Rattle.schema_node.specs.NodeTable.{numbered}
 use Rattle.schema_node.specs.declared.context.keyword.Mode.{Mode}

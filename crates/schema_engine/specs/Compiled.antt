@@ -1,5 +1,5 @@
 -- Nodes that are compiled from a root's key: numbers stand for the keys that it reaches, each once.
-use Rattle.std.specs.Prelude.{◌≡◌, ℕ, List, Some, map, length, slice_get, All}
+use Rattle.std.specs.Prelude.{◌≡◌, ℕ, List, Some, map, length, slice_get}
 use Rattle.schema_reports.specs.Parts.{Parts}
 use Rattle.schema_reports.specs.Plan.{Key}
 use Rattle.schema_reports.specs.Reach.{Reached}

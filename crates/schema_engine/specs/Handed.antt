@@ -1,6 +1,6 @@
 -- Everything that is handed in to a build, as one record, and what a build answers.
-use Rattle.std.specs.Prelude.{◌≡◌, ℕ, List, [], Bool, true, Option, None}
-use Rattle.serde_json.specs.Data.{Data, Members}
+use Rattle.std.specs.Prelude.{ℕ, List, [], Bool, true, Option, None}
+use Rattle.serde_json.specs.Data.{Members}
 use Rattle.schema_reports.specs.Instance.{Text}
 use Rattle.schema_reports.specs.Drafts.{Draft, Vocabularies}
 use Rattle.schema_reports.specs.Resolving.{Resolver}

@@ -39,9 +39,9 @@ pub fn of_compiled<S: Resolver, T: KeywordTable<K>, K: Validate, M: Matcher>(
     ensures made { IfOk result (λ v. (v.nodes ≡ nodes) × (v.root ≡ root.0) × (v.draft ≡ draft_of draft)) }
     ensures means { IfOk result (λ v. (options : Options)
         → ((key : Key S.Point) → IsRoot (parts_of (S.resolving resolver.now) (table_of (T.owned table.now) builtin_in (T.script table.now)) no_matcher no_keywords options) (view schema.now) key
-            → IsCompiled (parts_of (S.resolving resolver.now) (table_of (T.owned table.now) builtin_in (T.script table.now)) no_matcher no_keywords options) K.shape key nodes root.0)
+        → IsCompiled (parts_of (S.resolving resolver.now) (table_of (T.owned table.now) builtin_in (T.script table.now)) no_matcher no_keywords options) K.shape key nodes root.0)
         → MeansSchema (S.resolving resolver.now) (table_of (T.owned table.now) builtin_in (T.script table.now)) (M.matching matcher.now) K.words options (view schema.now)
-            K.shape K.is_whole M.matching v) }
+        K.shape K.is_whole M.matching v) }
 {
     let matcher = matcher.clone()?;
     Ok(Validator::new(nodes, root, draft, matcher))

@@ -16,8 +16,8 @@ use schema_node::context::keyword::{Mode, Reply, Validate};
 use schema_node::context::matcher::Matcher;
 use schema_node::context::validation::ValidationContext;
 use schema_node::node::{Nodes, SchemaNode};
-use schema_reports::keywords::Draft;
 use schema_reports::instance::{Instance, Place};
+use schema_reports::keywords::Draft;
 use schema_reports::location::{Location, OutOfMemory};
 use schema_reports::reports::{ErrorIterator, ValidationError};
 use serde_json::Value;
@@ -95,7 +95,12 @@ impl<K: Validate, M: Matcher> Validator<K, M> {
     }
 
     // What the root's node says of an instance.
-    fn asked<'i>(&self, alloc: Global, instance: &'i Value, mode: Mode) -> Result<Reply<'i>, OutOfMemory>
+    fn asked<'i>(
+        &self,
+        alloc: Global,
+        instance: &'i Value,
+        mode: Mode,
+    ) -> Result<Reply<'i>, OutOfMemory>
         requires asks_alone { (texts : Bool) → AsksAlone (K.words texts) }
         requires wanted { ¬ (mode_of mode ≡ for_units) }
         ensures says { IfOk result (λ r. SaysReply K.shape K.words K.is_whole M.matching self.now (view instance.now) mode r) }
@@ -104,7 +109,17 @@ impl<K: Validate, M: Matcher> Validator<K, M> {
         let place = Place::root(alloc);
         let path = Location::new(alloc);
         let mut context = ValidationContext::new(alloc);
-        Ok(self.nodes.run(alloc, self.root, Instance::Value(instance), &place, &path, mode, &mut context)?)
+        Ok(
+            self.nodes.run(
+                alloc,
+                self.root,
+                Instance::Value(instance),
+                &place,
+                &path,
+                mode,
+                &mut context,
+            )?,
+        )
     }
 
     // The verdict of the root's node.
@@ -119,7 +134,11 @@ impl<K: Validate, M: Matcher> Validator<K, M> {
     }
 
     // The first error of the root's node.
-    fn first<'i>(&self, alloc: Global, instance: &'i Value) -> Result<Option<ValidationError<'i>>, OutOfMemory>
+    fn first<'i>(
+        &self,
+        alloc: Global,
+        instance: &'i Value,
+    ) -> Result<Option<ValidationError<'i>>, OutOfMemory>
         requires asks_alone { (texts : Bool) → AsksAlone (K.words texts) }
         ensures depth { IfOk result (λ e. FromSomeDepth K.shape K.words K.is_whole M.matching self.now (view instance.now) (λ texts v. FirstSays v (option_map (error_of texts) e))) }
         ensures borrows { IfOk result (λ e. IfSome e (BorrowsItsPlace (view instance.now))) }
@@ -131,7 +150,11 @@ impl<K: Validate, M: Matcher> Validator<K, M> {
     }
 
     // All errors of the root's node.
-    fn errors<'i>(&self, alloc: Global, instance: &'i Value) -> Result<Vec<ValidationError<'i>>, OutOfMemory>
+    fn errors<'i>(
+        &self,
+        alloc: Global,
+        instance: &'i Value,
+    ) -> Result<Vec<ValidationError<'i>>, OutOfMemory>
         requires asks_alone { (texts : Bool) → AsksAlone (K.words texts) }
         ensures depth { IfOk result (λ es. FromSomeDepth K.shape K.words K.is_whole M.matching self.now (view instance.now) (λ texts v. ErrorsSay v (map (error_of texts) es.items))) }
         ensures borrows { IfOk result (λ es. All (BorrowsItsPlace (view instance.now)) es.items) }
@@ -152,7 +175,11 @@ impl<K: Validate, M: Matcher> Validator<K, M> {
     }
 
     /// The first error, or none where the instance is accepted.
-    pub fn validate<'i>(&self, alloc: Global, instance: &'i Value) -> Result<Result<(), ValidationError<'i>>, OutOfMemory>
+    pub fn validate<'i>(
+        &self,
+        alloc: Global,
+        instance: &'i Value,
+    ) -> Result<Result<(), ValidationError<'i>>, OutOfMemory>
         requires asks_alone { (texts : Bool) → AsksAlone (K.words texts) }
         ensures depth { IfOk result (λ r. FromSomeDepth K.shape K.words K.is_whole M.matching self.now (view instance.now) (λ texts v. FirstSays v (option_map (error_of texts) (refusal_of r)))) }
         ensures senses { IfOk result (λ r. OfEverySense K.shape K.words K.is_whole M.matching self.now (view instance.now) (λ texts v. FirstSays v (option_map (error_of texts) (refusal_of r)))) }
@@ -162,7 +189,11 @@ impl<K: Validate, M: Matcher> Validator<K, M> {
     }
 
     /// All errors, in order; none where the instance is accepted.
-    pub fn iter_errors<'i>(&self, alloc: Global, instance: &'i Value) -> Result<ErrorIterator<'i>, OutOfMemory>
+    pub fn iter_errors<'i>(
+        &self,
+        alloc: Global,
+        instance: &'i Value,
+    ) -> Result<ErrorIterator<'i>, OutOfMemory>
         requires asks_alone { (texts : Bool) → AsksAlone (K.words texts) }
         ensures depth { IfOk result (λ es. FromSomeDepth K.shape K.words K.is_whole M.matching self.now (view instance.now) (λ texts v. ErrorsSay v (map (error_of texts) es))) }
         ensures senses { IfOk result (λ es. OfEverySense K.shape K.words K.is_whole M.matching self.now (view instance.now) (λ texts v. ErrorsSay v (map (error_of texts) es))) }

@@ -9,7 +9,7 @@ pub mod numbers;
 pub mod paths;
 pub mod reports;
 pub mod rows;
-pub mod text;
-pub mod unfinished_matches;
 #[cfg(test)]
 mod tests;
+pub mod text;
+pub mod unfinished_matches;

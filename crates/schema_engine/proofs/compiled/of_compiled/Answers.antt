@@ -1,14 +1,11 @@
-use Rattle.std.proofs.Common.{◌≡◌, ℕ, Bool, true, List, sym, ◌∙◌, ap, subst, length}
-use Rattle.serde_json.specs.Data.{Data}
+use Rattle.std.proofs.Common.{sym, ◌∙◌, ap, subst, length}
 use Rattle.serde_json.specs.View.{view}
-use Rattle.schema_reports.specs.Drafts.{Draft}
-use Rattle.schema_reports.specs.Matching.{Matcher}
 use Rattle.schema_reports.specs.Laws.{EachKeeps}
 use Rattle.schema_reports.specs.Headline.{Plainly}
 use Rattle.schema_reports.specs.KeywordTable.{builtin_in}
 use Rattle.schema_reports.specs.Means as means
 use Rattle.schema_reports.proofs.TurnsGiveRuns.{keeps_of_turns}
-use Rattle.schema_node.specs.NodeTable.{NodeEntry, numbered}
+use Rattle.schema_node.specs.NodeTable.{numbered}
 use Rattle.schema_reports.specs.Fractions.{AreWhole}
 use Rattle.schema_engine.specs.Program.{Program, Means}
 use Rattle.schema_engine.specs.Handed.{table_of, parts_of}
@@ -40,9 +37,8 @@ returns-clause-means g c = λ options from instance texts root is_root speaks.
     let equal = g.met.M.Matcher.cloned c.args.matcher.now c.in_ok-matcher.matcher c.in_ok-matcher.ensures.cases in
     let made = c.new.ensures.made in
     let told = g.met.K.Validate.speaks texts in
-    let w = parts_of r table matcher keywords options in
-    (
+    let w = parts_of r table matcher keywords options in (
       λ t. ((speaks (told ∙ t)).0, subst (λ (p : Program g.row.K.Denot g.row.M.Denot). AreWhole k.is_whole (numbered k.shape p.nodes) (length p.nodes)) (sym made) (whole (told ∙ t))),
       subst (λ (p : Program g.row.K.Denot g.row.M.Denot). Plainly w root instance (Means k.shape k.words k.is_whole g.M.Matcher.matching p instance texts)) (sym made)
-        (subst (λ m. Plainly w root instance (means.Means keywords m (numbered k.shape nodes) number instance)) (sym equal) meant),
+          (subst (λ m. Plainly w root instance (means.Means keywords m (numbered k.shape nodes) number instance)) (sym equal) meant),
     )

@@ -1,9 +1,8 @@
-use Rattle.std.proofs.Common.{◌≡◌, ℕ, Bool, sym, ap, ◌∙◌, length, [], subst, map, option_map}
+use Rattle.std.proofs.Common.{sym, ap, ◌∙◌, length, [], map}
 use Rattle.serde_json.specs.View.{view}
 use Rattle.schema_reports.specs.Laws.{EachKeeps}
 use Rattle.schema_reports.specs.Numbered.{left, subject_in}
 use Rattle.schema_reports.proofs.TurnsGiveRuns.{keeps_of_turns}
-use Rattle.schema_reports.proofs.SensesMeant.{of_every_sense}
 use Rattle.schema_reports.specs.ReportViews.{error_of}
 use Rattle.schema_node.specs.NodeTable.{numbered}
 use Rattle.schema_node.specs.KeywordViews.{reply_of}

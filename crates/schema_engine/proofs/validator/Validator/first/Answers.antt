@@ -1,16 +1,14 @@
-use Rattle.std.proofs.Common.{◌≡◌, ℕ, Bool, sym, ap, ◌∙◌, length, [], subst, map, option_map}
+use Rattle.std.proofs.Common.{sym, ap, ◌∙◌, length, [], subst, option_map}
 use Rattle.serde_json.specs.View.{view}
 use Rattle.schema_reports.specs.Laws.{EachKeeps}
 use Rattle.schema_reports.specs.Numbered.{left, subject_in}
 use Rattle.schema_reports.proofs.TurnsGiveRuns.{keeps_of_turns}
-use Rattle.schema_reports.proofs.SensesMeant.{of_every_sense}
 use Rattle.schema_reports.specs.ReportViews.{error_of}
 use Rattle.schema_node.specs.NodeTable.{numbered}
 use Rattle.schema_node.specs.KeywordViews.{reply_of}
 use Rattle.schema_engine.proofs.Sentences.{first_from}
 use Rattle.std.specs.Prelude.{Option, Some, None, IfSome, All}
 use Rattle.std.proofs.lemmas.List.Elements.{All-head}
-use Rattle.serde_json.specs.Data.{Data}
 use Rattle.schema_reports.specs.ReportViews.{BorrowsItsPlace}
 use Rattle.schema_reports.specs.declared.reports.ValidationError.{ValidationError}
 use Rattle.schema_node.specs.declared.context.keyword.Reply.{Reply}

@@ -1,8 +1,6 @@
-use Rattle.std.proofs.Common.{◌≡◌, map, option_map}
 use Rattle.serde_json.specs.View.{view}
 use Rattle.schema_reports.specs.Cover.{Sense, is_valid}
-use Rattle.schema_reports.specs.Headline.{VerdictSays, ErrorsSay, FirstSays}
-use Rattle.schema_reports.specs.ReportViews.{error_of}
+use Rattle.schema_reports.specs.Headline.{VerdictSays}
 use Rattle.schema_reports.proofs.SensesMeant.{of_every_sense}
 use Rattle.schema_node.specs.NodeTable.{numbered}
 use Rattle.schema_engine.proofs.validator.Validator.is_valid.Goals as goal

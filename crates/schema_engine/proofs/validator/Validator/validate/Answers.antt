@@ -1,4 +1,4 @@
-use Rattle.std.proofs.Common.{◌≡◌, option_map, subst, sym}
+use Rattle.std.proofs.Common.{option_map, subst, sym}
 use Rattle.std.specs.Prelude.{Option, IfSome}
 use Rattle.serde_json.specs.View.{view}
 use Rattle.schema_reports.specs.Cover.{Sense}
