@@ -9,3 +9,5 @@ pub mod NodeRanks
 pub mod NodesFilled
 pub mod RankedTable
 pub mod PartLaws
+pub mod SchemaPaths
+pub mod FilledNumbers

@@ -1,11 +1,11 @@
 //! Numbered nodes: what a schema is once it is compiled.
-ghost use Rattle.std.specs.Prelude.{◌≡◌, ◌++◌, [], ◌∷◌, length, OnOk, OnErr, IfOk, option_map, string_bytes, Some, slice_get, slice_set, ◌<◌, ℕ};
+ghost use Rattle.std.specs.Prelude.{◌≡◌, ◌++◌, [], ◌∷◌, length, OnOk, OnErr, IfOk, option_map, string_bytes, Some, slice_get, slice_set, ◌<◌, ℕ, true, false};
 ghost use Rattle.schema_node.specs.NodeViews.{plan_of, reserved_node, node_of};
-ghost use Rattle.schema_node.specs.NodeTable.{NodeEntry, IsReserved, AreFilled, Fills, IsRanked};
+ghost use Rattle.schema_node.specs.NodeTable.{NodeEntry, IsReserved, IsFilled, AreFilled, Fills, IsRanked};
 
-pub mod absolute;
-pub mod faults;
-pub mod replies;
+mod absolute;
+mod faults;
+mod replies;
 pub mod run;
 pub mod validators;
 
@@ -153,5 +153,14 @@ impl<K: Drop> Nodes<K> {
         place.rank = rank;
         place.annotations = annotations;
         place.form = Some(form);
+    }
+
+    /// Whether a number has its form; one that has none is reserved.
+    pub fn is_filled(&self, node: SchemaNode) -> bool
+        requires within { node.0 < length self.now }
+        ensures filled { result ≡ true → IsFilled self.now node.0 }
+        ensures reserved { result ≡ false → IsReserved self.now node.0 }
+    {
+        self.nodes[node.0].form.is_some()
     }
 }

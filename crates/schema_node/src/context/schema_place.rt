@@ -1,4 +1,13 @@
 //! Places in schemas.
+ghost use Rattle.std.specs.Prelude.{◌≡◌, ℕ, List, [], ◌++◌, IfOk, length, take, drop, map, IsTrue, ◌↔◌};
+ghost use Rattle.schema_reports.specs.Instance.{same_place, same_step};
+ghost use Rattle.schema_reports.specs.Pointer.{pointer_to, step_text};
+ghost use Rattle.schema_reports.specs.Drafts.{same_schema_place, at_path};
+ghost use Rattle.schema_node.specs.SchemaViews.{schema_step_of};
+ghost use Rattle.schema_node.specs.ResolverViews.{place_of};
+
+use schema_reports::location::{Location, LocationSegment, OutOfMemory};
+use std::alloc::Global;
 use std::marker::Model;
 
 /// From a value of a schema to one inside it.
@@ -6,6 +15,97 @@ use std::marker::Model;
 pub enum SchemaStep {
     Member(String),
     Item(usize),
+}
+
+// Whether both are one step.
+fn same_schema_step(a: &SchemaStep, b: &SchemaStep) -> bool
+    ensures same { result ≡ same_step (schema_step_of a.now) (schema_step_of b.now) }
+{
+    match (a, b) {
+        (SchemaStep::Member(x), SchemaStep::Member(y)) => x.as_str() == y.as_str(),
+        (SchemaStep::Item(x), SchemaStep::Item(y)) => *x == *y,
+        _ => false,
+    }
+}
+
+// Whether both are the same steps in the same order.
+fn same_schema_steps(a: &[SchemaStep], b: &[SchemaStep]) -> bool
+    ensures same { result ≡ same_place (map schema_step_of a.now) (map schema_step_of b.now) }
+{
+    if a.len() != b.len() {
+        return false;
+    }
+    for (i, step) in a.iter().enumerate() {
+        if !same_schema_step(step, &b[i]) {
+            return false;
+        }
+    }
+    true
+}
+
+// The same step in memory of its own.
+fn copy_of_step(step: &SchemaStep) -> Result<SchemaStep, OutOfMemory>
+    ensures same { IfOk result (λ s. schema_step_of s ≡ schema_step_of step.now) }
+{
+    match step {
+        SchemaStep::Member(name) => Ok(SchemaStep::Member(name.clone()?)),
+        SchemaStep::Item(index) => Ok(SchemaStep::Item(*index)),
+    }
+}
+
+// Adds copies of steps.
+fn push_steps(steps: &mut Vec<SchemaStep>, more: &[SchemaStep]) -> Result<(), OutOfMemory>
+    ensures added { IfOk result (λ _. map schema_step_of steps.new.items ≡ map schema_step_of steps.old.items ++ map schema_step_of more.now) }
+{
+    for step in more {
+        steps.push(copy_of_step(step)?)?;
+    }
+    Ok(())
+}
+
+// The first steps, or all where there are no more.
+#[tactic(auto, using(crate::proofs::SchemaPaths::map_take, crate::proofs::SchemaPaths::map_take_all))]
+fn first_steps<'s>(steps: &'s [SchemaStep], count: usize) -> &'s [SchemaStep]
+    ensures first { map schema_step_of result.now ≡ take count (map schema_step_of steps.now) }
+{
+    if count < steps.len() {
+        &steps[..count]
+    } else {
+        steps
+    }
+}
+
+// What is left after the first steps.
+#[tactic(auto, using(crate::proofs::SchemaPaths::map_later, crate::proofs::SchemaPaths::map_drop_all))]
+fn later_steps<'s>(steps: &'s [SchemaStep], count: usize) -> &'s [SchemaStep]
+    ensures later { map schema_step_of result.now ≡ drop count (map schema_step_of steps.now) }
+{
+    if count < steps.len() {
+        &steps[count..]
+    } else {
+        &[]
+    }
+}
+
+// The pointer after one step more.
+fn join_schema_step(location: Location, step: &SchemaStep) -> Result<Location, OutOfMemory>
+    ensures joined { IfOk result (λ l. l ≡ location ++ step_text (schema_step_of step.now)) }
+{
+    match step {
+        SchemaStep::Member(name) => location.join(LocationSegment::Property(name.as_str())),
+        SchemaStep::Item(index) => location.join(LocationSegment::Index(*index)),
+    }
+}
+
+// The pointer of some steps.
+fn pointer_of_steps(alloc: Global, steps: &[SchemaStep]) -> Result<Location, OutOfMemory>
+    ensures pointer { IfOk result (λ l. l ≡ pointer_to (map schema_step_of steps.now)) }
+{
+    let mut location = Location::new(alloc);
+    for step in steps {
+        location = join_schema_step(location, step)?;
+    }
+    Ok(location)
 }
 
 /// A path in a document. Contracts see its steps.
@@ -24,9 +124,116 @@ impl Model for SchemaPath {
     ghost view = { λ p. map schema_step_of p.steps.items };
 }
 
+impl SchemaPath {
+    /// The path of the document's root.
+    pub fn root(alloc: Global) -> SchemaPath
+        ensures root { result ≡ [] }
+    {
+        SchemaPath {
+            steps: Vec::new(alloc),
+        }
+    }
+
+    /// How many steps it has.
+    pub fn len(&self) -> usize
+        ensures count { result ≡ length self.now }
+    {
+        self.steps.len()
+    }
+
+    /// Whether both are one path.
+    pub fn same(&self, other: &SchemaPath) -> bool
+        ensures same { result ≡ same_place self.now other.now }
+    {
+        same_schema_steps(self.steps.as_slice(), other.steps.as_slice())
+    }
+
+    /// Whether it is the first steps of the other, or all of them.
+    pub fn is_prefix_of(&self, other: &SchemaPath) -> bool
+        ensures prefix { result ≡ same_place self.now (take (length self.now) other.now) }
+    {
+        same_schema_steps(
+            self.steps.as_slice(),
+            first_steps(other.steps.as_slice(), self.steps.len()),
+        )
+    }
+
+    /// The same path in memory of its own.
+    pub fn copy(&self, alloc: Global) -> Result<SchemaPath, OutOfMemory>
+        ensures same { IfOk result (λ p. p ≡ self.now) }
+    {
+        let mut steps = Vec::new(alloc);
+        push_steps(&mut steps, self.steps.as_slice())?;
+        Ok(SchemaPath { steps })
+    }
+
+    /// The first steps, or all where there are no more.
+    pub fn first(&self, alloc: Global, count: usize) -> Result<SchemaPath, OutOfMemory>
+        ensures first { IfOk result (λ p. p ≡ take count self.now) }
+    {
+        let mut steps = Vec::new(alloc);
+        push_steps(&mut steps, first_steps(self.steps.as_slice(), count))?;
+        Ok(SchemaPath { steps })
+    }
+
+    /// What is left after the first steps.
+    pub fn after(&self, alloc: Global, count: usize) -> Result<SchemaPath, OutOfMemory>
+        ensures rest { IfOk result (λ p. p ≡ drop count self.now) }
+    {
+        let mut steps = Vec::new(alloc);
+        push_steps(&mut steps, later_steps(self.steps.as_slice(), count))?;
+        Ok(SchemaPath { steps })
+    }
+
+    /// The path followed by another.
+    pub fn append(&self, alloc: Global, rest: &SchemaPath) -> Result<SchemaPath, OutOfMemory>
+        ensures appended { IfOk result (λ p. p ≡ self.now ++ rest.now) }
+    {
+        let mut path = self.copy(alloc)?;
+        push_steps(&mut path.steps, rest.steps.as_slice())?;
+        Ok(path)
+    }
+
+    /// The pointer of the path.
+    pub fn pointer(&self, alloc: Global) -> Result<Location, OutOfMemory>
+        ensures pointer { IfOk result (λ l. l ≡ pointer_to self.now) }
+    {
+        pointer_of_steps(alloc, self.steps.as_slice())
+    }
+}
+
 /// A document's number and a path in it.
 #[derive(Drop)]
 pub struct SchemaPlace {
     pub document: usize,
     pub path: SchemaPath,
+}
+
+impl SchemaPlace {
+    /// Whether both are one place.
+    pub fn same(&self, other: &SchemaPlace) -> bool
+        ensures same { result ≡ same_schema_place (place_of self.now) (place_of other.now) }
+    {
+        self.document == other.document && self.path.same(&other.path)
+    }
+
+    /// The same place in memory of its own.
+    pub fn copy(&self, alloc: Global) -> Result<SchemaPlace, OutOfMemory>
+        ensures same { IfOk result (λ p. place_of p ≡ place_of self.now) }
+    {
+        Ok(SchemaPlace {
+            document: self.document,
+            path: self.path.copy(alloc)?,
+        })
+    }
+
+    /// The place at a path below.
+    pub fn below(&self, alloc: Global, path: &SchemaPath) -> Result<SchemaPlace, OutOfMemory>
+        ensures below { IfOk result (λ p. place_of p ≡ at_path (place_of self.now) path.now) }
+    {
+        Ok(SchemaPlace {
+            document: self.document,
+            path: self.path.append(alloc, path)?,
+        })
+    }
 }

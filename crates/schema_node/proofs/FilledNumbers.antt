@@ -1,0 +1,30 @@
+-- Whether a number of the table that the code holds has its form.
+use Rattle.std.proofs.Common.{◌≡◌, ℕ, ◌<◌, Bool, true, false, List, length, map, refl, sym, ◌∙◌, ap, subst, arith, true≢false}
+use Rattle.std.specs.Prelude.{Option, Some, None, slice_get, slice_index_or, is_some, option_map}
+use Rattle.std.proofs.lemmas.List.{length-map}
+use Rattle.std.proofs.lemmas.Option.{slice_get_read}
+use Rattle.schema_node.specs.declared.node.Node.{Node}
+use Rattle.schema_node.specs.declared.node.NodeForm.{NodeForm}
+use Rattle.schema_node.specs.NodeViews.{node_of, plan_of}
+use Rattle.schema_node.specs.NodeTable.{NodeEntry, IsReserved, IsFilled}
+use Rattle.schema_node.proofs.NodesFilled.{in_map}
+
+module _ {K : Type 0} (items : List (Node K)) (i : ℕ) (x : Node K) (h : i < length (map node_of items)) (is : x ≡ slice_index_or items i x) where
+  there : slice_get (map node_of items) i ≡ Some (node_of x)
+  there = in_map node_of items i x (slice_get_read items (length items) i x refl (omega (arith, length-map items node_of)) is)
+
+  pub has_form : is_some x.form ≡ true → IsFilled (map node_of items) i
+  has_form e =
+      let go : (o : Option (NodeForm K)) → x.form ≡ o → is_some o ≡ true → IsFilled (map node_of items) i = elim [
+        | None ↦ λ q f. absurd (true≢false (sym f))
+        | Some form ↦ λ q f. (node_of x, plan_of form, there, ap (option_map plan_of) q)
+      ] in
+      go x.form refl e
+
+  pub has_none : is_some x.form ≡ false → IsReserved (map node_of items) i
+  has_none e =
+      let go : (o : Option (NodeForm K)) → x.form ≡ o → is_some o ≡ false → IsReserved (map node_of items) i = elim [
+        | None ↦ λ q f. (node_of x, there, ap (option_map plan_of) q)
+        | Some form ↦ λ q f. absurd (true≢false f)
+      ] in
+      go x.form refl e
