@@ -1,5 +1,5 @@
 //! Places in schemas.
-ghost use Rattle.std.specs.Prelude.{◌≡◌, ℕ, List, [], ◌++◌, IfOk, length, take, drop, map, IsTrue, ◌↔◌};
+ghost use Rattle.std.specs.Prelude.{◌≡◌, ℕ, List, [], ◌∷◌, ◌++◌, OnOk, IfOk, length, take, drop, map, IsTrue, ◌↔◌};
 ghost use Rattle.schema_reports.specs.Instance.{same_place, same_step};
 ghost use Rattle.schema_reports.specs.Pointer.{pointer_to, step_text};
 ghost use Rattle.schema_reports.specs.Drafts.{same_schema_place, at_path};
@@ -132,6 +132,21 @@ impl SchemaPath {
         SchemaPath {
             steps: Vec::new(alloc),
         }
+    }
+
+    /// The steps, from the document's root on.
+    pub fn steps(&self) -> &[SchemaStep]
+        ensures steps { map schema_step_of result.now ≡ self.now }
+    {
+        self.steps.as_slice()
+    }
+
+    /// Adds a step at the end.
+    pub fn push(&mut self, step: SchemaStep) -> Result<(), OutOfMemory>
+        ensures pushed { OnOk result (self.new ≡ self.old ++ schema_step_of step ∷ []) }
+    {
+        self.steps.push(step)?;
+        Ok(())
     }
 
     /// How many steps it has.

@@ -1,0 +1,21 @@
+-- Questions that are numbered one after the other.
+use Rattle.std.proofs.Common.{ℕ, zero, suc, ◌≡◌, ◌∙◌, ◌≤◌, ◌<◌, ◌+◌, Some, None, length, ap, sym, arith, add-zero}
+use Rattle.schema_reports.specs.Keywords.{Question}
+use Rattle.engine_bench.specs.Ways.{nth}
+use Rattle.engine_bench.specs.Items.{each_from}
+use Rattle.engine_bench.proofs.NextQuestions.{nth-past}
+
+pub length_each : (f : ℕ → Question) (i n : ℕ) → length (each_from f i n) ≤ n
+length_each f i zero = omega arith
+length_each f i (suc n) = let rest : length (each_from f (i + 1) n) ≤ n = length_each f (i + 1) n in omega arith
+
+one_more : (i k : ℕ) → (i + 1) + k ≡ i + suc k
+one_more i k = omega arith
+
+pub nth_each : (f : ℕ → Question) (i n k : ℕ) → k < n → nth k (each_from f i n) ≡ Some (f (i + k))
+nth_each f i zero k h = absurd (omega arith)
+nth_each f i (suc n) zero h = ap (λ m. Some (f m)) (sym (add-zero i))
+nth_each f i (suc n) (suc k) h = nth_each f (i + 1) n k (omega arith) ∙ ap (λ m. Some (f m)) (one_more i k)
+
+pub nth_each_past : (f : ℕ → Question) (i n k : ℕ) → n ≤ k → nth k (each_from f i n) ≡ None
+nth_each_past f i n k h = let within : length (each_from f i n) ≤ n = length_each f i n in nth-past k (each_from f i n) (omega arith)

@@ -1,0 +1,9 @@
+pub mod MemberNames
+pub mod NextQuestions
+pub mod Pointers
+pub mod TextsWithin
+pub mod PlaceLists
+pub mod MemberCounts
+pub mod EachQuestion
+pub mod BorrowedFaults
+pub mod MissingNames

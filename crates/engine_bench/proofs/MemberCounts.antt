@@ -1,0 +1,15 @@
+-- How many members an object has, and how many characters a text.
+use Rattle.std.proofs.Common.{suc, ◌≡◌, ◌∙◌, List, [], ◌∷◌, length, ap, refl, add-one}
+use Rattle.serde_json.specs.View.{items_view, members_view}
+use Rattle.serde_json.specs.declared.value.Value.{Value}
+use Rattle.engine_bench.specs.Items.{items_count}
+use Rattle.serde_json.proofs.Views.{Entry}
+use Rattle.engine_bench.specs.Counts.{member_count}
+
+pub member_count_length : (es : List Entry) → member_count (members_view es) ≡ length es
+member_count_length [] = refl
+member_count_length (e ∷ es) = add-one (member_count (members_view es)) ∙ ap (λ n. suc n) (member_count_length es)
+
+pub items_count_length : (vs : List Value) → items_count (items_view vs) ≡ length vs
+items_count_length [] = refl
+items_count_length (v ∷ vs) = add-one (items_count (items_view vs)) ∙ ap (λ n. suc n) (items_count_length vs)

@@ -1,0 +1,199 @@
+-- The keywords keep the laws.
+use Rattle.std.proofs.Common.{◌≡◌, ◌∙◌, ℕ, ◌+◌, ◌<◌, ◌⊎◌, ◌∷◌, [], List, Bool, true, false, Option, Some, None, refl, sym, ap, subst, inl, inr, arith, length, zero, suc, is_some, option_and_then, min, ◌-◌, add-zero}
+use Rattle.std.specs.Prelude.{All, Contains}
+use Rattle.std.proofs.lemmas.List.Elements.{All-nil, All-cons, Contains-append_right}
+use Rattle.schema_reports.specs.Instance.{Subject, Text, a_name, a_value, item_of, to_item, to_member, subject_from, after_step}
+use Rattle.serde_json.specs.Data.{Data, Items, array, boolean, item, no_items, null, number, object, string}
+use Rattle.schema_reports.specs.Reports.{Unit_, report_of}
+use Rattle.schema_reports.specs.Matching.{Matching}
+use Rattle.schema_reports.specs.Keywords.{Answer, Answers, Marked, Question, Reply, Turn, ask, done, here, down, for_all, for_first, for_units, for_verdict}
+use Rattle.schema_reports.specs.Keywords as spec
+use Rattle.schema_reports.specs.Laws.{AsksRightly, IsPresent, IsRight, answer_in, steps_below}
+use Rattle.schema_reports.specs.Turns.{FunctionLaws, Standing, TurnLaws, reply_to, next, step_at as turn_at}
+use Rattle.schema_node.specs.KeywordViews.{fresh, mode_of}
+use Rattle.schema_node.specs.declared.context.keyword.Mode.{Mode}
+use Rattle.schema_node.specs.declared.context.keyword.Mode.TheVariants as mode
+use Rattle.engine_bench.specs.declared.keywords.run.Stage.{Stage}
+use Rattle.engine_bench.specs.declared.keywords.run.Stage.TheVariants.{Begun, Asked, Ended}
+use Rattle.engine_bench.specs.declared.keywords.run.Progress.{Progress}
+use Rattle.engine_bench.specs.Members.{has_member}
+use Rattle.engine_bench.specs.BenchShape.{BenchShape, has_all_of, has_count, has_items, has_prefix_items, has_properties, has_type, has_types, requires}
+use Rattle.engine_bench.specs.Items.{child_at_item, child_here, each_from, first_at_item, item_count, items_count}
+use Rattle.engine_bench.specs.Ways.{Way, tells, passes_on, questions, step_at, stage_after, mode_from, left_of, way_left, way_turns, asked, next_if, nth, goes_on}
+use Rattle.engine_bench.specs.WayRuns.{reply_for, end_at, fits_at, Keeps, way_falls, way_bounded, way_keeps, way_stands, way_ends}
+use Rattle.engine_bench.specs.WayReads.{way_agrees, way_holds_reads, way_faults_read, way_units_read, way_stands_inside, way_passes}
+use Rattle.engine_bench.specs.Words.{way, words, present_from, kept, turns_left}
+
+abbrev pub none_absorbed : BenchShape → List Text
+none_absorbed m = []
+
+-- ---- how a run stands
+
+abbrev pub run_reply : Standing (Progress × Answer) → Question → Reply
+run_reply x = reply_for x.state.0.mode x.answers x.unit_at
+
+abbrev pub ends_in : Bool → BenchShape → Standing (Progress × Answer) → Answer
+ends_in texts m x = end_at (way texts m x.subject) (run_reply x) x.state.0.mode x.state.0.stage x.state.1
+
+abbrev pub fits_in : Bool → BenchShape → Standing (Progress × Answer) → Type 0
+fits_in texts m x = fits_at (way texts m x.subject) (run_reply x) x.state.0.stage x.reply
+
+-- ---- turns
+
+same_questions : (texts : Bool) (m : BenchShape) (s : Subject) → questions (way texts m s) ≡ questions (way false m s)
+same_questions texts (has_type t) s = refl
+same_questions texts (has_types ts) s = refl
+same_questions texts (requires ks) s = refl
+same_questions texts (has_properties ks) s = refl
+same_questions texts (has_count kind n) s = refl
+same_questions texts (has_all_of n) s = refl
+same_questions texts (has_prefix_items n) s = refl
+same_questions texts (has_items n) s = refl
+
+same_left : (texts : Bool) (m : BenchShape) (s : Subject) (stage : Stage) → way_left (way texts m s) stage ≡ way_left (way false m s) stage
+same_left texts m s stage = ap (λ qs. left_of (length qs) stage) (same_questions texts m s)
+
+bounded : (texts : Bool) (m : BenchShape) (s : Subject) → way_left (way false m s) Begun < way_turns (way texts m s)
+bounded texts m s = subst (λ n. n < way_turns (way texts m s)) (same_left texts m s Begun) (way_bounded (way texts m s))
+
+fewer : (a b c d : ℕ) → a ≡ c → b ≡ d → a < b → c < d
+fewer a b c d p q h = omega arith
+
+falls : (texts : Bool) (m : BenchShape) (s : Subject) (mode' : Mode) (stage : Stage) (r : Reply)
+    → (step_at (way texts m s) mode' stage r ≡ done) ⊎ (way_left (way false m s) (stage_after (way texts m s) stage r) < way_left (way false m s) stage)
+falls texts m s mode' stage r = elim (way_falls (way texts m s) mode' stage r) [
+  | inl h ↦ inl h
+  | inr h ↦ inr (fewer _ _ _ _ (same_left texts m s (stage_after (way texts m s) stage r)) (same_left texts m s stage) h)
+]
+
+nth-contains : (i : ℕ) (qs : List Question) (q : Question) → nth i qs ≡ Some q → Contains qs q
+nth-contains zero [] q h = cc
+nth-contains (suc i) [] q h = cc
+nth-contains zero (p ∷ qs) q h = let e : p ≡ q = cc in (zero, omega arith, e)
+nth-contains (suc i) (p ∷ qs) q h = Contains-append_right (p ∷ []) qs q (nth-contains i qs q h)
+
+next-contains : (b : Bool) (i : ℕ) (qs : List Question) (q : Question) → next_if b (nth i qs) ≡ Some q → Contains qs q
+next-contains true i qs q h = nth-contains i qs q h
+next-contains false i qs q h = cc
+
+-- a step that asks, asks one of the way's questions
+pub record Asking (w : Way) (mode' : Mode) (step : Turn) : Type 0 where
+  pub question : Option Question
+  pub is : step ≡ asked mode' question
+  pub among : (q : Question) → question ≡ Some q → Contains (questions w) q
+
+asking : (w : Way) (mode' : Mode) (stage : Stage) (r : Reply) → Asking w mode' (step_at w mode' stage r)
+asking (tells name ts) mode' stage r = record { question = None; is = refl; among = λ q h. cc }
+asking (passes_on qs) mode' Begun r = record { question = nth 0 qs; is = refl; among = nth-contains 0 qs }
+asking (passes_on qs) mode' (Asked i) r = record { question = next_if (goes_on r) (nth (i + 1) qs); is = refl; among = next-contains (goes_on r) (i + 1) qs }
+asking (passes_on qs) mode' Ended r = record { question = None; is = refl; among = λ q h. cc }
+
+asked_rightly : (texts : Bool) (m : BenchShape) (s : Subject) (mode' : Mode) (o : Option Question) → ((q : Question) → o ≡ Some q → Contains (questions (way texts m s)) q)
+    → AsksRightly (words texts) m s [] (asked mode' o)
+asked_rightly texts m s mode' None h = tt
+asked_rightly texts m s mode' (Some q) h = h q refl
+
+asks : (texts : Bool) (m : BenchShape) (s : Subject) (mode' : Mode) (stage : Stage) (r : Reply) → AsksRightly (words texts) m s [] (step_at (way texts m s) mode' stage r)
+asks texts m s mode' stage r = let a : Asking (way texts m s) mode' (step_at (way texts m s) mode' stage r) = asking (way texts m s) mode' stage r in
+    subst (AsksRightly (words texts) m s []) (sym a.is) (asked_rightly texts m s mode' a.question a.among)
+
+fits_begun : (w : Way) (reply : Question → Reply) (r : Reply) → fits_at w reply Begun r
+fits_begun (tells name ts) reply r = tt
+fits_begun (passes_on qs) reply r = tt
+
+ends_rightly : (texts : Bool) (m : BenchShape) (s : Subject) (mode' : spec.Mode) (matches : Matching) (a : Answers) (u : Question → Unit_) (same : Marked → Marked → Bool)
+    → ((q : Question) → (report_of (u q)).valid ≡ (a q).verdict)
+    → IsRight (words texts) m s matches a u same mode' (end_at (way texts m s) (reply_for (mode_from mode') a u) (mode_from mode') Begun fresh)
+ends_rightly texts m s for_verdict matches a u same valid = way_ends (way texts m s) a u valid for_verdict
+ends_rightly texts m s for_first matches a u same valid = way_ends (way texts m s) a u valid for_first
+ends_rightly texts m s for_all matches a u same valid = way_ends (way texts m s) a u valid for_all
+ends_rightly texts m s for_units matches a u same valid = way_ends (way texts m s) a u valid for_units
+
+same_reply : (texts : Bool) (m : BenchShape) (s : Subject) (matches : Matching) (a : Answers) (u : Question → Unit_) (same : Marked → Marked → Bool) (mode' : Mode) (q : Question)
+    → answer_in (words texts) m s matches a u same (mode_of mode') q ≡ reply_for mode' a u q
+same_reply texts m s matches a u same mode.Verdict q = refl
+same_reply texts m s matches a u same mode.First q = refl
+same_reply texts m s matches a u same mode.All q = refl
+same_reply texts m s matches a u same mode.Evaluate q = refl
+
+keeps : (texts : Bool) (m : BenchShape) (x : Standing (Progress × Answer)) → fits_in texts m x → (turn_at (words texts) m x ≡ done → ⊥)
+    → Keeps (way texts m x.subject) (run_reply x) x.state.0.mode x.state.0.stage x.state.1 x.reply (next (words texts) m x).reply
+keeps texts m x fits h = way_keeps (way texts m x.subject) (run_reply x) x.state.0.mode x.state.0.stage x.state.1 x.reply (next (words texts) m x).reply fits h
+    (λ q e. ap (reply_to (words texts) m x.subject x.matches x.answers x.unit_at x.same x.marks) e ∙ same_reply texts m x.subject x.matches x.answers x.unit_at x.same x.state.0.mode q)
+
+pub turns_keep : (texts : Bool) (m : BenchShape) → TurnLaws (words texts) m (none_absorbed m) (turns_left m) (ends_in texts m) (fits_in texts m)
+turns_keep texts m = record {
+  bounded = λ s mode'. bounded texts m s;
+  falls = λ s r reply. falls texts m s r.0.mode r.0.stage reply;
+  asks = λ s r reply. asks texts m s r.0.mode r.0.stage reply;
+  begins = λ s mode' matches a u same agrees valid. (fits_begun (way texts m s) (reply_for (mode_from mode') a u) spec.no_reply, ends_rightly texts m s mode' matches a u same valid);
+  keeps = λ x fits h. let k : Keeps (way texts m x.subject) (run_reply x) x.state.0.mode x.state.0.stage x.state.1 x.reply (next (words texts) m x).reply = keeps texts m x fits h in (k.fits, k.ends);
+  stands = λ x fits h. way_stands (way texts m x.subject) (run_reply x) x.state.0.mode x.state.0.stage x.state.1 x.reply fits h;
+}
+
+-- ---- functions
+
+member_present : (k : Text) (s : Subject) → has_member k s ≡ true → IsPresent s (to_member k ∷ [])
+member_present k s h = leads (after_step (to_member k) s) h
+  where
+    leads : (o : Option Subject) → is_some o ≡ true → is_some (option_and_then (subject_from []) o) ≡ true
+    leads None h = cc
+    leads (Some t) h = refl
+
+kept_present : (b : Bool) (i : ℕ) (k : Text) (s : Subject) (qs : List Question) → has_member k s ≡ b → All (λ q. IsPresent s (steps_below q.below)) qs
+    → All (λ q. IsPresent s (steps_below q.below)) (kept b (record { child = i; below = down (to_member k) }) qs)
+kept_present true i k s qs h rest = All-cons (λ q. IsPresent s (steps_below q.below)) (record { child = i; below = down (to_member k) }) qs (member_present k s h) rest
+kept_present false i k s qs h rest = rest
+
+members_present : (i : ℕ) (ks : List Text) (s : Subject) → All (λ q. IsPresent s (steps_below q.below)) (present_from i ks s)
+members_present i [] s = All-nil _
+members_present i (k ∷ ks) s = kept_present (has_member k s) i k s (present_from (i + 1) ks s) refl (members_present (i + 1) ks s)
+
+-- questions that are asked each at a present place
+each_present : (f : ℕ → Question) (s : Subject) (i n : ℕ) → ((k : ℕ) → k < n → IsPresent s (steps_below (f (i + k)).below)) → All (λ q. IsPresent s (steps_below q.below)) (each_from f i n)
+each_present f s i zero h = All-nil _
+each_present f s i (suc n) h = All-cons (λ q. IsPresent s (steps_below q.below)) (f i) (each_from f (i + 1) n)
+    (subst (λ m. IsPresent s (steps_below (f m).below)) (add-zero i) (h 0 (omega arith)))
+    (each_present f s (i + 1) n (λ k l. subst (λ m. IsPresent s (steps_below (f m).below)) (one_more i k) (h (k + 1) (omega arith))))
+  where
+    one_more : (i k : ℕ) → i + (k + 1) ≡ (i + 1) + k
+    one_more i k = omega arith
+
+item_there : (k : ℕ) (ds : Items) → k < items_count ds → is_some (item_of k ds) ≡ true
+item_there k no_items h = absurd (omega arith)
+item_there zero (item d ds) h = refl
+item_there (suc k) (item d ds) h = item_there k ds (omega arith)
+
+item_leads : (o : Option Data) → is_some o ≡ true → is_some (option_and_then (subject_from []) (option_and_then (λ d. Some (a_value d)) o)) ≡ true
+item_leads None h = cc
+item_leads (Some d) h = refl
+
+item_present : (s : Subject) (k : ℕ) → k < item_count s → IsPresent s (to_item k ∷ [])
+item_present (a_name n) k h = absurd (omega arith)
+item_present (a_value null) k h = absurd (omega arith)
+item_present (a_value (boolean b)) k h = absurd (omega arith)
+item_present (a_value (number n)) k h = absurd (omega arith)
+item_present (a_value (string t)) k h = absurd (omega arith)
+item_present (a_value (object ms)) k h = absurd (omega arith)
+item_present (a_value (array ds)) k h = item_leads (item_of k ds) (item_there k ds h)
+
+present : (texts : Bool) (m : BenchShape) (s : Subject) → All (λ q. IsPresent s (steps_below q.below)) (questions (way texts m s))
+present texts (has_type t) s = All-nil _
+present texts (has_types ts) s = All-nil _
+present texts (requires ks) s = All-nil _
+present texts (has_properties ks) s = members_present 0 ks s
+present texts (has_count kind n) s = All-nil _
+present texts (has_all_of n) s = each_present child_here s 0 n (λ k h. refl)
+present texts (has_prefix_items n) s = each_present child_at_item s 0 (min n (item_count s)) (λ k h. item_present s (0 + k) (omega arith))
+present texts (has_items n) s = each_present first_at_item s n (item_count s - n) (λ k h. item_present s (n + k) (omega arith))
+
+pub functions_keep : (texts : Bool) (m : BenchShape) → FunctionLaws (words texts) m (none_absorbed m)
+functions_keep texts m = record {
+  present = present texts m;
+  agree = λ s matches a agrees. way_agrees (way texts m s) a agrees;
+  holds_reads = λ s matches a b h. way_holds_reads (way texts m s) a b h;
+  faults_read = λ s matches a b h. way_faults_read (way texts m s) a b h;
+  units_read = λ s matches a b h. way_units_read (way texts m s) a b h;
+  stands = λ s matches a. way_stands_inside (way texts m s) s [] a;
+  passes = λ s matches a. way_passes (way texts m s) a;
+}

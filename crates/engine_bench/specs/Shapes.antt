@@ -1,0 +1,15 @@
+-- What is known of a keyword apart from its representation.
+use Rattle.std.specs.Prelude.{map, string_bytes}
+use Rattle.engine_bench.specs.BenchShape.{BenchShape, has_all_of, has_count, has_items, has_prefix_items, has_properties, has_type, has_types, requires}
+use Rattle.engine_bench.specs.declared.keywords.BenchKeyword.{BenchKeyword}
+use Rattle.engine_bench.specs.declared.keywords.BenchKeyword.TheVariants as keyword
+
+abbrev pub shape_of : BenchKeyword → BenchShape
+shape_of (keyword.Type name) = has_type name
+shape_of (keyword.Types names) = has_types names.items
+shape_of (keyword.Required names) = requires (map string_bytes names.items)
+shape_of (keyword.Properties names) = has_properties (map string_bytes names.items)
+shape_of (keyword.Count kind limit) = has_count kind limit
+shape_of (keyword.AllOf count) = has_all_of count
+shape_of (keyword.PrefixItems count) = has_prefix_items count
+shape_of (keyword.Items before) = has_items before

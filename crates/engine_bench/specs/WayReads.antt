@@ -1,0 +1,97 @@
+-- A way's functions agree, read no more than they ask, and stay where they are.
+use Rattle.std.proofs.Common.{◌≡◌, ◌∙◌, zero, ◌&&◌, ◌++◌, ◌∷◌, [], List, Bool, true, false, refl, ap, arith, map}
+use Rattle.std.specs.List.{list_all}
+use Rattle.std.specs.Prelude.{All, Contains, flat_map, ◌↔◌}
+use Rattle.std.proofs.lemmas.List.Elements.{All-nil, All-head, All-tail, All-append, All-map, All-weaker, All-contains_itself, Contains-append_right}
+use Rattle.schema_reports.specs.Instance.{Text, Subject}
+use Rattle.schema_reports.specs.Reports.{Unit_, Error}
+use Rattle.schema_reports.specs.Keywords.{Answers, Fault, Question, own, passed}
+use Rattle.schema_reports.specs.Laws.{Agrees, StandsInside, PassesUnchanged}
+use Rattle.schema_node.specs.KeywordViews.{is_nil, no_gives}
+use Rattle.engine_bench.specs.Ways.{Way, tells, passes_on, plain, questions, way_holds, way_faults, way_units}
+
+told_agree : (name : Text) (ts : List Text) → (is_nil ts ≡ true) ↔ (map (λ t. own (plain name t)) ts ≡ [])
+told_agree name [] = (λ h. refl, λ h. refl)
+told_agree name (t ∷ ts) = (λ h. cc, λ h. cc)
+
+all_none : (b all : Bool) (es : List Error) (fs : List Fault) → (b ≡ true → es ≡ []) → (all ≡ true → fs ≡ []) → (b && all) ≡ true → map passed es ++ fs ≡ []
+all_none true all es fs first rest h = ap (λ xs. map passed xs ++ fs) (first refl) ∙ rest h
+all_none false all es fs first rest h = cc
+
+none_all : (b all : Bool) (es : List Error) (fs : List Fault) → (es ≡ [] → b ≡ true) → (fs ≡ [] → all ≡ true) → map passed es ++ fs ≡ [] → (b && all) ≡ true
+none_all b all [] fs first rest h = ap (λ x. x && all) (first refl) ∙ rest h
+none_all b all (e ∷ es) fs first rest h = cc
+
+all_accept : (answers : Answers) → ((q : Question) → Agrees (answers q)) → (qs : List Question)
+    → list_all (λ q. (answers q).verdict) qs ≡ true → flat_map (λ q. map passed (answers q).errors) qs ≡ []
+all_accept answers agrees [] h = refl
+all_accept answers agrees (q ∷ qs) h = all_none (answers q).verdict _ (answers q).errors _ (agrees q).0 (all_accept answers agrees qs) h
+
+none_refuses : (answers : Answers) → ((q : Question) → Agrees (answers q)) → (qs : List Question)
+    → flat_map (λ q. map passed (answers q).errors) qs ≡ [] → list_all (λ q. (answers q).verdict) qs ≡ true
+none_refuses answers agrees [] h = refl
+none_refuses answers agrees (q ∷ qs) h = none_all (answers q).verdict _ (answers q).errors _ (agrees q).1 (none_refuses answers agrees qs) h
+
+-- it holds exactly where there is no fault
+pub way_agrees : (w : Way) (answers : Answers) → ((q : Question) → Agrees (answers q)) → (way_holds w (λ q. (answers q).verdict) ≡ true) ↔ (way_faults w answers ≡ [])
+way_agrees (tells name ts) answers agrees = told_agree name ts
+way_agrees (passes_on qs) answers agrees = (all_accept answers agrees qs, none_refuses answers agrees qs)
+
+all_same : (a b : Question → Bool) (qs : List Question) → All (λ q. a q ≡ b q) qs → list_all a qs ≡ list_all b qs
+all_same a b [] h = refl
+all_same a b (q ∷ qs) h =
+    let first : a q ≡ b q = All-head (λ q. a q ≡ b q) q qs h in
+    let rest : list_all a qs ≡ list_all b qs = all_same a b qs (All-tail (λ q. a q ≡ b q) q qs h) in
+    cc
+
+faults_same : (a b : Answers) (qs : List Question) → All (λ q. a q ≡ b q) qs → flat_map (λ q. map passed (a q).errors) qs ≡ flat_map (λ q. map passed (b q).errors) qs
+faults_same a b [] h = refl
+faults_same a b (q ∷ qs) h =
+    ap (λ o. map passed o.errors ++ flat_map (λ q. map passed (a q).errors) qs) (All-head (λ q. a q ≡ b q) q qs h)
+    ∙ ap (λ fs. map passed (b q).errors ++ fs) (faults_same a b qs (All-tail (λ q. a q ≡ b q) q qs h))
+
+units_same : (a b : Question → Unit_) (qs : List Question) → All (λ q. a q ≡ b q) qs → map a qs ≡ map b qs
+units_same a b [] h = refl
+units_same a b (q ∷ qs) h =
+    let first : a q ≡ b q = All-head (λ q. a q ≡ b q) q qs h in
+    let rest : map a qs ≡ map b qs = units_same a b qs (All-tail (λ q. a q ≡ b q) q qs h) in
+    cc
+
+pub way_holds_reads : (w : Way) (a b : Question → Bool) → All (λ q. a q ≡ b q) (questions w) → way_holds w a ≡ way_holds w b
+way_holds_reads (tells name ts) a b h = refl
+way_holds_reads (passes_on qs) a b h = all_same a b qs h
+
+pub way_faults_read : (w : Way) (a b : Answers) → All (λ q. a q ≡ b q) (questions w) → way_faults w a ≡ way_faults w b
+way_faults_read (tells name ts) a b h = refl
+way_faults_read (passes_on qs) a b h = faults_same a b qs h
+
+pub way_units_read : (w : Way) (a b : Question → Unit_) → All (λ q. a q ≡ b q) (questions w) → way_units w a ≡ way_units w b
+way_units_read (tells name ts) a b h = refl
+way_units_read (passes_on qs) a b h = ap (λ us. record no_gives { children = us }) (units_same a b qs h)
+
+passed_stand : (s : Subject) (absorbed : List Text) (answers : Answers) (qs : List Question) → All (StandsInside s absorbed) (flat_map (λ q. map passed (answers q).errors) qs)
+passed_stand s absorbed answers [] = All-nil _
+passed_stand s absorbed answers (q ∷ qs) = All-append (StandsInside s absorbed) (map passed (answers q).errors) _
+    (All-map (StandsInside s absorbed) passed (answers q).errors (λ k d h. tt)) (passed_stand s absorbed answers qs)
+
+-- errors stand at the keyword, and those that are passed on are what questions answered
+pub way_stands_inside : (w : Way) (s : Subject) (absorbed : List Text) (answers : Answers) → All (StandsInside s absorbed) (way_faults w answers)
+way_stands_inside (tells name ts) s absorbed answers = All-map (StandsInside s absorbed) (λ t. own (plain name t)) ts (λ k d h. (refl, ([], refl), tt))
+way_stands_inside (passes_on qs) s absorbed answers = passed_stand s absorbed answers qs
+
+widened : (answers : Answers) (p : Question) (qs : List Question) (f : Fault) → PassesUnchanged answers qs f → PassesUnchanged answers (p ∷ qs) f
+widened answers p qs (own o) h = tt
+widened answers p qs (passed e) (q, there, is) = (q, Contains-append_right (p ∷ []) qs q there, is)
+
+errors_passed : (answers : Answers) (later : List Question) (q : Question) → All (PassesUnchanged answers (q ∷ later)) (map passed (answers q).errors)
+errors_passed answers later q = All-map (PassesUnchanged answers (q ∷ later)) passed (answers q).errors
+    (All-weaker (Contains (answers q).errors) (λ e. PassesUnchanged answers (q ∷ later) (passed e)) (λ e is. (q, (zero, omega arith, refl), is)) (answers q).errors (All-contains_itself (answers q).errors))
+
+passed_unchanged : (answers : Answers) (qs : List Question) → All (PassesUnchanged answers qs) (flat_map (λ q. map passed (answers q).errors) qs)
+passed_unchanged answers [] = All-nil _
+passed_unchanged answers (q ∷ qs) = All-append (PassesUnchanged answers (q ∷ qs)) (map passed (answers q).errors) _
+    (errors_passed answers qs q) (All-weaker (PassesUnchanged answers qs) (PassesUnchanged answers (q ∷ qs)) (widened answers q qs) _ (passed_unchanged answers qs))
+
+pub way_passes : (w : Way) (answers : Answers) → All (PassesUnchanged answers (questions w)) (way_faults w answers)
+way_passes (tells name ts) answers = All-map (PassesUnchanged answers []) (λ t. own (plain name t)) ts (λ k d h. tt)
+way_passes (passes_on qs) answers = passed_unchanged answers qs

@@ -1,0 +1,86 @@
+-- What each keyword says of an instance.
+use Rattle.std.specs.List.{list_any}
+use Rattle.std.specs.Prelude.{Bool, List, [], codes, false, filter, map, min, not, true, ℕ, ◌++◌, ◌+◌, ◌-◌, ◌&&◌, ◌∷◌}
+use Rattle.schema_reports.specs.Instance.{Subject, Text, a_name, to_member}
+use Rattle.schema_reports.specs.ReportViews.{spoken}
+use Rattle.schema_reports.specs.Keywords.{Answer, Keywords, Question, down}
+use Rattle.schema_reports.specs.Meaning.{subject_text}
+use Rattle.schema_node.specs.KeywordViews.{fresh}
+use Rattle.engine_bench.specs.declared.keywords.type_names.TypeName.{TypeName}
+use Rattle.engine_bench.specs.declared.keywords.run.Progress.{Progress}
+use Rattle.engine_bench.specs.TypeNames.{fits, type_name}
+use Rattle.engine_bench.specs.Members.{has_member, is_object}
+use Rattle.engine_bench.specs.BenchShape.{BenchShape, has_all_of, has_count, has_items, has_prefix_items, has_properties, has_type, has_types, requires}
+use Rattle.engine_bench.specs.Counts.{count_fits, count_name, count_text}
+use Rattle.engine_bench.specs.Items.{child_at_item, child_here, each_from, first_at_item, item_count}
+use Rattle.engine_bench.specs.Ways.{Way, passes_on, questions, tells, way_begin, way_faults, way_holds, way_left, way_step, way_turn, way_turns, way_units}
+
+-- one text where the test fails; each counts as empty where texts are not spoken of
+abbrev pub unless : Bool → Text → List Text
+unless true text = []
+unless false text = text ∷ []
+
+-- ---- type
+
+abbrev pub type_text : TypeName → Subject → Text
+type_text t s = subject_text s ++ codes " is not of type \"" ++ type_name t ++ codes "\""
+
+abbrev pub more_names : List TypeName → Text
+more_names [] = []
+more_names (t ∷ ts) = codes ", \"" ++ type_name t ++ codes "\"" ++ more_names ts
+
+abbrev pub names_text : List TypeName → Text
+names_text [] = []
+names_text (t ∷ ts) = codes "\"" ++ type_name t ++ codes "\"" ++ more_names ts
+
+abbrev pub types_text : List TypeName → Subject → Text
+types_text ts s = subject_text s ++ codes " is not of types " ++ names_text ts
+
+-- ---- required
+
+abbrev pub missing : List Text → Subject → List Text
+missing ks s = filter (λ k. is_object s && not (has_member k s)) ks
+
+abbrev pub required_text : Text → Text
+required_text k = subject_text (a_name k) ++ codes " is a required property"
+
+-- ---- properties
+
+abbrev pub kept : Bool → Question → List Question → List Question
+kept true q qs = q ∷ qs
+kept false q qs = qs
+
+-- each child whose name is present, at that member
+abbrev pub present_from : ℕ → List Text → Subject → List Question
+present_from i [] s = []
+present_from i (k ∷ ks) s = kept (has_member k s) (record { child = i; below = down (to_member k) }) (present_from (i + 1) ks s)
+
+-- ---- all of them
+
+abbrev pub way : Bool → BenchShape → Subject → Way
+way texts (has_type t) s = tells (codes "type") (map (spoken texts) (unless (fits t s) (type_text t s)))
+way texts (has_types ts) s = tells (codes "type") (map (spoken texts) (unless (list_any (λ t. fits t s) ts) (types_text ts s)))
+way texts (requires ks) s = tells (codes "required") (map (λ k. spoken texts (required_text k)) (missing ks s))
+way texts (has_properties ks) s = passes_on (present_from 0 ks s)
+way texts (has_count kind n) s = tells (count_name kind) (map (spoken texts) (unless (count_fits kind n s) (count_text kind n s)))
+way texts (has_all_of n) s = passes_on (each_from child_here 0 n)
+way texts (has_prefix_items n) s = passes_on (each_from child_at_item 0 (min n (item_count s)))
+way texts (has_items n) s = passes_on (each_from first_at_item n (item_count s - n))
+
+abbrev pub words : Bool → Keywords BenchShape (Progress × Answer)
+words texts = record {
+  texts = texts;
+  may_ask = λ m s. questions (way texts m s);
+  holds = λ m s matches accepts. way_holds (way texts m s) accepts;
+  faults = λ m s matches answers. way_faults (way texts m s) answers;
+  units = λ m s matches unit_at. way_units (way texts m s) unit_at;
+  most_turns = λ m s. way_turns (way texts m s);
+  begin = λ m s mode. (way_begin mode, fresh);
+  turn = λ m s. way_turn (way texts m s);
+  step = λ m s. way_step (way texts m s);
+  answer = λ r. r.1;
+}
+
+-- the turns that are left at the most
+abbrev pub turns_left : BenchShape → Subject → Progress × Answer → ℕ
+turns_left m s r = way_left (way false m s) r.0.stage

@@ -1,0 +1,46 @@
+//! How a run that passes on goes from question to question.
+ghost use Rattle.std.specs.Prelude.{All, ◌≡◌, ◌≤◌, Bool, List, length, IfOk};
+ghost use Rattle.serde_json.specs.Data.{Data};
+ghost use Rattle.schema_reports.specs.ReportViews.{BorrowsItsPlace};
+ghost use Rattle.schema_reports.specs.Keywords.{Question};
+ghost use Rattle.schema_node.specs.FaultViews.{errors_in, faults_in, PassesBorrowed};
+ghost use Rattle.schema_node.specs.KeywordViews.{answer_of, reply_of};
+ghost use Rattle.engine_bench.specs.Ways.{answer_after, passes_on};
+ghost use Rattle.engine_bench.specs.Asking.{IsNext};
+
+use crate::keywords::answers::{goes_on, take};
+use crate::keywords::run::{Progress, Stage};
+use schema_node::context::keyword::{Answer, Reply};
+use schema_reports::location::OutOfMemory;
+use std::alloc::Global;
+
+/// Takes a reply, and says which question comes next, by its place in order. There are at most `limit` questions.
+pub fn onward<'i>(
+    alloc: Global,
+    limit: usize,
+    run: &Progress,
+    reply: Reply<'i>,
+    answer: &mut Answer<'i>,
+) -> Result<Option<usize>, OutOfMemory>
+    ensures answered { IfOk result (λ place. (texts : Bool) (qs : List Question) → answer_of texts answer.new
+        ≡ answer_after (passes_on qs) run.now.mode run.now.stage (answer_of texts answer.old) (reply_of texts reply.entry)) }
+    ensures next { IfOk result (λ place. (texts : Bool) (qs : List Question) → length qs ≤ limit → IsNext qs run.now.stage (reply_of texts reply.entry) place) }
+    ensures borrows { IfOk result (λ _. (root : Data) → All (BorrowsItsPlace root) (errors_in reply.entry) → All (PassesBorrowed root) (faults_in answer.old) → All (PassesBorrowed root) (faults_in answer.new)) }
+{
+    match run.stage {
+        Stage::Begun => Ok(Some(0)),
+        Stage::Asked(last) => {
+            let onward = goes_on(&reply);
+            take(alloc, reply, answer)?;
+            if !onward {
+                return Ok(None);
+            }
+            if last < limit {
+                Ok(Some(last + 1))
+            } else {
+                Ok(None)
+            }
+        }
+        Stage::Ended => Ok(None),
+    }
+}

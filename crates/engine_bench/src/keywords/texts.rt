@@ -1,0 +1,29 @@
+//! Texts of instances.
+ghost use Rattle.std.specs.Prelude.{◌≡◌, false, IfOk, string_bytes};
+ghost use Rattle.schema_reports.specs.Instance.{a_name};
+ghost use Rattle.schema_reports.specs.InstanceViews.{subject_of};
+ghost use Rattle.schema_reports.specs.Meaning.{subject_text};
+ghost use Rattle.schema_reports.specs.InstanceTexts.{subject_has_float};
+
+use schema_reports::instance::Instance;
+use schema_reports::location::OutOfMemory;
+use serde_json::Value;
+use std::alloc::Global;
+
+/// The compact text of an instance; a name is quoted.
+pub fn instance_text(alloc: Global, instance: Instance<'_>) -> Result<String, OutOfMemory>
+    ensures text { IfOk result (λ text. subject_has_float (subject_of instance.entry) ≡ false → string_bytes text ≡ subject_text (subject_of instance.entry)) }
+{
+    match instance {
+        Instance::Value(value) => value.to_string(alloc),
+        Instance::Name(name) => quoted(alloc, name),
+    }
+}
+
+/// A text between quotes, as JSON has it.
+pub fn quoted(alloc: Global, text: &str) -> Result<String, OutOfMemory>
+    ensures quoted { IfOk result (λ quoted. string_bytes quoted ≡ subject_text (a_name text.now)) }
+{
+    let value = Value::String(String::from_str(alloc, text)?);
+    value.to_string(alloc)
+}

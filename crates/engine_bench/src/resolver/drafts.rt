@@ -1,0 +1,81 @@
+//! The drafts that values name, and their vocabularies.
+ghost use Rattle.std.specs.Prelude.{◌≡◌, bytes_eq, codes, option_map, IfOk};
+ghost use Rattle.serde_json.specs.View.{view};
+ghost use Rattle.schema_reports.specs.KeywordViews.{draft_of};
+ghost use Rattle.engine_bench.specs.BenchResolving.{detected, draft_of_uri, text_member, vocabularies_in};
+
+use schema_reports::keywords::{Draft, VocabularySet};
+use schema_reports::location::OutOfMemory;
+use serde_json::Value;
+use std::alloc::Global;
+
+/// The text that stands under a name.
+pub fn text_member<'v>(value: &'v Value, name: &str) -> Option<&'v str>
+    ensures text { option_map (λ t. t.now) result ≡ text_member name.now (view value.now) }
+{
+    match value.get(name) {
+        Some(member) => member.as_str(),
+        None => None,
+    }
+}
+
+/// The draft that a URI names, with or without a last `#`.
+fn draft_of_uri(uri: &str) -> Draft
+    ensures draft { draft_of result ≡ draft_of_uri uri.now }
+{
+    if uri == "http://json-schema.org/draft-04/schema"
+        || uri == "http://json-schema.org/draft-04/schema#"
+    {
+        return Draft::Draft4;
+    }
+    if uri == "http://json-schema.org/draft-06/schema"
+        || uri == "http://json-schema.org/draft-06/schema#"
+    {
+        return Draft::Draft6;
+    }
+    if uri == "http://json-schema.org/draft-07/schema"
+        || uri == "http://json-schema.org/draft-07/schema#"
+    {
+        return Draft::Draft7;
+    }
+    if uri == "https://json-schema.org/draft/2019-09/schema"
+        || uri == "https://json-schema.org/draft/2019-09/schema#"
+    {
+        return Draft::Draft201909;
+    }
+    if uri == "https://json-schema.org/draft/2020-12/schema"
+        || uri == "https://json-schema.org/draft/2020-12/schema#"
+    {
+        return Draft::Draft202012;
+    }
+    if uri == "https://json-schema.org/schema" || uri == "https://json-schema.org/schema#" {
+        return Draft::Draft202012;
+    }
+    Draft::Unknown
+}
+
+/// The draft of a value inside a schema of this draft.
+pub fn detected(draft: Draft, value: &Value) -> Draft
+    ensures draft { draft_of result ≡ detected (draft_of draft) (view value.now) }
+{
+    match text_member(value, "$schema") {
+        Some(uri) => draft_of_uri(uri),
+        None => draft,
+    }
+}
+
+/// The vocabularies of a document in a draft: those that it is handed with, and none in drafts before vocabularies.
+pub fn vocabularies_in(
+    alloc: Global,
+    draft: Draft,
+    handed: &VocabularySet,
+) -> Result<VocabularySet, OutOfMemory>
+    ensures vocabularies { IfOk result (λ v. v ≡ vocabularies_in (draft_of draft) handed.now) }
+{
+    match draft {
+        Draft::Draft201909 => Ok(handed.duplicate()?),
+        Draft::Draft202012 => Ok(handed.duplicate()?),
+        Draft::Unknown => Ok(handed.duplicate()?),
+        _ => Ok(VocabularySet::new(alloc)),
+    }
+}
