@@ -56,29 +56,29 @@ module _ {K R : Type 0} (keywords : Keywords K R) (matcher : Matcher) (as' : Ass
     (x : Where) (s : Subject) (run_of : Question → Run) (a1 a2 : Question → Outcome) (u1 u2 : Question → Unit_) (same : Marked → Marked → Bool) (name : Text) (m : K)
     (o_is : (q : Question) → (run_of q).outcome tt ≡ a1 q) (u_is : (q : Question) → (run_of q).units tt ≡ u1 q)
     (speaks : (q : Question) → Speaks as' (run_of q) (a2 q) (u2 q)) where
-  abbrev M1 : Matching
-  M1 = matching matcher (completion_of as')
+  abbrev WhenAssumed : Matching
+  WhenAssumed = matching matcher (completion_of as')
 
-  abbrev M2 : Matching
-  M2 = matching matcher c
+  abbrev WhenCompleted : Matching
+  WhenCompleted = matching matcher c
 
-  reply_1 : (mode : Mode) (q : Question) → reply_in mode (run_of q) ≡ answer_in keywords m s M1 a1 u1 same mode q
+  reply_1 : (mode : Mode) (q : Question) → reply_in mode (run_of q) ≡ answer_in keywords m s WhenAssumed a1 u1 same mode q
   reply_1 for_verdict q = ap (λ o. truth o.verdict) (o_is q)
   reply_1 for_first q = ap (λ o. first_of_it (first_error o.errors)) (o_is q)
   reply_1 for_all q = ap (λ o. all_of_it o.errors) (o_is q)
   reply_1 for_units q = ap unit_of_it (u_is q)
 
-  reply_2 : (mode : Mode) (q : Question) → AllAssumed as' ((run_of q).met mode) → reply_in mode (run_of q) ≡ answer_in keywords m s M2 a2 u2 same mode q
+  reply_2 : (mode : Mode) (q : Question) → AllAssumed as' ((run_of q).met mode) → reply_in mode (run_of q) ≡ answer_in keywords m s WhenCompleted a2 u2 same mode q
   reply_2 for_verdict q e = ap truth ((speaks q).in_mode for_verdict e)
   reply_2 for_first q e = ap first_of_it ((speaks q).in_mode for_first e)
   reply_2 for_all q e = ap all_of_it ((speaks q).in_mode for_all e)
   reply_2 for_units q e = ap unit_of_it ((speaks q).units e)
 
   abbrev Ended1 : ℕ → List Marked → R → Reply → Option R
-  Ended1 = ended keywords m s M1 a1 u1 same
+  Ended1 = ended keywords m s WhenAssumed a1 u1 same
 
   abbrev Ended2 : ℕ → List Marked → R → Reply → Option R
-  Ended2 = ended keywords m s M2 a2 u2 same
+  Ended2 = ended keywords m s WhenCompleted a2 u2 same
 
   abbrev MetIn : ℕ → List Marked → R → Reply → List Met
   MetIn = turns keywords matcher as' x s run_of same name m
@@ -101,19 +101,19 @@ module _ {K R : Type 0} (keywords : Keywords K R) (matcher : Matcher) (as' : Ass
             | done ↦ []
           ])
           → ◌≡◌ {A = Option R} (elim t [
-            | ask q mode ↦ Ended1 n marks (keywords.turn m s r reply) (answer_in keywords m s M1 a1 u1 same mode q)
-            | match_text a point ↦ Ended1 n marks (keywords.turn m s r reply) (truth (M1.matches a.pattern a.subject))
+            | ask q mode ↦ Ended1 n marks (keywords.turn m s r reply) (answer_in keywords m s WhenAssumed a1 u1 same mode q)
+            | match_text a point ↦ Ended1 n marks (keywords.turn m s r reply) (truth (WhenAssumed.matches a.pattern a.subject))
             | mark i ↦ Ended1 n (i ∷ marks) (keywords.turn m s r reply) (truth (list_any (same i) marks))
             | unmark ↦ Ended1 n (elim marks [ [] ↦ [] | i ∷ rest ↦ rest ]) (keywords.turn m s r reply) no_reply
-            | ecma text ↦ Ended1 n marks (keywords.turn m s r reply) (truth (M1.is_ecma text))
+            | ecma text ↦ Ended1 n marks (keywords.turn m s r reply) (truth (WhenAssumed.is_ecma text))
             | done ↦ Some (keywords.turn m s r reply)
           ])
           (elim t [
-            | ask q mode ↦ Ended2 n marks (keywords.turn m s r reply) (answer_in keywords m s M2 a2 u2 same mode q)
-            | match_text a point ↦ Ended2 n marks (keywords.turn m s r reply) (truth (M2.matches a.pattern a.subject))
+            | ask q mode ↦ Ended2 n marks (keywords.turn m s r reply) (answer_in keywords m s WhenCompleted a2 u2 same mode q)
+            | match_text a point ↦ Ended2 n marks (keywords.turn m s r reply) (truth (WhenCompleted.matches a.pattern a.subject))
             | mark i ↦ Ended2 n (i ∷ marks) (keywords.turn m s r reply) (truth (list_any (same i) marks))
             | unmark ↦ Ended2 n (elim marks [ [] ↦ [] | i ∷ rest ↦ rest ]) (keywords.turn m s r reply) no_reply
-            | ecma text ↦ Ended2 n marks (keywords.turn m s r reply) (truth (M2.is_ecma text))
+            | ecma text ↦ Ended2 n marks (keywords.turn m s r reply) (truth (WhenCompleted.is_ecma text))
             | done ↦ Some (keywords.turn m s r reply)
           ])
       go (ask q mode) rest h =
@@ -149,31 +149,31 @@ module _ {K R : Type 0} (keywords : Keywords K R) (matcher : Matcher) (as' : Ass
 
     -- what stands in the answer is right for the run and for the completion
     both_right : (mode : Mode) → AllAssumed as' (keyword_met keywords matcher as' x s run_of same name m mode)
-        → (r : R) × IsRight keywords m s M1 a1 u1 same mode (keywords.answer r) × IsRight keywords m s M2 a2 u2 same mode (keywords.answer r)
+        → (r : R) × IsRight keywords m s WhenAssumed a1 u1 same mode (keywords.answer r) × IsRight keywords m s WhenCompleted a2 u2 same mode (keywords.answer r)
     both_right mode e =
-        let (r, is, right) = laws.answers s mode M1 a1 u1 same agrees_1 valid_1 in
-        let (t, is', right') = laws.answers s mode M2 a2 u2 same (λ q. (speaks q).agrees) (λ q. (speaks q).valid) in
+        let (r, is, right) = laws.answers s mode WhenAssumed a1 u1 same agrees_1 valid_1 in
+        let (t, is', right') = laws.answers s mode WhenCompleted a2 u2 same (λ q. (speaks q).agrees) (λ q. (speaks q).valid) in
         let one : ◌≡◌ {A = Option R} (Some r) (Some t) = sym is ∙ (same_ends (keywords.most_turns m s) [] (keywords.begin m s mode) no_reply e ∙ is') in
-        (r, right, subst (λ z. IsRight keywords m s M2 a2 u2 same mode (keywords.answer z)) (sym (ap (λ o. elim o [ Some z ↦ z | None ↦ r ]) one)) right')
+        (r, right, subst (λ z. IsRight keywords m s WhenCompleted a2 u2 same mode (keywords.answer z)) (sym (ap (λ o. elim o [ Some z ↦ z | None ↦ r ]) one)) right')
 
     pub same_verdict : AllAssumed as' (keyword_met keywords matcher as' x s run_of same name m for_verdict)
-        → keywords.holds m s M1 (λ q. (a1 q).verdict) ≡ keywords.holds m s M2 (λ q. (a2 q).verdict)
+        → keywords.holds m s WhenAssumed (λ q. (a1 q).verdict) ≡ keywords.holds m s WhenCompleted (λ q. (a2 q).verdict)
     same_verdict e = let (r, one, two) = both_right for_verdict e in sym one ∙ two
 
     pub same_first : AllAssumed as' (keyword_met keywords matcher as' x s run_of same name m for_first)
-        → first_fault (keywords.faults m s M1 a1) ≡ first_fault (keywords.faults m s M2 a2)
+        → first_fault (keywords.faults m s WhenAssumed a1) ≡ first_fault (keywords.faults m s WhenCompleted a2)
     same_first e = let (r, one, two) = both_right for_first e in sym one ∙ two
 
     pub same_faults : AllAssumed as' (keyword_met keywords matcher as' x s run_of same name m for_all)
-        → keywords.faults m s M1 a1 ≡ keywords.faults m s M2 a2
+        → keywords.faults m s WhenAssumed a1 ≡ keywords.faults m s WhenCompleted a2
     same_faults e = let (r, one, two) = both_right for_all e in sym one ∙ two
 
     pub same_units : AllAssumed as' (keyword_met keywords matcher as' x s run_of same name m for_units)
-        → (keywords.units m s M1 u1 ≡ keywords.units m s M2 u2) × (keywords.holds m s M1 (λ q. (a1 q).verdict) ≡ keywords.holds m s M2 (λ q. (a2 q).verdict))
+        → (keywords.units m s WhenAssumed u1 ≡ keywords.units m s WhenCompleted u2) × (keywords.holds m s WhenAssumed (λ q. (a1 q).verdict) ≡ keywords.holds m s WhenCompleted (λ q. (a2 q).verdict))
     same_units e = let (r, one, two) = both_right for_units e in (sym one.0 ∙ two.0, sym one.1 ∙ two.1)
 
     pub keyword_same : (mode : Mode) → AllAssumed as' (keyword_met keywords matcher as' x s run_of same name m mode)
-        → SameIn mode (keyword_outcome keywords x name m s M1 a1) (keyword_outcome keywords x name m s M2 a2)
+        → SameIn mode (keyword_outcome keywords x name m s WhenAssumed a1) (keyword_outcome keywords x name m s WhenCompleted a2)
     keyword_same for_verdict e = same_verdict e
     keyword_same for_first e = first_mapped (fault_error x name) _ ∙ (ap (λ fs. first_error (map (fault_error x name) fs)) (same_first e) ∙ sym (first_mapped (fault_error x name) _))
     keyword_same for_all e = ap (map (fault_error x name)) (same_faults e)
