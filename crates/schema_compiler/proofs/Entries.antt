@@ -1,0 +1,84 @@
+-- The keywords of an object, member by member.
+use Rattle.std.proofs.Common.{◌≡◌, ℕ, List, [], ◌++◌, refl, sym, ◌∙◌, subst, append_assoc}
+use Rattle.std.specs.Prelude.{Option, Some, None}
+use Rattle.std.proofs.lemmas.List.{append-nil}
+use Rattle.serde_json.specs.Data.{Data, Members, member, no_members}
+use Rattle.schema_reports.specs.Instance.{Text}
+use Rattle.schema_reports.specs.Parts.{Parts}
+use Rattle.schema_reports.specs.Plan.{Edge, Key, Part, option_list, part, parts, sorted}
+use Rattle.schema_reports.specs.Reach.{members_edges}
+use Rattle.schema_reports.specs.Refusals.{Cause, members_causes}
+use Rattle.schema_reports.specs.Guarded.{NodePart}
+use Rattle.schema_node.specs.NodeTable.{NodeEntry}
+use Rattle.schema_compiler.specs.Compiling.{member_causes, member_edges}
+use Rattle.schema_compiler.specs.Ordering.{placed_after}
+use Rattle.schema_compiler.specs.Refusing.{Refused}
+use Rattle.schema_compiler.specs.Filling.{AreParts, IsMadePart, IsStep, IsTable}
+use Rattle.schema_compiler.specs.declared.compiler.error.BuildError.{BuildError}
+use Rattle.schema_compiler.proofs.Growing.{grown_stays, parts_stay, refused_first, refused_later, step_none, step_then}
+use Rattle.schema_compiler.proofs.Placing.{one_placed}
+
+module _ {S K R C : Type 0} (w : Parts S K R) (shape : C → K) (limit : ℕ) (k : Key S) (whole : Members) where
+  -- the members before `rest` are done
+  pub record SoFar (rest : Members) (es : List (NodePart C)) (keys keys' : List (Key S)) (nodes nodes' : List (NodeEntry C)) : Type 0 where
+    pub edges : List (Edge S)
+    pub causes : List Cause
+    pub made : List (Part K)
+    pub all_edges : members_edges w k whole whole ≡ edges ++ members_edges w k whole rest
+    pub all_causes : members_causes w k whole whole ≡ causes ++ members_causes w k whole rest
+    pub all_parts : parts w k whole whole ≡ made ++ parts w k whole rest
+    pub steps : IsStep w shape limit edges causes keys keys' nodes nodes'
+    pub entries : AreParts w keys' shape nodes' k es (sorted made)
+
+  pub so_far_none : (keys : List (Key S)) (nodes : List (NodeEntry C)) → IsTable w shape limit keys nodes → SoFar whole [] keys keys nodes nodes
+  so_far_none keys nodes t = record { edges = []; causes = []; made = []; all_edges = refl; all_causes = refl; all_parts = refl; steps = step_none w shape limit keys nodes t; entries = tt }
+
+  -- the entries with one more, if it is one
+  abbrev pub with_one : Option (NodePart C) → List (NodePart C) → List (NodePart C)
+  with_one None es = es
+  with_one (Some x) es = placed_after x es
+
+  more_entries : (keys : List (Key S)) (nodes : List (NodeEntry C)) (o : Option (NodePart C)) (p : Option (Part K)) (es : List (NodePart C)) (ps : List (Part K))
+      → IsMadePart w keys shape nodes k o p → AreParts w keys shape nodes k es (sorted ps) → AreParts w keys shape nodes k (with_one o es) (sorted (ps ++ option_list p))
+  more_entries keys nodes None None es ps h hs = subst (λ qs. AreParts w keys shape nodes k es (sorted qs)) (sym (append-nil ps)) hs
+  more_entries keys nodes (Some x) (Some y) es ps h hs = one_placed w shape keys nodes k x y es ps h hs
+  more_entries keys nodes None (Some y) es ps h hs = absurd h
+  more_entries keys nodes (Some x) None es ps h hs = absurd h
+
+  pub so_far_more : (name : Text) (value : Data) (rest : Members) (o : Option (NodePart C)) (es : List (NodePart C)) (keys keys' keys'' : List (Key S)) (nodes nodes' nodes'' : List (NodeEntry C))
+      → SoFar (member name value rest) es keys keys' nodes nodes'
+      → IsStep w shape limit (member_edges w k whole name value) (member_causes w k whole name value) keys' keys'' nodes' nodes''
+      → IsMadePart w keys'' shape nodes'' k o (part w k whole name value)
+      → SoFar rest (with_one o es) keys keys'' nodes nodes''
+  so_far_more name value rest o es keys keys' keys'' nodes nodes' nodes'' a step made =
+      let stays = grown_stays _ keys' keys'' nodes' nodes'' a.steps.table.lengths step.table.lengths step.grown in
+      record {
+        edges = a.edges ++ member_edges w k whole name value;
+        causes = a.causes ++ member_causes w k whole name value;
+        made = a.made ++ option_list (part w k whole name value);
+        all_edges = a.all_edges ∙ sym (append_assoc a.edges (member_edges w k whole name value) (members_edges w k whole rest));
+        all_causes = a.all_causes ∙ sym (append_assoc a.causes (member_causes w k whole name value) (members_causes w k whole rest));
+        all_parts = a.all_parts ∙ sym (append_assoc a.made (option_list (part w k whole name value)) (parts w k whole rest));
+        steps = step_then w shape limit a.edges (member_edges w k whole name value) a.causes (member_causes w k whole name value) keys keys' keys'' nodes nodes' nodes'' a.steps step;
+        entries = more_entries keys'' nodes'' o (part w k whole name value) es a.made made (parts_stay w shape keys' keys'' nodes' nodes'' stays k es (sorted a.made) a.entries);
+      }
+
+  -- when none is left
+  pub all_steps : (es : List (NodePart C)) (keys keys' : List (Key S)) (nodes nodes' : List (NodeEntry C)) → SoFar no_members es keys keys' nodes nodes'
+      → IsStep w shape limit (members_edges w k whole whole) (members_causes w k whole whole) keys keys' nodes nodes'
+  all_steps es keys keys' nodes nodes' a =
+      subst (λ xs. IsStep w shape limit xs (members_causes w k whole whole) keys keys' nodes nodes') (sym (a.all_edges ∙ append-nil a.edges))
+      (subst (λ xs. IsStep w shape limit a.edges xs keys keys' nodes nodes') (sym (a.all_causes ∙ append-nil a.causes)) a.steps)
+
+  pub all_entries : (es : List (NodePart C)) (keys keys' : List (Key S)) (nodes nodes' : List (NodeEntry C)) → SoFar no_members es keys keys' nodes nodes'
+      → AreParts w keys' shape nodes' k es (sorted (parts w k whole whole))
+  all_entries es keys keys' nodes nodes' a = subst (λ ps. AreParts w keys' shape nodes' k es (sorted ps)) (sym (a.all_parts ∙ append-nil a.made)) a.entries
+
+  -- a refusal by the next member
+  pub member_refused : (name : Text) (value : Data) (rest : Members) (es : List (NodePart C)) (keys keys' : List (Key S)) (nodes nodes' : List (NodeEntry C)) (e : BuildError)
+      → SoFar (member name value rest) es keys keys' nodes nodes' → Refused w limit (member_edges w k whole name value) (member_causes w k whole name value) keys' e
+      → Refused w limit (members_edges w k whole whole) (members_causes w k whole whole) keys e
+  member_refused name value rest es keys keys' nodes nodes' e a h =
+      let later = refused_later w shape limit a.edges (members_edges w k whole (member name value rest)) a.causes (members_causes w k whole (member name value rest)) keys keys' nodes nodes' e a.steps
+      (refused_first w (member_edges w k whole name value) (members_edges w k whole rest) (member_causes w k whole name value) (members_causes w k whole rest) limit keys' e h) in
+      subst (λ xs. Refused w limit xs (members_causes w k whole whole) keys e) (sym a.all_edges) (subst (λ xs. Refused w limit (a.edges ++ members_edges w k whole (member name value rest)) xs keys e) (sym a.all_causes) later)

@@ -1,0 +1,15 @@
+pub mod SameKeys
+pub mod Fragments
+pub mod Innermost
+pub mod Lists
+pub mod Growing
+pub mod Tables
+pub mod Members
+pub mod Placing
+pub mod Turns
+pub mod References
+pub mod Entries
+pub mod Forms
+pub mod MembersAsk
+pub mod Compiled
+pub mod CustomVocabularies

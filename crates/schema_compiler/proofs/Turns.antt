@@ -1,0 +1,287 @@
+-- How a maker's turns are followed, and what it has asked for so far.
+use Rattle.std.proofs.Common.{◌≡◌, ℕ, suc, max, Bool, cond, List, [], ◌∷◌, ◌++◌, length, map, refl, ap, sym, ◌∙◌, subst, append_assoc, inl}
+use Rattle.std.specs.Prelude.{Option, Some, None, String, string_bytes, filter_map, flat_map, Vec}
+use Rattle.std.specs.declared.alloc.Global.{Global}
+use Rattle.std.proofs.lemmas.List.{append-nil}
+use Rattle.schema_reports.specs.Instance.{Text, Place}
+use Rattle.schema_reports.specs.Parts.{Parts}
+use Rattle.schema_reports.specs.Making.{Made, Making, Request, Script, a_keyword, after_request, compile, followed, nothing, refer, refused, then_compile, then_end, then_refer}
+use Rattle.schema_reports.specs.Plan.{Edge, Key, found, is_self, part_made, requested, subschema, to_ref}
+use Rattle.schema_reports.specs.Reach.{maker_edges}
+use Rattle.schema_compiler.specs.declared.compiler.error.BuildError.{BuildError}
+use Rattle.schema_compiler.specs.declared.compiler.error.BuildError.TheVariants.{KeywordRefused}
+use Rattle.schema_compiler.specs.Refusing.{Refused}
+use Rattle.schema_compiler.proofs.References.{asked_not_self, leads_none, leads_some, skipped_self}
+use Rattle.schema_reports.specs.Refusals.{Cause, end_causes, keyword_refused, lookup_causes, maker_causes, request_causes}
+use Rattle.schema_reports.specs.ReportViews.{owned_error_of}
+use Rattle.schema_reports.specs.declared.reports.OwnedError.{OwnedError}
+use Rattle.schema_reports.specs.Guarded.{Children, NodeEdge, node_keyword}
+use Rattle.schema_node.specs.NodeTable.{LeadsToFilled, NodeEntry}
+use Rattle.schema_node.specs.MakerViews.{IsStepOf, TakesTurn, Told, Waiting, a_skip, begun, ended, nothing_yet, the_number, waits}
+use Rattle.schema_node.specs.declared.context.table.MakerStep.{MakerStep}
+use Rattle.schema_node.specs.declared.context.table.MakerStep.TheVariants.{Compile, Refer, Keyword, Nothing, Refuse}
+use Rattle.schema_compiler.specs.Compiling.{Each, answers, option_one, reference_asked}
+use Rattle.schema_compiler.specs.Filling.{AreChildren, IsMadePart, IsStep, IsTable, LeadsTo}
+use Rattle.schema_compiler.proofs.Lists.{each_append, in_right, length-more}
+use Rattle.schema_compiler.proofs.Growing.{children_stay, edges_stay, grown_stays, names_refused, refused_first, refused_later, step_none, step_then}
+
+abbrev pub resumed : {K : Type 0} → Waiting K → Told → Script K
+resumed (begun s) told = s
+resumed (waits n s skipped) a_skip = skipped
+resumed (waits n s skipped) nothing_yet = s
+resumed (waits n s skipped) (the_number m) = s
+resumed ended told = then_end nothing
+
+-- the reply that is due, where so many requests were made
+abbrev pub IsDue : {K : Type 0} → Waiting K → Told → ℕ → Type 0
+IsDue (begun s) nothing_yet n = n ≡ 0
+IsDue (waits m s skipped) (the_number j) n = (j ≡ m) × (n ≡ suc m)
+IsDue (waits m s skipped) a_skip n = n ≡ suc m
+IsDue _ _ n = ⊥
+
+abbrev pub turns : {K : Type 0} → Script K → ℕ
+turns (then_compile p s) = suc (turns s)
+turns (then_refer t s skipped) = suc (max (turns s) (turns skipped))
+turns (then_end m) = 0
+
+module _ {C K : Type 0} (shape : C → K) where
+  pub due_step : (w : Waiting K) (told : Told) (n : ℕ) (step : MakerStep C) (w' : Waiting K) → IsDue w told n → TakesTurn shape w told step w' → IsStepOf shape n (resumed w told) step w'
+  due_step (begun s) nothing_yet n step w' d h = subst (λ m. IsStepOf shape m s step w') (sym d) h
+  due_step (waits m s skipped) (the_number j) n step w' d h = subst (λ q. IsStepOf shape q s step w') (sym d.1) (h d.0)
+  due_step (waits m s skipped) a_skip n step w' d h = subst (λ q. IsStepOf shape q skipped step w') (sym d) h
+  due_step (begun s) (the_number j) n step w' d h = absurd d
+  due_step (begun s) a_skip n step w' d h = absurd d
+  due_step (waits m s skipped) nothing_yet n step w' d h = absurd d
+  due_step ended nothing_yet n step w' d h = absurd d
+  due_step ended (the_number j) n step w' d h = absurd d
+  due_step ended a_skip n step w' d h = absurd d
+
+  pub compile_step : (n : ℕ) (s : Script K) (p : Place) (w : Waiting K) → IsStepOf shape n s (Compile p) w → (next : Script K) × (s ≡ then_compile p next) × (w ≡ waits n next next)
+  compile_step n (then_compile path t) p w h = (t, ap (λ q. then_compile q t) (sym h.0), h.1)
+  compile_step n (then_refer text t u) p w h = absurd h
+  compile_step n (then_end (a_keyword m names)) p w h = absurd h
+  compile_step n (then_end nothing) p w h = absurd h
+  compile_step n (then_end (refused e)) p w h = absurd h
+
+  pub refer_step : (n : ℕ) (s : Script K) (t : String Global) (w : Waiting K) → IsStepOf shape n s (Refer t) w
+      → (next : Script K) × (skipped : Script K) × (s ≡ then_refer (string_bytes t) next skipped) × (w ≡ waits n next skipped)
+  refer_step n (then_refer text u v) t w h = (u, v, ap (λ q. then_refer q u v) (sym h.0), h.1)
+  refer_step n (then_compile path u) t w h = absurd h
+  refer_step n (then_end (a_keyword m names)) t w h = absurd h
+  refer_step n (then_end nothing) t w h = absurd h
+  refer_step n (then_end (refused e)) t w h = absurd h
+
+  pub keyword_step : (n : ℕ) (s : Script K) (k : C) (names : Vec (String Global) Global) (w : Waiting K) → IsStepOf shape n s (Keyword k names) w → s ≡ then_end (a_keyword (shape k) (map string_bytes names.items))
+  keyword_step n (then_end (a_keyword m absorbed)) k names w h = ap then_end (ap (λ q. a_keyword q absorbed) (sym h.0) ∙ ap (a_keyword (shape k)) (sym h.1))
+  keyword_step n (then_compile path u) k names w h = absurd h
+  keyword_step n (then_refer text u v) k names w h = absurd h
+  keyword_step n (then_end nothing) k names w h = absurd h
+  keyword_step n (then_end (refused e)) k names w h = absurd h
+
+  pub nothing_step : (n : ℕ) (s : Script K) (w : Waiting K) → IsStepOf shape n s Nothing w → s ≡ then_end nothing
+  nothing_step n (then_end nothing) w h = refl
+  nothing_step n (then_compile path u) w h = absurd h
+  nothing_step n (then_refer text u v) w h = absurd h
+  nothing_step n (then_end (a_keyword m names)) w h = absurd h
+  nothing_step n (then_end (refused e)) w h = absurd h
+
+  pub refuse_step : (n : ℕ) (s : Script K) (e : OwnedError) (w : Waiting K) → IsStepOf shape n s (Refuse e) w → s ≡ then_end (refused (owned_error_of e))
+  refuse_step n (then_end (refused x)) e w h = ap (λ q. then_end (refused q)) (sym h)
+  refuse_step n (then_compile path u) e w h = absurd h
+  refuse_step n (then_refer text u v) e w h = absurd h
+  refuse_step n (then_end (a_keyword m names)) e w h = absurd h
+  refuse_step n (then_end nothing) e w h = absurd h
+
+-- the same after some requests
+abbrev pub after : {K : Type 0} → List Request → Making K → Making K
+after rs m = record { requests = rs ++ m.requests; ends = m.ends }
+
+pub filter_map-append : {A B : Type 0} (f : A → Option B) (xs ys : List A) → filter_map f (xs ++ ys) ≡ filter_map f xs ++ filter_map f ys
+filter_map-append f [] ys = refl
+filter_map-append {A} {B} f (x ∷ xs) ys =
+    let go : (o : Option B) → f x ≡ o → filter_map f ((x ∷ xs) ++ ys) ≡ filter_map f (x ∷ xs) ++ filter_map f ys = elim [
+      | None ↦ λ e. rw e (filter_map-append f xs ys)
+      | Some b ↦ λ e. rw e (ap (λ zs. b ∷ zs) (filter_map-append f xs ys))
+    ] in
+    go (f x) refl
+
+pub filter_map-one : {A B : Type 0} (f : A → Option B) (x : A) → filter_map f (x ∷ []) ≡ option_one (f x)
+filter_map-one {A} {B} f x =
+    let go : (o : Option B) → f x ≡ o → filter_map f (x ∷ []) ≡ option_one (f x) = elim [ None ↦ λ e. rw e refl | Some b ↦ λ e. rw e refl ] in
+    go (f x) refl
+
+pub flat_map-append : {A B : Type 0} (f : A → List B) (xs ys : List A) → flat_map f (xs ++ ys) ≡ flat_map f xs ++ flat_map f ys
+flat_map-append f [] ys = refl
+flat_map-append f (x ∷ xs) ys = ap (λ zs. f x ++ zs) (flat_map-append f xs ys) ∙ sym (append_assoc (f x) (flat_map f xs) (flat_map f ys))
+
+pub flat_map-one : {A B : Type 0} (f : A → List B) (x : A) → flat_map f (x ∷ []) ≡ f x
+flat_map-one f x = append-nil (f x)
+
+module _ {S K R C : Type 0} (w : Parts S K R) (shape : C → K) (limit : ℕ) (k : Key S) (name : Text) where
+  pub children_length : (keys : List (Key S)) (es : Children) (rs : List Request) → AreChildren w keys k name es rs → length es ≡ length rs
+  children_length keys [] [] h = refl
+  children_length keys (e ∷ es) (r ∷ rs) h = ap suc (children_length keys es rs h.1)
+  children_length keys [] (r ∷ rs) h = absurd h
+  children_length keys (e ∷ es) [] h = absurd h
+
+  children_more : (keys : List (Key S)) (es : Children) (rs : List Request) (e : Option NodeEdge) (r : Request) → AreChildren w keys k name es rs → LeadsTo w keys e (requested w k name r) → AreChildren w keys k name (es ++ e ∷ []) (rs ++ r ∷ [])
+  children_more keys [] [] e r h l = (l, tt)
+  children_more keys (d ∷ es) (q ∷ rs) e r h l = (h.0, children_more keys es rs e r h.1 l)
+  children_more keys [] (q ∷ rs) e r h l = absurd h
+  children_more keys (d ∷ es) [] e r h l = absurd h
+
+  abbrev pub edges_of : List Request → List (Edge S)
+  edges_of rs = filter_map (requested w k name) rs
+
+  abbrev pub causes_of : List Request → List Cause
+  causes_of rs = flat_map (request_causes w k) rs
+
+  -- what a maker has asked for so far, and what each request got
+  pub record Asked (making : Making K) (waiting : Waiting K) (told : Told) (es : Children) (keys keys' : List (Key S)) (nodes nodes' : List (NodeEntry C)) : Type 0 where
+    pub requests : List Request
+    pub due : IsDue waiting told (length requests)
+    pub so_far : making ≡ after requests (followed (is_self w k to_ref) (resumed waiting told))
+    pub children : AreChildren w keys' k name es requests
+    pub edges : Each (LeadsToFilled nodes') (filter_map (λ (o : Option NodeEdge). o) es)
+    pub steps : IsStep w shape limit (edges_of requests) (causes_of requests) keys keys' nodes nodes'
+
+  pub asked_begun : (making : Making K) (s : Script K) (waiting : Waiting K) (keys : List (Key S)) (nodes : List (NodeEntry C)) → making ≡ followed (is_self w k to_ref) s → waiting ≡ begun s → IsTable w shape limit keys nodes
+      → Asked making waiting nothing_yet [] keys keys nodes nodes
+  asked_begun making s waiting keys nodes e f t = rw f (record { requests = []; due = refl; so_far = e; children = tt; edges = tt; steps = step_none w shape limit keys nodes t })
+
+  pub asked_next : (making : Making K) (waiting waiting' : Waiting K) (told told' : Told) (es : Children) (keys keys' keys'' : List (Key S)) (nodes nodes' nodes'' : List (NodeEntry C)) (r : Request) (o : Option NodeEdge)
+      → (a : Asked making waiting told es keys keys' nodes nodes')
+      → followed (is_self w k to_ref) (resumed waiting told) ≡ after_request r (followed (is_self w k to_ref) (resumed waiting' told'))
+      → IsDue waiting' told' (suc (length a.requests))
+      → LeadsTo w keys'' o (requested w k name r) → Each (LeadsToFilled nodes'') (option_one o)
+      → IsStep w shape limit (option_one (requested w k name r)) (request_causes w k r) keys' keys'' nodes' nodes''
+      → Asked making waiting' told' (es ++ o ∷ []) keys keys'' nodes nodes''
+  asked_next making waiting waiting' told told' es keys keys' keys'' nodes nodes' nodes'' r o a e due leads edge step =
+      let stays = grown_stays _ keys' keys'' nodes' nodes'' a.steps.table.lengths step.table.lengths step.grown in
+      let f = followed (is_self w k to_ref) (resumed waiting' told') in
+      record {
+        requests = a.requests ++ r ∷ [];
+        due = subst (IsDue waiting' told') (sym (length-more a.requests r)) due;
+        so_far = a.so_far ∙ ap (after a.requests) e ∙ ap (λ xs. record { requests = xs; ends = f.ends }) (sym (append_assoc a.requests (r ∷ []) f.requests));
+        children = children_more keys'' es a.requests o r (children_stay w shape keys' keys'' nodes' nodes'' stays k name es a.requests a.children) leads;
+        edges = subst (Each (LeadsToFilled nodes'')) (sym (filter_map-append (λ (x : Option NodeEdge). x) es (o ∷ []) ∙ ap (λ xs. filter_map (λ (x : Option NodeEdge). x) es ++ xs) (filter_map-one (λ (x : Option NodeEdge). x) o)))
+            (each_append (LeadsToFilled nodes'') (filter_map (λ (x : Option NodeEdge). x) es) (option_one o) (edges_stay w shape keys' keys'' nodes' nodes'' stays (filter_map (λ (x : Option NodeEdge). x) es) a.edges) edge);
+        steps = subst (λ xs. IsStep w shape limit xs (causes_of (a.requests ++ r ∷ [])) keys keys'' nodes nodes'') (sym (filter_map-append (requested w k name) a.requests (r ∷ []) ∙ ap (λ xs. edges_of a.requests ++ xs) (filter_map-one (requested w k name) r)))
+            (subst (λ xs. IsStep w shape limit (edges_of a.requests ++ option_one (requested w k name r)) xs keys keys'' nodes nodes'') (sym (flat_map-append (request_causes w k) a.requests (r ∷ []) ∙ ap (λ xs. causes_of a.requests ++ xs) (flat_map-one (request_causes w k) r)))
+            (step_then w shape limit (edges_of a.requests) (option_one (requested w k name r)) (causes_of a.requests) (request_causes w k r) keys keys' keys'' nodes nodes' nodes'' a.steps step));
+      }
+
+  -- ---- the turns of a maker
+
+  pub asked_compile : (making : Making K) (waiting waiting' : Waiting K) (told : Told) (es : Children) (keys keys' keys'' : List (Key S)) (nodes nodes' nodes'' : List (NodeEntry C)) (path : Place) (e : NodeEdge) (n : ℕ)
+      → Asked making waiting told es keys keys' nodes nodes' → TakesTurn shape waiting told (Compile path) waiting' → n ≡ length es
+      → LeadsTo w keys'' (Some e) (subschema w k path) → LeadsToFilled nodes'' e
+      → IsStep w shape limit (option_one (subschema w k path)) (request_causes w k (compile path)) keys' keys'' nodes' nodes''
+      → Asked making waiting' (the_number n) (es ++ Some e ∷ []) keys keys'' nodes nodes''
+  asked_compile making waiting waiting' told es keys keys' keys'' nodes nodes' nodes'' path e n a takes count leads edge step =
+      let st = compile_step shape (length a.requests) (resumed waiting told) path waiting' (due_step shape waiting told (length a.requests) (Compile path) waiting' a.due takes) in
+      let same : n ≡ length a.requests = count ∙ children_length keys' es a.requests a.children in
+      asked_next making waiting waiting' told (the_number n) es keys keys' keys'' nodes nodes' nodes'' (compile path) (Some e) a
+      (ap (λ s. followed (is_self w k to_ref) s) st.1 ∙ ap (λ x. after_request (compile path) (followed (is_self w k to_ref) (resumed x (the_number n)))) (sym st.2))
+      (subst (λ x. IsDue x (the_number n) (suc (length a.requests))) (sym st.2) (same, refl))
+      leads (edge, tt) step
+
+  pub asked_refer : (making : Making K) (waiting waiting' : Waiting K) (told told' : Told) (es : Children) (keys keys' keys'' : List (Key S)) (nodes nodes' nodes'' : List (NodeEntry C)) (text : String Global) (o : Option NodeEdge) (n : ℕ)
+      → Asked making waiting told es keys keys' nodes nodes' → TakesTurn shape waiting told (Refer text) waiting' → n ≡ length es → told' ≡ answers o n
+      → LeadsTo w keys'' o (reference_asked w k name to_ref (string_bytes text)) → Each (LeadsToFilled nodes'') (option_one o)
+      → IsStep w shape limit (option_one (reference_asked w k name to_ref (string_bytes text))) (lookup_causes w (found w k to_ref (string_bytes text))) keys' keys'' nodes' nodes''
+      → Asked making waiting' told' (es ++ o ∷ []) keys keys'' nodes nodes''
+  asked_refer making waiting waiting' told told' es keys keys' keys'' nodes nodes' nodes'' text None n a takes count is leads edge step =
+      let st = refer_step shape (length a.requests) (resumed waiting told) text waiting' (due_step shape waiting told (length a.requests) (Refer text) waiting' a.due takes) in
+      let self = skipped_self w k name to_ref (string_bytes text) step.clean (leads_none w keys'' _ leads) in
+      subst (λ t. Asked making waiting' t (es ++ None ∷ []) keys keys'' nodes nodes'') (sym is) (asked_next making waiting waiting' told a_skip es keys keys' keys'' nodes nodes' nodes'' (refer (string_bytes text)) None a
+      (ap (λ s. followed (is_self w k to_ref) s) st.2
+      ∙ ap (λ b. after_request (refer (string_bytes text)) (cond b (followed (is_self w k to_ref) st.1) (followed (is_self w k to_ref) st.0))) self
+      ∙ ap (λ x. after_request (refer (string_bytes text)) (followed (is_self w k to_ref) (resumed x a_skip))) (sym st.3))
+      (subst (λ x. IsDue x a_skip (suc (length a.requests))) (sym st.3) refl)
+      leads edge step)
+  asked_refer making waiting waiting' told told' es keys keys' keys'' nodes nodes' nodes'' text (Some e) n a takes count is leads edge step =
+      let st = refer_step shape (length a.requests) (resumed waiting told) text waiting' (due_step shape waiting told (length a.requests) (Refer text) waiting' a.due takes) in
+      let same : n ≡ length a.requests = count ∙ children_length keys' es a.requests a.children in
+      let self = asked_not_self w k name to_ref (string_bytes text) (leads_some w keys'' e _ leads) in
+      subst (λ t. Asked making waiting' t (es ++ Some e ∷ []) keys keys'' nodes nodes'') (sym is) (asked_next making waiting waiting' told (the_number n) es keys keys' keys'' nodes nodes' nodes'' (refer (string_bytes text)) (Some e) a
+      (ap (λ s. followed (is_self w k to_ref) s) st.2
+      ∙ ap (λ b. after_request (refer (string_bytes text)) (cond b (followed (is_self w k to_ref) st.1) (followed (is_self w k to_ref) st.0))) self
+      ∙ ap (λ x. after_request (refer (string_bytes text)) (followed (is_self w k to_ref) (resumed x (the_number n)))) (sym st.3))
+      (subst (λ x. IsDue x (the_number n) (suc (length a.requests))) (sym st.3) (same, refl))
+      leads edge step)
+
+  -- ---- how a maker ends
+
+  ended_by : (making : Making K) (waiting : Waiting K) (told : Told) (es : Children) (keys keys' : List (Key S)) (nodes nodes' : List (NodeEntry C)) (m : Made K)
+      → (a : Asked making waiting told es keys keys' nodes nodes') → resumed waiting told ≡ then_end m → making ≡ record { requests = a.requests; ends = m }
+  ended_by making waiting told es keys keys' nodes nodes' m a e =
+      a.so_far ∙ ap (λ s. after a.requests (followed (is_self w k to_ref) s)) e ∙ ap (λ rs. record { requests = rs; ends = m }) (append-nil a.requests)
+
+  pub made_step : (making : Making K) (waiting : Waiting K) (told : Told) (es : Children) (keys keys' : List (Key S)) (nodes nodes' : List (NodeEntry C)) (m : Made K)
+      → Asked making waiting told es keys keys' nodes nodes' → resumed waiting told ≡ then_end m → end_causes w m ≡ []
+      → IsStep w shape limit (maker_edges w k name making) (maker_causes w k making) keys keys' nodes nodes'
+  made_step making waiting told es keys keys' nodes nodes' m a e clean =
+      subst (λ f. IsStep w shape limit (maker_edges w k name f) (maker_causes w k f) keys keys' nodes nodes') (sym (ended_by making waiting told es keys keys' nodes nodes' m a e))
+      (subst (λ cs. IsStep w shape limit (edges_of a.requests) (causes_of a.requests ++ cs) keys keys' nodes nodes') (sym clean)
+      (subst (λ cs. IsStep w shape limit (edges_of a.requests) cs keys keys' nodes nodes') (sym (append-nil (causes_of a.requests))) a.steps))
+
+  pub made_nothing : (making : Making K) (waiting waiting' : Waiting K) (told : Told) (es : Children) (keys keys' : List (Key S)) (nodes nodes' : List (NodeEntry C)) (priority : ℕ) (leaf : Bool)
+      → (a : Asked making waiting told es keys keys' nodes nodes') → TakesTurn shape waiting told Nothing waiting'
+      → IsStep w shape limit (maker_edges w k name making) (maker_causes w k making) keys keys' nodes nodes' × IsMadePart w keys' shape nodes' k None (part_made w name priority leaf making)
+  made_nothing making waiting waiting' told es keys keys' nodes nodes' priority leaf a takes =
+      let e = nothing_step shape (length a.requests) (resumed waiting told) waiting' (due_step shape waiting told (length a.requests) Nothing waiting' a.due takes) in (
+        made_step making waiting told es keys keys' nodes nodes' nothing a e refl,
+        subst (λ f. IsMadePart w keys' shape nodes' k None (part_made w name priority leaf f)) (sym (ended_by making waiting told es keys keys' nodes nodes' nothing a e)) tt,
+      )
+
+  pub made_keyword : (making : Making K) (waiting waiting' : Waiting K) (told : Told) (es : Children) (keys keys' : List (Key S)) (nodes nodes' : List (NodeEntry C)) (priority : ℕ) (leaf : Bool) (m : C) (names : Vec (String Global) Global)
+      → (a : Asked making waiting told es keys keys' nodes nodes') → TakesTurn shape waiting told (Keyword m names) waiting'
+      → IsStep w shape limit (maker_edges w k name making) (maker_causes w k making) keys keys' nodes nodes'
+      × IsMadePart w keys' shape nodes' k (Some (record { name = name; priority = priority; is_leaf = leaf; form = node_keyword m es })) (part_made w name priority leaf making)
+  made_keyword making waiting waiting' told es keys keys' nodes nodes' priority leaf m names a takes =
+      let e = keyword_step shape (length a.requests) (resumed waiting told) m names waiting' (due_step shape waiting told (length a.requests) (Keyword m names) waiting' a.due takes) in (
+        made_step making waiting told es keys keys' nodes nodes' _ a e refl,
+        subst (λ f. IsMadePart w keys' shape nodes' k (Some (record { name = name; priority = priority; is_leaf = leaf; form = node_keyword m es })) (part_made w name priority leaf f)) (sym (ended_by making waiting told es keys keys' nodes nodes' _ a e))
+            (record { name = refl; priority = refl; is_leaf = refl; form = (refl, a.children); edges = a.edges }),
+      )
+
+  -- ---- refusals on the way
+
+  pub ask_refused : (making : Making K) (waiting : Waiting K) (told : Told) (es : Children) (keys keys' : List (Key S)) (nodes nodes' : List (NodeEntry C)) (r : Request) (f : Making K) (e : BuildError)
+      → Asked making waiting told es keys keys' nodes nodes' → followed (is_self w k to_ref) (resumed waiting told) ≡ after_request r f
+      → Refused w limit (option_one (requested w k name r)) (request_causes w k r) keys' e → Refused w limit (maker_edges w k name making) (maker_causes w k making) keys e
+  ask_refused making waiting told es keys keys' nodes nodes' r f e a is h =
+      let rest = request_causes w k r ++ (causes_of f.requests ++ end_causes w f.ends) in
+      let later = refused_later w shape limit (edges_of a.requests) (option_one (requested w k name r) ++ edges_of f.requests) (causes_of a.requests) rest keys keys' nodes nodes' e a.steps
+      (refused_first w (option_one (requested w k name r)) (edges_of f.requests) (request_causes w k r) (causes_of f.requests ++ end_causes w f.ends) limit keys' e h) in
+      let more : edges_of (r ∷ f.requests) ≡ option_one (requested w k name r) ++ edges_of f.requests = filter_map-append (requested w k name) (r ∷ []) f.requests ∙ ap (λ xs. xs ++ edges_of f.requests) (filter_map-one (requested w k name) r) in
+      let all : edges_of (a.requests ++ r ∷ f.requests) ≡ edges_of a.requests ++ (option_one (requested w k name r) ++ edges_of f.requests) = filter_map-append (requested w k name) a.requests (r ∷ f.requests) ∙ ap (λ xs. edges_of a.requests ++ xs) more in
+      let own : causes_of (a.requests ++ r ∷ f.requests) ++ end_causes w f.ends ≡ causes_of a.requests ++ rest
+      = ap (λ xs. xs ++ end_causes w f.ends) (flat_map-append (request_causes w k) a.requests (r ∷ f.requests)) ∙ append_assoc (causes_of a.requests) (causes_of (r ∷ f.requests)) (end_causes w f.ends)
+      ∙ ap (λ xs. causes_of a.requests ++ xs) (append_assoc (request_causes w k r) (causes_of f.requests) (end_causes w f.ends)) in
+      subst (λ m. Refused w limit (maker_edges w k name m) (maker_causes w k m) keys e) (sym (a.so_far ∙ ap (after a.requests) is))
+      (subst (λ xs. Refused w limit xs (causes_of (a.requests ++ r ∷ f.requests) ++ end_causes w f.ends) keys e) (sym all)
+      (subst (λ xs. Refused w limit (edges_of a.requests ++ (option_one (requested w k name r) ++ edges_of f.requests)) xs keys e) (sym own) later))
+
+  pub compile_refused : (making : Making K) (waiting waiting' : Waiting K) (told : Told) (es : Children) (keys keys' : List (Key S)) (nodes nodes' : List (NodeEntry C)) (path : Place) (e : BuildError)
+      → Asked making waiting told es keys keys' nodes nodes' → TakesTurn shape waiting told (Compile path) waiting'
+      → Refused w limit (option_one (subschema w k path)) (request_causes w k (compile path)) keys' e → Refused w limit (maker_edges w k name making) (maker_causes w k making) keys e
+  compile_refused making waiting waiting' told es keys keys' nodes nodes' path e a takes h =
+      let st = compile_step shape (length a.requests) (resumed waiting told) path waiting' (due_step shape waiting told (length a.requests) (Compile path) waiting' a.due takes) in
+      ask_refused making waiting told es keys keys' nodes nodes' (compile path) _ e a (ap (λ s. followed (is_self w k to_ref) s) st.1) h
+
+  pub refer_refused : (making : Making K) (waiting waiting' : Waiting K) (told : Told) (es : Children) (keys keys' : List (Key S)) (nodes nodes' : List (NodeEntry C)) (text : String Global) (e : BuildError)
+      → Asked making waiting told es keys keys' nodes nodes' → TakesTurn shape waiting told (Refer text) waiting'
+      → Refused w limit (option_one (reference_asked w k name to_ref (string_bytes text))) (lookup_causes w (found w k to_ref (string_bytes text))) keys' e → Refused w limit (maker_edges w k name making) (maker_causes w k making) keys e
+  refer_refused making waiting waiting' told es keys keys' nodes nodes' text e a takes h =
+      let st = refer_step shape (length a.requests) (resumed waiting told) text waiting' (due_step shape waiting told (length a.requests) (Refer text) waiting' a.due takes) in
+      ask_refused making waiting told es keys keys' nodes nodes' (refer (string_bytes text)) _ e a (ap (λ s. followed (is_self w k to_ref) s) st.2) h
+
+  pub maker_refused : (making : Making K) (waiting waiting' : Waiting K) (told : Told) (es : Children) (keys keys' : List (Key S)) (nodes nodes' : List (NodeEntry C)) (error : OwnedError)
+      → Asked making waiting told es keys keys' nodes nodes' → TakesTurn shape waiting told (Refuse error) waiting'
+      → Refused w limit (maker_edges w k name making) (maker_causes w k making) keys (KeywordRefused error)
+  maker_refused making waiting waiting' told es keys keys' nodes nodes' error a takes =
+      let e = refuse_step shape (length a.requests) (resumed waiting told) error waiting' (due_step shape waiting told (length a.requests) (Refuse error) waiting' a.due takes) in
+      subst (λ f. Refused w limit (maker_edges w k name f) (maker_causes w k f) keys (KeywordRefused error)) (sym (ended_by making waiting told es keys keys' nodes nodes' _ a e))
+      (names_refused w limit (edges_of a.requests) (causes_of a.requests ++ keyword_refused (owned_error_of error) ∷ []) keys (KeywordRefused error) (in_right (causes_of a.requests) (keyword_refused (owned_error_of error) ∷ []) _ (inl refl)))

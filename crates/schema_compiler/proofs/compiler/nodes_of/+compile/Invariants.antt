@@ -1,0 +1,62 @@
+use Rattle.std.proofs.Common.{◌+◌, ◌-◌, ◌*◌, map, length}
+use Rattle.std.specs.Prelude.{string_bytes, option_map}
+use Rattle.serde_json.specs.View.{members_view}
+use Rattle.schema_reports.specs.Plan.{making}
+use Rattle.schema_node.specs.MakerViews.{maker_reply_of}
+use Rattle.schema_node.specs.NodeViews.{edge_of, entry_of}
+use Rattle.schema_compiler.specs.KeyViews.{key_of}
+use Rattle.schema_compiler.specs.Options.{given_parts}
+use Rattle.schema_compiler.proofs.Turns.{Asked, resumed, turns}
+use Rattle.schema_compiler.proofs.Entries.{SoFar}
+use Rattle.schema_compiler.proofs.compiler.nodes_of.+compile.Given as goal
+
+abbrev pub decreases-edge_to : goal.decreases-edge_to
+decreases-edge_to g l = 8 * (l.options.now.node_limit - length l.compiled.now.keys.items)
+
+abbrev pub decreases-form_of : goal.decreases-form_of
+decreases-form_of g l = 8 * (l.options.now.node_limit - length l.compiled.now.keys.items) + 6
+
+abbrev pub decreases-object_form : goal.decreases-object_form
+decreases-object_form g l = 8 * (l.options.now.node_limit - length l.compiled.now.keys.items) + 5
+
+abbrev pub decreases-entries_of : goal.decreases-entries_of
+decreases-entries_of g l = 8 * (l.options.now.node_limit - length l.compiled.now.keys.items) + 4
+
+abbrev pub decreases-entry_of : goal.decreases-entry_of
+decreases-entry_of g l = 8 * (l.options.now.node_limit - length l.compiled.now.keys.items) + 3
+
+abbrev pub decreases-made_entry : goal.decreases-made_entry
+decreases-made_entry g l = 8 * (l.options.now.node_limit - length l.compiled.now.keys.items) + 2
+
+abbrev pub decreases-reference_entry : goal.decreases-reference_entry
+decreases-reference_entry g l = 8 * (l.options.now.node_limit - length l.compiled.now.keys.items) + 2
+
+abbrev pub decreases-child_edge : goal.decreases-child_edge
+decreases-child_edge g l = 8 * (l.options.now.node_limit - length l.compiled.now.keys.items) + 1
+
+abbrev pub decreases-reference_edge : goal.decreases-reference_edge
+decreases-reference_edge g l = 8 * (l.options.now.node_limit - length l.compiled.now.keys.items) + 1
+
+-- what the maker has asked for so far
+abbrev pub invariant-made_entry-loop-children : goal.invariant-made_entry-loop-children
+invariant-made_entry-loop-children g l =
+    let v = key_of g.R.Resolver.point in
+    let w = given_parts (g.R.Resolver.resolving l.resolver) (g.T.KeywordTable.owned l.table) (g.T.KeywordTable.script l.table) l.options in
+    Asked w g.K.Validate.shape l.options.node_limit (v l.key) (string_bytes l.name) (making w (v l.key) (members_view l.members.entries) l.own (string_bytes l.name))
+    (g.T.KeywordTable.waiting l.maker) (maker_reply_of l.reply) (map (option_map edge_of) l.children.items)
+    (map v l.initial.compiled.keys.items) (map v l.compiled.keys.items) l.initial.compiled.nodes l.compiled.nodes
+
+abbrev pub decreases-made_entry-loop-children : goal.decreases-made_entry-loop-children
+decreases-made_entry-loop-children g l = turns (resumed (g.T.KeywordTable.waiting l.maker) (maker_reply_of l.reply))
+
+-- the keywords so far, and the members that are left
+abbrev pub invariant-entries_of-loop-name : goal.invariant-entries_of-loop-name
+invariant-entries_of-loop-name g l =
+    let v = key_of g.R.Resolver.point in
+    let w = given_parts (g.R.Resolver.resolving l.resolver) (g.T.KeywordTable.owned l.table) (g.T.KeywordTable.script l.table) l.options in
+    record {
+      can : (goal.iterator-entries_of-loop-name g).can_next l.name-iterator;
+      finite : (goal.iterator-entries_of-loop-name g).is_finite l.name-iterator;
+      so_far : SoFar w g.K.Validate.shape l.options.node_limit (v l.key) (members_view l.members.entries) (members_view l.name-iterator) (map entry_of l.entries.items)
+          (map v l.initial.compiled.keys.items) (map v l.compiled.keys.items) l.initial.compiled.nodes l.compiled.nodes;
+    }

@@ -1,0 +1,107 @@
+-- The table of keys and nodes while it is filled: what a number's node says of its key, and how the table grows.
+use Rattle.std.specs.List.{starts_with}
+use Rattle.std.specs.Prelude.{Bool, true, false, List, None, Option, Some, [], codes, if◌then◌else◌, length, slice_get, slice_set, ℕ, ◌++◌, ◌==◌, ◌∷◌, ◌≡◌, ◌≤◌}
+use Rattle.schema_reports.specs.Instance.{Text}
+use Rattle.schema_reports.specs.Parts.{Parts}
+use Rattle.schema_reports.specs.Plan.{Edge, Form, Key, Part, Plan, always, keyword, never, plan, reference, reference_edge, these, without_fragment, requested}
+use Rattle.schema_reports.specs.Making.{Request}
+use Rattle.schema_reports.specs.Reach.{asked_edges}
+use Rattle.schema_reports.specs.Refusals.{Cause, causes}
+use Rattle.schema_reports.specs.Guarded.{NodeEdge, NodeForm, NodePart, NodePlan, form_edges, node_always, node_keyword, node_never, node_reference, node_these, Children}
+use Rattle.schema_node.specs.NodeTable.{LeadsToFilled, NodeEntry}
+use Rattle.schema_compiler.specs.Compiling.{Each, ReachedFrom, Settled}
+use Rattle.schema_compiler.specs.Refusing.{AreDistinct}
+
+module _ {S K R : Type 0} (w : Parts S K R) where
+  -- the URI that absolute locations begin with; a base of scheme `json-schema` gives none
+  abbrev pub shown_base : Key S → Option Text
+  shown_base k = if starts_with (λ x y. x == y) (w.resolver.base_uri k.target.state) (codes "json-schema:") then None else Some (without_fragment (w.resolver.base_uri k.target.state))
+
+  -- ---- nodes whose edges lead to the numbers of these keys
+
+  module _ (keys : List (Key S)) where
+    abbrev pub LeadsTo : Option NodeEdge → Option (Edge S) → Type 0
+    LeadsTo None None = Unit {0}
+    LeadsTo (Some e) (Some edge) = (slice_get keys e.node ≡ Some edge.key) × (e.path ≡ edge.path)
+    LeadsTo None (Some edge) = ⊥
+    LeadsTo (Some e) None = ⊥
+
+    -- what each request got
+    abbrev pub AreChildren : Key S → Text → Children → List Request → Type 0
+    AreChildren k name [] [] = Unit {0}
+    AreChildren k name (e ∷ es) (r ∷ rs) = LeadsTo e (requested w k name r) × AreChildren k name es rs
+    AreChildren k name _ _ = ⊥
+
+    module _ {C : Type 0} (shape : C → K) where
+      abbrev pub IsForm : Key S → Text → NodeForm C → Form K → Type 0
+      IsForm k name (node_keyword m es) (keyword m' requests absorbed) = (shape m ≡ m') × AreChildren k name es requests
+      IsForm k name (node_reference e) (reference kind text) = LeadsTo (Some e) (reference_edge w k name kind text)
+      IsForm k name _ _ = ⊥
+
+      module _ (nodes : List (NodeEntry C)) where
+        -- and, where nothing guards them, to numbers that have their form
+        pub record IsPart (k : Key S) (x : NodePart C) (y : Part K) : Type 0 where
+          pub name : x.name ≡ y.name
+          pub priority : x.priority ≡ y.priority
+          pub is_leaf : x.is_leaf ≡ y.is_leaf
+          pub form : IsForm k y.name x.form y.form
+          pub edges : Each (LeadsToFilled nodes) (form_edges x.form)
+
+        abbrev pub AreParts : Key S → List (NodePart C) → List (Part K) → Type 0
+        AreParts k [] [] = Unit {0}
+        AreParts k (x ∷ xs) (y ∷ ys) = IsPart k x y × AreParts k xs ys
+        AreParts k _ _ = ⊥
+
+        abbrev pub IsMadePart : Key S → Option (NodePart C) → Option (Part K) → Type 0
+        IsMadePart k None None = Unit {0}
+        IsMadePart k (Some x) (Some y) = IsPart k x y
+        IsMadePart k _ _ = ⊥
+
+        abbrev pub IsPlan : Key S → NodePlan C → Plan K → Type 0
+        IsPlan k node_always always = Unit {0}
+        IsPlan k node_never never = Unit {0}
+        IsPlan k (node_these xs) (these ys) = AreParts k xs ys
+        IsPlan k _ _ = ⊥
+
+  -- ---- the table
+
+  module _ {C : Type 0} (shape : C → K) where
+    -- a number that has its form is the plan of its key, all that it asks for has a number, and no cause stands for it
+    pub record IsPlanned (keys : List (Key S)) (nodes : List (NodeEntry C)) (k : Key S) (p : NodePlan C) : Type 0 where
+      pub plans : IsPlan keys shape nodes k p (plan w k)
+      pub settled : Each (Settled w keys) (asked_edges w k)
+      pub clean : causes w k ≡ []
+
+    pub record IsNode (keys : List (Key S)) (nodes : List (NodeEntry C)) (k : Key S) (n : NodeEntry C) : Type 0 where
+      pub location : n.location ≡ k.location
+      pub base : n.base ≡ shown_base k
+      pub start : n.start ≡ k.start
+      pub planned : (p : NodePlan C) → n.plan ≡ Some p → IsPlanned keys nodes k p
+
+    pub record IsTable (limit : ℕ) (keys : List (Key S)) (nodes : List (NodeEntry C)) : Type 0 where
+      pub lengths : length nodes ≡ length keys
+      pub within : length keys ≤ limit
+      pub distinct : AreDistinct keys
+      pub stands : (i : ℕ) (k : Key S) (n : NodeEntry C) → slice_get keys i ≡ Some k → slice_get nodes i ≡ Some n → IsNode keys nodes k n
+
+-- numbers stay, a node that has its form keeps it, and what came since has its form and is one of these keys
+pub record IsGrown {S C : Type 0} (P : Key S → Type 0) (keys keys' : List (Key S)) (nodes nodes' : List (NodeEntry C)) : Type 0 where
+  pub added : (ks : List (Key S)) × (keys' ≡ keys ++ ks) × Each P ks
+  pub stay : (i : ℕ) (n : NodeEntry C) → slice_get nodes i ≡ Some n → slice_get nodes' i ≡ Some n
+  pub filled : (i : ℕ) (n : NodeEntry C) → length keys ≤ i → slice_get nodes' i ≡ Some n → (p : NodePlan C) × (n.plan ≡ Some p)
+
+-- a step that asked for these edges, and for which none of these causes stands
+pub record IsStep {S K R C : Type 0} (w : Parts S K R) (shape : C → K) (limit : ℕ) (es : List (Edge S)) (cs : List Cause) (keys keys' : List (Key S)) (nodes nodes' : List (NodeEntry C)) : Type 0 where
+  pub table : IsTable w shape limit keys' nodes'
+  pub grown : IsGrown (ReachedFrom w es) keys keys' nodes nodes'
+  pub settled : Each (Settled w keys') es
+  pub clean : cs ≡ []
+
+-- a number has got a form, and nothing else has changed
+abbrev pub Finishes : {C : Type 0} → List (NodeEntry C) → ℕ → List (NodeEntry C) → Type 0
+Finishes {C} old i new = (n : NodeEntry C) × (p : NodePlan C) × (n.plan ≡ Some p) × (new ≡ slice_set old i n)
+
+-- the plan of a boolean
+abbrev pub boolean_plan : {C : Type 0} → Bool → NodePlan C
+boolean_plan true = node_always
+boolean_plan false = node_never

@@ -1,0 +1,83 @@
+//! Why no validator is built.
+ghost use Rattle.std.specs.Prelude.{◌≡◌};
+ghost use Rattle.schema_compiler.specs.Refusing.{number_of};
+
+use schema_node::context::resolver::LookupError;
+use schema_reports::location::Location;
+use schema_reports::reports::OwnedError;
+use std::alloc::{AllocError, AllocFailed};
+
+/// Why a schema is refused.
+#[derive(Drop)]
+pub enum BuildError {
+    /// The value at this location is neither an object nor a boolean.
+    NotASchema(Location),
+    /// The reference at this location is no text.
+    ReferenceNotText(Location),
+    /// The resolver refuses, with a text of its own.
+    Lookup(String),
+    /// A keyword refuses the schema.
+    KeywordRefused(OwnedError),
+    /// A vocabulary of this URI is required, and is not declared.
+    UnsupportedVocabulary(String),
+    /// The schema is not valid by its meta-schema.
+    MetaSchema(OwnedError),
+    /// There is no document under this URI.
+    MissingRoot(String),
+    /// More keys are reached than this limit.
+    NodeLimit(usize),
+    /// Memory could not be had.
+    OutOfMemory,
+}
+
+impl BuildError {
+    /// The refusal's number, from 1 to 9 in the order of the variants.
+    pub fn number(&self) -> u8
+        ensures number { result ≡ number_of self.now }
+    {
+        match self {
+            BuildError::NotASchema(_) => 1,
+            BuildError::ReferenceNotText(_) => 2,
+            BuildError::Lookup(_) => 3,
+            BuildError::KeywordRefused(_) => 4,
+            BuildError::UnsupportedVocabulary(_) => 5,
+            BuildError::MetaSchema(_) => 6,
+            BuildError::MissingRoot(_) => 7,
+            BuildError::NodeLimit(_) => 8,
+            BuildError::OutOfMemory => 9,
+        }
+    }
+}
+
+impl From<AllocError> for BuildError {
+    ghost use Rattle.schema_compiler.specs.declared.compiler.error.BuildError.TheVariants as build;
+
+    ghost from_gives = { λ _ e. e ≡ build.OutOfMemory };
+
+    fn from(_refused: AllocError) -> BuildError {
+        BuildError::OutOfMemory
+    }
+}
+
+impl<T: Drop> From<AllocFailed<T>> for BuildError {
+    ghost use Rattle.schema_compiler.specs.declared.compiler.error.BuildError.TheVariants as build;
+
+    ghost from_gives = { λ _ e. e ≡ build.OutOfMemory };
+
+    fn from(_refused: AllocFailed<T>) -> BuildError {
+        BuildError::OutOfMemory
+    }
+}
+
+impl From<LookupError> for BuildError {
+    ghost use Rattle.schema_compiler.specs.Refusing.{build_error_of};
+
+    ghost from_gives = { λ refused e. e ≡ build_error_of refused };
+
+    fn from(refused: LookupError) -> BuildError {
+        match refused {
+            LookupError::Refused(text) => BuildError::Lookup(text),
+            LookupError::OutOfMemory => BuildError::OutOfMemory,
+        }
+    }
+}

@@ -1,0 +1,378 @@
+//! One node for each key: what a key asks for is compiled before its own node is filled.
+ghost use Rattle.std.specs.Prelude.{◌≡◌, ◌≢◌, ℕ, ◌<◌, ◌++◌, ◌∷◌, [], Bool, true, false, IfOk, IfErr, OnOk, map, option_map, Some, None, slice_get, length, string_bytes, codes};
+ghost use Rattle.serde_json.specs.View.{view, members_view};
+ghost use Rattle.serde_json.specs.Data.{object};
+ghost use Rattle.schema_reports.specs.Making.{compile};
+ghost use Rattle.schema_reports.specs.Plan.{Part, plan, plan_of as plan_of_schema, sorted, parts, part, part_made, making, reference_part, subschema, found, to_ref};
+ghost use Rattle.schema_reports.specs.Reach.{Reached, asked_edges, members_edges, maker_edges, reference_edges};
+ghost use Rattle.schema_reports.specs.Refusals.{causes, schema_causes, members_causes, maker_causes, reference_causes, request_causes, lookup_causes};
+ghost use Rattle.schema_reports.specs.Guarded.{form_edges};
+ghost use Rattle.schema_node.specs.NodeTable.{LeadsToFilled};
+ghost use Rattle.schema_node.specs.NodeViews.{edge_of, entry_of as entry_view, plan_of};
+ghost use Rattle.schema_node.specs.ResolverViews.{place_of};
+ghost use Rattle.schema_compiler.specs.KeyViews.{key_of, kind_of};
+ghost use Rattle.schema_compiler.specs.Compiling.{Each, ReachedFrom, StandsBelow, Blames, member_edges, member_causes, object_edges, reference_asked, option_one};
+ghost use Rattle.schema_compiler.specs.Options.{given_parts};
+ghost use Rattle.schema_compiler.specs.Refusing.{IsRefusal, Refused};
+ghost use Rattle.schema_compiler.specs.Filling.{IsTable, IsGrown, IsStep, IsPlan, AreParts, IsMadePart, LeadsTo};
+
+use crate::compiler::builtin::builtin_row;
+use crate::compiler::entries::insert_by_priority;
+use crate::compiler::error::BuildError;
+use crate::compiler::key::{SchemaKey, find, subschema_key};
+use crate::compiler::table::{
+    CompileOptions, Compiled, checks_formats, edge_at, finish, keyword_location, lone_reference,
+    origin_of, plain_form, reply_for, reserve, target_of,
+};
+use crate::ref_::{ReferenceKind, reference_kind};
+use schema_node::context::keyword::Validate;
+use schema_node::context::resolver::Resolver;
+use schema_node::context::schema_place::SchemaPath;
+use schema_node::context::table::{KeywordTable, MakerReply, MakerStep};
+use schema_node::node::{Edge, Entry, EntryForm, NodeForm, SchemaNode};
+use schema_reports::location::{Location, LocationSegment};
+use serde_json::{Map, Value};
+use std::alloc::Global;
+
+/// The edge to the node of a key, which is compiled first where it has no number. The edge is guarded where the node is
+/// still being compiled.
+#[cycle(compile)]
+pub fn edge_to<R: Resolver, K: Validate, T: KeywordTable<K>>(
+    alloc: Global,
+    resolver: &R,
+    table: &T,
+    options: &CompileOptions,
+    compiled: &mut Compiled<R::State, K>,
+    key: SchemaKey<R::State>,
+    path: Location,
+) -> Result<Edge, BuildError>
+    requires table { IsTable (given_parts (R.resolving resolver.now) (T.owned table.now) (T.script table.now) options.now) K.shape options.now.node_limit (map (key_of R.point) compiled.old.keys.items) compiled.old.nodes }
+    ensures table { OnOk result (IsTable (given_parts (R.resolving resolver.now) (T.owned table.now) (T.script table.now) options.now) K.shape options.now.node_limit (map (key_of R.point) compiled.new.keys.items) compiled.new.nodes) }
+    ensures grown { OnOk result (IsGrown (Reached (given_parts (R.resolving resolver.now) (T.owned table.now) (T.script table.now) options.now) (key_of R.point key)) (map (key_of R.point) compiled.old.keys.items) (map (key_of R.point) compiled.new.keys.items) compiled.old.nodes compiled.new.nodes) }
+    ensures refused { IfErr result (IsRefusal options.now.node_limit (map (key_of R.point) compiled.old.keys.items) (Reached (given_parts (R.resolving resolver.now) (T.owned table.now) (T.script table.now) options.now) (key_of R.point key)) (StandsBelow (given_parts (R.resolving resolver.now) (T.owned table.now) (T.script table.now) options.now) (key_of R.point key))) }
+    ensures number { IfOk result (λ e. slice_get (map (key_of R.point) compiled.new.keys.items) e.node.0 ≡ Some (key_of R.point key)) }
+    ensures fresh { IfOk result (λ e. slice_get (map (key_of R.point) compiled.old.keys.items) e.node.0 ≢ Some (key_of R.point key) → e.node.0 ≡ length (map (key_of R.point) compiled.old.keys.items)) }
+    ensures path { IfOk result (λ e. e.path ≡ path) }
+    ensures leads { IfOk result (λ e. LeadsToFilled compiled.new.nodes (edge_of e)) }
+{
+    if let Some(number) = find::<R>(compiled.keys.as_slice(), &key) {
+        return Ok(edge_at(resolver, table, options, compiled, number, path));
+    }
+    if compiled.keys.len() >= options.node_limit {
+        return Err(BuildError::NodeLimit(options.node_limit));
+    }
+    let number = reserve(alloc, resolver, table, options, compiled, &key)?;
+    let form = form_of(alloc, resolver, table, options, compiled, &key)?;
+    Ok(finish(resolver, table, options, compiled, number, form, &key, path))
+}
+
+// What a key's node asks of an instance.
+#[cycle(compile)]
+fn form_of<R: Resolver, K: Validate, T: KeywordTable<K>>(
+    alloc: Global,
+    resolver: &R,
+    table: &T,
+    options: &CompileOptions,
+    compiled: &mut Compiled<R::State, K>,
+    key: &SchemaKey<R::State>,
+) -> Result<NodeForm<K>, BuildError>
+    requires table { IsTable (given_parts (R.resolving resolver.now) (T.owned table.now) (T.script table.now) options.now) K.shape options.now.node_limit (map (key_of R.point) compiled.old.keys.items) compiled.old.nodes }
+    ensures step { OnOk result (IsStep (given_parts (R.resolving resolver.now) (T.owned table.now) (T.script table.now) options.now) K.shape options.now.node_limit (asked_edges (given_parts (R.resolving resolver.now) (T.owned table.now) (T.script table.now) options.now) (key_of R.point key.now)) (causes (given_parts (R.resolving resolver.now) (T.owned table.now) (T.script table.now) options.now) (key_of R.point key.now)) (map (key_of R.point) compiled.old.keys.items) (map (key_of R.point) compiled.new.keys.items) compiled.old.nodes compiled.new.nodes) }
+    ensures refused { IfErr result (Refused (given_parts (R.resolving resolver.now) (T.owned table.now) (T.script table.now) options.now) options.now.node_limit (asked_edges (given_parts (R.resolving resolver.now) (T.owned table.now) (T.script table.now) options.now) (key_of R.point key.now)) (causes (given_parts (R.resolving resolver.now) (T.owned table.now) (T.script table.now) options.now) (key_of R.point key.now)) (map (key_of R.point) compiled.old.keys.items)) }
+    ensures form { IfOk result (λ form. IsPlan (given_parts (R.resolving resolver.now) (T.owned table.now) (T.script table.now) options.now) (map (key_of R.point) compiled.new.keys.items) K.shape compiled.new.nodes (key_of R.point key.now) (plan_of form) (plan (given_parts (R.resolving resolver.now) (T.owned table.now) (T.script table.now) options.now) (key_of R.point key.now))) }
+{
+    match resolver.value(&key.place) {
+        Some(value) => match value.as_object() {
+            Some(members) => Ok(object_form(
+                alloc, resolver, table, options, compiled, key, members,
+            )?),
+            None => Ok(plain_form(key, value)?),
+        },
+        None => Err(BuildError::NotASchema(key.location.copy()?)),
+    }
+}
+
+// What the node of an object asks of an instance; a `$ref` that stands alone is all of it.
+#[cycle(compile)]
+fn object_form<R: Resolver, K: Validate, T: KeywordTable<K>>(
+    alloc: Global,
+    resolver: &R,
+    table: &T,
+    options: &CompileOptions,
+    compiled: &mut Compiled<R::State, K>,
+    key: &SchemaKey<R::State>,
+    members: &Map<String, Value>,
+) -> Result<NodeForm<K>, BuildError>
+    requires table { IsTable (given_parts (R.resolving resolver.now) (T.owned table.now) (T.script table.now) options.now) K.shape options.now.node_limit (map (key_of R.point) compiled.old.keys.items) compiled.old.nodes }
+    ensures step { OnOk result (IsStep (given_parts (R.resolving resolver.now) (T.owned table.now) (T.script table.now) options.now) K.shape options.now.node_limit (object_edges (given_parts (R.resolving resolver.now) (T.owned table.now) (T.script table.now) options.now) (key_of R.point key.now) (members_view members.now.entries)) (schema_causes (given_parts (R.resolving resolver.now) (T.owned table.now) (T.script table.now) options.now) (key_of R.point key.now) (object (members_view members.now.entries))) (map (key_of R.point) compiled.old.keys.items) (map (key_of R.point) compiled.new.keys.items) compiled.old.nodes compiled.new.nodes) }
+    ensures refused { IfErr result (Refused (given_parts (R.resolving resolver.now) (T.owned table.now) (T.script table.now) options.now) options.now.node_limit (object_edges (given_parts (R.resolving resolver.now) (T.owned table.now) (T.script table.now) options.now) (key_of R.point key.now) (members_view members.now.entries)) (schema_causes (given_parts (R.resolving resolver.now) (T.owned table.now) (T.script table.now) options.now) (key_of R.point key.now) (object (members_view members.now.entries))) (map (key_of R.point) compiled.old.keys.items)) }
+    ensures form { IfOk result (λ form. IsPlan (given_parts (R.resolving resolver.now) (T.owned table.now) (T.script table.now) options.now) (map (key_of R.point) compiled.new.keys.items) K.shape compiled.new.nodes (key_of R.point key.now) (plan_of form) (plan_of_schema (given_parts (R.resolving resolver.now) (T.owned table.now) (T.script table.now) options.now) (key_of R.point key.now) (object (members_view members.now.entries)))) }
+{
+    match lone_reference(key.draft, members) {
+        Some(value) => {
+            let name = String::from_str(alloc, "$ref")?;
+            match reference_entry(
+                alloc,
+                resolver,
+                table,
+                options,
+                compiled,
+                key,
+                &name,
+                70,
+                ReferenceKind::Ref,
+                value,
+            )? {
+                Some(entry) => {
+                    let mut entries = Vec::new(alloc);
+                    entries.push(entry)?;
+                    Ok(NodeForm::Keywords(entries))
+                }
+                None => Ok(NodeForm::Always),
+            }
+        }
+        None => Ok(NodeForm::Keywords(entries_of(
+            alloc, resolver, table, options, compiled, key, members,
+        )?)),
+    }
+}
+
+// The keywords of an object, by their priorities.
+#[cycle(compile)]
+fn entries_of<R: Resolver, K: Validate, T: KeywordTable<K>>(
+    alloc: Global,
+    resolver: &R,
+    table: &T,
+    options: &CompileOptions,
+    compiled: &mut Compiled<R::State, K>,
+    key: &SchemaKey<R::State>,
+    members: &Map<String, Value>,
+) -> Result<Vec<Entry<K>>, BuildError>
+    requires table { IsTable (given_parts (R.resolving resolver.now) (T.owned table.now) (T.script table.now) options.now) K.shape options.now.node_limit (map (key_of R.point) compiled.old.keys.items) compiled.old.nodes }
+    ensures step { OnOk result (IsStep (given_parts (R.resolving resolver.now) (T.owned table.now) (T.script table.now) options.now) K.shape options.now.node_limit (members_edges (given_parts (R.resolving resolver.now) (T.owned table.now) (T.script table.now) options.now) (key_of R.point key.now) (members_view members.now.entries) (members_view members.now.entries)) (members_causes (given_parts (R.resolving resolver.now) (T.owned table.now) (T.script table.now) options.now) (key_of R.point key.now) (members_view members.now.entries) (members_view members.now.entries)) (map (key_of R.point) compiled.old.keys.items) (map (key_of R.point) compiled.new.keys.items) compiled.old.nodes compiled.new.nodes) }
+    ensures refused { IfErr result (Refused (given_parts (R.resolving resolver.now) (T.owned table.now) (T.script table.now) options.now) options.now.node_limit (members_edges (given_parts (R.resolving resolver.now) (T.owned table.now) (T.script table.now) options.now) (key_of R.point key.now) (members_view members.now.entries) (members_view members.now.entries)) (members_causes (given_parts (R.resolving resolver.now) (T.owned table.now) (T.script table.now) options.now) (key_of R.point key.now) (members_view members.now.entries) (members_view members.now.entries)) (map (key_of R.point) compiled.old.keys.items)) }
+    ensures entries { IfOk result (λ es. AreParts (given_parts (R.resolving resolver.now) (T.owned table.now) (T.script table.now) options.now) (map (key_of R.point) compiled.new.keys.items) K.shape compiled.new.nodes (key_of R.point key.now) (map entry_view es.items) (sorted (parts (given_parts (R.resolving resolver.now) (T.owned table.now) (T.script table.now) options.now) (key_of R.point key.now) (members_view members.now.entries) (members_view members.now.entries)))) }
+{
+    let mut entries = Vec::new(alloc);
+    for (name, value) in members.iter() {
+        if let Some(entry) = entry_of(
+            alloc, resolver, table, options, compiled, key, members, name, value,
+        )? {
+            insert_by_priority(&mut entries, entry)?;
+        }
+    }
+    Ok(entries)
+}
+
+// The keyword of a member, if it is one: the table's own, or else a built-in one; references are the engine's.
+#[cycle(compile)]
+fn entry_of<R: Resolver, K: Validate, T: KeywordTable<K>>(
+    alloc: Global,
+    resolver: &R,
+    table: &T,
+    options: &CompileOptions,
+    compiled: &mut Compiled<R::State, K>,
+    key: &SchemaKey<R::State>,
+    members: &Map<String, Value>,
+    name: &String,
+    value: &Value,
+) -> Result<Option<Entry<K>>, BuildError>
+    requires table { IsTable (given_parts (R.resolving resolver.now) (T.owned table.now) (T.script table.now) options.now) K.shape options.now.node_limit (map (key_of R.point) compiled.old.keys.items) compiled.old.nodes }
+    ensures step { OnOk result (IsStep (given_parts (R.resolving resolver.now) (T.owned table.now) (T.script table.now) options.now) K.shape options.now.node_limit (member_edges (given_parts (R.resolving resolver.now) (T.owned table.now) (T.script table.now) options.now) (key_of R.point key.now) (members_view members.now.entries) (string_bytes name.now) (view value.now)) (member_causes (given_parts (R.resolving resolver.now) (T.owned table.now) (T.script table.now) options.now) (key_of R.point key.now) (members_view members.now.entries) (string_bytes name.now) (view value.now)) (map (key_of R.point) compiled.old.keys.items) (map (key_of R.point) compiled.new.keys.items) compiled.old.nodes compiled.new.nodes) }
+    ensures refused { IfErr result (Refused (given_parts (R.resolving resolver.now) (T.owned table.now) (T.script table.now) options.now) options.now.node_limit (member_edges (given_parts (R.resolving resolver.now) (T.owned table.now) (T.script table.now) options.now) (key_of R.point key.now) (members_view members.now.entries) (string_bytes name.now) (view value.now)) (member_causes (given_parts (R.resolving resolver.now) (T.owned table.now) (T.script table.now) options.now) (key_of R.point key.now) (members_view members.now.entries) (string_bytes name.now) (view value.now)) (map (key_of R.point) compiled.old.keys.items)) }
+    ensures entry { IfOk result (λ o. IsMadePart (given_parts (R.resolving resolver.now) (T.owned table.now) (T.script table.now) options.now) (map (key_of R.point) compiled.new.keys.items) K.shape compiled.new.nodes (key_of R.point key.now) (option_map entry_view o) (part (given_parts (R.resolving resolver.now) (T.owned table.now) (T.script table.now) options.now) (key_of R.point key.now) (members_view members.now.entries) (string_bytes name.now) (view value.now))) }
+{
+    let text = name.as_str();
+    if table.owns(text) {
+        return Ok(made_entry(
+            alloc, resolver, table, options, compiled, key, members, true, name, 80, false,
+        )?);
+    }
+    match builtin_row(key.draft, &key.vocabularies, text) {
+        None => Ok(None),
+        Some(row) => match reference_kind(text) {
+            Some(kind) => Ok(reference_entry(
+                alloc,
+                resolver,
+                table,
+                options,
+                compiled,
+                key,
+                name,
+                row.priority,
+                kind,
+                value,
+            )?),
+            None => Ok(made_entry(
+                alloc,
+                resolver,
+                table,
+                options,
+                compiled,
+                key,
+                members,
+                false,
+                name,
+                row.priority,
+                row.is_leaf,
+            )?),
+        },
+    }
+}
+
+// The keyword that a maker makes.
+#[cycle(compile)]
+fn made_entry<R: Resolver, K: Validate, T: KeywordTable<K>>(
+    alloc: Global,
+    resolver: &R,
+    table: &T,
+    options: &CompileOptions,
+    compiled: &mut Compiled<R::State, K>,
+    key: &SchemaKey<R::State>,
+    members: &Map<String, Value>,
+    own: bool,
+    name: &String,
+    priority: u8,
+    is_leaf: bool,
+) -> Result<Option<Entry<K>>, BuildError>
+    requires table { IsTable (given_parts (R.resolving resolver.now) (T.owned table.now) (T.script table.now) options.now) K.shape options.now.node_limit (map (key_of R.point) compiled.old.keys.items) compiled.old.nodes }
+    ensures step { OnOk result (IsStep (given_parts (R.resolving resolver.now) (T.owned table.now) (T.script table.now) options.now) K.shape options.now.node_limit (maker_edges (given_parts (R.resolving resolver.now) (T.owned table.now) (T.script table.now) options.now) (key_of R.point key.now) (string_bytes name.now) (making (given_parts (R.resolving resolver.now) (T.owned table.now) (T.script table.now) options.now) (key_of R.point key.now) (members_view members.now.entries) own (string_bytes name.now))) (maker_causes (given_parts (R.resolving resolver.now) (T.owned table.now) (T.script table.now) options.now) (key_of R.point key.now) (making (given_parts (R.resolving resolver.now) (T.owned table.now) (T.script table.now) options.now) (key_of R.point key.now) (members_view members.now.entries) own (string_bytes name.now))) (map (key_of R.point) compiled.old.keys.items) (map (key_of R.point) compiled.new.keys.items) compiled.old.nodes compiled.new.nodes) }
+    ensures refused { IfErr result (Refused (given_parts (R.resolving resolver.now) (T.owned table.now) (T.script table.now) options.now) options.now.node_limit (maker_edges (given_parts (R.resolving resolver.now) (T.owned table.now) (T.script table.now) options.now) (key_of R.point key.now) (string_bytes name.now) (making (given_parts (R.resolving resolver.now) (T.owned table.now) (T.script table.now) options.now) (key_of R.point key.now) (members_view members.now.entries) own (string_bytes name.now))) (maker_causes (given_parts (R.resolving resolver.now) (T.owned table.now) (T.script table.now) options.now) (key_of R.point key.now) (making (given_parts (R.resolving resolver.now) (T.owned table.now) (T.script table.now) options.now) (key_of R.point key.now) (members_view members.now.entries) own (string_bytes name.now))) (map (key_of R.point) compiled.old.keys.items)) }
+    ensures entry { IfOk result (λ o. IsMadePart (given_parts (R.resolving resolver.now) (T.owned table.now) (T.script table.now) options.now) (map (key_of R.point) compiled.new.keys.items) K.shape compiled.new.nodes (key_of R.point key.now) (option_map entry_view o) (part_made (given_parts (R.resolving resolver.now) (T.owned table.now) (T.script table.now) options.now) (string_bytes name.now) priority is_leaf (making (given_parts (R.resolving resolver.now) (T.owned table.now) (T.script table.now) options.now) (key_of R.point key.now) (members_view members.now.entries) own (string_bytes name.now)))) }
+{
+    let origin = origin_of(own, name.as_str());
+    let formats = checks_formats(options, key);
+    let mut maker = table.begin(
+        alloc,
+        origin,
+        members,
+        key.draft,
+        &key.vocabularies,
+        formats,
+    )?;
+    let mut children = Vec::new(alloc);
+    let mut reply = MakerReply::Begun;
+    loop {
+        match table.turn(alloc, &mut maker, reply)? {
+            MakerStep::Compile(path) => {
+                let edge = child_edge(alloc, resolver, table, options, compiled, key, &path)?;
+                reply = MakerReply::Child(children.len());
+                children.push(Some(edge))?;
+            }
+            MakerStep::Refer(text) => {
+                let edge = reference_edge(
+                    alloc,
+                    resolver,
+                    table,
+                    options,
+                    compiled,
+                    key,
+                    name,
+                    ReferenceKind::Ref,
+                    &text,
+                )?;
+                reply = reply_for(&edge, children.len());
+                children.push(edge)?;
+            }
+            MakerStep::Keyword(keyword, _) => {
+                return Ok(Some(Entry {
+                    name: name.clone()?,
+                    priority,
+                    is_leaf,
+                    form: EntryForm::Keyword(keyword, children),
+                }));
+            }
+            MakerStep::Nothing => return Ok(None),
+            MakerStep::Refuse(error) => return Err(BuildError::KeywordRefused(error)),
+        }
+    }
+}
+
+// The edge to the subschema at a path below.
+#[cycle(compile)]
+fn child_edge<R: Resolver, K: Validate, T: KeywordTable<K>>(
+    alloc: Global,
+    resolver: &R,
+    table: &T,
+    options: &CompileOptions,
+    compiled: &mut Compiled<R::State, K>,
+    key: &SchemaKey<R::State>,
+    path: &SchemaPath,
+) -> Result<Edge, BuildError>
+    requires table { IsTable (given_parts (R.resolving resolver.now) (T.owned table.now) (T.script table.now) options.now) K.shape options.now.node_limit (map (key_of R.point) compiled.old.keys.items) compiled.old.nodes }
+    ensures step { OnOk result (IsStep (given_parts (R.resolving resolver.now) (T.owned table.now) (T.script table.now) options.now) K.shape options.now.node_limit (option_one (subschema (given_parts (R.resolving resolver.now) (T.owned table.now) (T.script table.now) options.now) (key_of R.point key.now) path.now)) (request_causes (given_parts (R.resolving resolver.now) (T.owned table.now) (T.script table.now) options.now) (key_of R.point key.now) (compile path.now)) (map (key_of R.point) compiled.old.keys.items) (map (key_of R.point) compiled.new.keys.items) compiled.old.nodes compiled.new.nodes) }
+    ensures refused { IfErr result (Refused (given_parts (R.resolving resolver.now) (T.owned table.now) (T.script table.now) options.now) options.now.node_limit (option_one (subschema (given_parts (R.resolving resolver.now) (T.owned table.now) (T.script table.now) options.now) (key_of R.point key.now) path.now)) (request_causes (given_parts (R.resolving resolver.now) (T.owned table.now) (T.script table.now) options.now) (key_of R.point key.now) (compile path.now)) (map (key_of R.point) compiled.old.keys.items)) }
+    ensures leads { IfOk result (λ e. LeadsTo (given_parts (R.resolving resolver.now) (T.owned table.now) (T.script table.now) options.now) (map (key_of R.point) compiled.new.keys.items) (Some (edge_of e)) (subschema (given_parts (R.resolving resolver.now) (T.owned table.now) (T.script table.now) options.now) (key_of R.point key.now) path.now)) }
+    ensures filled { IfOk result (λ e. LeadsToFilled compiled.new.nodes (edge_of e)) }
+{
+    let below = subschema_key(alloc, resolver, key, path)?;
+    let location = path.pointer(alloc)?;
+    Ok(edge_to(alloc, resolver, table, options, compiled, below, location)?)
+}
+
+// The edge to a reference's target; none where the reference is skipped.
+#[cycle(compile)]
+fn reference_edge<R: Resolver, K: Validate, T: KeywordTable<K>>(
+    alloc: Global,
+    resolver: &R,
+    table: &T,
+    options: &CompileOptions,
+    compiled: &mut Compiled<R::State, K>,
+    key: &SchemaKey<R::State>,
+    name: &String,
+    kind: ReferenceKind,
+    text: &String,
+) -> Result<Option<Edge>, BuildError>
+    requires table { IsTable (given_parts (R.resolving resolver.now) (T.owned table.now) (T.script table.now) options.now) K.shape options.now.node_limit (map (key_of R.point) compiled.old.keys.items) compiled.old.nodes }
+    ensures step { OnOk result (IsStep (given_parts (R.resolving resolver.now) (T.owned table.now) (T.script table.now) options.now) K.shape options.now.node_limit (option_one (reference_asked (given_parts (R.resolving resolver.now) (T.owned table.now) (T.script table.now) options.now) (key_of R.point key.now) (string_bytes name.now) (kind_of kind) (string_bytes text.now))) (lookup_causes (given_parts (R.resolving resolver.now) (T.owned table.now) (T.script table.now) options.now) (found (given_parts (R.resolving resolver.now) (T.owned table.now) (T.script table.now) options.now) (key_of R.point key.now) (kind_of kind) (string_bytes text.now))) (map (key_of R.point) compiled.old.keys.items) (map (key_of R.point) compiled.new.keys.items) compiled.old.nodes compiled.new.nodes) }
+    ensures refused { IfErr result (Refused (given_parts (R.resolving resolver.now) (T.owned table.now) (T.script table.now) options.now) options.now.node_limit (option_one (reference_asked (given_parts (R.resolving resolver.now) (T.owned table.now) (T.script table.now) options.now) (key_of R.point key.now) (string_bytes name.now) (kind_of kind) (string_bytes text.now))) (lookup_causes (given_parts (R.resolving resolver.now) (T.owned table.now) (T.script table.now) options.now) (found (given_parts (R.resolving resolver.now) (T.owned table.now) (T.script table.now) options.now) (key_of R.point key.now) (kind_of kind) (string_bytes text.now))) (map (key_of R.point) compiled.old.keys.items)) }
+    ensures leads { IfOk result (λ o. LeadsTo (given_parts (R.resolving resolver.now) (T.owned table.now) (T.script table.now) options.now) (map (key_of R.point) compiled.new.keys.items) (option_map edge_of o) (reference_asked (given_parts (R.resolving resolver.now) (T.owned table.now) (T.script table.now) options.now) (key_of R.point key.now) (string_bytes name.now) (kind_of kind) (string_bytes text.now))) }
+    ensures filled { IfOk result (λ o. Each (LeadsToFilled compiled.new.nodes) (option_one (option_map edge_of o))) }
+{
+    match target_of(alloc, resolver, table, options, key, kind, text.as_str())? {
+        None => Ok(None),
+        Some(target) => {
+            let path = Location::new(alloc).join(LocationSegment::Property(name.as_str()))?;
+            Ok(Some(edge_to(alloc, resolver, table, options, compiled, target, path)?))
+        }
+    }
+}
+
+// The reference under a keyword of this name; none where it is skipped.
+#[cycle(compile)]
+fn reference_entry<R: Resolver, K: Validate, T: KeywordTable<K>>(
+    alloc: Global,
+    resolver: &R,
+    table: &T,
+    options: &CompileOptions,
+    compiled: &mut Compiled<R::State, K>,
+    key: &SchemaKey<R::State>,
+    name: &String,
+    priority: u8,
+    kind: ReferenceKind,
+    value: &Value,
+) -> Result<Option<Entry<K>>, BuildError>
+    requires table { IsTable (given_parts (R.resolving resolver.now) (T.owned table.now) (T.script table.now) options.now) K.shape options.now.node_limit (map (key_of R.point) compiled.old.keys.items) compiled.old.nodes }
+    ensures step { OnOk result (IsStep (given_parts (R.resolving resolver.now) (T.owned table.now) (T.script table.now) options.now) K.shape options.now.node_limit (reference_edges (given_parts (R.resolving resolver.now) (T.owned table.now) (T.script table.now) options.now) (key_of R.point key.now) (string_bytes name.now) (kind_of kind) (view value.now)) (reference_causes (given_parts (R.resolving resolver.now) (T.owned table.now) (T.script table.now) options.now) (key_of R.point key.now) (string_bytes name.now) (kind_of kind) (view value.now)) (map (key_of R.point) compiled.old.keys.items) (map (key_of R.point) compiled.new.keys.items) compiled.old.nodes compiled.new.nodes) }
+    ensures refused { IfErr result (Refused (given_parts (R.resolving resolver.now) (T.owned table.now) (T.script table.now) options.now) options.now.node_limit (reference_edges (given_parts (R.resolving resolver.now) (T.owned table.now) (T.script table.now) options.now) (key_of R.point key.now) (string_bytes name.now) (kind_of kind) (view value.now)) (reference_causes (given_parts (R.resolving resolver.now) (T.owned table.now) (T.script table.now) options.now) (key_of R.point key.now) (string_bytes name.now) (kind_of kind) (view value.now)) (map (key_of R.point) compiled.old.keys.items)) }
+    ensures entry { IfOk result (λ o. IsMadePart (given_parts (R.resolving resolver.now) (T.owned table.now) (T.script table.now) options.now) (map (key_of R.point) compiled.new.keys.items) K.shape compiled.new.nodes (key_of R.point key.now) (option_map entry_view o) (reference_part (given_parts (R.resolving resolver.now) (T.owned table.now) (T.script table.now) options.now) (key_of R.point key.now) (string_bytes name.now) priority (kind_of kind) (view value.now))) }
+{
+    match value {
+        Value::String(text) => match reference_edge(
+            alloc, resolver, table, options, compiled, key, name, kind, text,
+        )? {
+            None => Ok(None),
+            Some(edge) => Ok(Some(Entry {
+                name: name.clone()?,
+                priority,
+                is_leaf: false,
+                form: EntryForm::Reference(edge),
+            })),
+        },
+        Value::Null => Err(BuildError::ReferenceNotText(keyword_location(key, name)?)),
+        Value::Bool(_) => Err(BuildError::ReferenceNotText(keyword_location(key, name)?)),
+        Value::Number(_) => Err(BuildError::ReferenceNotText(keyword_location(key, name)?)),
+        Value::Array(_) => Err(BuildError::ReferenceNotText(keyword_location(key, name)?)),
+        Value::Object(_) => Err(BuildError::ReferenceNotText(keyword_location(key, name)?)),
+    }
+}

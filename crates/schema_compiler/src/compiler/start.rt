@@ -1,0 +1,142 @@
+//! How much of a pointer lies outside the innermost resource that it passes into.
+ghost use Rattle.std.specs.Prelude.{◌≡◌, ◌-◌, IfOk, option_map, find, map, Option, Some, length, suc, take, is_some, if◌then◌else◌};
+ghost use Rattle.schema_reports.specs.Plan.{segment_count, segments_length, innermost, start_of, schema_at};
+ghost use Rattle.schema_reports.specs.Instance.{same_place};
+ghost use Rattle.schema_reports.specs.KeywordViews.{draft_of};
+ghost use Rattle.schema_node.specs.ResolverViews.{place_of, found_of};
+ghost use Rattle.schema_compiler.specs.Compiling.{resolving_parts};
+
+use crate::compiler::key::{draft_at, has_id};
+use schema_node::context::resolver::{Resolver, Target};
+use schema_node::context::schema_place::{SchemaPath, SchemaPlace};
+use schema_reports::keywords::Draft;
+use schema_reports::location::{Location, OutOfMemory};
+use std::alloc::Global;
+
+// How many segments a pointer has.
+fn segment_count(location: &str) -> usize
+    ensures count { result ≡ segment_count location.now }
+{
+    location.as_bytes().iter().filter(|x| **x == 47).count()
+}
+
+// How long its first segments are.
+fn segments_length(count: usize, location: &str) -> usize
+    ensures length { result ≡ segments_length count location.now }
+{
+    let mut left = count;
+    let mut size = 0usize;
+    for x in location.as_bytes() {
+        if *x == 47 {
+            if left == 0 {
+                return size;
+            }
+            left -= 1;
+        }
+        size += 1;
+    }
+    size
+}
+
+// The place that a pointer with so many segments counts from.
+fn counts_from(
+    alloc: Global,
+    place: &SchemaPlace,
+    segments: usize,
+) -> Result<SchemaPlace, OutOfMemory>
+    ensures from { IfOk result (λ p. place_of p ≡ record { document = place.now.document; path = take (length place.now.path - segments) place.now.path }) }
+{
+    let steps = place.path.len();
+    let kept = if segments < steps {
+        steps - segments
+    } else {
+        0
+    };
+    Ok(SchemaPlace {
+        document: place.document,
+        path: place.path.first(alloc, kept)?,
+    })
+}
+
+// The first of these places that lies on the way to a path.
+fn first_on_way(
+    alloc: Global,
+    places: &[SchemaPlace],
+    path: &SchemaPath,
+) -> Result<Option<SchemaPlace>, OutOfMemory>
+    ensures first { IfOk result (λ o. option_map place_of o ≡ find (λ q. same_place q.path (take (length q.path) path.now)) (map place_of places.now)) }
+{
+    for place in places {
+        if place.path.is_prefix_of(path) {
+            return Ok(Some(place.copy(alloc)?));
+        }
+    }
+    Ok(None)
+}
+
+// The next place inwards, where it has an identifier, or else the one that is given.
+fn nearer_place<R: Resolver>(
+    alloc: Global,
+    resolver: &R,
+    draft: Draft,
+    next: &SchemaPlace,
+    given: SchemaPlace,
+) -> Result<SchemaPlace, OutOfMemory>
+    ensures nearer { IfOk result (λ p. place_of p ≡ (if is_some ((R.resolving resolver.now).id (draft_of draft) (schema_at (resolving_parts (R.resolving resolver.now)) (place_of next.now))) then place_of next.now else place_of given)) }
+{
+    if has_id(resolver, draft, next) {
+        next.copy(alloc)
+    } else {
+        Ok(given)
+    }
+}
+
+// The innermost subresource with an identifier on the way from a place down to a path; else the place itself.
+fn innermost_place<R: Resolver>(
+    alloc: Global,
+    resolver: &R,
+    draft: Draft,
+    from: &SchemaPlace,
+    path: &SchemaPath,
+) -> Result<SchemaPlace, OutOfMemory>
+    ensures inner { IfOk result (λ p. place_of p ≡ innermost (resolving_parts (R.resolving resolver.now)) (suc (length path.now)) (draft_of draft) (place_of from.now) path.now (place_of from.now)) }
+{
+    let mut depth = path.len();
+    let mut inner_draft = draft;
+    let mut place = from.copy(alloc)?;
+    let mut given = from.copy(alloc)?;
+    loop {
+        let below = resolver.subresources_of(alloc, inner_draft, &place)?;
+        match first_on_way(alloc, below.as_slice(), path)? {
+            None => return Ok(given),
+            Some(next) => {
+                inner_draft = draft_at(resolver, inner_draft, &next);
+                given = nearer_place(alloc, resolver, inner_draft, &next, given)?;
+                place = next;
+            }
+        }
+        if depth == 0 {
+            return Ok(given);
+        }
+        depth -= 1;
+    }
+}
+
+/// The length of a pointer's part up to the innermost subresource with an identifier that it passes into.
+pub fn start_of_target<R: Resolver>(
+    alloc: Global,
+    resolver: &R,
+    draft: Draft,
+    target: &Target<R::State>,
+    location: &Location,
+) -> Result<usize, OutOfMemory>
+    ensures start { IfOk result (λ n. n ≡ start_of (resolving_parts (R.resolving resolver.now)) (draft_of draft) (found_of R.point target.now) location.now) }
+{
+    let from = counts_from(alloc, &target.place, segment_count(location.as_str()))?;
+    let inner_draft = draft_at(resolver, draft, &from);
+    let inner = innermost_place(alloc, resolver, inner_draft, &from, &target.place.path)?;
+    let outside = from.path.len();
+    let whole = inner.path.len();
+    let segments = if outside < whole { whole - outside } else { 0 };
+    Ok(segments_length(segments, location.as_str()))
+}

@@ -1,0 +1,294 @@
+//! The table of keys and nodes while it is filled, and what a key is compiled by.
+ghost use Rattle.std.specs.Prelude.{◌≡◌, ◌≢◌, ℕ, ◌<◌, ◌++◌, ◌∷◌, [], Bool, true, false, IfOk, IfErr, OnOk, MatchOption, map, option_map, Some, None, slice_get, length, List, string_bytes, codes, flat_map, if◌then◌else◌};
+ghost use Rattle.serde_json.specs.View.{view, members_view};
+ghost use Rattle.schema_reports.specs.Instance.{Text, member_of};
+ghost use Rattle.schema_reports.specs.Pointer.{joined};
+ghost use Rattle.schema_reports.specs.Drafts.{custom_vocabulary, ref_stands_alone, has_vocabulary, format_assertion_vocabulary, format_vocabulary};
+ghost use Rattle.schema_reports.specs.KeywordViews.{vocabulary_of};
+ghost use Rattle.std.specs.List.{list_any};
+ghost use Rattle.std.specs.Prelude.{◌||◌, unwrap_or, bytes_eq};
+ghost use Rattle.schema_reports.specs.Refusals.{unsupported_vocabulary, not_a_schema};
+ghost use Rattle.schema_reports.specs.Plan.{Key, found, is_self, reference_edge};
+ghost use Rattle.schema_reports.specs.Refusals.{lookup_causes, undeclared};
+ghost use Rattle.schema_reports.specs.KeywordViews.{draft_of};
+ghost use Rattle.schema_node.specs.NodeTable.{NodeEntry, LeadsToFilled, IsReserved};
+ghost use Rattle.schema_node.specs.NodeViews.{edge_of, plan_of};
+ghost use Rattle.schema_compiler.specs.KeyViews.{key_of, kind_of};
+ghost use Rattle.schema_compiler.specs.Compiling.{answers, option_one, reference_asked};
+ghost use Rattle.schema_compiler.specs.Options.{given_parts};
+ghost use Rattle.schema_compiler.specs.Refusing.{Names, Refused};
+ghost use Rattle.schema_compiler.specs.Filling.{IsTable, IsPlanned, Finishes, boolean_plan};
+ghost use Rattle.schema_node.specs.MakerViews.{is_own, name_of, maker_reply_of};
+ghost use Rattle.serde_json.specs.Find.{as_bool};
+ghost use Rattle.schema_compiler.specs.declared.compiler.error.BuildError.TheVariants as build;
+
+use crate::compiler::error::BuildError;
+use crate::compiler::key::{SchemaKey, copy_of, shown_base_of};
+use crate::ref_::{ReferenceKind, target_key};
+use schema_node::context::keyword::Validate;
+use schema_node::context::resolver::Resolver;
+use schema_node::context::table::{KeywordOrigin, KeywordTable, MakerReply};
+use schema_node::node::{Edge, NodeForm, Nodes, SchemaNode};
+use schema_reports::keywords::{Draft, Vocabulary, VocabularySet};
+use schema_reports::location::{Location, LocationSegment, OutOfMemory};
+use serde_json::{Map, Value};
+use std::alloc::Global;
+
+/// The options that a compilation reads.
+#[derive(Drop)]
+pub struct CompileOptions {
+    /// Whether formats are checked; none leaves it to draft and vocabularies.
+    pub formats: Option<bool>,
+    /// The custom vocabularies that are declared.
+    pub declared: Vec<String>,
+    /// How many keys may be reached.
+    pub node_limit: usize,
+}
+
+/// The keys that were reached, and the node of each, at the same number.
+#[derive(Drop)]
+pub struct Compiled<S, K> {
+    pub keys: Vec<SchemaKey<S>>,
+    pub nodes: Nodes<K>,
+}
+
+/// Gives a key the next number, with a node that is reserved.
+pub fn reserve<R: Resolver, K: Validate, T: KeywordTable<K>>(
+    alloc: Global,
+    resolver: &R,
+    _table: &T,
+    options: &CompileOptions,
+    compiled: &mut Compiled<R::State, K>,
+    key: &SchemaKey<R::State>,
+) -> Result<SchemaNode, BuildError>
+    requires table { IsTable (given_parts (R.resolving resolver.now) (T.owned _table.now) (T.script _table.now) options.now) K.shape options.now.node_limit (map (key_of R.point) compiled.old.keys.items) compiled.old.nodes }
+    requires absent { (i : ℕ) → slice_get (map (key_of R.point) compiled.old.keys.items) i ≢ Some (key_of R.point key.now) }
+    requires room { length compiled.old.keys.items < options.now.node_limit }
+    ensures table { OnOk result (IsTable (given_parts (R.resolving resolver.now) (T.owned _table.now) (T.script _table.now) options.now) K.shape options.now.node_limit (map (key_of R.point) compiled.new.keys.items) compiled.new.nodes) }
+    ensures keys { OnOk result ((map (key_of R.point) compiled.new.keys.items) ≡ (map (key_of R.point) compiled.old.keys.items) ++ (key_of R.point key.now) ∷ []) }
+    ensures nodes { OnOk result ((n : NodeEntry K) × (compiled.new.nodes ≡ compiled.old.nodes ++ n ∷ []) × (n.plan ≡ None)) }
+    ensures number { IfOk result (λ n. n.0 ≡ length compiled.old.nodes) }
+    ensures memory { IfErr result (λ e. e ≡ build.OutOfMemory) }
+{
+    let base = shown_base_of(alloc, resolver, key)?;
+    let location = key.location.copy()?;
+    let own = copy_of::<R>(alloc, key)?;
+    let number = compiled.nodes.reserve(location, base, key.start)?;
+    compiled.keys.push(own)?;
+    Ok(number)
+}
+
+/// Fills the node of a reserved number; the edge to it is not guarded.
+pub fn finish<R: Resolver, K: Validate, T: KeywordTable<K>>(
+    _resolver: &R,
+    _table: &T,
+    options: &CompileOptions,
+    compiled: &mut Compiled<R::State, K>,
+    number: SchemaNode,
+    form: NodeForm<K>,
+    _key: &SchemaKey<R::State>,
+    path: Location,
+) -> Edge
+    requires table { IsTable (given_parts (R.resolving _resolver.now) (T.owned _table.now) (T.script _table.now) options.now) K.shape options.now.node_limit (map (key_of R.point) compiled.old.keys.items) compiled.old.nodes }
+    requires numbered { slice_get (map (key_of R.point) compiled.old.keys.items) number.0 ≡ Some (key_of R.point _key.now) }
+    requires reserved { IsReserved compiled.old.nodes number.0 }
+    requires planned { IsPlanned (given_parts (R.resolving _resolver.now) (T.owned _table.now) (T.script _table.now) options.now) K.shape (map (key_of R.point) compiled.old.keys.items) compiled.old.nodes (key_of R.point _key.now) (plan_of form) }
+    ensures table { IsTable (given_parts (R.resolving _resolver.now) (T.owned _table.now) (T.script _table.now) options.now) K.shape options.now.node_limit (map (key_of R.point) compiled.new.keys.items) compiled.new.nodes }
+    ensures keys { (map (key_of R.point) compiled.new.keys.items) ≡ (map (key_of R.point) compiled.old.keys.items) }
+    ensures filled { Finishes compiled.old.nodes number.0 compiled.new.nodes }
+    ensures node { result.node.0 ≡ number.0 }
+    ensures path { result.path ≡ path }
+    ensures leads { LeadsToFilled compiled.new.nodes (edge_of result) }
+{
+    compiled.nodes.fill(number, form, None);
+    Edge {
+        node: number,
+        path,
+        guarded: false,
+    }
+}
+
+/// The edge to a number that is there, which is guarded where the number is only reserved.
+pub fn edge_at<R: Resolver, K: Validate, T: KeywordTable<K>>(
+    _resolver: &R,
+    _table: &T,
+    _options: &CompileOptions,
+    compiled: &Compiled<R::State, K>,
+    number: usize,
+    path: Location,
+) -> Edge
+    requires table { IsTable (given_parts (R.resolving _resolver.now) (T.owned _table.now) (T.script _table.now) _options.now) K.shape _options.now.node_limit (map (key_of R.point) compiled.now.keys.items) compiled.now.nodes }
+    requires numbered { (k : Key R.Point) × (slice_get (map (key_of R.point) compiled.now.keys.items) number ≡ Some k) }
+    ensures node { result.node.0 ≡ number }
+    ensures path { result.path ≡ path }
+    ensures leads { LeadsToFilled compiled.now.nodes (edge_of result) }
+{
+    let node = SchemaNode(number);
+    let guarded = !compiled.nodes.is_filled(node);
+    Edge {
+        node,
+        path,
+        guarded,
+    }
+}
+
+/// Whether formats are checked for a key: by the option, or else by its draft and vocabularies.
+pub fn checks_formats<S>(options: &CompileOptions, key: &SchemaKey<S>) -> bool
+    ensures formats { result ≡ unwrap_or options.now.formats (ref_stands_alone (draft_of key.now.draft) || has_vocabulary key.now.vocabularies format_assertion_vocabulary || has_vocabulary key.now.vocabularies format_vocabulary) }
+{
+    match options.formats {
+        Some(checked) => checked,
+        None => {
+            stands_alone(key.draft)
+                || key.vocabularies.contains(&Vocabulary::FormatAssertion)
+                || key.vocabularies.contains(&Vocabulary::Format)
+        }
+    }
+}
+
+// Whether `$ref` stands alone in a draft.
+fn stands_alone(draft: Draft) -> bool
+    ensures alone { result ≡ ref_stands_alone (draft_of draft) }
+{
+    match draft {
+        Draft::Draft4 => true,
+        Draft::Draft6 => true,
+        Draft::Draft7 => true,
+        Draft::Draft201909 => false,
+        Draft::Draft202012 => false,
+        Draft::Unknown => false,
+    }
+}
+
+/// The value of the `$ref` that stands alone in an object.
+pub fn lone_reference(draft: Draft, members: &Map<String, Value>) -> Option<&Value>
+    ensures alone { option_map (λ v. view v.now) result ≡ (if ref_stands_alone (draft_of draft) then member_of (codes "$ref") (members_view members.now.entries) else None) }
+{
+    if stands_alone(draft) {
+        members.get("$ref")
+    } else {
+        None
+    }
+}
+
+/// The location of a key's keyword.
+pub fn keyword_location<S>(key: &SchemaKey<S>, name: &String) -> Result<Location, OutOfMemory>
+    ensures location { IfOk result (λ l. l ≡ joined key.now.location (string_bytes name.now)) }
+{
+    key.location.join(LocationSegment::Property(name.as_str()))
+}
+
+// Whether a custom vocabulary is declared.
+fn is_declared(declared: &[String], uri: &str) -> bool
+    ensures declared { result ≡ list_any (bytes_eq uri.now) (map string_bytes declared.now) }
+{
+    for other in declared {
+        if uri == other.as_str() {
+            return true;
+        }
+    }
+    false
+}
+
+// Refuses a vocabulary of one of these URIs that is not declared.
+fn check_each<R: Resolver, K: Validate, T: KeywordTable<K>>(
+    alloc: Global,
+    _resolver: &R,
+    _table: &T,
+    options: &CompileOptions,
+    uris: &[String],
+) -> Result<(), BuildError>
+    ensures declared { IfOk result (λ _. flat_map (undeclared (given_parts (R.resolving _resolver.now) (T.owned _table.now) (T.script _table.now) options.now)) (map custom_vocabulary (map string_bytes uris.now)) ≡ []) }
+    ensures refused { IfErr result (Names (flat_map (undeclared (given_parts (R.resolving _resolver.now) (T.owned _table.now) (T.script _table.now) options.now)) (map custom_vocabulary (map string_bytes uris.now)))) }
+{
+    for uri in uris {
+        if !is_declared(options.declared.as_slice(), uri.as_str()) {
+            return Err(BuildError::UnsupportedVocabulary(uri.clone()?));
+        }
+    }
+    Ok(())
+}
+
+/// Refuses a custom vocabulary that is not declared.
+pub fn check_declared<R: Resolver, K: Validate, T: KeywordTable<K>>(
+    alloc: Global,
+    resolver: &R,
+    table: &T,
+    options: &CompileOptions,
+    vocabularies: &VocabularySet,
+) -> Result<(), BuildError>
+    ensures declared { IfOk result (λ _. flat_map (undeclared (given_parts (R.resolving resolver.now) (T.owned table.now) (T.script table.now) options.now)) vocabularies.now ≡ []) }
+    ensures refused { IfErr result (Names (flat_map (undeclared (given_parts (R.resolving resolver.now) (T.owned table.now) (T.script table.now) options.now)) vocabularies.now)) }
+{
+    check_each(alloc, resolver, table, options, vocabularies.custom())
+}
+
+/// The key that a reference leads to, where it requires no vocabulary that is not declared; none where it is skipped.
+pub fn target_of<R: Resolver, K: Validate, T: KeywordTable<K>>(
+    alloc: Global,
+    resolver: &R,
+    table: &T,
+    options: &CompileOptions,
+    key: &SchemaKey<R::State>,
+    kind: ReferenceKind,
+    text: &str,
+) -> Result<Option<SchemaKey<R::State>>, BuildError>
+    ensures target { IfOk result (λ o. MatchOption o (is_self (given_parts (R.resolving resolver.now) (T.owned table.now) (T.script table.now) options.now) (key_of R.point key.now) (kind_of kind) text.now ≡ true)
+        (λ t. (is_self (given_parts (R.resolving resolver.now) (T.owned table.now) (T.script table.now) options.now) (key_of R.point key.now) (kind_of kind) text.now ≡ false)
+        × ((name : Text) → reference_edge (given_parts (R.resolving resolver.now) (T.owned table.now) (T.script table.now) options.now) (key_of R.point key.now) name (kind_of kind) text.now ≡ Some (record { key = key_of R.point t; path = joined [] name; is_reference = true }))
+        × (flat_map (undeclared (given_parts (R.resolving resolver.now) (T.owned table.now) (T.script table.now) options.now)) t.vocabularies ≡ []))) }
+    ensures refused { IfErr result (λ e. (name : Text) (keys : List (Key R.Point)) → Refused (given_parts (R.resolving resolver.now) (T.owned table.now) (T.script table.now) options.now) options.now.node_limit (option_one (reference_asked (given_parts (R.resolving resolver.now) (T.owned table.now) (T.script table.now) options.now) (key_of R.point key.now) name (kind_of kind) text.now)) (lookup_causes (given_parts (R.resolving resolver.now) (T.owned table.now) (T.script table.now) options.now) (found (given_parts (R.resolving resolver.now) (T.owned table.now) (T.script table.now) options.now) (key_of R.point key.now) (kind_of kind) text.now)) keys e) }
+{
+    match target_key(alloc, resolver, key, kind, text)? {
+        None => Ok(None),
+        Some(target) => {
+            check_declared(alloc, resolver, table, options, &target.vocabularies)?;
+            Ok(Some(target))
+        }
+    }
+}
+
+/// What a maker makes, by the name.
+pub fn origin_of(own: bool, name: &str) -> KeywordOrigin<'_>
+    ensures own { is_own result ≡ own }
+    ensures name { name_of result ≡ name.now }
+{
+    if own {
+        KeywordOrigin::Own(name)
+    } else {
+        KeywordOrigin::Builtin(name)
+    }
+}
+
+/// What a maker is told of a request with this number, which got this edge.
+pub fn reply_for(edge: &Option<Edge>, number: usize) -> MakerReply
+    ensures reply { maker_reply_of result ≡ answers (option_map edge_of edge.now) number }
+{
+    match edge {
+        Some(_) => MakerReply::Child(number),
+        None => MakerReply::Skipped,
+    }
+}
+
+/// What a value that is no object asks of an instance; only a boolean is a schema.
+pub fn plain_form<S, K: Drop>(key: &SchemaKey<S>, value: &Value) -> Result<NodeForm<K>, BuildError>
+    ensures form { IfOk result (λ form. (b : Bool) × (as_bool (view value.now) ≡ Some b) × (plan_of form ≡ boolean_plan b)) }
+    ensures refused { IfErr result (Names (not_a_schema key.now.location ∷ [])) }
+    ensures other { IfErr result (λ _. as_bool (view value.now) ≡ None) }
+{
+    match value.as_bool() {
+        Some(accepts) => Ok(form_of_boolean(accepts)),
+        None => Err(BuildError::NotASchema(key.location.copy()?)),
+    }
+}
+
+// What a boolean asks of an instance.
+fn form_of_boolean<K: Drop>(accepts: bool) -> NodeForm<K>
+    ensures form { plan_of result ≡ boolean_plan accepts }
+{
+    if accepts {
+        NodeForm::Always
+    } else {
+        NodeForm::Never
+    }
+}

@@ -1,0 +1,5 @@
+//! Compiles a schema into numbered nodes, one for each key that it reaches.
+#![tactic(auto)]
+
+pub mod compiler;
+pub mod ref_;
