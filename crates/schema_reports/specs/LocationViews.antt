@@ -1,4 +1,4 @@
--- The segments that the code joins to a location. (RFC 6901, 3)
+-- The segments that the code joins to a location. (section 3 of RFC 6901)
 use Rattle.std.specs.Prelude.{◌∷◌, ℕ, decimal}
 use Rattle.schema_reports.specs.Instance.{Text}
 use Rattle.schema_reports.specs.Pointer.{escaped}

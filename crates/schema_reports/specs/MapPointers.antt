@@ -1,4 +1,4 @@
--- The pointers of the objects and booleans of a document that compile, each by itself. (RFC 6901, 6)
+-- The pointers of the objects and booleans of a document that compile, each by itself. (section 6 of RFC 6901)
 use Rattle.std.specs.Prelude.{Bool, Option, Some, [], false, option_map, true, ◌∷◌, ◌≡◌}
 use Rattle.serde_json.specs.Data.{Data, boolean, object}
 use Rattle.schema_reports.specs.Instance.{Place}

@@ -1,6 +1,6 @@
 -- A target is a place in a schema, read in a resolver state, a draft and vocabularies; a key is a target as it is
 -- reached. Its plan is what it asks of an instance: always accepted, never accepted, or a list of keywords. Its children
--- are the subschemas and the references of these keywords. (Core 2020-12, 4.3, 8.2.3, 9.1.2 and 10; RFC 6901, 6)
+-- are the subschemas and the references of these keywords. (Core 2020-12, 4.3, 8.2.3, 9.1.2 and 10; section 6 of RFC 6901)
 use Rattle.std.specs.List.{list_any, starts_with}
 use Rattle.std.specs.Prelude.{Bool, Err, List, None, Ok, Option, Result, Some, [], bytes_eq, codes, count_by, drop, false, find, if◌then◌else◌, is_some, length, nat_le, option_and_then, option_map, slice_get, suc, take, true, unwrap_or, zero, ℕ, ◌&&◌, ◌++◌, ◌-◌, ◌==◌, ◌||◌, ◌∷◌}
 use Rattle.std.specs.Str.Lossy.{utf8_lossy}

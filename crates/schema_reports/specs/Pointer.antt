@@ -1,5 +1,5 @@
 -- A pointer is the text of a place: a `/` before each segment, in which `~` is written `~0` and `/` is written `~1`.
--- (RFC 6901, 3 and 4)
+-- (sections 3 and 4 of RFC 6901)
 use Rattle.std.specs.Prelude.{[], decimal, if◌then◌else◌, ◌++◌, ◌==◌, ◌∷◌}
 use Rattle.schema_reports.specs.Instance.{Place, Step, Text, to_item, to_member, to_name}
 

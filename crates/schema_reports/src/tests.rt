@@ -5,7 +5,7 @@ use crate::reports::{ErrorIterator, ValidationError};
 use serde_json::{Value, json};
 use std::alloc::Global;
 
-// RFC 6901, 3 to 5.
+// Sections 3 to 5 of RFC 6901.
 #[test]
 fn pointers(rt: HostRuntime) -> Result<(), OutOfMemory> {
     let alloc = rt.alloc();
