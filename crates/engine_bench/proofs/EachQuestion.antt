@@ -17,5 +17,11 @@ nth_each f i zero k h = absurd (omega arith)
 nth_each f i (suc n) zero h = ap (λ m. Some (f m)) (sym (add-zero i))
 nth_each f i (suc n) (suc k) h = nth_each f (i + 1) n k (omega arith) ∙ ap (λ m. Some (f m)) (one_more i k)
 
+pub nth_each_here : (f : ℕ → Question) (n k : ℕ) → k < n → nth k (each_from f 0 n) ≡ Some (f k)
+nth_each_here f n k h = nth_each f 0 n k h ∙ ap (λ m. Some (f m)) (from_zero k)
+  where
+    from_zero : (k : ℕ) → 0 + k ≡ k
+    from_zero k = omega arith
+
 pub nth_each_past : (f : ℕ → Question) (i n k : ℕ) → n ≤ k → nth k (each_from f i n) ≡ None
 nth_each_past f i n k h = let within : length (each_from f i n) ≤ n = length_each f i n in nth-past k (each_from f i n) (omega arith)

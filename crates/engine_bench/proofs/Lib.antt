@@ -7,3 +7,13 @@ pub mod MemberCounts
 pub mod EachQuestion
 pub mod BorrowedFaults
 pub mod MissingNames
+pub mod Unescaping
+pub mod PathsNamed
+pub mod DraftsAlong
+pub mod Indexes
+pub mod PointerTexts
+mod AskAlone
+mod ErrorLists
+mod BuildFaults
+mod MeantAnswers
+pub mod PointersLead

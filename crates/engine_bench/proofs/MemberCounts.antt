@@ -2,6 +2,7 @@
 use Rattle.std.proofs.Common.{suc, ◌≡◌, ◌∙◌, List, [], ◌∷◌, length, ap, refl, add-one}
 use Rattle.serde_json.specs.View.{items_view, members_view}
 use Rattle.serde_json.specs.declared.value.Value.{Value}
+use Rattle.engine_bench.specs.Members.{names_in}
 use Rattle.engine_bench.specs.Items.{items_count}
 use Rattle.serde_json.proofs.Views.{Entry}
 use Rattle.engine_bench.specs.Counts.{member_count}
@@ -9,6 +10,10 @@ use Rattle.engine_bench.specs.Counts.{member_count}
 pub member_count_length : (es : List Entry) → member_count (members_view es) ≡ length es
 member_count_length [] = refl
 member_count_length (e ∷ es) = add-one (member_count (members_view es)) ∙ ap (λ n. suc n) (member_count_length es)
+
+pub names_in_length : (es : List Entry) → length (names_in (members_view es)) ≡ length es
+names_in_length [] = refl
+names_in_length (e ∷ es) = ap (λ n. suc n) (names_in_length es)
 
 pub items_count_length : (vs : List Value) → items_count (items_view vs) ≡ length vs
 items_count_length [] = refl

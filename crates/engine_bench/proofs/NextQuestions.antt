@@ -22,19 +22,19 @@ next_if-none false = refl
 -- the reply ends the questions
 pub ended_by_reply : (qs : List Question) (i : ℕ) (r : Reply) → goes_on r ≡ false → IsNext qs (Asked i) r None
 ended_by_reply qs i r h = record {
-  stage_is = ap (λ b. stage_at (i + 1) (next_if b (nth (i + 1) qs))) h;
+  stage_is = λ m. ap (λ b. stage_at (i + 1) (next_if b (nth (i + 1) qs))) h;
   step_is = λ m. ap (λ b. asked m (next_if b (nth (i + 1) qs))) h;
 }
 
 -- there are no more
 pub ended_at_limit : (qs : List Question) (i : ℕ) (r : Reply) → length qs ≤ i → IsNext qs (Asked i) r None
 ended_at_limit qs i r h = let none : next_if (goes_on r) (nth (i + 1) qs) ≡ None = ap (next_if (goes_on r)) (nth-past (i + 1) qs (omega arith)) ∙ next_if-none (goes_on r) in
-    record { stage_is = ap (stage_at (i + 1)) none; step_is = λ m. ap (asked m) none }
+    record { stage_is = λ m. ap (stage_at (i + 1)) none; step_is = λ m. ap (asked m) none }
 
 -- there is one more
 pub goes_to_next : (qs : List Question) (i : ℕ) (r : Reply) → goes_on r ≡ true → IsNext qs (Asked i) r (Some (i + 1))
 goes_to_next qs i r h = record {
-  stage_is = ap (λ b. stage_at (i + 1) (next_if b (nth (i + 1) qs))) h;
+  stage_is = λ m. ap (λ b. stage_at (i + 1) (next_if b (nth (i + 1) qs))) h;
   step_is = λ m. ap (λ b. asked m (next_if b (nth (i + 1) qs))) h;
 }
 
@@ -42,7 +42,7 @@ goes_to_next qs i r h = record {
 pub turned : (qs : List Question) (run after : Progress) (a b : Answer) (r : Reply) (place : Option ℕ) → IsNext qs run.stage r place
     → after ≡ record run { stage = stage_of qs place } → b ≡ answer_after (passes_on qs) run.mode run.stage a r → way_turn (passes_on qs) (run, a) r ≡ (after, b)
 turned qs run after a b r place is_next goes answers =
-    ap (λ stage. (record run { stage = stage }, answer_after (passes_on qs) run.mode run.stage a r)) is_next.stage_is
+    ap (λ stage. (record run { stage = stage }, answer_after (passes_on qs) run.mode run.stage a r)) (is_next.stage_is run.mode)
     ∙ (ap (λ p. (p, answer_after (passes_on qs) run.mode run.stage a r)) (sym goes) ∙ ap (λ x. (after, x)) (sym answers))
 
 pub stepped : (qs : List Question) (run : Progress) (a : Answer) (r : Reply) (place : Option ℕ) (step : Turn) → IsNext qs run.stage r place

@@ -18,5 +18,5 @@ stage_of qs (Some i) = stage_at i (nth i qs)
 
 -- the next turn's question is the one of the place
 pub record IsNext (qs : List Question) (stage : Stage) (reply : Reply) (place : Option ℕ) : Type 0 where
-  pub stage_is : stage_after (passes_on qs) stage reply ≡ stage_of qs place
+  pub stage_is : (m : Mode) → stage_after (passes_on qs) m stage reply ≡ stage_of qs place
   pub step_is : (m : Mode) → step_at (passes_on qs) m stage reply ≡ asked m (nth_at qs place)

@@ -1,13 +1,11 @@
--- A resolver of one document, which follows no reference. (Core 2020-12, 8.1 and 8.2; RFC 6901)
-use Rattle.std.specs.List.{before_first, list_any}
-use Rattle.std.specs.Prelude.{Bool, Err, List, None, Ok, Option, Result, Some, [], bytes_eq, codes, false, flat_map, if◌then◌else◌, is_some, map, option_and_then, string_bytes, true, ◌≡◌, ℕ, ◌&&◌, ◌++◌, ◌+◌, ◌==◌, ◌||◌, ◌∷◌}
+-- What a resolver of one document says of it: places, drafts, identifiers, subschemas and vocabularies. (Core 2020-12,
+-- 8.1 and 8.2)
+use Rattle.std.specs.List.{before_first}
+use Rattle.std.specs.Prelude.{Bool, Err, List, None, Ok, Option, Result, Some, [], bytes_eq, codes, false, flat_map, if◌then◌else◌, is_some, option_and_then, true, ℕ, ◌&&◌, ◌++◌, ◌+◌, ◌==◌, ◌||◌, ◌∷◌}
 use Rattle.serde_json.specs.Data.{Data, Items, Members, array, boolean, item, member, no_items, no_members, null, number, object, string}
 use Rattle.serde_json.specs.Find.{as_str, get}
 use Rattle.schema_reports.specs.Instance.{Place, Subject, Text, a_name, a_value, subject_at, to_item, to_member}
-use Rattle.schema_reports.specs.Drafts.{Draft, SchemaPlace, Vocabularies, at_path, draft_2019_09, draft_2020_12, draft_4, draft_6, draft_7, draft_unknown, ref_stands_alone}
-use Rattle.schema_reports.specs.Resolving.{Entrance, Resolver}
-use Rattle.schema_node.specs.declared.context.resolver.LookupError.{LookupError}
-use Rattle.schema_node.specs.declared.context.resolver.LookupError.TheVariants.{OutOfMemory, Refused}
+use Rattle.schema_reports.specs.Drafts.{Draft, SchemaPlace, Vocabularies, applicator_vocabulary, content_vocabulary, core_vocabulary, draft_2019_09, draft_2020_12, draft_4, draft_6, draft_7, draft_unknown, format_annotation_vocabulary, metadata_vocabulary, ref_stands_alone, unevaluated_vocabulary, validation_vocabulary}
 
 -- the text that stands under a name
 abbrev pub text_member : Text → Data → Option Text
@@ -49,13 +47,13 @@ named_or d (Some t) = draft_of_uri t
 abbrev pub detected : Draft → Data → Draft
 detected d v = named_or d (text_member (codes "$schema") v)
 
--- a root asks for the draft 2020-12, or is refused
-abbrev pub only_2020_12 : Draft → Result Draft Text
-only_2020_12 draft_2020_12 = Ok draft_2020_12
-only_2020_12 _ = Err (codes "this resolver knows schemas of the draft 2020-12 alone")
+-- a root that names another draft than these is refused
+abbrev pub unless_unknown : Draft → Result Draft Text
+unless_unknown draft_unknown = Err (codes "this resolver does not know the draft of the schema")
+unless_unknown d = Ok d
 
 abbrev pub root_draft : Data → Result Draft Text
-root_draft v = only_2020_12 (detected draft_2020_12 v)
+root_draft v = unless_unknown (detected draft_2020_12 v)
 
 -- ---- identifiers
 
@@ -76,9 +74,9 @@ identifier d v = if ref_stands_alone d && is_some (get (codes "$ref") v) then No
 abbrev pub without_fragment : Text → Text
 without_fragment = before_first (λ x. x == 35)
 
--- the root's identifier without its fragment, or a URI of the resolver's own
-abbrev pub document_uri : Data → Text
-document_uri d = elim (identifier draft_2020_12 d) [ None ↦ codes "json-schema:///" | Some t ↦ without_fragment t ]
+-- the root's identifier without its fragment, or a URI of the resolver's own, in a default draft
+abbrev pub document_uri : Draft → Data → Text
+document_uri d v = elim (identifier (detected d v) v) [ None ↦ codes "json-schema:///" | Some t ↦ without_fragment t ]
 
 -- ---- subschemas
 
@@ -134,14 +132,14 @@ subschemas_of (Some d) = subschemas d
 
 -- ---- vocabularies and known keywords
 
--- those that the document is handed with; drafts before vocabularies have none
-abbrev pub vocabularies_in : Draft → Vocabularies → Vocabularies
-vocabularies_in draft_4 vs = []
-vocabularies_in draft_6 vs = []
-vocabularies_in draft_7 vs = []
-vocabularies_in draft_2019_09 vs = vs
-vocabularies_in draft_2020_12 vs = vs
-vocabularies_in draft_unknown vs = vs
+-- the standard's vocabularies that are in force in a draft where a schema asks for no others; older drafts have none
+abbrev pub draft_vocabularies : Draft → Vocabularies
+draft_vocabularies draft_4 = []
+draft_vocabularies draft_6 = []
+draft_vocabularies draft_7 = []
+draft_vocabularies draft_2019_09 = core_vocabulary ∷ applicator_vocabulary ∷ validation_vocabulary ∷ metadata_vocabulary ∷ content_vocabulary ∷ []
+draft_vocabularies draft_2020_12 = unevaluated_vocabulary ∷ format_annotation_vocabulary ∷ core_vocabulary ∷ applicator_vocabulary ∷ validation_vocabulary ∷ metadata_vocabulary ∷ content_vocabulary ∷ []
+draft_vocabularies draft_unknown = unevaluated_vocabulary ∷ format_annotation_vocabulary ∷ core_vocabulary ∷ applicator_vocabulary ∷ validation_vocabulary ∷ metadata_vocabulary ∷ content_vocabulary ∷ []
 
 -- the built-in keywords, and the words of schemas that make none
 abbrev pub known_keywords : List Text
@@ -153,43 +151,3 @@ known_keywords =
     ∷ codes "dependencies" ∷ codes "dependentSchemas" ∷ codes "allOf" ∷ codes "anyOf" ∷ codes "oneOf" ∷ codes "not" ∷ codes "if"
     ∷ codes "unevaluatedProperties" ∷ codes "unevaluatedItems" ∷ codes "$ref" ∷ codes "$recursiveRef" ∷ codes "$dynamicRef"
     ∷ codes "$schema" ∷ codes "$id" ∷ codes "id" ∷ codes "$anchor" ∷ codes "$dynamicAnchor" ∷ codes "$recursiveAnchor" ∷ codes "$defs" ∷ codes "definitions" ∷ codes "$comment" ∷ codes "$vocabulary" ∷ codes "then" ∷ codes "else" ∷ []
-
--- ---- all of it; a state is the base URI of a resource
-
-abbrev pub no_reference : Text
-no_reference = codes "this resolver follows no reference"
-
-abbrev pub inner_identifier : Text
-inner_identifier = codes "this resolver knows no identifier below the root"
-
--- below the root an identifier is refused
-abbrev pub entered : Text → Draft → Place → Option Data → Result Text Text
-entered s d [] v = Ok s
-entered s d (step ∷ path) None = Ok s
-entered s d (step ∷ path) (Some v) = if is_some (identifier d v) then Err inner_identifier else Ok s
-
-abbrev pub entrance : Text → Text → Option (Entrance Text)
-entrance base uri = if bytes_eq (without_fragment uri) base then Some (record { place = root_place; state = base }) else None
-
-abbrev pub bench_resolving : Text → Data → Vocabularies → Resolver Text
-bench_resolving base document vocabularies = record {
-  same_state = bytes_eq;
-  value = value_at document;
-  root = entrance base;
-  lookup = λ s reference dynamic. Err no_reference;
-  lookup_recursive = λ s. Err no_reference;
-  in_subresource = λ s d p. entered s d p.path (value_at document p);
-  base_uri = λ s. s;
-  resource_root = λ s. root_place;
-  find_vocabularies = λ s d p. vocabularies_in d vocabularies;
-  detect = detected;
-  draft_for = root_draft;
-  id = identifier;
-  subresources_of = λ d p. map (at_path p) (subschemas_of (value_at document p));
-  is_known_keyword = λ d name. list_any (bytes_eq name) known_keywords;
-}
-
--- a refusal with this text, or want of memory
-abbrev pub RefusesWith : Text → LookupError → Type 0
-RefusesWith t (Refused text) = string_bytes text ≡ t
-RefusesWith t OutOfMemory = Unit {0}

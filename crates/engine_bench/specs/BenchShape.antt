@@ -1,5 +1,5 @@
 -- What is known of a keyword apart from its representation.
-use Rattle.std.specs.Prelude.{List, ℕ}
+use Rattle.std.specs.Prelude.{Bool, List, Option, not, true, ℕ}
 use Rattle.schema_reports.specs.Instance.{Text}
 use Rattle.engine_bench.specs.declared.keywords.type_names.TypeName.{TypeName}
 use Rattle.engine_bench.specs.declared.keywords.counts.CountKind.{CountKind}
@@ -18,3 +18,16 @@ pub data BenchShape : Type 0 where
   has_prefix_items : ℕ → BenchShape
   -- how many items come before
   has_items : ℕ → BenchShape
+  -- how many schemas there are
+  has_any_of : ℕ → BenchShape
+  has_one_of : ℕ → BenchShape
+  -- the number of the child under `then`, and of that under `else`, where there is one
+  has_if : Option ℕ → Option ℕ → BenchShape
+  has_property_names : BenchShape
+  -- the schema's text, and whether it holds a fraction
+  has_not : Text → Bool → BenchShape
+
+-- whether no text of it holds a fraction of the schema
+abbrev pub is_whole : BenchShape → Bool
+is_whole (has_not schema fraction) = not fraction
+is_whole _ = true

@@ -1,42 +1,44 @@
 -- The keywords keep the laws.
 use Rattle.std.proofs.Common.{◌≡◌, ◌∙◌, ℕ, ◌+◌, ◌<◌, ◌⊎◌, ◌∷◌, [], List, Bool, true, false, Option, Some, None, refl, sym, ap, subst, inl, inr, arith, length, zero, suc, is_some, option_and_then, min, ◌-◌, add-zero}
-use Rattle.std.specs.Prelude.{All, Contains}
-use Rattle.std.proofs.lemmas.List.Elements.{All-nil, All-cons, Contains-append_right}
-use Rattle.schema_reports.specs.Instance.{Subject, Text, a_name, a_value, item_of, to_item, to_member, subject_from, after_step}
-use Rattle.serde_json.specs.Data.{Data, Items, array, boolean, item, no_items, null, number, object, string}
+use Rattle.std.proofs.lemmas.Slice.Eq.{bytes_eq-Decides}
+use Rattle.std.specs.Prelude.{All, Contains, bytes_eq, if◌then◌else◌, map, option_map, not, ◌++◌}
+use Rattle.std.proofs.lemmas.List.Elements.{All-append, All-map, All-nil, All-cons, All-weaker, Contains-append_right}
+use Rattle.schema_reports.specs.Instance.{Subject, Text, a_name, a_value, item_of, member_of, to_item, to_member, to_name, subject_from, after_step}
+use Rattle.serde_json.specs.Data.{Data, Items, Members, array, boolean, item, member, no_items, no_members, null, number, object, string}
 use Rattle.schema_reports.specs.Reports.{Unit_, report_of}
 use Rattle.schema_reports.specs.Matching.{Matching}
 use Rattle.schema_reports.specs.Keywords.{Answer, Answers, Marked, Question, Reply, Turn, ask, done, here, down, for_all, for_first, for_units, for_verdict}
 use Rattle.schema_reports.specs.Keywords as spec
 use Rattle.schema_reports.specs.Laws.{AsksRightly, IsPresent, IsRight, answer_in, steps_below}
 use Rattle.schema_reports.specs.Turns.{FunctionLaws, Standing, TurnLaws, reply_to, next, step_at as turn_at}
-use Rattle.schema_node.specs.KeywordViews.{fresh, mode_of}
+use Rattle.schema_node.specs.KeywordViews.{fresh, mode_of, option_list}
 use Rattle.schema_node.specs.declared.context.keyword.Mode.{Mode}
 use Rattle.schema_node.specs.declared.context.keyword.Mode.TheVariants as mode
 use Rattle.engine_bench.specs.declared.keywords.run.Stage.{Stage}
-use Rattle.engine_bench.specs.declared.keywords.run.Stage.TheVariants.{Begun, Asked, Ended}
+use Rattle.engine_bench.specs.declared.keywords.run.Stage.TheVariants.{Begun, Asked, Counted, Ended}
 use Rattle.engine_bench.specs.declared.keywords.run.Progress.{Progress}
-use Rattle.engine_bench.specs.Members.{has_member}
-use Rattle.engine_bench.specs.BenchShape.{BenchShape, has_all_of, has_count, has_items, has_prefix_items, has_properties, has_type, has_types, requires}
+use Rattle.engine_bench.specs.Members.{has_member, names_in, subject_names}
+use Rattle.engine_bench.specs.BenchShape.{BenchShape, has_all_of, has_any_of, has_count, has_if, has_items, has_not, has_one_of, has_prefix_items, has_properties, has_property_names, has_type, has_types, requires}
 use Rattle.engine_bench.specs.Items.{child_at_item, child_here, each_from, first_at_item, item_count, items_count}
-use Rattle.engine_bench.specs.Ways.{Way, tells, passes_on, questions, step_at, stage_after, mode_from, left_of, way_left, way_turns, asked, next_if, nth, goes_on}
-use Rattle.engine_bench.specs.WayRuns.{reply_for, end_at, fits_at, Keeps, way_falls, way_bounded, way_keeps, way_stands, way_ends}
+use Rattle.engine_bench.specs.Ways.{Way, tells, passes_on, judges, branches, chosen, left_to_judge, questions, step_at, stage_after, mode_from, left_of, way_left, way_turns, asked, next_if, nth, goes_on}
+use Rattle.engine_bench.specs.WayRuns.{Replies, reply_for, end_at, fits_at, Keeps, way_falls, way_bounded, way_keeps, way_stands, way_ends}
+use Rattle.engine_bench.specs.Tallies.{asked_in, is_settled, says_yes, tallied, wants_units}
 use Rattle.engine_bench.specs.WayReads.{way_agrees, way_holds_reads, way_faults_read, way_units_read, way_stands_inside, way_passes}
-use Rattle.engine_bench.specs.Words.{way, words, present_from, kept, turns_left}
+use Rattle.engine_bench.specs.Words.{at_name, way, words, present_from, kept, turns_left}
 
 abbrev pub none_absorbed : BenchShape → List Text
 none_absorbed m = []
 
 -- ---- how a run stands
 
-abbrev pub run_reply : Standing (Progress × Answer) → Question → Reply
-run_reply x = reply_for x.state.0.mode x.answers x.unit_at
+abbrev pub run_replies : Standing (Progress × Answer) → Replies
+run_replies x m = reply_for m x.answers x.unit_at
 
 abbrev pub ends_in : Bool → BenchShape → Standing (Progress × Answer) → Answer
-ends_in texts m x = end_at (way texts m x.subject) (run_reply x) x.state.0.mode x.state.0.stage x.state.1
+ends_in texts m x = end_at (way texts m x.subject) (run_replies x) x.state.0.mode x.state.0.stage x.state.1
 
 abbrev pub fits_in : Bool → BenchShape → Standing (Progress × Answer) → Type 0
-fits_in texts m x = fits_at (way texts m x.subject) (run_reply x) x.state.0.stage x.reply
+fits_in texts m x = fits_at (way texts m x.subject) (run_replies x) x.state.0.mode x.state.0.stage x.reply
 
 -- ---- turns
 
@@ -49,6 +51,11 @@ same_questions texts (has_count kind n) s = refl
 same_questions texts (has_all_of n) s = refl
 same_questions texts (has_prefix_items n) s = refl
 same_questions texts (has_items n) s = refl
+same_questions texts (has_any_of n) s = refl
+same_questions texts (has_one_of n) s = refl
+same_questions texts (has_if one other) s = refl
+same_questions texts has_property_names s = refl
+same_questions texts (has_not schema fraction) s = refl
 
 same_left : (texts : Bool) (m : BenchShape) (s : Subject) (stage : Stage) → way_left (way texts m s) stage ≡ way_left (way false m s) stage
 same_left texts m s stage = ap (λ qs. left_of (length qs) stage) (same_questions texts m s)
@@ -60,10 +67,10 @@ fewer : (a b c d : ℕ) → a ≡ c → b ≡ d → a < b → c < d
 fewer a b c d p q h = omega arith
 
 falls : (texts : Bool) (m : BenchShape) (s : Subject) (mode' : Mode) (stage : Stage) (r : Reply)
-    → (step_at (way texts m s) mode' stage r ≡ done) ⊎ (way_left (way false m s) (stage_after (way texts m s) stage r) < way_left (way false m s) stage)
+    → (step_at (way texts m s) mode' stage r ≡ done) ⊎ (way_left (way false m s) (stage_after (way texts m s) mode' stage r) < way_left (way false m s) stage)
 falls texts m s mode' stage r = elim (way_falls (way texts m s) mode' stage r) [
   | inl h ↦ inl h
-  | inr h ↦ inr (fewer _ _ _ _ (same_left texts m s (stage_after (way texts m s) stage r)) (same_left texts m s stage) h)
+  | inr h ↦ inr (fewer _ _ _ _ (same_left texts m s (stage_after (way texts m s) mode' stage r)) (same_left texts m s stage) h)
 ]
 
 nth-contains : (i : ℕ) (qs : List Question) (q : Question) → nth i qs ≡ Some q → Contains qs q
@@ -76,17 +83,44 @@ next-contains : (b : Bool) (i : ℕ) (qs : List Question) (q : Question) → nex
 next-contains true i qs q h = nth-contains i qs q h
 next-contains false i qs q h = cc
 
+chosen-contains : (b : Bool) (q : Question) (one other : Option Question) (p : Question) → chosen b one other ≡ Some p → Contains (q ∷ (option_list one ++ option_list other)) p
+chosen-contains true q None other p h = cc
+chosen-contains true q (Some y) other p h = Contains-append_right (q ∷ []) (y ∷ option_list other) p (nth-contains 0 (y ∷ option_list other) p h)
+chosen-contains false q None None p h = cc
+chosen-contains false q None (Some n) p h = Contains-append_right (q ∷ []) (n ∷ []) p (nth-contains 0 (n ∷ []) p h)
+chosen-contains false q (Some y) None p h = cc
+chosen-contains false q (Some y) (Some n) p h = Contains-append_right (q ∷ y ∷ []) (n ∷ []) p (nth-contains 0 (n ∷ []) p h)
+
 -- a step that asks, asks one of the way's questions
-pub record Asking (w : Way) (mode' : Mode) (step : Turn) : Type 0 where
+pub record Asking (w : Way) (step : Turn) : Type 0 where
+  pub mode : Mode
   pub question : Option Question
-  pub is : step ≡ asked mode' question
+  pub is : step ≡ asked mode question
   pub among : (q : Question) → question ≡ Some q → Contains (questions w) q
 
-asking : (w : Way) (mode' : Mode) (stage : Stage) (r : Reply) → Asking w mode' (step_at w mode' stage r)
-asking (tells name ts) mode' stage r = record { question = None; is = refl; among = λ q h. cc }
-asking (passes_on qs) mode' Begun r = record { question = nth 0 qs; is = refl; among = nth-contains 0 qs }
-asking (passes_on qs) mode' (Asked i) r = record { question = next_if (goes_on r) (nth (i + 1) qs); is = refl; among = next-contains (goes_on r) (i + 1) qs }
-asking (passes_on qs) mode' Ended r = record { question = None; is = refl; among = λ q h. cc }
+no_question : (w : Way) → Asking w done
+no_question w = record { mode = mode.Verdict; question = None; is = refl; among = λ q h. cc }
+
+asking : (w : Way) (mode' : Mode) (stage : Stage) (r : Reply) → Asking w (step_at w mode' stage r)
+asking (tells name ts) mode' stage r = no_question (tells name ts)
+asking (passes_on qs) mode' Begun r = record { mode = mode'; question = nth 0 qs; is = refl; among = nth-contains 0 qs }
+asking (passes_on qs) mode' (Asked i) r = record { mode = mode'; question = next_if (goes_on r) (nth (i + 1) qs); is = refl; among = next-contains (goes_on r) (i + 1) qs }
+asking (passes_on qs) mode' (Counted i n) r = no_question (passes_on qs)
+asking (passes_on qs) mode' Ended r = no_question (passes_on qs)
+asking (judges t qs) mode' Begun r = record { mode = asked_in (wants_units t mode'); question = nth 0 qs; is = refl; among = nth-contains 0 qs }
+asking (judges t qs) mode' (Asked i) r = no_question (judges t qs)
+asking (judges t qs) mode' (Counted i n) r = record {
+  mode = asked_in (wants_units t mode');
+  question = left_to_judge t mode' (tallied t.enough r n) (nth (i + 1) qs);
+  is = refl;
+  among = next-contains (not (is_settled (wants_units t mode') t.enough (tallied t.enough r n))) (i + 1) qs;
+}
+asking (judges t qs) mode' Ended r = no_question (judges t qs)
+asking (branches q one other) mode' Begun r = record { mode = mode.Verdict; question = Some q; is = refl; among = nth-contains 0 (q ∷ (option_list one ++ option_list other)) }
+asking (branches q one other) mode' (Asked zero) r = record { mode = mode'; question = chosen (says_yes r) one other; is = refl; among = chosen-contains (says_yes r) q one other }
+asking (branches q one other) mode' (Asked (suc i)) r = no_question (branches q one other)
+asking (branches q one other) mode' (Counted i n) r = no_question (branches q one other)
+asking (branches q one other) mode' Ended r = no_question (branches q one other)
 
 asked_rightly : (texts : Bool) (m : BenchShape) (s : Subject) (mode' : Mode) (o : Option Question) → ((q : Question) → o ≡ Some q → Contains (questions (way texts m s)) q)
     → AsksRightly (words texts) m s [] (asked mode' o)
@@ -94,16 +128,18 @@ asked_rightly texts m s mode' None h = tt
 asked_rightly texts m s mode' (Some q) h = h q refl
 
 asks : (texts : Bool) (m : BenchShape) (s : Subject) (mode' : Mode) (stage : Stage) (r : Reply) → AsksRightly (words texts) m s [] (step_at (way texts m s) mode' stage r)
-asks texts m s mode' stage r = let a : Asking (way texts m s) mode' (step_at (way texts m s) mode' stage r) = asking (way texts m s) mode' stage r in
-    subst (AsksRightly (words texts) m s []) (sym a.is) (asked_rightly texts m s mode' a.question a.among)
+asks texts m s mode' stage r = let a : Asking (way texts m s) (step_at (way texts m s) mode' stage r) = asking (way texts m s) mode' stage r in
+    subst (AsksRightly (words texts) m s []) (sym a.is) (asked_rightly texts m s a.mode a.question a.among)
 
-fits_begun : (w : Way) (reply : Question → Reply) (r : Reply) → fits_at w reply Begun r
-fits_begun (tells name ts) reply r = tt
-fits_begun (passes_on qs) reply r = tt
+fits_begun : (w : Way) (replies : Replies) (m : Mode) (r : Reply) → fits_at w replies m Begun r
+fits_begun (tells name ts) replies m r = tt
+fits_begun (passes_on qs) replies m r = tt
+fits_begun (judges t qs) replies m r = tt
+fits_begun (branches q one other) replies m r = tt
 
 ends_rightly : (texts : Bool) (m : BenchShape) (s : Subject) (mode' : spec.Mode) (matches : Matching) (a : Answers) (u : Question → Unit_) (same : Marked → Marked → Bool)
     → ((q : Question) → (report_of (u q)).valid ≡ (a q).verdict)
-    → IsRight (words texts) m s matches a u same mode' (end_at (way texts m s) (reply_for (mode_from mode') a u) (mode_from mode') Begun fresh)
+    → IsRight (words texts) m s matches a u same mode' (end_at (way texts m s) (λ m'. reply_for m' a u) (mode_from mode') Begun fresh)
 ends_rightly texts m s for_verdict matches a u same valid = way_ends (way texts m s) a u valid for_verdict
 ends_rightly texts m s for_first matches a u same valid = way_ends (way texts m s) a u valid for_first
 ends_rightly texts m s for_all matches a u same valid = way_ends (way texts m s) a u valid for_all
@@ -117,18 +153,18 @@ same_reply texts m s matches a u same mode.All q = refl
 same_reply texts m s matches a u same mode.Evaluate q = refl
 
 keeps : (texts : Bool) (m : BenchShape) (x : Standing (Progress × Answer)) → fits_in texts m x → (turn_at (words texts) m x ≡ done → ⊥)
-    → Keeps (way texts m x.subject) (run_reply x) x.state.0.mode x.state.0.stage x.state.1 x.reply (next (words texts) m x).reply
-keeps texts m x fits h = way_keeps (way texts m x.subject) (run_reply x) x.state.0.mode x.state.0.stage x.state.1 x.reply (next (words texts) m x).reply fits h
-    (λ q e. ap (reply_to (words texts) m x.subject x.matches x.answers x.unit_at x.same x.marks) e ∙ same_reply texts m x.subject x.matches x.answers x.unit_at x.same x.state.0.mode q)
+    → Keeps (way texts m x.subject) (run_replies x) x.state.0.mode x.state.0.stage x.state.1 x.reply (next (words texts) m x).reply
+keeps texts m x fits h = way_keeps (way texts m x.subject) (run_replies x) x.state.0.mode x.state.0.stage x.state.1 x.reply (next (words texts) m x).reply fits h
+    (λ q m' e. ap (reply_to (words texts) m x.subject x.matches x.answers x.unit_at x.same x.marks) e ∙ same_reply texts m x.subject x.matches x.answers x.unit_at x.same m' q)
 
 pub turns_keep : (texts : Bool) (m : BenchShape) → TurnLaws (words texts) m (none_absorbed m) (turns_left m) (ends_in texts m) (fits_in texts m)
 turns_keep texts m = record {
   bounded = λ s mode'. bounded texts m s;
   falls = λ s r reply. falls texts m s r.0.mode r.0.stage reply;
   asks = λ s r reply. asks texts m s r.0.mode r.0.stage reply;
-  begins = λ s mode' matches a u same agrees valid. (fits_begun (way texts m s) (reply_for (mode_from mode') a u) spec.no_reply, ends_rightly texts m s mode' matches a u same valid);
-  keeps = λ x fits h. let k : Keeps (way texts m x.subject) (run_reply x) x.state.0.mode x.state.0.stage x.state.1 x.reply (next (words texts) m x).reply = keeps texts m x fits h in (k.fits, k.ends);
-  stands = λ x fits h. way_stands (way texts m x.subject) (run_reply x) x.state.0.mode x.state.0.stage x.state.1 x.reply fits h;
+  begins = λ s mode' matches a u same agrees valid. (fits_begun (way texts m s) (λ m'. reply_for m' a u) (mode_from mode') spec.no_reply, ends_rightly texts m s mode' matches a u same valid);
+  keeps = λ x fits h. let k : Keeps (way texts m x.subject) (run_replies x) x.state.0.mode x.state.0.stage x.state.1 x.reply (next (words texts) m x).reply = keeps texts m x fits h in (k.fits, k.ends);
+  stands = λ x fits h. way_stands (way texts m x.subject) (run_replies x) x.state.0.mode x.state.0.stage x.state.1 x.reply fits h;
 }
 
 -- ---- functions
@@ -177,6 +213,43 @@ item_present (a_value (string t)) k h = absurd (omega arith)
 item_present (a_value (object ms)) k h = absurd (omega arith)
 item_present (a_value (array ds)) k h = item_leads (item_of k ds) (item_there k ds h)
 
+branch_present : (s : Subject) (o : Option ℕ) → All (λ q. IsPresent s (steps_below q.below)) (option_list (option_map child_here o))
+branch_present s None = All-nil _
+branch_present s (Some n) = All-cons (λ q. IsPresent s (steps_below q.below)) (child_here n) [] refl (All-nil _)
+
+-- the name of each member leads to it
+abbrev pub IsNamed : Members → Text → Type 0
+IsNamed ms k = is_some (member_of k ms) ≡ true
+
+named_later : (l k : Text) (d : Data) (ms : Members) → IsNamed ms k → IsNamed (member l d ms) k
+named_later l k d ms h = found (bytes_eq k l)
+  where
+    found : (b : Bool) → is_some (if b then Some d else member_of k ms) ≡ true
+    found true = refl
+    found false = h
+
+named_here : (k : Text) (d : Data) (ms : Members) → IsNamed (member k d ms) k
+named_here k d ms = ap (λ b. is_some (if b then Some d else member_of k ms)) ((bytes_eq-Decides k k).1 refl)
+
+each_named : (ms : Members) → All (IsNamed ms) (names_in ms)
+each_named no_members = All-nil _
+each_named (member k d ms) = All-cons (IsNamed (member k d ms)) k (names_in ms) (named_here k d ms)
+    (All-weaker (IsNamed ms) (IsNamed (member k d ms)) (λ l h. named_later k l d ms h) (names_in ms) (each_named ms))
+
+name_leads : (k : Text) (o : Option Data) → is_some o ≡ true → is_some (option_and_then (subject_from []) (option_and_then (λ d. Some (a_name k)) o)) ≡ true
+name_leads k None h = cc
+name_leads k (Some d) h = refl
+
+names_present : (s : Subject) → All (λ q. IsPresent s (steps_below q.below)) (map at_name (subject_names s))
+names_present (a_name n) = All-nil _
+names_present (a_value null) = All-nil _
+names_present (a_value (boolean b)) = All-nil _
+names_present (a_value (number n)) = All-nil _
+names_present (a_value (string t)) = All-nil _
+names_present (a_value (array ds)) = All-nil _
+names_present (a_value (object ms)) = All-map (λ q. IsPresent (a_value (object ms)) (steps_below q.below)) at_name (names_in ms)
+    (All-weaker (IsNamed ms) (λ k. IsPresent (a_value (object ms)) (to_name k ∷ [])) (λ k h. name_leads k (member_of k ms) h) (names_in ms) (each_named ms))
+
 present : (texts : Bool) (m : BenchShape) (s : Subject) → All (λ q. IsPresent s (steps_below q.below)) (questions (way texts m s))
 present texts (has_type t) s = All-nil _
 present texts (has_types ts) s = All-nil _
@@ -186,6 +259,12 @@ present texts (has_count kind n) s = All-nil _
 present texts (has_all_of n) s = each_present child_here s 0 n (λ k h. refl)
 present texts (has_prefix_items n) s = each_present child_at_item s 0 (min n (item_count s)) (λ k h. item_present s (0 + k) (omega arith))
 present texts (has_items n) s = each_present first_at_item s n (item_count s - n) (λ k h. item_present s (n + k) (omega arith))
+present texts (has_any_of n) s = each_present child_here s 0 n (λ k h. refl)
+present texts (has_one_of n) s = each_present child_here s 0 n (λ k h. refl)
+present texts (has_if one other) s = All-cons (λ q. IsPresent s (steps_below q.below)) (child_here 0) _ refl
+    (All-append (λ q. IsPresent s (steps_below q.below)) (option_list (option_map child_here one)) (option_list (option_map child_here other)) (branch_present s one) (branch_present s other))
+present texts has_property_names s = names_present s
+present texts (has_not schema fraction) s = each_present child_here s 0 1 (λ k h. refl)
 
 pub functions_keep : (texts : Bool) (m : BenchShape) → FunctionLaws (words texts) m (none_absorbed m)
 functions_keep texts m = record {

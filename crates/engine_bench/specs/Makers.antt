@@ -1,17 +1,18 @@
 -- What the maker of each keyword asks for, and how it ends.
-use Rattle.std.specs.Prelude.{Bool, List, None, Option, Some, [], bytes_eq, codes, drop, false, if◌then◌else◌, option_and_then, option_map, suc, true, zero, ℕ, ◌++◌, ◌+◌, ◌∷◌}
+use Rattle.std.specs.Prelude.{Bool, List, None, Option, Some, [], bytes_eq, codes, drop, false, if◌then◌else◌, is_some, not, option_and_then, option_map, suc, true, zero, ℕ, ◌&&◌, ◌++◌, ◌+◌, ◌∷◌}
 use Rattle.serde_json.specs.Data.{Data, Items, Members, array, item, member, no_items, no_members, object, string}
-use Rattle.serde_json.specs.Find.{as_number, as_u64, get_member}
+use Rattle.serde_json.specs.Written.{compact_text, has_float}
+use Rattle.serde_json.specs.Find.{as_array, as_number, as_u64, get_member}
 use Rattle.schema_reports.specs.Instance.{Place, Text, to_item, to_member}
 use Rattle.schema_reports.specs.Pointer.{pointer_to}
 use Rattle.schema_reports.specs.Reports.{OwnedError}
-use Rattle.schema_reports.specs.Drafts.{Draft, Vocabularies}
+use Rattle.schema_reports.specs.Drafts.{Draft, Vocabularies, draft_2020_12, draft_unknown}
 use Rattle.schema_reports.specs.Making.{Made, Script, a_keyword, nothing, refused, then_compile, then_end}
 use Rattle.schema_node.specs.MakerViews.{Waiting, begun, ended, waits}
 use Rattle.engine_bench.specs.declared.keywords.type_names.TypeName.{TypeName}
 use Rattle.engine_bench.specs.declared.keywords.type_names.TypeName.TheVariants as type
-use Rattle.engine_bench.specs.BenchShape.{BenchShape, has_all_of, has_count, has_prefix_items, has_properties, has_type, has_types, requires}
-use Rattle.engine_bench.specs.Items.{items_count}
+use Rattle.engine_bench.specs.BenchShape.{BenchShape, has_all_of, has_any_of, has_count, has_if, has_items, has_not, has_one_of, has_prefix_items, has_properties, has_property_names, has_type, has_types, requires}
+use Rattle.engine_bench.specs.Items.{count_in, items_count}
 use Rattle.engine_bench.specs.declared.keywords.counts.CountKind.{CountKind}
 use Rattle.engine_bench.specs.declared.keywords.counts.CountKind.TheVariants.{MaxLength, MinLength, MinProperties}
 
@@ -120,29 +121,84 @@ abbrev pub list_script : (ℕ → BenchShape) → Text → Data → Script Bench
 list_script shape name (array ds) = asks_for (items_from name 0 ds) (a_keyword (shape (items_count ds)) [])
 list_script shape name d = malformed name d
 
--- ---- all of them
+-- ---- items
 
-abbrev pub later_script : Text → Data → Script BenchShape
-later_script name d =
+-- the editions in which `items` goes on after `prefixItems` (Core 2020-12, 10.3.1.2)
+abbrev pub has_prefix : Draft → Bool
+has_prefix draft_2020_12 = true
+has_prefix draft_unknown = true
+has_prefix _ = false
+
+-- how many items come before those of `items`
+abbrev pub items_before : Draft → Members → ℕ
+items_before draft ms = if has_prefix draft then count_in (option_and_then as_array (get_member (codes "prefixItems") ms)) else 0
+
+-- in the other editions, a list makes no keyword
+abbrev pub is_older_list : Draft → Data → Bool
+is_older_list draft d = not (has_prefix draft) && is_some (as_array d)
+
+-- the keyword's own value is its only schema
+abbrev pub only_child : Text → BenchShape → Script BenchShape
+only_child name m = asks_for ((to_member name ∷ []) ∷ []) (a_keyword m [])
+
+abbrev pub items_script : Draft → Members → Text → Data → Script BenchShape
+items_script draft ms name d = if is_older_list draft d then then_end nothing else only_child name (has_items (items_before draft ms))
+
+-- ---- if
+
+-- the values of `if`, `then` and `else` are the children, in this order, as far as they are there (Core 2020-12, 10.2.2)
+abbrev pub has_branch : Text → Members → Bool
+has_branch name ms = is_some (get_member name ms)
+
+abbrev pub branch_places : Bool → Text → List Place
+branch_places true name = (to_member name ∷ []) ∷ []
+branch_places false name = []
+
+-- the number of a branch that is there
+abbrev pub branch_child : Bool → ℕ → Option ℕ
+branch_child true n = Some n
+branch_child false n = None
+
+abbrev pub after_branch : Bool → ℕ → ℕ
+after_branch true n = n + 1
+after_branch false n = n
+
+abbrev pub if_script : Text → Bool → Bool → Script BenchShape
+if_script name has_then has_else = asks_for ((to_member name ∷ []) ∷ (branch_places has_then (codes "then") ++ branch_places has_else (codes "else")))
+    (a_keyword (has_if (branch_child has_then 1) (branch_child has_else (after_branch has_then 1))) [])
+
+-- ---- all of them; the object is the one whose member is made
+
+abbrev pub schema_script : Draft → Members → Text → Data → Script BenchShape
+schema_script draft ms name d =
+    if bytes_eq name (codes "allOf") then list_script has_all_of name d
+    else (if bytes_eq name (codes "anyOf") then list_script has_any_of name d
+    else (if bytes_eq name (codes "oneOf") then list_script has_one_of name d
+    else (if bytes_eq name (codes "prefixItems") then list_script has_prefix_items name d
+    else (if bytes_eq name (codes "items") then items_script draft ms name d
+    else (if bytes_eq name (codes "not") then only_child name (has_not (compact_text d) (has_float d))
+    else (if bytes_eq name (codes "propertyNames") then only_child name has_property_names
+    else (if bytes_eq name (codes "if") then if_script name (has_branch (codes "then") ms) (has_branch (codes "else") ms) else then_end nothing)))))))
+
+abbrev pub later_script : Draft → Members → Text → Data → Script BenchShape
+later_script draft ms name d =
     if bytes_eq name (codes "minLength") then makes_if name d (count_shape MinLength d)
     else (if bytes_eq name (codes "maxLength") then makes_if name d (count_shape MaxLength d)
-    else (if bytes_eq name (codes "minProperties") then makes_if name d (count_shape MinProperties d)
-    else (if bytes_eq name (codes "allOf") then list_script has_all_of name d
-    else (if bytes_eq name (codes "prefixItems") then list_script has_prefix_items name d else then_end nothing))))
+    else (if bytes_eq name (codes "minProperties") then makes_if name d (count_shape MinProperties d) else schema_script draft ms name d))
 
-abbrev pub value_script : Text → Data → Script BenchShape
-value_script name d =
+abbrev pub value_script : Draft → Members → Text → Data → Script BenchShape
+value_script draft ms name d =
     if bytes_eq name (codes "type") then makes_if name d (type_shape d)
     else (if bytes_eq name (codes "required") then makes_if name d (required_shape d)
-    else (if bytes_eq name (codes "properties") then properties_script name d else later_script name d))
+    else (if bytes_eq name (codes "properties") then properties_script name d else later_script draft ms name d))
 
-abbrev pub member_script : Text → Option Data → Script BenchShape
-member_script name None = then_end nothing
-member_script name (Some d) = value_script name d
+abbrev pub member_script : Draft → Members → Text → Option Data → Script BenchShape
+member_script draft ms name None = then_end nothing
+member_script draft ms name (Some d) = value_script draft ms name d
 
 abbrev pub bench_script : Bool → Text → Members → Draft → Vocabularies → Bool → Script BenchShape
 bench_script true name ms draft vocabularies formats = then_end nothing
-bench_script false name ms draft vocabularies formats = member_script name (get_member name ms)
+bench_script false name ms draft vocabularies formats = member_script draft ms name (get_member name ms)
 
 -- ---- a maker that has made so many requests
 

@@ -1,5 +1,6 @@
 -- The members of an instance that is an object.
-use Rattle.std.specs.Prelude.{Bool, false, is_some}
+use Rattle.std.specs.Prelude.{Bool, List, None, Option, Some, [], false, is_some, ◌∷◌}
+use Rattle.serde_json.specs.Data.{Members, member, no_members}
 use Rattle.serde_json.specs.Find.{as_object}
 use Rattle.schema_reports.specs.Instance.{Subject, Text, a_name, a_value, after_step, to_member}
 
@@ -9,3 +10,16 @@ has_member k s = is_some (after_step (to_member k) s)
 abbrev pub is_object : Subject → Bool
 is_object (a_value d) = is_some (as_object d)
 is_object (a_name k) = false
+
+-- the names of an object's members, in order; none where it is no object
+abbrev pub names_in : Members → List Text
+names_in no_members = []
+names_in (member k d ms) = k ∷ names_in ms
+
+abbrev pub names_of_any : Option Members → List Text
+names_of_any None = []
+names_of_any (Some ms) = names_in ms
+
+abbrev pub subject_names : Subject → List Text
+subject_names (a_value d) = names_of_any (as_object d)
+subject_names (a_name k) = []

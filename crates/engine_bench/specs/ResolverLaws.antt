@@ -4,10 +4,12 @@ use Rattle.std.specs.Str.{bytes_eq}
 use Rattle.std.proofs.lemmas.Slice.Eq.{bytes_eq-Decides}
 use Rattle.std.specs.Prelude.{◌↔◌, if◌then◌else◌}
 use Rattle.serde_json.specs.Data.{Data}
+use Rattle.serde_json.specs.View.{view}
 use Rattle.schema_reports.specs.Instance.{Place, Subject, a_name, a_value, after_step, subject_at, subject_from}
-use Rattle.schema_reports.specs.Drafts.{Vocabularies}
 use Rattle.schema_node.specs.ResolverViews.{IsInside}
-use Rattle.engine_bench.specs.BenchResolving.{bench_resolving, data_of}
+use Rattle.engine_bench.specs.BenchResolving.{data_of}
+use Rattle.engine_bench.specs.BenchDocuments.{BenchDocument}
+use Rattle.engine_bench.specs.BenchAnswers.{bench_resolving}
 
 data-is : (o : Option Subject) (d : Data) → data_of o ≡ Some d → o ≡ Some (a_value d)
 data-is None d h = cc
@@ -35,8 +37,8 @@ inside_of : (b : Bool) (d : Data) (p q : Place) (inner : Data) → (if b then da
 inside_of true d p q inner h = inside_from p q (a_value d) inner h
 inside_of false d p q inner h = absurd (let no_data : ⊥ = cc in no_data)
 
-pub values_stand_inside : (base : List ℕ) (d : Data) (vocabularies : Vocabularies) → IsInside (bench_resolving base d vocabularies)
-values_stand_inside base d vocabularies = λ p path inner h. inside_of (p.document == 0) d p.path path inner h
+pub values_stand_inside : (r : BenchDocument) → IsInside (bench_resolving r)
+values_stand_inside r = λ p path inner h. inside_of (p.document == 0) (view r.document) p.path path inner h
 
 pub same_texts : (a b : List ℕ) → (bytes_eq a b ≡ true) ↔ (a ≡ b)
 same_texts a b = ((bytes_eq-Decides a b).0, (bytes_eq-Decides a b).1)

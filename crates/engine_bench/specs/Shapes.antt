@@ -1,6 +1,8 @@
 -- What is known of a keyword apart from its representation.
 use Rattle.std.specs.Prelude.{map, string_bytes}
-use Rattle.engine_bench.specs.BenchShape.{BenchShape, has_all_of, has_count, has_items, has_prefix_items, has_properties, has_type, has_types, requires}
+use Rattle.serde_json.specs.View.{view}
+use Rattle.serde_json.specs.Written.{compact_text, has_float}
+use Rattle.engine_bench.specs.BenchShape.{BenchShape, has_all_of, has_any_of, has_count, has_if, has_items, has_not, has_one_of, has_prefix_items, has_properties, has_property_names, has_type, has_types, requires}
 use Rattle.engine_bench.specs.declared.keywords.BenchKeyword.{BenchKeyword}
 use Rattle.engine_bench.specs.declared.keywords.BenchKeyword.TheVariants as keyword
 
@@ -13,3 +15,8 @@ shape_of (keyword.Count kind limit) = has_count kind limit
 shape_of (keyword.AllOf count) = has_all_of count
 shape_of (keyword.PrefixItems count) = has_prefix_items count
 shape_of (keyword.Items before) = has_items before
+shape_of (keyword.AnyOf count) = has_any_of count
+shape_of (keyword.OneOf count) = has_one_of count
+shape_of (keyword.If accepted refused) = has_if accepted refused
+shape_of keyword.PropertyNames = has_property_names
+shape_of (keyword.Not schema) = has_not (compact_text (view schema)) (has_float (view schema))

@@ -1,44 +1,70 @@
--- How a keyword goes about an instance: it tells its own errors at once, or it asks questions in order and passes on what
--- they answer. Its runs by turns follow from that.
+-- How a keyword goes about an instance: it tells its own errors at once; or it asks questions in order and passes on what
+-- they answer; or it judges by how many of them accept; or it asks one question, and then one of two as that one answers,
+-- whose answer it passes on. Its runs by turns follow from that.
 use Rattle.std.specs.List.{list_all}
-use Rattle.std.specs.Prelude.{Bool, List, None, Option, Some, [], false, flat_map, if◌then◌else◌, length, map, suc, true, zero, ℕ, ◌++◌, ◌+◌, ◌-◌, ◌∷◌}
+use Rattle.std.specs.Prelude.{Bool, List, None, Option, Some, [], false, flat_map, if◌then◌else◌, length, map, not, suc, true, zero, ℕ, ◌++◌, ◌+◌, ◌-◌, ◌∷◌}
 use Rattle.schema_reports.specs.Instance.{Text}
-use Rattle.schema_reports.specs.Reports.{Unit_, report_of}
+use Rattle.schema_reports.specs.Reports.{Described, Unit_, report_of}
 use Rattle.schema_reports.specs.Keywords.{Answer, Answers, Fault, Gives, Own, Question, Reply, Turn, all_of_it, ask, done, first_of_it, for_all, for_first, for_units, for_verdict, no_reply, own, passed, truth, unit_of_it}
 use Rattle.schema_reports.specs.Keywords as spec
-use Rattle.schema_node.specs.KeywordViews.{is_nil, mode_of, no_gives, with_errors}
+use Rattle.schema_node.specs.KeywordViews.{is_nil, mode_of, no_gives, option_list, with_errors}
 use Rattle.schema_node.specs.declared.context.keyword.Mode.{Mode}
 use Rattle.schema_node.specs.declared.context.keyword.Mode.TheVariants as mode
 use Rattle.engine_bench.specs.declared.keywords.run.Stage.{Stage}
-use Rattle.engine_bench.specs.declared.keywords.run.Stage.TheVariants.{Begun, Asked, Ended}
+use Rattle.engine_bench.specs.declared.keywords.run.Stage.TheVariants.{Begun, Asked, Counted, Ended}
 use Rattle.engine_bench.specs.declared.keywords.run.Progress.{Progress}
+use Rattle.engine_bench.specs.Tallies.{Tally, asked_in, is_settled, says_yes, tallied, told_by, wants_units, with_child}
 
 pub data Way : Type 0 where
   -- errors of this name with these texts
   tells : Text → List Text → Way
   passes_on : List Question → Way
+  judges : Tally → List Question → Way
+  -- a question, the one that follows where it accepts, and the one that follows else
+  branches : Question → Option Question → Option Question → Way
 
 -- an error at the keyword itself
 abbrev pub plain : Text → Text → Own
 plain name text = record { spot = record { absorbed = None; path = []; below = [] }; name = name; text = text }
+
+-- the same, as a unit has it
+abbrev pub described : Text → Text → Described
+described name text = record { name = name; text = text }
 
 -- ---- what it means
 
 abbrev pub questions : Way → List Question
 questions (tells name ts) = []
 questions (passes_on qs) = qs
+questions (judges t qs) = qs
+questions (branches q one other) = q ∷ (option_list one ++ option_list other)
+
+-- the branch that follows, if there is one
+abbrev pub branch : Bool → Option Question → Option Question → List Question
+branch true one other = option_list one
+branch false one other = option_list other
+
+abbrev pub given : Bool → (Question → Unit_) → List Question → List Unit_
+given true unit_at qs = map unit_at qs
+given false unit_at qs = []
 
 abbrev pub way_holds : Way → (Question → Bool) → Bool
 way_holds (tells name ts) accepts = is_nil ts
 way_holds (passes_on qs) accepts = list_all accepts qs
+way_holds (judges t qs) accepts = is_nil (told_by t accepts qs)
+way_holds (branches q one other) accepts = list_all accepts (branch (accepts q) one other)
 
 abbrev pub way_faults : Way → Answers → List Fault
 way_faults (tells name ts) answers = map (λ t. own (plain name t)) ts
 way_faults (passes_on qs) answers = flat_map (λ q. map passed (answers q).errors) qs
+way_faults (judges t qs) answers = map (λ x. own (plain t.name x)) (told_by t (λ q. (answers q).verdict) qs)
+way_faults (branches q one other) answers = flat_map (λ q. map passed (answers q).errors) (branch (answers q).verdict one other)
 
 abbrev pub way_units : Way → (Question → Unit_) → Gives
-way_units (tells name ts) unit_at = no_gives
+way_units (tells name ts) unit_at = record no_gives { errors = map (described name) ts }
 way_units (passes_on qs) unit_at = record no_gives { children = map unit_at qs }
+way_units (judges t qs) unit_at = record no_gives { children = given t.shows unit_at qs; errors = map (described t.name) (told_by t (λ q. (report_of (unit_at q)).valid) qs) }
+way_units (branches q one other) unit_at = record no_gives { children = map unit_at (branch (report_of (unit_at q)).valid one other) }
 
 -- ---- what stands in an answer
 
@@ -50,12 +76,17 @@ abbrev pub with_first : Answer → List Fault → Fault → Answer
 with_first a [] f = with_errors (f ∷ [])
 with_first a (g ∷ gs) f = a
 
+-- refused in an evaluation: an error of the keyword's own stands in its unit
+abbrev pub evaluated : Answer → Fault → Answer
+evaluated a (own o) = record { verdict = false; errors = []; gives = record a.gives { errors = a.gives.errors ++ described o.name o.text ∷ [] } }
+evaluated a (passed e) = refused a
+
 -- with one fault more
 abbrev pub noted_one : Mode → Answer → Fault → Answer
 noted_one mode.Verdict a f = refused a
 noted_one mode.First a f = with_first a a.errors f
 noted_one mode.All a f = with_errors (a.errors ++ f ∷ [])
-noted_one mode.Evaluate a f = refused a
+noted_one mode.Evaluate a f = evaluated a f
 
 abbrev pub noted : Mode → Text → Answer → List Text → Answer
 noted m name a [] = a
@@ -110,25 +141,88 @@ abbrev pub next_if : Bool → Option Question → Option Question
 next_if true o = o
 next_if false o = None
 
+-- the questions that are left of a run that judges
+abbrev pub left_to_judge : Tally → Mode → ℕ → Option Question → Option Question
+left_to_judge t m n o = next_if (not (is_settled (wants_units t m) t.enough n)) o
+
+abbrev pub counted_at : ℕ → ℕ → Option Question → Stage
+counted_at i n None = Ended
+counted_at i n (Some q) = Counted i n
+
+-- the errors are told where no question is left
+abbrev pub judged_at : Tally → Mode → ℕ → Answer → Option Question → Answer
+judged_at t m n a None = noted m t.name a (t.told n)
+judged_at t m n a (Some q) = a
+
+abbrev pub chosen : Bool → Option Question → Option Question → Option Question
+chosen true one other = one
+chosen false one other = other
+
+-- the branch that accepting leads to is asked at 1, the other at 2
+abbrev pub branch_number : Bool → ℕ
+branch_number true = 1
+branch_number false = 2
+
 abbrev pub step_at : Way → Mode → Stage → Reply → Turn
 step_at (tells name ts) m stage reply = done
 step_at (passes_on qs) m Begun reply = asked m (nth 0 qs)
 step_at (passes_on qs) m (Asked i) reply = asked m (next_if (goes_on reply) (nth (i + 1) qs))
+step_at (passes_on qs) m (Counted i n) reply = done
 step_at (passes_on qs) m Ended reply = done
+step_at (judges t qs) m Begun reply = asked (asked_in (wants_units t m)) (nth 0 qs)
+step_at (judges t qs) m (Asked i) reply = done
+step_at (judges t qs) m (Counted i n) reply = asked (asked_in (wants_units t m)) (left_to_judge t m (tallied t.enough reply n) (nth (i + 1) qs))
+step_at (judges t qs) m Ended reply = done
+step_at (branches q one other) m Begun reply = asked mode.Verdict (Some q)
+step_at (branches q one other) m (Asked zero) reply = asked m (chosen (says_yes reply) one other)
+step_at (branches q one other) m (Asked (suc i)) reply = done
+step_at (branches q one other) m (Counted i n) reply = done
+step_at (branches q one other) m Ended reply = done
 
-abbrev pub stage_after : Way → Stage → Reply → Stage
-stage_after (tells name ts) stage reply = Ended
-stage_after (passes_on qs) Begun reply = stage_at 0 (nth 0 qs)
-stage_after (passes_on qs) (Asked i) reply = stage_at (i + 1) (next_if (goes_on reply) (nth (i + 1) qs))
-stage_after (passes_on qs) Ended reply = Ended
+abbrev pub stage_after : Way → Mode → Stage → Reply → Stage
+stage_after (tells name ts) m stage reply = Ended
+stage_after (passes_on qs) m Begun reply = stage_at 0 (nth 0 qs)
+stage_after (passes_on qs) m (Asked i) reply = stage_at (i + 1) (next_if (goes_on reply) (nth (i + 1) qs))
+stage_after (passes_on qs) m (Counted i n) reply = Ended
+stage_after (passes_on qs) m Ended reply = Ended
+stage_after (judges t qs) m Begun reply = counted_at 0 0 (nth 0 qs)
+stage_after (judges t qs) m (Asked i) reply = Ended
+stage_after (judges t qs) m (Counted i n) reply = counted_at (i + 1) (tallied t.enough reply n) (left_to_judge t m (tallied t.enough reply n) (nth (i + 1) qs))
+stage_after (judges t qs) m Ended reply = Ended
+stage_after (branches q one other) m Begun reply = Asked 0
+stage_after (branches q one other) m (Asked zero) reply = stage_at (branch_number (says_yes reply)) (chosen (says_yes reply) one other)
+stage_after (branches q one other) m (Asked (suc i)) reply = Ended
+stage_after (branches q one other) m (Counted i n) reply = Ended
+stage_after (branches q one other) m Ended reply = Ended
+
+-- what is told is told in the first turn
+abbrev pub at_first : Stage → Answer → Answer → Answer
+at_first Begun told a = told
+at_first (Asked i) told a = a
+at_first (Counted i n) told a = a
+at_first Ended told a = a
+
+abbrev pub told_at_once : Way → Mode → Answer → Answer
+told_at_once (tells name ts) m a = noted m name a ts
+told_at_once (passes_on qs) m a = a
+told_at_once (judges t qs) m a = a
+told_at_once (branches q one other) m a = a
 
 abbrev pub answer_after : Way → Mode → Stage → Answer → Reply → Answer
-answer_after (tells name ts) m Begun a reply = noted m name a ts
-answer_after (tells name ts) m (Asked i) a reply = a
-answer_after (tells name ts) m Ended a reply = a
+answer_after (tells name ts) m stage a reply = at_first stage (noted m name a ts) a
 answer_after (passes_on qs) m Begun a reply = a
 answer_after (passes_on qs) m (Asked i) a reply = taken a reply
+answer_after (passes_on qs) m (Counted i n) a reply = a
 answer_after (passes_on qs) m Ended a reply = a
+answer_after (judges t qs) m Begun a reply = judged_at t m 0 a (nth 0 qs)
+answer_after (judges t qs) m (Asked i) a reply = a
+answer_after (judges t qs) m (Counted i n) a reply = judged_at t m (tallied t.enough reply n) (with_child a reply) (left_to_judge t m (tallied t.enough reply n) (nth (i + 1) qs))
+answer_after (judges t qs) m Ended a reply = a
+answer_after (branches q one other) m Begun a reply = a
+answer_after (branches q one other) m (Asked zero) a reply = a
+answer_after (branches q one other) m (Asked (suc i)) a reply = taken a reply
+answer_after (branches q one other) m (Counted i n) a reply = a
+answer_after (branches q one other) m Ended a reply = a
 
 abbrev pub way_begin : spec.Mode → Progress
 way_begin m = record { mode = mode_from m; stage = Begun }
@@ -137,7 +231,7 @@ abbrev pub way_step : Way → Progress × Answer → Reply → Turn
 way_step w r reply = step_at w r.0.mode r.0.stage reply
 
 abbrev pub way_turn : Way → Progress × Answer → Reply → Progress × Answer
-way_turn w r reply = (record r.0 { stage = stage_after w r.0.stage reply }, answer_after w r.0.mode r.0.stage r.1 reply)
+way_turn w r reply = (record r.0 { stage = stage_after w r.0.mode r.0.stage reply }, answer_after w r.0.mode r.0.stage r.1 reply)
 
 abbrev pub way_turns : Way → ℕ
 way_turns w = length (questions w) + 2
@@ -146,6 +240,7 @@ way_turns w = length (questions w) + 2
 abbrev pub left_of : ℕ → Stage → ℕ
 left_of n Begun = n + 1
 left_of n (Asked i) = n - i
+left_of n (Counted i k) = n - i
 left_of n Ended = 0
 
 abbrev pub way_left : Way → Stage → ℕ

@@ -1,7 +1,7 @@
 -- What each keyword says of an instance.
 use Rattle.std.specs.List.{list_any}
-use Rattle.std.specs.Prelude.{Bool, List, [], codes, false, filter, map, min, not, true, ℕ, ◌++◌, ◌+◌, ◌-◌, ◌&&◌, ◌∷◌}
-use Rattle.schema_reports.specs.Instance.{Subject, Text, a_name, to_member}
+use Rattle.std.specs.Prelude.{Bool, List, [], codes, false, filter, map, min, not, option_map, suc, true, zero, ℕ, ◌++◌, ◌+◌, ◌-◌, ◌&&◌, ◌∷◌}
+use Rattle.schema_reports.specs.Instance.{Subject, Text, a_name, to_member, to_name}
 use Rattle.schema_reports.specs.ReportViews.{spoken}
 use Rattle.schema_reports.specs.Keywords.{Answer, Keywords, Question, down}
 use Rattle.schema_reports.specs.Meaning.{subject_text}
@@ -9,11 +9,12 @@ use Rattle.schema_node.specs.KeywordViews.{fresh}
 use Rattle.engine_bench.specs.declared.keywords.type_names.TypeName.{TypeName}
 use Rattle.engine_bench.specs.declared.keywords.run.Progress.{Progress}
 use Rattle.engine_bench.specs.TypeNames.{fits, type_name}
-use Rattle.engine_bench.specs.Members.{has_member, is_object}
-use Rattle.engine_bench.specs.BenchShape.{BenchShape, has_all_of, has_count, has_items, has_prefix_items, has_properties, has_type, has_types, requires}
+use Rattle.engine_bench.specs.Members.{has_member, is_object, subject_names}
+use Rattle.engine_bench.specs.BenchShape.{BenchShape, has_all_of, has_any_of, has_count, has_if, has_items, has_not, has_one_of, has_prefix_items, has_properties, has_property_names, has_type, has_types, requires}
 use Rattle.engine_bench.specs.Counts.{count_fits, count_name, count_text}
 use Rattle.engine_bench.specs.Items.{child_at_item, child_here, each_from, first_at_item, item_count}
-use Rattle.engine_bench.specs.Ways.{Way, passes_on, questions, tells, way_begin, way_faults, way_holds, way_left, way_step, way_turn, way_turns, way_units}
+use Rattle.engine_bench.specs.Tallies.{Tally}
+use Rattle.engine_bench.specs.Ways.{Way, branches, judges, passes_on, questions, tells, way_begin, way_faults, way_holds, way_left, way_step, way_turn, way_turns, way_units}
 
 -- one text where the test fails; each counts as empty where texts are not spoken of
 abbrev pub unless : Bool → Text → List Text
@@ -55,6 +56,50 @@ abbrev pub present_from : ℕ → List Text → Subject → List Question
 present_from i [] s = []
 present_from i (k ∷ ks) s = kept (has_member k s) (record { child = i; below = down (to_member k) }) (present_from (i + 1) ks s)
 
+-- ---- not
+
+abbrev pub not_text : Text → Subject → Text
+not_text schema s = schema ++ codes " is not allowed for " ++ subject_text s
+
+-- the error where one accepts
+abbrev pub if_any : Text → ℕ → List Text
+if_any text zero = []
+if_any text (suc n) = text ∷ []
+
+abbrev pub not_tally : Bool → Text → Subject → Tally
+not_tally texts schema s = record { name = codes "not"; enough = 1; told = if_any (spoken texts (not_text schema s)); shows = false }
+
+-- ---- anyOf, oneOf
+
+-- the error where none accepts
+abbrev pub none_text : Text → Subject → Text
+none_text name s = subject_text s ++ codes " is not valid under any of the schemas listed in the '" ++ name ++ codes "' keyword"
+
+abbrev pub if_none : Text → ℕ → List Text
+if_none text zero = text ∷ []
+if_none text (suc n) = []
+
+abbrev pub any_of_tally : Bool → Subject → Tally
+any_of_tally texts s = record { name = codes "anyOf"; enough = 1; told = if_none (spoken texts (none_text (codes "anyOf") s)); shows = true }
+
+-- the error where more than one accepts
+abbrev pub many_text : Subject → Text
+many_text s = subject_text s ++ codes " is valid under more than one of the schemas listed in the 'oneOf' keyword"
+
+abbrev pub unless_one : Text → Text → ℕ → List Text
+unless_one none many zero = none ∷ []
+unless_one none many (suc zero) = []
+unless_one none many (suc (suc n)) = many ∷ []
+
+abbrev pub one_of_tally : Bool → Subject → Tally
+one_of_tally texts s = record { name = codes "oneOf"; enough = 2; told = unless_one (spoken texts (none_text (codes "oneOf") s)) (spoken texts (many_text s)); shows = true }
+
+-- ---- propertyNames
+
+-- the only child, at a name
+abbrev pub at_name : Text → Question
+at_name k = record { child = 0; below = down (to_name k) }
+
 -- ---- all of them
 
 abbrev pub way : Bool → BenchShape → Subject → Way
@@ -66,6 +111,11 @@ way texts (has_count kind n) s = tells (count_name kind) (map (spoken texts) (un
 way texts (has_all_of n) s = passes_on (each_from child_here 0 n)
 way texts (has_prefix_items n) s = passes_on (each_from child_at_item 0 (min n (item_count s)))
 way texts (has_items n) s = passes_on (each_from first_at_item n (item_count s - n))
+way texts (has_any_of n) s = judges (any_of_tally texts s) (each_from child_here 0 n)
+way texts (has_one_of n) s = judges (one_of_tally texts s) (each_from child_here 0 n)
+way texts (has_if accepted refused) s = branches (child_here 0) (option_map child_here accepted) (option_map child_here refused)
+way texts has_property_names s = passes_on (map at_name (subject_names s))
+way texts (has_not schema fraction) s = judges (not_tally texts schema s) (each_from child_here 0 1)
 
 abbrev pub words : Bool → Keywords BenchShape (Progress × Answer)
 words texts = record {

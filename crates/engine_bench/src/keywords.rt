@@ -1,10 +1,16 @@
 //! The keywords.
 pub mod answers;
+pub mod any_of;
 pub mod asking;
+pub mod conditions;
 pub mod counts;
 pub mod each;
+pub mod judging;
 pub mod members;
+pub mod not;
+pub mod one_of;
 pub mod properties;
+pub mod property_names;
 pub mod required;
 pub mod run;
 pub mod texts;
@@ -14,17 +20,23 @@ pub mod types;
 ghost use Rattle.std.specs.Prelude.{All, ◌≡◌, true, Bool, IfOk};
 ghost use Rattle.serde_json.specs.Data.{Data};
 ghost use Rattle.schema_reports.specs.InstanceViews.{subject_of};
-ghost use Rattle.schema_reports.specs.Keywords.{no_reply};
-ghost use Rattle.schema_node.specs.FaultViews.{faults_in, PassesBorrowed};
-ghost use Rattle.schema_node.specs.KeywordViews.{answer_of, Tells};
-ghost use Rattle.engine_bench.specs.declared.keywords.run.Stage.TheVariants.{Begun};
-ghost use Rattle.engine_bench.specs.Ways.{answer_after};
+ghost use Rattle.schema_node.specs.FaultViews.{errors_in, faults_in, PassesBorrowed};
+ghost use Rattle.schema_node.specs.KeywordViews.{answer_of, turn_of, Tells};
+ghost use Rattle.schema_reports.specs.Keywords.{done};
+ghost use Rattle.schema_reports.specs.ReportViews.{BorrowsItsPlace};
+ghost use Rattle.engine_bench.specs.declared.keywords.run.Stage.TheVariants.{Ended};
+ghost use Rattle.engine_bench.specs.Ways.{at_first, told_at_once};
 ghost use Rattle.engine_bench.specs.Words.{way};
 ghost use Rattle.engine_bench.specs.Shapes.{shape_of};
 
+use crate::keywords::any_of::turn_any_of;
+use crate::keywords::conditions::turn_if;
 use crate::keywords::counts::{CountKind, tell_count};
 use crate::keywords::each::{turn_all_of, turn_items, turn_prefix_items};
+use crate::keywords::not::turn_not;
+use crate::keywords::one_of::turn_one_of;
 use crate::keywords::properties::turn_properties;
+use crate::keywords::property_names::turn_property_names;
 use crate::keywords::required::tell_required;
 use crate::keywords::run::{Progress, Stage};
 use crate::keywords::type_names::TypeName;
@@ -32,6 +44,7 @@ use crate::keywords::types::{tell_type, tell_types};
 use schema_node::context::keyword::{Answer, Mode, Reply, Step, Validate};
 use schema_reports::instance::Instance;
 use schema_reports::location::OutOfMemory;
+use serde_json::Value;
 use std::alloc::Global;
 use std::marker::Model;
 
@@ -53,6 +66,15 @@ pub enum BenchKeyword {
     PrefixItems(usize),
     /// How many items come before.
     Items(usize),
+    /// How many schemas there are.
+    AnyOf(usize),
+    /// How many schemas there are.
+    OneOf(usize),
+    /// The number of the child under `then`, and of that under `else`, where there is one.
+    If(Option<usize>, Option<usize>),
+    PropertyNames,
+    /// The schema.
+    Not(Value),
 }
 
 /// What is known of a keyword apart from its representation; it holds no value.
@@ -77,7 +99,7 @@ fn tell<'i>(
     answer: &mut Answer<'i>,
 ) -> Result<(), OutOfMemory>
     ensures told { IfOk result (λ _. (texts : Bool) → Tells texts true (subject_of instance.entry) → answer_of texts answer.new
-        ≡ answer_after (way texts (shape_of keyword.now) (subject_of instance.entry)) mode Begun (answer_of texts answer.old) no_reply) }
+        ≡ told_at_once (way texts (shape_of keyword.now) (subject_of instance.entry)) mode (answer_of texts answer.old)) }
     ensures borrows { IfOk result (λ _. (root : Data) → All (PassesBorrowed root) (faults_in answer.old) → All (PassesBorrowed root) (faults_in answer.new)) }
 {
     match keyword {
@@ -93,8 +115,31 @@ fn tell<'i>(
     }
 }
 
+/// The turn of a keyword that asks nothing: the first one tells its errors.
+fn turn_telling<'s, 'i>(
+    keyword: &BenchKeyword,
+    alloc: Global,
+    run: &mut Progress,
+    instance: Instance<'i>,
+    _reply: Reply<'i>,
+    answer: &mut Answer<'i>,
+) -> Result<Step<'s>, OutOfMemory>
+    ensures stage { IfOk result (λ _. run.new ≡ record run.old { stage = Ended }) }
+    ensures told { IfOk result (λ _. (texts : Bool) → Tells texts true (subject_of instance.entry) → answer_of texts answer.new
+        ≡ at_first run.old.stage (told_at_once (way texts (shape_of keyword.now) (subject_of instance.entry)) run.old.mode (answer_of texts answer.old)) (answer_of texts answer.old)) }
+    ensures step { IfOk result (λ step. turn_of step ≡ done) }
+    ensures borrows { IfOk result (λ _. (root : Data) → All (BorrowsItsPlace root) (errors_in _reply.entry) → All (PassesBorrowed root) (faults_in answer.old) → All (PassesBorrowed root) (faults_in answer.new)) }
+{
+    if let Stage::Begun = run.stage {
+        tell(keyword, alloc, run.mode, instance, answer)?;
+    }
+    run.stage = Stage::Ended;
+    Ok(Step::Done)
+}
+
 impl Validate for BenchKeyword {
     ghost use Rattle.std.specs.Prelude.{refl};
+    ghost use Rattle.engine_bench.specs.BenchShape.{is_whole};
     ghost use Rattle.engine_bench.specs.Words.{turns_left, words};
     ghost use Rattle.engine_bench.specs.Laws.{ends_in, fits_in, functions_keep, none_absorbed, turns_keep};
 
@@ -108,7 +153,7 @@ impl Validate for BenchKeyword {
 
     ghost absorbed = { none_absorbed };
 
-    ghost is_whole = { λ _. true };
+    ghost is_whole = { is_whole };
 
     ghost remaining = { turns_left };
 
@@ -137,25 +182,26 @@ impl Validate for BenchKeyword {
         answer: &mut Answer<'i>,
     ) -> Result<Step<'s>, OutOfMemory> {
         match self {
+            BenchKeyword::Type(_) => turn_telling(self, alloc, run, instance, reply, answer),
+            BenchKeyword::Types(_) => turn_telling(self, alloc, run, instance, reply, answer),
+            BenchKeyword::Required(_) => turn_telling(self, alloc, run, instance, reply, answer),
+            BenchKeyword::Count(_, _) => turn_telling(self, alloc, run, instance, reply, answer),
             BenchKeyword::Properties(names) => {
-                return turn_properties(alloc, names.as_slice(), run, instance, reply, answer);
+                turn_properties(alloc, names.as_slice(), run, instance, reply, answer)
             }
-            BenchKeyword::AllOf(count) => {
-                return turn_all_of(alloc, *count, run, reply, answer);
-            }
+            BenchKeyword::AllOf(count) => turn_all_of(alloc, *count, run, reply, answer),
             BenchKeyword::PrefixItems(count) => {
-                return turn_prefix_items(alloc, *count, run, instance, reply, answer);
+                turn_prefix_items(alloc, *count, run, instance, reply, answer)
             }
-            BenchKeyword::Items(before) => {
-                return turn_items(alloc, *before, run, instance, reply, answer);
+            BenchKeyword::Items(before) => turn_items(alloc, *before, run, instance, reply, answer),
+            BenchKeyword::AnyOf(count) => turn_any_of(alloc, *count, run, instance, reply, answer),
+            BenchKeyword::OneOf(count) => turn_one_of(alloc, *count, run, instance, reply, answer),
+            BenchKeyword::If(accepted, refused) => {
+                turn_if(alloc, *accepted, *refused, run, reply, answer)
             }
-            _ => {}
+            BenchKeyword::PropertyNames => turn_property_names(alloc, run, instance, reply, answer),
+            BenchKeyword::Not(schema) => turn_not(alloc, schema, run, instance, reply, answer),
         }
-        if let Stage::Begun = run.stage {
-            tell(self, alloc, run.mode, instance, answer)?;
-        }
-        run.stage = Stage::Ended;
-        Ok(Step::Done)
     }
 
     ghost speaks = { λ texts. refl };

@@ -1,22 +1,32 @@
 //! The resolver.
-ghost use Rattle.std.specs.Prelude.{◌≡◌, string_bytes, IfOk};
+ghost use Rattle.std.specs.Prelude.{◌≡◌, string_bytes, IfOk, IsSome, Some};
 ghost use Rattle.serde_json.specs.View.{view};
-ghost use Rattle.schema_node.specs.ResolverViews.{place_of};
-ghost use Rattle.engine_bench.specs.BenchResolving.{bench_resolving, document_uri, root_place, RefusesWith};
+ghost use Rattle.schema_reports.specs.Drafts.{draft_2020_12};
+ghost use Rattle.schema_reports.specs.KeywordViews.{draft_of};
+ghost use Rattle.engine_bench.specs.BenchResolving.{root_place};
+ghost use Rattle.engine_bench.specs.BenchDocuments.{HasCustom, HasDrafts};
+ghost use Rattle.engine_bench.specs.BenchAnswers.{base_of, bench_resolving};
 
 pub mod drafts;
 pub mod identifiers;
 pub mod known;
 pub mod places;
+pub mod pointers;
+pub mod references;
 pub mod subschemas;
+#[cfg(test)]
+mod tests;
+pub mod vocabularies;
 
-use crate::resolver::drafts::{detected, vocabularies_in};
+use crate::resolver::drafts::detected;
 use crate::resolver::identifiers::{identifier, without_fragment};
 use crate::resolver::known::is_known;
-use crate::resolver::places::value_at;
+use crate::resolver::places::{refusal, root_place, value_at};
+use crate::resolver::references::looked_up;
 use crate::resolver::subschemas::subschemas;
+use crate::resolver::vocabularies::DraftVocabularies;
 use schema_node::context::resolver::{LookupError, Resolver, Target};
-use schema_node::context::schema_place::{SchemaPath, SchemaPlace};
+use schema_node::context::schema_place::SchemaPlace;
 use schema_reports::keywords::{Draft, VocabularySet};
 use schema_reports::location::OutOfMemory;
 use serde_json::Value;
@@ -42,53 +52,84 @@ impl Model for BasePoint {
     ghost view = { λ _. [] };
 }
 
-/// A resolver of one document with its vocabularies, which follows no reference. It stands under its root's identifier
-/// without a fragment, or under `json-schema:///`.
+/// A resolver of one document. It follows pointers into the document, and refuses other references and identifiers below
+/// the root. The document stands under its root's identifier without a fragment, or under `json-schema:///`.
 #[derive(Drop)]
 pub struct BenchResolver<'a> {
     base: String,
     document: &'a Value,
-    vocabularies: VocabularySet,
+    default_draft: Draft,
+    vocabularies: DraftVocabularies,
+}
+
+impl<'a> Model for BenchResolver<'a> {
+    ghost use Rattle.std.specs.Prelude.{◌≡◌, string_bytes};
+    ghost use Rattle.std.specs.Coded.{codes};
+    ghost use Rattle.serde_json.specs.contracts.value.Value as value;
+    ghost use Rattle.serde_json.specs.View.{view as seen};
+    ghost use Rattle.schema_reports.specs.KeywordViews.{draft_of};
+    ghost use Rattle.engine_bench.specs.BenchDocuments.{BenchDocument};
+    ghost use Rattle.engine_bench.specs.BenchResolving.{document_uri};
+
+    ghost Value = { BenchDocument };
+
+    ghost coded = { Prim.hlevel (codes, value.the_row.coded) };
+
+    ghost view = { λ r. record { document = r.document.now; default_draft = draft_of r.default_draft; vocabularies = r.vocabularies } };
+
+    ghost invariant = { λ r. string_bytes r.base ≡ document_uri (draft_of r.default_draft) (seen r.document.now) };
 }
 
 impl<'a> BenchResolver<'a> {
-    /// A resolver of this document with these vocabularies.
+    /// A resolver of this document in the draft 2020-12. The vocabularies are required ones: they are in force in every draft,
+    /// beside the draft's own.
+    ///
+    /// # Errors
+    ///
+    /// Want of memory.
     pub fn new(
         alloc: Global,
         document: &'a Value,
         vocabularies: VocabularySet,
     ) -> Result<BenchResolver<'a>, OutOfMemory>
-        ensures resolving { IfOk result (λ r. bench_resolving (string_bytes r.base) (view r.document.now) r.vocabularies ≡ bench_resolving (document_uri (view document.now)) (view document.now) vocabularies) }
+        ensures document { IfOk result (λ r. r.document ≡ document.now) }
+        ensures draft { IfOk result (λ r. r.default_draft ≡ draft_2020_12) }
+        ensures drafts { IfOk result (λ r. HasDrafts vocabularies r.vocabularies) }
+        ensures custom { IfOk result (λ r. HasCustom vocabularies r.vocabularies) }
+        ensures root_value { IfOk result (λ r. (bench_resolving r).value root_place ≡ Some (view document.now)) }
+        ensures root { IfOk result (λ r. IsSome ((bench_resolving r).root (base_of r))) }
     {
-        let base = match identifier(Draft::Draft202012, document) {
+        BenchResolver::with_draft(alloc, Draft::Draft202012, document, vocabularies)
+    }
+
+    /// The same in another default draft, which a document without `$schema` has.
+    ///
+    /// # Errors
+    ///
+    /// Want of memory.
+    pub fn with_draft(
+        alloc: Global,
+        draft: Draft,
+        document: &'a Value,
+        vocabularies: VocabularySet,
+    ) -> Result<BenchResolver<'a>, OutOfMemory>
+        ensures document { IfOk result (λ r. r.document ≡ document.now) }
+        ensures draft { IfOk result (λ r. r.default_draft ≡ draft_of draft) }
+        ensures drafts { IfOk result (λ r. HasDrafts vocabularies r.vocabularies) }
+        ensures custom { IfOk result (λ r. HasCustom vocabularies r.vocabularies) }
+        ensures root_value { IfOk result (λ r. (bench_resolving r).value root_place ≡ Some (view document.now)) }
+        ensures root { IfOk result (λ r. IsSome ((bench_resolving r).root (base_of r))) }
+    {
+        let base = match identifier(detected(draft, document), document) {
             Some(uri) => String::from_str(alloc, without_fragment(uri))?,
             None => String::from_str(alloc, "json-schema:///")?,
         };
         Ok(BenchResolver {
             base,
             document,
-            vocabularies,
+            default_draft: draft,
+            vocabularies: DraftVocabularies::with_required(vocabularies)?,
         })
-    }
-}
-
-/// The root of the document.
-fn root_place(alloc: Global) -> SchemaPlace
-    ensures root { place_of result ≡ root_place }
-{
-    SchemaPlace {
-        document: 0,
-        path: SchemaPath::root(alloc),
-    }
-}
-
-/// A refusal with this text.
-fn refusal(alloc: Global, text: &str) -> LookupError
-    ensures refused { RefusesWith text.now result }
-{
-    match String::from_str(alloc, text) {
-        Ok(text) => LookupError::Refused(text),
-        Err(_) => LookupError::OutOfMemory,
     }
 }
 
@@ -102,7 +143,7 @@ impl<'a> Resolver for BenchResolver<'a> {
 
     ghost point = { λ s. string_bytes s.base };
 
-    ghost resolving = { λ r. bench_resolving (string_bytes r.base) (view r.document.now) r.vocabularies };
+    ghost resolving = { bench_resolving };
 
     fn contains_resource(&self, uri: &str) -> bool {
         without_fragment(uri) == self.base.as_str()
@@ -129,10 +170,16 @@ impl<'a> Resolver for BenchResolver<'a> {
         &self,
         alloc: Global,
         _state: &BenchState,
-        _reference: &str,
+        reference: &str,
         _dynamic: bool,
     ) -> Result<Target<BenchState>, LookupError> {
-        Err(refusal(alloc, "this resolver follows no reference"))
+        looked_up(
+            alloc,
+            &self.base,
+            self.default_draft,
+            self.document,
+            reference,
+        )
     }
 
     fn lookup_recursive_ref(
@@ -140,7 +187,13 @@ impl<'a> Resolver for BenchResolver<'a> {
         alloc: Global,
         _state: &BenchState,
     ) -> Result<Target<BenchState>, LookupError> {
-        Err(refusal(alloc, "this resolver follows no reference"))
+        Ok(Target {
+            place: root_place(alloc),
+            state: BenchState {
+                base: self.base.clone()?,
+            },
+            draft: detected(self.default_draft, self.document),
+        })
     }
 
     fn in_subresource(
@@ -179,12 +232,12 @@ impl<'a> Resolver for BenchResolver<'a> {
 
     fn find_vocabularies(
         &self,
-        alloc: Global,
+        _alloc: Global,
         _state: &BenchState,
         draft: Draft,
         _place: &SchemaPlace,
     ) -> Result<VocabularySet, OutOfMemory> {
-        vocabularies_in(alloc, draft, &self.vocabularies)
+        self.vocabularies.in_draft(draft)
     }
 
     fn detect(&self, draft: Draft, value: &Value) -> Draft {
@@ -193,11 +246,11 @@ impl<'a> Resolver for BenchResolver<'a> {
 
     fn draft_for(&self, alloc: Global, value: &Value) -> Result<Draft, LookupError> {
         match detected(Draft::Draft202012, value) {
-            Draft::Draft202012 => Ok(Draft::Draft202012),
-            _ => Err(refusal(
+            Draft::Unknown => Err(refusal(
                 alloc,
-                "this resolver knows schemas of the draft 2020-12 alone",
+                "this resolver does not know the draft of the schema",
             )),
+            draft => Ok(draft),
         }
     }
 
@@ -227,5 +280,5 @@ impl<'a> Resolver for BenchResolver<'a> {
 
     ghost cloned = { λ s t. Prim.search rules };
 
-    ghost inside = { λ r. values_stand_inside (string_bytes r.base) (view r.document.now) r.vocabularies };
+    ghost inside = { values_stand_inside };
 }

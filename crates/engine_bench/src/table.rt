@@ -1,26 +1,30 @@
 //! The keyword table.
-ghost use Rattle.std.specs.Prelude.{◌≡◌, ◌∷◌, [], IfOk, option_map, string_bytes};
+ghost use Rattle.std.specs.Prelude.{◌≡◌, ◌∷◌, [], IfOk, codes, option_map, string_bytes};
 ghost use Rattle.serde_json.specs.Find.{get_member};
+ghost use Rattle.serde_json.specs.Written.{compact_text, has_float};
 ghost use Rattle.serde_json.specs.View.{members_view, view};
 ghost use Rattle.schema_reports.specs.Instance.{to_member};
 ghost use Rattle.schema_reports.specs.Pointer.{pointer_to};
 ghost use Rattle.schema_reports.specs.Making.{then_end};
+ghost use Rattle.schema_reports.specs.KeywordViews.{draft_of};
 ghost use Rattle.schema_reports.specs.ReportViews.{owned_error_of};
 ghost use Rattle.schema_node.specs.MakerViews as makers;
-ghost use Rattle.engine_bench.specs.Makers.{later_script, list_script, makes_if, malformed_error, malformed_text, member_script, properties_script, value_script};
-ghost use Rattle.engine_bench.specs.MakerViews.{made_of, waiting_of};
-ghost use Rattle.engine_bench.specs.BenchShape.{has_all_of, has_prefix_items};
+ghost use Rattle.engine_bench.specs.Makers.{has_branch, if_script, items_script, later_script, list_script, makes_if, malformed_error, malformed_text, member_script, only_child, properties_script, schema_script, value_script};
+ghost use Rattle.engine_bench.specs.MakerViews.{list_shape, made_of, waiting_of};
+ghost use Rattle.engine_bench.specs.BenchShape.{has_not};
 ghost use Rattle.engine_bench.specs.Shapes.{shape_of};
 
 pub mod keyword_values;
 pub mod maker;
+pub mod schema_values;
 
 use crate::keywords::BenchKeyword;
 use crate::keywords::counts::CountKind;
 use crate::table::keyword_values::{
     count_keyword, items_below, names_of, required_keyword, type_keyword, values_below,
 };
-use crate::table::maker::{BenchMaker, Ending};
+use crate::table::maker::{BenchMaker, Ending, ListKeyword};
+use crate::table::schema_values::{is_older_list, items_before, push_branch, value_in, value_of};
 use schema_node::context::table::{KeywordOrigin, KeywordTable, MakerReply, MakerStep};
 use schema_reports::keywords::{Draft, VocabularySet};
 use schema_reports::location::{Location, LocationSegment, OutOfMemory};
@@ -116,16 +120,21 @@ fn properties_maker(alloc: Global, name: &str, value: &Value) -> Result<BenchMak
     }
 }
 
-/// The maker of `allOf`.
+/// The maker of a keyword with a list of schemas.
 #[tactic(auto, using(crate::proofs::MemberCounts::items_count_length))]
-fn all_of_maker(alloc: Global, name: &str, value: &Value) -> Result<BenchMaker, OutOfMemory>
-    ensures maker { IfOk result (λ m. waiting_of m ≡ makers.begun (list_script has_all_of name.now (view value.now))) }
+fn list_maker(
+    alloc: Global,
+    name: &str,
+    value: &Value,
+    keyword: ListKeyword,
+) -> Result<BenchMaker, OutOfMemory>
+    ensures maker { IfOk result (λ m. waiting_of m ≡ makers.begun (list_script (list_shape keyword) name.now (view value.now))) }
 {
     match value.as_array() {
         Some(items) => Ok(BenchMaker {
             paths: items_below(alloc, name, items.as_slice())?,
             asked: 0,
-            ends: Some(Ending::Keyword(BenchKeyword::AllOf(items.len()))),
+            ends: Some(Ending::Keyword(keyword.with_schemas(items.len()))),
         }),
         None => {
             let error = malformed(alloc, name, value)?;
@@ -134,27 +143,73 @@ fn all_of_maker(alloc: Global, name: &str, value: &Value) -> Result<BenchMaker, 
     }
 }
 
-/// The maker of `prefixItems`.
-#[tactic(auto, using(crate::proofs::MemberCounts::items_count_length))]
-fn prefix_items_maker(alloc: Global, name: &str, value: &Value) -> Result<BenchMaker, OutOfMemory>
-    ensures maker { IfOk result (λ m. waiting_of m ≡ makers.begun (list_script has_prefix_items name.now (view value.now))) }
+/// The maker of `items`. Before 2020-12 a list makes no keyword.
+fn items_maker(
+    alloc: Global,
+    name: &str,
+    value: &Value,
+    object: &Map<String, Value>,
+    draft: Draft,
+) -> Result<BenchMaker, OutOfMemory>
+    ensures maker { IfOk result (λ m. waiting_of m ≡ makers.begun (items_script (draft_of draft) (members_view object.now.entries) name.now (view value.now))) }
 {
-    match value.as_array() {
-        Some(items) => Ok(BenchMaker {
-            paths: items_below(alloc, name, items.as_slice())?,
-            asked: 0,
-            ends: Some(Ending::Keyword(BenchKeyword::PrefixItems(items.len()))),
-        }),
-        None => {
-            let error = malformed(alloc, name, value)?;
-            Ok(ends(alloc, Ending::Refused(error)))
-        }
+    if is_older_list(draft, value) {
+        return Ok(ends(alloc, Ending::Nothing));
     }
+    let before = items_before(draft, object);
+    only_child(alloc, name, BenchKeyword::Items(before))
+}
+
+/// The maker of `not`.
+fn not_maker(alloc: Global, name: &str, value: &Value) -> Result<BenchMaker, OutOfMemory>
+    ensures maker { IfOk result (λ m. waiting_of m ≡ makers.begun (only_child name.now (has_not (compact_text (view value.now)) (has_float (view value.now))))) }
+{
+    let schema = value.clone()?;
+    only_child(alloc, name, BenchKeyword::Not(schema))
+}
+
+/// The maker of `if`, whose children are its own value and the branches that are there.
+fn if_maker(
+    alloc: Global,
+    name: &str,
+    object: &Map<String, Value>,
+) -> Result<BenchMaker, OutOfMemory>
+    ensures maker { IfOk result (λ m. waiting_of m ≡ makers.begun (if_script name.now (has_branch (codes "then") (members_view object.now.entries)) (has_branch (codes "else") (members_view object.now.entries)))) }
+{
+    let mut paths = Vec::new(alloc);
+    paths.push(value_of(alloc, name)?)?;
+    let accepted = push_branch(alloc, object, "then", &mut paths, 1)?;
+    let last = if accepted.is_some() { 2 } else { 1 };
+    let refused = push_branch(alloc, object, "else", &mut paths, last)?;
+    Ok(BenchMaker {
+        paths,
+        asked: 0,
+        ends: Some(Ending::Keyword(BenchKeyword::If(accepted, refused))),
+    })
+}
+
+/// A maker whose keyword has its own value as its only schema.
+fn only_child(alloc: Global, name: &str, keyword: BenchKeyword) -> Result<BenchMaker, OutOfMemory>
+    ensures maker { IfOk result (λ m. waiting_of m ≡ makers.begun (only_child name.now (shape_of keyword))) }
+{
+    let mut paths = Vec::new(alloc);
+    paths.push(value_of(alloc, name)?)?;
+    Ok(BenchMaker {
+        paths,
+        asked: 0,
+        ends: Some(Ending::Keyword(keyword)),
+    })
 }
 
 /// The maker of a keyword with this value.
-fn value_maker(alloc: Global, name: &str, value: &Value) -> Result<BenchMaker, OutOfMemory>
-    ensures maker { IfOk result (λ m. waiting_of m ≡ makers.begun (value_script name.now (view value.now))) }
+fn value_maker(
+    alloc: Global,
+    name: &str,
+    value: &Value,
+    object: &Map<String, Value>,
+    draft: Draft,
+) -> Result<BenchMaker, OutOfMemory>
+    ensures maker { IfOk result (λ m. waiting_of m ≡ makers.begun (value_script (draft_of draft) (members_view object.now.entries) name.now (view value.now))) }
 {
     if name == "type" {
         let keyword = type_keyword(alloc, value)?;
@@ -167,12 +222,18 @@ fn value_maker(alloc: Global, name: &str, value: &Value) -> Result<BenchMaker, O
     if name == "properties" {
         return properties_maker(alloc, name, value);
     }
-    later_maker(alloc, name, value)
+    later_maker(alloc, name, value, object, draft)
 }
 
 /// The maker of one of the other keywords with this value.
-fn later_maker(alloc: Global, name: &str, value: &Value) -> Result<BenchMaker, OutOfMemory>
-    ensures maker { IfOk result (λ m. waiting_of m ≡ makers.begun (later_script name.now (view value.now))) }
+fn later_maker(
+    alloc: Global,
+    name: &str,
+    value: &Value,
+    object: &Map<String, Value>,
+    draft: Draft,
+) -> Result<BenchMaker, OutOfMemory>
+    ensures maker { IfOk result (λ m. waiting_of m ≡ makers.begun (later_script (draft_of draft) (members_view object.now.entries) name.now (view value.now))) }
 {
     if name == "minLength" {
         return makes_if(
@@ -198,20 +259,44 @@ fn later_maker(alloc: Global, name: &str, value: &Value) -> Result<BenchMaker, O
             count_keyword(CountKind::MinProperties, value),
         );
     }
-    if name == "allOf" {
-        return all_of_maker(alloc, name, value);
-    }
-    if name == "prefixItems" {
-        return prefix_items_maker(alloc, name, value);
-    }
-    Ok(ends(alloc, Ending::Nothing))
+    schema_maker(alloc, name, value, object, draft)
 }
 
-/// The value of this name in an object.
-fn value_in<'o>(object: &'o Map<String, Value>, name: &str) -> Option<&'o Value>
-    ensures value { option_map (λ v. view v.now) result ≡ get_member name.now (members_view object.now.entries) }
+/// The maker of a keyword whose value is a schema or a list of schemas.
+fn schema_maker(
+    alloc: Global,
+    name: &str,
+    value: &Value,
+    object: &Map<String, Value>,
+    draft: Draft,
+) -> Result<BenchMaker, OutOfMemory>
+    ensures maker { IfOk result (λ m. waiting_of m ≡ makers.begun (schema_script (draft_of draft) (members_view object.now.entries) name.now (view value.now))) }
 {
-    object.get(name)
+    if name == "allOf" {
+        return list_maker(alloc, name, value, ListKeyword::AllOf);
+    }
+    if name == "anyOf" {
+        return list_maker(alloc, name, value, ListKeyword::AnyOf);
+    }
+    if name == "oneOf" {
+        return list_maker(alloc, name, value, ListKeyword::OneOf);
+    }
+    if name == "prefixItems" {
+        return list_maker(alloc, name, value, ListKeyword::PrefixItems);
+    }
+    if name == "items" {
+        return items_maker(alloc, name, value, object, draft);
+    }
+    if name == "not" {
+        return not_maker(alloc, name, value);
+    }
+    if name == "propertyNames" {
+        return only_child(alloc, name, BenchKeyword::PropertyNames);
+    }
+    if name == "if" {
+        return if_maker(alloc, name, object);
+    }
+    Ok(ends(alloc, Ending::Nothing))
 }
 
 /// The maker of a member of an object, if there is one.
@@ -219,11 +304,12 @@ fn member_maker(
     alloc: Global,
     name: &str,
     object: &Map<String, Value>,
+    draft: Draft,
 ) -> Result<BenchMaker, OutOfMemory>
-    ensures maker { IfOk result (λ m. waiting_of m ≡ makers.begun (member_script name.now (get_member name.now (members_view object.now.entries)))) }
+    ensures maker { IfOk result (λ m. waiting_of m ≡ makers.begun (member_script (draft_of draft) (members_view object.now.entries) name.now (get_member name.now (members_view object.now.entries)))) }
 {
     match value_in(object, name) {
-        Some(value) => value_maker(alloc, name, value),
+        Some(value) => value_maker(alloc, name, value, object, draft),
         None => Ok(ends(alloc, Ending::Nothing)),
     }
 }
@@ -250,13 +336,13 @@ impl KeywordTable<BenchKeyword> for BenchTable {
         alloc: Global,
         origin: KeywordOrigin<'_>,
         object: &Map<String, Value>,
-        _draft: Draft,
+        draft: Draft,
         _vocabularies: &VocabularySet,
         _formats: bool,
     ) -> Result<BenchMaker, OutOfMemory> {
         match origin {
             KeywordOrigin::Own(_) => Ok(ends(alloc, Ending::Nothing)),
-            KeywordOrigin::Builtin(name) => member_maker(alloc, name, object),
+            KeywordOrigin::Builtin(name) => member_maker(alloc, name, object, draft),
         }
     }
 

@@ -1,17 +1,15 @@
 //! Texts of errors, made and run through the traits' bounds, and each public call once.
 use crate::keywords::BenchKeyword;
 use crate::matcher::BenchMatcher;
-use crate::resolver::BenchResolver;
 use crate::table::BenchTable;
 use schema_node::context::keyword::{Answer, Fault, Mode, Reply, Step, Validate};
 use schema_node::context::matcher::Matcher;
-use schema_node::context::resolver::{LookupError, Resolver};
 use schema_node::context::table::{KeywordOrigin, KeywordTable, MakerReply, MakerStep};
 use schema_reports::instance::Instance;
-use schema_reports::keywords::{Draft, Vocabulary, VocabularySet};
+use schema_reports::keywords::{Draft, VocabularySet};
 use schema_reports::location::OutOfMemory;
 use schema_reports::unfinished_matches::{Match, Reason};
-use serde_json::{Value, json};
+use serde_json::Value;
 use std::alloc::Global;
 
 /// The keyword that a table makes of a member, if it makes one; with how many children, or with a refusal's text.
@@ -19,6 +17,7 @@ fn make<K: Validate, T: KeywordTable<K>>(
     alloc: Global,
     table: &T,
     schema: &Value,
+    draft: Draft,
     name: &str,
     log: &mut String,
 ) -> Result<Option<K>, OutOfMemory> {
@@ -27,14 +26,7 @@ fn make<K: Validate, T: KeywordTable<K>>(
     };
     let vocabularies = VocabularySet::new(alloc);
     let origin = KeywordOrigin::Builtin(name);
-    let mut maker = table.begin(
-        alloc,
-        origin,
-        object,
-        Draft::Draft202012,
-        &vocabularies,
-        false,
-    )?;
+    let mut maker = table.begin(alloc, origin, object, draft, &vocabularies, false)?;
     let mut reply = MakerReply::Begun;
     for child in 0..8usize {
         match table.turn(alloc, &mut maker, reply)? {
@@ -54,7 +46,7 @@ fn make<K: Validate, T: KeywordTable<K>>(
     Ok(None)
 }
 
-/// Whether a turn asks a question.
+/// The mode in which a turn asks a question, where it asks one.
 fn asks<'i, K: Validate>(
     alloc: Global,
     keyword: &K,
@@ -62,35 +54,44 @@ fn asks<'i, K: Validate>(
     instance: Instance<'i>,
     reply: Reply<'i>,
     answer: &mut Answer<'i>,
-) -> Result<bool, OutOfMemory> {
-    let step = keyword.turn(alloc, run, instance, reply, answer)?;
-    Ok(matches!(step, Step::Ask(_, _, _)))
+) -> Result<Option<Mode>, OutOfMemory> {
+    match keyword.turn(alloc, run, instance, reply, answer)? {
+        Step::Ask(_, _, mode) => Ok(Some(mode)),
+        _ => Ok(None),
+    }
 }
 
-/// The texts of a keyword's own errors in all mode, each with `;` after it, and `?` for each question, which is answered
-/// by no error.
+/// The answer to a question: this verdict, or no error.
+fn reply_to<'i>(alloc: Global, mode: Mode, verdict: bool) -> Reply<'i> {
+    match mode {
+        Mode::Verdict => Reply::Truth(verdict),
+        Mode::First => Reply::First(None),
+        Mode::All => Reply::All(Vec::new(alloc)),
+        Mode::Evaluate => Reply::Nothing,
+    }
+}
+
+/// The texts of a keyword's own errors in all mode, each with `;` after it, and before them `?` for each question, which
+/// is answered by no error, or `!` for one that asks a verdict, which is answered by these in turn.
 fn told<K: Validate>(
     alloc: Global,
     keyword: &K,
     value: &Value,
+    verdicts: &[bool],
     log: &mut String,
 ) -> Result<(), OutOfMemory> {
     let instance = Instance::Value(value);
     let mut answer = Answer::All(Vec::new(alloc));
     let mut run = keyword.begin(alloc, instance, Mode::All)?;
-    let mut more = asks(
-        alloc,
-        keyword,
-        &mut run,
-        instance,
-        Reply::Nothing,
-        &mut answer,
-    )?;
-    for _ in 0..8 {
-        if more {
-            log.push_str("?")?;
-            let reply = Reply::All(Vec::new(alloc));
-            more = asks(alloc, keyword, &mut run, instance, reply, &mut answer)?;
+    let mut reply = Reply::Nothing;
+    for question in 0..8usize {
+        match asks(alloc, keyword, &mut run, instance, reply, &mut answer)? {
+            None => return push_texts(answer, log),
+            Some(mode) => {
+                log.push_str(if let Mode::Verdict = mode { "!" } else { "?" })?;
+                let verdict = question < verdicts.len() && verdicts[question];
+                reply = reply_to(alloc, mode, verdict);
+            }
         }
     }
     push_texts(answer, log)
@@ -109,13 +110,94 @@ fn push_texts(answer: Answer<'_>, log: &mut String) -> Result<(), OutOfMemory> {
     Ok(())
 }
 
+/// What an evaluation by a keyword gives for its unit: each error, as its keyword, `: ` and its text, where each question
+/// is answered by yes; after `valid ` or `invalid `.
+fn evaluated<K: Validate>(
+    alloc: Global,
+    keyword: &K,
+    value: &Value,
+    log: &mut String,
+) -> Result<(), OutOfMemory> {
+    let instance = Instance::Value(value);
+    let mut answer = Answer::Evaluation(true, Vec::new(alloc));
+    let mut run = keyword.begin(alloc, instance, Mode::Evaluate)?;
+    let mut reply = Reply::Nothing;
+    for _ in 0..8 {
+        match asks(alloc, keyword, &mut run, instance, reply, &mut answer)? {
+            None => return push_descriptions(answer, log),
+            Some(mode) => reply = reply_to(alloc, mode, true),
+        }
+    }
+    push_descriptions(answer, log)
+}
+
+/// Adds the verdict and the errors of an evaluation.
+fn push_descriptions(answer: Answer<'_>, log: &mut String) -> Result<(), OutOfMemory> {
+    if let Answer::Evaluation(valid, errors) = answer {
+        log.push_str(if valid { "valid " } else { "invalid " })?;
+        for error in errors {
+            log.push_str(error.keyword.as_str())?;
+            log.push_str(": ")?;
+            log.push_str(error.text.as_str())?;
+        }
+    }
+    Ok(())
+}
+
+/// Whether the evaluation by a keyword of a schema, both as JSON texts, gives this for its unit.
+fn evaluates(
+    alloc: Global,
+    schema: &str,
+    name: &str,
+    value: &str,
+    want: &str,
+) -> Result<bool, serde_json::Error> {
+    let schema = Value::from_str(alloc, schema)?;
+    let value = Value::from_str(alloc, value)?;
+    let table = BenchTable {};
+    let mut requests = String::new(alloc);
+    let keyword: Option<BenchKeyword> = make(
+        alloc,
+        &table,
+        &schema,
+        Draft::Draft202012,
+        name,
+        &mut requests,
+    )?;
+    let mut log = String::new(alloc);
+    if let Some(keyword) = keyword {
+        evaluated(alloc, &keyword, &value, &mut log)?;
+    }
+    Ok(log.as_str() == want)
+}
+
+#[test]
+fn units(rt: HostRuntime) -> Result<(), serde_json::Error> {
+    let alloc = rt.alloc();
+    let one = r#"{"type": "string"}"#;
+    let refused = r#"invalid type: 1 is not of type "string""#;
+    assert!(rt; evaluates(alloc, one, "type", "1", refused)?);
+    assert!(rt; evaluates(alloc, one, "type", r#""AB""#, "valid ")?);
+    let not = r#"{"not": {"type": "integer"}}"#;
+    let text = r#"invalid not: {"type":"integer"} is not allowed for 1"#;
+    assert!(rt; evaluates(alloc, not, "not", "1", text)?);
+    Ok(())
+}
+
 /// What a schema's keyword asks for, and what it tells of a value.
-fn log_of(alloc: Global, schema: &Value, name: &str, value: &Value) -> Result<String, OutOfMemory> {
+fn log_of(
+    alloc: Global,
+    schema: &Value,
+    draft: Draft,
+    name: &str,
+    value: &Value,
+    verdicts: &[bool],
+) -> Result<String, OutOfMemory> {
     let mut log = String::new(alloc);
     let table = BenchTable {};
-    let keyword: Option<BenchKeyword> = make(alloc, &table, schema, name, &mut log)?;
+    let keyword: Option<BenchKeyword> = make(alloc, &table, schema, draft, name, &mut log)?;
     if let Some(keyword) = keyword {
-        told(alloc, &keyword, value, &mut log)?;
+        told(alloc, &keyword, value, verdicts, &mut log)?;
     }
     Ok(log)
 }
@@ -128,9 +210,35 @@ fn logs(
     value: &str,
     want: &str,
 ) -> Result<bool, serde_json::Error> {
+    logs_in(alloc, Draft::Draft202012, schema, name, value, want)
+}
+
+/// The same in a draft.
+fn logs_in(
+    alloc: Global,
+    draft: Draft,
+    schema: &str,
+    name: &str,
+    value: &str,
+    want: &str,
+) -> Result<bool, serde_json::Error> {
     let schema = Value::from_str(alloc, schema)?;
     let value = Value::from_str(alloc, value)?;
-    let log = log_of(alloc, &schema, name, &value)?;
+    let log = log_of(alloc, &schema, draft, name, &value, &[])?;
+    Ok(log.as_str() == want)
+}
+
+/// The same, where the verdicts that it asks for are these.
+fn judges(
+    alloc: Global,
+    schema: &str,
+    name: &str,
+    verdicts: &[bool],
+    want: &str,
+) -> Result<bool, serde_json::Error> {
+    let schema = Value::from_str(alloc, schema)?;
+    let value = Value::from_str(alloc, "1")?;
+    let log = log_of(alloc, &schema, Draft::Draft202012, name, &value, verdicts)?;
     Ok(log.as_str() == want)
 }
 
@@ -251,6 +359,93 @@ fn children(rt: HostRuntime) -> Result<(), serde_json::Error> {
     Ok(())
 }
 
+#[test]
+fn items(rt: HostRuntime) -> Result<(), serde_json::Error> {
+    let alloc = rt.alloc();
+    let schema = r#"{"prefixItems": [{}, {}, {}], "items": false}"#;
+    let list = r#"{"items": [true]}"#;
+    let five = "[1,2,3,4,5]";
+    assert!(rt; logs(alloc, schema, "items", five, "/items ??")?);
+    assert!(rt; logs_in(alloc, Draft::Unknown, schema, "items", five, "/items ??")?);
+    assert!(rt;
+        logs_in(
+            alloc,
+            Draft::Draft201909,
+            schema,
+            "items",
+            five,
+            "/items ?????"
+        )?
+    );
+    assert!(rt; logs(alloc, schema, "items", "5", "/items ")?);
+    assert!(rt; logs(alloc, list, "items", five, "/items ?????")?);
+    assert!(rt; logs_in(alloc, Draft::Draft7, list, "items", five, "")?);
+    Ok(())
+}
+
+#[test]
+fn not(rt: HostRuntime) -> Result<(), serde_json::Error> {
+    let alloc = rt.alloc();
+    let schema = r#"{"not": {"type": "integer"}}"#;
+    let refused = r#"/not !{"type":"integer"} is not allowed for 1;"#;
+    assert!(rt; judges(alloc, schema, "not", &[true], refused)?);
+    assert!(rt; judges(alloc, schema, "not", &[false], "/not !")?);
+    Ok(())
+}
+
+#[test]
+fn any_of(rt: HostRuntime) -> Result<(), serde_json::Error> {
+    let alloc = rt.alloc();
+    let schema = r#"{"anyOf": [{}, {}, {}]}"#;
+    let none =
+        "/anyOf/0 /anyOf/1 /anyOf/2 !!!1 is not valid under any of the schemas listed in the 'anyOf' keyword;";
+    assert!(rt; judges(alloc, schema, "anyOf", &[false, false, false], none)?);
+    let second = "/anyOf/0 /anyOf/1 /anyOf/2 !!";
+    assert!(rt; judges(alloc, schema, "anyOf", &[false, true, true], second)?);
+    let malformed = r#""anyOf" has a value of another shape"#;
+    assert!(rt; judges(alloc, r#"{"anyOf": {}}"#, "anyOf", &[], malformed)?);
+    Ok(())
+}
+
+#[test]
+fn one_of(rt: HostRuntime) -> Result<(), serde_json::Error> {
+    let alloc = rt.alloc();
+    let schema = r#"{"oneOf": [{}, {}, {}]}"#;
+    let none =
+        "/oneOf/0 /oneOf/1 /oneOf/2 !!!1 is not valid under any of the schemas listed in the 'oneOf' keyword;";
+    assert!(rt; judges(alloc, schema, "oneOf", &[false, false, false], none)?);
+    let many =
+        "/oneOf/0 /oneOf/1 /oneOf/2 !!1 is valid under more than one of the schemas listed in the 'oneOf' keyword;";
+    assert!(rt; judges(alloc, schema, "oneOf", &[true, true, false], many)?);
+    let one = "/oneOf/0 /oneOf/1 /oneOf/2 !!!";
+    assert!(rt; judges(alloc, schema, "oneOf", &[false, true, false], one)?);
+    let malformed = r#""oneOf" has a value of another shape"#;
+    assert!(rt; judges(alloc, r#"{"oneOf": 1}"#, "oneOf", &[], malformed)?);
+    Ok(())
+}
+
+#[test]
+fn conditions(rt: HostRuntime) -> Result<(), serde_json::Error> {
+    let alloc = rt.alloc();
+    let both = r#"{"else": {}, "if": {}, "then": {}}"#;
+    let last = r#"{"else": {}, "if": {}}"#;
+    assert!(rt; judges(alloc, both, "if", &[true], "/if /then /else !?")?);
+    assert!(rt; judges(alloc, both, "if", &[false], "/if /then /else !?")?);
+    assert!(rt; judges(alloc, last, "if", &[true], "/if /else !")?);
+    assert!(rt; judges(alloc, last, "if", &[false], "/if /else !?")?);
+    Ok(())
+}
+
+#[test]
+fn property_names(rt: HostRuntime) -> Result<(), serde_json::Error> {
+    let alloc = rt.alloc();
+    let schema = r#"{"propertyNames": {}}"#;
+    let two = r#"{"a": 3, "b": 4}"#;
+    assert!(rt; logs(alloc, schema, "propertyNames", two, "/propertyNames ??")?);
+    assert!(rt; logs(alloc, schema, "propertyNames", "[1]", "/propertyNames ")?);
+    Ok(())
+}
+
 /// What a matcher says: `yes`, `no`, or the text of a limit.
 fn said<M: Matcher>(
     alloc: Global,
@@ -287,68 +482,5 @@ fn matches(rt: HostRuntime) -> Result<(), OutOfMemory> {
     assert_eq!(rt; said(alloc, &matcher, "", "")?.as_str(), "yes");
     assert_eq!(rt; said(alloc, &matcher, "cb", "abcd")?.as_str(), "no");
     assert!(rt; matcher.is_valid_ecma_regex(alloc, "(")?);
-    Ok(())
-}
-
-/// How many subschemas a resolver finds in the document under this URI.
-fn subschemas_under<R: Resolver>(
-    alloc: Global,
-    resolver: &R,
-    uri: &str,
-) -> Result<Option<usize>, OutOfMemory> {
-    match resolver.root(alloc, uri)? {
-        Some((_, place)) => {
-            let places = resolver.subresources_of(alloc, Draft::Draft202012, &place)?;
-            Ok(Some(places.len()))
-        }
-        None => Ok(None),
-    }
-}
-
-/// Whether a resolver knows the vocabulary of contents in a draft.
-fn knows_content<R: Resolver>(
-    alloc: Global,
-    resolver: &R,
-    draft: Draft,
-) -> Result<bool, OutOfMemory> {
-    match resolver.root(alloc, "http://x/r")? {
-        Some((state, place)) => {
-            let vocabularies = resolver.find_vocabularies(alloc, &state, draft, &place)?;
-            Ok(vocabularies.contains(&Vocabulary::Content))
-        }
-        None => Ok(false),
-    }
-}
-
-#[test]
-fn resolves(rt: HostRuntime) -> Result<(), OutOfMemory> {
-    let alloc = rt.alloc();
-    let document =
-        json!(in alloc; {"$id": "http://x/r", "$defs": {"a": true, "b": 5}, "not": {}, "allOf": [{}, 1]})?;
-    let vocabularies = VocabularySet::new(alloc).with(Vocabulary::Content)?;
-    let resolver = BenchResolver::new(alloc, &document, vocabularies)?;
-    assert_eq!(rt;
-        subschemas_under(alloc, &resolver, "http://x/r#/a")?,
-        Some(3)
-    );
-    assert_eq!(rt; subschemas_under(alloc, &resolver, "http://x/s")?, None);
-    assert!(rt; knows_content(alloc, &resolver, Draft::Draft202012)?);
-    assert!(rt; !knows_content(alloc, &resolver, Draft::Draft7)?);
-    assert!(rt; resolver.is_known_keyword(Draft::Draft7, "then"));
-    assert!(rt; !resolver.is_known_keyword(Draft::Draft7, "x-then"));
-    let older =
-        json!(in alloc; {"$schema": "http://json-schema.org/draft-07/schema#", "id": "a", "$id": "#b"})?;
-    assert!(rt; matches!(resolver.detect(Draft::Draft202012, &older), Draft::Draft7));
-    assert!(rt; resolver.id(Draft::Draft7, &older).is_none());
-    assert_eq!(rt; resolver.id(Draft::Draft4, &older), Some("a"));
-    assert!(rt;
-        matches!(
-            resolver.draft_for(alloc, &older),
-            Err(LookupError::Refused(_))
-        )
-    );
-    let plain = json!(in alloc; true)?;
-    let other = BenchResolver::new(alloc, &plain, VocabularySet::new(alloc))?;
-    assert!(rt; other.contains_resource("json-schema:///#"));
     Ok(())
 }

@@ -1,7 +1,7 @@
 -- A table whose every number has its form is the compilation of its root.
 use Rattle.std.proofs.Common.{◌≡◌, ℕ, zero, suc, ◌<◌, Bool, true, false, cond, List, [], ◌∷◌, ◌++◌, length, map, refl, ap, sym, ◌∙◌, subst, arith, inl, inr}
 use Rattle.std.specs.List.{starts_with}
-use Rattle.std.specs.Prelude.{AllPairs, Option, Some, None, slice_get, slice_index_or, option_map, unwrap_or, flat_map, codes, drop, ◌==◌}
+use Rattle.std.specs.Prelude.{AllPairs, Option, Some, None, slice_get, slice_index_or, option_map, option_and_then, unwrap_or, flat_map, codes, drop, ◌==◌}
 use Rattle.std.proofs.lemmas.Bool.{eqb-true}
 use Rattle.std.proofs.lemmas.Slice.Eq.{bytes_eq-Decides}
 use Rattle.std.proofs.lemmas.Option.{slice_get-map, slice_get_within}
@@ -13,17 +13,17 @@ use Rattle.schema_reports.specs.Making.{Request, Table}
 use Rattle.schema_reports.specs.Keywords.{Keywords}
 use Rattle.schema_reports.specs.Parts.{Parts}
 use Rattle.schema_reports.specs.Plan.{Edge, Form, Key, Part, Plan, absolute_of, always, child, encoded, keyword, never, plan, reference, requested, same_key, these, without_fragment}
-use Rattle.schema_reports.specs.Units.{annotations_of}
+use Rattle.serde_json.specs.View.{view}
 use Rattle.schema_reports.specs.Reach.{Reached, asked_by, asked_edges, asked_for, at_first, different}
 use Rattle.schema_reports.specs.Refusals.{Cause, Compiles, Stands, is_required, referred_by, stands_at, the_root, undeclared}
 use Rattle.schema_reports.specs.Guarded.{Children, NodeEdge, NodeForm, NodePart, NodePlan, Nodes, node_always, node_child, node_keyword, node_never, node_reference, node_these}
 use Rattle.schema_reports.specs.Numbered.{IsNumber, Ranked, SameEdge, SameForm, SameParts, SamePlan, StandsFor}
-use Rattle.schema_node.specs.NodeTable.{IsRanked, NodeEntry, absolute_in, shaped, shaped_form, plan_in}
+use Rattle.schema_node.specs.NodeTable.{IsRanked, NodeEntry, absolute_in, numbered, shaped, shaped_form, plan_in}
 use Rattle.schema_node.proofs.RankedTable.{ranked_table}
 use Rattle.schema_compiler.specs.Compiling.{Each, In, Settled, StandsBelow, parts_of}
 use Rattle.schema_compiler.specs.Refusing.{AreDistinct, IsRefusal, Names}
 use Rattle.schema_compiler.specs.Filling.{AreChildren, AreParts, IsForm, IsGrown, IsNode, IsPlan, IsPlanned, IsTable, LeadsTo, shown_base}
-use Rattle.schema_compiler.specs.Compilation.{IsCompilation, RefusesRoot, all_parts, numbered_nodes}
+use Rattle.schema_compiler.specs.Compilation.{IsCompilation, RefusesRoot, all_parts}
 use Rattle.schema_compiler.specs.declared.compiler.error.BuildError.{BuildError}
 use Rattle.schema_compiler.specs.declared.compiler.error.BuildError.TheVariants.{KeywordRefused, Lookup, MetaSchema, MissingRoot, NodeLimit, NotASchema, OutOfMemory, ReferenceNotText, UnsupportedVocabulary}
 use Rattle.schema_compiler.proofs.Lists.{all_of, contains_of, each_in, each_map, in_of, there}
@@ -109,7 +109,7 @@ module _ {S K R : Type 0} (resolver : Resolver S) (table : Table K) (formats : O
     numbers = map Some keys
 
     abbrev table_of : Nodes K
-    table_of = numbered_nodes whole shape keys nodes
+    table_of = numbered shape nodes
 
     number_of : (i : ℕ) (k : Key S) → slice_get keys i ≡ Some k → IsNumber numbers i k
     number_of i k h = slice_get-map Some keys i ∙ ap (option_map Some) h
@@ -184,7 +184,7 @@ module _ {S K R : Type 0} (resolver : Resolver S) (table : Table K) (formats : O
                 (subst (λ (o : Option (NodePlan C)). SamePlan whole numbers table_of k (shaped shape (unwrap_or o node_always)) (plan whole k)) (sym n.3) (same_plan k n.1 (plan w k) (n.4.planned n.1 n.3).plans));
             location = ap (λ (o : Option (NodeEntry C)). unwrap_or (option_map (λ (m : NodeEntry C). m.location) o) []) n.2 ∙ n.4.location;
             absolute = λ l. ap (λ (o : Option (NodeEntry C)). unwrap_or (option_map (λ (m : NodeEntry C). absolute_in m l) o) None) n.2 ∙ shown k n.0 l n.4.base n.4.start;
-            annotations = ap (λ (o : Option (Key S)). unwrap_or (option_map (annotations_of whole) o) None) at;
+            annotations = ap (λ (o : Option (NodeEntry C)). option_and_then (λ (m : NodeEntry C). option_map view m.annotations) o) n.2 ∙ n.4.annotated n.1 n.3;
           }
 
       settled_key : (es : List (Edge S)) (l : Key S) → Each (Settled w keys) es → In (map (λ (d : Edge S). d.key) es) l → (i : ℕ) × (slice_get keys i ≡ Some l)

@@ -222,7 +222,7 @@ module _ {S K R C : Type 0} (w : Parts S K R) (shape : C → K) (keys keys' : Li
   planned_stays k p h = record { plans = plan_stays k p (plan w k) h.plans; settled = settled_stay (asked_edges w k) h.settled; clean = h.clean }
 
   pub node_stays : (k : Key S) (n : NodeEntry C) → IsNode w shape keys nodes k n → IsNode w shape keys' nodes' k n
-  node_stays k n h = record { location = h.location; base = h.base; start = h.start; planned = λ p e. planned_stays k p (h.planned p e) }
+  node_stays k n h = record { location = h.location; base = h.base; start = h.start; planned = λ p e. planned_stays k p (h.planned p e); annotated = h.annotated }
 
 -- ---- steps, one after another
 

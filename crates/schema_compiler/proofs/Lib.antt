@@ -13,3 +13,4 @@ pub mod Forms
 pub mod MembersAsk
 pub mod Compiled
 pub mod CustomVocabularies
+mod Unknown

@@ -1,8 +1,11 @@
 -- The table where a number is reserved, and where it gets its form.
 use Rattle.std.proofs.Common.{◌≡◌, ◌≢◌, ℕ, suc, ◌<◌, inl, inr, List, [], ◌∷◌, ◌++◌, length, refl, ap, sym, ◌∙◌, subst, arith, append_assoc}
-use Rattle.std.specs.Prelude.{Some, None, slice_get}
+use Rattle.std.specs.Prelude.{Option, Some, None, option_map, slice_get}
 use Rattle.std.proofs.lemmas.Option.{slice_get_within}
+use Rattle.serde_json.specs.View.{view}
+use Rattle.serde_json.specs.declared.value.Value.{Value}
 use Rattle.schema_reports.specs.Parts.{Parts}
+use Rattle.schema_reports.specs.Units.{annotations_of}
 use Rattle.schema_reports.specs.Plan.{Key, Part, Plan, always, never, plan, these}
 use Rattle.schema_reports.specs.Guarded.{NodePart, NodePlan, form_edges, node_always, node_edges, node_never, node_these}
 use Rattle.schema_node.specs.NodeTable.{AreFilled, Fills, IsFilled, IsReserved, LeadsToFilled, NodeEntry, filled}
@@ -36,7 +39,7 @@ module _ {S K R C : Type 0} (w : Parts S K R) (shape : C → K) (limit : ℕ) wh
       → ((i : ℕ) → slice_get keys i ≢ Some k) → length keys < limit → keys' ≡ keys ++ k ∷ [] → nodes' ≡ nodes ++ n ∷ []
       → n.plan ≡ None → n.location ≡ k.location → n.base ≡ shown_base w k → n.start ≡ k.start → IsTable w shape limit keys' nodes'
   reserved_table keys keys' nodes nodes' k n t absent room e f none location base start =
-      let own : IsNode w shape (keys ++ k ∷ []) (nodes ++ n ∷ []) k n = record { location = location; base = base; start = start; planned = λ p at. absurd (let g : ⊥ = cc in g) } in
+      let own : IsNode w shape (keys ++ k ∷ []) (nodes ++ n ∷ []) k n = record { location = location; base = base; start = start; planned = λ p at. absurd (let g : ⊥ = cc in g); annotated = λ p at. absurd (let g : ⊥ = cc in g) } in
       rw (e, f) (record {
         lengths = length-more nodes n ∙ ap suc t.lengths ∙ sym (length-more keys k);
         within = let l = length-more keys k in omega arith;
@@ -55,10 +58,10 @@ module _ {S K R C : Type 0} (w : Parts S K R) (shape : C → K) (limit : ℕ) wh
 
   -- ---- a number gets its form
 
-  module _ (keys : List (Key S)) (nodes nodes' : List (NodeEntry C)) (i : ℕ) (k : Key S) (p : NodePlan C) (t : IsTable w shape limit keys nodes)
-      (at : slice_get keys i ≡ Some k) (reserved : IsReserved nodes i) (fills : Fills nodes i None p nodes') where
+  module _ (keys : List (Key S)) (nodes nodes' : List (NodeEntry C)) (i : ℕ) (k : Key S) (annotations : Option Value) (p : NodePlan C) (t : IsTable w shape limit keys nodes)
+      (at : slice_get keys i ≡ Some k) (reserved : IsReserved nodes i) (fills : Fills nodes i annotations p nodes') where
     abbrev now : NodeEntry C
-    now = filled fills.0 fills.1 None p
+    now = filled fills.0 fills.1 annotations p
 
     none : fills.0.plan ≡ None
     none = ap (λ (x : NodeEntry C). x.plan) (some_is fills.0 reserved.0 (sym fills.2 ∙ reserved.1)) ∙ reserved.2
@@ -88,8 +91,8 @@ module _ {S K R C : Type 0} (w : Parts S K R) (shape : C → K) (limit : ℕ) wh
       ];
     }
 
-    pub finished_table : IsPlanned w shape keys nodes k p → IsTable w shape limit keys nodes'
-    finished_table planned = record {
+    pub finished_table : IsPlanned w shape keys nodes k p → option_map view annotations ≡ annotations_of w k → IsTable w shape limit keys nodes'
+    finished_table planned annotated = record {
       lengths = same_length ∙ t.lengths;
       within = t.within;
       distinct = t.distinct;
@@ -98,7 +101,7 @@ module _ {S K R C : Type 0} (w : Parts S K R) (shape : C → K) (limit : ℕ) wh
             let q-is : k ≡ q = some_is k q (sym at ∙ sym (ap (slice_get keys) e) ∙ at') in
             let m-is : now ≡ m = some_is now m (sym now_at ∙ sym (ap (slice_get nodes') e) ∙ here) in
             let old = t.stands i k fills.0 at fills.2 in
-            let own : IsNode w shape keys nodes k now = record { location = old.location; base = old.base; start = old.start; planned = λ p' e'. subst (λ x. IsPlanned w shape keys nodes k x) (some_is p p' e') planned } in
+            let own : IsNode w shape keys nodes k now = record { location = old.location; base = old.base; start = old.start; planned = λ p' e'. subst (λ x. IsPlanned w shape keys nodes k x) (some_is p p' e') planned; annotated = λ p' e'. annotated } in
             subst (λ x. IsNode w shape keys nodes x m) q-is (subst (λ x. IsNode w shape keys nodes k x) m-is own)
         | inr ne ↦ t.stands j q m at' (sym (others j ne) ∙ here)
       ]);

@@ -1,6 +1,6 @@
 -- What a compilation gives: a number for each key that the root reaches, whose node is the key's plan; and what its
 -- refusal says.
-use Rattle.std.specs.Prelude.{All, Bool, List, None, Option, Some, length, map, option_map, slice_get, string_bytes, unwrap_or, ℕ, ◌≡◌, ◌≤◌}
+use Rattle.std.specs.Prelude.{All, Bool, List, None, Option, Some, length, map, slice_get, string_bytes, ℕ, ◌≡◌, ◌≤◌}
 use Rattle.schema_reports.specs.Instance.{Text}
 use Rattle.schema_reports.specs.Drafts.{Draft}
 use Rattle.schema_reports.specs.Resolving.{Resolver}
@@ -9,11 +9,10 @@ use Rattle.schema_reports.specs.Making.{Table}
 use Rattle.schema_reports.specs.Keywords.{Keywords}
 use Rattle.schema_reports.specs.Parts.{Parts}
 use Rattle.schema_reports.specs.Plan.{Key}
-use Rattle.schema_reports.specs.Units.{annotations_of}
 use Rattle.schema_reports.specs.Reach.{Reached, ReachesMoreThan}
 use Rattle.schema_reports.specs.Refusals.{Compiles, Stands, keyword_refused, lookup_refuses, not_a_schema, reference_not_text, unsupported_vocabulary}
 use Rattle.schema_reports.specs.ReportViews.{owned_error_of}
-use Rattle.schema_reports.specs.Guarded.{NodePlan, Nodes}
+use Rattle.schema_reports.specs.Guarded.{NodePlan}
 use Rattle.schema_reports.specs.Numbered.{AreNumbered, Ranked}
 use Rattle.schema_node.specs.NodeTable.{NodeEntry, numbered}
 use Rattle.schema_compiler.specs.declared.compiler.error.BuildError.{BuildError}
@@ -33,17 +32,13 @@ all_parts resolver table formats declared matcher keywords draft base = record {
 }
 
 module _ {S K R : Type 0} (w : Parts S K R) where
-  -- the nodes by number; the table holds no annotations, which are those of the keys
-  abbrev pub numbered_nodes : {C : Type 0} → (C → K) → List (Key S) → List (NodeEntry C) → Nodes K
-  numbered_nodes shape keys nodes = record (numbered shape nodes) { annotations = λ i. unwrap_or (option_map (annotations_of w) (slice_get keys i)) None }
-
   pub record IsCompilation {C : Type 0} (shape : C → K) (limit : ℕ) (root : Key S) (keys : List (Key S)) (nodes : List (NodeEntry C)) : Type 0 where
     -- the root has the first number
     pub first : slice_get keys 0 ≡ Some root
     -- keys and numbers correspond one to one, and each number's node is the plan of its key
-    pub numbers : AreNumbered w (map Some keys) (numbered_nodes shape keys nodes)
+    pub numbers : AreNumbered w (map Some keys) (numbered shape nodes)
     -- an edge that nothing guards leads to a node of lower rank
-    pub ranked : Ranked (numbered_nodes shape keys nodes) (length keys)
+    pub ranked : Ranked (numbered shape nodes) (length keys)
     -- no number is only reserved
     pub filled : (i : ℕ) (n : NodeEntry C) → slice_get nodes i ≡ Some n → (p : NodePlan C) × (n.plan ≡ Some p)
     pub lengths : length nodes ≡ length keys

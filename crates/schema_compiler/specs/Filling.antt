@@ -1,10 +1,12 @@
 -- The table of keys and nodes while it is filled: what a number's node says of its key, and how the table grows.
 use Rattle.std.specs.List.{starts_with}
-use Rattle.std.specs.Prelude.{Bool, true, false, List, None, Option, Some, [], codes, if◌then◌else◌, length, slice_get, slice_set, ℕ, ◌++◌, ◌==◌, ◌∷◌, ◌≡◌, ◌≤◌}
+use Rattle.std.specs.Prelude.{Bool, true, false, List, None, Option, Some, [], codes, if◌then◌else◌, length, option_map, slice_get, slice_set, ℕ, ◌++◌, ◌==◌, ◌∷◌, ◌≡◌, ◌≤◌}
 use Rattle.schema_reports.specs.Instance.{Text}
 use Rattle.schema_reports.specs.Parts.{Parts}
 use Rattle.schema_reports.specs.Plan.{Edge, Form, Key, Part, Plan, always, keyword, never, plan, reference, reference_edge, these, without_fragment, requested}
 use Rattle.schema_reports.specs.Making.{Request}
+use Rattle.serde_json.specs.View.{view}
+use Rattle.schema_reports.specs.Units.{annotations_of}
 use Rattle.schema_reports.specs.Reach.{asked_edges}
 use Rattle.schema_reports.specs.Refusals.{Cause, causes}
 use Rattle.schema_reports.specs.Guarded.{NodeEdge, NodeForm, NodePart, NodePlan, form_edges, node_always, node_keyword, node_never, node_reference, node_these, Children}
@@ -77,6 +79,8 @@ module _ {S K R : Type 0} (w : Parts S K R) where
       pub base : n.base ≡ shown_base k
       pub start : n.start ≡ k.start
       pub planned : (p : NodePlan C) → n.plan ≡ Some p → IsPlanned keys nodes k p
+      -- and its annotations are the key's
+      pub annotated : (p : NodePlan C) → n.plan ≡ Some p → option_map view n.annotations ≡ annotations_of w k
 
     pub record IsTable (limit : ℕ) (keys : List (Key S)) (nodes : List (NodeEntry C)) : Type 0 where
       pub lengths : length nodes ≡ length keys

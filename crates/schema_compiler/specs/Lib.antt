@@ -6,3 +6,4 @@ pub mod Filling
 pub mod Options
 pub mod Compilation
 pub mod Builtins
+pub mod Dialects

@@ -19,7 +19,9 @@ use schema_node::node::Nodes;
 use schema_reports::location::Location;
 use std::alloc::Global;
 
+pub mod annotations;
 pub mod builtin;
+pub mod context;
 pub mod entries;
 pub mod error;
 pub mod key;

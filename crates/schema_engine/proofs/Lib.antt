@@ -1,3 +1,10 @@
 mod OtherParts
+pub mod Remembers
+pub mod Searches
 pub mod Sentences
 pub mod Built
+pub mod Compilations
+pub mod RootKeys
+pub mod PlainAnswers
+pub mod Reaches
+pub mod Pointing

@@ -1,9 +1,12 @@
 -- What the run of the root's node answers: at every great enough depth, what its guarded meaning does, by the mode.
 use Rattle.std.specs.Prelude.{◌≡◌, ℕ, ◌<◌, [], Bool, length, Option, Some, None, Result, Ok, Err}
 use Rattle.serde_json.specs.Data.{Data}
-use Rattle.schema_reports.specs.Matching.{Matcher}
+use Rattle.schema_reports.specs.Matching.{Assumptions, Extends, Matcher, completion_of}
 use Rattle.schema_reports.specs.Keywords.{Keywords}
-use Rattle.schema_reports.specs.Runs.{reply_in, no_run}
+use Rattle.schema_reports.specs.Keywords as wanted
+use Rattle.schema_reports.specs.Runs.{Run, reply_in, no_run}
+use Rattle.schema_reports.specs.Unfinished.{Remembered}
+use Rattle.schema_node.specs.Matches.{MeetsEach}
 use Rattle.schema_reports.specs.Guarded.{guarded_within, guarded_node}
 use Rattle.schema_reports.specs.Numbered.{left, subject_in}
 use Rattle.schema_reports.specs.declared.reports.ValidationError.{ValidationError}
@@ -13,9 +16,24 @@ use Rattle.schema_node.specs.declared.context.keyword.Mode.{Mode}
 use Rattle.schema_node.specs.declared.context.keyword.Reply.{Reply}
 use Rattle.schema_engine.specs.Program.{Program, Speaks}
 
-abbrev pub SaysReply : {K S R M : Type 0} → (K → S) → (Bool → Keywords S R) → (S → Bool) → (M → Matcher) → Program K M → Data → Mode → Reply → Type 0
-SaysReply shape words is_whole matching p instance mode r = (texts : Bool) → Speaks shape words is_whole matching p instance texts → (n : ℕ) → left (numbered shape p.nodes) (length p.nodes) p.root (subject_in instance []) [] < n
-    → reply_of texts r ≡ reply_in (mode_of mode) (guarded_within no_run (guarded_node (words texts) (matching p.matcher) (numbered shape p.nodes) (subject_in instance) []) n p.root [] [] [])
+module _ {K S R M : Type 0} (shape : K → S) (words : Bool → Keywords S R) (is_whole : S → Bool) (matching : M → Matcher) (p : Program K M) (instance : Data) where
+  -- the run of the root's node under assumptions, with questions of a depth
+  abbrev pub run_under : Bool → Assumptions → ℕ → Run
+  run_under texts as' n = guarded_within no_run (guarded_node (words texts) (matching p.matcher) (numbered shape p.nodes) (subject_in instance) as') n p.root [] [] []
+
+  -- a fact about the run under assumptions that assume no match twice, at every great enough depth
+  abbrev pub OfRun : Assumptions → (Bool → Run → Type 0) → Type 0
+  OfRun as' fact = (texts : Bool) → Speaks shape words is_whole matching p instance texts → Extends (completion_of as') as' → (n : ℕ) → left (numbered shape p.nodes) (length p.nodes) p.root (subject_in instance []) [] < n → fact texts (run_under texts as' n)
+
+  abbrev pub SaysReply : Mode → Assumptions → Reply → Type 0
+  SaysReply mode as' r = OfRun as' (λ texts run. reply_of texts r ≡ reply_in (mode_of mode) run)
+
+  abbrev pub SaysVerdict : Assumptions → Bool → Type 0
+  SaysVerdict as' b = OfRun as' (λ texts run. b ≡ (run.outcome tt).verdict)
+
+  -- what it remembers after it, of what it met
+  abbrev pub MeetsMatches : wanted.Mode → Remembered → Remembered → Type 0
+  MeetsMatches mode old new = OfRun old.assumptions (λ texts run. MeetsEach (matching p.matcher) old (run.met mode) new)
 
 -- the error of a refusal
 abbrev pub refusal_of : Result (Unit {0}) ValidationError → Option ValidationError

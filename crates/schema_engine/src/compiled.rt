@@ -37,6 +37,7 @@ pub fn of_compiled<S: Resolver, T: KeywordTable<K>, K: Validate, M: Matcher>(
 ) -> Result<Validator<K, M>, OutOfMemory>
     requires inside { root.0 < length nodes }
     ensures made { IfOk result (λ v. (v.nodes ≡ nodes) × (v.root ≡ root.0) × (v.draft ≡ draft_of draft)) }
+    ensures matcher { IfOk result (λ v. M.matching v.matcher ≡ M.matching matcher.now) }
     ensures means { IfOk result (λ v. (options : Options)
         → ((key : Key S.Point) → IsRoot (parts_of (S.resolving resolver.now) (table_of (T.owned table.now) builtin_in (T.script table.now)) no_matcher no_keywords options) (view schema.now) key
         → IsCompiled (parts_of (S.resolving resolver.now) (table_of (T.owned table.now) builtin_in (T.script table.now)) no_matcher no_keywords options) K.shape key nodes root.0)
@@ -44,5 +45,5 @@ pub fn of_compiled<S: Resolver, T: KeywordTable<K>, K: Validate, M: Matcher>(
         K.shape K.is_whole M.matching v) }
 {
     let matcher = matcher.clone()?;
-    Ok(Validator::new(nodes, root, draft, matcher))
+    Ok(Validator::of_nodes(nodes, root, draft, matcher))
 }

@@ -1,5 +1,10 @@
-//! Validators, and what they answer of instances.
+//! The options and the build of validators, what validators answer of instances, and both in one call.
 #![tactic(auto)]
 
+pub mod building;
+pub mod calls;
 pub mod compiled;
+pub mod options;
 pub mod validator;
+
+pub use crate::calls::{is_valid, iter_errors, validate};

@@ -1,5 +1,5 @@
 //! A validator: what it answers of instances.
-ghost use Rattle.std.specs.Prelude.{◌≡◌, ℕ, List, Bool, Option, IfOk, All, IfSome, option_map, map, length, ◌<◌};
+ghost use Rattle.std.specs.Prelude.{◌≡◌, false, ℕ, List, Bool, Option, IfOk, All, IfSome, option_map, map, length, ◌<◌};
 ghost use Rattle.serde_json.specs.View.{view};
 ghost use Rattle.schema_reports.specs.Laws.{AsksAlone};
 ghost use Rattle.schema_reports.specs.Cover.{is_valid};
@@ -8,9 +8,12 @@ ghost use Rattle.schema_reports.specs.KeywordViews.{draft_of};
 ghost use Rattle.schema_reports.specs.ReportViews.{error_of, BorrowsItsPlace};
 ghost use Rattle.schema_engine.specs.Program.{OfEverySense, FromSomeDepth};
 ghost use Rattle.schema_node.specs.FaultViews.{errors_in};
-ghost use Rattle.schema_node.specs.KeywordViews.{mode_of};
-ghost use Rattle.schema_reports.specs.Keywords.{for_units};
-ghost use Rattle.schema_engine.specs.Answers.{SaysReply, refusal_of};
+ghost use Rattle.schema_node.specs.KeywordViews.{mode_of, reply_of};
+ghost use Rattle.schema_node.specs.Marks.{TakesNoMarks};
+ghost use Rattle.schema_node.specs.NodeRuns.{reply_by};
+ghost use Rattle.schema_reports.specs.Reports.{Outcome};
+ghost use Rattle.schema_reports.specs.Keywords.{for_units, for_verdict};
+ghost use Rattle.schema_engine.specs.Answers.{SaysReply, SaysVerdict, MeetsMatches, refusal_of};
 
 use schema_node::context::keyword::{Mode, Reply, Validate};
 use schema_node::context::matcher::Matcher;
@@ -20,6 +23,7 @@ use schema_reports::instance::{Instance, Place};
 use schema_reports::keywords::Draft;
 use schema_reports::location::{Location, OutOfMemory};
 use schema_reports::reports::{ErrorIterator, ValidationError};
+use schema_reports::unfinished_matches::{MatchAssumptions, validity_under_each};
 use serde_json::Value;
 use std::alloc::Global;
 use std::marker::Model;
@@ -61,7 +65,7 @@ fn unless_refused<'i>(error: Option<ValidationError<'i>>) -> Result<(), Validati
 
 impl<K: Validate, M: Matcher> Validator<K, M> {
     /// A validator of compiled nodes: the number of the root's node, the root's draft, and the matcher. It takes no memory.
-    pub fn new(nodes: Nodes<K>, root: SchemaNode, draft: Draft, matcher: M) -> Validator<K, M>
+    pub fn of_nodes(nodes: Nodes<K>, root: SchemaNode, draft: Draft, matcher: M) -> Validator<K, M>
         requires inside { root.0 < length nodes }
         ensures made { result ≡ record { nodes = nodes; root = root.0; draft = draft_of draft; matcher = matcher } }
     {
@@ -94,43 +98,71 @@ impl<K: Validate, M: Matcher> Validator<K, M> {
         &self.nodes
     }
 
-    // What the root's node says of an instance.
+    // What the root's node says of an instance, under what is assumed of unfinished matches.
     fn asked<'i>(
         &self,
         alloc: Global,
         instance: &'i Value,
         mode: Mode,
-    ) -> Result<Reply<'i>, OutOfMemory>
-        requires asks_alone { (texts : Bool) → AsksAlone (K.words texts) }
+        matches: MatchAssumptions<'i>,
+    ) -> Result<(MatchAssumptions<'i>, Reply<'i>), OutOfMemory>
+        requires unmarked { (texts : Bool) → TakesNoMarks (K.words texts) }
         requires wanted { ¬ (mode_of mode ≡ for_units) }
-        ensures says { IfOk result (λ r. SaysReply K.shape K.words K.is_whole M.matching self.now (view instance.now) mode r) }
-        ensures borrows { IfOk result (λ r. All (BorrowsItsPlace (view instance.now)) (errors_in r)) }
+        ensures says { IfOk result (λ r. SaysReply K.shape K.words K.is_whole M.matching self.now (view instance.now) mode matches.entry.assumptions r.1) }
+        ensures meets { IfOk result (λ r. MeetsMatches K.shape K.words K.is_whole M.matching self.now (view instance.now) (mode_of mode) matches.entry r.0) }
+        ensures assumes { IfOk result (λ r. r.0.assumptions ≡ matches.entry.assumptions) }
+        ensures speaks { IfOk result (λ r. (o : Outcome) × (reply_of false r.1 ≡ reply_by (mode_of mode) o)) }
+        ensures borrows { IfOk result (λ r. All (BorrowsItsPlace (view instance.now)) (errors_in r.1)) }
     {
         let place = Place::root(alloc);
         let path = Location::new(alloc);
-        let mut context = ValidationContext::new(alloc);
-        Ok(
-            self.nodes.run(
-                alloc,
-                self.root,
-                Instance::Value(instance),
-                &place,
-                &path,
-                mode,
-                &mut context,
-            )?,
-        )
+        let mut context = ValidationContext::assuming(alloc, matches);
+        let reply = self.nodes.run(
+            alloc,
+            &self.matcher,
+            self.root,
+            Instance::Value(instance),
+            &place,
+            &path,
+            mode,
+            &mut context,
+        )?;
+        Ok((context.into_matches(), reply))
     }
 
-    // The verdict of the root's node.
-    fn verdict(&self, alloc: Global, instance: &Value) -> Result<bool, OutOfMemory>
-        requires asks_alone { (texts : Bool) → AsksAlone (K.words texts) }
-        ensures depth { IfOk result (λ valid. FromSomeDepth K.shape K.words K.is_whole M.matching self.now (view instance.now) (λ texts v. VerdictSays v is_valid valid)) }
+    // The verdict of the root's node, under what is assumed of unfinished matches.
+    fn verdict<'i>(
+        &self,
+        alloc: Global,
+        instance: &'i Value,
+        matches: MatchAssumptions<'i>,
+    ) -> Result<(MatchAssumptions<'i>, bool), OutOfMemory>
+        requires unmarked { (texts : Bool) → TakesNoMarks (K.words texts) }
+        ensures says { IfOk result (λ r. SaysVerdict K.shape K.words K.is_whole M.matching self.now (view instance.now) matches.entry.assumptions r.1) }
+        ensures meets { IfOk result (λ r. MeetsMatches K.shape K.words K.is_whole M.matching self.now (view instance.now) for_verdict matches.entry r.0) }
+        ensures assumes { IfOk result (λ r. r.0.assumptions ≡ matches.entry.assumptions) }
     {
-        match self.asked(alloc, instance, Mode::Verdict)? {
-            Reply::Truth(valid) => Ok(valid),
+        let (met, reply) = self.asked(alloc, instance, Mode::Verdict, matches)?;
+        match reply {
+            Reply::Truth(valid) => Ok((met, valid)),
             _ => unreachable!(),
         }
+    }
+
+    // Whether every outcome of the unfinished matches accepts.
+    fn valid_under_each(&self, alloc: Global, instance: &Value) -> Result<bool, OutOfMemory>
+        requires unmarked { (texts : Bool) → TakesNoMarks (K.words texts) }
+        ensures depth { IfOk result (λ valid. FromSomeDepth K.shape K.words K.is_whole M.matching self.now (view instance.now) (λ texts v. VerdictSays v is_valid valid)) }
+    {
+        let first = self.verdict(alloc, instance, MatchAssumptions::new(alloc))?;
+        if !first.0.met_unassumed() {
+            return Ok(first.1);
+        }
+        validity_under_each(
+            alloc,
+            |matches| self.verdict(alloc, instance, matches),
+            first,
+        )
     }
 
     // The first error of the root's node.
@@ -143,7 +175,8 @@ impl<K: Validate, M: Matcher> Validator<K, M> {
         ensures depth { IfOk result (λ e. FromSomeDepth K.shape K.words K.is_whole M.matching self.now (view instance.now) (λ texts v. FirstSays v (option_map (error_of texts) e))) }
         ensures borrows { IfOk result (λ e. IfSome e (BorrowsItsPlace (view instance.now))) }
     {
-        match self.asked(alloc, instance, Mode::First)? {
+        let (_, reply) = self.asked(alloc, instance, Mode::First, MatchAssumptions::new(alloc))?;
+        match reply {
             Reply::First(error) => Ok(error),
             _ => unreachable!(),
         }
@@ -159,19 +192,21 @@ impl<K: Validate, M: Matcher> Validator<K, M> {
         ensures depth { IfOk result (λ es. FromSomeDepth K.shape K.words K.is_whole M.matching self.now (view instance.now) (λ texts v. ErrorsSay v (map (error_of texts) es.items))) }
         ensures borrows { IfOk result (λ es. All (BorrowsItsPlace (view instance.now)) es.items) }
     {
-        match self.asked(alloc, instance, Mode::All)? {
+        let (_, reply) = self.asked(alloc, instance, Mode::All, MatchAssumptions::new(alloc))?;
+        match reply {
             Reply::All(errors) => Ok(errors),
             _ => unreachable!(),
         }
     }
 
-    /// Whether the instance is accepted.
+    /// Whether the instance is accepted. Where the first run meets a match that the matcher leaves unfinished, whether all
+    /// outcomes of such matches accept it; no, where more runs are called for than a call makes.
     pub fn is_valid(&self, alloc: Global, instance: &Value) -> Result<bool, OutOfMemory>
-        requires asks_alone { (texts : Bool) → AsksAlone (K.words texts) }
+        requires unmarked { (texts : Bool) → TakesNoMarks (K.words texts) }
         ensures depth { IfOk result (λ valid. FromSomeDepth K.shape K.words K.is_whole M.matching self.now (view instance.now) (λ texts v. VerdictSays v is_valid valid)) }
         ensures senses { IfOk result (λ valid. OfEverySense K.shape K.words K.is_whole M.matching self.now (view instance.now) (λ texts v. VerdictSays v is_valid valid)) }
     {
-        Ok(self.verdict(alloc, instance)?)
+        Ok(self.valid_under_each(alloc, instance)?)
     }
 
     /// The first error, or none where the instance is accepted.

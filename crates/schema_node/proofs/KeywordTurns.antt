@@ -1,5 +1,5 @@
 -- A keyword's run in a reading: how it begins, goes on after a child's reply, and ends.
-use Rattle.std.proofs.Common.{◌≡◌, ◌∙◌, ℕ, zero, suc, ◌<◌, Bool, true, false, List, [], ◌∷◌, map, refl, sym, ap, subst, arith, inl, inr}
+use Rattle.std.proofs.Common.{◌≡◌, ◌∙◌, ℕ, zero, suc, ◌<◌, Bool, false, List, [], ◌∷◌, map, refl, sym, ap, subst, arith, inl, inr}
 use Rattle.std.specs.Prelude.{All, Some, ◌⊎◌, slice_get}
 use Rattle.std.proofs.lemmas.List.Elements.{All-contains}
 use Rattle.serde_json.specs.Data.{Data}
@@ -9,16 +9,19 @@ use Rattle.schema_reports.specs.Numbered.{subject_in}
 use Rattle.schema_node.specs.NodeTable.{NodeEntry, numbered}
 use Rattle.schema_node.proofs.NodeRuns.{stands_in, where_is}
 use Rattle.schema_reports.specs.Reports.{Error}
-use Rattle.schema_reports.specs.Matching.{all_match, finished, matching}
-use Rattle.schema_reports.specs.Keywords.{Answer, Answers, Fault, Keywords, Mode, Question, Reply, Turn, all_of_it, ask, done, first_of_it, for_all, for_first, for_units, for_verdict, no_reply, truth}
+use Rattle.schema_reports.specs.Matching.{Pair, completed, matching, settled}
+use Rattle.schema_reports.specs.Keywords.{Answer, Answers, Fault, Keywords, Marked, MatchPoint, Mode, Question, Reply, Turn, all_of_it, ask, done, ecma, first_of_it, for_all, for_first, for_units, for_verdict, mark, match_text, no_reply, truth, unmark}
 use Rattle.schema_reports.specs.Meaning.{Where, fault_error, keyword_outcome}
 use Rattle.schema_reports.specs.Runs.{first_error}
-use Rattle.schema_reports.specs.Laws.{Agrees, AlwaysAsksAlone, AsksRightly, IsAskAlone, IsPresent, IsRight, StandsInside, answer_in, first_fault, steps_below}
+use Rattle.schema_reports.specs.Laws.{Agrees, AlwaysAsksAlone, AsksAlone, AsksRightly, IsAskAlone, IsPresent, IsRight, SpotInside, StandsInside, answer_in, first_fault, steps_below}
 use Rattle.schema_reports.specs.Turns.{Standing, TurnLaws, marks_after, next, reply_to}
 use Rattle.schema_node.specs.KeywordViews.{Tells, answer_of, fault_of}
 use Rattle.schema_node.specs.FaultViews.{FaultsLieInside, LiesInside, PassesBorrowed, answer_reply, faults_in}
+use Rattle.schema_node.specs.Marks.{AlwaysUnmarked, IsUnmarked, TakesNoMarks}
+use Rattle.schema_node.specs.Matches.{Settling}
+use Rattle.schema_node.proofs.Matches.{decides, deciding}
 use Rattle.schema_node.specs.NodeRuns.{Reading, Reads, entry_where, reply_by}
-use Rattle.schema_node.specs.Turning.{AskedAlone, OnItsWay, stands_at, unit_with}
+use Rattle.schema_node.specs.Turning.{OnItsWay, StaysUnmarked, stands_at, unit_with}
 use Rattle.schema_node.specs.declared.context.keyword.Fault as code
 use Rattle.schema_node.specs.declared.context.keyword.Fault.TheVariants as fault
 use Rattle.schema_node.specs.declared.context.keyword.Answer as code_answer
@@ -38,26 +41,38 @@ module _ {K R : Type 0} (keywords : Keywords K R) (m : K) (absorbed : List Text)
         subst (λ u. OnWay u no_reply) e (record { fits = h.0; right = h.1 })
 
     -- a reply in a mode is the true one
-    pub true_reply : (q : Question) (w : Mode) → ¬ (w ≡ for_units) → reply_by w (answers q) ≡ answer_in keywords m s (matching x.matcher x.completion) answers (λ q. unit_with (answers q)) (λ a b. false) w q
+    true_reply : (q : Question) (w : Mode) → ¬ (w ≡ for_units) → reply_by w (answers q) ≡ answer_in keywords m s (matching x.matcher x.completion) answers (λ q. unit_with (answers q)) (λ a b. false) w q
     true_reply q for_verdict h = refl
     true_reply q for_first h = refl
     true_reply q for_all h = refl
     true_reply q for_units h = absurd (h refl)
 
-    not_done : (t : Turn) (q : Question) (w : Mode) → t ≡ ask q w → t ≡ done → ⊥
-    not_done t q w e f = let z : ask q w ≡ done = sym e ∙ f in cc
+    abbrev To : Turn → Reply
+    To = reply_to keywords m s (matching x.matcher x.completion) answers (λ q. unit_with (answers q)) (λ a b. false) []
+
+    abbrev Marks : Turn → List Marked
+    Marks = marks_after keywords m s (matching x.matcher x.completion) answers (λ q. unit_with (answers q)) (λ a b. false) []
+
+    -- a turn that takes no mark, and gets the true reply
+    went : (r r' : R) (reply reply' : Reply) (t : Turn) → OnWay r reply → keywords.turn m s r reply ≡ r' → keywords.step m s r reply ≡ t → ¬ (t ≡ done) → Marks t ≡ [] → To t ≡ reply' → OnWay r' reply'
+    went r r' reply reply' t way is e more none told =
+        let st : Standing R = stands_at s x answers r reply in
+        let k = laws.keeps st way.fits (λ d. more (sym e ∙ d)) in
+        let marks : Marks (keywords.step m s r reply) ≡ [] = ap Marks e ∙ none in
+        let replied : To (keywords.step m s r reply) ≡ reply' = ap To e ∙ told in
+        let there : next keywords m st ≡ stands_at s x answers r' reply'
+        = λ i. record { subject = s; matches = matching x.matcher x.completion; answers = answers; unit_at = λ q. unit_with (answers q); same = λ a b. false; marks = marks i; state = is i; reply = replied i } in
+        record { fits = subst Fits there k.0; right = subst (IsRight keywords m s (matching x.matcher x.completion) answers (λ q. unit_with (answers q)) (λ a b. false) mode) (sym k.1 ∙ ap end_of there) way.right }
 
     pub asked : (r r' : R) (reply reply' : Reply) (q : Question) (w : Mode) → ¬ (w ≡ for_units) → OnWay r reply → keywords.turn m s r reply ≡ r' → keywords.step m s r reply ≡ ask q w → reply' ≡ reply_by w (answers q) → OnWay r' reply'
-    asked r r' reply reply' q w less way t e a =
-        let st : Standing R = stands_at s x answers r reply in
-        let k = laws.keeps st way.fits (not_done _ q w e) in
-        let marks : marks_after keywords m s (matching x.matcher x.completion) answers (λ q. unit_with (answers q)) (λ a b. false) [] (keywords.step m s r reply) ≡ []
-        = ap (marks_after keywords m s (matching x.matcher x.completion) answers (λ q. unit_with (answers q)) (λ a b. false) []) e in
-        let told : reply_to keywords m s (matching x.matcher x.completion) answers (λ q. unit_with (answers q)) (λ a b. false) [] (keywords.step m s r reply) ≡ reply'
-        = ap (reply_to keywords m s (matching x.matcher x.completion) answers (λ q. unit_with (answers q)) (λ a b. false) []) e ∙ sym (true_reply q w less) ∙ sym a in
-        let there : next keywords m st ≡ stands_at s x answers r' reply'
-        = λ i. record { subject = s; matches = matching x.matcher x.completion; answers = answers; unit_at = λ q. unit_with (answers q); same = λ a b. false; marks = marks i; state = t i; reply = told i } in
-        record { fits = subst Fits there k.0; right = subst (IsRight keywords m s (matching x.matcher x.completion) answers (λ q. unit_with (answers q)) (λ a b. false) mode) (sym k.1 ∙ ap end_of there) way.right }
+    asked r r' reply reply' q w less way t e a = went r r' reply reply' (ask q w) way t e (λ f. cc f) refl (sym (true_reply q w less) ∙ sym a)
+
+    pub matched : (r r' : R) (reply reply' : Reply) (a : Pair) (point : MatchPoint) → OnWay r reply → keywords.turn m s r reply ≡ r' → keywords.step m s r reply ≡ match_text a point
+        → reply' ≡ truth (settled (completed x.completion a) (x.matcher.is_match a.pattern a.subject)) → OnWay r' reply'
+    matched r r' reply reply' a point way t e is = went r r' reply reply' (match_text a point) way t e (λ f. cc f) refl (sym is)
+
+    pub told_pattern : (r r' : R) (reply reply' : Reply) (text : Text) → OnWay r reply → keywords.turn m s r reply ≡ r' → keywords.step m s r reply ≡ ecma text → reply' ≡ truth (x.matcher.is_ecma text) → OnWay r' reply'
+    told_pattern r r' reply reply' text way t e is = went r r' reply reply' (ecma text) way t e (λ f. cc f) refl (sym is)
 
     pub ended_right : (r r' : R) (reply : Reply) (a : Answer) → OnWay r reply → keywords.turn m s r reply ≡ r' → keywords.answer r' ≡ a → keywords.step m s r reply ≡ done
         → IsRight keywords m s (matching x.matcher x.completion) answers (λ q. unit_with (answers q)) (λ a b. false) mode a
@@ -68,35 +83,39 @@ module _ {K R : Type 0} (keywords : Keywords K R) (m : K) (absorbed : List Text)
   -- ---- whatever is replied
 
   module _ (s : Subject) where
-    abbrev Alone : R → Reply → Type 0
-    Alone = AskedAlone keywords m s (remaining s)
+    abbrev Unmarked : R → Reply → Type 0
+    Unmarked = StaysUnmarked keywords m s (remaining s)
 
-    pub alone_first : (mode : Mode) (r : R) → AlwaysAsksAlone keywords m s (keywords.most_turns m s) (keywords.begin m s mode) no_reply → keywords.begin m s mode ≡ r → Alone r no_reply
-    alone_first mode r h e = (keywords.most_turns m s, subst (λ u. remaining s u < keywords.most_turns m s) e (laws.bounded s mode), subst (λ u. AlwaysAsksAlone keywords m s (keywords.most_turns m s) u no_reply) e h)
+    pub unmarked_first : (mode : Mode) (r : R) → AlwaysUnmarked keywords m s (keywords.most_turns m s) (keywords.begin m s mode) no_reply → keywords.begin m s mode ≡ r → Unmarked r no_reply
+    unmarked_first mode r h e = (keywords.most_turns m s, subst (λ u. remaining s u < keywords.most_turns m s) e (laws.bounded s mode), subst (λ u. AlwaysUnmarked keywords m s (keywords.most_turns m s) u no_reply) e h)
 
-    pub asks_alone : (r : R) (reply : Reply) → Alone r reply → IsAskAlone (keywords.step m s r reply)
-    asks_alone r reply (zero, l, h) = absurd (omega arith)
-    asks_alone r reply (suc n, l, h) = h.0
+    pub is_unmarked : (r : R) (reply : Reply) → Unmarked r reply → IsUnmarked (keywords.step m s r reply)
+    is_unmarked r reply (zero, l, h) = absurd (omega arith)
+    is_unmarked r reply (suc n, l, h) = h.0
 
-    pub falls_asked : (r r' : R) (reply : Reply) (q : Question) (w : Mode) → keywords.turn m s r reply ≡ r' → keywords.step m s r reply ≡ ask q w → remaining s r' < remaining s r
-    falls_asked r r' reply q w t e = go (laws.falls s r reply)
+    pub falls_turned : (r r' : R) (reply : Reply) (t : Turn) → keywords.turn m s r reply ≡ r' → keywords.step m s r reply ≡ t → ¬ (t ≡ done) → remaining s r' < remaining s r
+    falls_turned r r' reply t is e more = go (laws.falls s r reply)
       where
         go : (keywords.step m s r reply ≡ done) ⊎ (remaining s (keywords.turn m s r reply) < remaining s r) → remaining s r' < remaining s r
-        go (inl d) = absurd (let z : ask q w ≡ done = sym e ∙ d in let f : ⊥ = cc in f)
-        go (inr l) = subst (λ u. remaining s u < remaining s r) t l
+        go (inl d) = absurd (more (sym e ∙ d))
+        go (inr l) = subst (λ u. remaining s u < remaining s r) is l
 
-    pub alone_after : (r r' : R) (reply reply' : Reply) (q : Question) (w : Mode) → Alone r reply → keywords.turn m s r reply ≡ r' → keywords.step m s r reply ≡ ask q w → Alone r' reply'
-    alone_after r r' reply reply' q w (zero, l, h) t e = absurd (omega arith)
-    alone_after r r' reply reply' q w (suc n, l, h) t e =
-        let f = falls_asked r r' reply q w t e in
-        (n, omega arith, subst (λ u. AlwaysAsksAlone keywords m s n u reply') t (h.1 reply'))
+    pub unmarked_after : (r r' : R) (reply reply' : Reply) (t : Turn) → Unmarked r reply → keywords.turn m s r reply ≡ r' → keywords.step m s r reply ≡ t → ¬ (t ≡ done) → Unmarked r' reply'
+    unmarked_after r r' reply reply' t (zero, l, h) is e more = absurd (omega arith)
+    unmarked_after r r' reply reply' t (suc n, l, h) is e more =
+        let f = falls_turned r r' reply t is e more in
+        (n, omega arith, subst (λ u. AlwaysUnmarked keywords m s n u reply') is (h.1 reply'))
 
     -- a question is asked of what is there, and of less than units
-    pub asks_less : (r : R) (reply : Reply) (q : Question) (w : Mode) → Alone r reply → keywords.step m s r reply ≡ ask q w → ¬ (w ≡ for_units)
-    asks_less r reply q w h e = subst IsAskAlone e (asks_alone r reply h)
+    pub asks_less : (r : R) (reply : Reply) (q : Question) (w : Mode) → Unmarked r reply → keywords.step m s r reply ≡ ask q w → ¬ (w ≡ for_units)
+    asks_less r reply q w h e = subst IsUnmarked e (is_unmarked r reply h)
 
     pub asks_present : (r : R) (reply : Reply) (q : Question) (w : Mode) → All (λ q. IsPresent s (steps_below q.below)) (keywords.may_ask m s) → keywords.step m s r reply ≡ ask q w → IsPresent s (steps_below q.below)
     asks_present r reply q w h e = All-contains (λ q. IsPresent s (steps_below q.below)) (keywords.may_ask m s) q h (subst (AsksRightly keywords m s absorbed) e (laws.asks s r reply))
+
+    -- and a match is asked for inside the instance
+    pub matches_present : (r : R) (reply : Reply) (a : Pair) (point : MatchPoint) → keywords.step m s r reply ≡ match_text a point → IsPresent s point.spot.below
+    matches_present r reply a point e = let inside : SpotInside s absorbed point.spot = subst (AsksRightly keywords m s absorbed) e (laws.asks s r reply) in inside.0
 
 -- ---- what the answer says at the end
 
@@ -142,11 +161,11 @@ module _ (texts : Bool) (root : Data) (s : Subject) (absorbed : List Text) where
 pub tells_nothing : (is_whole : Bool) (s : Subject) → Tells false is_whole s
 tells_nothing is_whole s = record { keyword = λ q. absurd (let f : ⊥ = cc in f); instance = λ q. absurd (let f : ⊥ = cc in f) }
 
-abbrev pub silent : Data → ℕ → Reading
-silent root depth = record { texts = false; root = root; matcher = record { is_match = λ a b. finished true; is_ecma = λ t. true }; completion = all_match; depth = depth }
+abbrev pub silent : Settling → Data → ℕ → Reading
+silent w root depth = record { texts = false; root = root; matcher = w.matcher; completion = deciding w.assumptions; depth = depth }
 
-pub silent_reads : {K : Type 0} (is_whole : K → Bool) (nodes : Nodes K) (count : ℕ) (p : Place) (s : Subject) (root : Data) (depth : ℕ) → subject_at root p ≡ Some s → Reads is_whole nodes count p s (silent root depth)
-silent_reads is_whole nodes count p s root depth e = record { stands = e; tells = record { keywords = λ q. absurd (let f : ⊥ = cc in f); instance = λ q. absurd (let f : ⊥ = cc in f) } }
+pub silent_reads : {K : Type 0} (is_whole : K → Bool) (nodes : Nodes K) (count : ℕ) (w : Settling) (p : Place) (s : Subject) (root : Data) (depth : ℕ) → subject_at root p ≡ Some s → Reads is_whole nodes count w p s (silent w root depth)
+silent_reads is_whole nodes count w p s root depth e = record { stands = e; tells = record { keywords = λ q. absurd (let f : ⊥ = cc in f); instance = λ q. absurd (let f : ⊥ = cc in f) }; matcher = refl; completes = decides w.assumptions }
 
 -- ---- the outcome that a form has
 
@@ -158,3 +177,20 @@ keyword_says shape ns words x path p s i n name m answers e at_p =
     let b = stands_in x.root p s at_p in
     ap (λ w. keyword_outcome (words x.texts) w name m s (matching x.matcher x.completion) answers) (sym a)
     ∙ ap (λ t. keyword_outcome (words x.texts) (node_at (words x.texts) x.matcher (numbered shape ns) (subject_in x.root) i path p) name m t (matching x.matcher x.completion) answers) (sym b)
+
+-- ---- keywords that only ask their children
+
+unmarked_ask : (t : Turn) → IsAskAlone t → IsUnmarked t
+unmarked_ask (ask q mode) h = h
+unmarked_ask done h = tt
+unmarked_ask (match_text a point) h = tt
+unmarked_ask (ecma text) h = tt
+unmarked_ask (mark i) h = h
+unmarked_ask unmark h = h
+
+always_unmarked : {K R : Type 0} (keywords : Keywords K R) (m : K) (s : Subject) (n : ℕ) (r : R) (reply : Reply) → AlwaysAsksAlone keywords m s n r reply → AlwaysUnmarked keywords m s n r reply
+always_unmarked keywords m s zero r reply h = tt
+always_unmarked keywords m s (suc n) r reply h = (unmarked_ask _ h.0, λ next. always_unmarked keywords m s n (keywords.turn m s r reply) next (h.1 next))
+
+pub unmarked_of_alone : {K R : Type 0} (keywords : Keywords K R) → AsksAlone keywords → TakesNoMarks keywords
+unmarked_of_alone keywords alone m s mode less = always_unmarked keywords m s (keywords.most_turns m s) (keywords.begin m s mode) no_reply (alone m s mode less)

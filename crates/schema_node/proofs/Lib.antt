@@ -1,4 +1,7 @@
 pub mod Pairs
+pub mod Matches
+pub mod NodeMeets
+pub mod KeywordMeets
 pub mod Replies
 pub mod Faults
 pub mod NodeRuns

@@ -22,7 +22,7 @@ module _ {K R : Type 0} (keywords : Keywords K R) (matcher : Matcher) (nodes : N
   by_guard true true u v u' v' h k = refl
   by_guard true false u v u' v' h k = k
 
-  across_is : (n : ℕ) → ((i : ℕ) (path : Text) (p : Place) (busy : List ℕ) → (runs n i path p busy).outcome tt ≡ says n i path p busy) → (path : Text) (p : Place) (busy : List ℕ) (e : NodeEdge) (b : Below)
+  pub across_is : (n : ℕ) → ((i : ℕ) (path : Text) (p : Place) (busy : List ℕ) → (runs n i path p busy).outcome tt ≡ says n i path p busy) → (path : Text) (p : Place) (busy : List ℕ) (e : NodeEdge) (b : Below)
       → (across no_run (guarded_node keywords matcher nodes subject_of as') (runs n) path p busy e b).outcome tt ≡ across accepted (node_outcome keywords matcher nodes subject_of (completion_of as')) (says n) path p busy e b
   across_is n h path p busy e b = by_guard e.guarded (list_any (λ i. i == e.node) (progress_below busy b)) _ _ _ _ (h e.node _ _ _) (h e.node _ _ _)
 

@@ -21,6 +21,7 @@ use Rattle.schema_node.proofs.NodeRuns.{stands_in, where_is}
 use Rattle.schema_node.specs.KeywordViews.{Tells, reply_of}
 use Rattle.schema_node.specs.NodeTable.{absolute_in, NodeEntry, numbered, plan_in, shaped}
 use Rattle.schema_reports.specs.Fractions.{IsWholeWord, form_words, node_words}
+use Rattle.schema_node.specs.Matches.{Settling}
 use Rattle.schema_node.specs.NodeRuns.{HasChildren, HasForm, Reading, Reads, Replies, entry_where, reply_by}
 
 -- ---- lists
@@ -136,14 +137,14 @@ place_plain (s ∷ p) x y e h = go (after_step s x) (λ z q. step_plain s x z q 
     go None f g q = nowhere y q
     go (Some z) f g q = g z q (f z refl)
 
-pub plain_there : {K : Type 0} (is_whole : K → Bool) (nodes : Nodes K) (count : ℕ) (p : Place) (s : Subject) (x : Reading) → Reads is_whole nodes count p s x → x.texts ≡ true → subject_has_float s ≡ false
-plain_there is_whole nodes count p s x reads t = place_plain p (a_value x.root) s reads.stands (reads.tells.instance t)
+pub plain_there : {K : Type 0} (is_whole : K → Bool) (nodes : Nodes K) (count : ℕ) (w : Settling) (p : Place) (s : Subject) (x : Reading) → Reads is_whole nodes count w p s x → x.texts ≡ true → subject_has_float s ≡ false
+plain_there is_whole nodes count w p s x reads t = place_plain p (a_value x.root) s reads.stands (reads.tells.instance t)
 
 -- a reading in which texts are spoken of lets a keyword of the table speak of them
-pub tells_keyword : {K : Type 0} (is_whole : K → Bool) (nodes : Nodes K) (count : ℕ) (p : Place) (s : Subject) (x : Reading) (i : ℕ) (m : K) (es : Children) → i < count → Reads is_whole nodes count p s x → HasForm nodes i (node_keyword m es) → Tells x.texts (is_whole m) s
-tells_keyword is_whole nodes count p s x i m es l reads form = record {
+pub tells_keyword : {K : Type 0} (is_whole : K → Bool) (nodes : Nodes K) (count : ℕ) (w : Settling) (p : Place) (s : Subject) (x : Reading) (i : ℕ) (m : K) (es : Children) → i < count → Reads is_whole nodes count w p s x → HasForm nodes i (node_keyword m es) → Tells x.texts (is_whole m) s
+tells_keyword is_whole nodes count w p s x i m es l reads form = record {
   keyword = λ t. All-contains (IsWholeWord is_whole) (node_words (nodes.entries i)) m (reads.tells.keywords t i l) (keyword_in nodes i m es form);
-  instance = λ t. plain_there is_whole nodes count p s x reads t;
+  instance = λ t. plain_there is_whole nodes count w p s x reads t;
 }
 
 -- ---- where a node stands

@@ -17,6 +17,7 @@ use Rattle.schema_reports.specs.ReportViews.{BorrowsItsPlace}
 use Rattle.schema_reports.proofs.Falls.{from_below, left_below, left_entered, left_lower, step_falls}
 use Rattle.schema_node.specs.FaultViews.{errors_in}
 use Rattle.schema_node.specs.KeywordViews.{reply_of}
+use Rattle.schema_node.specs.Matches.{Settling}
 use Rattle.schema_node.specs.NodeTable.{NodeEntry, absolute_in, numbered}
 use Rattle.schema_node.specs.NodeRuns.{Reading, Reads, Replies, Joins, Stamps, NodeReplies, EdgeReplies, ChildReplies, FormReplies, accepts, child_says, deep, edge_needs, edge_says, entry_where, form_says, node_says, parts_say, refuses, reply_by}
 use Rattle.schema_node.specs.declared.context.keyword.Reply as code
@@ -73,27 +74,27 @@ replies_same x mode r o o' e h = subst (Replies x mode r) e h
 
 -- ---- edges
 
-free_case : {X : Type 0} (g t : Bool) (u v last : X) → g ≡ false → ◌≡◌ {A = X} (elim g [ false ↦ u | true ↦ elim t [ true ↦ last | false ↦ v ] ]) u
+pub free_case : {X : Type 0} (g t : Bool) (u v last : X) → g ≡ false → ◌≡◌ {A = X} (elim g [ false ↦ u | true ↦ elim t [ true ↦ last | false ↦ v ] ]) u
 free_case false t u v last h = refl
 free_case true t u v last h = absurd (true≢false h)
 
-busy_case : {X : Type 0} (g t : Bool) (u v last : X) → g ≡ true → t ≡ true → ◌≡◌ {A = X} (elim g [ false ↦ u | true ↦ elim t [ true ↦ last | false ↦ v ] ]) last
+pub busy_case : {X : Type 0} (g t : Bool) (u v last : X) → g ≡ true → t ≡ true → ◌≡◌ {A = X} (elim g [ false ↦ u | true ↦ elim t [ true ↦ last | false ↦ v ] ]) last
 busy_case false t u v last h k = absurd (true≢false (sym h))
 busy_case true true u v last h k = refl
 busy_case true false u v last h k = absurd (true≢false (sym k))
 
-entered_case : {X : Type 0} (g t : Bool) (u v last : X) → g ≡ true → t ≡ false → ◌≡◌ {A = X} (elim g [ false ↦ u | true ↦ elim t [ true ↦ last | false ↦ v ] ]) v
+pub entered_case : {X : Type 0} (g t : Bool) (u v last : X) → g ≡ true → t ≡ false → ◌≡◌ {A = X} (elim g [ false ↦ u | true ↦ elim t [ true ↦ last | false ↦ v ] ]) v
 entered_case false t u v last h k = absurd (true≢false (sym h))
 entered_case true true u v last h k = absurd (true≢false k)
 entered_case true false u v last h k = refl
 
-some_case : {A X : Type 0} (o : Option A) (a : A) (none : X) (f : A → X) → o ≡ Some a → ◌≡◌ {A = X} (elim o [ None ↦ none | Some b ↦ f b ]) (f a)
+pub some_case : {A X : Type 0} (o : Option A) (a : A) (none : X) (f : A → X) → o ≡ Some a → ◌≡◌ {A = X} (elim o [ None ↦ none | Some b ↦ f b ]) (f a)
 some_case {A = A} {X = X} o a none f h = ap (λ (o : Option A). elim o as (λ o. X) [ None ↦ none | Some b ↦ f b ]) h
 
-none_case : {A X : Type 0} (o : Option A) (none : X) (f : A → X) → o ≡ None → ◌≡◌ {A = X} (elim o [ None ↦ none | Some b ↦ f b ]) none
+pub none_case : {A X : Type 0} (o : Option A) (none : X) (f : A → X) → o ≡ None → ◌≡◌ {A = X} (elim o [ None ↦ none | Some b ↦ f b ]) none
 none_case {A = A} {X = X} o none f h = ap (λ (o : Option A). elim o as (λ o. X) [ None ↦ none | Some b ↦ f b ]) h
 
-module _ {K R : Type 0} (words : Bool → Keywords K R) (is_whole : K → Bool) (nodes : Nodes K) (count : ℕ) where
+module _ {K R : Type 0} (words : Bool → Keywords K R) (is_whole : K → Bool) (nodes : Nodes K) (count : ℕ) (w : Settling) where
   module _ (s : Subject) (busy : List ℕ) (e : NodeEdge) where
     needs_of_free : e.guarded ≡ false → edge_needs nodes count e s busy ≡ suc (left nodes count e.node s busy)
     needs_of_free g = free_case e.guarded (list_any (λ i. i == e.node) busy) _ (suc (left nodes count e.node s (e.node ∷ busy))) 0 g
@@ -102,16 +103,16 @@ module _ {K R : Type 0} (words : Bool → Keywords K R) (is_whole : K → Bool) 
     needs_of_entered g t = entered_case e.guarded (list_any (λ i. i == e.node) busy) (suc (left nodes count e.node s busy)) _ 0 g t
 
     module _ (mode : Mode) (path : Text) (p : Place) (r : code.Reply) where
-      pub edge_free : e.guarded ≡ false → NodeReplies words is_whole nodes count mode (path ++ e.path) p busy s e.node r → EdgeReplies words is_whole nodes count mode path p busy s e r
+      pub edge_free : e.guarded ≡ false → NodeReplies words is_whole nodes count w mode (path ++ e.path) p busy s e.node r → EdgeReplies words is_whole nodes count w mode path p busy s e r
       edge_free g h x reads l =
           let n = needs_of_free g in
           replies_same x mode r _ _ (sym (free_case e.guarded (list_any (λ i. i == e.node) busy) (deep words nodes x e.node (path ++ e.path) p busy) (deep words nodes x e.node (path ++ e.path) p (e.node ∷ busy)) accepted g)) (h x reads (omega arith))
 
-      pub edge_busy : e.guarded ≡ true → list_any (λ i. i == e.node) busy ≡ true → ((texts : Bool) → reply_of texts r ≡ reply_by mode accepted) → errors_in r ≡ [] → EdgeReplies words is_whole nodes count mode path p busy s e r
+      pub edge_busy : e.guarded ≡ true → list_any (λ i. i == e.node) busy ≡ true → ((texts : Bool) → reply_of texts r ≡ reply_by mode accepted) → errors_in r ≡ [] → EdgeReplies words is_whole nodes count w mode path p busy s e r
       edge_busy g t a n x reads l =
           replies_accepted x mode r _ a n (busy_case e.guarded (list_any (λ i. i == e.node) busy) (deep words nodes x e.node (path ++ e.path) p busy) (deep words nodes x e.node (path ++ e.path) p (e.node ∷ busy)) accepted g t)
 
-      pub edge_entered : e.guarded ≡ true → list_any (λ i. i == e.node) busy ≡ false → NodeReplies words is_whole nodes count mode (path ++ e.path) p (e.node ∷ busy) s e.node r → EdgeReplies words is_whole nodes count mode path p busy s e r
+      pub edge_entered : e.guarded ≡ true → list_any (λ i. i == e.node) busy ≡ false → NodeReplies words is_whole nodes count w mode (path ++ e.path) p (e.node ∷ busy) s e.node r → EdgeReplies words is_whole nodes count w mode path p busy s e r
       edge_entered g t h x reads l =
           let n = needs_of_entered g t in
           replies_same x mode r _ _ (sym (entered_case e.guarded (list_any (λ i. i == e.node) busy) (deep words nodes x e.node (path ++ e.path) p busy) (deep words nodes x e.node (path ++ e.path) p (e.node ∷ busy)) accepted g t)) (h x reads (omega arith))
@@ -143,11 +144,11 @@ module _ {K R : Type 0} (words : Bool → Keywords K R) (is_whole : K → Bool) 
   -- ---- children
 
   module _ (mode : Mode) (path : Text) (p : Place) (busy : List ℕ) (s : Subject) (i : ℕ) (es : Children) (q : Question) (r : code.Reply) where
-    pub child_none : node_child es q.child ≡ None → ((texts : Bool) → reply_of texts r ≡ reply_by mode accepted) → errors_in r ≡ [] → ChildReplies words is_whole nodes count mode path p busy s i es q r
+    pub child_none : node_child es q.child ≡ None → ((texts : Bool) → reply_of texts r ≡ reply_by mode accepted) → errors_in r ≡ [] → ChildReplies words is_whole nodes count w mode path p busy s i es q r
     child_none c a n x reads l = replies_accepted x mode r _ a n (none_case (node_child es q.child) accepted (λ e. edge_says words nodes x path p busy e q.below) c)
 
     pub child_here : (e : NodeEdge) → node_child es q.child ≡ Some e → q.below ≡ here → edge_needs nodes count e s busy ≤ left nodes count i s busy
-        → EdgeReplies words is_whole nodes count mode path p busy s e r → ChildReplies words is_whole nodes count mode path p busy s i es q r
+        → EdgeReplies words is_whole nodes count w mode path p busy s e r → ChildReplies words is_whole nodes count w mode path p busy s i es q r
     child_here e c b f h x reads l =
         let asked = some_case (node_child es q.child) e accepted (λ e. edge_says words nodes x path p busy e q.below) c in
         let at_place = ap (edge_says words nodes x path p busy e) b in
@@ -155,10 +156,10 @@ module _ {K R : Type 0} (words : Bool → Keywords K R) (is_whole : K → Bool) 
 
     pub child_below : (e : NodeEdge) (step : Step) (lower : Place) (t : Subject) → node_child es q.child ≡ Some e → q.below ≡ down step → lower ≡ p ++ step ∷ [] → after_step step s ≡ Some t
         → edge_needs nodes count e t [] ≤ left nodes count i s busy
-        → EdgeReplies words is_whole nodes count mode path lower [] t e r → ChildReplies words is_whole nodes count mode path p busy s i es q r
+        → EdgeReplies words is_whole nodes count w mode path lower [] t e r → ChildReplies words is_whole nodes count w mode path p busy s i es q r
     child_below e step lower t c b d a f h x reads l =
         let at_lower : subject_at x.root lower ≡ Some t = ap (subject_at x.root) d ∙ from_below p step (a_value x.root) ∙ ap (option_and_then (after_step step)) reads.stands ∙ a in
-        let answer : Replies x mode r (edge_says words nodes x path lower [] e here) = h x (record { stands = at_lower; tells = reads.tells }) (omega arith) in
+        let answer : Replies x mode r (edge_says words nodes x path lower [] e here) = h x (record { stands = at_lower; tells = reads.tells; matcher = reads.matcher; completes = reads.completes }) (omega arith) in
         let moved : edge_says words nodes x path lower [] e here ≡ edge_says words nodes x path p busy e (down step) = ap (λ (q : Place). edge_says words nodes x path q [] e here) d in
         let asked = some_case (node_child es q.child) e accepted (λ e. edge_says words nodes x path p busy e q.below) c in
         let at_place = ap (edge_says words nodes x path p busy e) b in
@@ -169,7 +170,7 @@ module _ {K R : Type 0} (words : Bool → Keywords K R) (is_whole : K → Bool) 
   pub form_reference : (mode : Mode) (path : Text) (p : Place) (busy : List ℕ) (s : Subject) (i : ℕ) (name : Text) (e : NodeEdge) (reply r : code.Reply) (location : Option Text)
       → nodes.absolute i (joined (nodes.location i) name) ≡ location → edge_needs nodes count e s busy ≤ left nodes count i s busy
       → ((texts : Bool) → Stamps location (reply_of texts reply) (reply_of texts r)) → ((root : Data) → All (BorrowsItsPlace root) (errors_in reply) → All (BorrowsItsPlace root) (errors_in r))
-      → EdgeReplies words is_whole nodes count mode path p busy s e reply → FormReplies words is_whole nodes count mode path p busy s i name (node_reference e) r
+      → EdgeReplies words is_whole nodes count w mode path p busy s e reply → FormReplies words is_whole nodes count w mode path p busy s i name (node_reference e) r
   form_reference mode path p busy s i name e reply r location w f stamps borrows h x reads l =
       let answer = h x reads (omega arith) in
       rw w (record { same = stamps x.texts mode _ answer.same; borrows = borrows x.root answer.borrows })
@@ -179,19 +180,19 @@ module _ {K R : Type 0} (words : Bool → Keywords K R) (is_whole : K → Bool) 
   module _ (mode : Mode) (path : Text) (p : Place) (busy : List ℕ) (s : Subject) (i : ℕ) (r : code.Reply) where
     -- a node at a depth says what its plan says one less deep
     abbrev PlanReplies : NodePlan K → Type 0
-    PlanReplies plan = (x : Reading) → Reads is_whole nodes count p s x → left nodes count i s busy ≤ x.depth
+    PlanReplies plan = (x : Reading) → Reads is_whole nodes count w p s x → left nodes count i s busy ≤ x.depth
         → Replies x mode r (elim plan [ node_always ↦ accepted | node_never ↦ false_outcome (words x.texts).texts (node_at (words x.texts) x.matcher nodes (subject_in x.root) i path p) (subject_in x.root p) | node_these xs ↦ parts_say words nodes x i path p busy xs ])
 
-    pub node_by_plan : (plan : NodePlan K) → nodes.entries i ≡ plan → PlanReplies plan → NodeReplies words is_whole nodes count mode path p busy s i r
+    pub node_by_plan : (plan : NodePlan K) → nodes.entries i ≡ plan → PlanReplies plan → NodeReplies words is_whole nodes count w mode path p busy s i r
     node_by_plan plan e h x reads l = go x.depth l reads
       where
-        go : (d : ℕ) → left nodes count i s busy < d → Reads is_whole nodes count p s (record x { depth = d }) → Replies (record x { depth = d }) mode r (deep words nodes (record x { depth = d }) i path p busy)
+        go : (d : ℕ) → left nodes count i s busy < d → Reads is_whole nodes count w p s (record x { depth = d }) → Replies (record x { depth = d }) mode r (deep words nodes (record x { depth = d }) i path p busy)
         go zero l reads = absurd (omega arith)
         go (suc d) l reads =
-            let answer = (subst PlanReplies (sym e) h) (record x { depth = d }) (record { stands = reads.stands; tells = reads.tells }) (omega arith) in
+            let answer = (subst PlanReplies (sym e) h) (record x { depth = d }) (record { stands = reads.stands; tells = reads.tells; matcher = reads.matcher; completes = reads.completes }) (omega arith) in
             record { same = answer.same; borrows = answer.borrows }
 
-    pub node_accepts : (plan : NodePlan K) → nodes.entries i ≡ plan → plan ≡ node_always → ((texts : Bool) → reply_of texts r ≡ reply_by mode accepted) → errors_in r ≡ [] → NodeReplies words is_whole nodes count mode path p busy s i r
+    pub node_accepts : (plan : NodePlan K) → nodes.entries i ≡ plan → plan ≡ node_always → ((texts : Bool) → reply_of texts r ≡ reply_by mode accepted) → errors_in r ≡ [] → NodeReplies words is_whole nodes count w mode path p busy s i r
     node_accepts plan e f a n = node_by_plan node_always (e ∙ f) (λ x reads l. replies_accepted x mode r accepted a n refl)
 
   -- ---- entries
@@ -278,6 +279,9 @@ module _ {K R : Type 0} (words : Bool → Keywords K R) (nodes : Nodes K)
 
   pub agrees_answers : (path : Text) (p : Place) (busy : List ℕ) (es : Children) (q : Question) → Agrees (child_says words nodes x path p busy es q)
   agrees_answers path p busy es q = agrees_child _ (λ e b. agrees_edge _ (agrees_deep x.depth) path p busy e b) 0 path p es q
+
+  pub agrees_says : (i : ℕ) (path : Text) (p : Place) (busy : List ℕ) (name : Text) (form : NodeForm K) → Agrees (form_says words nodes x i path p busy name form)
+  agrees_says i path p busy name form = agrees_form _ (λ e b. agrees_edge _ (agrees_deep x.depth) path p busy e b) i path p name form
 
   -- a leaf that says yes has no errors
   pub leaf_accepts : (mode : Mode) (i : ℕ) (path : Text) (p : Place) (busy : List ℕ) (name : Text) (form : NodeForm K) (verdict r : code.Reply) → accepts (reply_of x.texts verdict) ≡ true

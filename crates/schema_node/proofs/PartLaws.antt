@@ -53,3 +53,10 @@ module _ {K : Type 0} (absorbed : K → List Text) (is_whole : K → Bool) (obje
   made_absorbed (a_keyword k' names') k names h e = let same : k' ≡ k = cc in let list : names' ≡ names = cc in sym list ∙ h.0 ∙ ap absorbed same
   made_absorbed nothing k names h e = absurd (let g : ⊥ = cc in g)
   made_absorbed (refused error) k names h e = absurd (let g : ⊥ = cc in g)
+
+  pub makes_absorbed : (s : Script K) → MakesRightly absorbed is_whole object s → (k : K) (names : List Text) → (followed is_self s).ends ≡ a_keyword k names → names ≡ absorbed k
+  makes_absorbed (then_compile path s) h k names e = makes_absorbed s h.1 k names e
+  makes_absorbed (then_refer text s skipped) h k names e =
+      (either (λ m. m.ends ≡ a_keyword k names → names ≡ absorbed k) (is_self text) (followed is_self skipped) (followed is_self s)
+      (λ q. makes_absorbed skipped h.1 k names q) (λ q. makes_absorbed s h.0 k names q)) e
+  makes_absorbed (then_end m) h k names e = made_absorbed m k names h e

@@ -47,3 +47,7 @@ from_append (t ∷ p) q x = go (after_step t x) (from_append p q)
 
 pub stands_below : (root : Data) (p q r : Place) (s t : Subject) → r ≡ p ++ q → subject_at root p ≡ Some s → subject_from q s ≡ Some t → subject_at root r ≡ Some t
 stands_below root p q r s t e f g = ap (subject_at root) e ∙ from_append p q (a_value root) ∙ ap (option_and_then (subject_from q)) f ∙ g
+
+pub if_ok_always : {T E : Type 0} (r : Result T E) (P : Type 0) → P → IfOk r (λ x. P)
+if_ok_always (Ok x) P h = h
+if_ok_always (Err e) P h = tt

@@ -4,6 +4,7 @@ use Rattle.schema_reports.specs.Instance.{Subject, to_member, to_item, to_name}
 use Rattle.schema_reports.specs.InstanceTexts.{subject_has_float}
 use Rattle.schema_reports.specs.InstanceViews.{step_of}
 use Rattle.schema_reports.specs.ReportViews.{spoken, error_of}
+use Rattle.schema_reports.specs.Reports.{Described}
 use Rattle.schema_reports.specs.Keywords as spec
 use Rattle.schema_node.specs.declared.context.keyword.Mode.{Mode}
 use Rattle.schema_node.specs.declared.context.keyword.Mode.TheVariants as mode
@@ -22,6 +23,7 @@ use Rattle.schema_node.specs.declared.context.keyword.Reply.TheVariants as reply
 use Rattle.schema_node.specs.declared.context.keyword.OwnError.{OwnError}
 use Rattle.schema_node.specs.declared.context.keyword.Fault.{Fault}
 use Rattle.schema_node.specs.declared.context.keyword.Fault.TheVariants as fault
+use Rattle.schema_node.specs.declared.context.keyword.ErrorDescription.{ErrorDescription}
 use Rattle.schema_node.specs.declared.context.keyword.Answer.{Answer}
 use Rattle.schema_node.specs.declared.context.keyword.Answer.TheVariants as answer
 
@@ -91,10 +93,14 @@ option_list (Some a) = a ∷ []
 abbrev pub with_errors : List spec.Fault → spec.Answer
 with_errors fs = record { verdict = is_nil fs; errors = fs; gives = no_gives }
 
+abbrev pub described_of : Bool → ErrorDescription → Described
+described_of texts e = record { name = string_bytes e.keyword; text = spoken texts (string_bytes e.text) }
+
 abbrev pub answer_of : Bool → Answer → spec.Answer
 answer_of texts (answer.Verdict b) = record { verdict = b; errors = []; gives = no_gives }
 answer_of texts (answer.First f) = with_errors (option_list (option_map (fault_of texts) f))
 answer_of texts (answer.All fs) = with_errors (map (fault_of texts) fs.items)
+answer_of texts (answer.Evaluation b es) = record { verdict = b; errors = []; gives = record no_gives { errors = map (described_of texts) es.items } }
 
 -- how an answer begins
 abbrev pub fresh : spec.Answer

@@ -5,6 +5,9 @@ pub mod MakerViews
 pub mod NodeTable
 pub mod NodeViews
 pub mod Progress
+pub mod Matches
+pub mod Marks
+pub mod NodeMeets
 pub mod ProgressViews
 pub mod FaultViews
 pub mod NodeRuns

@@ -5,15 +5,17 @@ use Rattle.serde_json.specs.Data.{Data}
 use Rattle.serde_json.specs.Written.{has_float}
 use Rattle.schema_reports.specs.Instance.{Place, Subject, Text, subject_at}
 use Rattle.schema_reports.specs.Reports.{Outcome, accepted}
-use Rattle.schema_reports.specs.Matching.{Completion, Matcher}
+use Rattle.schema_reports.specs.Matching.{Completion, Matcher, Pair, assumed, completed}
 use Rattle.schema_reports.specs.Keywords.{Below, Keywords, Mode, Question, Reply, all_of_it, first_of_it, for_all, for_first, for_units, for_verdict, here, no_reply, truth}
 use Rattle.schema_reports.specs.Meaning.{Where, both, stamped}
 use Rattle.schema_reports.specs.Runs.{first_error}
-use Rattle.schema_reports.specs.Laws.{AsksAlone}
+use Rattle.schema_reports.specs.Unfinished.{or_no}
 use Rattle.schema_reports.specs.Guarded.{Children, NodeEdge, NodeForm, NodePart, Nodes, across, guarded_within, node_asked, node_child, node_edges, node_outcome, node_part, node_parts, node_these}
 use Rattle.schema_reports.specs.Fractions.{AreWhole}
 use Rattle.schema_reports.specs.Numbered.{Ranked, left, subject_in}
 use Rattle.schema_reports.specs.ReportViews.{BorrowsItsPlace}
+use Rattle.schema_node.specs.Marks.{TakesNoMarks}
+use Rattle.schema_node.specs.Matches.{Settling}
 use Rattle.schema_node.specs.NodeTable.{NodeEntry, absolute_in}
 use Rattle.schema_node.specs.KeywordViews.{reply_of}
 use Rattle.schema_node.specs.FaultViews.{errors_in}
@@ -62,10 +64,10 @@ pub record TellsAll {K : Type 0} (texts : Bool) (root : Data) (is_whole : K → 
   pub keywords : texts ≡ true → AreWhole is_whole nodes count
   pub instance : texts ≡ true → has_float root ≡ false
 
--- the table is ranked, and its keywords only ask their children
+-- the table is ranked, and its keywords take no marks
 pub record Ready {K R : Type 0} (words : Bool → Keywords K R) (nodes : Nodes K) (count : ℕ) : Type 0 where
   pub ranked : Ranked nodes count
-  pub asks_alone : (texts : Bool) → AsksAlone (words texts)
+  pub unmarked : (texts : Bool) → TakesNoMarks (words texts)
 
 module _ {K : Type 0} (nodes : Nodes K) where
   -- these are parts of a node's plan
@@ -112,25 +114,27 @@ edge_needs nodes count e s busy = elim e.guarded [
   | true ↦ elim (list_any (λ i. i == e.node) busy) [ true ↦ 0 | false ↦ suc (left nodes count e.node s (e.node ∷ busy)) ]
 ]
 
--- a reading in which the subject stands at the place
-pub record Reads {K : Type 0} (is_whole : K → Bool) (nodes : Nodes K) (count : ℕ) (p : Place) (s : Subject) (x : Reading) : Type 0 where
+-- a reading in which the subject stands at the place, and matches come out as they are settled
+pub record Reads {K : Type 0} (is_whole : K → Bool) (nodes : Nodes K) (count : ℕ) (w : Settling) (p : Place) (s : Subject) (x : Reading) : Type 0 where
   pub stands : subject_at x.root p ≡ Some s
   pub tells : TellsAll x.texts x.root is_whole nodes count
+  pub matcher : x.matcher ≡ w.matcher
+  pub completes : (a : Pair) → completed x.completion a ≡ or_no (assumed w.assumptions a)
 
 -- ---- what a run answers of a subject at a place, in every reading in which it stands there
 
-module _ {K R : Type 0} (words : Bool → Keywords K R) (is_whole : K → Bool) (nodes : Nodes K) (count : ℕ) (mode : Mode) (path : Text) (p : Place) (busy : List ℕ) (s : Subject) where
+module _ {K R : Type 0} (words : Bool → Keywords K R) (is_whole : K → Bool) (nodes : Nodes K) (count : ℕ) (w : Settling) (mode : Mode) (path : Text) (p : Place) (busy : List ℕ) (s : Subject) where
   abbrev pub NodeReplies : ℕ → code.Reply → Type 0
-  NodeReplies i r = (x : Reading) → Reads is_whole nodes count p s x → left nodes count i s busy < x.depth → Replies x mode r (deep words nodes x i path p busy)
+  NodeReplies i r = (x : Reading) → Reads is_whole nodes count w p s x → left nodes count i s busy < x.depth → Replies x mode r (deep words nodes x i path p busy)
 
   abbrev pub EdgeReplies : NodeEdge → code.Reply → Type 0
-  EdgeReplies e r = (x : Reading) → Reads is_whole nodes count p s x → edge_needs nodes count e s busy ≤ x.depth → Replies x mode r (edge_says words nodes x path p busy e here)
+  EdgeReplies e r = (x : Reading) → Reads is_whole nodes count w p s x → edge_needs nodes count e s busy ≤ x.depth → Replies x mode r (edge_says words nodes x path p busy e here)
 
   abbrev pub ChildReplies : ℕ → Children → Question → code.Reply → Type 0
-  ChildReplies i es q r = (x : Reading) → Reads is_whole nodes count p s x → left nodes count i s busy ≤ x.depth → Replies x mode r (child_says words nodes x path p busy es q)
+  ChildReplies i es q r = (x : Reading) → Reads is_whole nodes count w p s x → left nodes count i s busy ≤ x.depth → Replies x mode r (child_says words nodes x path p busy es q)
 
   abbrev pub FormReplies : ℕ → Text → NodeForm K → code.Reply → Type 0
-  FormReplies i name form r = (x : Reading) → Reads is_whole nodes count p s x → left nodes count i s busy ≤ x.depth → Replies x mode r (form_says words nodes x i path p busy name form)
+  FormReplies i name form r = (x : Reading) → Reads is_whole nodes count w p s x → left nodes count i s busy ≤ x.depth → Replies x mode r (form_says words nodes x i path p busy name form)
 
   abbrev pub PartsReply : ℕ → List (NodePart K) → code.Reply → Type 0
-  PartsReply i xs r = (x : Reading) → Reads is_whole nodes count p s x → left nodes count i s busy ≤ x.depth → Replies x mode r (parts_say words nodes x i path p busy xs)
+  PartsReply i xs r = (x : Reading) → Reads is_whole nodes count w p s x → left nodes count i s busy ≤ x.depth → Replies x mode r (parts_say words nodes x i path p busy xs)

@@ -4,8 +4,9 @@ use Rattle.schema_reports.specs.Instance.{Subject}
 use Rattle.schema_reports.specs.Reports.{Outcome, Unit_, no_units, unit}
 use Rattle.schema_reports.specs.Matching.{matching}
 use Rattle.schema_reports.specs.Keywords.{Answer, Answers, Keywords, Mode, Reply}
-use Rattle.schema_reports.specs.Laws.{AlwaysAsksAlone, IsRight}
+use Rattle.schema_reports.specs.Laws.{IsRight}
 use Rattle.schema_reports.specs.Turns.{Standing}
+use Rattle.schema_node.specs.Marks.{AlwaysUnmarked}
 use Rattle.schema_node.specs.NodeRuns.{Reading}
 
 -- a unit that has the verdict of an outcome
@@ -30,6 +31,6 @@ pub record OnItsWay {K R : Type 0} (keywords : Keywords K R) (m : K) (end_of : S
   pub fits : Fits (stands_at s x answers r reply)
   pub right : IsRight keywords m s (matching x.matcher x.completion) answers (λ q. unit_with (answers q)) (λ a b. false) mode (end_of (stands_at s x answers r reply))
 
--- for more turns than are left it only asks its children
-abbrev pub AskedAlone : {K R : Type 0} → Keywords K R → K → Subject → (R → ℕ) → R → Reply → Type 0
-AskedAlone keywords m s remaining r reply = (n : ℕ) × (remaining r < n) × AlwaysAsksAlone keywords m s n r reply
+-- for more turns than are left it takes no marks
+abbrev pub StaysUnmarked : {K R : Type 0} → Keywords K R → K → Subject → (R → ℕ) → R → Reply → Type 0
+StaysUnmarked keywords m s remaining r reply = (n : ℕ) × (remaining r < n) × AlwaysUnmarked keywords m s n r reply

@@ -3,3 +3,5 @@
 
 pub mod context;
 pub mod node;
+#[cfg(test)]
+mod tests;

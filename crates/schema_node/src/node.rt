@@ -7,6 +7,7 @@ mod absolute;
 mod faults;
 mod replies;
 pub mod run;
+mod sites;
 pub mod validators;
 
 use schema_reports::location::{Location, OutOfMemory};

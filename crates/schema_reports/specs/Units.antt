@@ -1,15 +1,15 @@
 -- The units of a schema at a place, with every reference looked up anew, in the order of its plan. (Core 2020-12, 12.4)
 use Rattle.std.specs.List.{list_all}
-use Rattle.std.specs.Prelude.{Bool, List, None, Option, Some, [], bytes_eq, codes, false, filter, flat_map, if◌then◌else◌, map, nat_le, not, true, ℕ, ◌++◌, ◌||◌, ◌∷◌}
+use Rattle.std.specs.Prelude.{Bool, List, None, Option, Some, [], bytes_eq, codes, false, filter, flat_map, if◌then◌else◌, map, nat_le, not, true, ℕ, ◌++◌, ◌∷◌}
 use Rattle.serde_json.specs.Data.{Data, Members, member, no_members, object}
-use Rattle.schema_reports.specs.Instance.{Place, Subject, Text}
+use Rattle.schema_reports.specs.Instance.{Place, Subject, Text, member_of}
 use Rattle.schema_reports.specs.Pointer.{joined}
 use Rattle.schema_reports.specs.Reports.{Described, Unit_, children_of, report_of, unit, units_of}
 use Rattle.schema_reports.specs.Drafts.{ref_stands_alone}
 use Rattle.schema_reports.specs.Matching.{Completion, Matching, matching}
 use Rattle.schema_reports.specs.Keywords.{Gives, Keywords, Question}
 use Rattle.schema_reports.specs.Parts.{Parts}
-use Rattle.schema_reports.specs.Plan.{Edge, Form, Key, Part, always, keyword, never, plan, reference, schema_of, these}
+use Rattle.schema_reports.specs.Plan.{Edge, Form, Key, Part, always, keyword, never, part, plan, reference, schema_of, these}
 use Rattle.schema_reports.specs.Meaning.{Where, asked, at, false_text, referred_to, subject, unfolded}
 
 abbrev pub no_unit : Unit_
@@ -70,17 +70,26 @@ false_unit texts x s = schema_unit x false None (record { name = codes "falseSch
 abbrev pub plan_unit : Where → Option Data → List Entry → Unit_
 plan_unit x annotations xs = schema_unit x (list_all (λ u. (report_of u).valid) (entry_units xs)) annotations [] (entry_units xs)
 
+-- members as an object, where there are any
+abbrev pub object_of : Members → Option Data
+object_of no_members = None
+object_of (member name value rest) = Some (object (member name value rest))
+
 module _ {S K R : Type 0} (w : Parts S K R) where
-  -- members that neither the table nor the built-in keywords know
-  abbrev pub unknown : Key S → Members → Members
-  unknown k no_members = no_members
-  unknown k (member name value rest) = if w.table.owns name || w.resolver.is_known_keyword k.target.draft name then unknown k rest else member name value (unknown k rest)
+  -- members that no keyword is made of, and whose names the draft does not know
+  abbrev pub unknown : Key S → Members → Members → Members
+  unknown k whole no_members = no_members
+  unknown k whole (member name value rest) = elim (part w k whole name value) [
+    | Some p ↦ unknown k whole rest
+    | None ↦ if w.resolver.is_known_keyword k.target.draft name then unknown k whole rest else member name value (unknown k whole rest)
+  ]
+
+  -- a `$ref` that stands alone leaves none
+  abbrev pub object_annotations : Key S → Members → Option Data
+  object_annotations k ms = elim (if ref_stands_alone k.target.draft then member_of (codes "$ref") ms else None) [ Some value ↦ None | None ↦ object_of (unknown k ms ms) ]
 
   abbrev pub annotations_of : Key S → Option Data
-  annotations_of k = elim (schema_of w k) [
-    | object ms ↦ elim (unknown k ms) [ no_members ↦ None | member name value rest ↦ if ref_stands_alone k.target.draft then None else Some (object (unknown k ms)) ]
-    | _ ↦ None
-  ]
+  annotations_of k = elim (schema_of w k) [ object ms ↦ object_annotations k ms | _ ↦ None ]
 
 module _ {S K R : Type 0} (w : Parts S K R) (instance : Data) where
   module _ (c : Completion) where

@@ -1,15 +1,16 @@
 //! What is added to the answer of a run.
-ghost use Rattle.std.specs.Prelude.{All, ◌≡◌, ◌++◌, Bool, IfOk, map, string_bytes};
+ghost use Rattle.std.specs.Prelude.{All, ◌≡◌, ◌++◌, [], Bool, IfOk, map, string_bytes};
 ghost use Rattle.serde_json.specs.Data.{Data};
 ghost use Rattle.schema_reports.specs.ReportViews.{BorrowsItsPlace, error_of, spoken};
 ghost use Rattle.schema_reports.specs.Keywords.{own, passed};
 ghost use Rattle.schema_node.specs.declared.context.keyword.Fault.TheVariants.{Passed};
 ghost use Rattle.schema_node.specs.FaultViews.{errors_in, faults_in, PassesBorrowed};
-ghost use Rattle.schema_node.specs.KeywordViews.{answer_of, fault_of, reply_of};
+ghost use Rattle.schema_node.specs.KeywordViews.{answer_of, described_of, fault_of, no_gives, reply_of};
 ghost use Rattle.engine_bench.specs.FaultLists.{first_kept};
-ghost use Rattle.engine_bench.specs.Ways.{goes_on, noted_one, plain, refused, taken, with_first};
+ghost use Rattle.engine_bench.specs.Tallies.{says_yes};
+ghost use Rattle.engine_bench.specs.Ways.{evaluated, goes_on, noted_one, plain, refused, taken, with_first};
 
-use schema_node::context::keyword::{Answer, Fault, Mode, OwnError, Reply};
+use schema_node::context::keyword::{Answer, ErrorDescription, Fault, Mode, OwnError, Reply};
 use schema_reports::location::OutOfMemory;
 use schema_reports::reports::ValidationError;
 use std::alloc::Global;
@@ -33,6 +34,7 @@ fn refused<'i>(answer: Answer<'i>) -> Answer<'i>
                 Answer::All(faults)
             }
         }
+        Answer::Evaluation(_, errors) => Answer::Evaluation(false, errors),
     }
 }
 
@@ -54,6 +56,7 @@ fn with_first<'i>(answer: Answer<'i>, fault: Fault<'i>) -> Answer<'i>
                 Answer::All(faults)
             }
         }
+        Answer::Evaluation(_, _) => Answer::First(Some(fault)),
     }
 }
 
@@ -72,10 +75,38 @@ fn faults_of<'i>(alloc: Global, answer: Answer<'i>) -> Result<Vec<Fault<'i>>, Ou
             Ok(faults)
         }
         Answer::All(faults) => Ok(faults),
+        Answer::Evaluation(_, _) => Ok(Vec::new(alloc)),
     }
 }
 
-/// Notes an error of the keyword's own. Where a verdict or an evaluation is wanted, it refuses alone.
+/// The errors of an answer that stand in its unit.
+fn descriptions_of(alloc: Global, answer: Answer<'_>) -> Vec<ErrorDescription>
+    ensures gives { (texts : Bool) → (answer_of texts answer.entry).gives ≡ record no_gives { errors = map (described_of texts) result.items } }
+{
+    match answer {
+        Answer::Evaluation(_, errors) => errors,
+        _ => Vec::new(alloc),
+    }
+}
+
+/// The answer that refuses, with an error of the keyword's own for its unit.
+fn evaluated<'i>(
+    alloc: Global,
+    keyword: &str,
+    text: String,
+    before: Answer<'i>,
+) -> Result<Answer<'i>, OutOfMemory>
+    ensures evaluated { IfOk result (λ after. (texts : Bool) → answer_of texts after ≡ evaluated (answer_of texts before.entry) (own (plain keyword.now (spoken texts (string_bytes text))))) }
+    ensures faults { IfOk result (λ after. faults_in after ≡ []) }
+{
+    let mut errors = descriptions_of(alloc, before);
+    let keyword = String::from_str(alloc, keyword)?;
+    errors.push(ErrorDescription { keyword, text })?;
+    Ok(Answer::Evaluation(false, errors))
+}
+
+/// Notes an error of the keyword's own. Where a verdict is wanted, it refuses alone; in an evaluation the error stands in
+/// the unit.
 pub fn note<'i>(
     alloc: Global,
     mode: Mode,
@@ -106,7 +137,7 @@ fn with_own<'i>(
 {
     match mode {
         Mode::Verdict => Ok(refused(before)),
-        Mode::Evaluate => Ok(refused(before)),
+        Mode::Evaluate => evaluated(alloc, keyword, text, before),
         Mode::First => {
             let fault = own_fault(alloc, keyword, text)?;
             Ok(with_first(before, fault))
@@ -143,6 +174,18 @@ pub fn goes_on(reply: &Reply<'_>) -> bool
         Reply::Truth(holds) => *holds,
         Reply::First(first) => first.is_none(),
         Reply::All(_) => true,
+    }
+}
+
+/// Whether a reply says yes.
+pub fn says_yes(reply: &Reply<'_>) -> bool
+    ensures yes { (texts : Bool) → result ≡ says_yes (reply_of texts reply.now) }
+{
+    match reply {
+        Reply::Nothing => false,
+        Reply::Truth(yes) => *yes,
+        Reply::First(_) => false,
+        Reply::All(_) => false,
     }
 }
 

@@ -41,6 +41,7 @@ pub fn onward<'i>(
                 Ok(None)
             }
         }
+        Stage::Counted(_, _) => Ok(None),
         Stage::Ended => Ok(None),
     }
 }

@@ -6,6 +6,8 @@ use schema_node::context::keyword::Mode;
 pub enum Stage {
     Begun,
     Asked(usize),
+    /// After the question of this place in order, where so many accepted before it.
+    Counted(usize, usize),
     Ended,
 }
 

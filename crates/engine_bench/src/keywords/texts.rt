@@ -4,6 +4,7 @@ ghost use Rattle.schema_reports.specs.Instance.{a_name};
 ghost use Rattle.schema_reports.specs.InstanceViews.{subject_of};
 ghost use Rattle.schema_reports.specs.Meaning.{subject_text};
 ghost use Rattle.schema_reports.specs.InstanceTexts.{subject_has_float};
+ghost use Rattle.engine_bench.specs.Words.{none_text};
 
 use schema_reports::instance::Instance;
 use schema_reports::location::OutOfMemory;
@@ -18,6 +19,17 @@ pub fn instance_text(alloc: Global, instance: Instance<'_>) -> Result<String, Ou
         Instance::Value(value) => value.to_string(alloc),
         Instance::Name(name) => quoted(alloc, name),
     }
+}
+
+/// The error's text where an instance fits no schema of a list.
+pub fn none_text(alloc: Global, name: &str, instance: Instance<'_>) -> Result<String, OutOfMemory>
+    ensures text { IfOk result (λ text. subject_has_float (subject_of instance.entry) ≡ false → string_bytes text ≡ none_text name.now (subject_of instance.entry)) }
+{
+    let mut text = instance_text(alloc, instance)?;
+    text.push_str(" is not valid under any of the schemas listed in the '")?;
+    text.push_str(name)?;
+    text.push_str("' keyword")?;
+    Ok(text)
 }
 
 /// A text between quotes, as JSON has it.

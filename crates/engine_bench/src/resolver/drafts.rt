@@ -1,13 +1,11 @@
-//! The drafts that values name, and their vocabularies.
-ghost use Rattle.std.specs.Prelude.{◌≡◌, bytes_eq, codes, option_map, IfOk};
+//! The drafts that values name.
+ghost use Rattle.std.specs.Prelude.{◌≡◌, bytes_eq, codes, option_map};
 ghost use Rattle.serde_json.specs.View.{view};
 ghost use Rattle.schema_reports.specs.KeywordViews.{draft_of};
-ghost use Rattle.engine_bench.specs.BenchResolving.{detected, draft_of_uri, text_member, vocabularies_in};
+ghost use Rattle.engine_bench.specs.BenchResolving.{detected, draft_of_uri, text_member};
 
-use schema_reports::keywords::{Draft, VocabularySet};
-use schema_reports::location::OutOfMemory;
+use schema_reports::keywords::Draft;
 use serde_json::Value;
-use std::alloc::Global;
 
 /// The text that stands under a name.
 pub fn text_member<'v>(value: &'v Value, name: &str) -> Option<&'v str>
@@ -61,21 +59,5 @@ pub fn detected(draft: Draft, value: &Value) -> Draft
     match text_member(value, "$schema") {
         Some(uri) => draft_of_uri(uri),
         None => draft,
-    }
-}
-
-/// The vocabularies of a document in a draft: those that it is handed with, and none in drafts before vocabularies.
-pub fn vocabularies_in(
-    alloc: Global,
-    draft: Draft,
-    handed: &VocabularySet,
-) -> Result<VocabularySet, OutOfMemory>
-    ensures vocabularies { IfOk result (λ v. v ≡ vocabularies_in (draft_of draft) handed.now) }
-{
-    match draft {
-        Draft::Draft201909 => Ok(handed.duplicate()?),
-        Draft::Draft202012 => Ok(handed.duplicate()?),
-        Draft::Unknown => Ok(handed.duplicate()?),
-        _ => Ok(VocabularySet::new(alloc)),
     }
 }

@@ -1,16 +1,50 @@
-//! Values at places of a document.
-ghost use Rattle.std.specs.Prelude.{◌≡◌, map, option_map};
+//! Places of a document, and the values there.
+ghost use Rattle.std.specs.Prelude.{◌≡◌, IfOk, map, option_map};
 ghost use Rattle.serde_json.specs.View.{view};
 ghost use Rattle.schema_reports.specs.Instance.{after_step, a_value, subject_from};
 ghost use Rattle.schema_node.specs.SchemaViews.{schema_step_of};
 ghost use Rattle.schema_node.specs.ResolverViews.{place_of};
-ghost use Rattle.engine_bench.specs.BenchResolving.{data_of, value_at};
+ghost use Rattle.engine_bench.specs.BenchResolving.{data_of, root_place, value_at};
+ghost use Rattle.engine_bench.specs.BenchAnswers.{RefusesWith};
 
-use schema_node::context::schema_place::{SchemaPlace, SchemaStep};
+use schema_node::context::resolver::LookupError;
+use schema_node::context::schema_place::{SchemaPath, SchemaPlace, SchemaStep};
+use schema_reports::location::OutOfMemory;
 use serde_json::Value;
+use std::alloc::Global;
+
+/// The root of the document.
+pub fn root_place(alloc: Global) -> SchemaPlace
+    ensures root { place_of result ≡ root_place }
+{
+    SchemaPlace {
+        document: 0,
+        path: SchemaPath::root(alloc),
+    }
+}
+
+/// The same step in memory of its own.
+pub fn copy_of_step(step: &SchemaStep) -> Result<SchemaStep, OutOfMemory>
+    ensures same { IfOk result (λ s. schema_step_of s ≡ schema_step_of step.now) }
+{
+    match step {
+        SchemaStep::Member(name) => Ok(SchemaStep::Member(name.clone()?)),
+        SchemaStep::Item(index) => Ok(SchemaStep::Item(*index)),
+    }
+}
+
+/// A refusal with this text.
+pub fn refusal(alloc: Global, text: &str) -> LookupError
+    ensures refused { RefusesWith text.now result }
+{
+    match String::from_str(alloc, text) {
+        Ok(text) => LookupError::Refused(text),
+        Err(_) => LookupError::OutOfMemory,
+    }
+}
 
 /// The value one step below.
-fn value_below<'v>(value: &'v Value, step: &SchemaStep) -> Option<&'v Value>
+pub fn value_below<'v>(value: &'v Value, step: &SchemaStep) -> Option<&'v Value>
     ensures below { option_map (λ v. a_value (view v.now)) result ≡ after_step (schema_step_of step.now) (a_value (view value.now)) }
 {
     match step {

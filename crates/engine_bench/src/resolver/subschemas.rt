@@ -13,7 +13,7 @@ use serde_json::{Map, Value};
 use std::alloc::Global;
 
 /// Whether a value is an object or a boolean.
-fn is_schema(value: &Value) -> bool
+pub fn is_schema(value: &Value) -> bool
     ensures schema { result ≡ is_schema (view value.now) }
 {
     value.is_object() || value.is_boolean()

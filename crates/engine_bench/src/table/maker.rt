@@ -3,7 +3,7 @@ ghost use Rattle.std.specs.Prelude.{◌≡◌, Some, IfOk, OnOk, option_map};
 ghost use Rattle.schema_reports.specs.Making as spec;
 ghost use Rattle.schema_node.specs.MakerViews.{maker_reply_of, TakesTurn};
 ghost use Rattle.engine_bench.specs.Shapes.{shape_of};
-ghost use Rattle.engine_bench.specs.MakerViews.{waiting_of};
+ghost use Rattle.engine_bench.specs.MakerViews.{list_shape, waiting_of};
 
 use crate::keywords::BenchKeyword;
 use schema_node::context::schema_place::SchemaPath;
@@ -18,6 +18,29 @@ pub enum Ending {
     Keyword(BenchKeyword),
     Nothing,
     Refused(OwnedError),
+}
+
+/// A keyword with a list of schemas.
+#[derive(Clone, Copy)]
+pub enum ListKeyword {
+    AllOf,
+    AnyOf,
+    OneOf,
+    PrefixItems,
+}
+
+impl ListKeyword {
+    /// The keyword with so many schemas.
+    pub fn with_schemas(self, count: usize) -> BenchKeyword
+        ensures shape { shape_of result ≡ list_shape self count }
+    {
+        match self {
+            ListKeyword::AllOf => BenchKeyword::AllOf(count),
+            ListKeyword::AnyOf => BenchKeyword::AnyOf(count),
+            ListKeyword::OneOf => BenchKeyword::OneOf(count),
+            ListKeyword::PrefixItems => BenchKeyword::PrefixItems(count),
+        }
+    }
 }
 
 /// A maker: the paths of the children, in order, how many of them it has asked for, and how it ends, until it has.

@@ -6,6 +6,7 @@ ghost use Rattle.schema_reports.specs.Making.{compile};
 ghost use Rattle.schema_reports.specs.Plan.{Part, plan, plan_of as plan_of_schema, sorted, parts, part, part_made, making, reference_part, subschema, found, to_ref};
 ghost use Rattle.schema_reports.specs.Reach.{Reached, asked_edges, members_edges, maker_edges, reference_edges};
 ghost use Rattle.schema_reports.specs.Refusals.{causes, schema_causes, members_causes, maker_causes, reference_causes, request_causes, lookup_causes};
+ghost use Rattle.schema_reports.specs.Units.{annotations_of, object_annotations, unknown};
 ghost use Rattle.schema_reports.specs.Guarded.{form_edges};
 ghost use Rattle.schema_node.specs.NodeTable.{LeadsToFilled};
 ghost use Rattle.schema_node.specs.NodeViews.{edge_of, entry_of as entry_view, plan_of};
@@ -16,13 +17,14 @@ ghost use Rattle.schema_compiler.specs.Options.{given_parts};
 ghost use Rattle.schema_compiler.specs.Refusing.{IsRefusal, Refused};
 ghost use Rattle.schema_compiler.specs.Filling.{IsTable, IsGrown, IsStep, IsPlan, AreParts, IsMadePart, LeadsTo};
 
+use crate::compiler::annotations::{keep_unknown, object_of};
 use crate::compiler::builtin::builtin_row;
 use crate::compiler::entries::insert_by_priority;
 use crate::compiler::error::BuildError;
 use crate::compiler::key::{SchemaKey, find, subschema_key};
 use crate::compiler::table::{
-    CompileOptions, Compiled, checks_formats, edge_at, finish, keyword_location, lone_reference,
-    origin_of, plain_form, reply_for, reserve, target_of,
+    CompileOptions, Compiled, PlannedNode, checks_formats, edge_at, finish, keyword_location,
+    lone_reference, origin_of, plain_form, reply_for, reserve, target_of,
 };
 use crate::ref_::{ReferenceKind, reference_kind};
 use schema_node::context::keyword::Validate;
@@ -33,6 +35,13 @@ use schema_node::node::{Edge, Entry, EntryForm, NodeForm, SchemaNode};
 use schema_reports::location::{Location, LocationSegment};
 use serde_json::{Map, Value};
 use std::alloc::Global;
+
+// The keywords of an object, by their priorities, and the members that no keyword is made of.
+#[derive(Drop)]
+struct ObjectKeywords<K> {
+    entries: Vec<Entry<K>>,
+    unknown: Map<String, Value>,
+}
 
 /// The edge to the node of a key, which is compiled first where it has no number. The edge is guarded where the node is
 /// still being compiled.
@@ -62,31 +71,37 @@ pub fn edge_to<R: Resolver, K: Validate, T: KeywordTable<K>>(
         return Err(BuildError::NodeLimit(options.node_limit));
     }
     let number = reserve(alloc, resolver, table, options, compiled, &key)?;
-    let form = form_of(alloc, resolver, table, options, compiled, &key)?;
-    Ok(finish(resolver, table, options, compiled, number, form, &key, path))
+    let planned = planned_node(alloc, resolver, table, options, compiled, &key)?;
+    Ok(finish(
+        resolver, table, options, compiled, number, planned, &key, path,
+    ))
 }
 
-// What a key's node asks of an instance.
+// What a key's node asks of an instance, and its annotations.
 #[cycle(compile)]
-fn form_of<R: Resolver, K: Validate, T: KeywordTable<K>>(
+fn planned_node<R: Resolver, K: Validate, T: KeywordTable<K>>(
     alloc: Global,
     resolver: &R,
     table: &T,
     options: &CompileOptions,
     compiled: &mut Compiled<R::State, K>,
     key: &SchemaKey<R::State>,
-) -> Result<NodeForm<K>, BuildError>
+) -> Result<PlannedNode<K>, BuildError>
     requires table { IsTable (given_parts (R.resolving resolver.now) (T.owned table.now) (T.script table.now) options.now) K.shape options.now.node_limit (map (key_of R.point) compiled.old.keys.items) compiled.old.nodes }
     ensures step { OnOk result (IsStep (given_parts (R.resolving resolver.now) (T.owned table.now) (T.script table.now) options.now) K.shape options.now.node_limit (asked_edges (given_parts (R.resolving resolver.now) (T.owned table.now) (T.script table.now) options.now) (key_of R.point key.now)) (causes (given_parts (R.resolving resolver.now) (T.owned table.now) (T.script table.now) options.now) (key_of R.point key.now)) (map (key_of R.point) compiled.old.keys.items) (map (key_of R.point) compiled.new.keys.items) compiled.old.nodes compiled.new.nodes) }
     ensures refused { IfErr result (Refused (given_parts (R.resolving resolver.now) (T.owned table.now) (T.script table.now) options.now) options.now.node_limit (asked_edges (given_parts (R.resolving resolver.now) (T.owned table.now) (T.script table.now) options.now) (key_of R.point key.now)) (causes (given_parts (R.resolving resolver.now) (T.owned table.now) (T.script table.now) options.now) (key_of R.point key.now)) (map (key_of R.point) compiled.old.keys.items)) }
-    ensures form { IfOk result (λ form. IsPlan (given_parts (R.resolving resolver.now) (T.owned table.now) (T.script table.now) options.now) (map (key_of R.point) compiled.new.keys.items) K.shape compiled.new.nodes (key_of R.point key.now) (plan_of form) (plan (given_parts (R.resolving resolver.now) (T.owned table.now) (T.script table.now) options.now) (key_of R.point key.now))) }
+    ensures form { IfOk result (λ n. IsPlan (given_parts (R.resolving resolver.now) (T.owned table.now) (T.script table.now) options.now) (map (key_of R.point) compiled.new.keys.items) K.shape compiled.new.nodes (key_of R.point key.now) (plan_of n.form) (plan (given_parts (R.resolving resolver.now) (T.owned table.now) (T.script table.now) options.now) (key_of R.point key.now))) }
+    ensures annotations { IfOk result (λ n. option_map view n.annotations ≡ annotations_of (given_parts (R.resolving resolver.now) (T.owned table.now) (T.script table.now) options.now) (key_of R.point key.now)) }
 {
     match resolver.value(&key.place) {
         Some(value) => match value.as_object() {
-            Some(members) => Ok(object_form(
+            Some(members) => Ok(planned_object(
                 alloc, resolver, table, options, compiled, key, members,
             )?),
-            None => Ok(plain_form(key, value)?),
+            None => Ok(PlannedNode {
+                form: plain_form(key, value)?,
+                annotations: None,
+            }),
         },
         None => Err(BuildError::NotASchema(key.location.copy()?)),
     }
@@ -94,7 +109,7 @@ fn form_of<R: Resolver, K: Validate, T: KeywordTable<K>>(
 
 // What the node of an object asks of an instance; a `$ref` that stands alone is all of it.
 #[cycle(compile)]
-fn object_form<R: Resolver, K: Validate, T: KeywordTable<K>>(
+fn planned_object<R: Resolver, K: Validate, T: KeywordTable<K>>(
     alloc: Global,
     resolver: &R,
     table: &T,
@@ -102,11 +117,12 @@ fn object_form<R: Resolver, K: Validate, T: KeywordTable<K>>(
     compiled: &mut Compiled<R::State, K>,
     key: &SchemaKey<R::State>,
     members: &Map<String, Value>,
-) -> Result<NodeForm<K>, BuildError>
+) -> Result<PlannedNode<K>, BuildError>
     requires table { IsTable (given_parts (R.resolving resolver.now) (T.owned table.now) (T.script table.now) options.now) K.shape options.now.node_limit (map (key_of R.point) compiled.old.keys.items) compiled.old.nodes }
     ensures step { OnOk result (IsStep (given_parts (R.resolving resolver.now) (T.owned table.now) (T.script table.now) options.now) K.shape options.now.node_limit (object_edges (given_parts (R.resolving resolver.now) (T.owned table.now) (T.script table.now) options.now) (key_of R.point key.now) (members_view members.now.entries)) (schema_causes (given_parts (R.resolving resolver.now) (T.owned table.now) (T.script table.now) options.now) (key_of R.point key.now) (object (members_view members.now.entries))) (map (key_of R.point) compiled.old.keys.items) (map (key_of R.point) compiled.new.keys.items) compiled.old.nodes compiled.new.nodes) }
     ensures refused { IfErr result (Refused (given_parts (R.resolving resolver.now) (T.owned table.now) (T.script table.now) options.now) options.now.node_limit (object_edges (given_parts (R.resolving resolver.now) (T.owned table.now) (T.script table.now) options.now) (key_of R.point key.now) (members_view members.now.entries)) (schema_causes (given_parts (R.resolving resolver.now) (T.owned table.now) (T.script table.now) options.now) (key_of R.point key.now) (object (members_view members.now.entries))) (map (key_of R.point) compiled.old.keys.items)) }
-    ensures form { IfOk result (λ form. IsPlan (given_parts (R.resolving resolver.now) (T.owned table.now) (T.script table.now) options.now) (map (key_of R.point) compiled.new.keys.items) K.shape compiled.new.nodes (key_of R.point key.now) (plan_of form) (plan_of_schema (given_parts (R.resolving resolver.now) (T.owned table.now) (T.script table.now) options.now) (key_of R.point key.now) (object (members_view members.now.entries)))) }
+    ensures form { IfOk result (λ n. IsPlan (given_parts (R.resolving resolver.now) (T.owned table.now) (T.script table.now) options.now) (map (key_of R.point) compiled.new.keys.items) K.shape compiled.new.nodes (key_of R.point key.now) (plan_of n.form) (plan_of_schema (given_parts (R.resolving resolver.now) (T.owned table.now) (T.script table.now) options.now) (key_of R.point key.now) (object (members_view members.now.entries)))) }
+    ensures annotations { IfOk result (λ n. option_map view n.annotations ≡ object_annotations (given_parts (R.resolving resolver.now) (T.owned table.now) (T.script table.now) options.now) (key_of R.point key.now) (members_view members.now.entries)) }
 {
     match lone_reference(key.draft, members) {
         Some(value) => {
@@ -126,20 +142,30 @@ fn object_form<R: Resolver, K: Validate, T: KeywordTable<K>>(
                 Some(entry) => {
                     let mut entries = Vec::new(alloc);
                     entries.push(entry)?;
-                    Ok(NodeForm::Keywords(entries))
+                    Ok(PlannedNode {
+                        form: NodeForm::Keywords(entries),
+                        annotations: None,
+                    })
                 }
-                None => Ok(NodeForm::Always),
+                None => Ok(PlannedNode {
+                    form: NodeForm::Always,
+                    annotations: None,
+                }),
             }
         }
-        None => Ok(NodeForm::Keywords(entries_of(
-            alloc, resolver, table, options, compiled, key, members,
-        )?)),
+        None => {
+            let keywords = keywords_of(alloc, resolver, table, options, compiled, key, members)?;
+            Ok(PlannedNode {
+                form: NodeForm::Keywords(keywords.entries),
+                annotations: object_of(keywords.unknown),
+            })
+        }
     }
 }
 
-// The keywords of an object, by their priorities.
+// The keywords of an object, by their priorities, and the members that no keyword is made of.
 #[cycle(compile)]
-fn entries_of<R: Resolver, K: Validate, T: KeywordTable<K>>(
+fn keywords_of<R: Resolver, K: Validate, T: KeywordTable<K>>(
     alloc: Global,
     resolver: &R,
     table: &T,
@@ -147,21 +173,24 @@ fn entries_of<R: Resolver, K: Validate, T: KeywordTable<K>>(
     compiled: &mut Compiled<R::State, K>,
     key: &SchemaKey<R::State>,
     members: &Map<String, Value>,
-) -> Result<Vec<Entry<K>>, BuildError>
+) -> Result<ObjectKeywords<K>, BuildError>
     requires table { IsTable (given_parts (R.resolving resolver.now) (T.owned table.now) (T.script table.now) options.now) K.shape options.now.node_limit (map (key_of R.point) compiled.old.keys.items) compiled.old.nodes }
     ensures step { OnOk result (IsStep (given_parts (R.resolving resolver.now) (T.owned table.now) (T.script table.now) options.now) K.shape options.now.node_limit (members_edges (given_parts (R.resolving resolver.now) (T.owned table.now) (T.script table.now) options.now) (key_of R.point key.now) (members_view members.now.entries) (members_view members.now.entries)) (members_causes (given_parts (R.resolving resolver.now) (T.owned table.now) (T.script table.now) options.now) (key_of R.point key.now) (members_view members.now.entries) (members_view members.now.entries)) (map (key_of R.point) compiled.old.keys.items) (map (key_of R.point) compiled.new.keys.items) compiled.old.nodes compiled.new.nodes) }
     ensures refused { IfErr result (Refused (given_parts (R.resolving resolver.now) (T.owned table.now) (T.script table.now) options.now) options.now.node_limit (members_edges (given_parts (R.resolving resolver.now) (T.owned table.now) (T.script table.now) options.now) (key_of R.point key.now) (members_view members.now.entries) (members_view members.now.entries)) (members_causes (given_parts (R.resolving resolver.now) (T.owned table.now) (T.script table.now) options.now) (key_of R.point key.now) (members_view members.now.entries) (members_view members.now.entries)) (map (key_of R.point) compiled.old.keys.items)) }
-    ensures entries { IfOk result (λ es. AreParts (given_parts (R.resolving resolver.now) (T.owned table.now) (T.script table.now) options.now) (map (key_of R.point) compiled.new.keys.items) K.shape compiled.new.nodes (key_of R.point key.now) (map entry_view es.items) (sorted (parts (given_parts (R.resolving resolver.now) (T.owned table.now) (T.script table.now) options.now) (key_of R.point key.now) (members_view members.now.entries) (members_view members.now.entries)))) }
+    ensures entries { IfOk result (λ o. AreParts (given_parts (R.resolving resolver.now) (T.owned table.now) (T.script table.now) options.now) (map (key_of R.point) compiled.new.keys.items) K.shape compiled.new.nodes (key_of R.point key.now) (map entry_view o.entries.items) (sorted (parts (given_parts (R.resolving resolver.now) (T.owned table.now) (T.script table.now) options.now) (key_of R.point key.now) (members_view members.now.entries) (members_view members.now.entries)))) }
+    ensures unknown { IfOk result (λ o. members_view o.unknown.entries ≡ unknown (given_parts (R.resolving resolver.now) (T.owned table.now) (T.script table.now) options.now) (key_of R.point key.now) (members_view members.now.entries) (members_view members.now.entries)) }
 {
     let mut entries = Vec::new(alloc);
+    let mut unknown = Map::new(alloc);
     for (name, value) in members.iter() {
-        if let Some(entry) = entry_of(
+        match entry_of(
             alloc, resolver, table, options, compiled, key, members, name, value,
         )? {
-            insert_by_priority(&mut entries, entry)?;
+            Some(entry) => insert_by_priority(&mut entries, entry)?,
+            None => keep_unknown(resolver, key, &mut unknown, name, value)?,
         }
     }
-    Ok(entries)
+    Ok(ObjectKeywords { entries, unknown })
 }
 
 // The keyword of a member, if it is one: the table's own, or else a built-in one; references are the engine's.

@@ -10,6 +10,7 @@ ghost use Rattle.std.specs.Prelude.{◌||◌, unwrap_or, bytes_eq};
 ghost use Rattle.schema_reports.specs.Refusals.{unsupported_vocabulary, not_a_schema};
 ghost use Rattle.schema_reports.specs.Plan.{Key, found, is_self, reference_edge};
 ghost use Rattle.schema_reports.specs.Refusals.{lookup_causes, undeclared};
+ghost use Rattle.schema_reports.specs.Units.{annotations_of};
 ghost use Rattle.schema_reports.specs.KeywordViews.{draft_of};
 ghost use Rattle.schema_node.specs.NodeTable.{NodeEntry, LeadsToFilled, IsReserved};
 ghost use Rattle.schema_node.specs.NodeViews.{edge_of, plan_of};
@@ -52,6 +53,13 @@ pub struct Compiled<S, K> {
     pub nodes: Nodes<K>,
 }
 
+/// What a key's node asks of an instance, and the members that no keyword is made of, as an object.
+#[derive(Drop)]
+pub struct PlannedNode<K> {
+    pub form: NodeForm<K>,
+    pub annotations: Option<Value>,
+}
+
 /// Gives a key the next number, with a node that is reserved.
 pub fn reserve<R: Resolver, K: Validate, T: KeywordTable<K>>(
     alloc: Global,
@@ -85,14 +93,15 @@ pub fn finish<R: Resolver, K: Validate, T: KeywordTable<K>>(
     options: &CompileOptions,
     compiled: &mut Compiled<R::State, K>,
     number: SchemaNode,
-    form: NodeForm<K>,
+    planned: PlannedNode<K>,
     _key: &SchemaKey<R::State>,
     path: Location,
 ) -> Edge
     requires table { IsTable (given_parts (R.resolving _resolver.now) (T.owned _table.now) (T.script _table.now) options.now) K.shape options.now.node_limit (map (key_of R.point) compiled.old.keys.items) compiled.old.nodes }
     requires numbered { slice_get (map (key_of R.point) compiled.old.keys.items) number.0 ≡ Some (key_of R.point _key.now) }
     requires reserved { IsReserved compiled.old.nodes number.0 }
-    requires planned { IsPlanned (given_parts (R.resolving _resolver.now) (T.owned _table.now) (T.script _table.now) options.now) K.shape (map (key_of R.point) compiled.old.keys.items) compiled.old.nodes (key_of R.point _key.now) (plan_of form) }
+    requires planned { IsPlanned (given_parts (R.resolving _resolver.now) (T.owned _table.now) (T.script _table.now) options.now) K.shape (map (key_of R.point) compiled.old.keys.items) compiled.old.nodes (key_of R.point _key.now) (plan_of planned.form) }
+    requires annotated { option_map view planned.annotations ≡ annotations_of (given_parts (R.resolving _resolver.now) (T.owned _table.now) (T.script _table.now) options.now) (key_of R.point _key.now) }
     ensures table { IsTable (given_parts (R.resolving _resolver.now) (T.owned _table.now) (T.script _table.now) options.now) K.shape options.now.node_limit (map (key_of R.point) compiled.new.keys.items) compiled.new.nodes }
     ensures keys { (map (key_of R.point) compiled.new.keys.items) ≡ (map (key_of R.point) compiled.old.keys.items) }
     ensures filled { Finishes compiled.old.nodes number.0 compiled.new.nodes }
@@ -100,7 +109,9 @@ pub fn finish<R: Resolver, K: Validate, T: KeywordTable<K>>(
     ensures path { result.path ≡ path }
     ensures leads { LeadsToFilled compiled.new.nodes (edge_of result) }
 {
-    compiled.nodes.fill(number, form, None);
+    compiled
+        .nodes
+        .fill(number, planned.form, planned.annotations);
     Edge {
         node: number,
         path,
@@ -146,8 +157,8 @@ pub fn checks_formats<S>(options: &CompileOptions, key: &SchemaKey<S>) -> bool
     }
 }
 
-// Whether `$ref` stands alone in a draft.
-fn stands_alone(draft: Draft) -> bool
+/// Whether `$ref` stands alone in a draft: in 4 to 7. It takes no memory.
+pub fn stands_alone(draft: Draft) -> bool
     ensures alone { result ≡ ref_stands_alone (draft_of draft) }
 {
     match draft {

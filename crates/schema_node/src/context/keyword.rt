@@ -99,12 +99,20 @@ pub enum Fault<'i> {
     Passed(ValidationError<'i>),
 }
 
-/// What a run has found so far, by its mode.
+/// An error of the keyword's own, as its unit has it: the name that it goes by, and its text.
+#[derive(Drop)]
+pub struct ErrorDescription {
+    pub keyword: String,
+    pub text: String,
+}
+
+/// What a run has found so far, by its mode. In an evaluation that is a verdict, and the errors of the keyword's own.
 #[derive(Drop)]
 pub enum Answer<'i> {
     Verdict(bool),
     First(Option<Fault<'i>>),
     All(Vec<Fault<'i>>),
+    Evaluation(bool, Vec<ErrorDescription>),
 }
 
 /// A keyword. What it may ask, when it holds and which faults it finds are functions of what is known of it apart from

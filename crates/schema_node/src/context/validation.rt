@@ -1,12 +1,16 @@
-//! What a run has in progress.
-ghost use Rattle.std.specs.Prelude.{◌≡◌, ◌++◌, ◌∷◌, [], IfOk, IfErr};
+//! What a run has in progress, and what it assumes and remembers of unfinished matches.
+ghost use Rattle.std.specs.Prelude.{◌≡◌, ◌++◌, ◌∷◌, [], IfOk, IfErr, OnErr, OnOk};
 ghost use Rattle.std.specs.List.{list_any};
 ghost use Rattle.std.specs.Prelude.{◌==◌};
+ghost use Rattle.schema_reports.specs.Unfinished.{starting};
+ghost use Rattle.schema_node.specs.Matches.{after_match, comes_out};
 ghost use Rattle.schema_node.specs.Progress.{busy_at, Distinct, Enters, EndsWith};
 
+use crate::context::matcher::Matcher;
 use crate::node::SchemaNode;
 use schema_reports::instance::Place;
 use schema_reports::location::OutOfMemory;
+use schema_reports::unfinished_matches::{Match, MatchAssumptions, MatchSite};
 use std::alloc::Global;
 use std::marker::Model;
 
@@ -17,37 +21,51 @@ struct InProgress<'i> {
     place: Place<'i>,
 }
 
-/// The pairs of a node and a place that are in progress, the last entered last. No pair stands twice.
+/// The pairs of a node and a place that are in progress, the last entered last, and no pair twice; and what the run
+/// assumes of unfinished matches, and remembers of those that it met.
 #[derive(Drop)]
 pub struct ValidationContext<'i> {
     pairs: Vec<InProgress<'i>>,
+    matches: MatchAssumptions<'i>,
 }
 
 impl<'i> Model for ValidationContext<'i> {
-    ghost use Rattle.std.specs.Prelude.{ℕ, List, map};
-    ghost use Rattle.schema_reports.specs.Instance.{Place};
-    ghost use Rattle.schema_node.specs.Progress.{Distinct};
+    ghost use Rattle.std.specs.Prelude.{map};
+    ghost use Rattle.schema_node.specs.Progress.{Context, Distinct};
     ghost use Rattle.schema_node.specs.ProgressViews.{pair_of};
 
-    ghost Value = { List (ℕ × Place) };
+    ghost Value = { Context };
 
-    ghost view = { λ c. map pair_of c.pairs.items };
+    ghost view = { λ c. record { in_progress = map pair_of c.pairs.items; remembered = c.matches } };
 
     ghost invariant = { λ c. Distinct (map pair_of c.pairs.items) };
 }
 
 impl<'i> ValidationContext<'i> {
-    /// Nothing in progress.
+    /// Nothing in progress, nothing assumed.
     pub fn new(alloc: Global) -> ValidationContext<'i>
-        ensures empty { result ≡ [] }
+        ensures empty { result ≡ record { in_progress = []; remembered = starting [] } }
     {
-        ValidationContext {
-            pairs: Vec::new(alloc),
-        }
+        ValidationContext::assuming(alloc, MatchAssumptions::new(alloc))
+    }
+
+    /// Nothing in progress, with these assumptions and what is remembered with them.
+    pub fn assuming(alloc: Global, matches: MatchAssumptions<'i>) -> ValidationContext<'i>
+        ensures assumes { result ≡ record { in_progress = []; remembered = matches.entry } }
+    {
+        let pairs = Vec::new(alloc);
+        ValidationContext { pairs, matches }
+    }
+
+    /// What was assumed, and is remembered of the unfinished matches that were met. It takes no memory.
+    pub fn into_matches(self) -> MatchAssumptions<'i>
+        ensures remembered { result ≡ self.entry.remembered }
+    {
+        self.matches
     }
 
     fn is_in_progress(&self, node: SchemaNode, place: &Place<'i>) -> bool
-        ensures found { result ≡ list_any (λ i. i == node.0) (busy_at place.now self.now) }
+        ensures found { result ≡ list_any (λ i. i == node.0) (busy_at place.now self.now.in_progress) }
     {
         for pair in self.pairs.iter() {
             if pair.place.same(place) && pair.node == node {
@@ -59,9 +77,10 @@ impl<'i> ValidationContext<'i> {
 
     /// Whether the pair is in progress; it is from now on. Nothing changes where memory is wanting.
     pub fn enter(&mut self, node: SchemaNode, place: &Place<'i>) -> Result<bool, OutOfMemory>
-        ensures enters { IfOk result (λ b. Enters node.0 place.now self.old b self.new) }
+        ensures enters { IfOk result (λ b. Enters node.0 place.now self.old.in_progress b self.new.in_progress) }
         ensures unchanged { IfErr result (λ _. self.new ≡ self.old) }
-        ensures distinct { Distinct self.new }
+        ensures distinct { Distinct self.new.in_progress }
+        ensures remembered { self.new.remembered ≡ self.old.remembered }
     {
         if self.is_in_progress(node, place) {
             return Ok(true);
@@ -73,9 +92,45 @@ impl<'i> ValidationContext<'i> {
 
     /// Takes the pair away, which is the last. It takes no memory.
     pub fn exit(&mut self, node: SchemaNode, place: &Place<'i>)
-        requires last { EndsWith node.0 place.now self.old }
-        ensures left { self.old ≡ self.new ++ (node.0, place.now) ∷ [] }
+        requires last { EndsWith node.0 place.now self.old.in_progress }
+        ensures left { self.old.in_progress ≡ self.new.in_progress ++ (node.0, place.now) ∷ [] }
+        ensures remembered { self.new.remembered ≡ self.old.remembered }
     {
         self.pairs.pop();
+    }
+
+    /// Whether the subject matches the pattern. A match that the matcher leaves unfinished comes out as it is assumed to, or
+    /// else as no, and is remembered with its site. Nothing changes where memory is wanting.
+    pub fn is_match<M: Matcher>(
+        &mut self,
+        alloc: Global,
+        matcher: &M,
+        pattern: &str,
+        subject: &str,
+        site: MatchSite<'i>,
+    ) -> Result<bool, OutOfMemory>
+        ensures answer { IfOk result (λ b. b ≡ comes_out self.old.remembered.assumptions (record { pattern = pattern.now; subject = subject.now }) ((M.matching matcher.now).is_match pattern.now subject.now)) }
+        ensures met { OnOk result (self.new.remembered ≡ after_match self.old.remembered (record { pair = record { pattern = pattern.now; subject = subject.now }; site = site.entry }) ((M.matching matcher.now).is_match pattern.now subject.now)) }
+        ensures in_progress { self.new.in_progress ≡ self.old.in_progress }
+        ensures unchanged { OnErr result (self.new ≡ self.old) }
+    {
+        match matcher.is_match(alloc, pattern, subject)? {
+            Match::Finished(matches) => Ok(matches),
+            Match::Unfinished(reason) => {
+                Ok(self.matches.resolve(pattern, subject, reason, site)?)
+            }
+        }
+    }
+
+    /// Whether the text is a pattern of ECMA-262, as the matcher says.
+    pub fn is_valid_ecma_regex<M: Matcher>(
+        &self,
+        alloc: Global,
+        matcher: &M,
+        pattern: &str,
+    ) -> Result<bool, OutOfMemory>
+        ensures valid { IfOk result (λ b. b ≡ (M.matching matcher.now).is_ecma pattern.now) }
+    {
+        matcher.is_valid_ecma_regex(alloc, pattern)
     }
 }

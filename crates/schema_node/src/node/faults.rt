@@ -30,7 +30,7 @@ pub fn begun<'i>(alloc: Global, mode: Mode) -> Answer<'i>
         Mode::Verdict => Answer::Verdict(true),
         Mode::First => Answer::First(None),
         Mode::All => Answer::All(Vec::new(alloc)),
-        Mode::Evaluate => Answer::Verdict(true),
+        Mode::Evaluate => Answer::Evaluation(true, Vec::new(alloc)),
     }
 }
 
@@ -176,6 +176,7 @@ fn is_accepting(answer: &Answer<'_>) -> bool
         Answer::Verdict(yes) => *yes,
         Answer::First(found) => found.is_none(),
         Answer::All(faults) => faults.is_empty(),
+        Answer::Evaluation(yes, _) => *yes,
     }
 }
 
@@ -194,6 +195,7 @@ fn all_faults<'i>(alloc: Global, answer: Answer<'i>) -> Result<Vec<Fault<'i>>, O
             Ok(faults)
         }
         Answer::All(faults) => Ok(faults),
+        Answer::Evaluation(_, _) => Ok(Vec::new(alloc)),
     }
 }
 
@@ -211,6 +213,7 @@ fn first_fault<'i>(answer: Answer<'i>) -> Option<Fault<'i>>
                 Some(faults.remove(0))
             }
         }
+        Answer::Evaluation(_, _) => None,
     }
 }
 

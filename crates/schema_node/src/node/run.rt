@@ -1,26 +1,32 @@
 //! Runs of nodes over instances.
-ghost use Rattle.std.specs.Prelude.{◌≡◌, ◌<◌, ℕ, All, Bool, IfOk, Some, MatchOption, length, map, option_map, slice_get, string_bytes};
+ghost use Rattle.std.specs.Prelude.{◌≡◌, ◌<◌, ℕ, All, Bool, IfOk, true, false, Some, MatchOption, length, map, option_map, slice_get, string_bytes};
 ghost use Rattle.serde_json.specs.Data.{Data};
 ghost use Rattle.schema_reports.specs.Instance.{after_step, subject_at};
 ghost use Rattle.schema_reports.specs.InstanceViews.{subject_of, step_of};
-ghost use Rattle.schema_reports.specs.Keywords.{down, here, for_units};
-ghost use Rattle.schema_reports.specs.Laws.{AsksAlone, IsPresent, steps_below};
-ghost use Rattle.schema_reports.specs.Matching.{Assumptions, Matcher};
+ghost use Rattle.schema_reports.specs.Keywords.{down, here, for_units, for_verdict};
+ghost use Rattle.schema_reports.specs.Laws.{IsPresent, steps_below};
+ghost use Rattle.schema_reports.specs.Matching.{Extends, completion_of};
 ghost use Rattle.schema_reports.specs.Numbered.{left, subject_in};
 ghost use Rattle.schema_reports.specs.ReportViews.{BorrowsItsPlace};
+ghost use Rattle.schema_reports.specs.Reports.{Outcome};
 ghost use Rattle.schema_reports.specs.Runs.{no_run, reply_in};
 ghost use Rattle.schema_node.specs.FaultViews.{errors_in};
 ghost use Rattle.schema_reports.specs.Guarded.{guarded_node, guarded_within, node_child, node_keyword};
 ghost use Rattle.schema_node.specs.KeywordViews.{below_of, mode_of, reply_of};
 ghost use Rattle.schema_node.specs.NodeTable.{numbered, shaped_form, shaped_part, IsRanked};
 ghost use Rattle.schema_node.specs.NodeViews.{edge_of, entry_of, form_of, node_of};
-ghost use Rattle.schema_node.specs.NodeRuns.{Ready, TellsAll, HasForm, HasParts, NodeReplies, EdgeReplies, ChildReplies, FormReplies, HasChildren, PartsReply};
+ghost use Rattle.schema_node.specs.NodeRuns.{Ready, TellsAll, HasForm, HasParts, NodeReplies, EdgeReplies, ChildReplies, FormReplies, HasChildren, PartsReply, reply_by};
+ghost use Rattle.schema_node.specs.Marks.{TakesNoMarks};
+ghost use Rattle.schema_node.specs.Matches.{MeetsEach, settling};
+ghost use Rattle.schema_node.specs.NodeMeets.{NodeMeets, EdgeMeets, ChildMeets, FormMeets, EntryMeets, PartsMeet};
 ghost use Rattle.schema_node.specs.Progress.{busy_at, NoDeeper};
 
 use crate::context::keyword::{Below, Mode, Reply, Step, Validate};
+use crate::context::matcher::Matcher;
 use crate::context::validation::ValidationContext;
 use crate::node::faults::{begun, finished};
 use crate::node::replies::{accepted, is_settled, is_yes, joined, refused, stamped_reply};
+use crate::node::sites::match_site;
 use crate::node::{Edge, Entry, EntryForm, NodeForm, Nodes, SchemaNode};
 use schema_reports::instance::{Instance, InstanceStep, Place};
 use schema_reports::location::{Location, OutOfMemory};
@@ -57,11 +63,26 @@ fn child_edge(children: &[Option<Edge>], child: usize) -> Option<&Edge>
     }
 }
 
+// Whether an entry is asked for its verdict before it is asked for errors.
+fn asks_verdict_first<K>(entry: &Entry<K>, mode: Mode) -> bool
+    ensures leaf { result ≡ true → entry.now.is_leaf ≡ true }
+    ensures wants_more { result ≡ true → ¬ (mode_of mode ≡ for_verdict) }
+    ensures other { result ≡ false → ¬ (mode_of mode ≡ for_verdict) → entry.now.is_leaf ≡ false }
+{
+    match mode {
+        Mode::Verdict => false,
+        Mode::First => entry.is_leaf,
+        Mode::All => entry.is_leaf,
+        Mode::Evaluate => entry.is_leaf,
+    }
+}
+
 // The reply of a node at a place.
 #[cycle(run)]
-fn run_node<'i, K: Validate>(
+fn run_node<'i, K: Validate, M: Matcher>(
     nodes: &Nodes<K>,
     alloc: Global,
+    matcher: &M,
     node: SchemaNode,
     instance: Instance<'i>,
     place: &Place<'i>,
@@ -71,11 +92,14 @@ fn run_node<'i, K: Validate>(
 ) -> Result<Reply<'i>, OutOfMemory>
     requires known { node.0 < length nodes.now }
     requires ready { Ready K.words (numbered K.shape nodes.now) (length nodes.now) }
-    requires above { NoDeeper place.now context.old }
+    requires above { NoDeeper place.now context.old.in_progress }
     requires wanted { ¬ (mode_of mode ≡ for_units) }
-    ensures kept { IfOk result (λ _. context.new ≡ context.old) }
-    ensures says { IfOk result (λ r. NodeReplies K.words K.is_whole (numbered K.shape nodes.now) (length nodes.now)
-        (mode_of mode) path.now place.now (busy_at place.now context.old) (subject_of instance.entry) node.0 r) }
+    ensures kept { IfOk result (λ _. context.new.in_progress ≡ context.old.in_progress) }
+    ensures assumes { IfOk result (λ _. context.new.remembered.assumptions ≡ context.old.remembered.assumptions) }
+    ensures says { IfOk result (λ r. NodeReplies K.words K.is_whole (numbered K.shape nodes.now) (length nodes.now) (settling (M.matching matcher.now) context.old.remembered.assumptions)
+        (mode_of mode) path.now place.now (busy_at place.now context.old.in_progress) (subject_of instance.entry) node.0 r) }
+    ensures meets { IfOk result (λ _. NodeMeets K.words K.is_whole (numbered K.shape nodes.now) (length nodes.now) (settling (M.matching matcher.now) context.old.remembered.assumptions)
+        (mode_of mode) path.now place.now (busy_at place.now context.old.in_progress) (subject_of instance.entry) context.old.remembered context.new.remembered node.0) }
 {
     let found = nodes.node(node);
     match &found.form {
@@ -86,6 +110,7 @@ fn run_node<'i, K: Validate>(
             NodeForm::Keywords(entries) => Ok(run_entries(
                 nodes,
                 alloc,
+                matcher,
                 node,
                 entries.as_slice(),
                 instance,
@@ -100,9 +125,10 @@ fn run_node<'i, K: Validate>(
 
 // The reply of the entries, in their order; no more of them are asked once a no is all that is wanted.
 #[cycle(run)]
-fn run_entries<'i, K: Validate>(
+fn run_entries<'i, K: Validate, M: Matcher>(
     nodes: &Nodes<K>,
     alloc: Global,
+    matcher: &M,
     node: SchemaNode,
     entries: &[Entry<K>],
     instance: Instance<'i>,
@@ -114,16 +140,19 @@ fn run_entries<'i, K: Validate>(
     requires known { node.0 < length nodes.now }
     requires parts { HasParts (numbered K.shape nodes.now) node.0 (map (shaped_part K.shape) (map entry_of entries.now)) }
     requires ready { Ready K.words (numbered K.shape nodes.now) (length nodes.now) }
-    requires above { NoDeeper place.now context.old }
+    requires above { NoDeeper place.now context.old.in_progress }
     requires wanted { ¬ (mode_of mode ≡ for_units) }
-    ensures kept { IfOk result (λ _. context.new ≡ context.old) }
-    ensures says { IfOk result (λ r. PartsReply K.words K.is_whole (numbered K.shape nodes.now) (length nodes.now)
-        (mode_of mode) path.now place.now (busy_at place.now context.old) (subject_of instance.entry) node.0 (map (shaped_part K.shape) (map entry_of entries.now)) r) }
+    ensures kept { IfOk result (λ _. context.new.in_progress ≡ context.old.in_progress) }
+    ensures assumes { IfOk result (λ _. context.new.remembered.assumptions ≡ context.old.remembered.assumptions) }
+    ensures says { IfOk result (λ r. PartsReply K.words K.is_whole (numbered K.shape nodes.now) (length nodes.now) (settling (M.matching matcher.now) context.old.remembered.assumptions)
+        (mode_of mode) path.now place.now (busy_at place.now context.old.in_progress) (subject_of instance.entry) node.0 (map (shaped_part K.shape) (map entry_of entries.now)) r) }
+    ensures meets { IfOk result (λ _. PartsMeet K.words K.is_whole (numbered K.shape nodes.now) (length nodes.now) (settling (M.matching matcher.now) context.old.remembered.assumptions)
+        (mode_of mode) path.now place.now (busy_at place.now context.old.in_progress) (subject_of instance.entry) context.old.remembered context.new.remembered node.0 (map (shaped_part K.shape) (map entry_of entries.now))) }
 {
     let mut found = accepted(alloc, mode);
     for entry in entries {
         let more = run_entry(
-            nodes, alloc, node, entry, instance, place, path, mode, context,
+            nodes, alloc, matcher, node, entry, instance, place, path, mode, context,
         )?;
         found = joined(found, more)?;
         if is_settled(&found) {
@@ -135,9 +164,10 @@ fn run_entries<'i, K: Validate>(
 
 // The reply of an entry. A leaf is asked for its verdict first, and for errors only where that is a no.
 #[cycle(run)]
-fn run_entry<'i, K: Validate>(
+fn run_entry<'i, K: Validate, M: Matcher>(
     nodes: &Nodes<K>,
     alloc: Global,
+    matcher: &M,
     node: SchemaNode,
     entry: &Entry<K>,
     instance: Instance<'i>,
@@ -149,16 +179,20 @@ fn run_entry<'i, K: Validate>(
     requires known { node.0 < length nodes.now }
     requires form { HasForm (numbered K.shape nodes.now) node.0 (shaped_form K.shape (form_of entry.now.form)) }
     requires ready { Ready K.words (numbered K.shape nodes.now) (length nodes.now) }
-    requires above { NoDeeper place.now context.old }
+    requires above { NoDeeper place.now context.old.in_progress }
     requires wanted { ¬ (mode_of mode ≡ for_units) }
-    ensures kept { IfOk result (λ _. context.new ≡ context.old) }
-    ensures says { IfOk result (λ r. FormReplies K.words K.is_whole (numbered K.shape nodes.now) (length nodes.now)
-        (mode_of mode) path.now place.now (busy_at place.now context.old) (subject_of instance.entry) node.0 (string_bytes entry.now.name) (shaped_form K.shape (form_of entry.now.form)) r) }
+    ensures kept { IfOk result (λ _. context.new.in_progress ≡ context.old.in_progress) }
+    ensures assumes { IfOk result (λ _. context.new.remembered.assumptions ≡ context.old.remembered.assumptions) }
+    ensures says { IfOk result (λ r. FormReplies K.words K.is_whole (numbered K.shape nodes.now) (length nodes.now) (settling (M.matching matcher.now) context.old.remembered.assumptions)
+        (mode_of mode) path.now place.now (busy_at place.now context.old.in_progress) (subject_of instance.entry) node.0 (string_bytes entry.now.name) (shaped_form K.shape (form_of entry.now.form)) r) }
+    ensures meets { IfOk result (λ _. EntryMeets K.words K.is_whole (numbered K.shape nodes.now) (length nodes.now) (settling (M.matching matcher.now) context.old.remembered.assumptions)
+        (mode_of mode) path.now place.now (busy_at place.now context.old.in_progress) (subject_of instance.entry) context.old.remembered context.new.remembered node.0 (shaped_part K.shape (entry_of entry.now))) }
 {
-    if entry.is_leaf && mode != Mode::Verdict {
+    if asks_verdict_first(entry, mode) {
         let verdict = run_form(
             nodes,
             alloc,
+            matcher,
             node,
             entry,
             instance,
@@ -171,19 +205,20 @@ fn run_entry<'i, K: Validate>(
             return Ok(accepted(alloc, mode));
         }
         return Ok(run_form(
-            nodes, alloc, node, entry, instance, place, path, mode, context,
+            nodes, alloc, matcher, node, entry, instance, place, path, mode, context,
         )?);
     }
     Ok(run_form(
-        nodes, alloc, node, entry, instance, place, path, mode, context,
+        nodes, alloc, matcher, node, entry, instance, place, path, mode, context,
     )?)
 }
 
 // The reply of an entry's keyword, or of the node that its reference leads to.
 #[cycle(run)]
-fn run_form<'i, K: Validate>(
+fn run_form<'i, K: Validate, M: Matcher>(
     nodes: &Nodes<K>,
     alloc: Global,
+    matcher: &M,
     node: SchemaNode,
     entry: &Entry<K>,
     instance: Instance<'i>,
@@ -195,16 +230,20 @@ fn run_form<'i, K: Validate>(
     requires known { node.0 < length nodes.now }
     requires form { HasForm (numbered K.shape nodes.now) node.0 (shaped_form K.shape (form_of entry.now.form)) }
     requires ready { Ready K.words (numbered K.shape nodes.now) (length nodes.now) }
-    requires above { NoDeeper place.now context.old }
+    requires above { NoDeeper place.now context.old.in_progress }
     requires wanted { ¬ (mode_of mode ≡ for_units) }
-    ensures kept { IfOk result (λ _. context.new ≡ context.old) }
-    ensures says { IfOk result (λ r. FormReplies K.words K.is_whole (numbered K.shape nodes.now) (length nodes.now)
-        (mode_of mode) path.now place.now (busy_at place.now context.old) (subject_of instance.entry) node.0 (string_bytes entry.now.name) (shaped_form K.shape (form_of entry.now.form)) r) }
+    ensures kept { IfOk result (λ _. context.new.in_progress ≡ context.old.in_progress) }
+    ensures assumes { IfOk result (λ _. context.new.remembered.assumptions ≡ context.old.remembered.assumptions) }
+    ensures says { IfOk result (λ r. FormReplies K.words K.is_whole (numbered K.shape nodes.now) (length nodes.now) (settling (M.matching matcher.now) context.old.remembered.assumptions)
+        (mode_of mode) path.now place.now (busy_at place.now context.old.in_progress) (subject_of instance.entry) node.0 (string_bytes entry.now.name) (shaped_form K.shape (form_of entry.now.form)) r) }
+    ensures meets { IfOk result (λ _. FormMeets K.words K.is_whole (numbered K.shape nodes.now) (length nodes.now) (settling (M.matching matcher.now) context.old.remembered.assumptions)
+        (mode_of mode) path.now place.now (busy_at place.now context.old.in_progress) (subject_of instance.entry) context.old.remembered context.new.remembered node.0 (string_bytes entry.now.name) (shaped_form K.shape (form_of entry.now.form))) }
 {
     match &entry.form {
         EntryForm::Keyword(keyword, children) => Ok(run_keyword(
             nodes,
             alloc,
+            matcher,
             node,
             &entry.name,
             keyword,
@@ -216,7 +255,9 @@ fn run_form<'i, K: Validate>(
             context,
         )?),
         EntryForm::Reference(edge) => {
-            let reply = run_edge(nodes, alloc, edge, instance, place, path, mode, context)?;
+            let reply = run_edge(
+                nodes, alloc, matcher, edge, instance, place, path, mode, context,
+            )?;
             Ok(stamped_reply(alloc, nodes.node(node), &entry.name, reply)?)
         }
     }
@@ -224,9 +265,10 @@ fn run_form<'i, K: Validate>(
 
 // The reply of a keyword, turn by turn.
 #[cycle(run)]
-fn run_keyword<'i, K: Validate>(
+fn run_keyword<'i, K: Validate, M: Matcher>(
     nodes: &Nodes<K>,
     alloc: Global,
+    matcher: &M,
     node: SchemaNode,
     name: &String,
     keyword: &K,
@@ -240,11 +282,14 @@ fn run_keyword<'i, K: Validate>(
     requires known { node.0 < length nodes.now }
     requires form { HasForm (numbered K.shape nodes.now) node.0 (node_keyword (K.shape keyword.now) (map (option_map edge_of) children.now)) }
     requires ready { Ready K.words (numbered K.shape nodes.now) (length nodes.now) }
-    requires above { NoDeeper place.now context.old }
+    requires above { NoDeeper place.now context.old.in_progress }
     requires wanted { ¬ (mode_of mode ≡ for_units) }
-    ensures kept { IfOk result (λ _. context.new ≡ context.old) }
-    ensures says { IfOk result (λ r. FormReplies K.words K.is_whole (numbered K.shape nodes.now) (length nodes.now)
-        (mode_of mode) path.now place.now (busy_at place.now context.old) (subject_of instance.entry) node.0 (string_bytes name.now) (node_keyword (K.shape keyword.now) (map (option_map edge_of) children.now)) r) }
+    ensures kept { IfOk result (λ _. context.new.in_progress ≡ context.old.in_progress) }
+    ensures assumes { IfOk result (λ _. context.new.remembered.assumptions ≡ context.old.remembered.assumptions) }
+    ensures says { IfOk result (λ r. FormReplies K.words K.is_whole (numbered K.shape nodes.now) (length nodes.now) (settling (M.matching matcher.now) context.old.remembered.assumptions)
+        (mode_of mode) path.now place.now (busy_at place.now context.old.in_progress) (subject_of instance.entry) node.0 (string_bytes name.now) (node_keyword (K.shape keyword.now) (map (option_map edge_of) children.now)) r) }
+    ensures meets { IfOk result (λ _. FormMeets K.words K.is_whole (numbered K.shape nodes.now) (length nodes.now) (settling (M.matching matcher.now) context.old.remembered.assumptions)
+        (mode_of mode) path.now place.now (busy_at place.now context.old.in_progress) (subject_of instance.entry) context.old.remembered context.new.remembered node.0 (string_bytes name.now) (node_keyword (K.shape keyword.now) (map (option_map edge_of) children.now))) }
 {
     let mut run = keyword.begin(alloc, instance, mode)?;
     let mut answer = begun(alloc, mode);
@@ -253,8 +298,8 @@ fn run_keyword<'i, K: Validate>(
         match keyword.turn(alloc, &mut run, instance, reply, &mut answer)? {
             Step::Ask(child, below, wanted) => {
                 reply = run_child(
-                    nodes, alloc, node, children, child, below, instance, place, path, wanted,
-                    context,
+                    nodes, alloc, matcher, node, children, child, below, instance, place, path,
+                    wanted, context,
                 )?;
             }
             Step::Done => {
@@ -269,19 +314,27 @@ fn run_keyword<'i, K: Validate>(
                     answer,
                 );
             }
-            Step::Match(_, _, _) => unreachable!(),
+            Step::Match(pattern, subject, point) => {
+                let site = match_site(alloc, nodes.node(node), name, instance, place, path, point)?;
+                let matches = context.is_match(alloc, matcher, pattern, subject, site)?;
+                reply = Reply::Truth(matches);
+            }
+            Step::Ecma(text) => {
+                let valid = context.is_valid_ecma_regex(alloc, matcher, text)?;
+                reply = Reply::Truth(valid);
+            }
             Step::Mark(_) => unreachable!(),
             Step::Unmark => unreachable!(),
-            Step::Ecma(_) => unreachable!(),
         }
     }
 }
 
 // The reply of a keyword's child, here or one step below; yes where its request got none.
 #[cycle(run)]
-fn run_child<'i, K: Validate>(
+fn run_child<'i, K: Validate, M: Matcher>(
     nodes: &Nodes<K>,
     alloc: Global,
+    matcher: &M,
     node: SchemaNode,
     children: &[Option<Edge>],
     child: usize,
@@ -296,19 +349,26 @@ fn run_child<'i, K: Validate>(
     requires children { HasChildren (numbered K.shape nodes.now) node.0 (map (option_map edge_of) children.now) }
     requires present { IsPresent (subject_of instance) (steps_below (below_of below)) }
     requires ready { Ready K.words (numbered K.shape nodes.now) (length nodes.now) }
-    requires above { NoDeeper place.now context.old }
+    requires above { NoDeeper place.now context.old.in_progress }
     requires wanted { ¬ (mode_of mode ≡ for_units) }
-    ensures kept { IfOk result (λ _. context.new ≡ context.old) }
-    ensures says { IfOk result (λ r. ChildReplies K.words K.is_whole (numbered K.shape nodes.now) (length nodes.now)
-        (mode_of mode) path.now place.now (busy_at place.now context.old) (subject_of instance.entry) node.0 (map (option_map edge_of) children.now) (record { child = child; below = below_of below.entry }) r) }
+    ensures kept { IfOk result (λ _. context.new.in_progress ≡ context.old.in_progress) }
+    ensures assumes { IfOk result (λ _. context.new.remembered.assumptions ≡ context.old.remembered.assumptions) }
+    ensures says { IfOk result (λ r. ChildReplies K.words K.is_whole (numbered K.shape nodes.now) (length nodes.now) (settling (M.matching matcher.now) context.old.remembered.assumptions)
+        (mode_of mode) path.now place.now (busy_at place.now context.old.in_progress) (subject_of instance.entry) node.0 (map (option_map edge_of) children.now) (record { child = child; below = below_of below.entry }) r) }
+    ensures meets { IfOk result (λ _. ChildMeets K.words K.is_whole (numbered K.shape nodes.now) (length nodes.now) (settling (M.matching matcher.now) context.old.remembered.assumptions)
+        (mode_of mode) path.now place.now (busy_at place.now context.old.in_progress) (subject_of instance.entry) context.old.remembered context.new.remembered node.0 (map (option_map edge_of) children.now) (record { child = child; below = below_of below.entry })) }
 {
     match child_edge(children, child) {
         None => Ok(accepted(alloc, mode)),
         Some(edge) => match one_below(instance, below) {
-            None => Ok(run_edge(nodes, alloc, edge, instance, place, path, mode, context)?),
+            None => Ok(run_edge(
+                nodes, alloc, matcher, edge, instance, place, path, mode, context,
+            )?),
             Some((inner, step)) => {
                 let lower = place.below(step)?;
-                Ok(run_edge(nodes, alloc, edge, inner, &lower, path, mode, context)?)
+                Ok(run_edge(
+                    nodes, alloc, matcher, edge, inner, &lower, path, mode, context,
+                )?)
             }
         },
     }
@@ -316,9 +376,10 @@ fn run_child<'i, K: Validate>(
 
 // The reply of the node that an edge leads to; yes where the edge is guarded and the pair is in progress.
 #[cycle(run)]
-fn run_edge<'i, K: Validate>(
+fn run_edge<'i, K: Validate, M: Matcher>(
     nodes: &Nodes<K>,
     alloc: Global,
+    matcher: &M,
     edge: &Edge,
     instance: Instance<'i>,
     place: &Place<'i>,
@@ -328,23 +389,26 @@ fn run_edge<'i, K: Validate>(
 ) -> Result<Reply<'i>, OutOfMemory>
     requires known { edge.now.node.0 < length nodes.now }
     requires ready { Ready K.words (numbered K.shape nodes.now) (length nodes.now) }
-    requires above { NoDeeper place.now context.old }
+    requires above { NoDeeper place.now context.old.in_progress }
     requires wanted { ¬ (mode_of mode ≡ for_units) }
-    ensures kept { IfOk result (λ _. context.new ≡ context.old) }
-    ensures says { IfOk result (λ r. EdgeReplies K.words K.is_whole (numbered K.shape nodes.now) (length nodes.now)
-        (mode_of mode) path.now place.now (busy_at place.now context.old) (subject_of instance.entry) (edge_of edge.now) r) }
+    ensures kept { IfOk result (λ _. context.new.in_progress ≡ context.old.in_progress) }
+    ensures assumes { IfOk result (λ _. context.new.remembered.assumptions ≡ context.old.remembered.assumptions) }
+    ensures says { IfOk result (λ r. EdgeReplies K.words K.is_whole (numbered K.shape nodes.now) (length nodes.now) (settling (M.matching matcher.now) context.old.remembered.assumptions)
+        (mode_of mode) path.now place.now (busy_at place.now context.old.in_progress) (subject_of instance.entry) (edge_of edge.now) r) }
+    ensures meets { IfOk result (λ _. EdgeMeets K.words K.is_whole (numbered K.shape nodes.now) (length nodes.now) (settling (M.matching matcher.now) context.old.remembered.assumptions)
+        (mode_of mode) path.now place.now (busy_at place.now context.old.in_progress) (subject_of instance.entry) context.old.remembered context.new.remembered (edge_of edge.now)) }
 {
     let whole = path.append(&edge.path)?;
     if !edge.guarded {
         return Ok(run_node(
-            nodes, alloc, edge.node, instance, place, &whole, mode, context,
+            nodes, alloc, matcher, edge.node, instance, place, &whole, mode, context,
         )?);
     }
     if context.enter(edge.node, place)? {
         return Ok(accepted(alloc, mode));
     }
     let reply = run_node(
-        nodes, alloc, edge.node, instance, place, &whole, mode, context,
+        nodes, alloc, matcher, edge.node, instance, place, &whole, mode, context,
     )?;
     context.exit(edge.node, place);
     Ok(reply)
@@ -352,10 +416,13 @@ fn run_edge<'i, K: Validate>(
 
 impl<K: Validate> Nodes<K> {
     /// Runs a node over what stands at a place, for its verdict, its first error or all errors, with the path that led to
-    /// it. The pairs in progress are as before, unless memory is wanting. Each error borrows what stands at its place.
-    pub fn run<'i>(
+    /// it. The reply is of the mode. A match that the matcher leaves unfinished comes out as the context assumes it to, or
+    /// else as no, and the context remembers it. The pairs in progress are as before, unless memory is wanting. Each error
+    /// borrows what stands at its place.
+    pub fn run<'i, M: Matcher>(
         &self,
         alloc: Global,
+        matcher: &M,
         node: SchemaNode,
         instance: Instance<'i>,
         place: &Place<'i>,
@@ -364,18 +431,30 @@ impl<K: Validate> Nodes<K> {
         context: &mut ValidationContext<'i>,
     ) -> Result<Reply<'i>, OutOfMemory>
         requires known { node.0 < length self.now }
-        requires above { NoDeeper place.now context.old }
+        requires above { NoDeeper place.now context.old.in_progress }
         requires wanted { ¬ (mode_of mode ≡ for_units) }
-        requires asks_alone { (texts : Bool) → AsksAlone (K.words texts) }
-        ensures kept { IfOk result (λ _. context.new ≡ context.old) }
+        requires unmarked { (texts : Bool) → TakesNoMarks (K.words texts) }
+        ensures kept { IfOk result (λ _. context.new.in_progress ≡ context.old.in_progress) }
+        ensures assumes { IfOk result (λ _. context.new.remembered.assumptions ≡ context.old.remembered.assumptions) }
         ensures replies { IfOk result (λ r. (root : Data) (texts : Bool) → subject_at root place.now ≡ Some (subject_of instance.entry)
-            → TellsAll texts root K.is_whole (numbered K.shape self.now) (length self.now) → (matcher : Matcher) (as' : Assumptions) (n : ℕ)
-            → left (numbered K.shape self.now) (length self.now) node.0 (subject_of instance.entry) (busy_at place.now context.old) < n
+            → TellsAll texts root K.is_whole (numbered K.shape self.now) (length self.now)
+            → Extends (completion_of context.old.remembered.assumptions) context.old.remembered.assumptions → (n : ℕ)
+            → left (numbered K.shape self.now) (length self.now) node.0 (subject_of instance.entry) (busy_at place.now context.old.in_progress) < n
             → reply_of texts r ≡ reply_in (mode_of mode)
-            (guarded_within no_run (guarded_node (K.words texts) matcher (numbered K.shape self.now) (subject_in root) as') n node.0 path.now place.now (busy_at place.now context.old))) }
+            (guarded_within no_run (guarded_node (K.words texts) (M.matching matcher.now) (numbered K.shape self.now) (subject_in root) context.old.remembered.assumptions) n node.0 path.now place.now (busy_at place.now context.old.in_progress))) }
+        ensures meets { IfOk result (λ _. (root : Data) (texts : Bool) → subject_at root place.now ≡ Some (subject_of instance.entry)
+            → TellsAll texts root K.is_whole (numbered K.shape self.now) (length self.now)
+            → Extends (completion_of context.old.remembered.assumptions) context.old.remembered.assumptions → (n : ℕ)
+            → left (numbered K.shape self.now) (length self.now) node.0 (subject_of instance.entry) (busy_at place.now context.old.in_progress) < n
+            → MeetsEach (M.matching matcher.now) context.old.remembered
+            ((guarded_within no_run (guarded_node (K.words texts) (M.matching matcher.now) (numbered K.shape self.now) (subject_in root) context.old.remembered.assumptions) n node.0 path.now place.now (busy_at place.now context.old.in_progress)).met (mode_of mode))
+            context.new.remembered) }
+        ensures speaks { IfOk result (λ r. (root : Data) → subject_at root place.now ≡ Some (subject_of instance.entry) → (o : Outcome) × (reply_of false r ≡ reply_by (mode_of mode) o)) }
         ensures borrows { IfOk result (λ r. (root : Data) → subject_at root place.now ≡ Some (subject_of instance.entry) → All (BorrowsItsPlace root) (errors_in r)) }
     {
         let _ = &self.nodes;
-        run_node(self, alloc, node, instance, place, path, mode, context)
+        run_node(
+            self, alloc, matcher, node, instance, place, path, mode, context,
+        )
     }
 }

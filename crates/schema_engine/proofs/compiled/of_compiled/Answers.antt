@@ -14,7 +14,7 @@ use Rattle.schema_engine.proofs.compiled.of_compiled.Goals as goal
 
 pub returns-clause-made : goal.returns-clause-made
 returns-clause-made g c =
-    let made = c.new.ensures.made in
+    let made = c.of_nodes.ensures.made in
     (ap (λ (p : Program g.row.K.Denot g.row.M.Denot). p.nodes) made, ap (λ (p : Program g.row.K.Denot g.row.M.Denot). p.root) made, ap (λ (p : Program g.row.K.Denot g.row.M.Denot). p.draft) made)
 
 pub returns-clause-means : goal.returns-clause-means
@@ -35,10 +35,13 @@ returns-clause-means g c = λ options from instance texts root is_root speaks.
     let whole = whole_from r table options matcher keywords k.absorbed k.is_whole inside same scripts each d k.shape nodes number root compiled instance speaks in
     let meant = means_from r table options matcher keywords k.absorbed k.is_whole inside same scripts each d k.shape nodes number root compiled instance in
     let equal = g.met.M.Matcher.cloned c.args.matcher.now c.in_ok-matcher.matcher c.in_ok-matcher.ensures.cases in
-    let made = c.new.ensures.made in
+    let made = c.of_nodes.ensures.made in
     let told = g.met.K.Validate.speaks texts in
     let w = parts_of r table matcher keywords options in (
       λ t. ((speaks (told ∙ t)).0, subst (λ (p : Program g.row.K.Denot g.row.M.Denot). AreWhole k.is_whole (numbered k.shape p.nodes) (length p.nodes)) (sym made) (whole (told ∙ t))),
       subst (λ (p : Program g.row.K.Denot g.row.M.Denot). Plainly w root instance (Means k.shape k.words k.is_whole g.M.Matcher.matching p instance texts)) (sym made)
           (subst (λ m. Plainly w root instance (means.Means keywords m (numbered k.shape nodes) number instance)) (sym equal) meant),
     )
+
+pub returns-clause-matcher : goal.returns-clause-matcher
+returns-clause-matcher g c = ap (λ (p : Program g.row.K.Denot g.row.M.Denot). g.M.Matcher.matching p.matcher) c.of_nodes.ensures.made ∙ g.met.M.Matcher.cloned c.args.matcher.now c.in_ok-matcher.matcher c.in_ok-matcher.ensures.cases

@@ -1,8 +1,12 @@
-use Rattle.std.proofs.Common.{◌≡◌, ◌∷◌, [], map, refl, sym, ap, ◌∙◌, arith, Some, None, rules, true, false, true≢false}
+use Rattle.std.proofs.Common.{◌≡◌, ◌∷◌, [], ◌++◌, append_assoc, string_cmp, subst, map, refl, sym, ap, ◌∙◌, arith, Some, None, rules, true, false, true≢false}
 use Rattle.std.specs.Prelude.{string_bytes, option_map}
 use Rattle.std.proofs.lemmas.List.{length-map, map-append}
 use Rattle.std.proofs.lemmas.Result.{err_from_is_err_and}
+use Rattle.std.specs.List.Sorted.{IsStrictlySortedBy}
+use Rattle.std.specs.Map.{keys_of}
 use Rattle.serde_json.specs.Data.{object}
+use Rattle.serde_json.proofs.Views.{Entry}
+use Rattle.schema_compiler.proofs.Unknown.{made_known, kept_unknown}
 use Rattle.serde_json.specs.View.{view, members_view}
 use Rattle.schema_reports.specs.Pointer.{pointer_to, joined}
 use Rattle.schema_reports.specs.Plan.{making}
@@ -81,17 +85,17 @@ edge_to-returns-then-len-options-clause-refused g t c =
     let t = c.if-len-options.true in
     (refl, (v c.args.key ∷ [], (at_first, tt), pushed_distinct keys (v c.args.key) c.requires.table.distinct absent, omega (arith, length-more keys (v c.args.key), length-map c.args.compiled.now.keys.items v)))
 
-pub edge_to-returns-in_err-form-clause-refused : goal.edge_to-returns-in_err-form-clause-refused
-edge_to-returns-in_err-form-clause-refused g t c =
+pub edge_to-returns-in_err-planned-clause-refused : goal.edge_to-returns-in_err-planned-clause-refused
+edge_to-returns-in_err-planned-clause-refused g t c =
     let v = key_of g.R.Resolver.point in
     let w = given_parts (g.R.Resolver.resolving c.args.resolver.now) (g.T.KeywordTable.owned c.args.table.now) (g.T.KeywordTable.script c.args.table.now) c.args.options.now in
     let sh = g.K.Validate.shape in
     let lim = c.args.options.now.node_limit in
     let keys = map v c.args.compiled.now.keys.items in
     let nodes = c.args.compiled.now.nodes in
-    let p = err_from_is_err_and c.from_residual-in_err-form.result c.from_residual-in_err-form.ensures.1 in
+    let p = err_from_is_err_and c.from_residual-in_err-planned.result c.from_residual-in_err-planned.ensures.1 in
     let k = v c.args.key in
-    rw (p.1, p.2) (refusal_map lim _ _ _ _ keys (map v c.reserve.new.compiled.keys.items) (k ∷ []) (from_key w k) (blames_key w k) c.in_ok-number.ensures.keys (at_first, tt) _ c.in_err-form.ensures.refused)
+    rw (p.1, p.2) (refusal_map lim _ _ _ _ keys (map v c.reserve.new.compiled.keys.items) (k ∷ []) (from_key w k) (blames_key w k) c.in_ok-number.ensures.keys (at_first, tt) _ c.in_err-planned.ensures.refused)
 
 pub edge_to-finish-requires-clause-numbered : goal.edge_to-finish-requires-clause-numbered
 edge_to-finish-requires-clause-numbered g t c =
@@ -101,7 +105,7 @@ edge_to-finish-requires-clause-numbered g t c =
     let lim = c.args.options.now.node_limit in
     let keys = map v c.args.compiled.now.keys.items in
     let nodes = c.args.compiled.now.nodes in
-    (numbered_after keys (map v c.reserve.new.compiled.keys.items) (map v c.form_of.new.compiled.keys.items) c.in_ok-form.ensures.step.grown.added.0 (v c.args.key) c.in_ok-number.number.0 (c.in_ok-number.ensures.number ∙ c.requires.table.lengths) c.in_ok-number.ensures.keys c.in_ok-form.ensures.step.grown.added.1)
+    (numbered_after keys (map v c.reserve.new.compiled.keys.items) (map v c.planned_node.new.compiled.keys.items) c.in_ok-planned.ensures.step.grown.added.0 (v c.args.key) c.in_ok-number.number.0 (c.in_ok-number.ensures.number ∙ c.requires.table.lengths) c.in_ok-number.ensures.keys c.in_ok-planned.ensures.step.grown.added.1)
 
 pub edge_to-finish-requires-clause-reserved : goal.edge_to-finish-requires-clause-reserved
 edge_to-finish-requires-clause-reserved g t c =
@@ -112,7 +116,7 @@ edge_to-finish-requires-clause-reserved g t c =
     let keys = map v c.args.compiled.now.keys.items in
     let nodes = c.args.compiled.now.nodes in
     let n = c.in_ok-number.ensures.nodes in
-    reserved_after nodes c.reserve.new.compiled.nodes c.form_of.new.compiled.nodes n.0 c.in_ok-number.number.0 c.in_ok-number.ensures.number n.1 n.2 c.in_ok-form.ensures.step.grown.stay
+    reserved_after nodes c.reserve.new.compiled.nodes c.planned_node.new.compiled.nodes n.0 c.in_ok-number.number.0 c.in_ok-number.ensures.number n.1 n.2 c.in_ok-planned.ensures.step.grown.stay
 
 pub edge_to-returns-clause-grown : goal.edge_to-returns-clause-grown
 edge_to-returns-clause-grown g t c =
@@ -124,8 +128,8 @@ edge_to-returns-clause-grown g t c =
     let nodes = c.args.compiled.now.nodes in
     let n = c.in_ok-number.ensures.nodes in
     let k = v c.args.key in
-    finished_grown _ keys (map v c.reserve.new.compiled.keys.items) (map v c.form_of.new.compiled.keys.items) (map v c.finish.new.compiled.keys.items) nodes c.reserve.new.compiled.nodes c.form_of.new.compiled.nodes c.finish.new.compiled.nodes k n.0 c.in_ok-number.number.0
-    c.requires.table.lengths c.in_ok-number.ensures.number c.in_ok-number.ensures.keys n.1 at_first (grown_map _ _ _ _ _ _ (from_key w k) c.in_ok-form.ensures.step.grown) c.finish.ensures.keys c.finish.ensures.filled
+    finished_grown _ keys (map v c.reserve.new.compiled.keys.items) (map v c.planned_node.new.compiled.keys.items) (map v c.finish.new.compiled.keys.items) nodes c.reserve.new.compiled.nodes c.planned_node.new.compiled.nodes c.finish.new.compiled.nodes k n.0 c.in_ok-number.number.0
+    c.requires.table.lengths c.in_ok-number.ensures.number c.in_ok-number.ensures.keys n.1 at_first (grown_map _ _ _ _ _ _ (from_key w k) c.in_ok-planned.ensures.step.grown) c.finish.ensures.keys c.finish.ensures.filled
 
 pub edge_to-returns-clause-number : goal.edge_to-returns-clause-number
 edge_to-returns-clause-number g t c =
@@ -135,10 +139,10 @@ edge_to-returns-clause-number g t c =
     let lim = c.args.options.now.node_limit in
     let keys = map v c.args.compiled.now.keys.items in
     let nodes = c.args.compiled.now.nodes in
-    rw (c.finish.ensures.keys, c.finish.ensures.node) (numbered_after keys (map v c.reserve.new.compiled.keys.items) (map v c.form_of.new.compiled.keys.items) c.in_ok-form.ensures.step.grown.added.0 (v c.args.key) c.in_ok-number.number.0 (c.in_ok-number.ensures.number ∙ c.requires.table.lengths) c.in_ok-number.ensures.keys c.in_ok-form.ensures.step.grown.added.1)
+    rw (c.finish.ensures.keys, c.finish.ensures.node) (numbered_after keys (map v c.reserve.new.compiled.keys.items) (map v c.planned_node.new.compiled.keys.items) c.in_ok-planned.ensures.step.grown.added.0 (v c.args.key) c.in_ok-number.number.0 (c.in_ok-number.ensures.number ∙ c.requires.table.lengths) c.in_ok-number.ensures.keys c.in_ok-planned.ensures.step.grown.added.1)
 
-pub entries_of-loop-name-init : goal.entries_of-loop-name-init
-entries_of-loop-name-init g t c =
+pub keywords_of-loop-name-init : goal.keywords_of-loop-name-init
+keywords_of-loop-name-init g t c =
     let v = key_of g.R.Resolver.point in
     let w = given_parts (g.R.Resolver.resolving c.args.resolver.now) (g.T.KeywordTable.owned c.args.table.now) (g.T.KeywordTable.script c.args.table.now) c.args.options.now in
     let sh = g.K.Validate.shape in
@@ -146,10 +150,15 @@ entries_of-loop-name-init g t c =
     let keys = map v c.args.compiled.now.keys.items in
     let nodes = c.args.compiled.now.nodes in
     let all : c.into_iter-name-iterator.result ≡ c.args.members.now.entries = search rules in
-    record { can = tt; finite = tt; so_far = rw (all, c.new-entries.ensures.items) (so_far_none w sh lim (v c.args.key.now) (members_view c.args.members.now.entries) keys nodes c.requires.table) }
+    record {
+      can = tt;
+      finite = tt;
+      so_far = rw (all, c.new-entries.ensures.items) (so_far_none w sh lim (v c.args.key.now) (members_view c.args.members.now.entries) keys nodes c.requires.table);
+      unknown = ([], sym all, rw c.new-unknown.ensures.empty refl);
+    }
 
-pub entries_of-returns-in_err-entry-clause-refused : goal.entries_of-returns-in_err-entry-clause-refused
-entries_of-returns-in_err-entry-clause-refused g t c =
+pub keywords_of-returns-in_err-entry-clause-refused : goal.keywords_of-returns-in_err-entry-clause-refused
+keywords_of-returns-in_err-entry-clause-refused g t c =
     let v = key_of g.R.Resolver.point in
     let w = given_parts (g.R.Resolver.resolving c.args.resolver.now) (g.T.KeywordTable.owned c.args.table.now) (g.T.KeywordTable.script c.args.table.now) c.args.options.now in
     let sh = g.K.Validate.shape in
@@ -168,8 +177,8 @@ entries_of-returns-in_err-entry-clause-refused g t c =
     let p = err_from_is_err_and c.from_residual.result c.from_residual.ensures.1 in
     rw (p.1, p.2) (member_refused w sh lim k whole name value rest es keys keys' nodes nodes' _ s c.in_err-entry.ensures.refused)
 
-pub entries_of-loop-name-preserved-in-Continue-branch-3 : goal.entries_of-loop-name-preserved-in-Continue-branch-3
-entries_of-loop-name-preserved-in-Continue-branch-3 g t c =
+pub keywords_of-loop-name-preserved-in-Continue-branch-3 : goal.keywords_of-loop-name-preserved-in-Continue-branch-3
+keywords_of-loop-name-preserved-in-Continue-branch-3 g t c =
     let v = key_of g.R.Resolver.point in
     let w = given_parts (g.R.Resolver.resolving c.args.resolver.now) (g.T.KeywordTable.owned c.args.table.now) (g.T.KeywordTable.script c.args.table.now) c.args.options.now in
     let sh = g.K.Validate.shape in
@@ -187,10 +196,22 @@ entries_of-loop-name-preserved-in-Continue-branch-3 g t c =
     let nodes' = c.loop-name.compiled.nodes in
     let keys'' = map v c.entry_of.new.compiled.keys.items in
     let nodes'' = c.entry_of.new.compiled.nodes in
-    record { can = tt; finite = tt; so_far = rw c.in_ok-insert_by_priority.ensures.placed (so_far_more w sh lim k whole name value rest (Some (entry_of c.in-Some-2.entry)) es keys keys' keys'' nodes nodes' nodes'' s c.in_ok-entry.ensures.step (rw c.in-Some-2.is at c.in_ok-entry.ensures.entry)) }
+    let inv = c.loop-name.invariant.unknown in
+    let done = inv.0 in
+    let member : Entry = (c.in-Some.name.now, c.in-Some.value.now) in
+    let left = c.next.new.self in
+    let all : c.args.members.now.entries ≡ done ++ member ∷ left = inv.1 ∙ ap (λ ms. done ++ ms) c.in-Some.ensures.steps in
+    let all' = all ∙ sym (append_assoc done (member ∷ []) left) in
+    let made = rw c.in-Some-2.is at c.in_ok-entry.ensures.entry in
+    record {
+      can = tt;
+      finite = tt;
+      so_far = rw c.in_ok-insert_by_priority-in-Some-2.ensures.placed (so_far_more w sh lim k whole name value rest (Some (entry_of c.in-Some-2.entry)) es keys keys' keys'' nodes nodes' nodes'' s c.in_ok-entry.ensures.step made);
+      unknown = (done ++ member ∷ [], all', made_known w k whole sh keys'' nodes'' (entry_of c.in-Some-2.entry) done member (members_view c.loop-name.unknown.entries) made inv.2);
+    }
 
-pub entries_of-loop-name-preserved : goal.entries_of-loop-name-preserved
-entries_of-loop-name-preserved g t c =
+pub keywords_of-loop-name-preserved : goal.keywords_of-loop-name-preserved
+keywords_of-loop-name-preserved g t c =
     let v = key_of g.R.Resolver.point in
     let w = given_parts (g.R.Resolver.resolving c.args.resolver.now) (g.T.KeywordTable.owned c.args.table.now) (g.T.KeywordTable.script c.args.table.now) c.args.options.now in
     let sh = g.K.Validate.shape in
@@ -208,7 +229,24 @@ entries_of-loop-name-preserved g t c =
     let nodes' = c.loop-name.compiled.nodes in
     let keys'' = map v c.entry_of.new.compiled.keys.items in
     let nodes'' = c.entry_of.new.compiled.nodes in
-    record { can = tt; finite = tt; so_far = so_far_more w sh lim k whole name value rest None es keys keys' keys'' nodes nodes' nodes'' s c.in_ok-entry.ensures.step (rw c.in_default.is at c.in_ok-entry.ensures.entry) }
+    let inv = c.loop-name.invariant.unknown in
+    let done = inv.0 in
+    let member : Entry = (c.in-Some.name.now, c.in-Some.value.now) in
+    let left = c.next.new.self in
+    let all : c.args.members.now.entries ≡ done ++ member ∷ left = inv.1 ∙ ap (λ ms. done ++ ms) c.in-Some.ensures.steps in
+    let all' = all ∙ sym (append_assoc done (member ∷ []) left) in
+    let made = rw c.in-None-2.is at c.in_ok-entry.ensures.entry in
+    record {
+      can = tt;
+      finite = tt;
+      so_far = so_far_more w sh lim k whole name value rest None es keys keys' keys'' nodes nodes' nodes'' s c.in_ok-entry.ensures.step made;
+      unknown = (
+        done ++ member ∷ [],
+        all',
+        kept_unknown w k whole sh keys'' nodes'' done member left (members_view c.loop-name.unknown.entries) (members_view c.keep_unknown.new.unknown.entries)
+            (subst (λ ms. IsStrictlySortedBy string_cmp (keys_of ms)) all c.iter-name-items.ensures.ordered) made inv.2 c.in_ok-keep_unknown-in-None-2.ensures.kept,
+      );
+    }
 
 pub entry_of-returns-in_err-made_entry-clause-refused : goal.entry_of-returns-in_err-made_entry-clause-refused
 entry_of-returns-in_err-made_entry-clause-refused g t c =
@@ -433,8 +471,8 @@ made_entry-returns-in-Nothing-clause-step g t c =
     let takes = rw c.in-Nothing.is at c.in_ok-path.ensures.takes in
     (made_nothing w sh lim k name making waiting waiting' told es keys keys' nodes nodes' c.args.priority c.args.is_leaf inv takes).0
 
-pub object_form-returns-in_err-entry-in-Some-clause-refused : goal.object_form-returns-in_err-entry-in-Some-clause-refused
-object_form-returns-in_err-entry-in-Some-clause-refused g t c =
+pub planned_object-returns-in_err-entry-in-Some-clause-refused : goal.planned_object-returns-in_err-entry-in-Some-clause-refused
+planned_object-returns-in_err-entry-in-Some-clause-refused g t c =
     let v = key_of g.R.Resolver.point in
     let w = given_parts (g.R.Resolver.resolving c.args.resolver.now) (g.T.KeywordTable.owned c.args.table.now) (g.T.KeywordTable.script c.args.table.now) c.args.options.now in
     let sh = g.K.Validate.shape in
@@ -446,8 +484,8 @@ object_form-returns-in_err-entry-in-Some-clause-refused g t c =
     let p = err_from_is_err_and c.from_residual-in_err-entry-in-Some.result c.from_residual-in_err-entry-in-Some.ensures.1 in
     rw (p.1, p.2) (lone_refused w k lim keys _ whole (view c.in-Some.value.now) (string_bytes c.in_ok-name-in-Some.name) c.in-Some.ensures.alone c.in_ok-name-in-Some.ensures.ok c.in_err-entry-in-Some.ensures.refused)
 
-pub object_form-returns-in_err-entries_of-in-None-clause-refused : goal.object_form-returns-in_err-entries_of-in-None-clause-refused
-object_form-returns-in_err-entries_of-in-None-clause-refused g t c =
+pub planned_object-returns-in_err-keywords-in-None-clause-refused : goal.planned_object-returns-in_err-keywords-in-None-clause-refused
+planned_object-returns-in_err-keywords-in-None-clause-refused g t c =
     let v = key_of g.R.Resolver.point in
     let w = given_parts (g.R.Resolver.resolving c.args.resolver.now) (g.T.KeywordTable.owned c.args.table.now) (g.T.KeywordTable.script c.args.table.now) c.args.options.now in
     let sh = g.K.Validate.shape in
@@ -456,8 +494,8 @@ object_form-returns-in_err-entries_of-in-None-clause-refused g t c =
     let nodes = c.args.compiled.now.nodes in
     let k = v c.args.key.now in
     let whole = members_view c.args.members.now.entries in
-    let p = err_from_is_err_and c.from_residual-in_err-entries_of-in-None.result c.from_residual-in_err-entries_of-in-None.ensures.1 in
-    rw (p.1, p.2) (members_refused w k lim keys _ whole c.in-None.ensures.alone c.in_err-entries_of-in-None.ensures.refused)
+    let p = err_from_is_err_and c.from_residual-in_err-keywords-in-None.result c.from_residual-in_err-keywords-in-None.ensures.1 in
+    rw (p.1, p.2) (members_refused w k lim keys _ whole c.in-None.ensures.alone c.in_err-keywords-in-None.ensures.refused)
 
 pub reference_edge-returns-in_err-target_of-clause-refused : goal.reference_edge-returns-in_err-target_of-clause-refused
 reference_edge-returns-in_err-target_of-clause-refused g t c =
@@ -538,8 +576,8 @@ reference_entry-returns-in_err-reference_edge-in-String-clause-refused g t c =
     let p = err_from_is_err_and c.from_residual.result c.from_residual.ensures.1 in
     rw (p.1, p.2) (text_refused w k lim keys _ (string_bytes c.args.name.now) (kind_of c.args.kind) (string_bytes c.in-String.text) (view c.args.value.now) (ap view c.in-String.is ∙ view_string c.in-String.text) c.in_err-reference_edge-in-String.ensures.refused)
 
-pub form_of-returns-in_err-object_form-in-Some-as_object-clause-refused : goal.form_of-returns-in_err-object_form-in-Some-as_object-clause-refused
-form_of-returns-in_err-object_form-in-Some-as_object-clause-refused g t c =
+pub planned_node-returns-in_err-planned_object-in-Some-as_object-clause-refused : goal.planned_node-returns-in_err-planned_object-in-Some-as_object-clause-refused
+planned_node-returns-in_err-planned_object-in-Some-as_object-clause-refused g t c =
     let v = key_of g.R.Resolver.point in
     let w = given_parts (g.R.Resolver.resolving c.args.resolver.now) (g.T.KeywordTable.owned c.args.table.now) (g.T.KeywordTable.script c.args.table.now) c.args.options.now in
     let sh = g.K.Validate.shape in
@@ -550,10 +588,10 @@ form_of-returns-in_err-object_form-in-Some-as_object-clause-refused g t c =
     let d = view c.in-Some.value.now in
     let ms = members_view c.in-Some-as_object.members.now.entries in
     let p = err_from_is_err_and c.from_residual.result c.from_residual.ensures.1 in
-    rw (p.1, p.2) (object_refused w k lim ms (schema_is w k d (object ms) c.in-Some.ensures.value (object_is w k d ms c.in-Some-as_object.ensures)) keys _ c.in_err-object_form-in-Some-as_object.ensures.refused)
+    rw (p.1, p.2) (object_refused w k lim ms (schema_is w k d (object ms) c.in-Some.ensures.value (object_is w k d ms c.in-Some-as_object.ensures)) keys _ c.in_err-planned_object-in-Some-as_object.ensures.refused)
 
-pub form_of-returns-in_err-plain_form-in-None-as_object-clause-refused : goal.form_of-returns-in_err-plain_form-in-None-as_object-clause-refused
-form_of-returns-in_err-plain_form-in-None-as_object-clause-refused g t c =
+pub planned_node-returns-in_err-plain_form-in-None-as_object-clause-refused : goal.planned_node-returns-in_err-plain_form-in-None-as_object-clause-refused
+planned_node-returns-in_err-plain_form-in-None-as_object-clause-refused g t c =
     let v = key_of g.R.Resolver.point in
     let w = given_parts (g.R.Resolver.resolving c.args.resolver.now) (g.T.KeywordTable.owned c.args.table.now) (g.T.KeywordTable.script c.args.table.now) c.args.options.now in
     let sh = g.K.Validate.shape in
@@ -565,8 +603,8 @@ form_of-returns-in_err-plain_form-in-None-as_object-clause-refused g t c =
     let p = err_from_is_err_and c.from_residual-in_err-plain_form-in-None-as_object.result c.from_residual-in_err-plain_form-in-None-as_object.ensures.1 in
     rw (p.1, p.2) (other_refused w k lim d keys _ (schema_is w k d d c.in-Some.ensures.value refl) c.in-None-as_object.ensures c.in_err-plain_form-in-None-as_object.ensures.other c.in_err-plain_form-in-None-as_object.ensures.refused)
 
-pub form_of-returns-in_ok-plain_form-in-None-as_object-clause-step : goal.form_of-returns-in_ok-plain_form-in-None-as_object-clause-step
-form_of-returns-in_ok-plain_form-in-None-as_object-clause-step g t c =
+pub planned_node-returns-in_ok-plain_form-in-None-as_object-clause-step : goal.planned_node-returns-in_ok-plain_form-in-None-as_object-clause-step
+planned_node-returns-in_ok-plain_form-in-None-as_object-clause-step g t c =
     let v = key_of g.R.Resolver.point in
     let w = given_parts (g.R.Resolver.resolving c.args.resolver.now) (g.T.KeywordTable.owned c.args.table.now) (g.T.KeywordTable.script c.args.table.now) c.args.options.now in
     let sh = g.K.Validate.shape in
@@ -578,8 +616,8 @@ form_of-returns-in_ok-plain_form-in-None-as_object-clause-step g t c =
     let f = c.in_ok-plain_form-in-None-as_object.ensures.form in
     boolean_step w k sh lim d f.0 keys nodes (schema_is w k d d c.in-Some.ensures.value refl) f.1 c.requires.table
 
-pub form_of-returns-in_ok-plain_form-in-None-as_object-clause-form : goal.form_of-returns-in_ok-plain_form-in-None-as_object-clause-form
-form_of-returns-in_ok-plain_form-in-None-as_object-clause-form g t c =
+pub planned_node-returns-in_ok-plain_form-in-None-as_object-clause-form : goal.planned_node-returns-in_ok-plain_form-in-None-as_object-clause-form
+planned_node-returns-in_ok-plain_form-in-None-as_object-clause-form g t c =
     let v = key_of g.R.Resolver.point in
     let w = given_parts (g.R.Resolver.resolving c.args.resolver.now) (g.T.KeywordTable.owned c.args.table.now) (g.T.KeywordTable.script c.args.table.now) c.args.options.now in
     let sh = g.K.Validate.shape in

@@ -1,7 +1,9 @@
-use Rattle.std.proofs.Common.{◌+◌, ◌-◌, ◌*◌, map, length}
+use Rattle.std.proofs.Common.{◌≡◌, ◌+◌, ◌-◌, ◌*◌, ◌++◌, List, map, length}
 use Rattle.std.specs.Prelude.{string_bytes, option_map}
 use Rattle.serde_json.specs.View.{members_view}
+use Rattle.serde_json.proofs.Views.{Entry}
 use Rattle.schema_reports.specs.Plan.{making}
+use Rattle.schema_reports.specs.Units.{unknown}
 use Rattle.schema_node.specs.MakerViews.{maker_reply_of}
 use Rattle.schema_node.specs.NodeViews.{edge_of, entry_of}
 use Rattle.schema_compiler.specs.KeyViews.{key_of}
@@ -13,14 +15,14 @@ use Rattle.schema_compiler.proofs.compiler.nodes_of.+compile.Given as goal
 abbrev pub decreases-edge_to : goal.decreases-edge_to
 decreases-edge_to g l = 8 * (l.options.now.node_limit - length l.compiled.now.keys.items)
 
-abbrev pub decreases-form_of : goal.decreases-form_of
-decreases-form_of g l = 8 * (l.options.now.node_limit - length l.compiled.now.keys.items) + 6
+abbrev pub decreases-planned_node : goal.decreases-planned_node
+decreases-planned_node g l = 8 * (l.options.now.node_limit - length l.compiled.now.keys.items) + 6
 
-abbrev pub decreases-object_form : goal.decreases-object_form
-decreases-object_form g l = 8 * (l.options.now.node_limit - length l.compiled.now.keys.items) + 5
+abbrev pub decreases-planned_object : goal.decreases-planned_object
+decreases-planned_object g l = 8 * (l.options.now.node_limit - length l.compiled.now.keys.items) + 5
 
-abbrev pub decreases-entries_of : goal.decreases-entries_of
-decreases-entries_of g l = 8 * (l.options.now.node_limit - length l.compiled.now.keys.items) + 4
+abbrev pub decreases-keywords_of : goal.decreases-keywords_of
+decreases-keywords_of g l = 8 * (l.options.now.node_limit - length l.compiled.now.keys.items) + 4
 
 abbrev pub decreases-entry_of : goal.decreases-entry_of
 decreases-entry_of g l = 8 * (l.options.now.node_limit - length l.compiled.now.keys.items) + 3
@@ -50,13 +52,14 @@ abbrev pub decreases-made_entry-loop-children : goal.decreases-made_entry-loop-c
 decreases-made_entry-loop-children g l = turns (resumed (g.T.KeywordTable.waiting l.maker) (maker_reply_of l.reply))
 
 -- the keywords so far, and the members that are left
-abbrev pub invariant-entries_of-loop-name : goal.invariant-entries_of-loop-name
-invariant-entries_of-loop-name g l =
+abbrev pub invariant-keywords_of-loop-name : goal.invariant-keywords_of-loop-name
+invariant-keywords_of-loop-name g l =
     let v = key_of g.R.Resolver.point in
     let w = given_parts (g.R.Resolver.resolving l.resolver) (g.T.KeywordTable.owned l.table) (g.T.KeywordTable.script l.table) l.options in
     record {
-      can : (goal.iterator-entries_of-loop-name g).can_next l.name-iterator;
-      finite : (goal.iterator-entries_of-loop-name g).is_finite l.name-iterator;
+      can : (goal.iterator-keywords_of-loop-name g).can_next l.name-iterator;
+      finite : (goal.iterator-keywords_of-loop-name g).is_finite l.name-iterator;
       so_far : SoFar w g.K.Validate.shape l.options.node_limit (v l.key) (members_view l.members.entries) (members_view l.name-iterator) (map entry_of l.entries.items)
           (map v l.initial.compiled.keys.items) (map v l.compiled.keys.items) l.initial.compiled.nodes l.compiled.nodes;
+      unknown : (done : List Entry) × (l.members.entries ≡ done ++ l.name-iterator) × (members_view l.unknown.entries ≡ unknown w (v l.key) (members_view l.members.entries) (members_view done));
     }

@@ -6,6 +6,11 @@ use Rattle.schema_reports.proofs.TurnsGiveRuns.{keeps_of_turns}
 use Rattle.schema_reports.specs.ReportViews.{error_of}
 use Rattle.schema_node.specs.NodeTable.{numbered}
 use Rattle.schema_node.specs.KeywordViews.{reply_of}
+use Rattle.schema_reports.specs.Unfinished.{Remembered}
+use Rattle.schema_node.specs.declared.context.keyword.Mode.TheVariants as mode
+use Rattle.schema_node.proofs.KeywordTurns.{unmarked_of_alone}
+use Rattle.schema_node.proofs.Matches.{nothing_twice}
+use Rattle.schema_engine.specs.Answers.{SaysReply}
 use Rattle.schema_engine.proofs.Sentences.{first_from}
 use Rattle.std.specs.Prelude.{Option, Some, None, IfSome, All}
 use Rattle.std.proofs.lemmas.List.Elements.{All-head}
@@ -22,7 +27,10 @@ found P None h = tt
 found P (Some e) h = All-head P e [] h
 
 pub returns-clause-borrows : goal.returns-clause-borrows
-returns-clause-borrows g c = found (BorrowsItsPlace (view c.args.instance.now)) c.in-First.error (subst (λ (r : Reply). All (BorrowsItsPlace (view c.args.instance.now)) (errors_in r)) c.in-First.is c.in_ok-error.ensures.borrows)
+returns-clause-borrows g c = found (BorrowsItsPlace (view c.args.instance.now)) c.in-First.error (subst (λ (r : Reply). All (BorrowsItsPlace (view c.args.instance.now)) (errors_in r)) c.in-First.is c.in_ok-reply.ensures.borrows)
+
+pub asked-requires-clause-unmarked : goal.asked-requires-clause-unmarked
+asked-requires-clause-unmarked g c = λ texts. unmarked_of_alone (g.K.Validate.words texts) (c.requires.asks_alone texts)
 
 pub returns-clause-depth : goal.returns-clause-depth
 returns-clause-depth g c = λ texts speaks.
@@ -32,4 +40,4 @@ returns-clause-depth g c = λ texts speaks.
     let d = view c.args.instance.now in
     let nodes = numbered w.shape p.nodes in
     first_from (w.words texts) each (c.requires.asks_alone texts) (g.M.Matcher.matching p.matcher) nodes d p.root (left nodes (length p.nodes) p.root (subject_in d []) []) (option_map (error_of texts) c.in-First.error)
-    (λ n more. ap (reply_of texts) (sym c.in-First.is) ∙ c.in_ok-error.ensures.says texts speaks n more)
+    (λ n more. ap (reply_of texts) (sym c.in-First.is) ∙ (subst (λ (r : Remembered). SaysReply w.shape w.words w.is_whole g.M.Matcher.matching p d mode.First r.assumptions c.in_ok-reply.reply) c.new.ensures.starts c.in_ok-reply.ensures.says) texts speaks nothing_twice n more)

@@ -1,11 +1,13 @@
-use Rattle.std.proofs.Common.{◌∙◌, suc, arith, length, subst}
+use Rattle.std.proofs.Common.{◌∙◌, suc, arith, length, refl, subst}
 use Rattle.schema_reports.specs.InstanceViews.{subject_of}
-use Rattle.schema_reports.specs.Matching.{completion_of}
 use Rattle.schema_reports.specs.Numbered.{left, subject_in}
 use Rattle.schema_node.specs.KeywordViews.{mode_of}
+use Rattle.schema_node.specs.Matches.{settling}
+use Rattle.schema_node.specs.NodeMeets.{reading}
 use Rattle.schema_node.specs.NodeTable.{IsRanked, numbered}
 use Rattle.schema_node.specs.Progress.{busy_at}
 use Rattle.schema_node.proofs.KeywordTurns.{silent, silent_reads}
+use Rattle.schema_node.proofs.Matches.{completes_once}
 use Rattle.schema_node.proofs.NodeOutcomes.{reply_is}
 use Rattle.schema_node.proofs.RankedTable.{ranked_table}
 use Rattle.schema_node.proofs.Replies.{if_ok_mono}
@@ -14,17 +16,35 @@ use Rattle.schema_node.proofs.node.Nodes.run.Goals as goal
 pub run_node-requires-clause-ready : goal.run_node-requires-clause-ready
 run_node-requires-clause-ready g c = record {
   ranked = ranked_table g.K.Validate.shape c.args.self.now c.self.inside.finished (subst (λ ns. IsRanked ns c.self.inside.finished) c.self.view_is c.self.invariant);
-  asks_alone = c.requires.asks_alone;
+  unmarked = c.requires.unmarked;
 }
 
 pub returns-clause-replies : goal.returns-clause-replies
-returns-clause-replies g c = if_ok_mono c.run_node.result _ _ (λ r says root texts at_place tells matcher as' n enough.
-    (says (record { texts = texts; root = root; matcher = matcher; completion = completion_of as'; depth = n }) (record { stands = at_place; tells = tells }) enough).same
-    ∙ reply_is (g.K.Validate.words texts) matcher (numbered g.K.Validate.shape c.args.self.now) (subject_in root) as' (mode_of c.args.mode) c.requires.wanted n c.args.node.0 c.args.path.now c.args.place.now (busy_at c.args.place.now c.args.context.now))
+returns-clause-replies g c =
+    let as' = c.args.context.now.remembered.assumptions in
+    let w = settling (g.M.Matcher.matching c.args.matcher.now) as' in
+    if_ok_mono c.run_node.result _ _ (λ r says root texts at_place tells once n enough.
+    (says (reading w texts root n) (record { stands = at_place; tells = tells; matcher = refl; completes = completes_once as' once }) enough).same
+    ∙ reply_is (g.K.Validate.words texts) w.matcher (numbered g.K.Validate.shape c.args.self.now) (subject_in root) as' (mode_of c.args.mode) c.requires.wanted n c.args.node.0 c.args.path.now c.args.place.now (busy_at c.args.place.now c.args.context.now.in_progress))
     c.run_node.ensures.says
+
+pub returns-clause-meets : goal.returns-clause-meets
+returns-clause-meets g c =
+    let as' = c.args.context.now.remembered.assumptions in
+    if_ok_mono c.run_node.result _ _ (λ r meets root texts at_place tells once n enough.
+    meets texts root n (record { stands = at_place; tells = tells; matcher = refl; completes = completes_once as' once }) enough)
+    c.run_node.ensures.meets
 
 pub returns-clause-borrows : goal.returns-clause-borrows
 returns-clause-borrows g c =
     let ns = numbered g.K.Validate.shape c.args.self.now in
-    let d = left ns (length c.args.self.now) c.args.node.0 (subject_of c.args.instance) (busy_at c.args.place.now c.args.context.now) in
-    if_ok_mono c.run_node.result _ _ (λ r says root at_place. (says (silent root (suc d)) (silent_reads g.K.Validate.is_whole ns (length c.args.self.now) c.args.place.now (subject_of c.args.instance) root (suc d) at_place) (omega arith)).borrows) c.run_node.ensures.says
+    let w = settling (g.M.Matcher.matching c.args.matcher.now) c.args.context.now.remembered.assumptions in
+    let d = left ns (length c.args.self.now) c.args.node.0 (subject_of c.args.instance) (busy_at c.args.place.now c.args.context.now.in_progress) in
+    if_ok_mono c.run_node.result _ _ (λ r says root at_place. (says (silent w root (suc d)) (silent_reads g.K.Validate.is_whole ns (length c.args.self.now) w c.args.place.now (subject_of c.args.instance) root (suc d) at_place) (omega arith)).borrows) c.run_node.ensures.says
+
+pub returns-clause-speaks : goal.returns-clause-speaks
+returns-clause-speaks g c =
+    let ns = numbered g.K.Validate.shape c.args.self.now in
+    let w = settling (g.M.Matcher.matching c.args.matcher.now) c.args.context.now.remembered.assumptions in
+    let d = left ns (length c.args.self.now) c.args.node.0 (subject_of c.args.instance) (busy_at c.args.place.now c.args.context.now.in_progress) in
+    if_ok_mono c.run_node.result _ _ (λ r says root at_place. (_, (says (silent w root (suc d)) (silent_reads g.K.Validate.is_whole ns (length c.args.self.now) w c.args.place.now (subject_of c.args.instance) root (suc d) at_place) (omega arith)).same)) c.run_node.ensures.says

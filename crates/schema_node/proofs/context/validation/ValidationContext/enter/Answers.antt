@@ -1,17 +1,20 @@
 use Rattle.std.proofs.Common.{◌≡◌, [], ◌∷◌, ◌++◌, map, sym, ◌∙◌, ap, subst}
-use Rattle.schema_node.specs.Progress.{Pairs, Distinct}
+use Rattle.schema_node.specs.Progress.{Context, Pairs, Distinct}
 use Rattle.schema_node.specs.ProgressViews.{pair_of}
 use Rattle.schema_node.proofs.Pairs.{pushed_pairs, distinct_pushed, enters_old, enters_new}
 use Rattle.schema_node.proofs.context.validation.ValidationContext.enter.Goals.{In_ok-push}
 use Rattle.schema_node.proofs.context.validation.ValidationContext.enter.Goals as goal
 
-after : (c : In_ok-push) → map pair_of c.push.new.self.items ≡ c.args.self.now ++ (c.args.node.0, c.args.place.now) ∷ []
+pairs_of : {x y : Context} → x ≡ y → x.in_progress ≡ y.in_progress
+pairs_of e = ap (λ (x : Context). x.in_progress) e
+
+after : (c : In_ok-push) → map pair_of c.push.new.self.items ≡ c.args.self.now.in_progress ++ (c.args.node.0, c.args.place.now) ∷ []
 after c =
     pushed_pairs c.self.inside.pairs.items c.push.new.self.items (record { node = c.args.node; place = c.in_ok-place.place }) c.args.place.now c.in_ok-push.ensures.items c.in_ok-place.ensures.same
-    ∙ ap (λ (r : Pairs). r ++ (c.args.node.0, c.args.place.now) ∷ []) c.self.view_is
+    ∙ ap (λ (r : Pairs). r ++ (c.args.node.0, c.args.place.now) ∷ []) (pairs_of c.self.view_is)
 
 distinct : (c : In_ok-push) → Distinct (map pair_of c.push.new.self.items)
-distinct c = distinct_pushed c.args.node.0 c.args.place.now c.args.self.now _ (after c) (subst Distinct c.self.view_is c.self.invariant) (sym c.is_in_progress.ensures.found ∙ c.if-is_in_progress.false)
+distinct c = distinct_pushed c.args.node.0 c.args.place.now c.args.self.now.in_progress _ (after c) (subst Distinct (pairs_of c.self.view_is) c.self.invariant) (sym c.is_in_progress.ensures.found ∙ c.if-is_in_progress.false)
 
 pub invariant_of-self-2 : goal.invariant_of-self-2
 invariant_of-self-2 c = distinct c
@@ -20,7 +23,7 @@ pub returns-clause-distinct : goal.returns-clause-distinct
 returns-clause-distinct c = distinct c
 
 pub returns-clause-enters : goal.returns-clause-enters
-returns-clause-enters c = enters_new c.args.node.0 c.args.place.now c.args.self.now _ (after c) (sym c.is_in_progress.ensures.found ∙ c.if-is_in_progress.false)
+returns-clause-enters c = enters_new c.args.node.0 c.args.place.now c.args.self.now.in_progress _ (after c) (sym c.is_in_progress.ensures.found ∙ c.if-is_in_progress.false)
 
 pub returns-then-is_in_progress-clause-enters : goal.returns-then-is_in_progress-clause-enters
-returns-then-is_in_progress-clause-enters c = enters_old c.args.node.0 c.args.place.now c.args.self.now (sym c.is_in_progress.ensures.found ∙ c.if-is_in_progress.true)
+returns-then-is_in_progress-clause-enters c = enters_old c.args.node.0 c.args.place.now c.args.self.now.in_progress (sym c.is_in_progress.ensures.found ∙ c.if-is_in_progress.true)

@@ -1,0 +1,26 @@
+-- Errors that are printed one after the other, until none is left.
+use Rattle.std.proofs.Common.{Bool, List, [], ap, append-nil, false, map, refl, sym, true, ◌&&◌, ◌++◌, ◌∙◌, ◌∷◌, ◌≡◌}
+use Rattle.schema_reports.specs.Instance.{Text}
+use Rattle.schema_reports.specs.ReportViews.{error_of}
+use Rattle.schema_reports.specs.declared.reports.ValidationError.{ValidationError}
+use Rattle.schema_node.specs.KeywordViews.{is_nil}
+use Rattle.engine_bench.specs.ProgramTexts.{errors_text}
+
+pub all_printed : (all left : List ValidationError) (text : Text) → errors_text (map (error_of true) all) ≡ text ++ errors_text (map (error_of true) left) → left ≡ []
+    → text ≡ errors_text (map (error_of true) all)
+all_printed all left text kept none = sym (kept ∙ (ap (λ es. text ++ errors_text (map (error_of true) es)) none ∙ append-nil text))
+
+and_true : (b : Bool) → b && true ≡ b
+and_true true = refl
+and_true false = refl
+
+pub all_counted : (all left : List ValidationError) (accepted : Bool) → is_nil all ≡ (accepted && is_nil left) → left ≡ [] → accepted ≡ is_nil all
+all_counted all left accepted kept none = sym (kept ∙ (ap (λ es. accepted && is_nil es) none ∙ and_true accepted))
+
+and_false : (b : Bool) → b && false ≡ false
+and_false true = refl
+and_false false = refl
+
+-- one that is printed was among those that were left
+pub one_counted : (all left rest : List ValidationError) (e : ValidationError) (accepted : Bool) → is_nil all ≡ (accepted && is_nil left) → left ≡ e ∷ rest → is_nil all ≡ (false && is_nil rest)
+one_counted all left rest e accepted kept one = kept ∙ (ap (λ es. accepted && is_nil es) one ∙ and_false accepted)

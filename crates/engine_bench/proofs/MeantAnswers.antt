@@ -1,0 +1,49 @@
+-- What is said of every sense that a validator means is said of the plain meaning of schema and parts, which it means.
+use Rattle.std.proofs.Common.{Bool, IfOk, List, Result, string_bytes, subst, sym, ◌≡◌}
+use Rattle.std.proofs.lemmas.Result.{IfOk-weaker}
+use Rattle.serde_json.specs.Data.{Data}
+use Rattle.schema_reports.specs.Instance.{Text}
+use Rattle.schema_reports.specs.Cover.{Sense}
+use Rattle.schema_reports.specs.Making.{Table}
+use Rattle.schema_reports.specs.Matching.{Matcher}
+use Rattle.schema_reports.specs.Resolving.{Resolver}
+use Rattle.schema_engine.specs.Handed.{Options}
+use Rattle.schema_engine.specs.Program.{OfEverySense, Program}
+use Rattle.engine_bench.specs.BenchMatching.{bench_matcher}
+use Rattle.engine_bench.specs.BenchShape.{BenchShape, is_whole}
+use Rattle.engine_bench.specs.ProgramAnswers.{Answers}
+use Rattle.engine_bench.specs.ProgramMeaning.{AnswersPlainly, BenchMeans, OfPlainMeaning}
+use Rattle.engine_bench.specs.Shapes.{shape_of}
+use Rattle.engine_bench.specs.Words.{words}
+use Rattle.engine_bench.specs.declared.keywords.BenchKeyword.{BenchKeyword}
+use Rattle.engine_bench.specs.declared.program.answers.Answer.{Answer}
+use Rattle.engine_bench.specs.declared.program.requests.Call.{Call}
+use Rattle.engine_bench.specs.declared.program.requests.Call.TheVariants.{IsValid, IterErrors, Validate}
+
+said_plainly : (resolver : Resolver Text) (table : Table BenchShape) (matcher : Matcher) (options : Options) (schema : Data) (p : Program BenchKeyword (List Text)) (instance : Data) (fact : Bool → Sense → Type 0)
+    → BenchMeans resolver table matcher options schema p → OfEverySense shape_of words is_whole bench_matcher p instance fact
+    → OfPlainMeaning resolver table matcher options schema instance fact
+said_plainly resolver table matcher options schema p instance fact means said = λ spoken root is_root rightly.
+    let m = means instance spoken root is_root rightly in
+    λ no_return keys reach n deep. said spoken m.0 _ (m.1 no_return keys reach n deep)
+
+pub answers_plainly : (resolver : Resolver Text) (table : Table BenchShape) (matcher : Matcher) (options : Options) (schema : Data) (p : Program BenchKeyword (List Text)) (instance : Data)
+    (call : Call) (accepted : Bool) (text : Text) → Answers (OfEverySense shape_of words is_whole bench_matcher p instance) call accepted text
+    → BenchMeans resolver table matcher options schema p → AnswersPlainly resolver table matcher options schema instance call accepted text
+answers_plainly resolver table matcher options schema p instance IsValid accepted text (said, is_text) means =
+    (said_plainly resolver table matcher options schema p instance _ means said, is_text)
+answers_plainly resolver table matcher options schema p instance Validate accepted text (first, said, is_accepted, is_text) means =
+    (first, said_plainly resolver table matcher options schema p instance _ means said, is_accepted, is_text)
+answers_plainly resolver table matcher options schema p instance IterErrors accepted text (errors, said, is_accepted, is_text) means =
+    (errors, said_plainly resolver table matcher options schema p instance _ means said, is_accepted, is_text)
+
+-- the same of what a call answers
+pub answered_plainly : {E : Type 0} (p : Program BenchKeyword (List Text)) (instance : Data) (asked call : Call) (r : Result Answer E) → asked ≡ call
+    → IfOk r (λ a. Answers (OfEverySense shape_of words is_whole bench_matcher p instance) call a.accepted (string_bytes a.text))
+    → IfOk r (λ a. (resolver : Resolver Text) (table : Table BenchShape) (matcher : Matcher) (options : Options) (schema : Data)
+    → BenchMeans resolver table matcher options schema p → AnswersPlainly resolver table matcher options schema instance asked a.accepted (string_bytes a.text))
+answered_plainly p instance asked call r same said = IfOk-weaker r _ _
+    (λ a h resolver table matcher options schema means.
+    answers_plainly resolver table matcher options schema p instance asked a.accepted (string_bytes a.text)
+    (subst (λ c. Answers (OfEverySense shape_of words is_whole bench_matcher p instance) c a.accepted (string_bytes a.text)) (sym same) h) means)
+    said

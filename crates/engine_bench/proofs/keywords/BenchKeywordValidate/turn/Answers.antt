@@ -1,8 +1,0 @@
-use Rattle.engine_bench.proofs.keywords.BenchKeywordValidate.turn.Goals.{in-Begun+in_ok-tell, in_default-stage}
-use Rattle.engine_bench.proofs.keywords.BenchKeywordValidate.turn.Goals as goal
-
-pub returns-clause-borrows : goal.returns-clause-borrows
-returns-clause-borrows c = λ root errors faults. elim c.match-run.branch [
-  | in-Begun+in_ok-tell w ↦ rw w.answer-is (w.in_ok-tell.ensures.borrows root faults)
-  | in_default-stage w ↦ rw w.answer-is faults
-]

@@ -1,0 +1,31 @@
+use Rattle.std.proofs.Common.{List, map, string_bytes, subst, true, ◌≡◌}
+use Rattle.schema_reports.specs.ReportViews.{error_of}
+use Rattle.schema_reports.specs.declared.reports.ValidationError.{ValidationError}
+use Rattle.schema_node.specs.KeywordViews.{is_nil}
+use Rattle.engine_bench.specs.ProgramTexts.{errors_text}
+use Rattle.engine_bench.proofs.AskAlone.{bench_asks_alone}
+use Rattle.engine_bench.proofs.ErrorLists.{all_counted, all_printed}
+use Rattle.engine_bench.proofs.program.answers.errors.Goals as goal
+
+pub iter_errors-requires : goal.iter_errors-requires
+iter_errors-requires c = record { asks_alone = bench_asks_alone }
+
+pub returns-clause-senses : goal.returns-clause-senses
+returns-clause-senses c =
+    let kept = c.loop-error.invariant in
+    let gives = c.into_iter-error-iterator.ensures.into_iter_gives in (
+      c.in_ok-error-items.error-items,
+      c.in_ok-error-items.ensures.senses,
+      subst (λ (es : List ValidationError). c.loop-error.accepted ≡ is_nil es) gives (all_counted c.into_iter-error-iterator.result c.loop-error.error-iterator c.loop-error.accepted kept.1 c.in-None.ensures.steps.0),
+      subst (λ (es : List ValidationError). string_bytes c.loop-error.text ≡ errors_text (map (error_of true) es)) gives (all_printed c.into_iter-error-iterator.result c.loop-error.error-iterator (string_bytes c.loop-error.text) kept.0 c.in-None.ensures.steps.0),
+    )
+
+pub returns-clause-depth : goal.returns-clause-depth
+returns-clause-depth c =
+    let kept = c.loop-error.invariant in
+    let gives = c.into_iter-error-iterator.ensures.into_iter_gives in (
+      c.in_ok-error-items.error-items,
+      c.in_ok-error-items.ensures.depth,
+      subst (λ (es : List ValidationError). c.loop-error.accepted ≡ is_nil es) gives (all_counted c.into_iter-error-iterator.result c.loop-error.error-iterator c.loop-error.accepted kept.1 c.in-None.ensures.steps.0),
+      subst (λ (es : List ValidationError). string_bytes c.loop-error.text ≡ errors_text (map (error_of true) es)) gives (all_printed c.into_iter-error-iterator.result c.loop-error.error-iterator (string_bytes c.loop-error.text) kept.0 c.in-None.ensures.steps.0),
+    )

@@ -1,0 +1,53 @@
+-- Why the program answers nothing: a fault in the words, in the order in which faults are found, a refused schema, or want
+-- of memory; and what is printed of it.
+use Rattle.std.specs.Prelude.{List, None, Some, [], codes, decimal, ◌++◌, ◌∷◌, ◌≡◌, ◌≤◌, ◌⊎◌}
+use Rattle.schema_reports.specs.Instance.{Text}
+use Rattle.schema_compiler.specs.Refusing.{number_of}
+use Rattle.schema_compiler.specs.declared.compiler.error.BuildError.{BuildError}
+use Rattle.schema_compiler.specs.declared.compiler.error.BuildError.TheVariants as build
+use Rattle.engine_bench.specs.declared.program.faults.Fault.{Fault}
+use Rattle.engine_bench.specs.declared.program.faults.Fault.TheVariants.{BuildRefused, NotJson, OutOfMemory, Usage}
+use Rattle.engine_bench.specs.declared.program.faults.Word.{Word}
+use Rattle.engine_bench.specs.declared.program.faults.Word.TheVariants.{Instance, Schema, Unfinished}
+use Rattle.engine_bench.specs.ProgramWords.{AreWords, FourWords, IsJson, IsList, call_in, words_in}
+
+abbrev pub word_name : Word → Text
+word_name Schema = codes "SCHEMA"
+word_name Instance = codes "INSTANCE"
+word_name Unfinished = codes "UNFINISHED"
+
+abbrev pub fault_text : Fault → Text
+fault_text Usage = codes "usage: engine_bench MODE SCHEMA INSTANCE [UNFINISHED]"
+fault_text (NotJson word) = codes "not JSON: " ++ word_name word
+fault_text (BuildRefused number) = codes "build refused: " ++ decimal number
+fault_text OutOfMemory = codes "out of memory"
+
+-- with a line feed
+abbrev pub fault_line : Fault → Text
+fault_line f = fault_text f ++ 10 ∷ []
+
+-- a refused schema, or want of memory
+abbrev pub fault_of : BuildError → Fault
+fault_of build.OutOfMemory = OutOfMemory
+fault_of e = BuildRefused (number_of e)
+
+-- words of a right number with a right mode, of which this holds
+abbrev pub InWords : List Text → (FourWords → Type 0) → Type 0
+InWords ts P = (w : FourWords) × (words_in ts ≡ Some w) × P w
+
+-- the words have this fault, and none that is found before it
+abbrev pub FaultStands : List Text → Fault → Type 0
+FaultStands ts Usage = call_in ts ≡ None
+FaultStands ts (NotJson Schema) = ¬ (call_in ts ≡ None) × InWords ts (λ w. ¬ IsJson w.schema)
+FaultStands ts (NotJson Instance) = ¬ (call_in ts ≡ None) × InWords ts (λ w. IsJson w.schema × ¬ IsJson w.instance)
+FaultStands ts (NotJson Unfinished) = ¬ (call_in ts ≡ None) × InWords ts (λ w. IsJson w.schema × IsJson w.instance × ¬ IsList w.unfinished)
+FaultStands ts (BuildRefused number) = AreWords ts × (1 ≤ number) × (number ≤ 8)
+FaultStands ts OutOfMemory = Unit {0}
+
+-- why a word gives no value: it is not JSON, or want of memory
+abbrev pub Unread : Text → Word → Fault → Type 0
+Unread text word f = (f ≡ OutOfMemory) ⊎ ((f ≡ NotJson word) × ¬ IsJson text)
+
+-- why UNFINISHED gives no texts: it lists none, or want of memory
+abbrev pub Unlisted : Text → Fault → Type 0
+Unlisted text f = (f ≡ OutOfMemory) ⊎ ((f ≡ NotJson Unfinished) × ¬ IsList text)

@@ -1,0 +1,60 @@
+-- What the program prints, by the plain meaning of schema and parts.
+use Rattle.std.specs.Prelude.{Bool, List, [], false, ◌≡◌}
+use Rattle.serde_json.specs.Data.{Data}
+use Rattle.serde_json.specs.View.{view}
+use Rattle.schema_reports.specs.Drafts.{draft_2020_12}
+use Rattle.schema_reports.specs.KeywordTable.{builtin_in}
+use Rattle.schema_reports.specs.Instance.{Text}
+use Rattle.schema_reports.specs.Cover.{Sense}
+use Rattle.schema_reports.specs.Headline.{Plainly}
+use Rattle.schema_reports.specs.Making.{Table}
+use Rattle.schema_reports.specs.Matching.{Matcher}
+use Rattle.schema_reports.specs.Resolving.{Resolver}
+use Rattle.schema_engine.specs.Handed.{Options, default_options, table_of}
+use Rattle.schema_engine.specs.Program.{Program}
+use Rattle.schema_engine.specs.Promised.{MeansSchema, OfSchema}
+use Rattle.engine_bench.specs.BenchAnswers.{bench_resolving}
+use Rattle.engine_bench.specs.BenchDocuments.{BenchDocument, HasCustom, HasDrafts}
+use Rattle.engine_bench.specs.BenchMatching.{bench_matcher}
+use Rattle.engine_bench.specs.Makers.{bench_script}
+use Rattle.engine_bench.specs.BenchShape.{BenchShape, is_whole}
+use Rattle.engine_bench.specs.ProgramAnswers.{Answers}
+use Rattle.engine_bench.specs.ProgramWords.{Holds}
+use Rattle.engine_bench.specs.Shapes.{shape_of}
+use Rattle.engine_bench.specs.Words.{words}
+use Rattle.engine_bench.specs.declared.keywords.BenchKeyword.{BenchKeyword}
+use Rattle.engine_bench.specs.declared.program.requests.Call.{Call}
+
+module _ (resolver : Resolver Text) (table : Table BenchShape) (matcher : Matcher) (options : Options) (schema : Data) where
+  -- said of the plain meaning for each root key of the schema, of texts too where they are spoken rightly
+  abbrev pub OfPlainMeaning : Data → (Bool → Sense → Type 0) → Type 0
+  OfPlainMeaning instance fact = OfSchema resolver table matcher words options schema instance (λ spoken w root. Plainly w root instance (fact spoken))
+
+  abbrev pub AnswersPlainly : Data → Call → Bool → Text → Type 0
+  AnswersPlainly instance call accepted text = Answers (OfPlainMeaning instance) call accepted text
+
+  -- the validator means schema and parts
+  abbrev pub BenchMeans : Program BenchKeyword (List Text) → Type 0
+  BenchMeans p = MeansSchema resolver table matcher words options schema shape_of is_whole bench_matcher p
+
+-- the bench table with the standard's names
+abbrev pub bench_table : Table BenchShape
+bench_table = table_of (λ name. false) builtin_in bench_script
+
+-- a resolver of this document in 2020-12, where no vocabulary is required beside the draft's own
+pub record Resolves (schema : Data) (r : BenchDocument) : Type 0 where
+  pub document : view r.document ≡ schema
+  pub draft : r.default_draft ≡ draft_2020_12
+  pub drafts : HasDrafts [] r.vocabularies
+  pub custom : HasCustom [] r.vocabularies
+
+-- what the words ask for, answered by the plain meaning of their schema with the bench's parts and default options
+pub record AnswersWords (ts : List Text) (accepted : Bool) (text : Text) : Type 0 where
+  pub call : Call
+  pub schema : Data
+  pub instance : Data
+  pub unfinished : List Text
+  pub holds : Holds ts call schema instance unfinished
+  pub resolver : BenchDocument
+  pub resolves : Resolves schema resolver
+  pub answers : AnswersPlainly (bench_resolving resolver) bench_table (bench_matcher unfinished) default_options schema instance call accepted text

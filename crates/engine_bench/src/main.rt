@@ -1,0 +1,29 @@
+//! `engine_bench MODE SCHEMA INSTANCE [UNFINISHED]`: what the schema engine answers of an instance, with a keyword type, a
+//! table, a resolver and a matcher that are made for tests and for this program.
+#![tactic(auto)]
+
+pub mod keywords;
+pub mod matcher;
+pub mod meta;
+#[cfg(test)]
+mod option_tests;
+pub mod program;
+pub mod resolver;
+pub mod table;
+#[cfg(test)]
+mod tests;
+
+use crate::program::arguments::given_words;
+use crate::program::faults::Fault;
+use crate::program::{refuse, run};
+use std::process::ExitCode;
+
+fn main(rt: HostRuntime) -> ExitCode {
+    let mut out = rt.stdout();
+    let mut err = rt.stderr();
+    let status = match given_words(rt.alloc(), &rt) {
+        Ok(words) => run(rt.alloc(), words.as_slice(), &mut out, &mut err),
+        Err(_refused) => refuse(&mut err, Fault::OutOfMemory),
+    };
+    ExitCode::from(status.code())
+}

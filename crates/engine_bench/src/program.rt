@@ -1,0 +1,142 @@
+//! The program: from words to what is printed, and a status.
+ghost use Rattle.std.specs.Prelude.{◌≡◌, Bool, IfOk, IfErr, OnErr, OnOk, string_bytes};
+ghost use Rattle.std.specs.Io.KnownBytes.{Appends, Keeps};
+ghost use Rattle.schema_reports.specs.Instance.{Text};
+ghost use Rattle.engine_bench.specs.declared.program.faults.Fault.{Fault};
+ghost use Rattle.engine_bench.specs.ProgramFaults.{FaultStands, fault_line};
+ghost use Rattle.engine_bench.specs.ProgramMeaning.{AnswersWords};
+ghost use Rattle.engine_bench.specs.ProgramRuns.{IsAnswer, IsRefusal, UnlessUnwritten, answer_status, fault_status};
+ghost use Rattle.engine_bench.specs.ProgramViews.{texts};
+ghost use Rattle.engine_bench.specs.ProgramWords.{call_in};
+
+pub mod answers;
+pub mod arguments;
+pub mod faults;
+pub mod requests;
+#[cfg(test)]
+mod row_tests;
+#[cfg(test)]
+mod tests;
+
+use crate::keywords::BenchKeyword;
+use crate::matcher::BenchMatcher;
+use crate::program::answers::{Answer, ask};
+use crate::program::faults::Fault;
+use crate::program::requests::{Request, request_in};
+use crate::resolver::BenchResolver;
+use crate::table::BenchTable;
+use schema_engine::validator::Validator;
+use schema_reports::keywords::VocabularySet;
+use std::alloc::Global;
+use std::io;
+use std::io::Write;
+
+/// How a run of the program ends.
+#[derive(Clone, Copy, Debug, PartialEq, Eq)]
+pub enum Status {
+    /// The instance is accepted.
+    Accepted,
+    /// The instance is refused.
+    Refused,
+    /// The schema is refused.
+    BuildRefused,
+    /// The words are not those of the usage line, or one is not JSON.
+    BadWords,
+    OutOfMemory,
+    /// A text could not be written.
+    WriteFailed,
+}
+
+impl Status {
+    ghost use Rattle.engine_bench.specs.ProgramRuns.{code_of};
+
+    /// The status that the process ends with, from 0 to 5 in the order of the variants.
+    pub fn code(self) -> u8
+        ensures code { result ≡ code_of self }
+    {
+        match self {
+            Status::Accepted => 0,
+            Status::Refused => 1,
+            Status::BuildRefused => 2,
+            Status::BadWords => 3,
+            Status::OutOfMemory => 4,
+            Status::WriteFailed => 5,
+        }
+    }
+}
+
+/// What the words' call answers of their instance.
+fn answer_to(alloc: Global, words: &[Vec<u8>]) -> Result<Answer, Fault>
+    ensures answer { IfOk result (λ a. AnswersWords (texts words.now) a.accepted (string_bytes a.text)) }
+    ensures fault { IfErr result (FaultStands (texts words.now)) }
+    ensures usage { call_in (texts words.now) ≡ None → result ≡ Err Fault.Usage }
+{
+    let Request {
+        call,
+        schema,
+        instance,
+        unfinished,
+    } = request_in(alloc, words)?;
+    let resolver = BenchResolver::new(alloc, &schema, VocabularySet::new(alloc))?;
+    let matcher = BenchMatcher::new(unfinished);
+    let validator = Validator::<BenchKeyword, BenchMatcher>::new(
+        alloc,
+        &schema,
+        &BenchTable {},
+        &resolver,
+        &matcher,
+    )?;
+    Ok(ask(alloc, &validator, call, &instance)?)
+}
+
+/// Writes a text.
+fn print<W: Write>(out: &mut W, text: &str) -> io::Result<()>
+    ensures printed { OnOk result (Appends (W.contents out.old) (W.contents out.new) text.now) }
+{
+    out.write_all(text.as_bytes())?;
+    out.flush()
+}
+
+/// Writes the line of a fault. It takes no memory.
+fn tell<E: Write>(err: &mut E, fault: Fault) -> io::Result<()>
+    ensures told { OnOk result (Appends (E.contents err.old) (E.contents err.new) (fault_line fault)) }
+{
+    err.writeln(fault)?;
+    err.flush()
+}
+
+/// A status, unless a text could not be written.
+fn written(writing: io::Result<()>, status: Status) -> Status
+    ensures written { OnOk writing (result ≡ status) }
+    ensures unwritten { OnErr writing (result ≡ Status.WriteFailed) }
+{
+    match writing {
+        Ok(()) => status,
+        Err(_unwritten) => Status::WriteFailed,
+    }
+}
+
+/// Writes the line of a fault, and answers its status.
+pub fn refuse<E: Write>(err: &mut E, fault: Fault) -> Status
+    ensures status { UnlessUnwritten (fault_status fault) result }
+    ensures line { result ≡ fault_status fault → Appends (E.contents err.old) (E.contents err.new) (fault_line fault) }
+{
+    written(tell(err, fault), fault.status())
+}
+
+/// Runs the program on its words, which are bytes: MODE, SCHEMA, INSTANCE and perhaps UNFINISHED. The answer is written to
+/// `out`, or why there is none to `err`, a line feed after each line.
+pub fn run<W: Write, E: Write>(alloc: Global, words: &[Vec<u8>], out: &mut W, err: &mut E) -> Status
+    ensures answer { IsAnswer result → (accepted : Bool) × (result ≡ answer_status accepted)
+        × (text : Text) × AnswersWords (texts words.now) accepted text × Appends (W.contents out.old) (W.contents out.new) text }
+    ensures answer_alone { IsAnswer result → Keeps (E.contents err.old) (E.contents err.new) }
+    ensures refusal { IsRefusal result → (fault : Fault) × (result ≡ fault_status fault) × FaultStands (texts words.now) fault
+        × Appends (E.contents err.old) (E.contents err.new) (fault_line fault) }
+    ensures refusal_alone { IsRefusal result → Keeps (W.contents out.old) (W.contents out.new) }
+    ensures usage { call_in (texts words.now) ≡ None → UnlessUnwritten Status.BadWords result }
+{
+    match answer_to(alloc, words) {
+        Ok(answer) => written(print(out, answer.text.as_str()), answer.status()),
+        Err(fault) => refuse(err, fault),
+    }
+}

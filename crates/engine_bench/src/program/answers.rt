@@ -1,0 +1,157 @@
+//! What is printed of an instance.
+ghost use Rattle.std.specs.Prelude.{◌≡◌, ◌++◌, true, IfOk, string_bytes};
+ghost use Rattle.serde_json.specs.Data.{Data};
+ghost use Rattle.serde_json.specs.View.{view};
+ghost use Rattle.schema_reports.specs.Instance.{Text};
+ghost use Rattle.schema_reports.specs.Making.{Table};
+ghost use Rattle.schema_reports.specs.Matching.{Matcher};
+ghost use Rattle.schema_reports.specs.Resolving.{Resolver};
+ghost use Rattle.schema_reports.specs.ReportViews.{error_of};
+ghost use Rattle.schema_engine.specs.Handed.{Options};
+ghost use Rattle.schema_engine.specs.Program.{FromSomeDepth, OfEverySense};
+ghost use Rattle.engine_bench.specs.BenchMatching.{bench_matcher};
+ghost use Rattle.engine_bench.specs.BenchShape.{BenchShape, is_whole};
+ghost use Rattle.engine_bench.specs.ProgramAnswers.{Answers};
+ghost use Rattle.engine_bench.specs.ProgramMeaning.{AnswersPlainly, BenchMeans};
+ghost use Rattle.engine_bench.specs.ProgramRuns.{answer_status};
+ghost use Rattle.engine_bench.specs.ProgramTexts.{error_line, verdict_text};
+ghost use Rattle.engine_bench.specs.Shapes.{shape_of};
+ghost use Rattle.engine_bench.specs.Words.{words};
+ghost use Rattle.engine_bench.specs.declared.program.requests.Call.TheVariants.{IsValid, IterErrors, Validate};
+
+use crate::keywords::BenchKeyword;
+use crate::matcher::BenchMatcher;
+use crate::program::Status;
+use crate::program::requests::Call;
+use schema_engine::validator::Validator;
+use schema_reports::location::OutOfMemory;
+use schema_reports::reports::ValidationError;
+use serde_json::Value;
+use std::alloc::Global;
+
+/// What is printed of an instance, and whether it is accepted.
+#[derive(Drop)]
+pub struct Answer {
+    pub accepted: bool,
+    /// Lines, each with its line feed.
+    pub text: String,
+}
+
+impl Answer {
+    /// The status that the program ends with. It takes no memory.
+    pub fn status(&self) -> Status
+        ensures status { result ≡ answer_status self.now.accepted }
+    {
+        if self.accepted {
+            Status::Accepted
+        } else {
+            Status::Refused
+        }
+    }
+}
+
+/// Adds the line of an error: instance path, schema path, evaluation path and text, with one tab between.
+fn push_error(text: &mut String, alloc: Global, error: &ValidationError) -> Result<(), OutOfMemory>
+    ensures line { IfOk result (λ _. string_bytes text.new ≡ string_bytes text.old ++ error_line (error_of true error.now)) }
+{
+    text.push_str(error.instance_path(alloc)?.as_str())?;
+    text.push_str("\t")?;
+    text.push_str(error.schema_path.as_str())?;
+    text.push_str("\t")?;
+    text.push_str(error.evaluation_path.as_str())?;
+    text.push_str("\t")?;
+    text.push_str(error.text.as_str())?;
+    text.push_str("\n")
+}
+
+/// The verdict of an instance, as `true` or `false`.
+fn verdict(
+    alloc: Global,
+    validator: &Validator<BenchKeyword, BenchMatcher>,
+    instance: &Value,
+) -> Result<Answer, OutOfMemory>
+    ensures senses { IfOk result (λ a. Answers (OfEverySense shape_of words is_whole bench_matcher validator.now (view instance.now)) IsValid a.accepted (string_bytes a.text)) }
+    ensures depth { IfOk result (λ a. Answers (FromSomeDepth shape_of words is_whole bench_matcher validator.now (view instance.now)) IsValid a.accepted (string_bytes a.text)) }
+{
+    let accepted = validator.is_valid(alloc, instance)?;
+    let text = verdict_text(alloc, accepted)?;
+    Ok(Answer { accepted, text })
+}
+
+/// The line of a verdict.
+fn verdict_text(alloc: Global, accepted: bool) -> Result<String, OutOfMemory>
+    ensures text { IfOk result (λ text. string_bytes text ≡ verdict_text accepted) }
+{
+    if accepted {
+        String::from_str(alloc, "true\n")
+    } else {
+        String::from_str(alloc, "false\n")
+    }
+}
+
+/// The first error of an instance, or `ok`.
+fn first(
+    alloc: Global,
+    validator: &Validator<BenchKeyword, BenchMatcher>,
+    instance: &Value,
+) -> Result<Answer, OutOfMemory>
+    ensures senses { IfOk result (λ a. Answers (OfEverySense shape_of words is_whole bench_matcher validator.now (view instance.now)) Validate a.accepted (string_bytes a.text)) }
+    ensures depth { IfOk result (λ a. Answers (FromSomeDepth shape_of words is_whole bench_matcher validator.now (view instance.now)) Validate a.accepted (string_bytes a.text)) }
+{
+    match validator.validate(alloc, instance)? {
+        Ok(()) => Ok(Answer {
+            accepted: true,
+            text: String::from_str(alloc, "ok\n")?,
+        }),
+        Err(error) => {
+            let mut text = String::new(alloc);
+            push_error(&mut text, alloc, &error)?;
+            Ok(Answer {
+                accepted: false,
+                text,
+            })
+        }
+    }
+}
+
+/// All errors of an instance, a line for each.
+fn errors(
+    alloc: Global,
+    validator: &Validator<BenchKeyword, BenchMatcher>,
+    instance: &Value,
+) -> Result<Answer, OutOfMemory>
+    ensures senses { IfOk result (λ a. Answers (OfEverySense shape_of words is_whole bench_matcher validator.now (view instance.now)) IterErrors a.accepted (string_bytes a.text)) }
+    ensures depth { IfOk result (λ a. Answers (FromSomeDepth shape_of words is_whole bench_matcher validator.now (view instance.now)) IterErrors a.accepted (string_bytes a.text)) }
+{
+    let mut accepted = true;
+    let mut text = String::new(alloc);
+    for error in validator.iter_errors(alloc, instance)? {
+        accepted = false;
+        push_error(&mut text, alloc, &error)?;
+    }
+    Ok(Answer { accepted, text })
+}
+
+/// What a call of the validator answers of an instance.
+///
+/// # Errors
+///
+/// Want of memory.
+#[tactic(auto, using(crate::proofs::MeantAnswers::answered_plainly))]
+pub fn ask(
+    alloc: Global,
+    validator: &Validator<BenchKeyword, BenchMatcher>,
+    call: Call,
+    instance: &Value,
+) -> Result<Answer, OutOfMemory>
+    ensures senses { IfOk result (λ a. Answers (OfEverySense shape_of words is_whole bench_matcher validator.now (view instance.now)) call a.accepted (string_bytes a.text)) }
+    ensures means { IfOk result (λ a. (resolver : Resolver Text) (table : Table BenchShape) (matcher : Matcher) (options : Options) (schema : Data)
+        → BenchMeans resolver table matcher options schema validator.now → AnswersPlainly resolver table matcher options schema (view instance.now) call a.accepted (string_bytes a.text)) }
+    ensures depth { IfOk result (λ a. Answers (FromSomeDepth shape_of words is_whole bench_matcher validator.now (view instance.now)) call a.accepted (string_bytes a.text)) }
+{
+    match call {
+        Call::IsValid => verdict(alloc, validator, instance),
+        Call::Validate => first(alloc, validator, instance),
+        Call::IterErrors => errors(alloc, validator, instance),
+    }
+}

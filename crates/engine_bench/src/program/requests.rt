@@ -1,0 +1,153 @@
+//! What the words ask for.
+ghost use Rattle.std.specs.Prelude.{◌≡◌, IfOk, IfErr, map, option_map, string_bytes};
+ghost use Rattle.serde_json.specs.View.{items_view, view};
+ghost use Rattle.engine_bench.specs.Makers.{texts_of};
+ghost use Rattle.engine_bench.specs.ProgramFaults.{FaultStands, Unlisted, Unread};
+ghost use Rattle.engine_bench.specs.ProgramViews.{texts, words_of};
+ghost use Rattle.engine_bench.specs.ProgramWords.{Holds, IsListOf, IsTextOf, call_in, call_named, listed, words_in};
+
+use crate::program::faults::{Fault, Word};
+use schema_reports::location::OutOfMemory;
+use serde_json::{Category, Value};
+use std::alloc::Global;
+
+/// A call of the engine. MODE names it: `valid`, `first` or `errors`.
+#[derive(Clone, Copy, Debug, PartialEq, Eq)]
+pub enum Call {
+    IsValid,
+    Validate,
+    IterErrors,
+}
+
+/// What the words ask for.
+#[derive(Drop)]
+pub struct Request {
+    pub call: Call,
+    pub schema: Value,
+    pub instance: Value,
+    /// The patterns whose matches stay unfinished.
+    pub unfinished: Vec<String>,
+}
+
+/// The words, each for what it is to be.
+#[derive(Drop)]
+pub struct Words<'w> {
+    pub mode: &'w [u8],
+    pub schema: &'w [u8],
+    pub instance: &'w [u8],
+    pub unfinished: &'w [u8],
+}
+
+/// The call of this name. It takes no memory.
+fn call_named(mode: &[u8]) -> Option<Call>
+    ensures named { result ≡ call_named mode.now }
+{
+    if mode == b"valid".as_slice() {
+        Some(Call::IsValid)
+    } else if mode == b"first".as_slice() {
+        Some(Call::Validate)
+    } else if mode == b"errors".as_slice() {
+        Some(Call::IterErrors)
+    } else {
+        None
+    }
+}
+
+/// The words, if they are three or four; UNFINISHED is `[]` where it is absent. It takes no memory.
+fn words_in(words: &[Vec<u8>]) -> Option<Words<'_>>
+    ensures words { option_map words_of result ≡ words_in (texts words.now) }
+{
+    match words {
+        [mode, schema, instance] => Some(Words {
+            mode: mode.as_slice(),
+            schema: schema.as_slice(),
+            instance: instance.as_slice(),
+            unfinished: b"[]",
+        }),
+        [mode, schema, instance, unfinished] => Some(Words {
+            mode: mode.as_slice(),
+            schema: schema.as_slice(),
+            instance: instance.as_slice(),
+            unfinished: unfinished.as_slice(),
+        }),
+        _ => None,
+    }
+}
+
+/// The value of a JSON text.
+fn json_in(alloc: Global, text: &[u8], word: Word) -> Result<Value, Fault>
+    ensures read { IfOk result (λ v. IsTextOf (view v) text.now) }
+    ensures fault { IfErr result (λ f. Unread text.now word f) }
+{
+    match Value::from_slice(alloc, text) {
+        Ok(value) => Ok(value),
+        Err(error) => match error.classify() {
+            Category::Memory => Err(Fault::OutOfMemory),
+            _ => Err(Fault::NotJson(word)),
+        },
+    }
+}
+
+/// The texts that a value lists, if it is a list of texts.
+fn listed(alloc: Global, value: &Value) -> Result<Option<Vec<String>>, OutOfMemory>
+    ensures listed { IfOk result (λ found. option_map (λ v. map string_bytes v.items) found ≡ listed (view value.now)) }
+{
+    let Value::Array(items) = value else {
+        return Ok(None);
+    };
+    texts_of(alloc, items.as_slice())
+}
+
+/// The texts that values are, if each is one.
+fn texts_of(alloc: Global, items: &[Value]) -> Result<Option<Vec<String>>, OutOfMemory>
+    ensures texts { IfOk result (λ found. option_map (λ v. map string_bytes v.items) found ≡ texts_of (items_view items.now)) }
+{
+    let mut found = Vec::new(alloc);
+    for item in items {
+        match item {
+            Value::String(text) => found.push(String::from_str(alloc, text.as_str())?)?,
+            _ => return Ok(None),
+        }
+    }
+    Ok(Some(found))
+}
+
+/// The texts that the JSON text of a list of texts holds.
+fn list_in(alloc: Global, text: &[u8]) -> Result<Vec<String>, Fault>
+    ensures read { IfOk result (λ found. IsListOf (map string_bytes found.items) text.now) }
+    ensures fault { IfErr result (Unlisted text.now) }
+{
+    let value = json_in(alloc, text, Word::Unfinished)?;
+    match listed(alloc, &value)? {
+        Some(found) => Ok(found),
+        None => Err(Fault::NotJson(Word::Unfinished)),
+    }
+}
+
+/// What the words ask for.
+///
+/// # Errors
+///
+/// The first of the faults in the words, or want of memory: a number of words other than three or four, or a MODE that is
+/// none; a SCHEMA, then an INSTANCE that is not JSON; an UNFINISHED that is no list of texts.
+pub fn request_in(alloc: Global, words: &[Vec<u8>]) -> Result<Request, Fault>
+    ensures holds { IfOk result (λ r. Holds (texts words.now) r.call (view r.schema) (view r.instance) (map string_bytes r.unfinished.items)) }
+    ensures fault { IfErr result (FaultStands (texts words.now)) }
+    ensures usage { call_in (texts words.now) ≡ None → result ≡ Err Fault.Usage }
+{
+    let Some(given) = words_in(words) else {
+        return Err(Fault::Usage);
+    };
+    let Some(call) = call_named(given.mode) else {
+        return Err(Fault::Usage);
+    };
+    let schema = json_in(alloc, given.schema, Word::Schema)?;
+    let instance = json_in(alloc, given.instance, Word::Instance)?;
+    let unfinished = list_in(alloc, given.unfinished)?;
+    Ok(Request {
+        call,
+        schema,
+        instance,
+        unfinished,
+    })
+}

@@ -1,0 +1,84 @@
+-- What the compiler gives, as the nodes that are compiled from its root, whatever matcher and words go with the parts.
+use Rattle.std.proofs.Common.{◌≡◌, ℕ, zero, suc, Bool, List, [], ◌∷◌, map, refl, sym, subst}
+use Rattle.std.specs.Prelude.{Decides, Option, Some, All, slice_get, slice_index_or}
+use Rattle.std.proofs.lemmas.Option.{slice_get_within}
+use Rattle.serde_json.specs.Data.{Members}
+use Rattle.schema_reports.specs.Instance.{Text}
+use Rattle.schema_reports.specs.Drafts.{Draft, Vocabularies}
+use Rattle.schema_reports.specs.Matching.{Matcher}
+use Rattle.schema_reports.specs.Resolving.{Resolver}
+use Rattle.schema_reports.specs.Making.{Builtin, Script, Table}
+use Rattle.schema_reports.specs.Keywords.{Keywords}
+use Rattle.schema_reports.specs.KeywordTable.{builtin_in}
+use Rattle.schema_reports.specs.Parts.{Parts}
+use Rattle.schema_reports.specs.Plan.{Key}
+use Rattle.schema_reports.specs.Reach.{IsReach, Reached}
+use Rattle.schema_reports.specs.Numbered.{Ranked}
+use Rattle.schema_node.specs.NodeTable.{NodeEntry, numbered}
+use Rattle.schema_compiler.specs.Builtins.{builtin}
+use Rattle.schema_compiler.specs.Compilation.{IsCompilation, RefusesRoot, all_parts}
+use Rattle.schema_compiler.specs.declared.compiler.error.BuildError.{BuildError}
+use Rattle.schema_engine.specs.Handed.{Options, parts_of, table_of}
+use Rattle.schema_engine.specs.Compiled.{IsCompiled}
+use Rattle.schema_engine.proofs.Reaches.{reach_of}
+use Rattle.schema_engine.proofs.OtherParts.{reached_too, stands_too, numbered_too}
+
+index_of : {A : Type 0} (xs : List A) (i : ℕ) (x d : A) → slice_get xs i ≡ Some x → slice_index_or xs i d ≡ x
+index_of [] i x d e = absurd (let f : ⊥ = cc in f)
+index_of (y ∷ xs) zero x d e = cc
+index_of (y ∷ xs) (suc i) x d e = index_of xs i x d e
+
+all_at : {A : Type 0} (P : A → Type 0) (xs : List A) → All P xs → (i : ℕ) (x : A) → slice_get xs i ≡ Some x → P x
+all_at P xs h i x e = subst P (index_of xs i x x e) (h i x (slice_get_within xs i x e))
+
+-- the compiler's table of built-in keywords is the standard's
+builtin_is : builtin ≡ builtin_in
+unfolding builtin
+builtin_is = refl
+
+compiled_nodes : {S K R C : Type 0} (w : Parts S K R) (shape : C → K) (limit : ℕ) (root : Key S) (keys : List (Key S)) (nodes : List (NodeEntry C)) → IsCompilation w shape limit root keys nodes → IsCompiled w shape root nodes 0
+compiled_nodes w shape limit root keys nodes c = record {
+  keys = keys;
+  lengths = c.lengths;
+  numbers = c.numbers;
+  ranked = subst (Ranked (numbered shape nodes)) (sym c.lengths) c.ranked;
+  is_root = c.first;
+  reached = all_at (Reached w root) keys c.sound;
+  compiles = c.compiles;
+}
+
+module _ {S K R R' : Type 0} (resolver : Resolver S) (table : Table K) (matcher matcher' : Matcher) (keywords : Keywords K R) (keywords' : Keywords K R') (options : Options) where
+  abbrev w : Parts S K R
+  w = parts_of resolver table matcher keywords options
+
+  abbrev w' : Parts S K R'
+  w' = parts_of resolver table matcher' keywords' options
+
+  pub compiled_too : {C : Type 0} (shape : C → K) (root : Key S) (nodes : List (NodeEntry C)) (number : ℕ) → IsCompiled w shape root nodes number → IsCompiled w' shape root nodes number
+  compiled_too shape root nodes number c = record {
+    keys = c.keys;
+    lengths = c.lengths;
+    numbers = numbered_too resolver table matcher matcher' keywords keywords' options (map Some c.keys) (numbered shape nodes) c.numbers;
+    ranked = c.ranked;
+    is_root = c.is_root;
+    reached = λ i k at. reached_too resolver table matcher matcher' keywords keywords' options (c.reached i k at);
+    compiles = λ cause stands. c.compiles cause (stands_too resolver table matcher' matcher keywords' keywords options stands);
+  }
+
+-- what is said of the compiler's table is said of the standard's
+module _ {S K R : Type 0} (resolver : Resolver S) (owns : Text → Bool) (script : Bool → Text → Members → Draft → Vocabularies → Bool → Script K) (matcher : Matcher) (keywords : Keywords K R) (options : Options) where
+  abbrev over : (Draft → Vocabularies → Text → Option Builtin) → Parts S K R
+  over row = parts_of resolver (table_of owns row script) matcher keywords options
+
+  abbrev given : Parts S K R
+  given = all_parts resolver (record { owns = owns; builtin = builtin; script = script }) options.formats options.declared matcher keywords options.draft options.base
+
+  pub compiled_in : {C : Type 0} (shape : C → K) (limit : ℕ) (root : Key S) (keys : List (Key S)) (nodes : List (NodeEntry C)) → IsCompilation given shape limit root keys nodes → IsCompiled (over builtin_in) shape root nodes 0
+  compiled_in shape limit root keys nodes c = subst (λ row. IsCompiled (over row) shape root nodes 0) builtin_is (compiled_nodes (over builtin) shape limit root keys nodes c)
+
+  -- the keys are those that the root reaches, and no more than the limit
+  pub reach_in : ((a b : S) → Decides (resolver.same_state a b) (a ≡ b)) → {C : Type 0} (shape : C → K) (limit : ℕ) (root : Key S) (keys : List (Key S)) (nodes : List (NodeEntry C)) → IsCompilation given shape limit root keys nodes → IsReach (over builtin_in) root keys
+  reach_in law shape limit root keys nodes c = subst (λ row. IsReach (over row) root keys) builtin_is (reach_of (over builtin) law shape limit root keys nodes c)
+
+  pub refuses_in : (limit : ℕ) (root : Key S) (e : BuildError) → RefusesRoot given limit root e → RefusesRoot (over builtin_in) limit root e
+  refuses_in limit root e h = subst (λ row. RefusesRoot (over row) limit root e) builtin_is h

@@ -1,0 +1,39 @@
+use Rattle.serde_json.specs.View.{view}
+use Rattle.schema_reports.specs.KeywordTable.{builtin_in}
+use Rattle.std.specs.Prelude.{map}
+use Rattle.schema_reports.specs.Headline.{ErrorsSay}
+use Rattle.schema_reports.specs.ReportViews.{error_of}
+use Rattle.schema_engine.specs.Handed.{default_options, table_of}
+use Rattle.std.proofs.Common.{Bool}
+use Rattle.schema_reports.specs.ErrorsLead.{EachKeepsAbsorbing}
+use Rattle.schema_reports.proofs.TurnsGiveRuns.{keeps_of_turns}
+use Rattle.schema_engine.proofs.Pointing.{each_points}
+use Rattle.schema_engine.proofs.PlainAnswers.{plainly_from}
+use Rattle.schema_engine.proofs.calls.iter_errors.Goals as goal
+
+pub returns-clause-answer : goal.returns-clause-answer
+returns-clause-answer g c =
+    let r = g.S.Resolver.resolving c.args.resolver.now in
+    let table = table_of (g.T.KeywordTable.owned c.args.table.now) builtin_in (g.T.KeywordTable.script c.args.table.now) in
+    let m = g.M.Matcher.matching c.args.matcher.now in
+    let k = g.K.Validate in
+    plainly_from r table m k.words default_options (view c.args.schema.now) k.shape k.is_whole g.M.Matcher.matching c.in_ok-validator.validator (view c.args.instance.now)
+    (λ texts v. ErrorsSay v (map (error_of texts) c.in_ok-iter_errors.field-0)) c.in_ok-validator.ensures.means c.in_ok-iter_errors.ensures.senses
+
+pub returns-clause-guarded : goal.returns-clause-guarded
+returns-clause-guarded g c = (c.in_ok-validator.validator, c.in_ok-validator.ensures.program, c.in_ok-iter_errors.ensures.depth)
+
+pub returns-clause-leads : goal.returns-clause-leads
+returns-clause-leads g c =
+    let r = g.S.Resolver.resolving c.args.resolver.now in
+    let table = table_of (g.T.KeywordTable.owned c.args.table.now) builtin_in (g.T.KeywordTable.script c.args.table.now) in
+    let m = g.M.Matcher.matching c.args.matcher.now in
+    let k = g.K.Validate in
+    let each : (texts : Bool) → EachKeepsAbsorbing (k.words texts) k.absorbed =
+    λ texts s. keeps_of_turns (k.words texts) s (k.absorbed s) (k.remaining s) (k.ends texts s) (k.fits texts s) (g.met.K.Validate.turn_laws texts s) (g.met.K.Validate.function_laws texts s) in
+    let built = c.in_ok-validator.ensures in (
+      c.in_ok-validator.validator,
+      built.program,
+      each_points r table m k.words default_options (view c.args.schema.now) k.absorbed k.is_whole each (g.met.T.KeywordTable.right c.args.table.now) k.shape g.M.Matcher.matching c.in_ok-validator.validator
+          built.program built.means (view c.args.instance.now) (λ texts. map (error_of texts) c.in_ok-iter_errors.field-0) c.in_ok-iter_errors.ensures.depth,
+    )

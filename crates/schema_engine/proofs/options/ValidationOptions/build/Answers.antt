@@ -1,0 +1,126 @@
+use Rattle.std.proofs.Common.{true, map, sym, ◌∙◌, ap, subst, inr, arith}
+use Rattle.std.specs.Prelude.{Ok, option_map, string_bytes}
+use Rattle.std.proofs.lemmas.Option.{slice_get_within}
+use Rattle.std.proofs.lemmas.Result.{err_from_is_err_and}
+use Rattle.serde_json.specs.View.{view}
+use Rattle.schema_reports.specs.KeywordTable.{builtin_in}
+use Rattle.schema_reports.specs.KeywordViews.{draft_of}
+use Rattle.schema_compiler.specs.Builtins.{builtin}
+use Rattle.schema_compiler.specs.Compiling.{no_table}
+use Rattle.schema_compiler.specs.KeyViews.{key_of}
+use Rattle.schema_compiler.specs.Compilation.{IsCompilation, RefusesRoot, all_parts}
+use Rattle.schema_engine.specs.Compiled.{IsCompiled}
+use Rattle.schema_engine.specs.Handed.{Options, no_keywords, no_matcher, parts_of, table_of}
+use Rattle.schema_engine.proofs.Compilations.{compiled_in, compiled_too, reach_in, refuses_in}
+use Rattle.schema_engine.proofs.RootKeys.{one_root_key, root_key_of, root_key_too}
+use Rattle.schema_engine.proofs.options.ValidationOptions.build.Goals as goal
+
+pub of_compiled-requires : goal.of_compiled-requires
+of_compiled-requires g c =
+    let inside = c.self.inside in
+    let done = c.in_ok-compiled.ensures.compiled (g.M.Matcher.matching c.args.matcher.now) (g.K.Validate.words true) (option_map draft_of inside.draft) (option_map string_bytes inside.base) in
+    let same = done.lengths in
+    let within = slice_get_within _ 0 _ done.first in
+    record { inside = omega arith }
+
+pub returns-in_err-compiled-clause-refused : goal.returns-in_err-compiled-clause-refused
+returns-in_err-compiled-clause-refused g c =
+    let r = g.S.Resolver.resolving c.args.resolver.now in
+    let owns = g.T.KeywordTable.owned c.args.table.now in
+    let script = g.T.KeywordTable.script c.args.table.now in
+    let m = g.M.Matcher.matching c.args.matcher.now in
+    let words = g.K.Validate.words in
+    let inside = c.self.inside in
+    let options = c.args.self.now in
+    let key = key_of g.S.Resolver.point c.in_ok-root.root in
+    let p = err_from_is_err_and c.from_residual-in_err-compiled.result c.from_residual-in_err-compiled.ensures.1 in
+    rw (p.1, p.2) (λ texts. inr (
+      key,
+      root_key_too r no_table (table_of owns builtin_in script) no_matcher m no_keywords (words texts) options (view c.args.schema.now) key c.in_ok-root.ensures.key,
+      refuses_in r owns script m (words texts) options options.limit key c.in_err-compiled.field-0.0
+          (subst (λ (o : Options). RefusesRoot (all_parts r (record { owns = owns; builtin = builtin; script = script }) o.formats o.declared m (words texts) o.draft o.base) o.limit key c.in_err-compiled.field-0.0) c.self.view_is
+          (c.in_err-compiled.ensures.refused m (words texts) (option_map draft_of inside.draft) (option_map string_bytes inside.base))),
+    ))
+
+pub returns-clause-means : goal.returns-clause-means
+returns-clause-means g c =
+    let r = g.S.Resolver.resolving c.args.resolver.now in
+    let owns = g.T.KeywordTable.owned c.args.table.now in
+    let script = g.T.KeywordTable.script c.args.table.now in
+    let table = table_of owns builtin_in script in
+    let m = g.M.Matcher.matching c.args.matcher.now in
+    let words = g.K.Validate.words true in
+    let shape = g.K.Validate.shape in
+    let inside = c.self.inside in
+    let options = c.args.self.now in
+    let schema = view c.args.schema.now in
+    let v = key_of g.S.Resolver.point in
+    let key = v c.in_ok-root.root in
+    let keys = map v c.in_ok-compiled.compiled.keys.items in
+    let nodes = c.in_ok-compiled.compiled.nodes in
+    let done = subst (λ (o : Options). IsCompilation (all_parts r (record { owns = owns; builtin = builtin; script = script }) o.formats o.declared m words o.draft o.base) shape o.limit key keys nodes) c.self.view_is
+    (c.in_ok-compiled.ensures.compiled m words (option_map draft_of inside.draft) (option_map string_bytes inside.base)) in
+    let compiled = compiled_too r table m no_matcher words no_keywords options shape key nodes 0 (compiled_in r owns script m words options shape options.limit key keys nodes done) in
+    let is_root = root_key_too r no_table table no_matcher no_matcher no_keywords no_keywords options schema key c.in_ok-root.ensures.key in
+    c.in_ok-validator.ensures.means options (λ other root.
+    subst (λ k. IsCompiled (parts_of r table no_matcher no_keywords options) shape k nodes 0)
+    (one_root_key (parts_of r table no_matcher no_keywords options) schema key other is_root (root_key_of (parts_of r table no_matcher no_keywords options) schema other root)) compiled)
+
+pub returns-clause-program : goal.returns-clause-program
+returns-clause-program g c =
+    let r = g.S.Resolver.resolving c.args.resolver.now in
+    let owns = g.T.KeywordTable.owned c.args.table.now in
+    let script = g.T.KeywordTable.script c.args.table.now in
+    let table = table_of owns builtin_in script in
+    let m = g.M.Matcher.matching c.args.matcher.now in
+    let words = g.K.Validate.words true in
+    let shape = g.K.Validate.shape in
+    let inside = c.self.inside in
+    let options = c.args.self.now in
+    let schema = view c.args.schema.now in
+    let v = key_of g.S.Resolver.point in
+    let key = v c.in_ok-root.root in
+    let keys = map v c.in_ok-compiled.compiled.keys.items in
+    let nodes = c.in_ok-compiled.compiled.nodes in
+    let done = subst (λ (o : Options). IsCompilation (all_parts r (record { owns = owns; builtin = builtin; script = script }) o.formats o.declared m words o.draft o.base) shape o.limit key keys nodes) c.self.view_is
+    (c.in_ok-compiled.ensures.compiled m words (option_map draft_of inside.draft) (option_map string_bytes inside.base)) in
+    let compiled = compiled_too r table m no_matcher words no_keywords options shape key nodes 0 (compiled_in r owns script m words options shape options.limit key keys nodes done) in
+    let made = c.in_ok-validator.ensures.made in
+    record {
+      root = key;
+      is_root = root_key_too r no_table table no_matcher no_matcher no_keywords no_keywords options schema key c.in_ok-root.ensures.key;
+      compiled = subst (λ number. IsCompiled (parts_of r table no_matcher no_keywords options) shape key c.in_ok-validator.validator.nodes number) (sym made.1)
+          (subst (λ ns. IsCompiled (parts_of r table no_matcher no_keywords options) shape key ns 0) (sym made.0) compiled);
+      drafted = c.in_ok-root.ensures.drafted ∙ ap Ok (sym made.2);
+      matcher_is = c.in_ok-validator.ensures.matcher;
+    }
+
+pub returns-clause-built : goal.returns-clause-built
+returns-clause-built g c = λ texts.
+    let r = g.S.Resolver.resolving c.args.resolver.now in
+    let owns = g.T.KeywordTable.owned c.args.table.now in
+    let script = g.T.KeywordTable.script c.args.table.now in
+    let table = table_of owns builtin_in script in
+    let m = g.M.Matcher.matching c.args.matcher.now in
+    let words = g.K.Validate.words texts in
+    let shape = g.K.Validate.shape in
+    let inside = c.self.inside in
+    let options = c.args.self.now in
+    let schema = view c.args.schema.now in
+    let v = key_of g.S.Resolver.point in
+    let key = v c.in_ok-root.root in
+    let keys = map v c.in_ok-compiled.compiled.keys.items in
+    let nodes = c.in_ok-compiled.compiled.nodes in
+    let done = subst (λ (o : Options). IsCompilation (all_parts r (record { owns = owns; builtin = builtin; script = script }) o.formats o.declared m words o.draft o.base) shape o.limit key keys nodes) c.self.view_is
+    (c.in_ok-compiled.ensures.compiled m words (option_map draft_of inside.draft) (option_map string_bytes inside.base)) in
+    let compiled = compiled_in r owns script m words options shape options.limit key keys nodes done in
+    let is_root = root_key_too r no_table table no_matcher m no_keywords words options schema key c.in_ok-root.ensures.key in
+    record {
+      root = key;
+      is_root = is_root;
+      alone = λ other h. one_root_key (parts_of r table m words options) schema other key h is_root;
+      compiles = compiled.compiles;
+      keys = keys;
+      reach = reach_in r owns script m words options (g.met.S.Resolver.same c.args.resolver.now) shape options.limit key keys nodes done;
+      within = done.within;
+    }

@@ -1,0 +1,35 @@
+use Rattle.std.proofs.Common.{Bool, subst}
+use Rattle.std.specs.Prelude.{IfErr, IfOk}
+use Rattle.serde_json.specs.View.{view}
+use Rattle.schema_reports.specs.KeywordTable.{builtin_in}
+use Rattle.schema_compiler.specs.declared.compiler.error.BuildError.{BuildError}
+use Rattle.schema_engine.specs.Handed.{Options, parts_of, table_of}
+use Rattle.schema_engine.specs.Program.{Program}
+use Rattle.schema_engine.specs.Promised.{MeansSchema}
+use Rattle.schema_engine.specs.Roots.{Builds, RefusesBuild}
+use Rattle.schema_engine.proofs.validator.Validator.new.Goals as goal
+
+pub returns-clause-means : goal.returns-clause-means
+returns-clause-means g c =
+    let r = g.S.Resolver.resolving c.args.resolver.now in
+    let table = table_of (g.T.KeywordTable.owned c.args.table.now) builtin_in (g.T.KeywordTable.script c.args.table.now) in
+    let m = g.M.Matcher.matching c.args.matcher.now in
+    let k = g.K.Validate in
+    subst (λ (o : Options). IfOk c.build-2.result (λ (v : Program g.row.K.Denot g.row.M.Denot). MeansSchema r table m k.words o (view c.args.schema.now) k.shape k.is_whole g.M.Matcher.matching v))
+    c.options.ensures.defaults c.build-2.ensures.means
+
+pub returns-clause-built : goal.returns-clause-built
+returns-clause-built g c =
+    let r = g.S.Resolver.resolving c.args.resolver.now in
+    let table = table_of (g.T.KeywordTable.owned c.args.table.now) builtin_in (g.T.KeywordTable.script c.args.table.now) in
+    let m = g.M.Matcher.matching c.args.matcher.now in
+    subst (λ (o : Options). IfOk c.build-2.result (λ v. (texts : Bool) → Builds (parts_of r table m (g.K.Validate.words texts) o) (view c.args.schema.now) o.limit))
+    c.options.ensures.defaults c.build-2.ensures.built
+
+pub returns-clause-refused : goal.returns-clause-refused
+returns-clause-refused g c =
+    let r = g.S.Resolver.resolving c.args.resolver.now in
+    let table = table_of (g.T.KeywordTable.owned c.args.table.now) builtin_in (g.T.KeywordTable.script c.args.table.now) in
+    let m = g.M.Matcher.matching c.args.matcher.now in
+    subst (λ (o : Options). IfErr c.build-2.result (λ (e : BuildError). (texts : Bool) → RefusesBuild (parts_of r table m (g.K.Validate.words texts) o) (view c.args.schema.now) o.limit e))
+    c.options.ensures.defaults c.build-2.ensures.refused

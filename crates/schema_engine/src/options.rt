@@ -1,0 +1,106 @@
+//! The options of a build.
+ghost use Rattle.std.specs.Prelude.{◌≡◌, ◌++◌, ◌∷◌, [], Some, IfOk};
+ghost use Rattle.schema_reports.specs.KeywordViews.{draft_of};
+ghost use Rattle.schema_engine.specs.Handed.{default_options};
+
+use schema_compiler::compiler::table::CompileOptions;
+use schema_reports::keywords::Draft;
+use schema_reports::location::OutOfMemory;
+use std::alloc::Global;
+use std::marker::Model;
+
+pub mod build;
+pub mod root;
+
+/// How many keys a schema may reach, where no option says otherwise.
+const DEFAULT_NODE_LIMIT: usize = 65_536;
+
+/// How a schema is compiled: the draft and the base of its root, whether formats are checked, which custom vocabularies are
+/// declared, and how many keys may be reached. What is not set is left to schema and resolver.
+#[derive(Drop)]
+pub struct ValidationOptions {
+    draft: Option<Draft>,
+    base: Option<String>,
+    compiling: CompileOptions,
+}
+
+impl Model for ValidationOptions {
+    ghost use Rattle.std.specs.Prelude.{map, option_map, string_bytes};
+    ghost use Rattle.schema_reports.specs.KeywordViews.{draft_of};
+    ghost use Rattle.schema_engine.specs.Handed.{Options};
+
+    ghost Value = { Options };
+
+    ghost view = { λ o. record { draft = option_map draft_of o.draft; base = option_map string_bytes o.base; formats = o.compiling.formats; declared = map string_bytes o.compiling.declared.items; limit = o.compiling.node_limit } };
+}
+
+impl ValidationOptions {
+    /// The default options: nothing is set, no vocabulary is declared, and 65,536 keys may be reached. It takes no memory.
+    pub fn new(alloc: Global) -> ValidationOptions
+        ensures defaults { result ≡ default_options }
+    {
+        ValidationOptions {
+            draft: None,
+            base: None,
+            compiling: CompileOptions {
+                formats: None,
+                declared: Vec::new(alloc),
+                node_limit: DEFAULT_NODE_LIMIT,
+            },
+        }
+    }
+
+    /// The root is read in this draft, whatever the schema says. It takes no memory.
+    pub fn with_draft(self, draft: Draft) -> ValidationOptions
+        ensures draft { result ≡ record self { draft = Some (draft_of draft) } }
+    {
+        let mut options = self;
+        options.draft = Some(draft);
+        options
+    }
+
+    /// The root's base is this URI, whatever identifier the schema has.
+    ///
+    /// # Errors
+    ///
+    /// Want of memory; the options are gone then.
+    pub fn with_base_uri(self, alloc: Global, uri: &str) -> Result<ValidationOptions, OutOfMemory>
+        ensures base { IfOk result (λ o. o ≡ record self { base = Some uri.now }) }
+    {
+        let mut options = self;
+        options.base = Some(String::from_str(alloc, uri)?);
+        Ok(options)
+    }
+
+    /// So many keys may be reached. It takes no memory.
+    pub fn with_node_limit(self, limit: usize) -> ValidationOptions
+        ensures limit { result ≡ record self { limit = limit } }
+    {
+        let mut options = self;
+        options.compiling.node_limit = limit;
+        options
+    }
+
+    /// Formats are checked, or are not, whatever draft and vocabularies say. It takes no memory.
+    pub fn should_validate_formats(self, checked: bool) -> ValidationOptions
+        ensures formats { result ≡ record self { formats = Some checked } }
+    {
+        let mut options = self;
+        options.compiling.formats = Some(checked);
+        options
+    }
+
+    /// The custom vocabulary of this URI is declared, after those that are.
+    ///
+    /// # Errors
+    ///
+    /// Want of memory; the options are gone then.
+    pub fn with_vocabulary(self, alloc: Global, uri: &str) -> Result<ValidationOptions, OutOfMemory>
+        ensures declared { IfOk result (λ o. o ≡ record self { declared = self.declared ++ uri.now ∷ [] }) }
+    {
+        let mut options = self;
+        let name = String::from_str(alloc, uri)?;
+        options.compiling.declared.push(name)?;
+        Ok(options)
+    }
+}

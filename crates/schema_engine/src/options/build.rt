@@ -1,0 +1,62 @@
+//! Building a validator.
+ghost use Rattle.std.specs.Prelude.{◌≡◌, Bool, IfOk, IfErr};
+ghost use Rattle.serde_json.specs.View.{view};
+ghost use Rattle.schema_reports.specs.KeywordTable.{builtin_in};
+ghost use Rattle.schema_engine.specs.Handed.{parts_of, table_of};
+ghost use Rattle.schema_engine.specs.Promised.{MeansSchema};
+ghost use Rattle.schema_engine.specs.ProgramOf.{IsProgramOf};
+ghost use Rattle.schema_engine.specs.Roots.{Builds, RefusesBuild};
+
+use crate::compiled::of_compiled;
+use crate::options::ValidationOptions;
+use crate::options::root::root_key;
+use crate::validator::Validator;
+use schema_compiler::compiler::compile;
+use schema_compiler::compiler::error::BuildError;
+use schema_node::context::keyword::Validate;
+use schema_node::context::matcher::Matcher;
+use schema_node::context::resolver::Resolver;
+use schema_node::context::table::KeywordTable;
+use schema_node::node::SchemaNode;
+use serde_json::Value;
+use std::alloc::Global;
+
+impl ValidationOptions {
+    /// A validator of a schema. The resolver has to know the schema as the document under the root's base: of that document
+    /// the validator speaks. It means the plain meaning of schema and parts, where no chain of questions returns.
+    ///
+    /// # Errors
+    ///
+    /// A cause that stands for the schema's root or for what it reaches, more keys than the limit, or want of memory.
+    pub fn build<S: Resolver, T: KeywordTable<K>, K: Validate, M: Matcher>(
+        &self,
+        alloc: Global,
+        schema: &Value,
+        table: &T,
+        resolver: &S,
+        matcher: &M,
+    ) -> Result<Validator<K, M>, BuildError>
+        ensures means { IfOk result (λ v. MeansSchema (S.resolving resolver.now) (table_of (T.owned table.now) builtin_in (T.script table.now)) (M.matching matcher.now) K.words self.now (view schema.now)
+            K.shape K.is_whole M.matching v) }
+        ensures program { IfOk result (IsProgramOf (S.resolving resolver.now) (table_of (T.owned table.now) builtin_in (T.script table.now)) (M.matching matcher.now) self.now (view schema.now) K.shape M.matching) }
+        ensures built { IfOk result (λ _. (texts : Bool)
+            → Builds (parts_of (S.resolving resolver.now) (table_of (T.owned table.now) builtin_in (T.script table.now)) (M.matching matcher.now) (K.words texts) self.now) (view schema.now) self.now.limit) }
+        ensures refused { IfErr result (λ e. (texts : Bool)
+            → RefusesBuild (parts_of (S.resolving resolver.now) (table_of (T.owned table.now) builtin_in (T.script table.now)) (M.matching matcher.now) (K.words texts) self.now) (view schema.now) self.now.limit e) }
+    {
+        let root = root_key(alloc, resolver, self, schema)?;
+        let draft = root.draft;
+        let compiled = compile(alloc, resolver, table, &self.compiling, root)?;
+        let nodes = compiled.nodes;
+        let validator = of_compiled(
+            schema,
+            table,
+            resolver,
+            matcher,
+            nodes,
+            SchemaNode(0),
+            draft,
+        )?;
+        Ok(validator)
+    }
+}
