@@ -72,6 +72,13 @@ impl AssumedOutcomes {
         Ok(AssumedOutcomes { matches })
     }
 
+    /// What a run starts from that assumes these outcomes.
+    pub(super) fn start<'i>(&self, alloc: Global) -> Result<MatchAssumptions<'i>, OutOfMemory>
+        ensures starts { IfOk result (λ m. m ≡ starting self.now) }
+    {
+        Ok(MatchAssumptions::assuming(alloc, self.copy(alloc)?))
+    }
+
     /// One match more is assumed to come out so.
     pub(super) fn with(
         self,

@@ -1,5 +1,7 @@
 //! The search over what unfinished matches may come out as.
-ghost use Rattle.std.specs.Prelude.{[], IfOk, IsSome, Ok, false, true, ◌++◌, ◌∷◌, ◌≡◌, ◌≤◌};
+ghost use Rattle.std.specs.Prelude.{[], IfOk, IsSome, Ok, Some, false, true, ◌++◌, ◌∷◌, ◌≡◌, ◌≤◌};
+ghost use Rattle.schema_reports.specs.Cover.{assuming};
+ghost use Rattle.schema_reports.specs.Unfinished.{Failure, located_by};
 ghost use Rattle.schema_reports.specs.Matching.{Assumptions};
 ghost use Rattle.schema_reports.specs.Outcomes.{AreOutcomes};
 
@@ -39,6 +41,37 @@ fn push_both(
     Ok(())
 }
 
+// The two lists that the first run calls for, and the failure: the match that it met, at the sites that it remembers.
+fn begin<'i>(
+    alloc: Global,
+    first: MatchAssumptions<'i>,
+) -> Result<(Vec<AssumedOutcomes>, MatchFailure<'i>), OutOfMemory>
+    requires met { IsSome first.unassumed }
+    ensures pending { (u : Failure) → first.entry.unassumed ≡ Some u → IfOk result (λ r. r.0.items ≡ assuming u.met true first.entry.assumptions ∷ assuming u.met false first.entry.assumptions ∷ []) }
+    ensures failure { (u : Failure) → first.entry.unassumed ≡ Some u → IfOk result (λ r. r.1 ≡ located_by u first.entry.located) }
+{
+    let (assumed, unassumed, located) = first.into_parts();
+    let mut failure = unassumed.unwrap();
+    failure.locate(located);
+    let mut pending = Vec::new(alloc);
+    push_both(alloc, &mut pending, assumed, failure.unfinished().copy()?)?;
+    Ok((pending, failure))
+}
+
+// The match that a run met and did not assume; the failure stands at the first site of its own match that has an
+// instance path, of those that the run remembers too.
+fn take_met<'i>(
+    met: MatchAssumptions<'i>,
+    failure: &mut MatchFailure<'i>,
+) -> Option<MatchFailure<'i>>
+    ensures unassumed { result ≡ met.entry.unassumed }
+    ensures located { failure.new ≡ located_by failure.old met.entry.located }
+{
+    let (_, unassumed, located) = met.into_parts();
+    failure.locate(located);
+    unassumed
+}
+
 /// Makes the runs that the unfinished matches call for, at most so many. The first run has been made, and met one.
 fn assume_within<
     'i,
@@ -55,11 +88,7 @@ fn assume_within<
     requires limit { 1 ≤ run_limit }
     ensures outcomes { IfOk result (AreOutcomes (λ s x m t end. F.step s x (Ok (m, t)) end) first.entry.0 run run_limit) }
 {
-    let mut pending = Vec::new(alloc);
-    let (assumed, unassumed, located) = first.0.into_parts();
-    let mut failure = unassumed.unwrap();
-    failure.locate(located);
-    push_both(alloc, &mut pending, assumed, failure.unfinished().copy()?)?;
+    let (mut pending, mut failure) = begin(alloc, first.0)?;
     let mut results = Vec::new(alloc);
     let mut runs = 1;
     while let Some(outcomes) = pending.pop() {
@@ -67,11 +96,9 @@ fn assume_within<
             return Ok(Outcomes::Undecided(failure));
         }
         runs += 1;
-        let given = outcomes.copy(alloc)?;
-        let (met, result) = run(MatchAssumptions::assuming(alloc, given))?;
-        let (_, unassumed, located) = met.into_parts();
-        failure.locate(located);
-        match unassumed {
+        let start = outcomes.start(alloc)?;
+        let (met, result) = run(start)?;
+        match take_met(met, &mut failure) {
             None => results.push(result)?,
             Some(next) => push_both(alloc, &mut pending, outcomes, next.into_unfinished())?,
         }
