@@ -2,13 +2,21 @@
 //! table, a resolver and a matcher that are made for tests and for this program.
 #![tactic(auto)]
 
+#[cfg(test)]
+mod keyword_table_tests;
 pub mod keywords;
 pub mod matcher;
 pub mod meta;
 #[cfg(test)]
+mod node_tests;
+#[cfg(test)]
 mod option_tests;
 pub mod program;
+#[cfg(test)]
+mod report_tests;
 pub mod resolver;
+#[cfg(test)]
+mod search_tests;
 pub mod table;
 #[cfg(test)]
 mod tests;

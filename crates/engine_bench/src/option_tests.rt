@@ -81,16 +81,66 @@ fn a_chain(alloc: Global) -> Result<Value, OutOfMemory> {
         }
     }
     text.push_str(r#""c9":{"type":"string"}}}"#)?;
-    match Value::from_str(alloc, text.as_str()) {
-        Ok(value) => Ok(value),
-        Err(_) => Ok(Value::Null),
-    }
+    schema_of(alloc, text.as_str())
 }
 
 #[test]
 fn a_chain_has_eleven_keys(rt: HostRuntime) -> Result<(), OutOfMemory> {
     let alloc = rt.alloc();
     assert!(rt; needs_keys(alloc, &a_chain(alloc)?, 11, 10)?);
+    Ok(())
+}
+
+/// A schema with this text; `null` where it is none.
+fn schema_of(alloc: Global, text: &str) -> Result<Value, OutOfMemory> {
+    match Value::from_str(alloc, text) {
+        Ok(value) => Ok(value),
+        Err(_) => Ok(Value::Null),
+    }
+}
+
+/// `d0` to `d39`, each with two members, between these texts, that refer to the next; `d40` is a text; the root refers to
+/// `d0`.
+fn doubled(alloc: Global, before: &str, between: &str, after: &str) -> Result<Value, OutOfMemory> {
+    let mut text = String::from_str(alloc, r##"{"$ref":"#/$defs/d0","$defs":{"##)?;
+    for here in 0u32..40 {
+        let next = here + 1;
+        let name = format!(in alloc; "\"d{here}\":")?;
+        let reference = format!(in alloc; "{{\"$ref\":\"#/$defs/d{next}\"}}")?;
+        for part in [
+            name.as_str(),
+            before,
+            reference.as_str(),
+            between,
+            reference.as_str(),
+            after,
+            ",",
+        ] {
+            text.push_str(part)?;
+        }
+    }
+    text.push_str(r#""d40":{"type":"string"}}}"#)?;
+    schema_of(alloc, text.as_str())
+}
+
+#[test]
+fn two_uses_of_one_definition_are_one_node(rt: HostRuntime) -> Result<(), OutOfMemory> {
+    let alloc = rt.alloc();
+    let members = doubled(alloc, r#"{"properties":{"a":"#, r#","b":"#, "}}")?;
+    assert!(rt; needs_keys(alloc, &members, 122, 121)?);
+    let parts = doubled(alloc, r#"{"allOf":["#, ",", "]}")?;
+    assert!(rt; needs_keys(alloc, &parts, 122, 121)?);
+    Ok(())
+}
+
+#[test]
+fn a_missing_vocabulary_is_named(rt: HostRuntime) -> Result<(), OutOfMemory> {
+    let alloc = rt.alloc();
+    let refused = BuildError::UnsupportedVocabulary(String::from_str(alloc, "http://v/x")?);
+    assert_eq!(rt;
+        format!(in alloc; "{refused}")?.as_str(),
+        "Unknown vocabulary: 'http://v/x' is required by the meta-schema. Adjust configuration to declare support for it"
+    );
     Ok(())
 }
 

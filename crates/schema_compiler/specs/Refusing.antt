@@ -1,5 +1,5 @@
 -- What a refusal of the compiler says: a cause that stands, or more keys than the limit.
-use Rattle.std.specs.Prelude.{List, Some, length, slice_get, string_bytes, ℕ, ◌++◌, ◌<◌, ◌≡◌}
+use Rattle.std.specs.Prelude.{List, None, Option, Some, codes, length, slice_get, string_bytes, ℕ, ◌++◌, ◌<◌, ◌≡◌}
 use Rattle.schema_reports.specs.Parts.{Parts}
 use Rattle.schema_reports.specs.Plan.{Edge, Key}
 use Rattle.schema_reports.specs.Refusals.{Cause, keyword_refused, lookup_refuses, not_a_schema, reference_not_text, unsupported_vocabulary}
@@ -25,6 +25,18 @@ number_of (MetaSchema error) = 6
 number_of (MissingRoot uri) = 7
 number_of (NodeLimit limit) = 8
 number_of OutOfMemory = 9
+
+-- what is printed of a required vocabulary that is not declared; the other texts are for people alone
+abbrev pub refusal_text : BuildError → Option (List ℕ)
+refusal_text (NotASchema location) = None
+refusal_text (ReferenceNotText location) = None
+refusal_text (Lookup text) = None
+refusal_text (KeywordRefused error) = None
+refusal_text (UnsupportedVocabulary uri) = Some (codes "Unknown vocabulary: '" ++ (string_bytes uri ++ codes "' is required by the meta-schema. Adjust configuration to declare support for it"))
+refusal_text (MetaSchema error) = None
+refusal_text (MissingRoot uri) = None
+refusal_text (NodeLimit limit) = None
+refusal_text OutOfMemory = None
 
 -- each key once
 abbrev pub AreDistinct : {S : Type 0} → List (Key S) → Type 0

@@ -3,5 +3,3 @@
 
 pub mod context;
 pub mod node;
-#[cfg(test)]
-mod tests;

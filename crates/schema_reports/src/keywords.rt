@@ -17,6 +17,3 @@ pub use lookup::{builtin_row, get_for_draft, has_vocabulary};
 pub use nullability::{NotNullable, Nullability, Nullable};
 pub use priorities::{keyword_is_leaf, keyword_priority};
 pub use vocabularies::{Vocabulary, VocabularySet};
-
-#[cfg(test)]
-mod tests;

@@ -9,7 +9,5 @@ pub mod numbers;
 pub mod paths;
 pub mod reports;
 pub mod rows;
-#[cfg(test)]
-mod tests;
 pub mod text;
 pub mod unfinished_matches;

@@ -3,8 +3,6 @@ mod assumptions;
 mod search;
 mod shared;
 mod site;
-#[cfg(test)]
-mod tests;
 mod under_each;
 
 pub use assumptions::MatchAssumptions;

@@ -6,6 +6,7 @@ use schema_node::context::resolver::LookupError;
 use schema_reports::location::Location;
 use schema_reports::reports::OwnedError;
 use std::alloc::{AllocError, AllocFailed};
+use std::fmt;
 
 /// Why a schema is refused.
 #[derive(Drop)]
@@ -45,6 +46,37 @@ impl BuildError {
             BuildError::MissingRoot(_) => 7,
             BuildError::NodeLimit(_) => 8,
             BuildError::OutOfMemory => 9,
+        }
+    }
+}
+
+impl fmt::Display for BuildError {
+    ghost use Rattle.schema_compiler.specs.Refusing.{refusal_text};
+
+    ghost output = { λ refused. refusal_text refused };
+
+    fn fmt<W: fmt::Write>(&self, f: &mut fmt::Formatter<W>) -> fmt::Result {
+        match self {
+            BuildError::NotASchema(at) => {
+                write!(
+                    f,
+                    "The value at '{}' is neither an object nor a boolean",
+                    at.as_str()
+                )
+            }
+            BuildError::ReferenceNotText(at) => {
+                write!(f, "The reference at '{}' is not a text", at.as_str())
+            }
+            BuildError::Lookup(text) => f.write_str(text.as_str()),
+            BuildError::KeywordRefused(error) => f.write_str(error.text.as_str()),
+            BuildError::UnsupportedVocabulary(uri) => write!(
+                f,
+                "Unknown vocabulary: '{uri}' is required by the meta-schema. Adjust configuration to declare support for it"
+            ),
+            BuildError::MetaSchema(error) => f.write_str(error.text.as_str()),
+            BuildError::MissingRoot(base) => write!(f, "There is no document under '{base}'"),
+            BuildError::NodeLimit(limit) => write!(f, "More than {limit} keys are reached"),
+            BuildError::OutOfMemory => f.write_str("Memory could not be had"),
         }
     }
 }

@@ -1,4 +1,4 @@
-use super::*;
+use schema_reports::keywords::*;
 use std::alloc::{AllocError, Global};
 use std::test::Fail;
 

@@ -1,13 +1,12 @@
 //! Worked values from outside, and each public call once.
-use super::site::UnfinishedMatch;
-use super::{
+use schema_reports::instance::{Instance, InstanceStep, Place};
+use schema_reports::location::{Location, OutOfMemory};
+use schema_reports::reports::ValidationError;
+use schema_reports::text::Text;
+use schema_reports::unfinished_matches::{
     MatchAssumptions, MatchFailure, MatchSite, Outcomes, Reason, assume_each_outcome, errors,
     errors_under_each, validity, validity_under_each,
 };
-use crate::instance::{Instance, InstanceStep, Place};
-use crate::location::{Location, OutOfMemory};
-use crate::reports::ValidationError;
-use crate::text::Text;
 use serde_json::{Value, json};
 use std::alloc::Global;
 
@@ -48,8 +47,12 @@ fn schema_site<'i>(alloc: Global, path: &str) -> Result<MatchSite<'i>, OutOfMemo
 }
 
 fn a_failure<'i>(alloc: Global, reason: Reason) -> Result<MatchFailure<'i>, OutOfMemory> {
-    let unfinished = UnfinishedMatch::new(alloc, "compiled", "abc")?;
-    Ok(MatchFailure::new(unfinished, reason, schema_site(alloc, "/pattern")?))
+    let mut first = MatchAssumptions::new(alloc);
+    first.resolve("compiled", "abc", reason, schema_site(alloc, "/pattern")?)?;
+    match assume_each_outcome(alloc, |matches| Ok((matches, true)), (first, true))? {
+        Outcomes::Assumed { failure, .. } => Ok(failure),
+        Outcomes::Undecided(failure) => Ok(failure),
+    }
 }
 
 // Whether the errors have these texts, in order.

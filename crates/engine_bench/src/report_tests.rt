@@ -1,7 +1,7 @@
 //! Worked values from outside, and each public call once.
-use crate::instance::{Instance, InstanceStep, Place, same_step};
-use crate::location::{Location, LocationSegment, OutOfMemory};
-use crate::reports::{ErrorIterator, ValidationError};
+use schema_reports::instance::{Instance, InstanceStep, Place, same_step};
+use schema_reports::location::{Location, LocationSegment, OutOfMemory};
+use schema_reports::reports::{ErrorIterator, ValidationError};
 use serde_json::{Value, json};
 use std::alloc::Global;
 

@@ -1,7 +1,7 @@
 //! Each public call that needs no keyword type once, with values of the standard.
-use crate::context::schema_place::{SchemaPath, SchemaPlace, SchemaStep};
-use crate::context::validation::ValidationContext;
-use crate::node::{NodeForm, Nodes, SchemaNode};
+use schema_node::context::schema_place::{SchemaPath, SchemaPlace, SchemaStep};
+use schema_node::context::validation::ValidationContext;
+use schema_node::node::{NodeForm, Nodes, SchemaNode};
 use schema_reports::instance::{InstanceStep, Place};
 use schema_reports::location::{Location, LocationSegment, OutOfMemory};
 use std::alloc::Global;
