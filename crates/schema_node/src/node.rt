@@ -4,6 +4,7 @@ ghost use Rattle.schema_node.specs.NodeViews.{plan_of, reserved_node, node_of};
 ghost use Rattle.schema_node.specs.NodeTable.{NodeEntry, IsReserved, IsFilled, AreFilled, Fills, IsRanked};
 
 mod absolute;
+mod evaluation_path;
 mod faults;
 mod replies;
 pub mod run;

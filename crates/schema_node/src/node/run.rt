@@ -15,6 +15,7 @@ ghost use Rattle.schema_reports.specs.Guarded.{guarded_node, guarded_within, nod
 ghost use Rattle.schema_node.specs.KeywordViews.{below_of, mode_of, reply_of};
 ghost use Rattle.schema_node.specs.NodeTable.{numbered, shaped_form, shaped_part, IsRanked};
 ghost use Rattle.schema_node.specs.NodeViews.{edge_of, entry_of, form_of, node_of};
+ghost use Rattle.schema_node.specs.EvaluationPaths.{path_of};
 ghost use Rattle.schema_node.specs.NodeRuns.{Ready, TellsAll, HasForm, HasParts, NodeReplies, EdgeReplies, ChildReplies, FormReplies, HasChildren, PartsReply, reply_by};
 ghost use Rattle.schema_node.specs.Marks.{TakesNoMarks};
 ghost use Rattle.schema_node.specs.Matches.{MeetsEach, settling};
@@ -24,6 +25,7 @@ ghost use Rattle.schema_node.specs.Progress.{busy_at, NoDeeper};
 use crate::context::keyword::{Below, Mode, Reply, Step, Validate};
 use crate::context::matcher::Matcher;
 use crate::context::validation::ValidationContext;
+use crate::node::evaluation_path::EvaluationPath;
 use crate::node::faults::{begun, finished};
 use crate::node::replies::{accepted, is_settled, is_yes, joined, refused, stamped_reply};
 use crate::node::sites::match_site;
@@ -86,7 +88,7 @@ fn run_node<'i, K: Validate, M: Matcher>(
     node: SchemaNode,
     instance: Instance<'i>,
     place: &Place<'i>,
-    path: &Location,
+    path: &EvaluationPath<'_>,
     mode: Mode,
     context: &mut ValidationContext<'i>,
 ) -> Result<Reply<'i>, OutOfMemory>
@@ -97,9 +99,9 @@ fn run_node<'i, K: Validate, M: Matcher>(
     ensures kept { IfOk result (λ _. context.new.in_progress ≡ context.old.in_progress) }
     ensures assumes { IfOk result (λ _. context.new.remembered.assumptions ≡ context.old.remembered.assumptions) }
     ensures says { IfOk result (λ r. NodeReplies K.words K.is_whole (numbered K.shape nodes.now) (length nodes.now) (settling (M.matching matcher.now) context.old.remembered.assumptions)
-        (mode_of mode) path.now place.now (busy_at place.now context.old.in_progress) (subject_of instance.entry) node.0 r) }
+        (mode_of mode) (path_of path.now) place.now (busy_at place.now context.old.in_progress) (subject_of instance.entry) node.0 r) }
     ensures meets { IfOk result (λ _. NodeMeets K.words K.is_whole (numbered K.shape nodes.now) (length nodes.now) (settling (M.matching matcher.now) context.old.remembered.assumptions)
-        (mode_of mode) path.now place.now (busy_at place.now context.old.in_progress) (subject_of instance.entry) context.old.remembered context.new.remembered node.0) }
+        (mode_of mode) (path_of path.now) place.now (busy_at place.now context.old.in_progress) (subject_of instance.entry) context.old.remembered context.new.remembered node.0) }
 {
     let found = nodes.node(node);
     match &found.form {
@@ -133,7 +135,7 @@ fn run_entries<'i, K: Validate, M: Matcher>(
     entries: &[Entry<K>],
     instance: Instance<'i>,
     place: &Place<'i>,
-    path: &Location,
+    path: &EvaluationPath<'_>,
     mode: Mode,
     context: &mut ValidationContext<'i>,
 ) -> Result<Reply<'i>, OutOfMemory>
@@ -145,9 +147,9 @@ fn run_entries<'i, K: Validate, M: Matcher>(
     ensures kept { IfOk result (λ _. context.new.in_progress ≡ context.old.in_progress) }
     ensures assumes { IfOk result (λ _. context.new.remembered.assumptions ≡ context.old.remembered.assumptions) }
     ensures says { IfOk result (λ r. PartsReply K.words K.is_whole (numbered K.shape nodes.now) (length nodes.now) (settling (M.matching matcher.now) context.old.remembered.assumptions)
-        (mode_of mode) path.now place.now (busy_at place.now context.old.in_progress) (subject_of instance.entry) node.0 (map (shaped_part K.shape) (map entry_of entries.now)) r) }
+        (mode_of mode) (path_of path.now) place.now (busy_at place.now context.old.in_progress) (subject_of instance.entry) node.0 (map (shaped_part K.shape) (map entry_of entries.now)) r) }
     ensures meets { IfOk result (λ _. PartsMeet K.words K.is_whole (numbered K.shape nodes.now) (length nodes.now) (settling (M.matching matcher.now) context.old.remembered.assumptions)
-        (mode_of mode) path.now place.now (busy_at place.now context.old.in_progress) (subject_of instance.entry) context.old.remembered context.new.remembered node.0 (map (shaped_part K.shape) (map entry_of entries.now))) }
+        (mode_of mode) (path_of path.now) place.now (busy_at place.now context.old.in_progress) (subject_of instance.entry) context.old.remembered context.new.remembered node.0 (map (shaped_part K.shape) (map entry_of entries.now))) }
 {
     let mut found = accepted(alloc, mode);
     for entry in entries {
@@ -172,7 +174,7 @@ fn run_entry<'i, K: Validate, M: Matcher>(
     entry: &Entry<K>,
     instance: Instance<'i>,
     place: &Place<'i>,
-    path: &Location,
+    path: &EvaluationPath<'_>,
     mode: Mode,
     context: &mut ValidationContext<'i>,
 ) -> Result<Reply<'i>, OutOfMemory>
@@ -184,9 +186,9 @@ fn run_entry<'i, K: Validate, M: Matcher>(
     ensures kept { IfOk result (λ _. context.new.in_progress ≡ context.old.in_progress) }
     ensures assumes { IfOk result (λ _. context.new.remembered.assumptions ≡ context.old.remembered.assumptions) }
     ensures says { IfOk result (λ r. FormReplies K.words K.is_whole (numbered K.shape nodes.now) (length nodes.now) (settling (M.matching matcher.now) context.old.remembered.assumptions)
-        (mode_of mode) path.now place.now (busy_at place.now context.old.in_progress) (subject_of instance.entry) node.0 (string_bytes entry.now.name) (shaped_form K.shape (form_of entry.now.form)) r) }
+        (mode_of mode) (path_of path.now) place.now (busy_at place.now context.old.in_progress) (subject_of instance.entry) node.0 (string_bytes entry.now.name) (shaped_form K.shape (form_of entry.now.form)) r) }
     ensures meets { IfOk result (λ _. EntryMeets K.words K.is_whole (numbered K.shape nodes.now) (length nodes.now) (settling (M.matching matcher.now) context.old.remembered.assumptions)
-        (mode_of mode) path.now place.now (busy_at place.now context.old.in_progress) (subject_of instance.entry) context.old.remembered context.new.remembered node.0 (shaped_part K.shape (entry_of entry.now))) }
+        (mode_of mode) (path_of path.now) place.now (busy_at place.now context.old.in_progress) (subject_of instance.entry) context.old.remembered context.new.remembered node.0 (shaped_part K.shape (entry_of entry.now))) }
 {
     if asks_verdict_first(entry, mode) {
         let verdict = run_form(
@@ -223,7 +225,7 @@ fn run_form<'i, K: Validate, M: Matcher>(
     entry: &Entry<K>,
     instance: Instance<'i>,
     place: &Place<'i>,
-    path: &Location,
+    path: &EvaluationPath<'_>,
     mode: Mode,
     context: &mut ValidationContext<'i>,
 ) -> Result<Reply<'i>, OutOfMemory>
@@ -235,9 +237,9 @@ fn run_form<'i, K: Validate, M: Matcher>(
     ensures kept { IfOk result (λ _. context.new.in_progress ≡ context.old.in_progress) }
     ensures assumes { IfOk result (λ _. context.new.remembered.assumptions ≡ context.old.remembered.assumptions) }
     ensures says { IfOk result (λ r. FormReplies K.words K.is_whole (numbered K.shape nodes.now) (length nodes.now) (settling (M.matching matcher.now) context.old.remembered.assumptions)
-        (mode_of mode) path.now place.now (busy_at place.now context.old.in_progress) (subject_of instance.entry) node.0 (string_bytes entry.now.name) (shaped_form K.shape (form_of entry.now.form)) r) }
+        (mode_of mode) (path_of path.now) place.now (busy_at place.now context.old.in_progress) (subject_of instance.entry) node.0 (string_bytes entry.now.name) (shaped_form K.shape (form_of entry.now.form)) r) }
     ensures meets { IfOk result (λ _. FormMeets K.words K.is_whole (numbered K.shape nodes.now) (length nodes.now) (settling (M.matching matcher.now) context.old.remembered.assumptions)
-        (mode_of mode) path.now place.now (busy_at place.now context.old.in_progress) (subject_of instance.entry) context.old.remembered context.new.remembered node.0 (string_bytes entry.now.name) (shaped_form K.shape (form_of entry.now.form))) }
+        (mode_of mode) (path_of path.now) place.now (busy_at place.now context.old.in_progress) (subject_of instance.entry) context.old.remembered context.new.remembered node.0 (string_bytes entry.now.name) (shaped_form K.shape (form_of entry.now.form))) }
 {
     match &entry.form {
         EntryForm::Keyword(keyword, children) => Ok(run_keyword(
@@ -275,7 +277,7 @@ fn run_keyword<'i, K: Validate, M: Matcher>(
     children: &[Option<Edge>],
     instance: Instance<'i>,
     place: &Place<'i>,
-    path: &Location,
+    path: &EvaluationPath<'_>,
     mode: Mode,
     context: &mut ValidationContext<'i>,
 ) -> Result<Reply<'i>, OutOfMemory>
@@ -287,9 +289,9 @@ fn run_keyword<'i, K: Validate, M: Matcher>(
     ensures kept { IfOk result (λ _. context.new.in_progress ≡ context.old.in_progress) }
     ensures assumes { IfOk result (λ _. context.new.remembered.assumptions ≡ context.old.remembered.assumptions) }
     ensures says { IfOk result (λ r. FormReplies K.words K.is_whole (numbered K.shape nodes.now) (length nodes.now) (settling (M.matching matcher.now) context.old.remembered.assumptions)
-        (mode_of mode) path.now place.now (busy_at place.now context.old.in_progress) (subject_of instance.entry) node.0 (string_bytes name.now) (node_keyword (K.shape keyword.now) (map (option_map edge_of) children.now)) r) }
+        (mode_of mode) (path_of path.now) place.now (busy_at place.now context.old.in_progress) (subject_of instance.entry) node.0 (string_bytes name.now) (node_keyword (K.shape keyword.now) (map (option_map edge_of) children.now)) r) }
     ensures meets { IfOk result (λ _. FormMeets K.words K.is_whole (numbered K.shape nodes.now) (length nodes.now) (settling (M.matching matcher.now) context.old.remembered.assumptions)
-        (mode_of mode) path.now place.now (busy_at place.now context.old.in_progress) (subject_of instance.entry) context.old.remembered context.new.remembered node.0 (string_bytes name.now) (node_keyword (K.shape keyword.now) (map (option_map edge_of) children.now))) }
+        (mode_of mode) (path_of path.now) place.now (busy_at place.now context.old.in_progress) (subject_of instance.entry) context.old.remembered context.new.remembered node.0 (string_bytes name.now) (node_keyword (K.shape keyword.now) (map (option_map edge_of) children.now))) }
 {
     let mut run = keyword.begin(alloc, instance, mode)?;
     let mut answer = begun(alloc, mode);
@@ -341,7 +343,7 @@ fn run_child<'i, K: Validate, M: Matcher>(
     below: Below<'_>,
     instance: Instance<'i>,
     place: &Place<'i>,
-    path: &Location,
+    path: &EvaluationPath<'_>,
     mode: Mode,
     context: &mut ValidationContext<'i>,
 ) -> Result<Reply<'i>, OutOfMemory>
@@ -354,9 +356,9 @@ fn run_child<'i, K: Validate, M: Matcher>(
     ensures kept { IfOk result (λ _. context.new.in_progress ≡ context.old.in_progress) }
     ensures assumes { IfOk result (λ _. context.new.remembered.assumptions ≡ context.old.remembered.assumptions) }
     ensures says { IfOk result (λ r. ChildReplies K.words K.is_whole (numbered K.shape nodes.now) (length nodes.now) (settling (M.matching matcher.now) context.old.remembered.assumptions)
-        (mode_of mode) path.now place.now (busy_at place.now context.old.in_progress) (subject_of instance.entry) node.0 (map (option_map edge_of) children.now) (record { child = child; below = below_of below.entry }) r) }
+        (mode_of mode) (path_of path.now) place.now (busy_at place.now context.old.in_progress) (subject_of instance.entry) node.0 (map (option_map edge_of) children.now) (record { child = child; below = below_of below.entry }) r) }
     ensures meets { IfOk result (λ _. ChildMeets K.words K.is_whole (numbered K.shape nodes.now) (length nodes.now) (settling (M.matching matcher.now) context.old.remembered.assumptions)
-        (mode_of mode) path.now place.now (busy_at place.now context.old.in_progress) (subject_of instance.entry) context.old.remembered context.new.remembered node.0 (map (option_map edge_of) children.now) (record { child = child; below = below_of below.entry })) }
+        (mode_of mode) (path_of path.now) place.now (busy_at place.now context.old.in_progress) (subject_of instance.entry) context.old.remembered context.new.remembered node.0 (map (option_map edge_of) children.now) (record { child = child; below = below_of below.entry })) }
 {
     match child_edge(children, child) {
         None => Ok(accepted(alloc, mode)),
@@ -383,7 +385,7 @@ fn run_edge<'i, K: Validate, M: Matcher>(
     edge: &Edge,
     instance: Instance<'i>,
     place: &Place<'i>,
-    path: &Location,
+    path: &EvaluationPath<'_>,
     mode: Mode,
     context: &mut ValidationContext<'i>,
 ) -> Result<Reply<'i>, OutOfMemory>
@@ -394,11 +396,11 @@ fn run_edge<'i, K: Validate, M: Matcher>(
     ensures kept { IfOk result (λ _. context.new.in_progress ≡ context.old.in_progress) }
     ensures assumes { IfOk result (λ _. context.new.remembered.assumptions ≡ context.old.remembered.assumptions) }
     ensures says { IfOk result (λ r. EdgeReplies K.words K.is_whole (numbered K.shape nodes.now) (length nodes.now) (settling (M.matching matcher.now) context.old.remembered.assumptions)
-        (mode_of mode) path.now place.now (busy_at place.now context.old.in_progress) (subject_of instance.entry) (edge_of edge.now) r) }
+        (mode_of mode) (path_of path.now) place.now (busy_at place.now context.old.in_progress) (subject_of instance.entry) (edge_of edge.now) r) }
     ensures meets { IfOk result (λ _. EdgeMeets K.words K.is_whole (numbered K.shape nodes.now) (length nodes.now) (settling (M.matching matcher.now) context.old.remembered.assumptions)
-        (mode_of mode) path.now place.now (busy_at place.now context.old.in_progress) (subject_of instance.entry) context.old.remembered context.new.remembered (edge_of edge.now)) }
+        (mode_of mode) (path_of path.now) place.now (busy_at place.now context.old.in_progress) (subject_of instance.entry) context.old.remembered context.new.remembered (edge_of edge.now)) }
 {
-    let whole = path.append(&edge.path)?;
+    let whole = path.across(&edge.path);
     if !edge.guarded {
         return Ok(run_node(
             nodes, alloc, matcher, edge.node, instance, place, &whole, mode, context,
@@ -453,8 +455,9 @@ impl<K: Validate> Nodes<K> {
         ensures borrows { IfOk result (λ r. (root : Data) → subject_at root place.now ≡ Some (subject_of instance.entry) → All (BorrowsItsPlace root) (errors_in r)) }
     {
         let _ = &self.nodes;
+        let path = EvaluationPath::given(path);
         run_node(
-            self, alloc, matcher, node, instance, place, path, mode, context,
+            self, alloc, matcher, node, instance, place, &path, mode, context,
         )
     }
 }

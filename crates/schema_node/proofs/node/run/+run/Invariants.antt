@@ -9,6 +9,7 @@ use Rattle.schema_reports.specs.Meaning.{both}
 use Rattle.schema_reports.specs.Numbered.{left, subject_in}
 use Rattle.schema_reports.specs.Guarded.{node_at, same_edge}
 use Rattle.schema_reports.specs.Runs.{Met, keyword_met, plan_met}
+use Rattle.schema_node.specs.EvaluationPaths.{path_of}
 use Rattle.schema_node.specs.FaultViews.{errors_in, faults_in, PassesBorrowed}
 use Rattle.schema_node.specs.KeywordViews.{answer_of, mode_of, reply_of}
 use Rattle.schema_node.specs.NodeTable.{numbered, shaped_part}
@@ -53,13 +54,13 @@ invariant-run_entries-loop-entry g l =
       assumes : l.context.remembered.assumptions ≡ l.initial.context.remembered.assumptions;
       so_far : (x : Reading) → Reads g.K.Validate.is_whole ns (length l.nodes) w l.place s x → left ns (length l.nodes) l.node.0 s busy ≤ x.depth
           → (o : Outcome) × Replies x (mode_of l.mode) l.found o
-          × (both o (parts_say g.K.Validate.words ns x l.node.0 l.path l.place busy (map (shaped_part g.K.Validate.shape) (map entry_of (drop l.entry-index l.entries))))
-          ≡ parts_say g.K.Validate.words ns x l.node.0 l.path l.place busy (map (shaped_part g.K.Validate.shape) (map entry_of l.entries)));
+          × (both o (parts_say g.K.Validate.words ns x l.node.0 (path_of l.path) l.place busy (map (shaped_part g.K.Validate.shape) (map entry_of (drop l.entry-index l.entries))))
+          ≡ parts_say g.K.Validate.words ns x l.node.0 (path_of l.path) l.place busy (map (shaped_part g.K.Validate.shape) (map entry_of l.entries)));
       unsettled : (texts : Bool) → refuses (reply_of texts l.found) ≡ false;
       met : (texts : Bool) (root : Data) (depth : ℕ) → Reads g.K.Validate.is_whole ns (length l.nodes) w l.place s (reading w texts root depth) → left ns (length l.nodes) l.node.0 s busy ≤ depth
           → (before : List Met) × MeetsEach w.matcher l.initial.context.remembered before l.context.remembered
-          × (before ++ plan_met (mode_of l.mode) (parts_looked g.K.Validate.words ns w texts root depth l.node.0 l.path l.place busy (map (shaped_part g.K.Validate.shape) (map entry_of (drop l.entry-index l.entries))))
-          ≡ plan_met (mode_of l.mode) (parts_looked g.K.Validate.words ns w texts root depth l.node.0 l.path l.place busy (map (shaped_part g.K.Validate.shape) (map entry_of l.entries))));
+          × (before ++ plan_met (mode_of l.mode) (parts_looked g.K.Validate.words ns w texts root depth l.node.0 (path_of l.path) l.place busy (map (shaped_part g.K.Validate.shape) (map entry_of (drop l.entry-index l.entries))))
+          ≡ plan_met (mode_of l.mode) (parts_looked g.K.Validate.words ns w texts root depth l.node.0 (path_of l.path) l.place busy (map (shaped_part g.K.Validate.shape) (map entry_of l.entries))));
     }
 
 abbrev pub invariant-run_keyword-turns : goal.invariant-run_keyword-turns
@@ -77,10 +78,10 @@ invariant-run_keyword-turns g l =
       borrows : (root : Data) → subject_at root l.place ≡ Some (subject_of l.instance) → All (BorrowsItsPlace root) (errors_in l.reply) × All (PassesBorrowed root) (faults_in l.answer);
       leads : (x : Reading) → Reads g.K.Validate.is_whole ns (length l.nodes) w l.place s x → left ns (length l.nodes) l.node.0 s busy ≤ x.depth
           → OnItsWay (g.K.Validate.words x.texts) m (g.K.Validate.ends x.texts m) (g.K.Validate.fits x.texts m) s x (mode_of l.fn.mode)
-          (child_says g.K.Validate.words ns x l.path l.place busy (map (option_map edge_of) l.children)) (l.run, answer_of x.texts l.answer) (reply_of x.texts l.reply);
+          (child_says g.K.Validate.words ns x (path_of l.path) l.place busy (map (option_map edge_of) l.children)) (l.run, answer_of x.texts l.answer) (reply_of x.texts l.reply);
       met : (texts : Bool) (root : Data) (depth : ℕ) → Reads g.K.Validate.is_whole ns (length l.nodes) w l.place s (reading w texts root depth) → left ns (length l.nodes) l.node.0 s busy ≤ depth
-          → MeetsSoFar (g.K.Validate.words texts) w.matcher w.assumptions (node_at (g.K.Validate.words texts) w.matcher ns (subject_in root) l.node.0 l.path l.place) s (child_run g.K.Validate.words ns w texts root depth l.path l.place busy es) (same_edge es) (string_bytes l.name) m (g.K.Validate.remaining m s) l.initial.context.remembered
-          (keyword_met (g.K.Validate.words texts) w.matcher w.assumptions (node_at (g.K.Validate.words texts) w.matcher ns (subject_in root) l.node.0 l.path l.place) s (child_run g.K.Validate.words ns w texts root depth l.path l.place busy es) (same_edge es) (string_bytes l.name) m (mode_of l.fn.mode))
+          → MeetsSoFar (g.K.Validate.words texts) w.matcher w.assumptions (node_at (g.K.Validate.words texts) w.matcher ns (subject_in root) l.node.0 (path_of l.path) l.place) s (child_run g.K.Validate.words ns w texts root depth (path_of l.path) l.place busy es) (same_edge es) (string_bytes l.name) m (g.K.Validate.remaining m s) l.initial.context.remembered
+          (keyword_met (g.K.Validate.words texts) w.matcher w.assumptions (node_at (g.K.Validate.words texts) w.matcher ns (subject_in root) l.node.0 (path_of l.path) l.place) s (child_run g.K.Validate.words ns w texts root depth (path_of l.path) l.place busy es) (same_edge es) (string_bytes l.name) m (mode_of l.fn.mode))
           l.context.remembered (l.run, answer_of texts l.answer) (reply_of texts l.reply);
     }
 
