@@ -6,6 +6,7 @@ ghost use Rattle.schema_node.specs.NodeTable.{NodeEntry, IsReserved, IsFilled, A
 mod absolute;
 mod evaluation_path;
 mod faults;
+mod matches;
 mod replies;
 pub mod run;
 mod sites;

@@ -27,8 +27,8 @@ use crate::context::matcher::Matcher;
 use crate::context::validation::ValidationContext;
 use crate::node::evaluation_path::EvaluationPath;
 use crate::node::faults::{begun, finished};
+use crate::node::matches::asked_match;
 use crate::node::replies::{accepted, is_settled, is_yes, joined, refused, stamped_reply};
-use crate::node::sites::match_site;
 use crate::node::{Edge, Entry, EntryForm, NodeForm, Nodes, SchemaNode};
 use schema_reports::instance::{Instance, InstanceStep, Place};
 use schema_reports::location::{Location, OutOfMemory};
@@ -317,8 +317,19 @@ fn run_keyword<'i, K: Validate, M: Matcher>(
                 );
             }
             Step::Match(pattern, subject, point) => {
-                let site = match_site(alloc, nodes.node(node), name, instance, place, path, point)?;
-                let matches = context.is_match(alloc, matcher, pattern, subject, site)?;
+                let matches = asked_match(
+                    alloc,
+                    matcher,
+                    nodes.node(node),
+                    name,
+                    instance,
+                    place,
+                    path,
+                    pattern,
+                    subject,
+                    point,
+                    context,
+                )?;
                 reply = Reply::Truth(matches);
             }
             Step::Ecma(text) => {

@@ -5,7 +5,7 @@ use Rattle.schema_node.specs.EvaluationPaths.{path_of}
 use Rattle.schema_node.specs.Marks.{IsUnmarked}
 use Rattle.schema_reports.specs.Meaning.{Where}
 use Rattle.schema_reports.specs.Numbered.{left, subject_in}
-use Rattle.schema_reports.specs.Runs.{Site, keyword_met, plan_met, site_at}
+use Rattle.schema_reports.specs.Runs.{keyword_met, plan_met, site_at}
 use Rattle.schema_reports.specs.Unfinished.{Remembered}
 use Rattle.schema_reports.specs.Matching.{Matcher, Pair, completed, matching, settled}
 use Rattle.schema_reports.specs.Guarded.{node_at, node_never, same_edge}
@@ -507,8 +507,8 @@ run_keyword-turns-smaller g t c =
     let step = rw c.in-Ecma.is at (c.in_ok-child.ensures.steps false (tells_nothing (g.K.Validate.is_whole m) s)) in
     falls_turned (g.K.Validate.words false) m (g.K.Validate.absorbed m) (g.K.Validate.remaining m) (g.K.Validate.ends false m) (g.K.Validate.fits false m) (g.met.K.Validate.turn_laws false m) s (c.turns.run, answer_of false c.turns.answer) (c.turn.new.run, answer_of false c.turn.new.answer) told (ecma c.in-Ecma.text.now) turn step (λ f. cc f)
 
-pub run_keyword-match_site-requires : goal.run_keyword-match_site-requires
-run_keyword-match_site-requires g t c =
+pub run_keyword-asked_match-requires : goal.run_keyword-asked_match-requires
+run_keyword-asked_match-requires g t c =
     let ns = numbered g.K.Validate.shape c.args.nodes.now in
     let w = settling (g.M.Matcher.matching c.args.matcher.now) c.args.context.now.remembered.assumptions in
     let p = c.args.place.now in
@@ -543,7 +543,7 @@ run_keyword-turns-preserved-in-Match g t c =
     let step = rw c.in-Match.is at (c.in_ok-child.ensures.steps false (tells_nothing (g.K.Validate.is_whole m) s)) in
     let out = rw c.turns.invariant.assumes at c.in_ok-matches-in-Match.ensures.answer in
     record {
-      kept = c.is_match.ensures.in_progress ∙ c.turns.invariant.kept;
+      kept = c.asked_match.ensures.in_progress ∙ c.turns.invariant.kept;
       assumes = ap (λ (r : Remembered). r.assumptions) c.in_ok-matches-in-Match.ensures.met ∙ after_assumes _ _ answer ∙ c.turns.invariant.assumes;
       unmarked = unmarked_after (g.K.Validate.words false) m (g.K.Validate.absorbed m) (g.K.Validate.remaining m) (g.K.Validate.ends false m) (g.K.Validate.fits false m) (g.met.K.Validate.turn_laws false m) s (c.turns.run, answer_of false c.turns.answer) (c.turn.new.run, answer_of false c.turn.new.answer) told (truth c.in_ok-matches-in-Match.matches) (match_text a point) c.turns.invariant.unmarked turn step (λ f. cc f);
       borrows = λ root at_place.
@@ -561,8 +561,7 @@ run_keyword-turns-preserved-in-Match g t c =
           let falls = falls_turned (g.K.Validate.words texts) m (g.K.Validate.absorbed m) (g.K.Validate.remaining m) (g.K.Validate.ends texts m) (g.K.Validate.fits texts m) (g.met.K.Validate.turn_laws texts m) s (c.turns.run, answer_of texts c.turns.answer) (c.turn.new.run, answer_of texts c.turn.new.answer) (reply_of texts c.turns.reply) (match_text a point) turn' step' (λ f. cc f) in
           let is = ap truth (out ∙ ap (λ b. settled b answer) (sym (reads.completes a))) in
           let there = where_is g.K.Validate.shape c.args.nodes.now (g.K.Validate.words texts) w.matcher (subject_in root) c.args.node.0 n (path_of c.args.path.now) p c.node-in-Match.ensures.found in
-          let site = c.in_ok-site-in-Match.ensures.site ∙ ap (λ (v : Where). site_at v name point) (sym there) in
-          let new = c.in_ok-matches-in-Match.ensures.met ∙ ap (λ (o : Site). after_match c.turns.context.remembered (record { pair = a; site = o }) answer) site in
+          let new = c.in_ok-matches-in-Match.ensures.met ∙ ap (λ (v : Where). after_match c.turns.context.remembered (record { pair = a; site = site_at v name point }) answer) (sym there) in
           meets_matched (g.K.Validate.words texts) w.matcher w.assumptions (node_at (g.K.Validate.words texts) w.matcher ns (subject_in root) c.args.node.0 (path_of c.args.path.now) p) s (child_run g.K.Validate.words ns w texts root depth (path_of c.args.path.now) p busy es) (same_edge es) name m (g.K.Validate.remaining m s) _ _ _ _ _ _ _ _ a point turn' step' falls is new (c.turns.invariant.met texts root depth reads l);
     }
 
