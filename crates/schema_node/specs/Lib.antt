@@ -11,6 +11,7 @@ pub mod NodeMeets
 pub mod ProgressViews
 pub mod FaultViews
 pub mod EvaluationPaths
+pub mod EvaluationPlaces
 pub mod NodeRuns
 pub mod Turning
 pub mod ValidatorViews

@@ -5,6 +5,7 @@ ghost use Rattle.schema_node.specs.NodeTable.{NodeEntry, IsReserved, IsFilled, A
 
 mod absolute;
 mod evaluation_path;
+mod evaluation_place;
 mod faults;
 mod matches;
 mod replies;

@@ -4,6 +4,7 @@ ghost use Rattle.schema_reports.specs.InstanceViews.{step_of, subject_of};
 ghost use Rattle.schema_reports.specs.Laws.{IsPresent};
 ghost use Rattle.schema_reports.specs.Runs.{site_at};
 ghost use Rattle.schema_node.specs.EvaluationPaths.{path_of};
+ghost use Rattle.schema_node.specs.EvaluationPlaces.{steps_to};
 ghost use Rattle.schema_node.specs.KeywordViews.{point_of};
 ghost use Rattle.schema_node.specs.Matches.{after_match, comes_out};
 ghost use Rattle.schema_node.specs.NodeRuns.{entry_where};
@@ -14,8 +15,9 @@ use crate::context::matcher::Matcher;
 use crate::context::validation::ValidationContext;
 use crate::node::Node;
 use crate::node::evaluation_path::EvaluationPath;
+use crate::node::evaluation_place::EvaluationPlace;
 use crate::node::sites::match_site;
-use schema_reports::instance::{Instance, Place};
+use schema_reports::instance::Instance;
 use schema_reports::location::OutOfMemory;
 use schema_reports::unfinished_matches::Match;
 use std::alloc::Global;
@@ -27,7 +29,7 @@ pub fn asked_match<'i, K, M: Matcher>(
     node: &Node<K>,
     name: &String,
     instance: Instance<'i>,
-    place: &Place<'i>,
+    place: &EvaluationPlace<'_, 'i>,
     path: &EvaluationPath<'_>,
     pattern: &str,
     subject: &str,
@@ -37,7 +39,7 @@ pub fn asked_match<'i, K, M: Matcher>(
     requires present { IsPresent (subject_of instance) (map step_of point.spot.below.now) }
     ensures answer { IfOk result (λ b. b ≡ comes_out context.old.remembered.assumptions (record { pattern = pattern.now; subject = subject.now }) ((M.matching matcher.now).is_match pattern.now subject.now)) }
     ensures met { OnOk result (context.new.remembered ≡ after_match context.old.remembered
-        (record { pair = record { pattern = pattern.now; subject = subject.now }; site = site_at (entry_where (node_of node.now) (path_of path.now) place.now) (string_bytes name.now) (point_of point.entry) })
+        (record { pair = record { pattern = pattern.now; subject = subject.now }; site = site_at (entry_where (node_of node.now) (path_of path.now) (steps_to place.now)) (string_bytes name.now) (point_of point.entry) })
         ((M.matching matcher.now).is_match pattern.now subject.now)) }
     ensures in_progress { context.new.in_progress ≡ context.old.in_progress }
 {

@@ -1,6 +1,7 @@
 use Rattle.std.proofs.Common.{◌≡◌, ◌∙◌, ◌+◌, arith, sym, refl, ap, subst, map, option_map, string_bytes, length, Some, false, List, [], ◌∷◌, ◌++◌, drop}
 use Rattle.schema_reports.specs.InstanceViews.{subject_of, step_of}
 use Rattle.schema_reports.specs.Keywords.{Question, ask, ecma, match_text, truth}
+use Rattle.schema_node.specs.EvaluationPlaces.{steps_to}
 use Rattle.schema_node.specs.EvaluationPaths.{path_of}
 use Rattle.schema_node.specs.Marks.{IsUnmarked}
 use Rattle.schema_reports.specs.Meaning.{Where}
@@ -32,7 +33,7 @@ run_child-run_edge-requires g t c =
     let ns = numbered g.K.Validate.shape c.args.nodes.now in
     let e = edge_of c.in-Some.edge.now in
     let k = c.requires.children c.args.child e (sym c.in-Some.ensures.edge) in
-    let l = falls_here g.K.Validate.words g.K.Validate.is_whole ns (length c.args.nodes.now) (settling (g.M.Matcher.matching c.args.matcher.now) c.args.context.now.remembered.assumptions) c.requires.ready.ranked c.args.node.0 (subject_of c.args.instance) (busy_at c.args.place.now c.args.context.now.in_progress) e c.requires.known k in
+    let l = falls_here g.K.Validate.words g.K.Validate.is_whole ns (length c.args.nodes.now) (settling (g.M.Matcher.matching c.args.matcher.now) c.args.context.now.remembered.assumptions) c.requires.ready.ranked c.args.node.0 (subject_of c.args.instance) (busy_at (steps_to c.args.place.now) c.args.context.now.in_progress) e c.requires.known k in
     λ κs h. (omega (arith, l, c.decreases), (h.0, (h.1.0, (h.1.1.0, (h.1.1.1, ((c.requires.ready.ranked c.args.node.0 c.requires.known e k).0, (c.requires.ready, (c.requires.above, c.requires.wanted))))))))
 
 pub run_child-run_edge-requires-in-Some-one_below : goal.run_child-run_edge-requires-in-Some-one_below
@@ -40,10 +41,10 @@ run_child-run_edge-requires-in-Some-one_below g t c =
     let ns = numbered g.K.Validate.shape c.args.nodes.now in
     let e = edge_of c.in-Some.edge.now in
     let k = c.requires.children c.args.child e (sym c.in-Some.ensures.edge) in
-    let p = c.args.place.now in
+    let p = (steps_to c.args.place.now) in
     let step = step_of c.in-Some-one_below.step in
     let es = c.args.context.now.in_progress in
-    let none : busy_at c.in_ok-lower-in-Some-one_below.lower es ≡ [] = ap (λ q. busy_at q es) c.in_ok-lower-in-Some-one_below.ensures.below ∙ busy-below p step es c.requires.above in
+    let none : busy_at (steps_to c.in_ok-lower-in-Some-one_below.lower) es ≡ [] = ap (λ q. busy_at q es) c.in_ok-lower-in-Some-one_below.ensures.below ∙ busy-below p step es c.requires.above in
     let deeper = subst (λ q. NoDeeper q es) (sym c.in_ok-lower-in-Some-one_below.ensures.below) (deeper-below p step es c.requires.above) in
     let l = falls_below g.K.Validate.words g.K.Validate.is_whole ns (length c.args.nodes.now) (settling (g.M.Matcher.matching c.args.matcher.now) c.args.context.now.remembered.assumptions) c.requires.ready.ranked c.args.node.0 (subject_of c.args.instance) (subject_of c.in-Some-one_below.inner) step (busy_at p es) e c.requires.known k c.in-Some-one_below.ensures.below.1 in
     let n = ap (edge_needs ns (length c.args.nodes.now) e (subject_of c.in-Some-one_below.inner)) none in
@@ -54,8 +55,8 @@ run_child-returns-in_ok-run_edge-in-None-one_below-clause-says g t c =
     let ns = numbered g.K.Validate.shape c.args.nodes.now in
     let e = edge_of c.in-Some.edge.now in
     let k = c.requires.children c.args.child e (sym c.in-Some.ensures.edge) in
-    let l = falls_here g.K.Validate.words g.K.Validate.is_whole ns (length c.args.nodes.now) (settling (g.M.Matcher.matching c.args.matcher.now) c.args.context.now.remembered.assumptions) c.requires.ready.ranked c.args.node.0 (subject_of c.args.instance) (busy_at c.args.place.now c.args.context.now.in_progress) e c.requires.known k in
-    child_here g.K.Validate.words g.K.Validate.is_whole ns (length c.args.nodes.now) (settling (g.M.Matcher.matching c.args.matcher.now) c.args.context.now.remembered.assumptions) (mode_of c.args.mode) (path_of c.args.path.now) c.args.place.now (busy_at c.args.place.now c.args.context.now.in_progress) (subject_of c.args.instance) c.args.node.0 _
+    let l = falls_here g.K.Validate.words g.K.Validate.is_whole ns (length c.args.nodes.now) (settling (g.M.Matcher.matching c.args.matcher.now) c.args.context.now.remembered.assumptions) c.requires.ready.ranked c.args.node.0 (subject_of c.args.instance) (busy_at (steps_to c.args.place.now) c.args.context.now.in_progress) e c.requires.known k in
+    child_here g.K.Validate.words g.K.Validate.is_whole ns (length c.args.nodes.now) (settling (g.M.Matcher.matching c.args.matcher.now) c.args.context.now.remembered.assumptions) (mode_of c.args.mode) (path_of c.args.path.now) (steps_to c.args.place.now) (busy_at (steps_to c.args.place.now) c.args.context.now.in_progress) (subject_of c.args.instance) c.args.node.0 _
     (record { child = c.args.child; below = below_of c.args.below }) c.in_ok-run_edge-in-None-one_below.field-0 e (sym c.in-Some.ensures.edge) c.in-None-one_below.ensures.below l c.in_ok-run_edge-in-None-one_below.ensures.says
 
 pub run_child-returns-in_ok-run_edge-in-Some-one_below-clause-says : goal.run_child-returns-in_ok-run_edge-in-Some-one_below-clause-says
@@ -63,48 +64,49 @@ run_child-returns-in_ok-run_edge-in-Some-one_below-clause-says g t c =
     let ns = numbered g.K.Validate.shape c.args.nodes.now in
     let e = edge_of c.in-Some.edge.now in
     let k = c.requires.children c.args.child e (sym c.in-Some.ensures.edge) in
-    let p = c.args.place.now in
+    let p = (steps_to c.args.place.now) in
     let step = step_of c.in-Some-one_below.step in
     let es = c.args.context.now.in_progress in
     let s = subject_of c.args.instance in
     let inner = subject_of c.in-Some-one_below.inner in
-    let none : busy_at c.in_ok-lower-in-Some-one_below.lower es ≡ [] = ap (λ q. busy_at q es) c.in_ok-lower-in-Some-one_below.ensures.below ∙ busy-below p step es c.requires.above in
+    let none : busy_at (steps_to c.in_ok-lower-in-Some-one_below.lower) es ≡ [] = ap (λ q. busy_at q es) c.in_ok-lower-in-Some-one_below.ensures.below ∙ busy-below p step es c.requires.above in
     let l = falls_below g.K.Validate.words g.K.Validate.is_whole ns (length c.args.nodes.now) (settling (g.M.Matcher.matching c.args.matcher.now) c.args.context.now.remembered.assumptions) c.requires.ready.ranked c.args.node.0 s inner step (busy_at p es) e c.requires.known k c.in-Some-one_below.ensures.below.1 in
-    let answer = subst (λ busy. EdgeReplies g.K.Validate.words g.K.Validate.is_whole ns (length c.args.nodes.now) (settling (g.M.Matcher.matching c.args.matcher.now) c.args.context.now.remembered.assumptions) (mode_of c.args.mode) (path_of c.args.path.now) c.in_ok-lower-in-Some-one_below.lower busy inner e c.in_ok-run_edge-in-Some-one_below.field-0) none c.in_ok-run_edge-in-Some-one_below.ensures.says in
+    let answer = subst (λ busy. EdgeReplies g.K.Validate.words g.K.Validate.is_whole ns (length c.args.nodes.now) (settling (g.M.Matcher.matching c.args.matcher.now) c.args.context.now.remembered.assumptions) (mode_of c.args.mode) (path_of c.args.path.now) (steps_to c.in_ok-lower-in-Some-one_below.lower) busy inner e c.in_ok-run_edge-in-Some-one_below.field-0) none c.in_ok-run_edge-in-Some-one_below.ensures.says in
     child_below g.K.Validate.words g.K.Validate.is_whole ns (length c.args.nodes.now) (settling (g.M.Matcher.matching c.args.matcher.now) c.args.context.now.remembered.assumptions) (mode_of c.args.mode) (path_of c.args.path.now) p (busy_at p es) s c.args.node.0 _
-    (record { child = c.args.child; below = below_of c.args.below }) c.in_ok-run_edge-in-Some-one_below.field-0 e step c.in_ok-lower-in-Some-one_below.lower inner (sym c.in-Some.ensures.edge) c.in-Some-one_below.ensures.below.0
+    (record { child = c.args.child; below = below_of c.args.below }) c.in_ok-run_edge-in-Some-one_below.field-0 e step (steps_to c.in_ok-lower-in-Some-one_below.lower) inner (sym c.in-Some.ensures.edge) c.in-Some-one_below.ensures.below.0
     c.in_ok-lower-in-Some-one_below.ensures.below c.in-Some-one_below.ensures.below.1 l answer
 
 pub run_edge-returns-then-branch-clause-says : goal.run_edge-returns-then-branch-clause-says
 run_edge-returns-then-branch-clause-says g t c =
-    let p = c.args.place.now in
+    let p = (steps_to c.args.place.now) in
     let e = edge_of c.args.edge.now in
-    let old = entered_old e.node p c.args.context.now.in_progress c.in_ok-enter.field-0 c.enter.new.self.in_progress c.in_ok-enter.ensures.enters c.if-branch.true in
+    let old = entered_old e.node p c.args.context.now.in_progress c.in_ok-enter.field-0 c.enter.new.self.in_progress (rw c.in_ok-here.ensures.same at c.in_ok-enter.ensures.enters) c.if-branch.true in
     edge_busy g.K.Validate.words g.K.Validate.is_whole (numbered g.K.Validate.shape c.args.nodes.now) (length c.args.nodes.now) (settling (g.M.Matcher.matching c.args.matcher.now) c.args.context.now.remembered.assumptions) (subject_of c.args.instance) (busy_at p c.args.context.now.in_progress) e (mode_of c.args.mode) (path_of c.args.path.now) p c.accepted.result
     c.if-not-edge.false old.0 c.accepted.ensures.accepts c.accepted.ensures.no_errors
 
 pub run_edge-run_node-requires-2 : goal.run_edge-run_node-requires-2
 run_edge-run_node-requires-2 g t c =
     let ns = numbered g.K.Validate.shape c.args.nodes.now in
-    let p = c.args.place.now in
+    let p = (steps_to c.args.place.now) in
     let e = edge_of c.args.edge.now in
     let s = subject_of c.args.instance in
-    let new = entered_new e.node p c.args.context.now.in_progress c.in_ok-enter.field-0 c.enter.new.self.in_progress c.in_ok-enter.ensures.enters c.if-branch.false in
+    let new = entered_new e.node p c.args.context.now.in_progress c.in_ok-enter.field-0 c.enter.new.self.in_progress (rw c.in_ok-here.ensures.same at c.in_ok-enter.ensures.enters) c.if-branch.false in
     let busy : busy_at p c.enter.new.self.in_progress ≡ e.node ∷ busy_at p c.args.context.now.in_progress = ap (busy_at p) new.1 ∙ busy-pushed p e.node c.args.context.now.in_progress in
     let needs = needs_of_entered g.K.Validate.words g.K.Validate.is_whole ns (length c.args.nodes.now) (settling (g.M.Matcher.matching c.args.matcher.now) c.args.context.now.remembered.assumptions) s (busy_at p c.args.context.now.in_progress) e c.if-not-edge.false new.0 in
-    let l = ap (left ns (length c.args.nodes.now) e.node s) busy in
-    let deeper = subst (NoDeeper p) (sym new.1) (deeper-pushed p e.node c.args.context.now.in_progress c.requires.above) in
+    let there : steps_to c.given-place.result ≡ p = c.given-place.ensures.same ∙ c.in_ok-here.ensures.same in
+    let l = ap (λ q. left ns (length c.args.nodes.now) e.node s (busy_at q c.enter.new.self.in_progress)) there ∙ ap (left ns (length c.args.nodes.now) e.node s) busy in
+    let deeper = subst (λ q. NoDeeper q c.enter.new.self.in_progress) (sym there) (subst (NoDeeper p) (sym new.1) (deeper-pushed p e.node c.args.context.now.in_progress c.requires.above)) in
     λ κs h. (omega (arith, l, needs, c.decreases), (h.0, (h.1.0, (h.1.1.0, (h.1.1.1, (c.requires.known, (c.requires.ready, (deeper, c.requires.wanted))))))))
 
 pub run_edge-returns-clause-says : goal.run_edge-returns-clause-says
 run_edge-returns-clause-says g t c =
     let ns = numbered g.K.Validate.shape c.args.nodes.now in
-    let p = c.args.place.now in
+    let p = (steps_to c.args.place.now) in
     let e = edge_of c.args.edge.now in
     let s = subject_of c.args.instance in
-    let new = entered_new e.node p c.args.context.now.in_progress c.in_ok-enter.field-0 c.enter.new.self.in_progress c.in_ok-enter.ensures.enters c.if-branch.false in
+    let new = entered_new e.node p c.args.context.now.in_progress c.in_ok-enter.field-0 c.enter.new.self.in_progress (rw c.in_ok-here.ensures.same at c.in_ok-enter.ensures.enters) c.if-branch.false in
     let busy : busy_at p c.enter.new.self.in_progress ≡ e.node ∷ busy_at p c.args.context.now.in_progress = ap (busy_at p) new.1 ∙ busy-pushed p e.node c.args.context.now.in_progress in
-    let answer = subst (λ path. NodeReplies g.K.Validate.words g.K.Validate.is_whole ns (length c.args.nodes.now) (settling (g.M.Matcher.matching c.args.matcher.now) c.args.context.now.remembered.assumptions) (mode_of c.args.mode) path p (busy_at p c.enter.new.self.in_progress) s e.node c.in_ok-reply.reply) c.across-whole.ensures.appended (rw c.enter.ensures.remembered at c.in_ok-reply.ensures.says) in
+    let answer = subst (λ path. NodeReplies g.K.Validate.words g.K.Validate.is_whole ns (length c.args.nodes.now) (settling (g.M.Matcher.matching c.args.matcher.now) c.args.context.now.remembered.assumptions) (mode_of c.args.mode) path p (busy_at p c.enter.new.self.in_progress) s e.node c.in_ok-reply.reply) c.across-whole.ensures.appended (rw (c.given-place.ensures.same, c.in_ok-here.ensures.same, c.enter.ensures.remembered) at c.in_ok-reply.ensures.says) in
     let answer' = subst (λ busy. NodeReplies g.K.Validate.words g.K.Validate.is_whole ns (length c.args.nodes.now) (settling (g.M.Matcher.matching c.args.matcher.now) c.args.context.now.remembered.assumptions) (mode_of c.args.mode) ((path_of c.args.path.now) ++ e.path) p busy s e.node c.in_ok-reply.reply) busy answer in
     edge_entered g.K.Validate.words g.K.Validate.is_whole ns (length c.args.nodes.now) (settling (g.M.Matcher.matching c.args.matcher.now) c.args.context.now.remembered.assumptions) s (busy_at p c.args.context.now.in_progress) e (mode_of c.args.mode) (path_of c.args.path.now) p c.in_ok-reply.reply c.if-not-edge.false new.0 answer'
 
@@ -113,7 +115,7 @@ run_form-run_edge-requires g t c =
     let ns = numbered g.K.Validate.shape c.args.nodes.now in
     let e = edge_of c.in-Reference.edge in
     let k = reference_edge ns c.args.node.0 e (rw c.in-Reference.is at c.requires.form) in
-    let l = falls_here g.K.Validate.words g.K.Validate.is_whole ns (length c.args.nodes.now) (settling (g.M.Matcher.matching c.args.matcher.now) c.args.context.now.remembered.assumptions) c.requires.ready.ranked c.args.node.0 (subject_of c.args.instance) (busy_at c.args.place.now c.args.context.now.in_progress) e c.requires.known k in
+    let l = falls_here g.K.Validate.words g.K.Validate.is_whole ns (length c.args.nodes.now) (settling (g.M.Matcher.matching c.args.matcher.now) c.args.context.now.remembered.assumptions) c.requires.ready.ranked c.args.node.0 (subject_of c.args.instance) (busy_at (steps_to c.args.place.now) c.args.context.now.in_progress) e c.requires.known k in
     λ κs h. (omega (arith, l, c.decreases), (h.0, (h.1.0, (h.1.1.0, (h.1.1.1, ((c.requires.ready.ranked c.args.node.0 c.requires.known e k).0, (c.requires.ready, (c.requires.above, c.requires.wanted))))))))
 
 pub run_form-returns-in_ok-run_keyword-in-Keyword-clause-says : goal.run_form-returns-in_ok-run_keyword-in-Keyword-clause-says
@@ -124,9 +126,9 @@ run_form-returns-in_ok-stamped_reply-in-Reference-clause-says g t c =
     let ns = numbered g.K.Validate.shape c.args.nodes.now in
     let e = edge_of c.in-Reference.edge in
     let k = reference_edge ns c.args.node.0 e (rw c.in-Reference.is at c.requires.form) in
-    let l = falls_here g.K.Validate.words g.K.Validate.is_whole ns (length c.args.nodes.now) (settling (g.M.Matcher.matching c.args.matcher.now) c.args.context.now.remembered.assumptions) c.requires.ready.ranked c.args.node.0 (subject_of c.args.instance) (busy_at c.args.place.now c.args.context.now.in_progress) e c.requires.known k in
+    let l = falls_here g.K.Validate.words g.K.Validate.is_whole ns (length c.args.nodes.now) (settling (g.M.Matcher.matching c.args.matcher.now) c.args.context.now.remembered.assumptions) c.requires.ready.ranked c.args.node.0 (subject_of c.args.instance) (busy_at (steps_to c.args.place.now) c.args.context.now.in_progress) e c.requires.known k in
     let at_node = absolute_is g.K.Validate.shape c.args.nodes.now c.args.node.0 (node_of c.node.result.now) (string_bytes c.args.entry.now.name) c.node.ensures.found in
-    rw c.in-Reference.is (form_reference g.K.Validate.words g.K.Validate.is_whole ns (length c.args.nodes.now) (settling (g.M.Matcher.matching c.args.matcher.now) c.args.context.now.remembered.assumptions) (mode_of c.args.mode) (path_of c.args.path.now) c.args.place.now (busy_at c.args.place.now c.args.context.now.in_progress) (subject_of c.args.instance) c.args.node.0 (string_bytes c.args.entry.now.name) e
+    rw c.in-Reference.is (form_reference g.K.Validate.words g.K.Validate.is_whole ns (length c.args.nodes.now) (settling (g.M.Matcher.matching c.args.matcher.now) c.args.context.now.remembered.assumptions) (mode_of c.args.mode) (path_of c.args.path.now) (steps_to c.args.place.now) (busy_at (steps_to c.args.place.now) c.args.context.now.in_progress) (subject_of c.args.instance) c.args.node.0 (string_bytes c.args.entry.now.name) e
     c.in_ok-reply-in-Reference.reply c.in_ok-stamped_reply-in-Reference.field-0 _ at_node l c.in_ok-stamped_reply-in-Reference.ensures.stamped c.in_ok-stamped_reply-in-Reference.ensures.borrows c.in_ok-reply-in-Reference.ensures.says)
 
 pub run_node-run_entries-requires : goal.run_node-run_entries-requires
@@ -138,7 +140,7 @@ pub run_node-returns-in_ok-refused-in-Never-clause-says : goal.run_node-returns-
 run_node-returns-in_ok-refused-in-Never-clause-says g t c =
     let ns = numbered g.K.Validate.shape c.args.nodes.now in
     let n = node_of c.node-found.result.now in
-    let p = c.args.place.now in
+    let p = (steps_to c.args.place.now) in
     let s = subject_of c.args.instance in
     let plan = plan_is g.K.Validate.shape c.args.nodes.now c.args.node.0 n _ c.node-found.ensures.found (ap (option_map plan_of) c.in-Some.is ∙ ap (λ f. Some (plan_of f)) c.in-Never.is) in
     node_by_plan g.K.Validate.words g.K.Validate.is_whole ns (length c.args.nodes.now) (settling (g.M.Matcher.matching c.args.matcher.now) c.args.context.now.remembered.assumptions) (mode_of c.args.mode) (path_of c.args.path.now) p (busy_at p c.args.context.now.in_progress) s c.args.node.0 c.in_ok-refused-in-Never.field-0 node_never plan
@@ -148,7 +150,7 @@ run_node-returns-in_ok-refused-in-Never-clause-says g t c =
 pub run_node-returns-in_ok-run_entries-in-Keywords-clause-says : goal.run_node-returns-in_ok-run_entries-in-Keywords-clause-says
 run_node-returns-in_ok-run_entries-in-Keywords-clause-says g t c =
     let ns = numbered g.K.Validate.shape c.args.nodes.now in
-    let p = c.args.place.now in
+    let p = (steps_to c.args.place.now) in
     let plan = plan_is g.K.Validate.shape c.args.nodes.now c.args.node.0 (node_of c.node-found.result.now) _ c.node-found.ensures.found (ap (option_map plan_of) c.in-Some.is ∙ ap (λ f. Some (plan_of f)) c.in-Keywords.is) in
     node_by_plan g.K.Validate.words g.K.Validate.is_whole ns (length c.args.nodes.now) (settling (g.M.Matcher.matching c.args.matcher.now) c.args.context.now.remembered.assumptions) (mode_of c.args.mode) (path_of c.args.path.now) p (busy_at p c.args.context.now.in_progress) (subject_of c.args.instance) c.args.node.0 c.in_ok-run_entries-in-Keywords.field-0 _ plan
     (rw c.as_slice.ensures.value at c.in_ok-run_entries-in-Keywords.ensures.says)
@@ -165,7 +167,7 @@ run_entries-loop-entry-init g t c = record {
 pub run_entries-run_entry-requires : goal.run_entries-run_entry-requires
 run_entries-run_entry-requires g t c =
     let ns = numbered g.K.Validate.shape c.args.nodes.now in
-    let p = c.args.place.now in
+    let p = (steps_to c.args.place.now) in
     let kept = c.loop-entry.invariant.kept in
     let l = ap (λ es. left ns (length c.args.nodes.now) c.args.node.0 (subject_of c.args.instance) (busy_at p es)) kept in
     let here = part_at entry_of (shaped_part g.K.Validate.shape) c.args.entries.now c.loop-entry.entry-index c.entry-item.result c.loop-entry-test.true c.entry-item.is in
@@ -179,7 +181,7 @@ run_entries-loop-entry-preserved g t c = record {
   met = λ texts root depth reads l.
       let ns = numbered g.K.Validate.shape c.args.nodes.now in
       let w = settling (g.M.Matcher.matching c.args.matcher.now) c.args.context.now.remembered.assumptions in
-      let p = c.args.place.now in
+      let p = (steps_to c.args.place.now) in
       let busy = busy_at p c.args.context.now.in_progress in
       let mode = mode_of c.args.mode in
       let part = shaped_part g.K.Validate.shape (entry_of c.entry-item.result) in
@@ -194,7 +196,7 @@ run_entries-loop-entry-preserved g t c = record {
       next_met w.matcher mode (part_looked g.K.Validate.words ns w texts root depth c.args.node.0 (path_of c.args.path.now) p busy part) (looked (drop (c.loop-entry.entry-index + 1) c.args.entries.now)) _ _ met.0 _ _ _ met.1 here met.2 split last;
   so_far = λ x reads l.
       let ns = numbered g.K.Validate.shape c.args.nodes.now in
-      let p = c.args.place.now in
+      let p = (steps_to c.args.place.now) in
       let parts = λ (es : List (Entry g.row.K.Denot)). parts_say g.K.Validate.words ns x c.args.node.0 (path_of c.args.path.now) p (busy_at p c.args.context.now.in_progress) (map (shaped_part g.K.Validate.shape) (map entry_of es)) in
       let says = (rw (c.loop-entry.invariant.kept, c.loop-entry.invariant.assumes) at c.in_ok-more.ensures.says) x reads l in
       let split = ap parts (drop_at c.args.entries.now c.loop-entry.entry-index c.entry-item.result c.loop-entry-test.true c.entry-item.is) in
@@ -205,7 +207,7 @@ run_entries-loop-entry-preserved g t c = record {
 pub run_entries-returns-then-is_settled-clause-says : goal.run_entries-returns-then-is_settled-clause-says
 run_entries-returns-then-is_settled-clause-says g t c = λ x reads l.
     let ns = numbered g.K.Validate.shape c.args.nodes.now in
-    let p = c.args.place.now in
+    let p = (steps_to c.args.place.now) in
     let parts = λ (es : List (Entry g.row.K.Denot)). parts_say g.K.Validate.words ns x c.args.node.0 (path_of c.args.path.now) p (busy_at p c.args.context.now.in_progress) (map (shaped_part g.K.Validate.shape) (map entry_of es)) in
     let says = (rw (c.loop-entry.invariant.kept, c.loop-entry.invariant.assumes) at c.in_ok-more.ensures.says) x reads l in
     let split = ap parts (drop_at c.args.entries.now c.loop-entry.entry-index c.entry-item.result c.loop-entry-test.true c.entry-item.is) in
@@ -215,8 +217,8 @@ run_entries-returns-then-is_settled-clause-says g t c = λ x reads l.
 
 pub run_entry-returns-then-is_yes-clause-says : goal.run_entry-returns-then-is_yes-clause-says
 run_entry-returns-then-is_yes-clause-says g t c = λ x reads l.
-    leaf_accepts g.K.Validate.words (numbered g.K.Validate.shape c.args.nodes.now) (λ texts m s completion matcher a h. (g.met.K.Validate.function_laws texts m).agree s (matching matcher completion) a h) x (mode_of c.args.mode) c.args.node.0 (path_of c.args.path.now) c.args.place.now
-    (busy_at c.args.place.now c.args.context.now.in_progress) (string_bytes c.args.entry.now.name) _ c.in_ok-verdict.verdict c.accepted.result (sym (c.is_yes.ensures.yes x.texts) ∙ c.if-is_yes.true) (c.in_ok-verdict.ensures.says x reads l) c.accepted.ensures.accepts c.accepted.ensures.no_errors
+    leaf_accepts g.K.Validate.words (numbered g.K.Validate.shape c.args.nodes.now) (λ texts m s completion matcher a h. (g.met.K.Validate.function_laws texts m).agree s (matching matcher completion) a h) x (mode_of c.args.mode) c.args.node.0 (path_of c.args.path.now) (steps_to c.args.place.now)
+    (busy_at (steps_to c.args.place.now) c.args.context.now.in_progress) (string_bytes c.args.entry.now.name) _ c.in_ok-verdict.verdict c.accepted.result (sym (c.is_yes.ensures.yes x.texts) ∙ c.if-is_yes.true) (c.in_ok-verdict.ensures.says x reads l) c.accepted.ensures.accepts c.accepted.ensures.no_errors
 
 pub run_entry-returns-then-asks_verdict_first-clause-says : goal.run_entry-returns-then-asks_verdict_first-clause-says
 run_entry-returns-then-asks_verdict_first-clause-says g t c = rw (c.in_ok-verdict.ensures.kept, c.in_ok-verdict.ensures.assumes) at c.in_ok-run_form.ensures.says
@@ -226,7 +228,7 @@ run_keyword-turns-init g t c =
     let w = settling (g.M.Matcher.matching c.args.matcher.now) c.args.context.now.remembered.assumptions in
     let name = string_bytes c.args.name.now in
     let ns = numbered g.K.Validate.shape c.args.nodes.now in
-    let p = c.args.place.now in
+    let p = (steps_to c.args.place.now) in
     let s = subject_of c.args.instance in
     let m = g.K.Validate.shape c.args.keyword.now in
     let es = map (option_map edge_of) c.args.children.now in
@@ -246,7 +248,7 @@ run_keyword-turns-init g t c =
 pub run_keyword-run_child-requires : goal.run_keyword-run_child-requires
 run_keyword-run_child-requires g t c =
     let ns = numbered g.K.Validate.shape c.args.nodes.now in
-    let p = c.args.place.now in
+    let p = (steps_to c.args.place.now) in
     let s = subject_of c.args.instance in
     let m = g.K.Validate.shape c.args.keyword.now in
     let es = map (option_map edge_of) c.args.children.now in
@@ -264,7 +266,7 @@ run_keyword-run_child-requires g t c =
 pub run_keyword-returns-in-Done-clause-says : goal.run_keyword-returns-in-Done-clause-says
 run_keyword-returns-in-Done-clause-says g t c =
     let ns = numbered g.K.Validate.shape c.args.nodes.now in
-    let p = c.args.place.now in
+    let p = (steps_to c.args.place.now) in
     let s = subject_of c.args.instance in
     let m = g.K.Validate.shape c.args.keyword.now in
     let es = map (option_map edge_of) c.args.children.now in
@@ -295,31 +297,31 @@ pub run_edge-returns-then-branch-clause-meets : goal.run_edge-returns-then-branc
 run_edge-returns-then-branch-clause-meets g t c =
     let ns = numbered g.K.Validate.shape c.args.nodes.now in
     let w = settling (g.M.Matcher.matching c.args.matcher.now) c.args.context.now.remembered.assumptions in
-    let p = c.args.place.now in
+    let p = (steps_to c.args.place.now) in
     let s = subject_of c.args.instance in
     let busy = busy_at p c.args.context.now.in_progress in
     let e = edge_of c.args.edge.now in
-    let old = entered_old e.node p c.args.context.now.in_progress c.in_ok-enter.field-0 c.enter.new.self.in_progress c.in_ok-enter.ensures.enters c.if-branch.true in
+    let old = entered_old e.node p c.args.context.now.in_progress c.in_ok-enter.field-0 c.enter.new.self.in_progress (rw c.in_ok-here.ensures.same at c.in_ok-enter.ensures.enters) c.if-branch.true in
     meets_busy g.K.Validate.words g.K.Validate.is_whole ns (length c.args.nodes.now) w s busy e (mode_of c.args.mode) (path_of c.args.path.now) p _ _ c.if-not-edge.false old.0 (sym c.enter.ensures.remembered)
 
 pub run_edge-returns-clause-meets : goal.run_edge-returns-clause-meets
 run_edge-returns-clause-meets g t c =
     let ns = numbered g.K.Validate.shape c.args.nodes.now in
     let w = settling (g.M.Matcher.matching c.args.matcher.now) c.args.context.now.remembered.assumptions in
-    let p = c.args.place.now in
+    let p = (steps_to c.args.place.now) in
     let s = subject_of c.args.instance in
     let busy = busy_at p c.args.context.now.in_progress in
     let e = edge_of c.args.edge.now in
-    let new = entered_new e.node p c.args.context.now.in_progress c.in_ok-enter.field-0 c.enter.new.self.in_progress c.in_ok-enter.ensures.enters c.if-branch.false in
+    let new = entered_new e.node p c.args.context.now.in_progress c.in_ok-enter.field-0 c.enter.new.self.in_progress (rw c.in_ok-here.ensures.same at c.in_ok-enter.ensures.enters) c.if-branch.false in
     let busy' : busy_at p c.enter.new.self.in_progress ≡ e.node ∷ busy = ap (busy_at p) new.1 ∙ busy-pushed p e.node c.args.context.now.in_progress in
-    let met = rw (c.across-whole.ensures.appended, busy', c.enter.ensures.remembered) at c.in_ok-reply.ensures.meets in
+    let met = rw (c.across-whole.ensures.appended, c.given-place.ensures.same, c.in_ok-here.ensures.same, busy', c.enter.ensures.remembered) at c.in_ok-reply.ensures.meets in
     rw c.exit.ensures.remembered (meets_entered g.K.Validate.words g.K.Validate.is_whole ns (length c.args.nodes.now) w s busy e (mode_of c.args.mode) (path_of c.args.path.now) p _ _ c.if-not-edge.false new.0 met)
 
 pub run_entries-returns-then-is_settled-clause-meets : goal.run_entries-returns-then-is_settled-clause-meets
 run_entries-returns-then-is_settled-clause-meets g t c = λ texts root depth reads l.
     let ns = numbered g.K.Validate.shape c.args.nodes.now in
     let w = settling (g.M.Matcher.matching c.args.matcher.now) c.args.context.now.remembered.assumptions in
-    let p = c.args.place.now in
+    let p = (steps_to c.args.place.now) in
     let busy = busy_at p c.args.context.now.in_progress in
     let mode = mode_of c.args.mode in
     let part = shaped_part g.K.Validate.shape (entry_of c.entry-item.result) in
@@ -337,7 +339,7 @@ pub run_entry-returns-then-is_yes-clause-meets : goal.run_entry-returns-then-is_
 run_entry-returns-then-is_yes-clause-meets g t c = λ texts root depth reads l.
     let ns = numbered g.K.Validate.shape c.args.nodes.now in
     let w = settling (g.M.Matcher.matching c.args.matcher.now) c.args.context.now.remembered.assumptions in
-    let p = c.args.place.now in
+    let p = (steps_to c.args.place.now) in
     let s = subject_of c.args.instance in
     let busy = busy_at p c.args.context.now.in_progress in
     let part = shaped_part g.K.Validate.shape (entry_of c.args.entry.now) in
@@ -349,7 +351,7 @@ pub run_entry-returns-then-asks_verdict_first-clause-meets : goal.run_entry-retu
 run_entry-returns-then-asks_verdict_first-clause-meets g t c = λ texts root depth reads l.
     let ns = numbered g.K.Validate.shape c.args.nodes.now in
     let w = settling (g.M.Matcher.matching c.args.matcher.now) c.args.context.now.remembered.assumptions in
-    let p = c.args.place.now in
+    let p = (steps_to c.args.place.now) in
     let s = subject_of c.args.instance in
     let busy = busy_at p c.args.context.now.in_progress in
     let part = shaped_part g.K.Validate.shape (entry_of c.args.entry.now) in
@@ -362,7 +364,7 @@ pub run_child-returns-in_ok-run_edge-in-None-one_below-clause-meets : goal.run_c
 run_child-returns-in_ok-run_edge-in-None-one_below-clause-meets g t c =
     let ns = numbered g.K.Validate.shape c.args.nodes.now in
     let w = settling (g.M.Matcher.matching c.args.matcher.now) c.args.context.now.remembered.assumptions in
-    let p = c.args.place.now in
+    let p = (steps_to c.args.place.now) in
     let s = subject_of c.args.instance in
     let busy = busy_at p c.args.context.now.in_progress in
     let e = edge_of c.in-Some.edge.now in
@@ -374,7 +376,7 @@ pub run_child-returns-in_ok-run_edge-in-Some-one_below-clause-meets : goal.run_c
 run_child-returns-in_ok-run_edge-in-Some-one_below-clause-meets g t c =
     let ns = numbered g.K.Validate.shape c.args.nodes.now in
     let w = settling (g.M.Matcher.matching c.args.matcher.now) c.args.context.now.remembered.assumptions in
-    let p = c.args.place.now in
+    let p = (steps_to c.args.place.now) in
     let s = subject_of c.args.instance in
     let busy = busy_at p c.args.context.now.in_progress in
     let e = edge_of c.in-Some.edge.now in
@@ -382,10 +384,10 @@ run_child-returns-in_ok-run_edge-in-Some-one_below-clause-meets g t c =
     let step = step_of c.in-Some-one_below.step in
     let es = c.args.context.now.in_progress in
     let inner = subject_of c.in-Some-one_below.inner in
-    let none : busy_at c.in_ok-lower-in-Some-one_below.lower es ≡ [] = ap (λ q. busy_at q es) c.in_ok-lower-in-Some-one_below.ensures.below ∙ busy-below p step es c.requires.above in
+    let none : busy_at (steps_to c.in_ok-lower-in-Some-one_below.lower) es ≡ [] = ap (λ q. busy_at q es) c.in_ok-lower-in-Some-one_below.ensures.below ∙ busy-below p step es c.requires.above in
     let l = falls_below g.K.Validate.words g.K.Validate.is_whole ns (length c.args.nodes.now) w c.requires.ready.ranked c.args.node.0 s inner step busy e c.requires.known k c.in-Some-one_below.ensures.below.1 in
-    let met = subst (λ busy'. EdgeMeets g.K.Validate.words g.K.Validate.is_whole ns (length c.args.nodes.now) w (mode_of c.args.mode) (path_of c.args.path.now) c.in_ok-lower-in-Some-one_below.lower busy' inner c.args.context.now.remembered c.run_edge-in-Some-one_below.new.context.remembered e) none c.in_ok-run_edge-in-Some-one_below.ensures.meets in
-    meets_below g.K.Validate.words g.K.Validate.is_whole ns (length c.args.nodes.now) w (mode_of c.args.mode) (path_of c.args.path.now) p busy s c.args.node.0 _ (record { child = c.args.child; below = below_of c.args.below }) _ _ e step c.in_ok-lower-in-Some-one_below.lower inner (sym c.in-Some.ensures.edge) c.in-Some-one_below.ensures.below.0
+    let met = subst (λ busy'. EdgeMeets g.K.Validate.words g.K.Validate.is_whole ns (length c.args.nodes.now) w (mode_of c.args.mode) (path_of c.args.path.now) (steps_to c.in_ok-lower-in-Some-one_below.lower) busy' inner c.args.context.now.remembered c.run_edge-in-Some-one_below.new.context.remembered e) none c.in_ok-run_edge-in-Some-one_below.ensures.meets in
+    meets_below g.K.Validate.words g.K.Validate.is_whole ns (length c.args.nodes.now) w (mode_of c.args.mode) (path_of c.args.path.now) p busy s c.args.node.0 _ (record { child = c.args.child; below = below_of c.args.below }) _ _ e step (steps_to c.in_ok-lower-in-Some-one_below.lower) inner (sym c.in-Some.ensures.edge) c.in-Some-one_below.ensures.below.0
     c.in_ok-lower-in-Some-one_below.ensures.below c.in-Some-one_below.ensures.below.1 l met
 
 pub run_form-returns-in_ok-run_keyword-in-Keyword-clause-meets : goal.run_form-returns-in_ok-run_keyword-in-Keyword-clause-meets
@@ -395,7 +397,7 @@ pub run_form-returns-in_ok-stamped_reply-in-Reference-clause-meets : goal.run_fo
 run_form-returns-in_ok-stamped_reply-in-Reference-clause-meets g t c =
     let ns = numbered g.K.Validate.shape c.args.nodes.now in
     let w = settling (g.M.Matcher.matching c.args.matcher.now) c.args.context.now.remembered.assumptions in
-    let p = c.args.place.now in
+    let p = (steps_to c.args.place.now) in
     let s = subject_of c.args.instance in
     let busy = busy_at p c.args.context.now.in_progress in
     let e = edge_of c.in-Reference.edge in
@@ -407,7 +409,7 @@ pub run_node-returns-in_ok-refused-in-Never-clause-meets : goal.run_node-returns
 run_node-returns-in_ok-refused-in-Never-clause-meets g t c =
     let ns = numbered g.K.Validate.shape c.args.nodes.now in
     let w = settling (g.M.Matcher.matching c.args.matcher.now) c.args.context.now.remembered.assumptions in
-    let p = c.args.place.now in
+    let p = (steps_to c.args.place.now) in
     let s = subject_of c.args.instance in
     let busy = busy_at p c.args.context.now.in_progress in
     let plan = plan_is g.K.Validate.shape c.args.nodes.now c.args.node.0 (node_of c.node-found.result.now) _ c.node-found.ensures.found (ap (option_map plan_of) c.in-Some.is ∙ ap (λ f. Some (plan_of f)) c.in-Never.is) in
@@ -417,7 +419,7 @@ pub run_node-returns-in_ok-run_entries-in-Keywords-clause-meets : goal.run_node-
 run_node-returns-in_ok-run_entries-in-Keywords-clause-meets g t c =
     let ns = numbered g.K.Validate.shape c.args.nodes.now in
     let w = settling (g.M.Matcher.matching c.args.matcher.now) c.args.context.now.remembered.assumptions in
-    let p = c.args.place.now in
+    let p = (steps_to c.args.place.now) in
     let s = subject_of c.args.instance in
     let busy = busy_at p c.args.context.now.in_progress in
     let plan = plan_is g.K.Validate.shape c.args.nodes.now c.args.node.0 (node_of c.node-found.result.now) _ c.node-found.ensures.found (ap (option_map plan_of) c.in-Some.is ∙ ap (λ f. Some (plan_of f)) c.in-Keywords.is) in
@@ -426,7 +428,7 @@ run_node-returns-in_ok-run_entries-in-Keywords-clause-meets g t c =
 pub run_keyword-turns-smaller-in-Ask : goal.run_keyword-turns-smaller-in-Ask
 run_keyword-turns-smaller-in-Ask g t c =
     let ns = numbered g.K.Validate.shape c.args.nodes.now in
-    let p = c.args.place.now in
+    let p = (steps_to c.args.place.now) in
     let s = subject_of c.args.instance in
     let m = g.K.Validate.shape c.args.keyword.now in
     let es = map (option_map edge_of) c.args.children.now in
@@ -442,7 +444,7 @@ run_keyword-turns-preserved-in-Ask g t c =
     let w = settling (g.M.Matcher.matching c.args.matcher.now) c.args.context.now.remembered.assumptions in
     let name = string_bytes c.args.name.now in
     let ns = numbered g.K.Validate.shape c.args.nodes.now in
-    let p = c.args.place.now in
+    let p = (steps_to c.args.place.now) in
     let s = subject_of c.args.instance in
     let m = g.K.Validate.shape c.args.keyword.now in
     let es = map (option_map edge_of) c.args.children.now in
@@ -479,7 +481,7 @@ pub run_keyword-turns-smaller-in-Match : goal.run_keyword-turns-smaller-in-Match
 run_keyword-turns-smaller-in-Match g t c =
     let ns = numbered g.K.Validate.shape c.args.nodes.now in
     let w = settling (g.M.Matcher.matching c.args.matcher.now) c.args.context.now.remembered.assumptions in
-    let p = c.args.place.now in
+    let p = (steps_to c.args.place.now) in
     let s = subject_of c.args.instance in
     let m = g.K.Validate.shape c.args.keyword.now in
     let es = map (option_map edge_of) c.args.children.now in
@@ -496,7 +498,7 @@ pub run_keyword-turns-smaller : goal.run_keyword-turns-smaller
 run_keyword-turns-smaller g t c =
     let ns = numbered g.K.Validate.shape c.args.nodes.now in
     let w = settling (g.M.Matcher.matching c.args.matcher.now) c.args.context.now.remembered.assumptions in
-    let p = c.args.place.now in
+    let p = (steps_to c.args.place.now) in
     let s = subject_of c.args.instance in
     let m = g.K.Validate.shape c.args.keyword.now in
     let es = map (option_map edge_of) c.args.children.now in
@@ -511,7 +513,7 @@ pub run_keyword-asked_match-requires : goal.run_keyword-asked_match-requires
 run_keyword-asked_match-requires g t c =
     let ns = numbered g.K.Validate.shape c.args.nodes.now in
     let w = settling (g.M.Matcher.matching c.args.matcher.now) c.args.context.now.remembered.assumptions in
-    let p = c.args.place.now in
+    let p = (steps_to c.args.place.now) in
     let s = subject_of c.args.instance in
     let m = g.K.Validate.shape c.args.keyword.now in
     let es = map (option_map edge_of) c.args.children.now in
@@ -528,7 +530,7 @@ pub run_keyword-turns-preserved-in-Match : goal.run_keyword-turns-preserved-in-M
 run_keyword-turns-preserved-in-Match g t c =
     let ns = numbered g.K.Validate.shape c.args.nodes.now in
     let w = settling (g.M.Matcher.matching c.args.matcher.now) c.args.context.now.remembered.assumptions in
-    let p = c.args.place.now in
+    let p = (steps_to c.args.place.now) in
     let s = subject_of c.args.instance in
     let m = g.K.Validate.shape c.args.keyword.now in
     let es = map (option_map edge_of) c.args.children.now in
@@ -569,7 +571,7 @@ pub run_keyword-turns-preserved : goal.run_keyword-turns-preserved
 run_keyword-turns-preserved g t c =
     let ns = numbered g.K.Validate.shape c.args.nodes.now in
     let w = settling (g.M.Matcher.matching c.args.matcher.now) c.args.context.now.remembered.assumptions in
-    let p = c.args.place.now in
+    let p = (steps_to c.args.place.now) in
     let s = subject_of c.args.instance in
     let m = g.K.Validate.shape c.args.keyword.now in
     let es = map (option_map edge_of) c.args.children.now in
@@ -603,7 +605,7 @@ pub run_keyword-returns-in-Done-clause-meets : goal.run_keyword-returns-in-Done-
 run_keyword-returns-in-Done-clause-meets g t c = if_ok_always c.finished.result _ (λ texts root depth reads l.
     let ns = numbered g.K.Validate.shape c.args.nodes.now in
     let w = settling (g.M.Matcher.matching c.args.matcher.now) c.args.context.now.remembered.assumptions in
-    let p = c.args.place.now in
+    let p = (steps_to c.args.place.now) in
     let s = subject_of c.args.instance in
     let m = g.K.Validate.shape c.args.keyword.now in
     let es = map (option_map edge_of) c.args.children.now in
@@ -626,7 +628,7 @@ pub run_entry-returns-clause-meets : goal.run_entry-returns-clause-meets
 run_entry-returns-clause-meets g t c = λ texts root depth reads l.
     let ns = numbered g.K.Validate.shape c.args.nodes.now in
     let w = settling (g.M.Matcher.matching c.args.matcher.now) c.args.context.now.remembered.assumptions in
-    let p = c.args.place.now in
+    let p = (steps_to c.args.place.now) in
     let busy = busy_at p c.args.context.now.in_progress in
     let looked = part_looked g.K.Validate.words ns w texts root depth c.args.node.0 (path_of c.args.path.now) p busy (shaped_part g.K.Validate.shape (entry_of c.args.entry.now)) in
     meets_same w.matcher _ _ _ _ (other_entry (mode_of c.args.mode) looked (c.asks_verdict_first.ensures.other c.if-asks_verdict_first.false)) (c.in_ok-run_form-2.ensures.meets texts root depth reads l)
@@ -635,7 +637,7 @@ pub run_entries-returns-clause-meets : goal.run_entries-returns-clause-meets
 run_entries-returns-clause-meets g t c = λ texts root depth reads l.
     let ns = numbered g.K.Validate.shape c.args.nodes.now in
     let w = settling (g.M.Matcher.matching c.args.matcher.now) c.args.context.now.remembered.assumptions in
-    let p = c.args.place.now in
+    let p = (steps_to c.args.place.now) in
     let looked = λ (es : List (Entry g.row.K.Denot)). parts_looked g.K.Validate.words ns w texts root depth c.args.node.0 (path_of c.args.path.now) p (busy_at p c.args.context.now.in_progress) (map (shaped_part g.K.Validate.shape) (map entry_of es)) in
     end_met w.matcher (mode_of c.args.mode) (looked (drop c.loop-entry.entry-index c.args.entries.now)) (plan_met (mode_of c.args.mode) (looked c.args.entries.now)) c.args.context.now.remembered c.loop-entry.context.remembered
     (ap looked (drop_past c.args.entries.now c.loop-entry.entry-index c.loop-entry-test.false)) (c.loop-entry.invariant.met texts root depth reads l)
