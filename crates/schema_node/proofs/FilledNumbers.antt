@@ -1,12 +1,12 @@
 -- Whether a number of the table that the code holds has its form.
-use Rattle.std.proofs.Common.{◌≡◌, ℕ, ◌<◌, Bool, true, false, List, length, map, refl, sym, ◌∙◌, ap, subst, arith, true≢false}
+use Rattle.std.proofs.Common.{◌≡◌, ℕ, ◌<◌, true, false, List, length, map, refl, sym, ap, arith, true≢false}
 use Rattle.std.specs.Prelude.{Option, Some, None, slice_get, slice_index_or, is_some, option_map}
 use Rattle.std.proofs.lemmas.List.{length-map}
 use Rattle.std.proofs.lemmas.Option.{slice_get_read}
 use Rattle.schema_node.specs.declared.node.Node.{Node}
 use Rattle.schema_node.specs.declared.node.NodeForm.{NodeForm}
 use Rattle.schema_node.specs.NodeViews.{node_of, plan_of}
-use Rattle.schema_node.specs.NodeTable.{NodeEntry, IsReserved, IsFilled}
+use Rattle.schema_node.specs.NodeTable.{IsReserved, IsFilled}
 use Rattle.schema_node.proofs.NodesFilled.{in_map}
 
 module _ {K : Type 0} (items : List (Node K)) (i : ℕ) (x : Node K) (h : i < length (map node_of items)) (is : x ≡ slice_index_or items i x) where

@@ -10,6 +10,8 @@ pub mod Marks
 pub mod NodeMeets
 pub mod ProgressViews
 pub mod FaultViews
+pub mod EvaluationPaths
+pub mod EvaluationPlaces
 pub mod NodeRuns
 pub mod Turning
 pub mod ValidatorViews

@@ -4,7 +4,10 @@ ghost use Rattle.schema_node.specs.NodeViews.{plan_of, reserved_node, node_of};
 ghost use Rattle.schema_node.specs.NodeTable.{NodeEntry, IsReserved, IsFilled, AreFilled, Fills, IsRanked};
 
 mod absolute;
+mod evaluation_path;
+mod evaluation_place;
 mod faults;
+mod matches;
 mod replies;
 pub mod run;
 mod sites;

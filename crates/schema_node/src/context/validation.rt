@@ -2,7 +2,9 @@
 ghost use Rattle.std.specs.Prelude.{◌≡◌, ◌++◌, ◌∷◌, [], IfOk, IfErr, OnErr, OnOk};
 ghost use Rattle.std.specs.List.{list_any};
 ghost use Rattle.std.specs.Prelude.{◌==◌};
-ghost use Rattle.schema_reports.specs.Unfinished.{starting};
+ghost use Rattle.schema_reports.specs.Matching.{assumed};
+ghost use Rattle.schema_reports.specs.MatchViews.{reason_of};
+ghost use Rattle.schema_reports.specs.Unfinished.{meet, or_no, starting};
 ghost use Rattle.schema_node.specs.Matches.{after_match, comes_out};
 ghost use Rattle.schema_node.specs.Progress.{busy_at, Distinct, Enters, EndsWith};
 
@@ -10,7 +12,7 @@ use crate::context::matcher::Matcher;
 use crate::node::SchemaNode;
 use schema_reports::instance::Place;
 use schema_reports::location::OutOfMemory;
-use schema_reports::unfinished_matches::{Match, MatchAssumptions, MatchSite};
+use schema_reports::unfinished_matches::{Match, MatchAssumptions, MatchSite, Reason};
 use std::alloc::Global;
 use std::marker::Model;
 
@@ -116,10 +118,25 @@ impl<'i> ValidationContext<'i> {
     {
         match matcher.is_match(alloc, pattern, subject)? {
             Match::Finished(matches) => Ok(matches),
-            Match::Unfinished(reason) => {
-                Ok(self.matches.resolve(pattern, subject, reason, site)?)
-            }
+            Match::Unfinished(reason) => Ok(self.resolve(pattern, subject, reason, site)?),
         }
+    }
+
+    /// How a match that the matcher left unfinished comes out: as it is assumed to, or else as no. It is remembered with
+    /// its site. Nothing changes where memory is wanting.
+    pub(crate) fn resolve(
+        &mut self,
+        pattern: &str,
+        subject: &str,
+        reason: Reason,
+        site: MatchSite<'i>,
+    ) -> Result<bool, OutOfMemory>
+        ensures answer { IfOk result (λ b. b ≡ or_no (assumed self.old.remembered.assumptions (record { pattern = pattern.now; subject = subject.now }))) }
+        ensures met { OnOk result (self.new.remembered ≡ meet self.old.remembered (record { met = record { pair = record { pattern = pattern.now; subject = subject.now }; site = site.entry }; reason = reason_of reason })) }
+        ensures in_progress { self.new.in_progress ≡ self.old.in_progress }
+        ensures unchanged { OnErr result (self.new ≡ self.old) }
+    {
+        Ok(self.matches.resolve(pattern, subject, reason, site)?)
     }
 
     /// Whether the text is a pattern of ECMA-262, as the matcher says.

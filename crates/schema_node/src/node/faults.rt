@@ -10,11 +10,15 @@ ghost use Rattle.schema_reports.specs.ReportViews.{error_of, BorrowsItsPlace};
 ghost use Rattle.schema_node.specs.FaultViews.{answer_reply, errors_in, faults_in, FaultsLieInside, LiesInside};
 ghost use Rattle.schema_node.specs.KeywordViews.{answer_of, fault_of, fresh, mode_of, own_of, reply_of};
 ghost use Rattle.schema_reports.specs.Keywords.{own};
+ghost use Rattle.schema_node.specs.EvaluationPaths.{path_of};
+ghost use Rattle.schema_node.specs.EvaluationPlaces.{steps_to};
 ghost use Rattle.schema_node.specs.NodeRuns.{entry_where};
 ghost use Rattle.schema_node.specs.NodeViews.{node_of};
 
 use crate::context::keyword::{Answer, Fault, Mode, OwnError, Reply};
 use crate::node::Node;
+use crate::node::evaluation_path::EvaluationPath;
+use crate::node::evaluation_place::EvaluationPlace;
 use crate::node::replies::{keyword_location, stamped_error};
 use schema_reports::instance::{Instance, InstanceStep, Place};
 use schema_reports::location::{Location, LocationSegment, OutOfMemory};
@@ -64,10 +68,13 @@ fn instance_below<'i>(instance: Instance<'i>, steps: &[InstanceStep<'i>]) -> Ins
 }
 
 // The place some steps below.
-fn place_below<'i>(place: &Place<'i>, steps: &[InstanceStep<'i>]) -> Result<Place<'i>, OutOfMemory>
-    ensures below { IfOk result (λ p. p ≡ place.now ++ map step_of steps.now) }
+fn place_below<'i>(
+    place: &EvaluationPlace<'_, 'i>,
+    steps: &[InstanceStep<'i>],
+) -> Result<Place<'i>, OutOfMemory>
+    ensures below { IfOk result (λ p. p ≡ steps_to place.now ++ map step_of steps.now) }
 {
-    let mut lower = place.copy()?;
+    let mut lower = place.made()?;
     for step in steps {
         lower = lower.below(*step)?;
     }
@@ -100,17 +107,23 @@ fn own_error<'i, K>(
     node: &Node<K>,
     name: &String,
     instance: Instance<'i>,
-    place: &Place<'i>,
-    path: &Location,
+    place: &EvaluationPlace<'_, 'i>,
+    path: &EvaluationPath<'_>,
     found: OwnError<'i>,
 ) -> Result<ValidationError<'i>, OutOfMemory>
     ensures error { IfOk result (λ e. (texts : Bool) → error_of texts e
-        ≡ fault_error (entry_where (node_of node.now) path.now place.now) (string_bytes name.now) (own (own_of texts found.entry))) }
-    ensures borrows { IfOk result (λ e. (root : Data) → subject_at root place.now ≡ Some (subject_of instance.entry)
+        ≡ fault_error (entry_where (node_of node.now) (path_of path.now) (steps_to place.now)) (string_bytes name.now) (own (own_of texts found.entry))) }
+    ensures borrows { IfOk result (λ e. (root : Data) → subject_at root (steps_to place.now) ≡ Some (subject_of instance.entry)
         → IsPresent (subject_of instance.entry) (map step_of found.entry.below.items) → BorrowsItsPlace root e) }
 {
     let schema_path = spot_path(alloc, &node.location, &found.absorbed, name, &found.path)?;
-    let evaluation_path = spot_path(alloc, path, &found.absorbed, name, &found.path)?;
+    let evaluation_path = spot_path(
+        alloc,
+        &path.made(alloc)?,
+        &found.absorbed,
+        name,
+        &found.path,
+    )?;
     let absolute_keyword_location = keyword_location(alloc, node, name)?;
     let place = place_below(place, found.below.as_slice())?;
     let instance = instance_below(instance, found.below.as_slice());
@@ -131,13 +144,13 @@ fn error_by<'i, K>(
     node: &Node<K>,
     name: &String,
     instance: Instance<'i>,
-    place: &Place<'i>,
-    path: &Location,
+    place: &EvaluationPlace<'_, 'i>,
+    path: &EvaluationPath<'_>,
     fault: Fault<'i>,
 ) -> Result<ValidationError<'i>, OutOfMemory>
     ensures error { IfOk result (λ e. (texts : Bool) → error_of texts e
-        ≡ fault_error (entry_where (node_of node.now) path.now place.now) (string_bytes name.now) (fault_of texts fault.entry)) }
-    ensures borrows { IfOk result (λ e. (root : Data) → subject_at root place.now ≡ Some (subject_of instance.entry)
+        ≡ fault_error (entry_where (node_of node.now) (path_of path.now) (steps_to place.now)) (string_bytes name.now) (fault_of texts fault.entry)) }
+    ensures borrows { IfOk result (λ e. (root : Data) → subject_at root (steps_to place.now) ≡ Some (subject_of instance.entry)
         → LiesInside root (subject_of instance.entry) fault.entry → BorrowsItsPlace root e) }
 {
     match fault {
@@ -152,13 +165,13 @@ fn errors_by<'i, K>(
     node: &Node<K>,
     name: &String,
     instance: Instance<'i>,
-    place: &Place<'i>,
-    path: &Location,
+    place: &EvaluationPlace<'_, 'i>,
+    path: &EvaluationPath<'_>,
     faults: Vec<Fault<'i>>,
 ) -> Result<Vec<ValidationError<'i>>, OutOfMemory>
     ensures errors { IfOk result (λ es. (texts : Bool) → map (error_of texts) es.items
-        ≡ map (fault_error (entry_where (node_of node.now) path.now place.now) (string_bytes name.now)) (map (fault_of texts) faults.entry.items)) }
-    ensures borrows { IfOk result (λ es. (root : Data) → subject_at root place.now ≡ Some (subject_of instance.entry)
+        ≡ map (fault_error (entry_where (node_of node.now) (path_of path.now) (steps_to place.now)) (string_bytes name.now)) (map (fault_of texts) faults.entry.items)) }
+    ensures borrows { IfOk result (λ es. (root : Data) → subject_at root (steps_to place.now) ≡ Some (subject_of instance.entry)
         → All (LiesInside root (subject_of instance.entry)) faults.entry.items → All (BorrowsItsPlace root) es.items) }
 {
     let mut errors = Vec::new(alloc);
@@ -223,14 +236,14 @@ pub fn finished<'i, K>(
     node: &Node<K>,
     name: &String,
     instance: Instance<'i>,
-    place: &Place<'i>,
-    path: &Location,
+    place: &EvaluationPlace<'_, 'i>,
+    path: &EvaluationPath<'_>,
     mode: Mode,
     answer: Answer<'i>,
 ) -> Result<Reply<'i>, OutOfMemory>
     ensures reply { IfOk result (λ r. (texts : Bool) → reply_of texts r
-        ≡ answer_reply (mode_of mode) (entry_where (node_of node.now) path.now place.now) (string_bytes name.now) (answer_of texts answer.entry)) }
-    ensures borrows { IfOk result (λ r. (root : Data) → subject_at root place.now ≡ Some (subject_of instance.entry)
+        ≡ answer_reply (mode_of mode) (entry_where (node_of node.now) (path_of path.now) (steps_to place.now)) (string_bytes name.now) (answer_of texts answer.entry)) }
+    ensures borrows { IfOk result (λ r. (root : Data) → subject_at root (steps_to place.now) ≡ Some (subject_of instance.entry)
         → FaultsLieInside (mode_of mode) root (subject_of instance.entry) answer.entry → All (BorrowsItsPlace root) (errors_in r)) }
 {
     match mode {

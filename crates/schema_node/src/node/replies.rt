@@ -14,12 +14,16 @@ ghost use Rattle.schema_node.specs.KeywordViews.{mode_of, reply_of};
 ghost use Rattle.schema_node.specs.NodeTable.{absolute_in};
 ghost use Rattle.schema_node.specs.NodeViews.{node_of};
 ghost use Rattle.schema_node.specs.FaultViews.{errors_in};
+ghost use Rattle.schema_node.specs.EvaluationPaths.{path_of};
+ghost use Rattle.schema_node.specs.EvaluationPlaces.{steps_to};
 ghost use Rattle.schema_node.specs.NodeRuns.{reply_by, entry_where, refuses, accepts, Joins, Stamps};
 
 use crate::context::keyword::{Mode, Reply};
 use crate::node::Node;
 use crate::node::absolute::absolute_location;
-use schema_reports::instance::{Instance, Place};
+use crate::node::evaluation_path::EvaluationPath;
+use crate::node::evaluation_place::EvaluationPlace;
+use schema_reports::instance::Instance;
 use schema_reports::location::{Location, LocationSegment, OutOfMemory};
 use schema_reports::reports::ValidationError;
 use std::alloc::Global;
@@ -179,13 +183,13 @@ pub fn refused<'i, K>(
     alloc: Global,
     node: &Node<K>,
     instance: Instance<'i>,
-    place: &Place<'i>,
-    path: &Location,
+    place: &EvaluationPlace<'_, 'i>,
+    path: &EvaluationPath<'_>,
     mode: Mode,
 ) -> Result<Reply<'i>, OutOfMemory>
     ensures refuses { IfOk result (λ r. (texts : Bool) → (texts ≡ true → subject_has_float (subject_of instance.entry) ≡ false) → reply_of texts r
-        ≡ reply_by (mode_of mode) (false_outcome texts (entry_where (node_of node.now) path.now place.now) (subject_of instance.entry))) }
-    ensures borrows { IfOk result (λ r. (root : Data) → subject_at root place.now ≡ Some (subject_of instance.entry) → All (BorrowsItsPlace root) (errors_in r)) }
+        ≡ reply_by (mode_of mode) (false_outcome texts (entry_where (node_of node.now) (path_of path.now) (steps_to place.now)) (subject_of instance.entry))) }
+    ensures borrows { IfOk result (λ r. (root : Data) → subject_at root (steps_to place.now) ≡ Some (subject_of instance.entry) → All (BorrowsItsPlace root) (errors_in r)) }
 {
     match mode {
         Mode::Verdict => Ok(Reply::Truth(false)),
@@ -207,21 +211,21 @@ fn false_error<'i, K>(
     alloc: Global,
     node: &Node<K>,
     instance: Instance<'i>,
-    place: &Place<'i>,
-    path: &Location,
+    place: &EvaluationPlace<'_, 'i>,
+    path: &EvaluationPath<'_>,
 ) -> Result<ValidationError<'i>, OutOfMemory>
     ensures error { IfOk result (λ e. (texts : Bool) → (texts ≡ true → subject_has_float (subject_of instance.entry) ≡ false) → error_of texts e
-        ≡ false_error texts (entry_where (node_of node.now) path.now place.now) (subject_of instance.entry)) }
-    ensures place { IfOk result (λ e. e.place ≡ place.now) }
+        ≡ false_error texts (entry_where (node_of node.now) (path_of path.now) (steps_to place.now)) (subject_of instance.entry)) }
+    ensures place { IfOk result (λ e. e.place ≡ steps_to place.now) }
     ensures instance { IfOk result (λ e. e.instance ≡ instance.entry) }
 {
     let absolute = absolute_location(alloc, node, &node.location)?;
     ValidationError::false_schema(
         alloc,
         instance,
-        place.copy()?,
+        place.made()?,
         node.location.copy()?,
-        path.copy()?,
+        path.made(alloc)?,
         absolute,
     )
 }

@@ -15,6 +15,8 @@ ghost use Rattle.schema_reports.specs.Guarded.{guarded_node, guarded_within, nod
 ghost use Rattle.schema_node.specs.KeywordViews.{below_of, mode_of, reply_of};
 ghost use Rattle.schema_node.specs.NodeTable.{numbered, shaped_form, shaped_part, IsRanked};
 ghost use Rattle.schema_node.specs.NodeViews.{edge_of, entry_of, form_of, node_of};
+ghost use Rattle.schema_node.specs.EvaluationPaths.{path_of};
+ghost use Rattle.schema_node.specs.EvaluationPlaces.{steps_to};
 ghost use Rattle.schema_node.specs.NodeRuns.{Ready, TellsAll, HasForm, HasParts, NodeReplies, EdgeReplies, ChildReplies, FormReplies, HasChildren, PartsReply, reply_by};
 ghost use Rattle.schema_node.specs.Marks.{TakesNoMarks};
 ghost use Rattle.schema_node.specs.Matches.{MeetsEach, settling};
@@ -24,9 +26,11 @@ ghost use Rattle.schema_node.specs.Progress.{busy_at, NoDeeper};
 use crate::context::keyword::{Below, Mode, Reply, Step, Validate};
 use crate::context::matcher::Matcher;
 use crate::context::validation::ValidationContext;
+use crate::node::evaluation_path::EvaluationPath;
+use crate::node::evaluation_place::EvaluationPlace;
 use crate::node::faults::{begun, finished};
+use crate::node::matches::asked_match;
 use crate::node::replies::{accepted, is_settled, is_yes, joined, refused, stamped_reply};
-use crate::node::sites::match_site;
 use crate::node::{Edge, Entry, EntryForm, NodeForm, Nodes, SchemaNode};
 use schema_reports::instance::{Instance, InstanceStep, Place};
 use schema_reports::location::{Location, OutOfMemory};
@@ -85,21 +89,21 @@ fn run_node<'i, K: Validate, M: Matcher>(
     matcher: &M,
     node: SchemaNode,
     instance: Instance<'i>,
-    place: &Place<'i>,
-    path: &Location,
+    place: &EvaluationPlace<'_, 'i>,
+    path: &EvaluationPath<'_>,
     mode: Mode,
     context: &mut ValidationContext<'i>,
 ) -> Result<Reply<'i>, OutOfMemory>
     requires known { node.0 < length nodes.now }
     requires ready { Ready K.words (numbered K.shape nodes.now) (length nodes.now) }
-    requires above { NoDeeper place.now context.old.in_progress }
+    requires above { NoDeeper (steps_to place.now) context.old.in_progress }
     requires wanted { ¬ (mode_of mode ≡ for_units) }
     ensures kept { IfOk result (λ _. context.new.in_progress ≡ context.old.in_progress) }
     ensures assumes { IfOk result (λ _. context.new.remembered.assumptions ≡ context.old.remembered.assumptions) }
     ensures says { IfOk result (λ r. NodeReplies K.words K.is_whole (numbered K.shape nodes.now) (length nodes.now) (settling (M.matching matcher.now) context.old.remembered.assumptions)
-        (mode_of mode) path.now place.now (busy_at place.now context.old.in_progress) (subject_of instance.entry) node.0 r) }
+        (mode_of mode) (path_of path.now) (steps_to place.now) (busy_at (steps_to place.now) context.old.in_progress) (subject_of instance.entry) node.0 r) }
     ensures meets { IfOk result (λ _. NodeMeets K.words K.is_whole (numbered K.shape nodes.now) (length nodes.now) (settling (M.matching matcher.now) context.old.remembered.assumptions)
-        (mode_of mode) path.now place.now (busy_at place.now context.old.in_progress) (subject_of instance.entry) context.old.remembered context.new.remembered node.0) }
+        (mode_of mode) (path_of path.now) (steps_to place.now) (busy_at (steps_to place.now) context.old.in_progress) (subject_of instance.entry) context.old.remembered context.new.remembered node.0) }
 {
     let found = nodes.node(node);
     match &found.form {
@@ -132,22 +136,22 @@ fn run_entries<'i, K: Validate, M: Matcher>(
     node: SchemaNode,
     entries: &[Entry<K>],
     instance: Instance<'i>,
-    place: &Place<'i>,
-    path: &Location,
+    place: &EvaluationPlace<'_, 'i>,
+    path: &EvaluationPath<'_>,
     mode: Mode,
     context: &mut ValidationContext<'i>,
 ) -> Result<Reply<'i>, OutOfMemory>
     requires known { node.0 < length nodes.now }
     requires parts { HasParts (numbered K.shape nodes.now) node.0 (map (shaped_part K.shape) (map entry_of entries.now)) }
     requires ready { Ready K.words (numbered K.shape nodes.now) (length nodes.now) }
-    requires above { NoDeeper place.now context.old.in_progress }
+    requires above { NoDeeper (steps_to place.now) context.old.in_progress }
     requires wanted { ¬ (mode_of mode ≡ for_units) }
     ensures kept { IfOk result (λ _. context.new.in_progress ≡ context.old.in_progress) }
     ensures assumes { IfOk result (λ _. context.new.remembered.assumptions ≡ context.old.remembered.assumptions) }
     ensures says { IfOk result (λ r. PartsReply K.words K.is_whole (numbered K.shape nodes.now) (length nodes.now) (settling (M.matching matcher.now) context.old.remembered.assumptions)
-        (mode_of mode) path.now place.now (busy_at place.now context.old.in_progress) (subject_of instance.entry) node.0 (map (shaped_part K.shape) (map entry_of entries.now)) r) }
+        (mode_of mode) (path_of path.now) (steps_to place.now) (busy_at (steps_to place.now) context.old.in_progress) (subject_of instance.entry) node.0 (map (shaped_part K.shape) (map entry_of entries.now)) r) }
     ensures meets { IfOk result (λ _. PartsMeet K.words K.is_whole (numbered K.shape nodes.now) (length nodes.now) (settling (M.matching matcher.now) context.old.remembered.assumptions)
-        (mode_of mode) path.now place.now (busy_at place.now context.old.in_progress) (subject_of instance.entry) context.old.remembered context.new.remembered node.0 (map (shaped_part K.shape) (map entry_of entries.now))) }
+        (mode_of mode) (path_of path.now) (steps_to place.now) (busy_at (steps_to place.now) context.old.in_progress) (subject_of instance.entry) context.old.remembered context.new.remembered node.0 (map (shaped_part K.shape) (map entry_of entries.now))) }
 {
     let mut found = accepted(alloc, mode);
     for entry in entries {
@@ -171,22 +175,22 @@ fn run_entry<'i, K: Validate, M: Matcher>(
     node: SchemaNode,
     entry: &Entry<K>,
     instance: Instance<'i>,
-    place: &Place<'i>,
-    path: &Location,
+    place: &EvaluationPlace<'_, 'i>,
+    path: &EvaluationPath<'_>,
     mode: Mode,
     context: &mut ValidationContext<'i>,
 ) -> Result<Reply<'i>, OutOfMemory>
     requires known { node.0 < length nodes.now }
     requires form { HasForm (numbered K.shape nodes.now) node.0 (shaped_form K.shape (form_of entry.now.form)) }
     requires ready { Ready K.words (numbered K.shape nodes.now) (length nodes.now) }
-    requires above { NoDeeper place.now context.old.in_progress }
+    requires above { NoDeeper (steps_to place.now) context.old.in_progress }
     requires wanted { ¬ (mode_of mode ≡ for_units) }
     ensures kept { IfOk result (λ _. context.new.in_progress ≡ context.old.in_progress) }
     ensures assumes { IfOk result (λ _. context.new.remembered.assumptions ≡ context.old.remembered.assumptions) }
     ensures says { IfOk result (λ r. FormReplies K.words K.is_whole (numbered K.shape nodes.now) (length nodes.now) (settling (M.matching matcher.now) context.old.remembered.assumptions)
-        (mode_of mode) path.now place.now (busy_at place.now context.old.in_progress) (subject_of instance.entry) node.0 (string_bytes entry.now.name) (shaped_form K.shape (form_of entry.now.form)) r) }
+        (mode_of mode) (path_of path.now) (steps_to place.now) (busy_at (steps_to place.now) context.old.in_progress) (subject_of instance.entry) node.0 (string_bytes entry.now.name) (shaped_form K.shape (form_of entry.now.form)) r) }
     ensures meets { IfOk result (λ _. EntryMeets K.words K.is_whole (numbered K.shape nodes.now) (length nodes.now) (settling (M.matching matcher.now) context.old.remembered.assumptions)
-        (mode_of mode) path.now place.now (busy_at place.now context.old.in_progress) (subject_of instance.entry) context.old.remembered context.new.remembered node.0 (shaped_part K.shape (entry_of entry.now))) }
+        (mode_of mode) (path_of path.now) (steps_to place.now) (busy_at (steps_to place.now) context.old.in_progress) (subject_of instance.entry) context.old.remembered context.new.remembered node.0 (shaped_part K.shape (entry_of entry.now))) }
 {
     if asks_verdict_first(entry, mode) {
         let verdict = run_form(
@@ -222,22 +226,22 @@ fn run_form<'i, K: Validate, M: Matcher>(
     node: SchemaNode,
     entry: &Entry<K>,
     instance: Instance<'i>,
-    place: &Place<'i>,
-    path: &Location,
+    place: &EvaluationPlace<'_, 'i>,
+    path: &EvaluationPath<'_>,
     mode: Mode,
     context: &mut ValidationContext<'i>,
 ) -> Result<Reply<'i>, OutOfMemory>
     requires known { node.0 < length nodes.now }
     requires form { HasForm (numbered K.shape nodes.now) node.0 (shaped_form K.shape (form_of entry.now.form)) }
     requires ready { Ready K.words (numbered K.shape nodes.now) (length nodes.now) }
-    requires above { NoDeeper place.now context.old.in_progress }
+    requires above { NoDeeper (steps_to place.now) context.old.in_progress }
     requires wanted { ¬ (mode_of mode ≡ for_units) }
     ensures kept { IfOk result (λ _. context.new.in_progress ≡ context.old.in_progress) }
     ensures assumes { IfOk result (λ _. context.new.remembered.assumptions ≡ context.old.remembered.assumptions) }
     ensures says { IfOk result (λ r. FormReplies K.words K.is_whole (numbered K.shape nodes.now) (length nodes.now) (settling (M.matching matcher.now) context.old.remembered.assumptions)
-        (mode_of mode) path.now place.now (busy_at place.now context.old.in_progress) (subject_of instance.entry) node.0 (string_bytes entry.now.name) (shaped_form K.shape (form_of entry.now.form)) r) }
+        (mode_of mode) (path_of path.now) (steps_to place.now) (busy_at (steps_to place.now) context.old.in_progress) (subject_of instance.entry) node.0 (string_bytes entry.now.name) (shaped_form K.shape (form_of entry.now.form)) r) }
     ensures meets { IfOk result (λ _. FormMeets K.words K.is_whole (numbered K.shape nodes.now) (length nodes.now) (settling (M.matching matcher.now) context.old.remembered.assumptions)
-        (mode_of mode) path.now place.now (busy_at place.now context.old.in_progress) (subject_of instance.entry) context.old.remembered context.new.remembered node.0 (string_bytes entry.now.name) (shaped_form K.shape (form_of entry.now.form))) }
+        (mode_of mode) (path_of path.now) (steps_to place.now) (busy_at (steps_to place.now) context.old.in_progress) (subject_of instance.entry) context.old.remembered context.new.remembered node.0 (string_bytes entry.now.name) (shaped_form K.shape (form_of entry.now.form))) }
 {
     match &entry.form {
         EntryForm::Keyword(keyword, children) => Ok(run_keyword(
@@ -274,22 +278,22 @@ fn run_keyword<'i, K: Validate, M: Matcher>(
     keyword: &K,
     children: &[Option<Edge>],
     instance: Instance<'i>,
-    place: &Place<'i>,
-    path: &Location,
+    place: &EvaluationPlace<'_, 'i>,
+    path: &EvaluationPath<'_>,
     mode: Mode,
     context: &mut ValidationContext<'i>,
 ) -> Result<Reply<'i>, OutOfMemory>
     requires known { node.0 < length nodes.now }
     requires form { HasForm (numbered K.shape nodes.now) node.0 (node_keyword (K.shape keyword.now) (map (option_map edge_of) children.now)) }
     requires ready { Ready K.words (numbered K.shape nodes.now) (length nodes.now) }
-    requires above { NoDeeper place.now context.old.in_progress }
+    requires above { NoDeeper (steps_to place.now) context.old.in_progress }
     requires wanted { ¬ (mode_of mode ≡ for_units) }
     ensures kept { IfOk result (λ _. context.new.in_progress ≡ context.old.in_progress) }
     ensures assumes { IfOk result (λ _. context.new.remembered.assumptions ≡ context.old.remembered.assumptions) }
     ensures says { IfOk result (λ r. FormReplies K.words K.is_whole (numbered K.shape nodes.now) (length nodes.now) (settling (M.matching matcher.now) context.old.remembered.assumptions)
-        (mode_of mode) path.now place.now (busy_at place.now context.old.in_progress) (subject_of instance.entry) node.0 (string_bytes name.now) (node_keyword (K.shape keyword.now) (map (option_map edge_of) children.now)) r) }
+        (mode_of mode) (path_of path.now) (steps_to place.now) (busy_at (steps_to place.now) context.old.in_progress) (subject_of instance.entry) node.0 (string_bytes name.now) (node_keyword (K.shape keyword.now) (map (option_map edge_of) children.now)) r) }
     ensures meets { IfOk result (λ _. FormMeets K.words K.is_whole (numbered K.shape nodes.now) (length nodes.now) (settling (M.matching matcher.now) context.old.remembered.assumptions)
-        (mode_of mode) path.now place.now (busy_at place.now context.old.in_progress) (subject_of instance.entry) context.old.remembered context.new.remembered node.0 (string_bytes name.now) (node_keyword (K.shape keyword.now) (map (option_map edge_of) children.now))) }
+        (mode_of mode) (path_of path.now) (steps_to place.now) (busy_at (steps_to place.now) context.old.in_progress) (subject_of instance.entry) context.old.remembered context.new.remembered node.0 (string_bytes name.now) (node_keyword (K.shape keyword.now) (map (option_map edge_of) children.now))) }
 {
     let mut run = keyword.begin(alloc, instance, mode)?;
     let mut answer = begun(alloc, mode);
@@ -315,8 +319,19 @@ fn run_keyword<'i, K: Validate, M: Matcher>(
                 );
             }
             Step::Match(pattern, subject, point) => {
-                let site = match_site(alloc, nodes.node(node), name, instance, place, path, point)?;
-                let matches = context.is_match(alloc, matcher, pattern, subject, site)?;
+                let matches = asked_match(
+                    alloc,
+                    matcher,
+                    nodes.node(node),
+                    name,
+                    instance,
+                    place,
+                    path,
+                    pattern,
+                    subject,
+                    point,
+                    context,
+                )?;
                 reply = Reply::Truth(matches);
             }
             Step::Ecma(text) => {
@@ -340,8 +355,8 @@ fn run_child<'i, K: Validate, M: Matcher>(
     child: usize,
     below: Below<'_>,
     instance: Instance<'i>,
-    place: &Place<'i>,
-    path: &Location,
+    place: &EvaluationPlace<'_, 'i>,
+    path: &EvaluationPath<'_>,
     mode: Mode,
     context: &mut ValidationContext<'i>,
 ) -> Result<Reply<'i>, OutOfMemory>
@@ -349,14 +364,14 @@ fn run_child<'i, K: Validate, M: Matcher>(
     requires children { HasChildren (numbered K.shape nodes.now) node.0 (map (option_map edge_of) children.now) }
     requires present { IsPresent (subject_of instance) (steps_below (below_of below)) }
     requires ready { Ready K.words (numbered K.shape nodes.now) (length nodes.now) }
-    requires above { NoDeeper place.now context.old.in_progress }
+    requires above { NoDeeper (steps_to place.now) context.old.in_progress }
     requires wanted { ¬ (mode_of mode ≡ for_units) }
     ensures kept { IfOk result (λ _. context.new.in_progress ≡ context.old.in_progress) }
     ensures assumes { IfOk result (λ _. context.new.remembered.assumptions ≡ context.old.remembered.assumptions) }
     ensures says { IfOk result (λ r. ChildReplies K.words K.is_whole (numbered K.shape nodes.now) (length nodes.now) (settling (M.matching matcher.now) context.old.remembered.assumptions)
-        (mode_of mode) path.now place.now (busy_at place.now context.old.in_progress) (subject_of instance.entry) node.0 (map (option_map edge_of) children.now) (record { child = child; below = below_of below.entry }) r) }
+        (mode_of mode) (path_of path.now) (steps_to place.now) (busy_at (steps_to place.now) context.old.in_progress) (subject_of instance.entry) node.0 (map (option_map edge_of) children.now) (record { child = child; below = below_of below.entry }) r) }
     ensures meets { IfOk result (λ _. ChildMeets K.words K.is_whole (numbered K.shape nodes.now) (length nodes.now) (settling (M.matching matcher.now) context.old.remembered.assumptions)
-        (mode_of mode) path.now place.now (busy_at place.now context.old.in_progress) (subject_of instance.entry) context.old.remembered context.new.remembered node.0 (map (option_map edge_of) children.now) (record { child = child; below = below_of below.entry })) }
+        (mode_of mode) (path_of path.now) (steps_to place.now) (busy_at (steps_to place.now) context.old.in_progress) (subject_of instance.entry) context.old.remembered context.new.remembered node.0 (map (option_map edge_of) children.now) (record { child = child; below = below_of below.entry })) }
 {
     match child_edge(children, child) {
         None => Ok(accepted(alloc, mode)),
@@ -365,7 +380,7 @@ fn run_child<'i, K: Validate, M: Matcher>(
                 nodes, alloc, matcher, edge, instance, place, path, mode, context,
             )?),
             Some((inner, step)) => {
-                let lower = place.below(step)?;
+                let lower = place.below(step, mode)?;
                 Ok(run_edge(
                     nodes, alloc, matcher, edge, inner, &lower, path, mode, context,
                 )?)
@@ -382,35 +397,37 @@ fn run_edge<'i, K: Validate, M: Matcher>(
     matcher: &M,
     edge: &Edge,
     instance: Instance<'i>,
-    place: &Place<'i>,
-    path: &Location,
+    place: &EvaluationPlace<'_, 'i>,
+    path: &EvaluationPath<'_>,
     mode: Mode,
     context: &mut ValidationContext<'i>,
 ) -> Result<Reply<'i>, OutOfMemory>
     requires known { edge.now.node.0 < length nodes.now }
     requires ready { Ready K.words (numbered K.shape nodes.now) (length nodes.now) }
-    requires above { NoDeeper place.now context.old.in_progress }
+    requires above { NoDeeper (steps_to place.now) context.old.in_progress }
     requires wanted { ¬ (mode_of mode ≡ for_units) }
     ensures kept { IfOk result (λ _. context.new.in_progress ≡ context.old.in_progress) }
     ensures assumes { IfOk result (λ _. context.new.remembered.assumptions ≡ context.old.remembered.assumptions) }
     ensures says { IfOk result (λ r. EdgeReplies K.words K.is_whole (numbered K.shape nodes.now) (length nodes.now) (settling (M.matching matcher.now) context.old.remembered.assumptions)
-        (mode_of mode) path.now place.now (busy_at place.now context.old.in_progress) (subject_of instance.entry) (edge_of edge.now) r) }
+        (mode_of mode) (path_of path.now) (steps_to place.now) (busy_at (steps_to place.now) context.old.in_progress) (subject_of instance.entry) (edge_of edge.now) r) }
     ensures meets { IfOk result (λ _. EdgeMeets K.words K.is_whole (numbered K.shape nodes.now) (length nodes.now) (settling (M.matching matcher.now) context.old.remembered.assumptions)
-        (mode_of mode) path.now place.now (busy_at place.now context.old.in_progress) (subject_of instance.entry) context.old.remembered context.new.remembered (edge_of edge.now)) }
+        (mode_of mode) (path_of path.now) (steps_to place.now) (busy_at (steps_to place.now) context.old.in_progress) (subject_of instance.entry) context.old.remembered context.new.remembered (edge_of edge.now)) }
 {
-    let whole = path.append(&edge.path)?;
+    let whole = path.across(&edge.path);
     if !edge.guarded {
         return Ok(run_node(
             nodes, alloc, matcher, edge.node, instance, place, &whole, mode, context,
         )?);
     }
-    if context.enter(edge.node, place)? {
+    let here = place.made()?;
+    if context.enter(edge.node, &here)? {
         return Ok(accepted(alloc, mode));
     }
+    let place = EvaluationPlace::given(&here);
     let reply = run_node(
-        nodes, alloc, matcher, edge.node, instance, place, &whole, mode, context,
+        nodes, alloc, matcher, edge.node, instance, &place, &whole, mode, context,
     )?;
-    context.exit(edge.node, place);
+    context.exit(edge.node, &here);
     Ok(reply)
 }
 
@@ -453,8 +470,10 @@ impl<K: Validate> Nodes<K> {
         ensures borrows { IfOk result (λ r. (root : Data) → subject_at root place.now ≡ Some (subject_of instance.entry) → All (BorrowsItsPlace root) (errors_in r)) }
     {
         let _ = &self.nodes;
+        let place = EvaluationPlace::given(place);
+        let path = EvaluationPath::given(path);
         run_node(
-            self, alloc, matcher, node, instance, place, path, mode, context,
+            self, alloc, matcher, node, instance, &place, &path, mode, context,
         )
     }
 }

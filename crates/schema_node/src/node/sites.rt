@@ -6,11 +6,15 @@ ghost use Rattle.schema_reports.specs.Laws.{IsPresent};
 ghost use Rattle.schema_reports.specs.Pointer.{joined};
 ghost use Rattle.schema_reports.specs.Runs.{site_at};
 ghost use Rattle.schema_node.specs.KeywordViews.{point_of};
+ghost use Rattle.schema_node.specs.EvaluationPaths.{path_of};
+ghost use Rattle.schema_node.specs.EvaluationPlaces.{steps_to};
 ghost use Rattle.schema_node.specs.NodeRuns.{entry_where};
 ghost use Rattle.schema_node.specs.NodeViews.{node_of};
 
 use crate::context::keyword::MatchPoint;
 use crate::node::Node;
+use crate::node::evaluation_path::EvaluationPath;
+use crate::node::evaluation_place::EvaluationPlace;
 use schema_reports::instance::{Instance, InstanceStep, Place};
 use schema_reports::location::{Location, LocationSegment, OutOfMemory};
 use schema_reports::unfinished_matches::MatchSite;
@@ -36,13 +40,13 @@ fn own_step<'i>(instance: Instance<'i>, step: InstanceStep<'_>) -> (Instance<'i>
 // The place some steps below, which lie inside the instance.
 fn place_within<'i>(
     instance: Instance<'i>,
-    place: &Place<'i>,
+    place: &EvaluationPlace<'_, 'i>,
     steps: &[InstanceStep<'_>],
 ) -> Result<Place<'i>, OutOfMemory>
     requires present { IsPresent (subject_of instance) (map step_of steps.now) }
-    ensures below { IfOk result (λ p. p ≡ place.now ++ map step_of steps.now) }
+    ensures below { IfOk result (λ p. p ≡ steps_to place.now ++ map step_of steps.now) }
 {
-    let mut lower = place.copy()?;
+    let mut lower = place.made()?;
     let mut current = instance;
     for step in steps {
         let (inner, own) = own_step(current, *step);
@@ -73,12 +77,12 @@ pub fn match_site<'i, K>(
     node: &Node<K>,
     name: &String,
     instance: Instance<'i>,
-    place: &Place<'i>,
-    path: &Location,
+    place: &EvaluationPlace<'_, 'i>,
+    path: &EvaluationPath<'_>,
     point: MatchPoint<'_>,
 ) -> Result<MatchSite<'i>, OutOfMemory>
     requires present { IsPresent (subject_of instance) (map step_of point.spot.below.now) }
-    ensures site { IfOk result (λ s. s ≡ site_at (entry_where (node_of node.now) path.now place.now) (string_bytes name.now) (point_of point.entry)) }
+    ensures site { IfOk result (λ s. s ≡ site_at (entry_where (node_of node.now) (path_of path.now) (steps_to place.now)) (string_bytes name.now) (point_of point.entry)) }
 {
     let name = match point.spot.absorbed {
         Some(absorbed) => absorbed,
@@ -86,7 +90,7 @@ pub fn match_site<'i, K>(
     };
     let schema_path = path_from(alloc, &node.location, name, point.spot.path)?;
     let site = if point.located {
-        let evaluation_path = path_from(alloc, path, name, point.spot.path)?;
+        let evaluation_path = path_from(alloc, &path.made(alloc)?, name, point.spot.path)?;
         let place = place_within(instance, place, point.spot.below)?;
         MatchSite::located(schema_path, evaluation_path, place)
     } else {

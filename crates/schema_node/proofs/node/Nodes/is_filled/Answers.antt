@@ -1,4 +1,4 @@
-use Rattle.std.proofs.Common.{◌≡◌, sym, ◌∙◌, rules}
+use Rattle.std.proofs.Common.{sym, ◌∙◌}
 use Rattle.schema_node.proofs.FilledNumbers.{has_form, has_none}
 use Rattle.schema_node.proofs.node.Nodes.is_filled.Goals as goal
 

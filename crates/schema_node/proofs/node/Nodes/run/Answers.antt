@@ -26,25 +26,28 @@ returns-clause-replies g c =
     if_ok_mono c.run_node.result _ _ (λ r says root texts at_place tells once n enough.
     (says (reading w texts root n) (record { stands = at_place; tells = tells; matcher = refl; completes = completes_once as' once }) enough).same
     ∙ reply_is (g.K.Validate.words texts) w.matcher (numbered g.K.Validate.shape c.args.self.now) (subject_in root) as' (mode_of c.args.mode) c.requires.wanted n c.args.node.0 c.args.path.now c.args.place.now (busy_at c.args.place.now c.args.context.now.in_progress))
-    c.run_node.ensures.says
+    (rw (c.given-path.ensures.same, c.given-place.ensures.same) at c.run_node.ensures.says)
 
 pub returns-clause-meets : goal.returns-clause-meets
 returns-clause-meets g c =
     let as' = c.args.context.now.remembered.assumptions in
     if_ok_mono c.run_node.result _ _ (λ r meets root texts at_place tells once n enough.
     meets texts root n (record { stands = at_place; tells = tells; matcher = refl; completes = completes_once as' once }) enough)
-    c.run_node.ensures.meets
+    (rw (c.given-path.ensures.same, c.given-place.ensures.same) at c.run_node.ensures.meets)
 
 pub returns-clause-borrows : goal.returns-clause-borrows
 returns-clause-borrows g c =
     let ns = numbered g.K.Validate.shape c.args.self.now in
     let w = settling (g.M.Matcher.matching c.args.matcher.now) c.args.context.now.remembered.assumptions in
     let d = left ns (length c.args.self.now) c.args.node.0 (subject_of c.args.instance) (busy_at c.args.place.now c.args.context.now.in_progress) in
-    if_ok_mono c.run_node.result _ _ (λ r says root at_place. (says (silent w root (suc d)) (silent_reads g.K.Validate.is_whole ns (length c.args.self.now) w c.args.place.now (subject_of c.args.instance) root (suc d) at_place) (omega arith)).borrows) c.run_node.ensures.says
+    if_ok_mono c.run_node.result _ _ (λ r says root at_place. (says (silent w root (suc d)) (silent_reads g.K.Validate.is_whole ns (length c.args.self.now) w c.args.place.now (subject_of c.args.instance) root (suc d) at_place) (omega arith)).borrows) (rw (c.given-path.ensures.same, c.given-place.ensures.same) at c.run_node.ensures.says)
 
 pub returns-clause-speaks : goal.returns-clause-speaks
 returns-clause-speaks g c =
     let ns = numbered g.K.Validate.shape c.args.self.now in
     let w = settling (g.M.Matcher.matching c.args.matcher.now) c.args.context.now.remembered.assumptions in
     let d = left ns (length c.args.self.now) c.args.node.0 (subject_of c.args.instance) (busy_at c.args.place.now c.args.context.now.in_progress) in
-    if_ok_mono c.run_node.result _ _ (λ r says root at_place. (_, (says (silent w root (suc d)) (silent_reads g.K.Validate.is_whole ns (length c.args.self.now) w c.args.place.now (subject_of c.args.instance) root (suc d) at_place) (omega arith)).same)) c.run_node.ensures.says
+    if_ok_mono c.run_node.result _ _ (λ r says root at_place. (_, (says (silent w root (suc d)) (silent_reads g.K.Validate.is_whole ns (length c.args.self.now) w c.args.place.now (subject_of c.args.instance) root (suc d) at_place) (omega arith)).same)) (rw (c.given-path.ensures.same, c.given-place.ensures.same) at c.run_node.ensures.says)
+
+pub run_node-requires-clause-above : goal.run_node-requires-clause-above
+run_node-requires-clause-above g c = rw c.given-place.ensures.same c.requires.above

@@ -2,6 +2,8 @@ use Rattle.std.proofs.Common.{◌∙◌, ap, sym, string_bytes, [], arith, Some}
 use Rattle.schema_reports.specs.InstanceViews.{subject_of}
 use Rattle.schema_reports.specs.Keywords.{first_of_it}
 use Rattle.schema_reports.specs.ReportViews.{BorrowsItsPlace}
+use Rattle.schema_node.specs.EvaluationPlaces.{steps_to}
+use Rattle.schema_node.specs.EvaluationPaths.{path_of}
 use Rattle.schema_node.specs.FaultViews.{LiesInside, faults_in}
 use Rattle.schema_node.specs.NodeRuns.{entry_where}
 use Rattle.schema_node.specs.NodeViews.{node_of}
@@ -11,7 +13,7 @@ use Rattle.schema_node.proofs.node.faults.finished.Goals as goal
 
 pub returns-in-First-clause-reply : goal.returns-in-First-clause-reply
 returns-in-First-clause-reply g c = λ texts.
-    let w = entry_where (node_of c.args.node.now) c.args.path.now c.args.place.now in
+    let w = entry_where (node_of c.args.node.now) (path_of c.args.path.now) (steps_to c.args.place.now) in
     let first = sym c.in-Some.is ∙ c.first_fault.ensures.first in
     rw c.in-First.is (ap (λ e. first_of_it (Some e)) (c.in_ok-error-in-Some.ensures.error texts) ∙ ap first_of_it (sym (first_made texts w (string_bytes c.args.name.now) c.args.answer c.in-Some.fault first)))
 

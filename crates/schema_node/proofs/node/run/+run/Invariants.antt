@@ -9,6 +9,8 @@ use Rattle.schema_reports.specs.Meaning.{both}
 use Rattle.schema_reports.specs.Numbered.{left, subject_in}
 use Rattle.schema_reports.specs.Guarded.{node_at, same_edge}
 use Rattle.schema_reports.specs.Runs.{Met, keyword_met, plan_met}
+use Rattle.schema_node.specs.EvaluationPlaces.{steps_to}
+use Rattle.schema_node.specs.EvaluationPaths.{path_of}
 use Rattle.schema_node.specs.FaultViews.{errors_in, faults_in, PassesBorrowed}
 use Rattle.schema_node.specs.KeywordViews.{answer_of, mode_of, reply_of}
 use Rattle.schema_node.specs.NodeTable.{numbered, shaped_part}
@@ -22,50 +24,50 @@ use Rattle.schema_node.specs.Turning.{OnItsWay, StaysUnmarked}
 use Rattle.schema_node.proofs.node.run.+run.Given as goal
 
 abbrev pub decreases-run_child : goal.decreases-run_child
-decreases-run_child g l = 8 * left (numbered g.K.Validate.shape l.nodes.now) (length l.nodes.now) l.node.0 (subject_of l.instance) (busy_at l.place.now l.context.now.in_progress) + 1
+decreases-run_child g l = 8 * left (numbered g.K.Validate.shape l.nodes.now) (length l.nodes.now) l.node.0 (subject_of l.instance) (busy_at (steps_to l.place.now) l.context.now.in_progress) + 1
 
 abbrev pub decreases-run_edge : goal.decreases-run_edge
-decreases-run_edge g l = 8 * edge_needs (numbered g.K.Validate.shape l.nodes.now) (length l.nodes.now) (edge_of l.edge.now) (subject_of l.instance) (busy_at l.place.now l.context.now.in_progress)
+decreases-run_edge g l = 8 * edge_needs (numbered g.K.Validate.shape l.nodes.now) (length l.nodes.now) (edge_of l.edge.now) (subject_of l.instance) (busy_at (steps_to l.place.now) l.context.now.in_progress)
 
 abbrev pub decreases-run_entries : goal.decreases-run_entries
-decreases-run_entries g l = 8 * left (numbered g.K.Validate.shape l.nodes.now) (length l.nodes.now) l.node.0 (subject_of l.instance) (busy_at l.place.now l.context.now.in_progress) + 5
+decreases-run_entries g l = 8 * left (numbered g.K.Validate.shape l.nodes.now) (length l.nodes.now) l.node.0 (subject_of l.instance) (busy_at (steps_to l.place.now) l.context.now.in_progress) + 5
 
 abbrev pub decreases-run_entry : goal.decreases-run_entry
-decreases-run_entry g l = 8 * left (numbered g.K.Validate.shape l.nodes.now) (length l.nodes.now) l.node.0 (subject_of l.instance) (busy_at l.place.now l.context.now.in_progress) + 4
+decreases-run_entry g l = 8 * left (numbered g.K.Validate.shape l.nodes.now) (length l.nodes.now) l.node.0 (subject_of l.instance) (busy_at (steps_to l.place.now) l.context.now.in_progress) + 4
 
 abbrev pub decreases-run_form : goal.decreases-run_form
-decreases-run_form g l = 8 * left (numbered g.K.Validate.shape l.nodes.now) (length l.nodes.now) l.node.0 (subject_of l.instance) (busy_at l.place.now l.context.now.in_progress) + 3
+decreases-run_form g l = 8 * left (numbered g.K.Validate.shape l.nodes.now) (length l.nodes.now) l.node.0 (subject_of l.instance) (busy_at (steps_to l.place.now) l.context.now.in_progress) + 3
 
 abbrev pub decreases-run_keyword : goal.decreases-run_keyword
-decreases-run_keyword g l = 8 * left (numbered g.K.Validate.shape l.nodes.now) (length l.nodes.now) l.node.0 (subject_of l.instance) (busy_at l.place.now l.context.now.in_progress) + 2
+decreases-run_keyword g l = 8 * left (numbered g.K.Validate.shape l.nodes.now) (length l.nodes.now) l.node.0 (subject_of l.instance) (busy_at (steps_to l.place.now) l.context.now.in_progress) + 2
 
 abbrev pub decreases-run_node : goal.decreases-run_node
-decreases-run_node g l = 8 * left (numbered g.K.Validate.shape l.nodes.now) (length l.nodes.now) l.node.0 (subject_of l.instance) (busy_at l.place.now l.context.now.in_progress) + 6
+decreases-run_node g l = 8 * left (numbered g.K.Validate.shape l.nodes.now) (length l.nodes.now) l.node.0 (subject_of l.instance) (busy_at (steps_to l.place.now) l.context.now.in_progress) + 6
 
 abbrev pub invariant-run_entries-loop-entry : goal.invariant-run_entries-loop-entry
 invariant-run_entries-loop-entry g l =
     let ns = numbered g.K.Validate.shape l.nodes in
-    let busy = busy_at l.place l.initial.context.in_progress in
+    let busy = busy_at (steps_to l.place) l.initial.context.in_progress in
     let s = subject_of l.instance in
     let w = settling (g.M.Matcher.matching l.matcher) l.initial.context.remembered.assumptions in
     record {
       kept : l.context.in_progress ≡ l.initial.context.in_progress;
       assumes : l.context.remembered.assumptions ≡ l.initial.context.remembered.assumptions;
-      so_far : (x : Reading) → Reads g.K.Validate.is_whole ns (length l.nodes) w l.place s x → left ns (length l.nodes) l.node.0 s busy ≤ x.depth
+      so_far : (x : Reading) → Reads g.K.Validate.is_whole ns (length l.nodes) w (steps_to l.place) s x → left ns (length l.nodes) l.node.0 s busy ≤ x.depth
           → (o : Outcome) × Replies x (mode_of l.mode) l.found o
-          × (both o (parts_say g.K.Validate.words ns x l.node.0 l.path l.place busy (map (shaped_part g.K.Validate.shape) (map entry_of (drop l.entry-index l.entries))))
-          ≡ parts_say g.K.Validate.words ns x l.node.0 l.path l.place busy (map (shaped_part g.K.Validate.shape) (map entry_of l.entries)));
+          × (both o (parts_say g.K.Validate.words ns x l.node.0 (path_of l.path) (steps_to l.place) busy (map (shaped_part g.K.Validate.shape) (map entry_of (drop l.entry-index l.entries))))
+          ≡ parts_say g.K.Validate.words ns x l.node.0 (path_of l.path) (steps_to l.place) busy (map (shaped_part g.K.Validate.shape) (map entry_of l.entries)));
       unsettled : (texts : Bool) → refuses (reply_of texts l.found) ≡ false;
-      met : (texts : Bool) (root : Data) (depth : ℕ) → Reads g.K.Validate.is_whole ns (length l.nodes) w l.place s (reading w texts root depth) → left ns (length l.nodes) l.node.0 s busy ≤ depth
+      met : (texts : Bool) (root : Data) (depth : ℕ) → Reads g.K.Validate.is_whole ns (length l.nodes) w (steps_to l.place) s (reading w texts root depth) → left ns (length l.nodes) l.node.0 s busy ≤ depth
           → (before : List Met) × MeetsEach w.matcher l.initial.context.remembered before l.context.remembered
-          × (before ++ plan_met (mode_of l.mode) (parts_looked g.K.Validate.words ns w texts root depth l.node.0 l.path l.place busy (map (shaped_part g.K.Validate.shape) (map entry_of (drop l.entry-index l.entries))))
-          ≡ plan_met (mode_of l.mode) (parts_looked g.K.Validate.words ns w texts root depth l.node.0 l.path l.place busy (map (shaped_part g.K.Validate.shape) (map entry_of l.entries))));
+          × (before ++ plan_met (mode_of l.mode) (parts_looked g.K.Validate.words ns w texts root depth l.node.0 (path_of l.path) (steps_to l.place) busy (map (shaped_part g.K.Validate.shape) (map entry_of (drop l.entry-index l.entries))))
+          ≡ plan_met (mode_of l.mode) (parts_looked g.K.Validate.words ns w texts root depth l.node.0 (path_of l.path) (steps_to l.place) busy (map (shaped_part g.K.Validate.shape) (map entry_of l.entries))));
     }
 
 abbrev pub invariant-run_keyword-turns : goal.invariant-run_keyword-turns
 invariant-run_keyword-turns g l =
     let ns = numbered g.K.Validate.shape l.nodes in
-    let busy = busy_at l.place l.initial.context.in_progress in
+    let busy = busy_at (steps_to l.place) l.initial.context.in_progress in
     let s = subject_of l.instance in
     let m = g.K.Validate.shape l.keyword in
     let w = settling (g.M.Matcher.matching l.matcher) l.initial.context.remembered.assumptions in
@@ -74,13 +76,13 @@ invariant-run_keyword-turns g l =
       kept : l.context.in_progress ≡ l.initial.context.in_progress;
       assumes : l.context.remembered.assumptions ≡ l.initial.context.remembered.assumptions;
       unmarked : StaysUnmarked (g.K.Validate.words false) m s (g.K.Validate.remaining m s) (l.run, answer_of false l.answer) (reply_of false l.reply);
-      borrows : (root : Data) → subject_at root l.place ≡ Some (subject_of l.instance) → All (BorrowsItsPlace root) (errors_in l.reply) × All (PassesBorrowed root) (faults_in l.answer);
-      leads : (x : Reading) → Reads g.K.Validate.is_whole ns (length l.nodes) w l.place s x → left ns (length l.nodes) l.node.0 s busy ≤ x.depth
+      borrows : (root : Data) → subject_at root (steps_to l.place) ≡ Some (subject_of l.instance) → All (BorrowsItsPlace root) (errors_in l.reply) × All (PassesBorrowed root) (faults_in l.answer);
+      leads : (x : Reading) → Reads g.K.Validate.is_whole ns (length l.nodes) w (steps_to l.place) s x → left ns (length l.nodes) l.node.0 s busy ≤ x.depth
           → OnItsWay (g.K.Validate.words x.texts) m (g.K.Validate.ends x.texts m) (g.K.Validate.fits x.texts m) s x (mode_of l.fn.mode)
-          (child_says g.K.Validate.words ns x l.path l.place busy (map (option_map edge_of) l.children)) (l.run, answer_of x.texts l.answer) (reply_of x.texts l.reply);
-      met : (texts : Bool) (root : Data) (depth : ℕ) → Reads g.K.Validate.is_whole ns (length l.nodes) w l.place s (reading w texts root depth) → left ns (length l.nodes) l.node.0 s busy ≤ depth
-          → MeetsSoFar (g.K.Validate.words texts) w.matcher w.assumptions (node_at (g.K.Validate.words texts) w.matcher ns (subject_in root) l.node.0 l.path l.place) s (child_run g.K.Validate.words ns w texts root depth l.path l.place busy es) (same_edge es) (string_bytes l.name) m (g.K.Validate.remaining m s) l.initial.context.remembered
-          (keyword_met (g.K.Validate.words texts) w.matcher w.assumptions (node_at (g.K.Validate.words texts) w.matcher ns (subject_in root) l.node.0 l.path l.place) s (child_run g.K.Validate.words ns w texts root depth l.path l.place busy es) (same_edge es) (string_bytes l.name) m (mode_of l.fn.mode))
+          (child_says g.K.Validate.words ns x (path_of l.path) (steps_to l.place) busy (map (option_map edge_of) l.children)) (l.run, answer_of x.texts l.answer) (reply_of x.texts l.reply);
+      met : (texts : Bool) (root : Data) (depth : ℕ) → Reads g.K.Validate.is_whole ns (length l.nodes) w (steps_to l.place) s (reading w texts root depth) → left ns (length l.nodes) l.node.0 s busy ≤ depth
+          → MeetsSoFar (g.K.Validate.words texts) w.matcher w.assumptions (node_at (g.K.Validate.words texts) w.matcher ns (subject_in root) l.node.0 (path_of l.path) (steps_to l.place)) s (child_run g.K.Validate.words ns w texts root depth (path_of l.path) (steps_to l.place) busy es) (same_edge es) (string_bytes l.name) m (g.K.Validate.remaining m s) l.initial.context.remembered
+          (keyword_met (g.K.Validate.words texts) w.matcher w.assumptions (node_at (g.K.Validate.words texts) w.matcher ns (subject_in root) l.node.0 (path_of l.path) (steps_to l.place)) s (child_run g.K.Validate.words ns w texts root depth (path_of l.path) (steps_to l.place) busy es) (same_edge es) (string_bytes l.name) m (mode_of l.fn.mode))
           l.context.remembered (l.run, answer_of texts l.answer) (reply_of texts l.reply);
     }
 

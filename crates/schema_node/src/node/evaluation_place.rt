@@ -1,0 +1,66 @@
+//! The place at which a node is asked, which takes no memory where a verdict alone is wanted.
+ghost use Rattle.std.specs.Prelude.{◌≡◌, ◌++◌, ◌∷◌, [], IfOk};
+ghost use Rattle.schema_reports.specs.InstanceViews.{step_of};
+ghost use Rattle.schema_node.specs.EvaluationPlaces.{steps_to};
+
+use crate::context::keyword::Mode;
+use schema_reports::instance::{InstanceStep, Place};
+use schema_reports::location::OutOfMemory;
+
+/// A place that was given, one that was made, or the place above a step and the step.
+#[derive(Drop)]
+pub enum EvaluationPlace<'p, 'i> {
+    Given(&'p Place<'i>),
+    Made(Place<'i>),
+    Below(&'p EvaluationPlace<'p, 'i>, InstanceStep<'i>),
+}
+
+impl<'p, 'i> EvaluationPlace<'p, 'i> {
+    /// The place that is given.
+    pub fn given(place: &'p Place<'i>) -> EvaluationPlace<'p, 'i>
+        ensures same { steps_to result ≡ place.now }
+    {
+        EvaluationPlace::Given(place)
+    }
+
+    /// The place one step below. Where a verdict is wanted, it takes no memory.
+    pub fn below(
+        &'p self,
+        step: InstanceStep<'i>,
+        mode: Mode,
+    ) -> Result<EvaluationPlace<'p, 'i>, OutOfMemory>
+        ensures below { IfOk result (λ p. steps_to p ≡ steps_to self.now ++ step_of step.entry ∷ []) }
+    {
+        match mode {
+            Mode::Verdict => Ok(EvaluationPlace::Below(self, step)),
+            Mode::First => Ok(EvaluationPlace::Made(self.made_below(step)?)),
+            Mode::All => Ok(EvaluationPlace::Made(self.made_below(step)?)),
+            Mode::Evaluate => Ok(EvaluationPlace::Made(self.made_below(step)?)),
+        }
+    }
+
+    // The place one step below, in memory of its own.
+    fn made_below(&self, step: InstanceStep<'i>) -> Result<Place<'i>, OutOfMemory>
+        ensures below { IfOk result (λ p. p ≡ steps_to self.now ++ step_of step.entry ∷ []) }
+    {
+        match self {
+            EvaluationPlace::Given(place) => Ok(place.below(step)?),
+            EvaluationPlace::Made(place) => Ok(place.below(step)?),
+            EvaluationPlace::Below(above, last) => {
+                let here = above.made_below(*last)?;
+                Ok(here.below(step)?)
+            }
+        }
+    }
+
+    /// The place in memory of its own.
+    pub fn made(&self) -> Result<Place<'i>, OutOfMemory>
+        ensures same { IfOk result (λ p. p ≡ steps_to self.now) }
+    {
+        match self {
+            EvaluationPlace::Given(place) => Ok(place.copy()?),
+            EvaluationPlace::Made(place) => Ok(place.copy()?),
+            EvaluationPlace::Below(above, last) => Ok(above.made_below(*last)?),
+        }
+    }
+}
