@@ -1,16 +1,18 @@
 -- What a key asks for, by what stands at its place.
-use Rattle.std.proofs.Common.{◌≡◌, ℕ, Bool, true, false, List, [], ◌∷◌, refl, ap, sym, ◌∙◌, subst}
-use Rattle.std.specs.Prelude.{Option, Some, None, unwrap_or}
+use Rattle.std.proofs.Common.{◌≡◌, ℕ, Bool, true, false, List, [], ◌∷◌, refl, ap, sym, subst}
+use Rattle.std.specs.Prelude.{Option, Some, None}
 use Rattle.serde_json.specs.Data.{Data, Members, array, boolean, null, number, object, string}
 use Rattle.schema_reports.specs.Parts.{Parts}
-use Rattle.schema_reports.specs.Plan.{Edge, Key, plan, plan_of, schema_of}
+use Rattle.schema_reports.specs.Plan.{Edge, Key, Plan, plan, plan_of, schema_of}
 use Rattle.schema_reports.specs.Reach.{asked_edges}
-use Rattle.schema_reports.specs.Refusals.{causes, not_a_schema, schema_causes}
+use Rattle.schema_reports.specs.Refusals.{Cause, causes, not_a_schema, schema_causes}
+use Rattle.schema_reports.specs.Units.{annotations_of, object_annotations}
 use Rattle.schema_reports.specs.Guarded.{NodePlan}
 use Rattle.schema_node.specs.NodeTable.{NodeEntry}
 use Rattle.schema_compiler.specs.Compiling.{object_edges}
 use Rattle.schema_compiler.specs.Refusing.{Names, Refused}
-use Rattle.schema_compiler.specs.Filling.{IsPlan, IsStep, IsTable, boolean_plan}
+use Rattle.schema_compiler.specs.Filling.{IsPlan, IsTable, boolean_plan}
+use Rattle.schema_compiler.specs.Steps.{MakesPlan}
 use Rattle.schema_compiler.specs.declared.compiler.error.BuildError.{BuildError}
 use Rattle.schema_compiler.proofs.Growing.{names_refused, step_none}
 use Rattle.schema_compiler.proofs.Lists.{some_is}
@@ -20,19 +22,13 @@ module _ {S K R : Type 0} (w : Parts S K R) (k : Key S) where
   abbrev edges_at : Data → List (Edge S)
   edges_at d = elim d [ object ms ↦ object_edges w k ms | _ ↦ [] ]
 
-  pub schema_is : (d e : Data) → Some d ≡ w.resolver.value k.target.place → d ≡ e → schema_of w k ≡ e
-  schema_is d e h is = ap (λ (o : Option Data). unwrap_or o null) (sym h) ∙ is
+  abbrev annotations_at : Data → Option Data
+  annotations_at d = elim d [ object ms ↦ object_annotations w k ms | _ ↦ None ]
 
-  module _ (limit : ℕ) (ms : Members) (h : schema_of w k ≡ object ms) where
-    pub object_refused : (keys : List (Key S)) (e : BuildError) → Refused w limit (object_edges w k ms) (schema_causes w k (object ms)) keys e → Refused w limit (asked_edges w k) (causes w k) keys e
-    object_refused keys e r = subst (λ d. Refused w limit (edges_at d) (schema_causes w k d) keys e) (sym h) r
-
-    pub object_step : {C : Type 0} (shape : C → K) (keys keys' : List (Key S)) (nodes nodes' : List (NodeEntry C)) → IsStep w shape limit (object_edges w k ms) (schema_causes w k (object ms)) keys keys' nodes nodes'
-        → IsStep w shape limit (asked_edges w k) (causes w k) keys keys' nodes nodes'
-    object_step shape keys keys' nodes nodes' s = subst (λ d. IsStep w shape limit (edges_at d) (schema_causes w k d) keys keys' nodes nodes') (sym h) s
-
-    pub object_plan : {C : Type 0} (shape : C → K) (keys : List (Key S)) (nodes : List (NodeEntry C)) (p : NodePlan C) → IsPlan w keys shape nodes k p (plan_of w k (object ms)) → IsPlan w keys shape nodes k p (plan w k)
-    object_plan shape keys nodes p s = subst (λ d. IsPlan w keys shape nodes k p (plan_of w k d)) (sym h) s
+  -- P of what an object asks for, of its causes, its plan and its annotations
+  pub object_stands : (P : List (Edge S) → List Cause → Plan K → Option Data → Type 0) (ms : Members) → schema_of w k ≡ object ms → P (object_edges w k ms) (schema_causes w k (object ms)) (plan_of w k (object ms)) (object_annotations w k ms)
+      → P (asked_edges w k) (causes w k) (plan w k) (annotations_of w k)
+  object_stands P ms h x = subst (λ d. P (edges_at d) (schema_causes w k d) (plan_of w k d) (annotations_at d)) (sym h) x
 
   -- a value that is no object
   bool_is : (d : Data) (b : Bool) → as_bool d ≡ Some b → d ≡ boolean b
@@ -51,16 +47,15 @@ module _ {S K R : Type 0} (w : Parts S K R) (k : Key S) where
   object_is (string t) ms h = cc
   object_is (array ds) ms h = cc
 
-  pub boolean_step : {C : Type 0} (shape : C → K) (limit : ℕ) (d : Data) (b : Bool) (keys : List (Key S)) (nodes : List (NodeEntry C)) → schema_of w k ≡ d → as_bool d ≡ Some b → IsTable w shape limit keys nodes
-      → IsStep w shape limit (asked_edges w k) (causes w k) keys keys nodes nodes
-  boolean_step shape limit d b keys nodes h is t = subst (λ e. IsStep w shape limit (edges_at e) (schema_causes w k e) keys keys nodes nodes) (sym (h ∙ bool_is d b is)) (step_none w shape limit keys nodes t)
-
   one_plan : {C : Type 0} (shape : C → K) (keys : List (Key S)) (nodes : List (NodeEntry C)) (b : Bool) → IsPlan w keys shape nodes k (boolean_plan b) (plan_of w k (boolean b))
   one_plan shape keys nodes true = tt
   one_plan shape keys nodes false = tt
 
-  pub boolean_planned : {C : Type 0} (shape : C → K) (d : Data) (b : Bool) (keys : List (Key S)) (nodes : List (NodeEntry C)) (p : NodePlan C) → schema_of w k ≡ d → as_bool d ≡ Some b → p ≡ boolean_plan b → IsPlan w keys shape nodes k p (plan w k)
-  boolean_planned shape d b keys nodes p h is e = rw e (subst (λ x. IsPlan w keys shape nodes k (boolean_plan b) (plan_of w k x)) (sym (h ∙ bool_is d b is)) (one_plan shape keys nodes b))
+  pub boolean_made : {C : Type 0} (shape : C → K) (limit : ℕ) (b : Bool) (p : NodePlan C) (keys : List (Key S)) (nodes : List (NodeEntry C)) → as_bool (schema_of w k) ≡ Some b → p ≡ boolean_plan b → IsTable w shape limit keys nodes
+      → MakesPlan w shape limit keys keys nodes nodes (asked_edges w k) (causes w k) k p (plan w k) None (annotations_of w k)
+  boolean_made shape limit b p keys nodes is e t =
+      subst (λ d. MakesPlan w shape limit keys keys nodes nodes (edges_at d) (schema_causes w k d) k p (plan_of w k d) None (annotations_at d)) (sym (bool_is (schema_of w k) b is))
+      (record { step = step_none w shape limit keys nodes t; plan = subst (λ x. IsPlan w keys shape nodes k x (plan_of w k (boolean b))) (sym e) (one_plan shape keys nodes b); annotated = refl })
 
   no_schema : (d : Data) → ◌≡◌ {A = Option Members} None (as_object d) → as_bool d ≡ None → schema_causes w k d ≡ not_a_schema k.location ∷ []
   no_schema null h i = refl
@@ -70,5 +65,5 @@ module _ {S K R : Type 0} (w : Parts S K R) (k : Key S) where
   no_schema (boolean b) h i = cc
   no_schema (object ms) h i = cc
 
-  pub other_refused : (limit : ℕ) (d : Data) (keys : List (Key S)) (e : BuildError) → schema_of w k ≡ d → ◌≡◌ {A = Option Members} None (as_object d) → as_bool d ≡ None → Names (not_a_schema k.location ∷ []) e → Refused w limit (asked_edges w k) (causes w k) keys e
-  other_refused limit d keys e h i j n = names_refused w limit (asked_edges w k) (causes w k) keys e (subst (λ cs. Names cs e) (sym (ap (schema_causes w k) h ∙ no_schema d i j)) n)
+  pub other_refused : (limit : ℕ) (keys : List (Key S)) (e : BuildError) → ◌≡◌ {A = Option Members} None (as_object (schema_of w k)) → as_bool (schema_of w k) ≡ None → Names (not_a_schema k.location ∷ []) e → Refused w limit (asked_edges w k) (causes w k) keys e
+  other_refused limit keys e i j n = names_refused w limit (asked_edges w k) (causes w k) keys e (subst (λ cs. Names cs e) (sym (no_schema (schema_of w k) i j)) n)

@@ -1,78 +1,146 @@
 -- What one member asks for, by what it is: the table's own, a reference, or another built-in keyword.
-use Rattle.std.proofs.Common.{◌≡◌, ℕ, Bool, true, false, List, [], sym, subst}
-use Rattle.std.specs.Prelude.{Option, Some, None, codes}
-use Rattle.serde_json.specs.Data.{Data, Members, object, string}
+use Rattle.std.proofs.Common.{◌≡◌, ℕ, Bool, true, false, List, [], ◌∷◌, cond, refl, sym, subst, ap}
+use Rattle.std.specs.Prelude.{Option, Some, None, codes, option_map}
+use Rattle.serde_json.specs.Data.{Data, Members, array, boolean, null, number, object, string}
+use Rattle.serde_json.specs.Find.{as_str}
 use Rattle.schema_reports.specs.Instance.{Text}
 use Rattle.schema_reports.specs.Making.{Builtin}
 use Rattle.schema_reports.specs.Parts.{Parts}
-use Rattle.schema_reports.specs.Plan.{Edge, Key, Reference, found, making, reference_named, to_ref}
+use Rattle.schema_reports.specs.Pointer.{joined}
+use Rattle.schema_reports.specs.Plan.{Edge, Key, Part, Plan, Reference, found, making, part, part_made, builtin_part, parts, plan_alone, plan_of, reference, reference_edge, reference_named, reference_part, sorted, these, to_ref}
 use Rattle.schema_reports.specs.Reach.{builtin_edges, lone_ref, maker_edges, members_edges, reference_edges}
-use Rattle.schema_reports.specs.Refusals.{Cause, builtin_causes, lookup_causes, maker_causes, members_causes, reference_causes, schema_causes}
+use Rattle.schema_reports.specs.Refusals.{Cause, builtin_causes, lookup_causes, maker_causes, members_causes, reference_causes, reference_not_text, schema_causes}
+use Rattle.schema_reports.specs.Units.{object_annotations, object_of, unknown}
+use Rattle.schema_reports.specs.Guarded.{NodeEdge, NodePart, NodePlan, node_reference}
+use Rattle.serde_json.specs.View.{view}
+use Rattle.serde_json.specs.declared.value.Value.{Value}
 use Rattle.schema_node.specs.NodeTable.{NodeEntry}
 use Rattle.schema_compiler.specs.Compiling.{member_causes, member_edges, object_edges, option_one, reference_asked}
-use Rattle.schema_compiler.specs.Refusing.{Refused}
-use Rattle.schema_compiler.specs.Filling.{IsStep, IsTable}
+use Rattle.schema_compiler.specs.Refusing.{Names, Refused}
+use Rattle.schema_compiler.specs.Filling.{IsMadePart, IsPlan, LeadsTo}
+use Rattle.schema_compiler.specs.Steps.{IsAnswered, MakesPart, MakesPlan, alone}
 use Rattle.schema_compiler.specs.declared.compiler.error.BuildError.{BuildError}
-use Rattle.schema_compiler.proofs.Growing.{step_none}
-use Rattle.schema_compiler.proofs.References.{reference_edges_of}
+use Rattle.schema_compiler.proofs.Growing.{names_refused}
+use Rattle.schema_compiler.proofs.References.{asked_not_self, leads_none, leads_some, reference_edges_of, skipped_self}
 
-module _ {S K R : Type 0} (w : Parts S K R) (k : Key S) (limit : ℕ) (keys : List (Key S)) (e : BuildError) where
-  module _ (whole : Members) (name : Text) (value : Data) where
-    abbrev edges_as : Option Reference → List (Edge S)
-    edges_as r = elim r [ Some kind ↦ reference_edges w k name kind value | None ↦ maker_edges w k name (making w k whole false name) ]
+module _ {S K R : Type 0} (w : Parts S K R) (k : Key S) where
+  -- ---- a member: P of its edges, its causes and its part
 
-    abbrev causes_as : Option Reference → List Cause
-    causes_as r = elim r [ Some kind ↦ reference_causes w k name kind value | None ↦ maker_causes w k (making w k whole false name) ]
+  module _ (whole : Members) (name : Text) (value : Data) (P : List (Edge S) → List Cause → Option (Part K) → Type 0) where
+    abbrev part_by_name : Builtin → Option Reference → Type 0
+    part_by_name b r = P (elim r [ Some kind ↦ reference_edges w k name kind value | None ↦ maker_edges w k name (making w k whole false name) ])
+        (elim r [ Some kind ↦ reference_causes w k name kind value | None ↦ maker_causes w k (making w k whole false name) ])
+        (elim r [ Some kind ↦ reference_part w k name b.priority kind value | None ↦ part_made w name b.priority b.is_leaf (making w k whole false name) ])
 
-    abbrev edges_by : Option Builtin → List (Edge S)
-    edges_by o = elim o [ None ↦ [] | Some b ↦ edges_as (reference_named name) ]
+    abbrev part_by_row : Option Builtin → Type 0
+    part_by_row o = P (elim o [ None ↦ [] | Some b ↦ elim (reference_named name) [ Some kind ↦ reference_edges w k name kind value | None ↦ maker_edges w k name (making w k whole false name) ] ])
+        (elim o [ None ↦ [] | Some b ↦ elim (reference_named name) [ Some kind ↦ reference_causes w k name kind value | None ↦ maker_causes w k (making w k whole false name) ] ])
+        (elim o [ None ↦ None | Some b ↦ elim (reference_named name) [ Some kind ↦ reference_part w k name b.priority kind value | None ↦ part_made w name b.priority b.is_leaf (making w k whole false name) ] ])
 
-    abbrev causes_by : Option Builtin → List Cause
-    causes_by o = elim o [ None ↦ [] | Some b ↦ causes_as (reference_named name) ]
+    abbrev part_by_owner : Bool → Type 0
+    part_by_owner owned = P (elim owned [ true ↦ maker_edges w k name (making w k whole true name) | false ↦ builtin_edges w k whole name value ])
+        (elim owned [ true ↦ maker_causes w k (making w k whole true name) | false ↦ builtin_causes w k whole name value ])
+        (elim owned [ true ↦ part_made w name 80 false (making w k whole true name) | false ↦ builtin_part w k whole name value ])
 
-    abbrev edges_if : Bool → List (Edge S)
-    edges_if b = elim b [ true ↦ maker_edges w k name (making w k whole true name) | false ↦ builtin_edges w k whole name value ]
+    pub own_is : w.table.owns name ≡ true → P (maker_edges w k name (making w k whole true name)) (maker_causes w k (making w k whole true name)) (part_made w name 80 false (making w k whole true name))
+        → P (member_edges w k whole name value) (member_causes w k whole name value) (part w k whole name value)
+    own_is h x = subst part_by_owner (sym h) x
 
-    abbrev causes_if : Bool → List Cause
-    causes_if b = elim b [ true ↦ maker_causes w k (making w k whole true name) | false ↦ builtin_causes w k whole name value ]
+    pub no_member : w.table.owns name ≡ false → None ≡ w.table.builtin k.target.draft k.target.vocabularies name → P [] [] None
+        → P (member_edges w k whole name value) (member_causes w k whole name value) (part w k whole name value)
+    no_member h o x = subst part_by_owner (sym h) (subst part_by_row o x)
 
-    pub own_refused : w.table.owns name ≡ true → Refused w limit (maker_edges w k name (making w k whole true name)) (maker_causes w k (making w k whole true name)) keys e
-        → Refused w limit (member_edges w k whole name value) (member_causes w k whole name value) keys e
-    own_refused h r = subst (λ b. Refused w limit (edges_if b) (causes_if b) keys e) (sym h) r
+    by_name : (b : Builtin) (r : Option Reference) → w.table.owns name ≡ false → Some b ≡ w.table.builtin k.target.draft k.target.vocabularies name → r ≡ reference_named name → part_by_name b r
+        → P (member_edges w k whole name value) (member_causes w k whole name value) (part w k whole name value)
+    by_name b r h o q x = subst part_by_owner (sym h) (subst part_by_row o (subst (part_by_name b) q x))
 
-    by_refused : (b : Builtin) (r : Option Reference) → w.table.owns name ≡ false → Some b ≡ w.table.builtin k.target.draft k.target.vocabularies name → r ≡ reference_named name
-        → Refused w limit (edges_as r) (causes_as r) keys e → Refused w limit (member_edges w k whole name value) (member_causes w k whole name value) keys e
-    by_refused b r h o q x = subst (λ t. Refused w limit (edges_if t) (causes_if t) keys e) (sym h)
-        (subst (λ t. Refused w limit (edges_by t) (causes_by t) keys e) o (subst (λ t. Refused w limit (edges_as t) (causes_as t) keys e) q x))
+    pub reference_is : (b : Builtin) (kind : Reference) → w.table.owns name ≡ false → Some b ≡ w.table.builtin k.target.draft k.target.vocabularies name → Some kind ≡ reference_named name
+        → P (reference_edges w k name kind value) (reference_causes w k name kind value) (reference_part w k name b.priority kind value)
+        → P (member_edges w k whole name value) (member_causes w k whole name value) (part w k whole name value)
+    reference_is b kind h o q x = by_name b (Some kind) h o q x
 
-    pub reference_refused : (b : Builtin) (kind : Reference) → w.table.owns name ≡ false → Some b ≡ w.table.builtin k.target.draft k.target.vocabularies name → Some kind ≡ reference_named name
-        → Refused w limit (reference_edges w k name kind value) (reference_causes w k name kind value) keys e → Refused w limit (member_edges w k whole name value) (member_causes w k whole name value) keys e
-    reference_refused b kind h o q x = by_refused b (Some kind) h o q x
+    pub built_is : (b : Builtin) → w.table.owns name ≡ false → Some b ≡ w.table.builtin k.target.draft k.target.vocabularies name → None ≡ reference_named name
+        → P (maker_edges w k name (making w k whole false name)) (maker_causes w k (making w k whole false name)) (part_made w name b.priority b.is_leaf (making w k whole false name))
+        → P (member_edges w k whole name value) (member_causes w k whole name value) (part w k whole name value)
+    built_is b h o q x = by_name b None h o q x
 
-    pub built_refused : (b : Builtin) → w.table.owns name ≡ false → Some b ≡ w.table.builtin k.target.draft k.target.vocabularies name → None ≡ reference_named name
-        → Refused w limit (maker_edges w k name (making w k whole false name)) (maker_causes w k (making w k whole false name)) keys e → Refused w limit (member_edges w k whole name value) (member_causes w k whole name value) keys e
-    built_refused b h o q x = by_refused b None h o q x
+  -- ---- an object: P of its edges, its causes, its plan and its annotations
 
-    pub no_member : {C : Type 0} (shape : C → K) (nodes : List (NodeEntry C)) → w.table.owns name ≡ false → None ≡ w.table.builtin k.target.draft k.target.vocabularies name → IsTable w shape limit keys nodes
-        → IsStep w shape limit (member_edges w k whole name value) (member_causes w k whole name value) keys keys nodes nodes
-    no_member shape nodes h o t = subst (λ b. IsStep w shape limit (edges_if b) (causes_if b) keys keys nodes nodes) (sym h)
-        (subst (λ b. IsStep w shape limit (edges_by b) (causes_by b) keys keys nodes nodes) o (step_none w shape limit keys nodes t))
+  module _ (ms : Members) (P : List (Edge S) → List Cause → Plan K → Option Data → Type 0) where
+    abbrev object_by : Option Data → Type 0
+    object_by o = P (elim o [ Some value ↦ reference_edges w k (codes "$ref") to_ref value | None ↦ members_edges w k ms ms ])
+        (elim o [ Some value ↦ reference_causes w k (codes "$ref") to_ref value | None ↦ members_causes w k ms ms ])
+        (elim o [ Some value ↦ plan_alone w (reference_part w k (codes "$ref") 70 to_ref value) | None ↦ these (sorted (parts w k ms ms)) ])
+        (elim o [ Some value ↦ None | None ↦ object_of (unknown w k ms ms) ])
 
-  abbrev edges_alone : Members → Option Data → List (Edge S)
-  edges_alone ms o = elim o [ Some value ↦ reference_edges w k (codes "$ref") to_ref value | None ↦ members_edges w k ms ms ]
+    pub lone_is : (d : Data) → Some d ≡ lone_ref w k ms
+        → P (reference_edges w k (codes "$ref") to_ref d) (reference_causes w k (codes "$ref") to_ref d) (plan_alone w (reference_part w k (codes "$ref") 70 to_ref d)) None
+        → P (object_edges w k ms) (schema_causes w k (object ms)) (plan_of w k (object ms)) (object_annotations w k ms)
+    lone_is d h x = subst object_by h x
 
-  abbrev causes_alone : Members → Option Data → List Cause
-  causes_alone ms o = elim o [ Some value ↦ reference_causes w k (codes "$ref") to_ref value | None ↦ members_causes w k ms ms ]
+    pub members_are : None ≡ lone_ref w k ms → P (members_edges w k ms ms) (members_causes w k ms ms) (these (sorted (parts w k ms ms))) (object_of (unknown w k ms ms))
+        → P (object_edges w k ms) (schema_causes w k (object ms)) (plan_of w k (object ms)) (object_annotations w k ms)
+    members_are h x = subst object_by h x
 
-  pub lone_refused : (ms : Members) (d : Data) (name : Text) → Some d ≡ lone_ref w k ms → name ≡ codes "$ref" → Refused w limit (reference_edges w k name to_ref d) (reference_causes w k name to_ref d) keys e
-      → Refused w limit (object_edges w k ms) (schema_causes w k (object ms)) keys e
-  lone_refused ms d name h is r = subst (λ o. Refused w limit (edges_alone ms o) (causes_alone ms o) keys e) h (subst (λ n. Refused w limit (reference_edges w k n to_ref d) (reference_causes w k n to_ref d) keys e) is r)
+  module _ (limit : ℕ) (keys : List (Key S)) (e : BuildError) (ms : Members) where
+    pub lone_refused : (d : Data) → Some d ≡ lone_ref w k ms → Refused w limit (reference_edges w k (codes "$ref") to_ref d) (reference_causes w k (codes "$ref") to_ref d) keys e
+        → Refused w limit (object_edges w k ms) (schema_causes w k (object ms)) keys e
+    lone_refused d h x = lone_is ms (λ es cs q a. Refused w limit es cs keys e) d h x
 
-  pub members_refused : (ms : Members) → None ≡ lone_ref w k ms → Refused w limit (members_edges w k ms ms) (members_causes w k ms ms) keys e
-      → Refused w limit (object_edges w k ms) (schema_causes w k (object ms)) keys e
-  members_refused ms h r = subst (λ o. Refused w limit (edges_alone ms o) (causes_alone ms o) keys e) h r
+    pub members_refused : None ≡ lone_ref w k ms → Refused w limit (members_edges w k ms ms) (members_causes w k ms ms) keys e
+        → Refused w limit (object_edges w k ms) (schema_causes w k (object ms)) keys e
+    members_refused h x = members_are ms (λ es cs q a. Refused w limit es cs keys e) h x
 
-  pub text_refused : (name : Text) (kind : Reference) (text : Text) (d : Data) → d ≡ string text → Refused w limit (option_one (reference_asked w k name kind text)) (lookup_causes w (found w k kind text)) keys e
+  -- ---- a reference
+
+  pub text_refused : (limit : ℕ) (keys : List (Key S)) (e : BuildError) (name : Text) (kind : Reference) (text : Text) (d : Data) → d ≡ string text → Refused w limit (option_one (reference_asked w k name kind text)) (lookup_causes w (found w k kind text)) keys e
       → Refused w limit (reference_edges w k name kind d) (reference_causes w k name kind d) keys e
-  text_refused name kind text d is r = subst (λ x. Refused w limit (reference_edges w k name kind x) (reference_causes w k name kind x) keys e) (sym is)
+  text_refused limit keys e name kind text d is r = subst (λ x. Refused w limit (reference_edges w k name kind x) (reference_causes w k name kind x) keys e) (sym is)
       (subst (λ es. Refused w limit es (lookup_causes w (found w k kind text)) keys e) (reference_edges_of w k name kind text) r)
+
+  no_text : (name : Text) (kind : Reference) (d : Data) → as_str d ≡ None → reference_causes w k name kind d ≡ reference_not_text (joined k.location name) ∷ []
+  no_text name kind null h = refl
+  no_text name kind (boolean b) h = refl
+  no_text name kind (number n) h = refl
+  no_text name kind (string t) h = cc
+  no_text name kind (array ds) h = refl
+  no_text name kind (object ms) h = refl
+
+  pub other_text_refused : (limit : ℕ) (keys : List (Key S)) (e : BuildError) (name : Text) (kind : Reference) (d : Data) → as_str d ≡ None → Names (reference_not_text (joined k.location name) ∷ []) e
+      → Refused w limit (reference_edges w k name kind d) (reference_causes w k name kind d) keys e
+  other_text_refused limit keys e name kind d h n = names_refused w limit (reference_edges w k name kind d) (reference_causes w k name kind d) keys e (subst (λ cs. Names cs e) (sym (no_text name kind d h)) n)
+
+  module _ {C : Type 0} (shape : C → K) (limit : ℕ) (keys keys' : List (Key S)) (nodes nodes' : List (NodeEntry C)) where
+    -- the part of a reference, by the edge that it got
+    abbrev pub reference_node : Text → ℕ → NodeEdge → NodePart C
+    reference_node name priority e = record { name = name; priority = priority; is_leaf = false; form = node_reference e }
+
+    made_of : (name : Text) (kind : Reference) (text : Text) (priority : ℕ) (o : Option NodeEdge) → IsAnswered w shape limit keys keys' nodes nodes' (reference_asked w k name kind text) (lookup_causes w (found w k kind text)) o
+        → IsMadePart w keys' shape nodes' k (option_map (reference_node name priority) o) (reference_part w k name priority kind (string text))
+    made_of name kind text priority None a =
+        let self = skipped_self w k name kind text a.step.clean (leads_none w keys' _ a.leads) in
+        subst (λ b. IsMadePart w keys' shape nodes' k None (cond b None (Some (record { name = name; priority = priority; is_leaf = false; form = reference kind text })))) (sym self) tt
+    made_of name kind text priority (Some e) a =
+        let self = asked_not_self w k name kind text (leads_some w keys' e _ a.leads) in
+        let leads : LeadsTo w keys' (Some e) (reference_edge w k name kind text) = subst (λ b. LeadsTo w keys' (Some e) (cond b None (reference_edge w k name kind text))) self a.leads in
+        subst (λ b. IsMadePart w keys' shape nodes' k (Some (reference_node name priority e)) (cond b None (Some (record { name = name; priority = priority; is_leaf = false; form = reference kind text })))) (sym self)
+        (record { name = refl; priority = refl; is_leaf = refl; form = leads; edges = a.filled })
+
+    pub reference_made : (name : Text) (kind : Reference) (text : Text) (d : Data) (priority : ℕ) (o : Option NodeEdge) → d ≡ string text
+        → IsAnswered w shape limit keys keys' nodes nodes' (reference_asked w k name kind text) (lookup_causes w (found w k kind text)) o
+        → MakesPart w shape limit keys keys' nodes nodes' (reference_edges w k name kind d) (reference_causes w k name kind d) k (option_map (reference_node name priority) o) (reference_part w k name priority kind d)
+    reference_made name kind text d priority o is a =
+        subst (λ x. MakesPart w shape limit keys keys' nodes nodes' (reference_edges w k name kind x) (reference_causes w k name kind x) k (option_map (reference_node name priority) o) (reference_part w k name priority kind x)) (sym is)
+        (subst (λ es. MakesPart w shape limit keys keys' nodes nodes' es (lookup_causes w (found w k kind text)) k (option_map (reference_node name priority) o) (reference_part w k name priority kind (string text))) (reference_edges_of w k name kind text)
+        (record { step = a.step; made = made_of name kind text priority o a }))
+
+    made_alone : (o : Option (NodePart C)) (p : Option (Part K)) → IsMadePart w keys' shape nodes' k o p → IsPlan w keys' shape nodes' k (alone o) (plan_alone w p)
+    made_alone None None h = tt
+    made_alone (Some x) (Some y) h = (h, tt)
+    made_alone None (Some y) h = absurd h
+    made_alone (Some x) None h = absurd h
+
+    -- the plan of a part that stands alone
+    pub planned_alone : (es : List (Edge S)) (cs : List Cause) (o : Option (NodePart C)) (p : Option (Part K)) (n : NodePlan C) (annotations : Option Value) → n ≡ alone o → annotations ≡ None
+        → MakesPart w shape limit keys keys' nodes nodes' es cs k o p → MakesPlan w shape limit keys keys' nodes nodes' es cs k n (plan_alone w p) (option_map view annotations) None
+    planned_alone es cs o p n annotations is none m = record { step = m.step; plan = subst (λ x. IsPlan w keys' shape nodes' k x (plan_alone w p)) (sym is) (made_alone o p m.made); annotated = ap (option_map view) none }

@@ -9,9 +9,10 @@ use Rattle.schema_reports.specs.Plan.{Edge, Key, Reference, found, is_self, ok_o
 use Rattle.schema_reports.specs.Reach.{Reached, reference_edges}
 use Rattle.schema_reports.specs.Refusals.{Cause, lookup_causes, request_causes, undeclared}
 use Rattle.schema_node.specs.NodeTable.{NodeEntry}
-use Rattle.schema_compiler.specs.Compiling.{Settled, option_one, reference_asked, StandsBelow}
+use Rattle.schema_compiler.specs.Compiling.{IsDeclared, Settled, option_one, reference_asked, StandsBelow}
 use Rattle.schema_compiler.specs.Refusing.{IsRefusal, Names, Refused}
 use Rattle.schema_compiler.specs.Filling.{IsGrown, IsStep, IsTable, LeadsTo}
+use Rattle.schema_compiler.specs.Steps.{IsAnswered, IsEdgeTo}
 use Rattle.schema_reports.specs.Guarded.{NodeEdge}
 use Rattle.schema_compiler.specs.declared.compiler.error.BuildError.{BuildError}
 use Rattle.schema_compiler.proofs.Growing.{edge_refused, step_edge, step_none, vocabulary_refused}
@@ -67,6 +68,21 @@ module _ {S K R : Type 0} (w : Parts S K R) where
     pub step_skipped : (o : Option (Edge S)) (cs : List Cause) (keys : List (Key S)) (nodes : List (NodeEntry C)) → o ≡ None → cs ≡ [] → IsTable w shape limit keys nodes → IsStep w shape limit (option_one o) cs keys keys nodes nodes
     step_skipped o cs keys nodes e clean t =
         subst (λ q. IsStep w shape limit (option_one q) cs keys keys nodes nodes) (sym e) (subst (λ xs. IsStep w shape limit [] xs keys keys nodes nodes) (sym clean) (step_none w shape limit keys nodes t))
+
+    -- what was asked for got the edge to its key
+    pub is_answered : (o : Option (Edge S)) (edge : Edge S) (cs : List Cause) (keys keys' : List (Key S)) (nodes nodes' : List (NodeEntry C)) (e : NodeEdge) (path : Text) → o ≡ Some edge → cs ≡ [] → IsDeclared w edge → path ≡ edge.path
+        → IsEdgeTo w shape limit keys keys' nodes nodes' edge.key path e → IsAnswered w shape limit keys keys' nodes nodes' o cs (Some e)
+    is_answered o edge cs keys keys' nodes nodes' e path is clean declared same t =
+        subst (λ q. IsAnswered w shape limit keys keys' nodes nodes' q cs (Some e)) (sym is) (record {
+          step = step_asked (Some edge) edge cs keys keys' nodes nodes' refl clean t.table t.grown (record { numbered = (e.node, t.number); declared = declared });
+          leads = (t.number, t.at_path ∙ same);
+          filled = (t.leads, tt);
+        })
+
+    -- and no edge where it is skipped
+    pub is_skipped : (o : Option (Edge S)) (cs : List Cause) (keys : List (Key S)) (nodes : List (NodeEntry C)) → o ≡ None → cs ≡ [] → IsTable w shape limit keys nodes → IsAnswered w shape limit keys keys nodes nodes o cs None
+    is_skipped o cs keys nodes is clean t =
+        subst (λ q. IsAnswered w shape limit keys keys nodes nodes q cs None) (sym is) (record { step = step_skipped None cs keys nodes refl clean t; leads = tt; filled = tt })
 
   pub asked_refused : (limit : ℕ) (o : Option (Edge S)) (edge : Edge S) (cs : List Cause) (keys : List (Key S)) (e : BuildError) → o ≡ Some edge
       → IsRefusal limit keys (Reached w edge.key) (StandsBelow w edge.key) e → Refused w limit (option_one o) cs keys e

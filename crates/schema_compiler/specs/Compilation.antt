@@ -1,6 +1,6 @@
 -- What a compilation gives: a number for each key that the root reaches, whose node is the key's plan; and what its
 -- refusal says.
-use Rattle.std.specs.Prelude.{All, Bool, List, None, Option, Some, length, map, slice_get, string_bytes, ℕ, ◌≡◌, ◌≤◌}
+use Rattle.std.specs.Prelude.{All, Bool, List, Option, Some, length, map, slice_get, string_bytes, ℕ, ◌≡◌, ◌≤◌}
 use Rattle.schema_reports.specs.Instance.{Text}
 use Rattle.schema_reports.specs.Drafts.{Draft}
 use Rattle.schema_reports.specs.Resolving.{Resolver}

@@ -3,6 +3,7 @@ pub mod Compiling
 pub mod Ordering
 pub mod Refusing
 pub mod Filling
+pub mod Steps
 pub mod Options
 pub mod Compilation
 pub mod Builtins

@@ -29,6 +29,7 @@ pub mod nodes_of;
 pub mod start;
 pub mod table;
 pub mod text;
+pub mod values;
 
 /// Compiles all that a key reaches. Each key gets one number, the key itself the first. What is said holds whatever
 /// matcher, keywords' words, draft and base go with the parts: the compiler reads none of them.

@@ -1,11 +1,14 @@
 //! Keywords in the order of their priorities; those of one priority stay in the order in which they came.
-ghost use Rattle.std.specs.Prelude.{◌≡◌, ◌≤◌, IfOk, map, length, insert};
+ghost use Rattle.std.specs.Prelude.{◌≡◌, ◌≤◌, IfOk, None, map, length, insert, option_map, string_bytes};
 ghost use Rattle.schema_reports.specs.Guarded.{NodePart};
-ghost use Rattle.schema_node.specs.NodeViews.{entry_of};
+ghost use Rattle.schema_node.specs.NodeViews.{entry_of, form_of, plan_of};
 ghost use Rattle.schema_compiler.specs.Ordering.{placed_after};
+ghost use Rattle.schema_compiler.specs.Steps.{alone};
 
-use schema_node::node::Entry;
+use crate::compiler::table::PlannedNode;
+use schema_node::node::{Entry, EntryForm, NodeForm};
 use schema_reports::location::OutOfMemory;
+use std::alloc::Global;
 
 // The place after all keywords of this priority or a lower one that stand in front.
 fn place_for<K>(entries: &[Entry<K>], priority: u8) -> usize
@@ -32,4 +35,43 @@ pub fn insert_by_priority<K: Drop>(
     let place = place_for(entries.as_slice(), entry.priority);
     entries.insert(place, entry)?;
     Ok(())
+}
+
+/// A keyword of this name and form.
+pub fn entry_named<K: Drop>(
+    name: &String,
+    priority: u8,
+    is_leaf: bool,
+    form: EntryForm<K>,
+) -> Result<Entry<K>, OutOfMemory>
+    ensures entry { IfOk result (λ e. entry_of e ≡ record { name = string_bytes name.now; priority = priority; is_leaf = is_leaf; form = form_of form }) }
+{
+    Ok(Entry {
+        name: name.clone()?,
+        priority,
+        is_leaf,
+        form,
+    })
+}
+
+/// What a keyword that stands alone asks of an instance; nothing where it is skipped.
+pub fn node_alone<K: Drop>(
+    alloc: Global,
+    entry: Option<Entry<K>>,
+) -> Result<PlannedNode<K>, OutOfMemory>
+    ensures plan { IfOk result (λ n. plan_of n.form ≡ alone (option_map entry_of entry)) }
+    ensures annotations { IfOk result (λ n. n.annotations ≡ None) }
+{
+    let form = match entry {
+        Some(entry) => {
+            let mut entries = Vec::new(alloc);
+            entries.push(entry)?;
+            NodeForm::Keywords(entries)
+        }
+        None => NodeForm::Always,
+    };
+    Ok(PlannedNode {
+        form,
+        annotations: None,
+    })
 }

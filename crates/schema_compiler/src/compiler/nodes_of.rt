@@ -15,17 +15,19 @@ ghost use Rattle.schema_compiler.specs.KeyViews.{key_of, kind_of};
 ghost use Rattle.schema_compiler.specs.Compiling.{Each, ReachedFrom, StandsBelow, Blames, member_edges, member_causes, object_edges, reference_asked, option_one};
 ghost use Rattle.schema_compiler.specs.Options.{given_parts};
 ghost use Rattle.schema_compiler.specs.Refusing.{IsRefusal, Refused};
-ghost use Rattle.schema_compiler.specs.Filling.{IsTable, IsGrown, IsStep, IsPlan, AreParts, IsMadePart, LeadsTo};
+ghost use Rattle.schema_compiler.specs.Filling.{IsTable};
+ghost use Rattle.schema_compiler.specs.Steps.{IsEdgeTo, IsAnswered, MakesPart, MakesParts, MakesPlan};
 
 use crate::compiler::annotations::{keep_unknown, object_of};
 use crate::compiler::builtin::builtin_row;
-use crate::compiler::entries::insert_by_priority;
+use crate::compiler::entries::{entry_named, insert_by_priority, node_alone};
 use crate::compiler::error::BuildError;
 use crate::compiler::key::{SchemaKey, find, subschema_key};
 use crate::compiler::table::{
     CompileOptions, Compiled, PlannedNode, checks_formats, edge_at, finish, keyword_location,
-    lone_reference, origin_of, plain_form, reply_for, reserve, target_of,
+    lone_reference, origin_of, reply_for, reserve, target_of,
 };
+use crate::compiler::values::{form_at, object_at, text_of};
 use crate::ref_::{ReferenceKind, reference_kind};
 use schema_node::context::keyword::Validate;
 use schema_node::context::resolver::Resolver;
@@ -56,13 +58,8 @@ pub fn edge_to<R: Resolver, K: Validate, T: KeywordTable<K>>(
     path: Location,
 ) -> Result<Edge, BuildError>
     requires table { IsTable (given_parts (R.resolving resolver.now) (T.owned table.now) (T.script table.now) options.now) K.shape options.now.node_limit (map (key_of R.point) compiled.old.keys.items) compiled.old.nodes }
-    ensures table { OnOk result (IsTable (given_parts (R.resolving resolver.now) (T.owned table.now) (T.script table.now) options.now) K.shape options.now.node_limit (map (key_of R.point) compiled.new.keys.items) compiled.new.nodes) }
-    ensures grown { OnOk result (IsGrown (Reached (given_parts (R.resolving resolver.now) (T.owned table.now) (T.script table.now) options.now) (key_of R.point key)) (map (key_of R.point) compiled.old.keys.items) (map (key_of R.point) compiled.new.keys.items) compiled.old.nodes compiled.new.nodes) }
+    ensures edge { IfOk result (λ e. IsEdgeTo (given_parts (R.resolving resolver.now) (T.owned table.now) (T.script table.now) options.now) K.shape options.now.node_limit (map (key_of R.point) compiled.old.keys.items) (map (key_of R.point) compiled.new.keys.items) compiled.old.nodes compiled.new.nodes (key_of R.point key) path (edge_of e)) }
     ensures refused { IfErr result (IsRefusal options.now.node_limit (map (key_of R.point) compiled.old.keys.items) (Reached (given_parts (R.resolving resolver.now) (T.owned table.now) (T.script table.now) options.now) (key_of R.point key)) (StandsBelow (given_parts (R.resolving resolver.now) (T.owned table.now) (T.script table.now) options.now) (key_of R.point key))) }
-    ensures number { IfOk result (λ e. slice_get (map (key_of R.point) compiled.new.keys.items) e.node.0 ≡ Some (key_of R.point key)) }
-    ensures fresh { IfOk result (λ e. slice_get (map (key_of R.point) compiled.old.keys.items) e.node.0 ≢ Some (key_of R.point key) → e.node.0 ≡ length (map (key_of R.point) compiled.old.keys.items)) }
-    ensures path { IfOk result (λ e. e.path ≡ path) }
-    ensures leads { IfOk result (λ e. LeadsToFilled compiled.new.nodes (edge_of e)) }
 {
     if let Some(number) = find::<R>(compiled.keys.as_slice(), &key) {
         return Ok(edge_at(resolver, table, options, compiled, number, path));
@@ -88,22 +85,15 @@ fn planned_node<R: Resolver, K: Validate, T: KeywordTable<K>>(
     key: &SchemaKey<R::State>,
 ) -> Result<PlannedNode<K>, BuildError>
     requires table { IsTable (given_parts (R.resolving resolver.now) (T.owned table.now) (T.script table.now) options.now) K.shape options.now.node_limit (map (key_of R.point) compiled.old.keys.items) compiled.old.nodes }
-    ensures step { OnOk result (IsStep (given_parts (R.resolving resolver.now) (T.owned table.now) (T.script table.now) options.now) K.shape options.now.node_limit (asked_edges (given_parts (R.resolving resolver.now) (T.owned table.now) (T.script table.now) options.now) (key_of R.point key.now)) (causes (given_parts (R.resolving resolver.now) (T.owned table.now) (T.script table.now) options.now) (key_of R.point key.now)) (map (key_of R.point) compiled.old.keys.items) (map (key_of R.point) compiled.new.keys.items) compiled.old.nodes compiled.new.nodes) }
+    ensures planned { IfOk result (λ n. MakesPlan (given_parts (R.resolving resolver.now) (T.owned table.now) (T.script table.now) options.now) K.shape options.now.node_limit (map (key_of R.point) compiled.old.keys.items) (map (key_of R.point) compiled.new.keys.items) compiled.old.nodes compiled.new.nodes (asked_edges (given_parts (R.resolving resolver.now) (T.owned table.now) (T.script table.now) options.now) (key_of R.point key.now)) (causes (given_parts (R.resolving resolver.now) (T.owned table.now) (T.script table.now) options.now) (key_of R.point key.now)) (key_of R.point key.now) (plan_of n.form) (plan (given_parts (R.resolving resolver.now) (T.owned table.now) (T.script table.now) options.now) (key_of R.point key.now)) (option_map view n.annotations) (annotations_of (given_parts (R.resolving resolver.now) (T.owned table.now) (T.script table.now) options.now) (key_of R.point key.now))) }
     ensures refused { IfErr result (Refused (given_parts (R.resolving resolver.now) (T.owned table.now) (T.script table.now) options.now) options.now.node_limit (asked_edges (given_parts (R.resolving resolver.now) (T.owned table.now) (T.script table.now) options.now) (key_of R.point key.now)) (causes (given_parts (R.resolving resolver.now) (T.owned table.now) (T.script table.now) options.now) (key_of R.point key.now)) (map (key_of R.point) compiled.old.keys.items)) }
-    ensures form { IfOk result (λ n. IsPlan (given_parts (R.resolving resolver.now) (T.owned table.now) (T.script table.now) options.now) (map (key_of R.point) compiled.new.keys.items) K.shape compiled.new.nodes (key_of R.point key.now) (plan_of n.form) (plan (given_parts (R.resolving resolver.now) (T.owned table.now) (T.script table.now) options.now) (key_of R.point key.now))) }
-    ensures annotations { IfOk result (λ n. option_map view n.annotations ≡ annotations_of (given_parts (R.resolving resolver.now) (T.owned table.now) (T.script table.now) options.now) (key_of R.point key.now)) }
 {
-    match resolver.value(&key.place) {
-        Some(value) => match value.as_object() {
-            Some(members) => Ok(planned_object(
-                alloc, resolver, table, options, compiled, key, members,
-            )?),
-            None => Ok(PlannedNode {
-                form: plain_form(key, value)?,
-                annotations: None,
-            }),
-        },
-        None => Err(BuildError::NotASchema(key.location.copy()?)),
+    match object_at(resolver, key) {
+        Some(members) => planned_object(alloc, resolver, table, options, compiled, key, members),
+        None => Ok(PlannedNode {
+            form: form_at(resolver, key)?,
+            annotations: None,
+        }),
     }
 }
 
@@ -119,15 +109,13 @@ fn planned_object<R: Resolver, K: Validate, T: KeywordTable<K>>(
     members: &Map<String, Value>,
 ) -> Result<PlannedNode<K>, BuildError>
     requires table { IsTable (given_parts (R.resolving resolver.now) (T.owned table.now) (T.script table.now) options.now) K.shape options.now.node_limit (map (key_of R.point) compiled.old.keys.items) compiled.old.nodes }
-    ensures step { OnOk result (IsStep (given_parts (R.resolving resolver.now) (T.owned table.now) (T.script table.now) options.now) K.shape options.now.node_limit (object_edges (given_parts (R.resolving resolver.now) (T.owned table.now) (T.script table.now) options.now) (key_of R.point key.now) (members_view members.now.entries)) (schema_causes (given_parts (R.resolving resolver.now) (T.owned table.now) (T.script table.now) options.now) (key_of R.point key.now) (object (members_view members.now.entries))) (map (key_of R.point) compiled.old.keys.items) (map (key_of R.point) compiled.new.keys.items) compiled.old.nodes compiled.new.nodes) }
+    ensures planned { IfOk result (λ n. MakesPlan (given_parts (R.resolving resolver.now) (T.owned table.now) (T.script table.now) options.now) K.shape options.now.node_limit (map (key_of R.point) compiled.old.keys.items) (map (key_of R.point) compiled.new.keys.items) compiled.old.nodes compiled.new.nodes (object_edges (given_parts (R.resolving resolver.now) (T.owned table.now) (T.script table.now) options.now) (key_of R.point key.now) (members_view members.now.entries)) (schema_causes (given_parts (R.resolving resolver.now) (T.owned table.now) (T.script table.now) options.now) (key_of R.point key.now) (object (members_view members.now.entries))) (key_of R.point key.now) (plan_of n.form) (plan_of_schema (given_parts (R.resolving resolver.now) (T.owned table.now) (T.script table.now) options.now) (key_of R.point key.now) (object (members_view members.now.entries))) (option_map view n.annotations) (object_annotations (given_parts (R.resolving resolver.now) (T.owned table.now) (T.script table.now) options.now) (key_of R.point key.now) (members_view members.now.entries))) }
     ensures refused { IfErr result (Refused (given_parts (R.resolving resolver.now) (T.owned table.now) (T.script table.now) options.now) options.now.node_limit (object_edges (given_parts (R.resolving resolver.now) (T.owned table.now) (T.script table.now) options.now) (key_of R.point key.now) (members_view members.now.entries)) (schema_causes (given_parts (R.resolving resolver.now) (T.owned table.now) (T.script table.now) options.now) (key_of R.point key.now) (object (members_view members.now.entries))) (map (key_of R.point) compiled.old.keys.items)) }
-    ensures form { IfOk result (λ n. IsPlan (given_parts (R.resolving resolver.now) (T.owned table.now) (T.script table.now) options.now) (map (key_of R.point) compiled.new.keys.items) K.shape compiled.new.nodes (key_of R.point key.now) (plan_of n.form) (plan_of_schema (given_parts (R.resolving resolver.now) (T.owned table.now) (T.script table.now) options.now) (key_of R.point key.now) (object (members_view members.now.entries)))) }
-    ensures annotations { IfOk result (λ n. option_map view n.annotations ≡ object_annotations (given_parts (R.resolving resolver.now) (T.owned table.now) (T.script table.now) options.now) (key_of R.point key.now) (members_view members.now.entries)) }
 {
     match lone_reference(key.draft, members) {
         Some(value) => {
             let name = String::from_str(alloc, "$ref")?;
-            match reference_entry(
+            let entry = reference_entry(
                 alloc,
                 resolver,
                 table,
@@ -138,20 +126,8 @@ fn planned_object<R: Resolver, K: Validate, T: KeywordTable<K>>(
                 70,
                 ReferenceKind::Ref,
                 value,
-            )? {
-                Some(entry) => {
-                    let mut entries = Vec::new(alloc);
-                    entries.push(entry)?;
-                    Ok(PlannedNode {
-                        form: NodeForm::Keywords(entries),
-                        annotations: None,
-                    })
-                }
-                None => Ok(PlannedNode {
-                    form: NodeForm::Always,
-                    annotations: None,
-                }),
-            }
+            )?;
+            Ok(node_alone(alloc, entry)?)
         }
         None => {
             let keywords = keywords_of(alloc, resolver, table, options, compiled, key, members)?;
@@ -175,10 +151,8 @@ fn keywords_of<R: Resolver, K: Validate, T: KeywordTable<K>>(
     members: &Map<String, Value>,
 ) -> Result<ObjectKeywords<K>, BuildError>
     requires table { IsTable (given_parts (R.resolving resolver.now) (T.owned table.now) (T.script table.now) options.now) K.shape options.now.node_limit (map (key_of R.point) compiled.old.keys.items) compiled.old.nodes }
-    ensures step { OnOk result (IsStep (given_parts (R.resolving resolver.now) (T.owned table.now) (T.script table.now) options.now) K.shape options.now.node_limit (members_edges (given_parts (R.resolving resolver.now) (T.owned table.now) (T.script table.now) options.now) (key_of R.point key.now) (members_view members.now.entries) (members_view members.now.entries)) (members_causes (given_parts (R.resolving resolver.now) (T.owned table.now) (T.script table.now) options.now) (key_of R.point key.now) (members_view members.now.entries) (members_view members.now.entries)) (map (key_of R.point) compiled.old.keys.items) (map (key_of R.point) compiled.new.keys.items) compiled.old.nodes compiled.new.nodes) }
+    ensures parts { IfOk result (λ o. MakesParts (given_parts (R.resolving resolver.now) (T.owned table.now) (T.script table.now) options.now) K.shape options.now.node_limit (map (key_of R.point) compiled.old.keys.items) (map (key_of R.point) compiled.new.keys.items) compiled.old.nodes compiled.new.nodes (members_edges (given_parts (R.resolving resolver.now) (T.owned table.now) (T.script table.now) options.now) (key_of R.point key.now) (members_view members.now.entries) (members_view members.now.entries)) (members_causes (given_parts (R.resolving resolver.now) (T.owned table.now) (T.script table.now) options.now) (key_of R.point key.now) (members_view members.now.entries) (members_view members.now.entries)) (key_of R.point key.now) (map entry_view o.entries.items) (sorted (parts (given_parts (R.resolving resolver.now) (T.owned table.now) (T.script table.now) options.now) (key_of R.point key.now) (members_view members.now.entries) (members_view members.now.entries))) (members_view o.unknown.entries) (unknown (given_parts (R.resolving resolver.now) (T.owned table.now) (T.script table.now) options.now) (key_of R.point key.now) (members_view members.now.entries) (members_view members.now.entries))) }
     ensures refused { IfErr result (Refused (given_parts (R.resolving resolver.now) (T.owned table.now) (T.script table.now) options.now) options.now.node_limit (members_edges (given_parts (R.resolving resolver.now) (T.owned table.now) (T.script table.now) options.now) (key_of R.point key.now) (members_view members.now.entries) (members_view members.now.entries)) (members_causes (given_parts (R.resolving resolver.now) (T.owned table.now) (T.script table.now) options.now) (key_of R.point key.now) (members_view members.now.entries) (members_view members.now.entries)) (map (key_of R.point) compiled.old.keys.items)) }
-    ensures entries { IfOk result (λ o. AreParts (given_parts (R.resolving resolver.now) (T.owned table.now) (T.script table.now) options.now) (map (key_of R.point) compiled.new.keys.items) K.shape compiled.new.nodes (key_of R.point key.now) (map entry_view o.entries.items) (sorted (parts (given_parts (R.resolving resolver.now) (T.owned table.now) (T.script table.now) options.now) (key_of R.point key.now) (members_view members.now.entries) (members_view members.now.entries)))) }
-    ensures unknown { IfOk result (λ o. members_view o.unknown.entries ≡ unknown (given_parts (R.resolving resolver.now) (T.owned table.now) (T.script table.now) options.now) (key_of R.point key.now) (members_view members.now.entries) (members_view members.now.entries)) }
 {
     let mut entries = Vec::new(alloc);
     let mut unknown = Map::new(alloc);
@@ -207,20 +181,19 @@ fn entry_of<R: Resolver, K: Validate, T: KeywordTable<K>>(
     value: &Value,
 ) -> Result<Option<Entry<K>>, BuildError>
     requires table { IsTable (given_parts (R.resolving resolver.now) (T.owned table.now) (T.script table.now) options.now) K.shape options.now.node_limit (map (key_of R.point) compiled.old.keys.items) compiled.old.nodes }
-    ensures step { OnOk result (IsStep (given_parts (R.resolving resolver.now) (T.owned table.now) (T.script table.now) options.now) K.shape options.now.node_limit (member_edges (given_parts (R.resolving resolver.now) (T.owned table.now) (T.script table.now) options.now) (key_of R.point key.now) (members_view members.now.entries) (string_bytes name.now) (view value.now)) (member_causes (given_parts (R.resolving resolver.now) (T.owned table.now) (T.script table.now) options.now) (key_of R.point key.now) (members_view members.now.entries) (string_bytes name.now) (view value.now)) (map (key_of R.point) compiled.old.keys.items) (map (key_of R.point) compiled.new.keys.items) compiled.old.nodes compiled.new.nodes) }
+    ensures part { IfOk result (λ o. MakesPart (given_parts (R.resolving resolver.now) (T.owned table.now) (T.script table.now) options.now) K.shape options.now.node_limit (map (key_of R.point) compiled.old.keys.items) (map (key_of R.point) compiled.new.keys.items) compiled.old.nodes compiled.new.nodes (member_edges (given_parts (R.resolving resolver.now) (T.owned table.now) (T.script table.now) options.now) (key_of R.point key.now) (members_view members.now.entries) (string_bytes name.now) (view value.now)) (member_causes (given_parts (R.resolving resolver.now) (T.owned table.now) (T.script table.now) options.now) (key_of R.point key.now) (members_view members.now.entries) (string_bytes name.now) (view value.now)) (key_of R.point key.now) (option_map entry_view o) (part (given_parts (R.resolving resolver.now) (T.owned table.now) (T.script table.now) options.now) (key_of R.point key.now) (members_view members.now.entries) (string_bytes name.now) (view value.now))) }
     ensures refused { IfErr result (Refused (given_parts (R.resolving resolver.now) (T.owned table.now) (T.script table.now) options.now) options.now.node_limit (member_edges (given_parts (R.resolving resolver.now) (T.owned table.now) (T.script table.now) options.now) (key_of R.point key.now) (members_view members.now.entries) (string_bytes name.now) (view value.now)) (member_causes (given_parts (R.resolving resolver.now) (T.owned table.now) (T.script table.now) options.now) (key_of R.point key.now) (members_view members.now.entries) (string_bytes name.now) (view value.now)) (map (key_of R.point) compiled.old.keys.items)) }
-    ensures entry { IfOk result (λ o. IsMadePart (given_parts (R.resolving resolver.now) (T.owned table.now) (T.script table.now) options.now) (map (key_of R.point) compiled.new.keys.items) K.shape compiled.new.nodes (key_of R.point key.now) (option_map entry_view o) (part (given_parts (R.resolving resolver.now) (T.owned table.now) (T.script table.now) options.now) (key_of R.point key.now) (members_view members.now.entries) (string_bytes name.now) (view value.now))) }
 {
     let text = name.as_str();
     if table.owns(text) {
-        return Ok(made_entry(
+        return made_entry(
             alloc, resolver, table, options, compiled, key, members, true, name, 80, false,
-        )?);
+        );
     }
     match builtin_row(key.draft, &key.vocabularies, text) {
         None => Ok(None),
         Some(row) => match reference_kind(text) {
-            Some(kind) => Ok(reference_entry(
+            Some(kind) => reference_entry(
                 alloc,
                 resolver,
                 table,
@@ -231,8 +204,8 @@ fn entry_of<R: Resolver, K: Validate, T: KeywordTable<K>>(
                 row.priority,
                 kind,
                 value,
-            )?),
-            None => Ok(made_entry(
+            ),
+            None => made_entry(
                 alloc,
                 resolver,
                 table,
@@ -244,7 +217,7 @@ fn entry_of<R: Resolver, K: Validate, T: KeywordTable<K>>(
                 name,
                 row.priority,
                 row.is_leaf,
-            )?),
+            ),
         },
     }
 }
@@ -265,9 +238,8 @@ fn made_entry<R: Resolver, K: Validate, T: KeywordTable<K>>(
     is_leaf: bool,
 ) -> Result<Option<Entry<K>>, BuildError>
     requires table { IsTable (given_parts (R.resolving resolver.now) (T.owned table.now) (T.script table.now) options.now) K.shape options.now.node_limit (map (key_of R.point) compiled.old.keys.items) compiled.old.nodes }
-    ensures step { OnOk result (IsStep (given_parts (R.resolving resolver.now) (T.owned table.now) (T.script table.now) options.now) K.shape options.now.node_limit (maker_edges (given_parts (R.resolving resolver.now) (T.owned table.now) (T.script table.now) options.now) (key_of R.point key.now) (string_bytes name.now) (making (given_parts (R.resolving resolver.now) (T.owned table.now) (T.script table.now) options.now) (key_of R.point key.now) (members_view members.now.entries) own (string_bytes name.now))) (maker_causes (given_parts (R.resolving resolver.now) (T.owned table.now) (T.script table.now) options.now) (key_of R.point key.now) (making (given_parts (R.resolving resolver.now) (T.owned table.now) (T.script table.now) options.now) (key_of R.point key.now) (members_view members.now.entries) own (string_bytes name.now))) (map (key_of R.point) compiled.old.keys.items) (map (key_of R.point) compiled.new.keys.items) compiled.old.nodes compiled.new.nodes) }
+    ensures part { IfOk result (λ o. MakesPart (given_parts (R.resolving resolver.now) (T.owned table.now) (T.script table.now) options.now) K.shape options.now.node_limit (map (key_of R.point) compiled.old.keys.items) (map (key_of R.point) compiled.new.keys.items) compiled.old.nodes compiled.new.nodes (maker_edges (given_parts (R.resolving resolver.now) (T.owned table.now) (T.script table.now) options.now) (key_of R.point key.now) (string_bytes name.now) (making (given_parts (R.resolving resolver.now) (T.owned table.now) (T.script table.now) options.now) (key_of R.point key.now) (members_view members.now.entries) own (string_bytes name.now))) (maker_causes (given_parts (R.resolving resolver.now) (T.owned table.now) (T.script table.now) options.now) (key_of R.point key.now) (making (given_parts (R.resolving resolver.now) (T.owned table.now) (T.script table.now) options.now) (key_of R.point key.now) (members_view members.now.entries) own (string_bytes name.now))) (key_of R.point key.now) (option_map entry_view o) (part_made (given_parts (R.resolving resolver.now) (T.owned table.now) (T.script table.now) options.now) (string_bytes name.now) priority is_leaf (making (given_parts (R.resolving resolver.now) (T.owned table.now) (T.script table.now) options.now) (key_of R.point key.now) (members_view members.now.entries) own (string_bytes name.now)))) }
     ensures refused { IfErr result (Refused (given_parts (R.resolving resolver.now) (T.owned table.now) (T.script table.now) options.now) options.now.node_limit (maker_edges (given_parts (R.resolving resolver.now) (T.owned table.now) (T.script table.now) options.now) (key_of R.point key.now) (string_bytes name.now) (making (given_parts (R.resolving resolver.now) (T.owned table.now) (T.script table.now) options.now) (key_of R.point key.now) (members_view members.now.entries) own (string_bytes name.now))) (maker_causes (given_parts (R.resolving resolver.now) (T.owned table.now) (T.script table.now) options.now) (key_of R.point key.now) (making (given_parts (R.resolving resolver.now) (T.owned table.now) (T.script table.now) options.now) (key_of R.point key.now) (members_view members.now.entries) own (string_bytes name.now))) (map (key_of R.point) compiled.old.keys.items)) }
-    ensures entry { IfOk result (λ o. IsMadePart (given_parts (R.resolving resolver.now) (T.owned table.now) (T.script table.now) options.now) (map (key_of R.point) compiled.new.keys.items) K.shape compiled.new.nodes (key_of R.point key.now) (option_map entry_view o) (part_made (given_parts (R.resolving resolver.now) (T.owned table.now) (T.script table.now) options.now) (string_bytes name.now) priority is_leaf (making (given_parts (R.resolving resolver.now) (T.owned table.now) (T.script table.now) options.now) (key_of R.point key.now) (members_view members.now.entries) own (string_bytes name.now)))) }
 {
     let origin = origin_of(own, name.as_str());
     let formats = checks_formats(options, key);
@@ -304,12 +276,8 @@ fn made_entry<R: Resolver, K: Validate, T: KeywordTable<K>>(
                 children.push(edge)?;
             }
             MakerStep::Keyword(keyword, _) => {
-                return Ok(Some(Entry {
-                    name: name.clone()?,
-                    priority,
-                    is_leaf,
-                    form: EntryForm::Keyword(keyword, children),
-                }));
+                let form = EntryForm::Keyword(keyword, children);
+                return Ok(Some(entry_named(name, priority, is_leaf, form)?));
             }
             MakerStep::Nothing => return Ok(None),
             MakerStep::Refuse(error) => return Err(BuildError::KeywordRefused(error)),
@@ -329,10 +297,8 @@ fn child_edge<R: Resolver, K: Validate, T: KeywordTable<K>>(
     path: &SchemaPath,
 ) -> Result<Edge, BuildError>
     requires table { IsTable (given_parts (R.resolving resolver.now) (T.owned table.now) (T.script table.now) options.now) K.shape options.now.node_limit (map (key_of R.point) compiled.old.keys.items) compiled.old.nodes }
-    ensures step { OnOk result (IsStep (given_parts (R.resolving resolver.now) (T.owned table.now) (T.script table.now) options.now) K.shape options.now.node_limit (option_one (subschema (given_parts (R.resolving resolver.now) (T.owned table.now) (T.script table.now) options.now) (key_of R.point key.now) path.now)) (request_causes (given_parts (R.resolving resolver.now) (T.owned table.now) (T.script table.now) options.now) (key_of R.point key.now) (compile path.now)) (map (key_of R.point) compiled.old.keys.items) (map (key_of R.point) compiled.new.keys.items) compiled.old.nodes compiled.new.nodes) }
+    ensures answered { IfOk result (λ e. IsAnswered (given_parts (R.resolving resolver.now) (T.owned table.now) (T.script table.now) options.now) K.shape options.now.node_limit (map (key_of R.point) compiled.old.keys.items) (map (key_of R.point) compiled.new.keys.items) compiled.old.nodes compiled.new.nodes (subschema (given_parts (R.resolving resolver.now) (T.owned table.now) (T.script table.now) options.now) (key_of R.point key.now) path.now) (request_causes (given_parts (R.resolving resolver.now) (T.owned table.now) (T.script table.now) options.now) (key_of R.point key.now) (compile path.now)) (Some (edge_of e))) }
     ensures refused { IfErr result (Refused (given_parts (R.resolving resolver.now) (T.owned table.now) (T.script table.now) options.now) options.now.node_limit (option_one (subschema (given_parts (R.resolving resolver.now) (T.owned table.now) (T.script table.now) options.now) (key_of R.point key.now) path.now)) (request_causes (given_parts (R.resolving resolver.now) (T.owned table.now) (T.script table.now) options.now) (key_of R.point key.now) (compile path.now)) (map (key_of R.point) compiled.old.keys.items)) }
-    ensures leads { IfOk result (λ e. LeadsTo (given_parts (R.resolving resolver.now) (T.owned table.now) (T.script table.now) options.now) (map (key_of R.point) compiled.new.keys.items) (Some (edge_of e)) (subschema (given_parts (R.resolving resolver.now) (T.owned table.now) (T.script table.now) options.now) (key_of R.point key.now) path.now)) }
-    ensures filled { IfOk result (λ e. LeadsToFilled compiled.new.nodes (edge_of e)) }
 {
     let below = subschema_key(alloc, resolver, key, path)?;
     let location = path.pointer(alloc)?;
@@ -353,10 +319,8 @@ fn reference_edge<R: Resolver, K: Validate, T: KeywordTable<K>>(
     text: &String,
 ) -> Result<Option<Edge>, BuildError>
     requires table { IsTable (given_parts (R.resolving resolver.now) (T.owned table.now) (T.script table.now) options.now) K.shape options.now.node_limit (map (key_of R.point) compiled.old.keys.items) compiled.old.nodes }
-    ensures step { OnOk result (IsStep (given_parts (R.resolving resolver.now) (T.owned table.now) (T.script table.now) options.now) K.shape options.now.node_limit (option_one (reference_asked (given_parts (R.resolving resolver.now) (T.owned table.now) (T.script table.now) options.now) (key_of R.point key.now) (string_bytes name.now) (kind_of kind) (string_bytes text.now))) (lookup_causes (given_parts (R.resolving resolver.now) (T.owned table.now) (T.script table.now) options.now) (found (given_parts (R.resolving resolver.now) (T.owned table.now) (T.script table.now) options.now) (key_of R.point key.now) (kind_of kind) (string_bytes text.now))) (map (key_of R.point) compiled.old.keys.items) (map (key_of R.point) compiled.new.keys.items) compiled.old.nodes compiled.new.nodes) }
+    ensures answered { IfOk result (λ o. IsAnswered (given_parts (R.resolving resolver.now) (T.owned table.now) (T.script table.now) options.now) K.shape options.now.node_limit (map (key_of R.point) compiled.old.keys.items) (map (key_of R.point) compiled.new.keys.items) compiled.old.nodes compiled.new.nodes (reference_asked (given_parts (R.resolving resolver.now) (T.owned table.now) (T.script table.now) options.now) (key_of R.point key.now) (string_bytes name.now) (kind_of kind) (string_bytes text.now)) (lookup_causes (given_parts (R.resolving resolver.now) (T.owned table.now) (T.script table.now) options.now) (found (given_parts (R.resolving resolver.now) (T.owned table.now) (T.script table.now) options.now) (key_of R.point key.now) (kind_of kind) (string_bytes text.now))) (option_map edge_of o)) }
     ensures refused { IfErr result (Refused (given_parts (R.resolving resolver.now) (T.owned table.now) (T.script table.now) options.now) options.now.node_limit (option_one (reference_asked (given_parts (R.resolving resolver.now) (T.owned table.now) (T.script table.now) options.now) (key_of R.point key.now) (string_bytes name.now) (kind_of kind) (string_bytes text.now))) (lookup_causes (given_parts (R.resolving resolver.now) (T.owned table.now) (T.script table.now) options.now) (found (given_parts (R.resolving resolver.now) (T.owned table.now) (T.script table.now) options.now) (key_of R.point key.now) (kind_of kind) (string_bytes text.now))) (map (key_of R.point) compiled.old.keys.items)) }
-    ensures leads { IfOk result (λ o. LeadsTo (given_parts (R.resolving resolver.now) (T.owned table.now) (T.script table.now) options.now) (map (key_of R.point) compiled.new.keys.items) (option_map edge_of o) (reference_asked (given_parts (R.resolving resolver.now) (T.owned table.now) (T.script table.now) options.now) (key_of R.point key.now) (string_bytes name.now) (kind_of kind) (string_bytes text.now))) }
-    ensures filled { IfOk result (λ o. Each (LeadsToFilled compiled.new.nodes) (option_one (option_map edge_of o))) }
 {
     match target_of(alloc, resolver, table, options, key, kind, text.as_str())? {
         None => Ok(None),
@@ -382,26 +346,17 @@ fn reference_entry<R: Resolver, K: Validate, T: KeywordTable<K>>(
     value: &Value,
 ) -> Result<Option<Entry<K>>, BuildError>
     requires table { IsTable (given_parts (R.resolving resolver.now) (T.owned table.now) (T.script table.now) options.now) K.shape options.now.node_limit (map (key_of R.point) compiled.old.keys.items) compiled.old.nodes }
-    ensures step { OnOk result (IsStep (given_parts (R.resolving resolver.now) (T.owned table.now) (T.script table.now) options.now) K.shape options.now.node_limit (reference_edges (given_parts (R.resolving resolver.now) (T.owned table.now) (T.script table.now) options.now) (key_of R.point key.now) (string_bytes name.now) (kind_of kind) (view value.now)) (reference_causes (given_parts (R.resolving resolver.now) (T.owned table.now) (T.script table.now) options.now) (key_of R.point key.now) (string_bytes name.now) (kind_of kind) (view value.now)) (map (key_of R.point) compiled.old.keys.items) (map (key_of R.point) compiled.new.keys.items) compiled.old.nodes compiled.new.nodes) }
+    ensures part { IfOk result (λ o. MakesPart (given_parts (R.resolving resolver.now) (T.owned table.now) (T.script table.now) options.now) K.shape options.now.node_limit (map (key_of R.point) compiled.old.keys.items) (map (key_of R.point) compiled.new.keys.items) compiled.old.nodes compiled.new.nodes (reference_edges (given_parts (R.resolving resolver.now) (T.owned table.now) (T.script table.now) options.now) (key_of R.point key.now) (string_bytes name.now) (kind_of kind) (view value.now)) (reference_causes (given_parts (R.resolving resolver.now) (T.owned table.now) (T.script table.now) options.now) (key_of R.point key.now) (string_bytes name.now) (kind_of kind) (view value.now)) (key_of R.point key.now) (option_map entry_view o) (reference_part (given_parts (R.resolving resolver.now) (T.owned table.now) (T.script table.now) options.now) (key_of R.point key.now) (string_bytes name.now) priority (kind_of kind) (view value.now))) }
     ensures refused { IfErr result (Refused (given_parts (R.resolving resolver.now) (T.owned table.now) (T.script table.now) options.now) options.now.node_limit (reference_edges (given_parts (R.resolving resolver.now) (T.owned table.now) (T.script table.now) options.now) (key_of R.point key.now) (string_bytes name.now) (kind_of kind) (view value.now)) (reference_causes (given_parts (R.resolving resolver.now) (T.owned table.now) (T.script table.now) options.now) (key_of R.point key.now) (string_bytes name.now) (kind_of kind) (view value.now)) (map (key_of R.point) compiled.old.keys.items)) }
-    ensures entry { IfOk result (λ o. IsMadePart (given_parts (R.resolving resolver.now) (T.owned table.now) (T.script table.now) options.now) (map (key_of R.point) compiled.new.keys.items) K.shape compiled.new.nodes (key_of R.point key.now) (option_map entry_view o) (reference_part (given_parts (R.resolving resolver.now) (T.owned table.now) (T.script table.now) options.now) (key_of R.point key.now) (string_bytes name.now) priority (kind_of kind) (view value.now))) }
 {
-    match value {
-        Value::String(text) => match reference_edge(
-            alloc, resolver, table, options, compiled, key, name, kind, text,
-        )? {
-            None => Ok(None),
-            Some(edge) => Ok(Some(Entry {
-                name: name.clone()?,
-                priority,
-                is_leaf: false,
-                form: EntryForm::Reference(edge),
-            })),
-        },
-        Value::Null => Err(BuildError::ReferenceNotText(keyword_location(key, name)?)),
-        Value::Bool(_) => Err(BuildError::ReferenceNotText(keyword_location(key, name)?)),
-        Value::Number(_) => Err(BuildError::ReferenceNotText(keyword_location(key, name)?)),
-        Value::Array(_) => Err(BuildError::ReferenceNotText(keyword_location(key, name)?)),
-        Value::Object(_) => Err(BuildError::ReferenceNotText(keyword_location(key, name)?)),
+    let text = text_of(key, name, value)?;
+    match reference_edge(
+        alloc, resolver, table, options, compiled, key, name, kind, text,
+    )? {
+        None => Ok(None),
+        Some(edge) => {
+            let form = EntryForm::Reference(edge);
+            Ok(Some(entry_named(name, priority, false, form)?))
+        }
     }
 }

@@ -9,7 +9,7 @@ use Rattle.schema_compiler.proofs.compiler.compile.Goals as goal
 pub returns-clause-compiled : goal.returns-clause-compiled
 returns-clause-compiled g c =
     let v = key_of g.R.Resolver.point in
-    let done = c.in_ok-edge_to.ensures in
+    let done = c.in_ok-edge_to.ensures.edge in
     let keys = map v c.edge_to.new.compiled.keys.items in
     let nodes = c.edge_to.new.compiled.nodes in
     let grown = rw (c.new.ensures.items, c.new-2.ensures.empty) at done.grown in

@@ -1,98 +1,89 @@
-use Rattle.std.proofs.Common.{◌≡◌, ◌∷◌, [], ◌++◌, append_assoc, string_cmp, subst, map, refl, sym, ap, ◌∙◌, arith, Some, None, rules, true, false, true≢false}
-use Rattle.std.specs.Prelude.{string_bytes, option_map}
-use Rattle.std.proofs.lemmas.List.{length-map, map-append}
+use Rattle.std.proofs.Common.{◌≡◌, ◌∷◌, [], ◌++◌, List, append_assoc, string_cmp, subst, map, refl, sym, ap, ◌∙◌, arith, Some, None, rules, true, false, true≢false}
+use Rattle.std.specs.Prelude.{IfErr, IfOk, Option, string_bytes, option_map}
+use Rattle.std.proofs.lemmas.List.{append-nil, length-map, map-append}
 use Rattle.std.proofs.lemmas.Result.{err_from_is_err_and}
+use Rattle.std.proofs.lemmas.Grind.{common_steps}
 use Rattle.std.specs.List.Sorted.{IsStrictlySortedBy}
 use Rattle.std.specs.Map.{keys_of}
-use Rattle.serde_json.specs.Data.{object}
-use Rattle.serde_json.proofs.Views.{Entry}
-use Rattle.schema_compiler.proofs.Unknown.{made_known, kept_unknown}
+use Rattle.serde_json.specs.Data.{Data}
 use Rattle.serde_json.specs.View.{view, members_view}
+use Rattle.serde_json.proofs.Views.{Entry}
 use Rattle.schema_reports.specs.Pointer.{pointer_to, joined}
-use Rattle.schema_reports.specs.Plan.{making}
+use Rattle.schema_reports.specs.Plan.{Edge, Part, Plan, making}
 use Rattle.schema_reports.specs.Reach.{at_first}
+use Rattle.schema_reports.specs.Refusals.{Cause}
+use Rattle.schema_reports.specs.Units.{object_of, unknown}
+use Rattle.schema_reports.specs.Guarded.{node_these}
 use Rattle.schema_node.specs.MakerViews.{maker_reply_of}
-use Rattle.schema_node.specs.NodeViews.{edge_of, entry_of}
+use Rattle.schema_node.specs.NodeViews.{edge_of, entry_of, plan_of}
 use Rattle.schema_compiler.specs.KeyViews.{key_of, kind_of}
 use Rattle.schema_compiler.specs.Options.{given_parts}
 use Rattle.schema_compiler.specs.Compiling.{reference_asked}
+use Rattle.schema_compiler.specs.Refusing.{Refused}
+use Rattle.schema_compiler.specs.Steps.{MakesPart, MakesPlan}
 use Rattle.schema_compiler.proofs.Lists.{length-more}
-use Rattle.schema_compiler.proofs.Growing.{refusal_map, from_key, blames_key, grown_none, grown_map}
+use Rattle.schema_compiler.proofs.Growing.{refusal_map, from_key, blames_key, grown_none, grown_map, step_none}
 use Rattle.schema_compiler.proofs.Tables.{pushed_distinct, numbered_after, reserved_after, finished_grown}
-use Rattle.schema_compiler.proofs.References.{asked_refused, step_asked, step_skipped, compile_clean, reference_clean, self_clean, asked_self, asked_edge}
-use Rattle.schema_compiler.proofs.Entries.{so_far_none, so_far_more, member_refused}
-use Rattle.schema_compiler.proofs.Forms.{schema_is, object_refused, boolean_step}
-use Rattle.schema_compiler.proofs.Turns.{asked_begun}
+use Rattle.schema_compiler.proofs.References.{asked_refused, compile_clean, reference_clean, self_clean, asked_self, asked_edge, is_answered, is_skipped}
+use Rattle.schema_compiler.proofs.Entries.{all_entries, all_steps, so_far_none, so_far_more, member_refused}
+use Rattle.schema_compiler.proofs.Forms.{boolean_made, object_is, object_stands, other_refused}
+use Rattle.schema_compiler.proofs.Turns.{asked_begun, asked_compile, asked_refer, compile_refused, refer_refused, made_keyword, made_nothing}
+use Rattle.schema_compiler.proofs.MembersAsk.{own_is, reference_is, built_is, no_member, lone_is, lone_refused, members_are, members_refused, text_refused, other_text_refused, reference_made, planned_alone}
+use Rattle.schema_compiler.proofs.Unknown.{made_known, kept_unknown}
 use Rattle.schema_compiler.proofs.compiler.nodes_of.+compile.Goals as goal
-use Rattle.schema_compiler.proofs.Turns.{asked_compile, asked_refer, compile_refused, refer_refused, made_keyword, made_nothing}
-use Rattle.schema_compiler.proofs.MembersAsk.{own_refused, reference_refused, built_refused, no_member, lone_refused, members_refused, text_refused}
-use Rattle.schema_compiler.proofs.Members.{view_string}
-use Rattle.schema_compiler.proofs.Forms.{boolean_planned, other_refused, object_is}
-use Rattle.schema_compiler.specs.declared.compiler.error.BuildError.TheVariants.{OutOfMemory}
 
 pub child_edge-returns-in_err-edge_to-clause-refused : goal.child_edge-returns-in_err-edge_to-clause-refused
 child_edge-returns-in_err-edge_to-clause-refused g t c =
     let v = key_of g.R.Resolver.point in
     let w = given_parts (g.R.Resolver.resolving c.args.resolver.now) (g.T.KeywordTable.owned c.args.table.now) (g.T.KeywordTable.script c.args.table.now) c.args.options.now in
-    let sh = g.K.Validate.shape in
     let lim = c.args.options.now.node_limit in
     let keys = map v c.args.compiled.now.keys.items in
-    let nodes = c.args.compiled.now.nodes in
     let p = err_from_is_err_and c.from_residual-in_err-edge_to.result c.from_residual-in_err-edge_to.ensures.1 in
     rw (p.1, p.2) (asked_refused w lim _ (record { key = v c.in_ok-below.below; path = pointer_to c.args.path.now; is_reference = false }) _ keys _ c.in_ok-below.ensures.below c.in_err-edge_to.ensures.refused)
 
-pub child_edge-returns-clause-step : goal.child_edge-returns-clause-step
-child_edge-returns-clause-step g t c =
+pub child_edge-returns-clause-answered : goal.child_edge-returns-clause-answered
+child_edge-returns-clause-answered g t c =
     let v = key_of g.R.Resolver.point in
     let w = given_parts (g.R.Resolver.resolving c.args.resolver.now) (g.T.KeywordTable.owned c.args.table.now) (g.T.KeywordTable.script c.args.table.now) c.args.options.now in
     let sh = g.K.Validate.shape in
     let lim = c.args.options.now.node_limit in
     let keys = map v c.args.compiled.now.keys.items in
     let nodes = c.args.compiled.now.nodes in
-    let e = c.in_ok-edge_to.ensures in
-    step_asked w sh lim _ (record { key = v c.in_ok-below.below; path = pointer_to c.args.path.now; is_reference = false }) _ keys (map v c.edge_to.new.compiled.keys.items) nodes c.edge_to.new.compiled.nodes c.in_ok-below.ensures.below (compile_clean w (v c.args.key.now) c.args.path.now (record { key = v c.in_ok-below.below; path = pointer_to c.args.path.now; is_reference = false }) c.in_ok-below.ensures.below) e.table e.grown
-    (record { numbered = (c.in_ok-edge_to.field-0.node.0, e.number); declared = λ f. absurd (true≢false (sym f)) })
+    is_answered w sh lim _ (record { key = v c.in_ok-below.below; path = pointer_to c.args.path.now; is_reference = false }) _ keys (map v c.edge_to.new.compiled.keys.items) nodes c.edge_to.new.compiled.nodes (edge_of c.in_ok-edge_to.field-0) _ c.in_ok-below.ensures.below
+    (compile_clean w (v c.args.key.now) c.args.path.now (record { key = v c.in_ok-below.below; path = pointer_to c.args.path.now; is_reference = false }) c.in_ok-below.ensures.below) (λ f. absurd (true≢false (sym f))) c.in_ok-location.ensures.pointer c.in_ok-edge_to.ensures.edge
 
 pub edge_to-edge_at-requires-clause-numbered : goal.edge_to-edge_at-requires-clause-numbered
 edge_to-edge_at-requires-clause-numbered g t c =
     let v = key_of g.R.Resolver.point in
-    let w = given_parts (g.R.Resolver.resolving c.args.resolver.now) (g.T.KeywordTable.owned c.args.table.now) (g.T.KeywordTable.script c.args.table.now) c.args.options.now in
-    let sh = g.K.Validate.shape in
-    let lim = c.args.options.now.node_limit in
-    let keys = map v c.args.compiled.now.keys.items in
-    let nodes = c.args.compiled.now.nodes in
     (v c.args.key, rw c.as_slice.ensures.value at c.in-Some.ensures.found)
 
-pub edge_to-returns-in-Some-clause-grown : goal.edge_to-returns-in-Some-clause-grown
-edge_to-returns-in-Some-clause-grown g t c =
+pub edge_to-returns-in-Some-clause-edge : goal.edge_to-returns-in-Some-clause-edge
+edge_to-returns-in-Some-clause-edge g t c =
     let v = key_of g.R.Resolver.point in
-    let w = given_parts (g.R.Resolver.resolving c.args.resolver.now) (g.T.KeywordTable.owned c.args.table.now) (g.T.KeywordTable.script c.args.table.now) c.args.options.now in
-    let sh = g.K.Validate.shape in
-    let lim = c.args.options.now.node_limit in
     let keys = map v c.args.compiled.now.keys.items in
     let nodes = c.args.compiled.now.nodes in
-    grown_none _ keys nodes c.requires.table.lengths
+    record {
+      table = c.requires.table;
+      grown = grown_none _ keys nodes c.requires.table.lengths;
+      number = rw c.edge_at.ensures.node (rw c.as_slice.ensures.value at c.in-Some.ensures.found);
+      fresh = λ absent. absurd (absent (rw c.edge_at.ensures.node (rw c.as_slice.ensures.value at c.in-Some.ensures.found)));
+      at_path = c.edge_at.ensures.path;
+      leads = c.edge_at.ensures.leads;
+    }
 
 pub edge_to-returns-then-len-options-clause-refused : goal.edge_to-returns-then-len-options-clause-refused
 edge_to-returns-then-len-options-clause-refused g t c =
     let v = key_of g.R.Resolver.point in
-    let w = given_parts (g.R.Resolver.resolving c.args.resolver.now) (g.T.KeywordTable.owned c.args.table.now) (g.T.KeywordTable.script c.args.table.now) c.args.options.now in
-    let sh = g.K.Validate.shape in
-    let lim = c.args.options.now.node_limit in
     let keys = map v c.args.compiled.now.keys.items in
-    let nodes = c.args.compiled.now.nodes in
     let absent = rw c.as_slice.ensures.value at (rw c.in_default.is at c.find.ensures.found) in
-    let t = c.if-len-options.true in
     (refl, (v c.args.key ∷ [], (at_first, tt), pushed_distinct keys (v c.args.key) c.requires.table.distinct absent, omega (arith, length-more keys (v c.args.key), length-map c.args.compiled.now.keys.items v)))
 
 pub edge_to-returns-in_err-planned-clause-refused : goal.edge_to-returns-in_err-planned-clause-refused
 edge_to-returns-in_err-planned-clause-refused g t c =
     let v = key_of g.R.Resolver.point in
     let w = given_parts (g.R.Resolver.resolving c.args.resolver.now) (g.T.KeywordTable.owned c.args.table.now) (g.T.KeywordTable.script c.args.table.now) c.args.options.now in
-    let sh = g.K.Validate.shape in
     let lim = c.args.options.now.node_limit in
     let keys = map v c.args.compiled.now.keys.items in
-    let nodes = c.args.compiled.now.nodes in
     let p = err_from_is_err_and c.from_residual-in_err-planned.result c.from_residual-in_err-planned.ensures.1 in
     let k = v c.args.key in
     rw (p.1, p.2) (refusal_map lim _ _ _ _ keys (map v c.reserve.new.compiled.keys.items) (k ∷ []) (from_key w k) (blames_key w k) c.in_ok-number.ensures.keys (at_first, tt) _ c.in_err-planned.ensures.refused)
@@ -100,46 +91,35 @@ edge_to-returns-in_err-planned-clause-refused g t c =
 pub edge_to-finish-requires-clause-numbered : goal.edge_to-finish-requires-clause-numbered
 edge_to-finish-requires-clause-numbered g t c =
     let v = key_of g.R.Resolver.point in
-    let w = given_parts (g.R.Resolver.resolving c.args.resolver.now) (g.T.KeywordTable.owned c.args.table.now) (g.T.KeywordTable.script c.args.table.now) c.args.options.now in
-    let sh = g.K.Validate.shape in
-    let lim = c.args.options.now.node_limit in
     let keys = map v c.args.compiled.now.keys.items in
-    let nodes = c.args.compiled.now.nodes in
-    (numbered_after keys (map v c.reserve.new.compiled.keys.items) (map v c.planned_node.new.compiled.keys.items) c.in_ok-planned.ensures.step.grown.added.0 (v c.args.key) c.in_ok-number.number.0 (c.in_ok-number.ensures.number ∙ c.requires.table.lengths) c.in_ok-number.ensures.keys c.in_ok-planned.ensures.step.grown.added.1)
+    (numbered_after keys (map v c.reserve.new.compiled.keys.items) (map v c.planned_node.new.compiled.keys.items) c.in_ok-planned.ensures.planned.step.grown.added.0 (v c.args.key) c.in_ok-number.number.0 (c.in_ok-number.ensures.number ∙ c.requires.table.lengths) c.in_ok-number.ensures.keys c.in_ok-planned.ensures.planned.step.grown.added.1)
 
 pub edge_to-finish-requires-clause-reserved : goal.edge_to-finish-requires-clause-reserved
 edge_to-finish-requires-clause-reserved g t c =
-    let v = key_of g.R.Resolver.point in
-    let w = given_parts (g.R.Resolver.resolving c.args.resolver.now) (g.T.KeywordTable.owned c.args.table.now) (g.T.KeywordTable.script c.args.table.now) c.args.options.now in
-    let sh = g.K.Validate.shape in
-    let lim = c.args.options.now.node_limit in
-    let keys = map v c.args.compiled.now.keys.items in
     let nodes = c.args.compiled.now.nodes in
     let n = c.in_ok-number.ensures.nodes in
-    reserved_after nodes c.reserve.new.compiled.nodes c.planned_node.new.compiled.nodes n.0 c.in_ok-number.number.0 c.in_ok-number.ensures.number n.1 n.2 c.in_ok-planned.ensures.step.grown.stay
+    reserved_after nodes c.reserve.new.compiled.nodes c.planned_node.new.compiled.nodes n.0 c.in_ok-number.number.0 c.in_ok-number.ensures.number n.1 n.2 c.in_ok-planned.ensures.planned.step.grown.stay
 
-pub edge_to-returns-clause-grown : goal.edge_to-returns-clause-grown
-edge_to-returns-clause-grown g t c =
+pub edge_to-returns-clause-edge : goal.edge_to-returns-clause-edge
+edge_to-returns-clause-edge g t c =
     let v = key_of g.R.Resolver.point in
     let w = given_parts (g.R.Resolver.resolving c.args.resolver.now) (g.T.KeywordTable.owned c.args.table.now) (g.T.KeywordTable.script c.args.table.now) c.args.options.now in
-    let sh = g.K.Validate.shape in
-    let lim = c.args.options.now.node_limit in
     let keys = map v c.args.compiled.now.keys.items in
     let nodes = c.args.compiled.now.nodes in
     let n = c.in_ok-number.ensures.nodes in
     let k = v c.args.key in
-    finished_grown _ keys (map v c.reserve.new.compiled.keys.items) (map v c.planned_node.new.compiled.keys.items) (map v c.finish.new.compiled.keys.items) nodes c.reserve.new.compiled.nodes c.planned_node.new.compiled.nodes c.finish.new.compiled.nodes k n.0 c.in_ok-number.number.0
-    c.requires.table.lengths c.in_ok-number.ensures.number c.in_ok-number.ensures.keys n.1 at_first (grown_map _ _ _ _ _ _ (from_key w k) c.in_ok-planned.ensures.step.grown) c.finish.ensures.keys c.finish.ensures.filled
-
-pub edge_to-returns-clause-number : goal.edge_to-returns-clause-number
-edge_to-returns-clause-number g t c =
-    let v = key_of g.R.Resolver.point in
-    let w = given_parts (g.R.Resolver.resolving c.args.resolver.now) (g.T.KeywordTable.owned c.args.table.now) (g.T.KeywordTable.script c.args.table.now) c.args.options.now in
-    let sh = g.K.Validate.shape in
-    let lim = c.args.options.now.node_limit in
-    let keys = map v c.args.compiled.now.keys.items in
-    let nodes = c.args.compiled.now.nodes in
-    rw (c.finish.ensures.keys, c.finish.ensures.node) (numbered_after keys (map v c.reserve.new.compiled.keys.items) (map v c.planned_node.new.compiled.keys.items) c.in_ok-planned.ensures.step.grown.added.0 (v c.args.key) c.in_ok-number.number.0 (c.in_ok-number.ensures.number ∙ c.requires.table.lengths) c.in_ok-number.ensures.keys c.in_ok-planned.ensures.step.grown.added.1)
+    let reserved = map v c.reserve.new.compiled.keys.items in
+    let planned = map v c.planned_node.new.compiled.keys.items in
+    let grown = c.in_ok-planned.ensures.planned.step.grown in
+    record {
+      table = c.finish.ensures.table;
+      grown = finished_grown _ keys reserved planned (map v c.finish.new.compiled.keys.items) nodes c.reserve.new.compiled.nodes c.planned_node.new.compiled.nodes c.finish.new.compiled.nodes k n.0 c.in_ok-number.number.0
+          c.requires.table.lengths c.in_ok-number.ensures.number c.in_ok-number.ensures.keys n.1 at_first (grown_map _ _ _ _ _ _ (from_key w k) grown) c.finish.ensures.keys c.finish.ensures.filled;
+      number = rw (c.finish.ensures.keys, c.finish.ensures.node) (numbered_after keys reserved planned grown.added.0 k c.in_ok-number.number.0 (c.in_ok-number.ensures.number ∙ c.requires.table.lengths) c.in_ok-number.ensures.keys grown.added.1);
+      fresh = λ absent. c.finish.ensures.node ∙ c.in_ok-number.ensures.number ∙ c.requires.table.lengths;
+      at_path = c.finish.ensures.path;
+      leads = c.finish.ensures.leads;
+    }
 
 pub keywords_of-loop-name-init : goal.keywords_of-loop-name-init
 keywords_of-loop-name-init g t c =
@@ -202,11 +182,12 @@ keywords_of-loop-name-preserved-in-Continue-branch-3 g t c =
     let left = c.next.new.self in
     let all : c.args.members.now.entries ≡ done ++ member ∷ left = inv.1 ∙ ap (λ ms. done ++ ms) c.in-Some.ensures.steps in
     let all' = all ∙ sym (append_assoc done (member ∷ []) left) in
-    let made = rw c.in-Some-2.is at c.in_ok-entry.ensures.entry in
+    let step = c.in_ok-entry.ensures.part.step in
+    let made = rw c.in-Some-2.is at c.in_ok-entry.ensures.part.made in
     record {
       can = tt;
       finite = tt;
-      so_far = rw c.in_ok-insert_by_priority-in-Some-2.ensures.placed (so_far_more w sh lim k whole name value rest (Some (entry_of c.in-Some-2.entry)) es keys keys' keys'' nodes nodes' nodes'' s c.in_ok-entry.ensures.step made);
+      so_far = rw c.in_ok-insert_by_priority-in-Some-2.ensures.placed (so_far_more w sh lim k whole name value rest (Some (entry_of c.in-Some-2.entry)) es keys keys' keys'' nodes nodes' nodes'' s step made);
       unknown = (done ++ member ∷ [], all', made_known w k whole sh keys'' nodes'' (entry_of c.in-Some-2.entry) done member (members_view c.loop-name.unknown.entries) made inv.2);
     }
 
@@ -235,11 +216,12 @@ keywords_of-loop-name-preserved g t c =
     let left = c.next.new.self in
     let all : c.args.members.now.entries ≡ done ++ member ∷ left = inv.1 ∙ ap (λ ms. done ++ ms) c.in-Some.ensures.steps in
     let all' = all ∙ sym (append_assoc done (member ∷ []) left) in
-    let made = rw c.in-None-2.is at c.in_ok-entry.ensures.entry in
+    let step = c.in_ok-entry.ensures.part.step in
+    let made = rw c.in-None-2.is at c.in_ok-entry.ensures.part.made in
     record {
       can = tt;
       finite = tt;
-      so_far = so_far_more w sh lim k whole name value rest None es keys keys' keys'' nodes nodes' nodes'' s c.in_ok-entry.ensures.step made;
+      so_far = so_far_more w sh lim k whole name value rest None es keys keys' keys'' nodes nodes' nodes'' s step made;
       unknown = (
         done ++ member ∷ [],
         all',
@@ -248,8 +230,73 @@ keywords_of-loop-name-preserved g t c =
       );
     }
 
-pub entry_of-returns-in_err-made_entry-clause-refused : goal.entry_of-returns-in_err-made_entry-clause-refused
-entry_of-returns-in_err-made_entry-clause-refused g t c =
+pub keywords_of-returns-clause-parts : goal.keywords_of-returns-clause-parts
+keywords_of-returns-clause-parts g t c =
+    let v = key_of g.R.Resolver.point in
+    let w = given_parts (g.R.Resolver.resolving c.args.resolver.now) (g.T.KeywordTable.owned c.args.table.now) (g.T.KeywordTable.script c.args.table.now) c.args.options.now in
+    let sh = g.K.Validate.shape in
+    let lim = c.args.options.now.node_limit in
+    let keys = map v c.args.compiled.now.keys.items in
+    let nodes = c.args.compiled.now.nodes in
+    let k = v c.args.key.now in
+    let whole = members_view c.args.members.now.entries in
+    let ended = c.in-None.ensures.steps.0 in
+    let s = rw ended at c.loop-name.invariant.so_far in
+    let es = map entry_of c.loop-name.entries.items in
+    let keys' = map v c.loop-name.compiled.keys.items in
+    let nodes' = c.loop-name.compiled.nodes in
+    let inv = c.loop-name.invariant.unknown in
+    record {
+      step = all_steps w sh lim k whole es keys keys' nodes nodes' s;
+      entries = all_entries w sh lim k whole es keys keys' nodes nodes' s;
+      unknown = inv.2 ∙ ap (λ (ms : List Entry). unknown w k whole (members_view ms)) (sym (inv.1 ∙ ap (λ (ms : List Entry). inv.0 ++ ms) ended ∙ append-nil inv.0));
+    }
+
+pub entry_of-returns-then-owns-clause-refused : goal.entry_of-returns-then-owns-clause-refused
+entry_of-returns-then-owns-clause-refused g t c =
+    let v = key_of g.R.Resolver.point in
+    let w = given_parts (g.R.Resolver.resolving c.args.resolver.now) (g.T.KeywordTable.owned c.args.table.now) (g.T.KeywordTable.script c.args.table.now) c.args.options.now in
+    let lim = c.args.options.now.node_limit in
+    let keys = map v c.args.compiled.now.keys.items in
+    let k = v c.args.key.now in
+    let whole = members_view c.args.members.now.entries in
+    let name = string_bytes c.args.name.now in
+    let value = view c.args.value.now in
+    let owns = rw c.as_str-text.ensures.value at c.owns.ensures.owned in
+    own_is w k whole name value (λ (es : List (Edge _)) (cs : List Cause) (p : Option (Part _)). IfErr c.made_entry.result (Refused w lim es cs keys)) (sym owns ∙ c.if-owns.true) c.made_entry.ensures.refused
+
+pub entry_of-returns-in-Some-reference_kind-clause-refused : goal.entry_of-returns-in-Some-reference_kind-clause-refused
+entry_of-returns-in-Some-reference_kind-clause-refused g t c =
+    let v = key_of g.R.Resolver.point in
+    let w = given_parts (g.R.Resolver.resolving c.args.resolver.now) (g.T.KeywordTable.owned c.args.table.now) (g.T.KeywordTable.script c.args.table.now) c.args.options.now in
+    let lim = c.args.options.now.node_limit in
+    let keys = map v c.args.compiled.now.keys.items in
+    let k = v c.args.key.now in
+    let whole = members_view c.args.members.now.entries in
+    let name = string_bytes c.args.name.now in
+    let value = view c.args.value.now in
+    let owns = rw c.as_str-text.ensures.value at c.owns.ensures.owned in
+    let row = rw c.as_str-text.ensures.value at c.in-Some.ensures.row in
+    let kind = rw c.as_str-text.ensures.value at c.in-Some-reference_kind.ensures.kind in
+    reference_is w k whole name value (λ (es : List (Edge _)) (cs : List Cause) (p : Option (Part _)). IfErr c.reference_entry.result (Refused w lim es cs keys)) _ (kind_of c.in-Some-reference_kind.kind) (sym owns ∙ c.if-owns.false) row kind c.reference_entry.ensures.refused
+
+pub entry_of-returns-in-None-reference_kind-clause-refused : goal.entry_of-returns-in-None-reference_kind-clause-refused
+entry_of-returns-in-None-reference_kind-clause-refused g t c =
+    let v = key_of g.R.Resolver.point in
+    let w = given_parts (g.R.Resolver.resolving c.args.resolver.now) (g.T.KeywordTable.owned c.args.table.now) (g.T.KeywordTable.script c.args.table.now) c.args.options.now in
+    let lim = c.args.options.now.node_limit in
+    let keys = map v c.args.compiled.now.keys.items in
+    let k = v c.args.key.now in
+    let whole = members_view c.args.members.now.entries in
+    let name = string_bytes c.args.name.now in
+    let value = view c.args.value.now in
+    let owns = rw c.as_str-text.ensures.value at c.owns.ensures.owned in
+    let row = rw c.as_str-text.ensures.value at c.in-Some.ensures.row in
+    let kind = rw c.as_str-text.ensures.value at c.in-None-reference_kind.ensures.kind in
+    built_is w k whole name value (λ (es : List (Edge _)) (cs : List Cause) (p : Option (Part _)). IfErr c.made_entry-in-None-reference_kind.result (Refused w lim es cs keys)) _ (sym owns ∙ c.if-owns.false) row kind c.made_entry-in-None-reference_kind.ensures.refused
+
+pub entry_of-returns-then-owns-clause-part : goal.entry_of-returns-then-owns-clause-part
+entry_of-returns-then-owns-clause-part g t c =
     let v = key_of g.R.Resolver.point in
     let w = given_parts (g.R.Resolver.resolving c.args.resolver.now) (g.T.KeywordTable.owned c.args.table.now) (g.T.KeywordTable.script c.args.table.now) c.args.options.now in
     let sh = g.K.Validate.shape in
@@ -261,11 +308,10 @@ entry_of-returns-in_err-made_entry-clause-refused g t c =
     let name = string_bytes c.args.name.now in
     let value = view c.args.value.now in
     let owns = rw c.as_str-text.ensures.value at c.owns.ensures.owned in
-    let p = err_from_is_err_and c.from_residual.result c.from_residual.ensures.1 in
-    rw (p.1, p.2) (own_refused w k lim keys _ whole name value (sym owns ∙ c.if-owns.true) c.in_err-made_entry.ensures.refused)
+    own_is w k whole name value (λ (es : List (Edge _)) (cs : List Cause) (p : Option (Part _)). IfOk c.made_entry.result (λ o. MakesPart w sh lim keys (map v c.made_entry.new.compiled.keys.items) nodes c.made_entry.new.compiled.nodes es cs k (option_map entry_of o) p)) (sym owns ∙ c.if-owns.true) c.made_entry.ensures.part
 
-pub entry_of-returns-in_err-reference_entry-in-Some-reference_kind-clause-refused : goal.entry_of-returns-in_err-reference_entry-in-Some-reference_kind-clause-refused
-entry_of-returns-in_err-reference_entry-in-Some-reference_kind-clause-refused g t c =
+pub entry_of-returns-in-Some-reference_kind-clause-part : goal.entry_of-returns-in-Some-reference_kind-clause-part
+entry_of-returns-in-Some-reference_kind-clause-part g t c =
     let v = key_of g.R.Resolver.point in
     let w = given_parts (g.R.Resolver.resolving c.args.resolver.now) (g.T.KeywordTable.owned c.args.table.now) (g.T.KeywordTable.script c.args.table.now) c.args.options.now in
     let sh = g.K.Validate.shape in
@@ -279,11 +325,10 @@ entry_of-returns-in_err-reference_entry-in-Some-reference_kind-clause-refused g 
     let owns = rw c.as_str-text.ensures.value at c.owns.ensures.owned in
     let row = rw c.as_str-text.ensures.value at c.in-Some.ensures.row in
     let kind = rw c.as_str-text.ensures.value at c.in-Some-reference_kind.ensures.kind in
-    let p = err_from_is_err_and c.from_residual-in_err-reference_entry-in-Some-reference_kind.result c.from_residual-in_err-reference_entry-in-Some-reference_kind.ensures.1 in
-    rw (p.1, p.2) (reference_refused w k lim keys _ whole name value _ (kind_of c.in-Some-reference_kind.kind) (sym owns ∙ c.if-owns.false) row kind c.in_err-reference_entry-in-Some-reference_kind.ensures.refused)
+    reference_is w k whole name value (λ (es : List (Edge _)) (cs : List Cause) (p : Option (Part _)). IfOk c.reference_entry.result (λ o. MakesPart w sh lim keys (map v c.reference_entry.new.compiled.keys.items) nodes c.reference_entry.new.compiled.nodes es cs k (option_map entry_of o) p)) _ (kind_of c.in-Some-reference_kind.kind) (sym owns ∙ c.if-owns.false) row kind c.reference_entry.ensures.part
 
-pub entry_of-returns-in_err-made_entry-in-None-reference_kind-clause-refused : goal.entry_of-returns-in_err-made_entry-in-None-reference_kind-clause-refused
-entry_of-returns-in_err-made_entry-in-None-reference_kind-clause-refused g t c =
+pub entry_of-returns-in-None-reference_kind-clause-part : goal.entry_of-returns-in-None-reference_kind-clause-part
+entry_of-returns-in-None-reference_kind-clause-part g t c =
     let v = key_of g.R.Resolver.point in
     let w = given_parts (g.R.Resolver.resolving c.args.resolver.now) (g.T.KeywordTable.owned c.args.table.now) (g.T.KeywordTable.script c.args.table.now) c.args.options.now in
     let sh = g.K.Validate.shape in
@@ -297,11 +342,10 @@ entry_of-returns-in_err-made_entry-in-None-reference_kind-clause-refused g t c =
     let owns = rw c.as_str-text.ensures.value at c.owns.ensures.owned in
     let row = rw c.as_str-text.ensures.value at c.in-Some.ensures.row in
     let kind = rw c.as_str-text.ensures.value at c.in-None-reference_kind.ensures.kind in
-    let p = err_from_is_err_and c.from_residual-in_err-made_entry-in-None-reference_kind.result c.from_residual-in_err-made_entry-in-None-reference_kind.ensures.1 in
-    rw (p.1, p.2) (built_refused w k lim keys _ whole name value _ (sym owns ∙ c.if-owns.false) row kind c.in_err-made_entry-in-None-reference_kind.ensures.refused)
+    built_is w k whole name value (λ (es : List (Edge _)) (cs : List Cause) (p : Option (Part _)). IfOk c.made_entry-in-None-reference_kind.result (λ o. MakesPart w sh lim keys (map v c.made_entry-in-None-reference_kind.new.compiled.keys.items) nodes c.made_entry-in-None-reference_kind.new.compiled.nodes es cs k (option_map entry_of o) p)) _ (sym owns ∙ c.if-owns.false) row kind c.made_entry-in-None-reference_kind.ensures.part
 
-pub entry_of-returns-in-None-clause-step : goal.entry_of-returns-in-None-clause-step
-entry_of-returns-in-None-clause-step g t c =
+pub entry_of-returns-in-None-clause-part : goal.entry_of-returns-in-None-clause-part
+entry_of-returns-in-None-clause-part g t c =
     let v = key_of g.R.Resolver.point in
     let w = given_parts (g.R.Resolver.resolving c.args.resolver.now) (g.T.KeywordTable.owned c.args.table.now) (g.T.KeywordTable.script c.args.table.now) c.args.options.now in
     let sh = g.K.Validate.shape in
@@ -314,7 +358,8 @@ entry_of-returns-in-None-clause-step g t c =
     let value = view c.args.value.now in
     let owns = rw c.as_str-text.ensures.value at c.owns.ensures.owned in
     let row = rw c.as_str-text.ensures.value at c.in-None.ensures.row in
-    no_member w k lim keys OutOfMemory whole name value sh nodes (sym owns ∙ c.if-owns.false) row c.requires.table
+    no_member w k whole name value (λ (es : List (Edge _)) (cs : List Cause) (p : Option (Part _)). MakesPart w sh lim keys keys nodes nodes es cs k None p) (sym owns ∙ c.if-owns.false) row
+    (record { step = step_none w sh lim keys nodes c.requires.table; made = tt })
 
 pub made_entry-loop-children-init : goal.made_entry-loop-children-init
 made_entry-loop-children-init g t c =
@@ -374,10 +419,10 @@ made_entry-loop-children-preserved-in-Compile g t c =
     let keys' = map v c.loop-children.compiled.keys.items in
     let nodes' = c.loop-children.compiled.nodes in
     let takes = rw c.in-Compile.is at c.in_ok-path.ensures.takes in
-    let e = c.in_ok-edge-in-Compile.ensures in
+    let e = c.in_ok-edge-in-Compile.ensures.answered in
     rw (c.in_ok-push-in-Compile.ensures.items, map-append (option_map edge_of) c.loop-children.children.items (Some c.in_ok-edge-in-Compile.edge ∷ []))
     (asked_compile w sh lim k name making waiting waiting' told es keys keys' (map v c.child_edge.new.compiled.keys.items) nodes nodes' c.child_edge.new.compiled.nodes c.in-Compile.path (edge_of c.in_ok-edge-in-Compile.edge) c.len.result
-    inv takes (omega (arith, length-map c.loop-children.children.items (option_map edge_of), c.loop-children.children.ok.0, c.len.ensures)) e.leads e.filled e.step)
+    inv takes (omega (arith, length-map c.loop-children.children.items (option_map edge_of), c.loop-children.children.ok.0, c.len.ensures)) e.leads e.filled.0 e.step)
 
 pub made_entry-returns-in_err-edge-in-Refer-clause-refused : goal.made_entry-returns-in_err-edge-in-Refer-clause-refused
 made_entry-returns-in_err-edge-in-Refer-clause-refused g t c =
@@ -422,13 +467,13 @@ made_entry-loop-children-preserved g t c =
     let keys' = map v c.loop-children.compiled.keys.items in
     let nodes' = c.loop-children.compiled.nodes in
     let takes = rw c.in-Refer.is at c.in_ok-path.ensures.takes in
-    let e = c.in_ok-edge-in-Refer.ensures in
+    let e = c.in_ok-edge-in-Refer.ensures.answered in
     rw (c.in_ok-push-in-Refer.ensures.items, map-append (option_map edge_of) c.loop-children.children.items (c.in_ok-edge-in-Refer.edge ∷ []))
     (asked_refer w sh lim k name making waiting waiting' told _ es keys keys' (map v c.reference_edge.new.compiled.keys.items) nodes nodes' c.reference_edge.new.compiled.nodes c.in-Refer.text (option_map edge_of c.in_ok-edge-in-Refer.edge) c.len-in-Refer.result
     inv takes (omega (arith, length-map c.loop-children.children.items (option_map edge_of), c.loop-children.children.ok.0, c.len-in-Refer.ensures)) c.reply_for-reply.ensures.reply e.leads e.filled e.step)
 
-pub made_entry-returns-in-Keyword-clause-step : goal.made_entry-returns-in-Keyword-clause-step
-made_entry-returns-in-Keyword-clause-step g t c =
+pub made_entry-returns-in-Keyword-clause-part : goal.made_entry-returns-in-Keyword-clause-part
+made_entry-returns-in-Keyword-clause-part g t c =
     let v = key_of g.R.Resolver.point in
     let w = given_parts (g.R.Resolver.resolving c.args.resolver.now) (g.T.KeywordTable.owned c.args.table.now) (g.T.KeywordTable.script c.args.table.now) c.args.options.now in
     let sh = g.K.Validate.shape in
@@ -447,10 +492,11 @@ made_entry-returns-in-Keyword-clause-step g t c =
     let keys' = map v c.loop-children.compiled.keys.items in
     let nodes' = c.loop-children.compiled.nodes in
     let takes = rw c.in-Keyword.is at c.in_ok-path.ensures.takes in
-    (made_keyword w sh lim k name making waiting waiting' told es keys keys' nodes nodes' c.args.priority c.args.is_leaf c.in-Keyword.keyword c.in-Keyword.field-1 inv takes).0
+    let made = made_keyword w sh lim k name making waiting waiting' told es keys keys' nodes nodes' c.args.priority c.args.is_leaf c.in-Keyword.keyword c.in-Keyword.field-1 inv takes in
+    rw c.in_ok-entry_named-in-Keyword.ensures.entry (record { step = made.0; made = made.1 })
 
-pub made_entry-returns-in-Nothing-clause-step : goal.made_entry-returns-in-Nothing-clause-step
-made_entry-returns-in-Nothing-clause-step g t c =
+pub made_entry-returns-in-Nothing-clause-part : goal.made_entry-returns-in-Nothing-clause-part
+made_entry-returns-in-Nothing-clause-part g t c =
     let v = key_of g.R.Resolver.point in
     let w = given_parts (g.R.Resolver.resolving c.args.resolver.now) (g.T.KeywordTable.owned c.args.table.now) (g.T.KeywordTable.script c.args.table.now) c.args.options.now in
     let sh = g.K.Validate.shape in
@@ -469,36 +515,33 @@ made_entry-returns-in-Nothing-clause-step g t c =
     let keys' = map v c.loop-children.compiled.keys.items in
     let nodes' = c.loop-children.compiled.nodes in
     let takes = rw c.in-Nothing.is at c.in_ok-path.ensures.takes in
-    (made_nothing w sh lim k name making waiting waiting' told es keys keys' nodes nodes' c.args.priority c.args.is_leaf inv takes).0
+    let made = made_nothing w sh lim k name making waiting waiting' told es keys keys' nodes nodes' c.args.priority c.args.is_leaf inv takes in
+    record { step = made.0; made = made.1 }
 
 pub planned_object-returns-in_err-entry-in-Some-clause-refused : goal.planned_object-returns-in_err-entry-in-Some-clause-refused
 planned_object-returns-in_err-entry-in-Some-clause-refused g t c =
     let v = key_of g.R.Resolver.point in
     let w = given_parts (g.R.Resolver.resolving c.args.resolver.now) (g.T.KeywordTable.owned c.args.table.now) (g.T.KeywordTable.script c.args.table.now) c.args.options.now in
-    let sh = g.K.Validate.shape in
     let lim = c.args.options.now.node_limit in
     let keys = map v c.args.compiled.now.keys.items in
-    let nodes = c.args.compiled.now.nodes in
     let k = v c.args.key.now in
     let whole = members_view c.args.members.now.entries in
     let p = err_from_is_err_and c.from_residual-in_err-entry-in-Some.result c.from_residual-in_err-entry-in-Some.ensures.1 in
-    rw (p.1, p.2) (lone_refused w k lim keys _ whole (view c.in-Some.value.now) (string_bytes c.in_ok-name-in-Some.name) c.in-Some.ensures.alone c.in_ok-name-in-Some.ensures.ok c.in_err-entry-in-Some.ensures.refused)
+    rw (p.1, p.2) (lone_refused w k lim keys _ whole (view c.in-Some.value.now) c.in-Some.ensures.alone (rw c.in_ok-name-in-Some.ensures.ok at c.in_err-entry-in-Some.ensures.refused))
 
 pub planned_object-returns-in_err-keywords-in-None-clause-refused : goal.planned_object-returns-in_err-keywords-in-None-clause-refused
 planned_object-returns-in_err-keywords-in-None-clause-refused g t c =
     let v = key_of g.R.Resolver.point in
     let w = given_parts (g.R.Resolver.resolving c.args.resolver.now) (g.T.KeywordTable.owned c.args.table.now) (g.T.KeywordTable.script c.args.table.now) c.args.options.now in
-    let sh = g.K.Validate.shape in
     let lim = c.args.options.now.node_limit in
     let keys = map v c.args.compiled.now.keys.items in
-    let nodes = c.args.compiled.now.nodes in
     let k = v c.args.key.now in
     let whole = members_view c.args.members.now.entries in
     let p = err_from_is_err_and c.from_residual-in_err-keywords-in-None.result c.from_residual-in_err-keywords-in-None.ensures.1 in
     rw (p.1, p.2) (members_refused w k lim keys _ whole c.in-None.ensures.alone c.in_err-keywords-in-None.ensures.refused)
 
-pub reference_edge-returns-in_err-target_of-clause-refused : goal.reference_edge-returns-in_err-target_of-clause-refused
-reference_edge-returns-in_err-target_of-clause-refused g t c =
+pub planned_object-returns-in_ok-node_alone-in-Some-clause-planned : goal.planned_object-returns-in_ok-node_alone-in-Some-clause-planned
+planned_object-returns-in_ok-node_alone-in-Some-clause-planned g t c =
     let v = key_of g.R.Resolver.point in
     let w = given_parts (g.R.Resolver.resolving c.args.resolver.now) (g.T.KeywordTable.owned c.args.table.now) (g.T.KeywordTable.script c.args.table.now) c.args.options.now in
     let sh = g.K.Validate.shape in
@@ -506,9 +549,34 @@ reference_edge-returns-in_err-target_of-clause-refused g t c =
     let keys = map v c.args.compiled.now.keys.items in
     let nodes = c.args.compiled.now.nodes in
     let k = v c.args.key.now in
+    let whole = members_view c.args.members.now.entries in
+    let n = c.in_ok-node_alone-in-Some.field-0 in
+    let keys' = map v c.reference_entry.new.compiled.keys.items in
+    let nodes' = c.reference_entry.new.compiled.nodes in
+    lone_is w k whole (λ (es : List (Edge _)) (cs : List Cause) (q : Plan _) (a : Option Data). MakesPlan w sh lim keys keys' nodes nodes' es cs k (plan_of n.form) q (option_map view n.annotations) a) (view c.in-Some.value.now) c.in-Some.ensures.alone
+    (planned_alone w k sh lim keys keys' nodes nodes' _ _ _ _ (plan_of n.form) n.annotations c.in_ok-node_alone-in-Some.ensures.plan c.in_ok-node_alone-in-Some.ensures.annotations (rw c.in_ok-name-in-Some.ensures.ok at c.in_ok-entry-in-Some.ensures.part))
+
+pub planned_object-returns-in_ok-keywords-in-None-clause-planned : goal.planned_object-returns-in_ok-keywords-in-None-clause-planned
+planned_object-returns-in_ok-keywords-in-None-clause-planned g t c =
+    let v = key_of g.R.Resolver.point in
+    let w = given_parts (g.R.Resolver.resolving c.args.resolver.now) (g.T.KeywordTable.owned c.args.table.now) (g.T.KeywordTable.script c.args.table.now) c.args.options.now in
+    let sh = g.K.Validate.shape in
+    let lim = c.args.options.now.node_limit in
+    let keys = map v c.args.compiled.now.keys.items in
+    let nodes = c.args.compiled.now.nodes in
+    let k = v c.args.key.now in
+    let whole = members_view c.args.members.now.entries in
+    let m = c.in_ok-keywords-in-None.ensures.parts in
+    let keys' = map v c.keywords_of.new.compiled.keys.items in
+    let nodes' = c.keywords_of.new.compiled.nodes in
+    members_are w k whole (λ (es : List (Edge _)) (cs : List Cause) (q : Plan _) (a : Option Data). MakesPlan w sh lim keys keys' nodes nodes' es cs k (node_these (map entry_of c.in_ok-keywords-in-None.keywords.entries.items)) q (option_map view c.object_of.result) a) c.in-None.ensures.alone
+    (record { step = m.step; plan = m.entries; annotated = c.object_of.ensures.object ∙ ap object_of m.unknown })
+
+pub reference_edge-returns-in_err-target_of-clause-refused : goal.reference_edge-returns-in_err-target_of-clause-refused
+reference_edge-returns-in_err-target_of-clause-refused g t c =
+    let v = key_of g.R.Resolver.point in
+    let keys = map v c.args.compiled.now.keys.items in
     let name = string_bytes c.args.name.now in
-    let kind = kind_of c.args.kind in
-    let text = string_bytes c.args.text.now in
     let h = rw c.as_str.ensures.value at (c.in_err-target_of.ensures.refused name keys) in
     let p = err_from_is_err_and c.from_residual.result c.from_residual.ensures.1 in
     rw (p.1, p.2) h
@@ -517,10 +585,8 @@ pub reference_edge-returns-in_err-edge_to-in-Some-clause-refused : goal.referenc
 reference_edge-returns-in_err-edge_to-in-Some-clause-refused g t c =
     let v = key_of g.R.Resolver.point in
     let w = given_parts (g.R.Resolver.resolving c.args.resolver.now) (g.T.KeywordTable.owned c.args.table.now) (g.T.KeywordTable.script c.args.table.now) c.args.options.now in
-    let sh = g.K.Validate.shape in
     let lim = c.args.options.now.node_limit in
     let keys = map v c.args.compiled.now.keys.items in
-    let nodes = c.args.compiled.now.nodes in
     let k = v c.args.key.now in
     let name = string_bytes c.args.name.now in
     let kind = kind_of c.args.kind in
@@ -530,8 +596,8 @@ reference_edge-returns-in_err-edge_to-in-Some-clause-refused g t c =
     let p = err_from_is_err_and c.from_residual-in_err-edge_to-in-Some.result c.from_residual-in_err-edge_to-in-Some.ensures.1 in
     rw (p.1, p.2) (asked_refused w lim (reference_asked w k name kind text) (record { key = v c.in-Some.target; path = joined [] name; is_reference = true }) _ keys _ (asked_edge w k name kind text (record { key = v c.in-Some.target; path = joined [] name; is_reference = true }) t.0 (t.1 name)) c.in_err-edge_to-in-Some.ensures.refused)
 
-pub reference_edge-returns-in-None-clause-step : goal.reference_edge-returns-in-None-clause-step
-reference_edge-returns-in-None-clause-step g t c =
+pub reference_edge-returns-in-None-clause-answered : goal.reference_edge-returns-in-None-clause-answered
+reference_edge-returns-in-None-clause-answered g t c =
     let v = key_of g.R.Resolver.point in
     let w = given_parts (g.R.Resolver.resolving c.args.resolver.now) (g.T.KeywordTable.owned c.args.table.now) (g.T.KeywordTable.script c.args.table.now) c.args.options.now in
     let sh = g.K.Validate.shape in
@@ -544,10 +610,10 @@ reference_edge-returns-in-None-clause-step g t c =
     let text = string_bytes c.args.text.now in
     let target = rw c.as_str.ensures.value at c.in_ok-target_of.ensures.target in
     let h = rw c.in-None.is at target in
-    step_skipped w sh lim (reference_asked w k name kind text) _ keys nodes (asked_self w k name kind text h) (self_clean w k kind text h) c.requires.table
+    is_skipped w sh lim (reference_asked w k name kind text) _ keys nodes (asked_self w k name kind text h) (self_clean w k kind text h) c.requires.table
 
-pub reference_edge-returns-in_ok-edge_to-in-Some-clause-step : goal.reference_edge-returns-in_ok-edge_to-in-Some-clause-step
-reference_edge-returns-in_ok-edge_to-in-Some-clause-step g t c =
+pub reference_edge-returns-in_ok-edge_to-in-Some-clause-answered : goal.reference_edge-returns-in_ok-edge_to-in-Some-clause-answered
+reference_edge-returns-in_ok-edge_to-in-Some-clause-answered g t c =
     let v = key_of g.R.Resolver.point in
     let w = given_parts (g.R.Resolver.resolving c.args.resolver.now) (g.T.KeywordTable.owned c.args.table.now) (g.T.KeywordTable.script c.args.table.now) c.args.options.now in
     let sh = g.K.Validate.shape in
@@ -560,24 +626,95 @@ reference_edge-returns-in_ok-edge_to-in-Some-clause-step g t c =
     let text = string_bytes c.args.text.now in
     let target = rw c.as_str.ensures.value at c.in_ok-target_of.ensures.target in
     let t = rw c.in-Some.is at target in
-    let e = c.in_ok-edge_to-in-Some.ensures in
-    step_asked w sh lim (reference_asked w k name kind text) (record { key = v c.in-Some.target; path = joined [] name; is_reference = true }) _ keys (map v c.edge_to.new.compiled.keys.items) nodes c.edge_to.new.compiled.nodes (asked_edge w k name kind text (record { key = v c.in-Some.target; path = joined [] name; is_reference = true }) t.0 (t.1 name)) (reference_clean w k name kind text (record { key = v c.in-Some.target; path = joined [] name; is_reference = true }) (t.1 name)) e.table e.grown
-    (record { numbered = (c.in_ok-edge_to-in-Some.field-0.node.0, e.number); declared = λ f. t.2 })
+    is_answered w sh lim (reference_asked w k name kind text) (record { key = v c.in-Some.target; path = joined [] name; is_reference = true }) _ keys (map v c.edge_to.new.compiled.keys.items) nodes c.edge_to.new.compiled.nodes (edge_of c.in_ok-edge_to-in-Some.field-0) _ (asked_edge w k name kind text (record { key = v c.in-Some.target; path = joined [] name; is_reference = true }) t.0 (t.1 name))
+    (reference_clean w k name kind text (record { key = v c.in-Some.target; path = joined [] name; is_reference = true }) (t.1 name)) (λ f. t.2) (grind (arith, common_steps, c.in_ok-path-in-Some.ensures)) c.in_ok-edge_to-in-Some.ensures.edge
 
-pub reference_entry-returns-in_err-reference_edge-in-String-clause-refused : goal.reference_entry-returns-in_err-reference_edge-in-String-clause-refused
-reference_entry-returns-in_err-reference_edge-in-String-clause-refused g t c =
+pub reference_entry-returns-in_err-text-clause-refused : goal.reference_entry-returns-in_err-text-clause-refused
+reference_entry-returns-in_err-text-clause-refused g t c =
+    let v = key_of g.R.Resolver.point in
+    let w = given_parts (g.R.Resolver.resolving c.args.resolver.now) (g.T.KeywordTable.owned c.args.table.now) (g.T.KeywordTable.script c.args.table.now) c.args.options.now in
+    let lim = c.args.options.now.node_limit in
+    let keys = map v c.args.compiled.now.keys.items in
+    let k = v c.args.key.now in
+    let name = string_bytes c.args.name.now in
+    let kind = kind_of c.args.kind in
+    let value = view c.args.value.now in
+    let p = err_from_is_err_and c.from_residual.result c.from_residual.ensures.1 in
+    rw (p.1, p.2) (other_text_refused w k lim keys _ name kind value c.in_err-text.ensures.other c.in_err-text.ensures.refused)
+
+pub reference_entry-returns-in_err-reference_edge-clause-refused : goal.reference_entry-returns-in_err-reference_edge-clause-refused
+reference_entry-returns-in_err-reference_edge-clause-refused g t c =
+    let v = key_of g.R.Resolver.point in
+    let w = given_parts (g.R.Resolver.resolving c.args.resolver.now) (g.T.KeywordTable.owned c.args.table.now) (g.T.KeywordTable.script c.args.table.now) c.args.options.now in
+    let lim = c.args.options.now.node_limit in
+    let keys = map v c.args.compiled.now.keys.items in
+    let k = v c.args.key.now in
+    let name = string_bytes c.args.name.now in
+    let kind = kind_of c.args.kind in
+    let value = view c.args.value.now in
+    let p = err_from_is_err_and c.from_residual-in_err-reference_edge.result c.from_residual-in_err-reference_edge.ensures.1 in
+    rw (p.1, p.2) (text_refused w k lim keys _ name kind (string_bytes c.in_ok-text.text.now) value c.in_ok-text.ensures.text c.in_err-reference_edge.ensures.refused)
+
+pub reference_entry-returns-in-None-clause-part : goal.reference_entry-returns-in-None-clause-part
+reference_entry-returns-in-None-clause-part g t c =
     let v = key_of g.R.Resolver.point in
     let w = given_parts (g.R.Resolver.resolving c.args.resolver.now) (g.T.KeywordTable.owned c.args.table.now) (g.T.KeywordTable.script c.args.table.now) c.args.options.now in
     let sh = g.K.Validate.shape in
     let lim = c.args.options.now.node_limit in
     let keys = map v c.args.compiled.now.keys.items in
     let nodes = c.args.compiled.now.nodes in
+    let k = v c.args.key.now in
+    let name = string_bytes c.args.name.now in
+    let kind = kind_of c.args.kind in
+    let value = view c.args.value.now in
+    reference_made w k sh lim keys (map v c.reference_edge.new.compiled.keys.items) nodes c.reference_edge.new.compiled.nodes name kind (string_bytes c.in_ok-text.text.now) value c.args.priority None c.in_ok-text.ensures.text (rw c.in-None.is at c.in_ok-reference_edge.ensures.answered)
+
+pub reference_entry-returns-in_ok-entry_named-in-Some-clause-part : goal.reference_entry-returns-in_ok-entry_named-in-Some-clause-part
+reference_entry-returns-in_ok-entry_named-in-Some-clause-part g t c =
+    let v = key_of g.R.Resolver.point in
+    let w = given_parts (g.R.Resolver.resolving c.args.resolver.now) (g.T.KeywordTable.owned c.args.table.now) (g.T.KeywordTable.script c.args.table.now) c.args.options.now in
+    let sh = g.K.Validate.shape in
+    let lim = c.args.options.now.node_limit in
+    let keys = map v c.args.compiled.now.keys.items in
+    let nodes = c.args.compiled.now.nodes in
+    let k = v c.args.key.now in
+    let name = string_bytes c.args.name.now in
+    let kind = kind_of c.args.kind in
+    let value = view c.args.value.now in
+    rw c.in_ok-entry_named-in-Some.ensures.entry (reference_made w k sh lim keys (map v c.reference_edge.new.compiled.keys.items) nodes c.reference_edge.new.compiled.nodes name kind (string_bytes c.in_ok-text.text.now) value c.args.priority (Some (edge_of c.in-Some.edge)) c.in_ok-text.ensures.text (rw c.in-Some.is at c.in_ok-reference_edge.ensures.answered))
+
+pub planned_node-returns-in-Some-clause-refused : goal.planned_node-returns-in-Some-clause-refused
+planned_node-returns-in-Some-clause-refused g t c =
+    let v = key_of g.R.Resolver.point in
+    let w = given_parts (g.R.Resolver.resolving c.args.resolver.now) (g.T.KeywordTable.owned c.args.table.now) (g.T.KeywordTable.script c.args.table.now) c.args.options.now in
+    let lim = c.args.options.now.node_limit in
+    let keys = map v c.args.compiled.now.keys.items in
+    let k = v c.args.key.now in
+    object_stands w k (λ (es : List (Edge _)) (cs : List Cause) (q : Plan _) (a : Option Data). IfErr c.planned_object.result (Refused w lim es cs keys)) (members_view c.in-Some.members.now.entries) (object_is w k _ (members_view c.in-Some.members.now.entries) c.in-Some.ensures.object) c.planned_object.ensures.refused
+
+pub planned_node-returns-in-Some-clause-planned : goal.planned_node-returns-in-Some-clause-planned
+planned_node-returns-in-Some-clause-planned g t c =
+    let v = key_of g.R.Resolver.point in
+    let w = given_parts (g.R.Resolver.resolving c.args.resolver.now) (g.T.KeywordTable.owned c.args.table.now) (g.T.KeywordTable.script c.args.table.now) c.args.options.now in
+    let sh = g.K.Validate.shape in
+    let lim = c.args.options.now.node_limit in
+    let keys = map v c.args.compiled.now.keys.items in
+    let nodes = c.args.compiled.now.nodes in
+    let k = v c.args.key.now in
+    object_stands w k (λ (es : List (Edge _)) (cs : List Cause) (q : Plan _) (a : Option Data). IfOk c.planned_object.result (λ n. MakesPlan w sh lim keys (map v c.planned_object.new.compiled.keys.items) nodes c.planned_object.new.compiled.nodes es cs k (plan_of n.form) q (option_map view n.annotations) a)) (members_view c.in-Some.members.now.entries) (object_is w k _ (members_view c.in-Some.members.now.entries) c.in-Some.ensures.object) c.planned_object.ensures.planned
+
+pub planned_node-returns-in_err-form_at-in-None-clause-refused : goal.planned_node-returns-in_err-form_at-in-None-clause-refused
+planned_node-returns-in_err-form_at-in-None-clause-refused g t c =
+    let v = key_of g.R.Resolver.point in
+    let w = given_parts (g.R.Resolver.resolving c.args.resolver.now) (g.T.KeywordTable.owned c.args.table.now) (g.T.KeywordTable.script c.args.table.now) c.args.options.now in
+    let lim = c.args.options.now.node_limit in
+    let keys = map v c.args.compiled.now.keys.items in
     let k = v c.args.key.now in
     let p = err_from_is_err_and c.from_residual.result c.from_residual.ensures.1 in
-    rw (p.1, p.2) (text_refused w k lim keys _ (string_bytes c.args.name.now) (kind_of c.args.kind) (string_bytes c.in-String.text) (view c.args.value.now) (ap view c.in-String.is ∙ view_string c.in-String.text) c.in_err-reference_edge-in-String.ensures.refused)
+    rw (p.1, p.2) (other_refused w k lim keys _ c.in-None.ensures.object c.in_err-form_at-in-None.ensures.other c.in_err-form_at-in-None.ensures.refused)
 
-pub planned_node-returns-in_err-planned_object-in-Some-as_object-clause-refused : goal.planned_node-returns-in_err-planned_object-in-Some-as_object-clause-refused
-planned_node-returns-in_err-planned_object-in-Some-as_object-clause-refused g t c =
+pub planned_node-returns-in_ok-form_at-in-None-clause-planned : goal.planned_node-returns-in_ok-form_at-in-None-clause-planned
+planned_node-returns-in_ok-form_at-in-None-clause-planned g t c =
     let v = key_of g.R.Resolver.point in
     let w = given_parts (g.R.Resolver.resolving c.args.resolver.now) (g.T.KeywordTable.owned c.args.table.now) (g.T.KeywordTable.script c.args.table.now) c.args.options.now in
     let sh = g.K.Validate.shape in
@@ -585,66 +722,5 @@ planned_node-returns-in_err-planned_object-in-Some-as_object-clause-refused g t 
     let keys = map v c.args.compiled.now.keys.items in
     let nodes = c.args.compiled.now.nodes in
     let k = v c.args.key.now in
-    let d = view c.in-Some.value.now in
-    let ms = members_view c.in-Some-as_object.members.now.entries in
-    let p = err_from_is_err_and c.from_residual.result c.from_residual.ensures.1 in
-    rw (p.1, p.2) (object_refused w k lim ms (schema_is w k d (object ms) c.in-Some.ensures.value (object_is w k d ms c.in-Some-as_object.ensures)) keys _ c.in_err-planned_object-in-Some-as_object.ensures.refused)
-
-pub planned_node-returns-in_err-plain_form-in-None-as_object-clause-refused : goal.planned_node-returns-in_err-plain_form-in-None-as_object-clause-refused
-planned_node-returns-in_err-plain_form-in-None-as_object-clause-refused g t c =
-    let v = key_of g.R.Resolver.point in
-    let w = given_parts (g.R.Resolver.resolving c.args.resolver.now) (g.T.KeywordTable.owned c.args.table.now) (g.T.KeywordTable.script c.args.table.now) c.args.options.now in
-    let sh = g.K.Validate.shape in
-    let lim = c.args.options.now.node_limit in
-    let keys = map v c.args.compiled.now.keys.items in
-    let nodes = c.args.compiled.now.nodes in
-    let k = v c.args.key.now in
-    let d = view c.in-Some.value.now in
-    let p = err_from_is_err_and c.from_residual-in_err-plain_form-in-None-as_object.result c.from_residual-in_err-plain_form-in-None-as_object.ensures.1 in
-    rw (p.1, p.2) (other_refused w k lim d keys _ (schema_is w k d d c.in-Some.ensures.value refl) c.in-None-as_object.ensures c.in_err-plain_form-in-None-as_object.ensures.other c.in_err-plain_form-in-None-as_object.ensures.refused)
-
-pub planned_node-returns-in_ok-plain_form-in-None-as_object-clause-step : goal.planned_node-returns-in_ok-plain_form-in-None-as_object-clause-step
-planned_node-returns-in_ok-plain_form-in-None-as_object-clause-step g t c =
-    let v = key_of g.R.Resolver.point in
-    let w = given_parts (g.R.Resolver.resolving c.args.resolver.now) (g.T.KeywordTable.owned c.args.table.now) (g.T.KeywordTable.script c.args.table.now) c.args.options.now in
-    let sh = g.K.Validate.shape in
-    let lim = c.args.options.now.node_limit in
-    let keys = map v c.args.compiled.now.keys.items in
-    let nodes = c.args.compiled.now.nodes in
-    let k = v c.args.key.now in
-    let d = view c.in-Some.value.now in
-    let f = c.in_ok-plain_form-in-None-as_object.ensures.form in
-    boolean_step w k sh lim d f.0 keys nodes (schema_is w k d d c.in-Some.ensures.value refl) f.1 c.requires.table
-
-pub planned_node-returns-in_ok-plain_form-in-None-as_object-clause-form : goal.planned_node-returns-in_ok-plain_form-in-None-as_object-clause-form
-planned_node-returns-in_ok-plain_form-in-None-as_object-clause-form g t c =
-    let v = key_of g.R.Resolver.point in
-    let w = given_parts (g.R.Resolver.resolving c.args.resolver.now) (g.T.KeywordTable.owned c.args.table.now) (g.T.KeywordTable.script c.args.table.now) c.args.options.now in
-    let sh = g.K.Validate.shape in
-    let lim = c.args.options.now.node_limit in
-    let keys = map v c.args.compiled.now.keys.items in
-    let nodes = c.args.compiled.now.nodes in
-    let k = v c.args.key.now in
-    let d = view c.in-Some.value.now in
-    let f = c.in_ok-plain_form-in-None-as_object.ensures.form in
-    boolean_planned w k sh d f.0 keys nodes _ (schema_is w k d d c.in-Some.ensures.value refl) f.1 f.2
-
-pub edge_to-returns-in-Some-clause-fresh : goal.edge_to-returns-in-Some-clause-fresh
-edge_to-returns-in-Some-clause-fresh g t c =
-    let v = key_of g.R.Resolver.point in
-    let w = given_parts (g.R.Resolver.resolving c.args.resolver.now) (g.T.KeywordTable.owned c.args.table.now) (g.T.KeywordTable.script c.args.table.now) c.args.options.now in
-    let sh = g.K.Validate.shape in
-    let lim = c.args.options.now.node_limit in
-    let keys = map v c.args.compiled.now.keys.items in
-    let nodes = c.args.compiled.now.nodes in
-    λ absent. absurd (absent (rw c.edge_at.ensures.node (rw c.as_slice.ensures.value at c.in-Some.ensures.found)))
-
-pub edge_to-returns-clause-fresh : goal.edge_to-returns-clause-fresh
-edge_to-returns-clause-fresh g t c =
-    let v = key_of g.R.Resolver.point in
-    let w = given_parts (g.R.Resolver.resolving c.args.resolver.now) (g.T.KeywordTable.owned c.args.table.now) (g.T.KeywordTable.script c.args.table.now) c.args.options.now in
-    let sh = g.K.Validate.shape in
-    let lim = c.args.options.now.node_limit in
-    let keys = map v c.args.compiled.now.keys.items in
-    let nodes = c.args.compiled.now.nodes in
-    λ absent. c.finish.ensures.node ∙ c.in_ok-number.ensures.number ∙ c.requires.table.lengths
+    let f = c.in_ok-form_at-in-None.ensures.form in
+    boolean_made w k sh lim f.0 (plan_of c.in_ok-form_at-in-None.field-0) keys nodes f.1 f.2 c.requires.table

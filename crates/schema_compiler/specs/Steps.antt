@@ -1,0 +1,51 @@
+-- What the compiler's functions answer where nothing is refused: the step that was made, and what came of it.
+use Rattle.std.specs.Prelude.{List, None, Option, Some, [], length, slice_get, ℕ, ◌≡◌, ◌≢◌, ◌∷◌}
+use Rattle.serde_json.specs.Data.{Data, Members}
+use Rattle.schema_reports.specs.Instance.{Text}
+use Rattle.schema_reports.specs.Parts.{Parts}
+use Rattle.schema_reports.specs.Plan.{Edge, Key, Part, Plan}
+use Rattle.schema_reports.specs.Reach.{Reached}
+use Rattle.schema_reports.specs.Refusals.{Cause}
+use Rattle.schema_reports.specs.Guarded.{NodeEdge, NodePart, NodePlan, node_always, node_these}
+use Rattle.schema_node.specs.NodeTable.{LeadsToFilled, NodeEntry}
+use Rattle.schema_compiler.specs.Compiling.{Each, option_one}
+use Rattle.schema_compiler.specs.Filling.{AreParts, IsGrown, IsMadePart, IsPlan, IsStep, IsTable, LeadsTo}
+
+module _ {S K R C : Type 0} (w : Parts S K R) (shape : C → K) (limit : ℕ) (keys keys' : List (Key S)) (nodes nodes' : List (NodeEntry C)) where
+  -- a key has a number, the next one if it had none before, and this edge leads there
+  pub record IsEdgeTo (k : Key S) (path : Text) (e : NodeEdge) : Type 0 where
+    pub table : IsTable w shape limit keys' nodes'
+    pub grown : IsGrown (Reached w k) keys keys' nodes nodes'
+    pub number : slice_get keys' e.node ≡ Some k
+    pub fresh : slice_get keys e.node ≢ Some k → e.node ≡ length keys
+    pub at_path : e.path ≡ path
+    pub leads : LeadsToFilled nodes' e
+
+  -- what was asked for has a number, and this edge leads there; no edge where nothing was asked for
+  pub record IsAnswered (asked : Option (Edge S)) (cs : List Cause) (o : Option NodeEdge) : Type 0 where
+    pub step : IsStep w shape limit (option_one asked) cs keys keys' nodes nodes'
+    pub leads : LeadsTo w keys' o asked
+    pub filled : Each (LeadsToFilled nodes') (option_one o)
+
+  module _ (es : List (Edge S)) (cs : List Cause) (k : Key S) where
+    -- a step that made a member's part, if it is to have one
+    pub record MakesPart (o : Option (NodePart C)) (wanted : Option (Part K)) : Type 0 where
+      pub step : IsStep w shape limit es cs keys keys' nodes nodes'
+      pub made : IsMadePart w keys' shape nodes' k o wanted
+
+    -- a step that made the parts of an object, and left the members that no part is made of
+    pub record MakesParts (xs : List (NodePart C)) (wanted : List (Part K)) (left wanted_left : Members) : Type 0 where
+      pub step : IsStep w shape limit es cs keys keys' nodes nodes'
+      pub entries : AreParts w keys' shape nodes' k xs wanted
+      pub unknown : left ≡ wanted_left
+
+    -- a step that made a key's plan and its annotations
+    pub record MakesPlan (p : NodePlan C) (wanted : Plan K) (annotations wanted_annotations : Option Data) : Type 0 where
+      pub step : IsStep w shape limit es cs keys keys' nodes nodes'
+      pub plan : IsPlan w keys' shape nodes' k p wanted
+      pub annotated : annotations ≡ wanted_annotations
+
+-- the plan of a part that stands alone
+abbrev pub alone : {C : Type 0} → Option (NodePart C) → NodePlan C
+alone None = node_always
+alone (Some x) = node_these (x ∷ [])
