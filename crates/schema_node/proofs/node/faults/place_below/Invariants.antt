@@ -4,4 +4,4 @@ use Rattle.schema_node.specs.EvaluationPlaces.{steps_to}
 use Rattle.schema_node.proofs.node.faults.place_below.Given as goal
 
 abbrev pub invariant-loop-step : goal.invariant-loop-step
-invariant-loop-step l = l.lower ++ map step_of (drop l.step-index l.steps) ≡ (steps_to l.place) ++ map step_of l.steps
+invariant-loop-step l = l.lower ++ map step_of (drop l.step-index l.steps) ≡ steps_to l.place ++ map step_of l.steps

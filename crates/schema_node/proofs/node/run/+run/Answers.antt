@@ -41,7 +41,7 @@ run_child-run_edge-requires-in-Some-one_below g t c =
     let ns = numbered g.K.Validate.shape c.args.nodes.now in
     let e = edge_of c.in-Some.edge.now in
     let k = c.requires.children c.args.child e (sym c.in-Some.ensures.edge) in
-    let p = (steps_to c.args.place.now) in
+    let p = steps_to c.args.place.now in
     let step = step_of c.in-Some-one_below.step in
     let es = c.args.context.now.in_progress in
     let none : busy_at (steps_to c.in_ok-lower-in-Some-one_below.lower) es ≡ [] = ap (λ q. busy_at q es) c.in_ok-lower-in-Some-one_below.ensures.below ∙ busy-below p step es c.requires.above in
@@ -64,7 +64,7 @@ run_child-returns-in_ok-run_edge-in-Some-one_below-clause-says g t c =
     let ns = numbered g.K.Validate.shape c.args.nodes.now in
     let e = edge_of c.in-Some.edge.now in
     let k = c.requires.children c.args.child e (sym c.in-Some.ensures.edge) in
-    let p = (steps_to c.args.place.now) in
+    let p = steps_to c.args.place.now in
     let step = step_of c.in-Some-one_below.step in
     let es = c.args.context.now.in_progress in
     let s = subject_of c.args.instance in
@@ -78,7 +78,7 @@ run_child-returns-in_ok-run_edge-in-Some-one_below-clause-says g t c =
 
 pub run_edge-returns-then-branch-clause-says : goal.run_edge-returns-then-branch-clause-says
 run_edge-returns-then-branch-clause-says g t c =
-    let p = (steps_to c.args.place.now) in
+    let p = steps_to c.args.place.now in
     let e = edge_of c.args.edge.now in
     let old = entered_old e.node p c.args.context.now.in_progress c.in_ok-enter.field-0 c.enter.new.self.in_progress (rw c.in_ok-here.ensures.same at c.in_ok-enter.ensures.enters) c.if-branch.true in
     edge_busy g.K.Validate.words g.K.Validate.is_whole (numbered g.K.Validate.shape c.args.nodes.now) (length c.args.nodes.now) (settling (g.M.Matcher.matching c.args.matcher.now) c.args.context.now.remembered.assumptions) (subject_of c.args.instance) (busy_at p c.args.context.now.in_progress) e (mode_of c.args.mode) (path_of c.args.path.now) p c.accepted.result
@@ -87,7 +87,7 @@ run_edge-returns-then-branch-clause-says g t c =
 pub run_edge-run_node-requires-2 : goal.run_edge-run_node-requires-2
 run_edge-run_node-requires-2 g t c =
     let ns = numbered g.K.Validate.shape c.args.nodes.now in
-    let p = (steps_to c.args.place.now) in
+    let p = steps_to c.args.place.now in
     let e = edge_of c.args.edge.now in
     let s = subject_of c.args.instance in
     let new = entered_new e.node p c.args.context.now.in_progress c.in_ok-enter.field-0 c.enter.new.self.in_progress (rw c.in_ok-here.ensures.same at c.in_ok-enter.ensures.enters) c.if-branch.false in
@@ -101,13 +101,13 @@ run_edge-run_node-requires-2 g t c =
 pub run_edge-returns-clause-says : goal.run_edge-returns-clause-says
 run_edge-returns-clause-says g t c =
     let ns = numbered g.K.Validate.shape c.args.nodes.now in
-    let p = (steps_to c.args.place.now) in
+    let p = steps_to c.args.place.now in
     let e = edge_of c.args.edge.now in
     let s = subject_of c.args.instance in
     let new = entered_new e.node p c.args.context.now.in_progress c.in_ok-enter.field-0 c.enter.new.self.in_progress (rw c.in_ok-here.ensures.same at c.in_ok-enter.ensures.enters) c.if-branch.false in
     let busy : busy_at p c.enter.new.self.in_progress ≡ e.node ∷ busy_at p c.args.context.now.in_progress = ap (busy_at p) new.1 ∙ busy-pushed p e.node c.args.context.now.in_progress in
     let answer = subst (λ path. NodeReplies g.K.Validate.words g.K.Validate.is_whole ns (length c.args.nodes.now) (settling (g.M.Matcher.matching c.args.matcher.now) c.args.context.now.remembered.assumptions) (mode_of c.args.mode) path p (busy_at p c.enter.new.self.in_progress) s e.node c.in_ok-reply.reply) c.across-whole.ensures.appended (rw (c.given-place.ensures.same, c.in_ok-here.ensures.same, c.enter.ensures.remembered) at c.in_ok-reply.ensures.says) in
-    let answer' = subst (λ busy. NodeReplies g.K.Validate.words g.K.Validate.is_whole ns (length c.args.nodes.now) (settling (g.M.Matcher.matching c.args.matcher.now) c.args.context.now.remembered.assumptions) (mode_of c.args.mode) ((path_of c.args.path.now) ++ e.path) p busy s e.node c.in_ok-reply.reply) busy answer in
+    let answer' = subst (λ busy. NodeReplies g.K.Validate.words g.K.Validate.is_whole ns (length c.args.nodes.now) (settling (g.M.Matcher.matching c.args.matcher.now) c.args.context.now.remembered.assumptions) (mode_of c.args.mode) (path_of c.args.path.now ++ e.path) p busy s e.node c.in_ok-reply.reply) busy answer in
     edge_entered g.K.Validate.words g.K.Validate.is_whole ns (length c.args.nodes.now) (settling (g.M.Matcher.matching c.args.matcher.now) c.args.context.now.remembered.assumptions) s (busy_at p c.args.context.now.in_progress) e (mode_of c.args.mode) (path_of c.args.path.now) p c.in_ok-reply.reply c.if-not-edge.false new.0 answer'
 
 pub run_form-run_edge-requires : goal.run_form-run_edge-requires
@@ -140,7 +140,7 @@ pub run_node-returns-in_ok-refused-in-Never-clause-says : goal.run_node-returns-
 run_node-returns-in_ok-refused-in-Never-clause-says g t c =
     let ns = numbered g.K.Validate.shape c.args.nodes.now in
     let n = node_of c.node-found.result.now in
-    let p = (steps_to c.args.place.now) in
+    let p = steps_to c.args.place.now in
     let s = subject_of c.args.instance in
     let plan = plan_is g.K.Validate.shape c.args.nodes.now c.args.node.0 n _ c.node-found.ensures.found (ap (option_map plan_of) c.in-Some.is ∙ ap (λ f. Some (plan_of f)) c.in-Never.is) in
     node_by_plan g.K.Validate.words g.K.Validate.is_whole ns (length c.args.nodes.now) (settling (g.M.Matcher.matching c.args.matcher.now) c.args.context.now.remembered.assumptions) (mode_of c.args.mode) (path_of c.args.path.now) p (busy_at p c.args.context.now.in_progress) s c.args.node.0 c.in_ok-refused-in-Never.field-0 node_never plan
@@ -150,7 +150,7 @@ run_node-returns-in_ok-refused-in-Never-clause-says g t c =
 pub run_node-returns-in_ok-run_entries-in-Keywords-clause-says : goal.run_node-returns-in_ok-run_entries-in-Keywords-clause-says
 run_node-returns-in_ok-run_entries-in-Keywords-clause-says g t c =
     let ns = numbered g.K.Validate.shape c.args.nodes.now in
-    let p = (steps_to c.args.place.now) in
+    let p = steps_to c.args.place.now in
     let plan = plan_is g.K.Validate.shape c.args.nodes.now c.args.node.0 (node_of c.node-found.result.now) _ c.node-found.ensures.found (ap (option_map plan_of) c.in-Some.is ∙ ap (λ f. Some (plan_of f)) c.in-Keywords.is) in
     node_by_plan g.K.Validate.words g.K.Validate.is_whole ns (length c.args.nodes.now) (settling (g.M.Matcher.matching c.args.matcher.now) c.args.context.now.remembered.assumptions) (mode_of c.args.mode) (path_of c.args.path.now) p (busy_at p c.args.context.now.in_progress) (subject_of c.args.instance) c.args.node.0 c.in_ok-run_entries-in-Keywords.field-0 _ plan
     (rw c.as_slice.ensures.value at c.in_ok-run_entries-in-Keywords.ensures.says)
@@ -167,7 +167,7 @@ run_entries-loop-entry-init g t c = record {
 pub run_entries-run_entry-requires : goal.run_entries-run_entry-requires
 run_entries-run_entry-requires g t c =
     let ns = numbered g.K.Validate.shape c.args.nodes.now in
-    let p = (steps_to c.args.place.now) in
+    let p = steps_to c.args.place.now in
     let kept = c.loop-entry.invariant.kept in
     let l = ap (λ es. left ns (length c.args.nodes.now) c.args.node.0 (subject_of c.args.instance) (busy_at p es)) kept in
     let here = part_at entry_of (shaped_part g.K.Validate.shape) c.args.entries.now c.loop-entry.entry-index c.entry-item.result c.loop-entry-test.true c.entry-item.is in
@@ -181,7 +181,7 @@ run_entries-loop-entry-preserved g t c = record {
   met = λ texts root depth reads l.
       let ns = numbered g.K.Validate.shape c.args.nodes.now in
       let w = settling (g.M.Matcher.matching c.args.matcher.now) c.args.context.now.remembered.assumptions in
-      let p = (steps_to c.args.place.now) in
+      let p = steps_to c.args.place.now in
       let busy = busy_at p c.args.context.now.in_progress in
       let mode = mode_of c.args.mode in
       let part = shaped_part g.K.Validate.shape (entry_of c.entry-item.result) in
@@ -196,7 +196,7 @@ run_entries-loop-entry-preserved g t c = record {
       next_met w.matcher mode (part_looked g.K.Validate.words ns w texts root depth c.args.node.0 (path_of c.args.path.now) p busy part) (looked (drop (c.loop-entry.entry-index + 1) c.args.entries.now)) _ _ met.0 _ _ _ met.1 here met.2 split last;
   so_far = λ x reads l.
       let ns = numbered g.K.Validate.shape c.args.nodes.now in
-      let p = (steps_to c.args.place.now) in
+      let p = steps_to c.args.place.now in
       let parts = λ (es : List (Entry g.row.K.Denot)). parts_say g.K.Validate.words ns x c.args.node.0 (path_of c.args.path.now) p (busy_at p c.args.context.now.in_progress) (map (shaped_part g.K.Validate.shape) (map entry_of es)) in
       let says = (rw (c.loop-entry.invariant.kept, c.loop-entry.invariant.assumes) at c.in_ok-more.ensures.says) x reads l in
       let split = ap parts (drop_at c.args.entries.now c.loop-entry.entry-index c.entry-item.result c.loop-entry-test.true c.entry-item.is) in
@@ -207,7 +207,7 @@ run_entries-loop-entry-preserved g t c = record {
 pub run_entries-returns-then-is_settled-clause-says : goal.run_entries-returns-then-is_settled-clause-says
 run_entries-returns-then-is_settled-clause-says g t c = λ x reads l.
     let ns = numbered g.K.Validate.shape c.args.nodes.now in
-    let p = (steps_to c.args.place.now) in
+    let p = steps_to c.args.place.now in
     let parts = λ (es : List (Entry g.row.K.Denot)). parts_say g.K.Validate.words ns x c.args.node.0 (path_of c.args.path.now) p (busy_at p c.args.context.now.in_progress) (map (shaped_part g.K.Validate.shape) (map entry_of es)) in
     let says = (rw (c.loop-entry.invariant.kept, c.loop-entry.invariant.assumes) at c.in_ok-more.ensures.says) x reads l in
     let split = ap parts (drop_at c.args.entries.now c.loop-entry.entry-index c.entry-item.result c.loop-entry-test.true c.entry-item.is) in
@@ -228,7 +228,7 @@ run_keyword-turns-init g t c =
     let w = settling (g.M.Matcher.matching c.args.matcher.now) c.args.context.now.remembered.assumptions in
     let name = string_bytes c.args.name.now in
     let ns = numbered g.K.Validate.shape c.args.nodes.now in
-    let p = (steps_to c.args.place.now) in
+    let p = steps_to c.args.place.now in
     let s = subject_of c.args.instance in
     let m = g.K.Validate.shape c.args.keyword.now in
     let es = map (option_map edge_of) c.args.children.now in
@@ -248,7 +248,7 @@ run_keyword-turns-init g t c =
 pub run_keyword-run_child-requires : goal.run_keyword-run_child-requires
 run_keyword-run_child-requires g t c =
     let ns = numbered g.K.Validate.shape c.args.nodes.now in
-    let p = (steps_to c.args.place.now) in
+    let p = steps_to c.args.place.now in
     let s = subject_of c.args.instance in
     let m = g.K.Validate.shape c.args.keyword.now in
     let es = map (option_map edge_of) c.args.children.now in
@@ -266,7 +266,7 @@ run_keyword-run_child-requires g t c =
 pub run_keyword-returns-in-Done-clause-says : goal.run_keyword-returns-in-Done-clause-says
 run_keyword-returns-in-Done-clause-says g t c =
     let ns = numbered g.K.Validate.shape c.args.nodes.now in
-    let p = (steps_to c.args.place.now) in
+    let p = steps_to c.args.place.now in
     let s = subject_of c.args.instance in
     let m = g.K.Validate.shape c.args.keyword.now in
     let es = map (option_map edge_of) c.args.children.now in
@@ -297,7 +297,7 @@ pub run_edge-returns-then-branch-clause-meets : goal.run_edge-returns-then-branc
 run_edge-returns-then-branch-clause-meets g t c =
     let ns = numbered g.K.Validate.shape c.args.nodes.now in
     let w = settling (g.M.Matcher.matching c.args.matcher.now) c.args.context.now.remembered.assumptions in
-    let p = (steps_to c.args.place.now) in
+    let p = steps_to c.args.place.now in
     let s = subject_of c.args.instance in
     let busy = busy_at p c.args.context.now.in_progress in
     let e = edge_of c.args.edge.now in
@@ -308,7 +308,7 @@ pub run_edge-returns-clause-meets : goal.run_edge-returns-clause-meets
 run_edge-returns-clause-meets g t c =
     let ns = numbered g.K.Validate.shape c.args.nodes.now in
     let w = settling (g.M.Matcher.matching c.args.matcher.now) c.args.context.now.remembered.assumptions in
-    let p = (steps_to c.args.place.now) in
+    let p = steps_to c.args.place.now in
     let s = subject_of c.args.instance in
     let busy = busy_at p c.args.context.now.in_progress in
     let e = edge_of c.args.edge.now in
@@ -321,7 +321,7 @@ pub run_entries-returns-then-is_settled-clause-meets : goal.run_entries-returns-
 run_entries-returns-then-is_settled-clause-meets g t c = λ texts root depth reads l.
     let ns = numbered g.K.Validate.shape c.args.nodes.now in
     let w = settling (g.M.Matcher.matching c.args.matcher.now) c.args.context.now.remembered.assumptions in
-    let p = (steps_to c.args.place.now) in
+    let p = steps_to c.args.place.now in
     let busy = busy_at p c.args.context.now.in_progress in
     let mode = mode_of c.args.mode in
     let part = shaped_part g.K.Validate.shape (entry_of c.entry-item.result) in
@@ -339,7 +339,7 @@ pub run_entry-returns-then-is_yes-clause-meets : goal.run_entry-returns-then-is_
 run_entry-returns-then-is_yes-clause-meets g t c = λ texts root depth reads l.
     let ns = numbered g.K.Validate.shape c.args.nodes.now in
     let w = settling (g.M.Matcher.matching c.args.matcher.now) c.args.context.now.remembered.assumptions in
-    let p = (steps_to c.args.place.now) in
+    let p = steps_to c.args.place.now in
     let s = subject_of c.args.instance in
     let busy = busy_at p c.args.context.now.in_progress in
     let part = shaped_part g.K.Validate.shape (entry_of c.args.entry.now) in
@@ -351,7 +351,7 @@ pub run_entry-returns-then-asks_verdict_first-clause-meets : goal.run_entry-retu
 run_entry-returns-then-asks_verdict_first-clause-meets g t c = λ texts root depth reads l.
     let ns = numbered g.K.Validate.shape c.args.nodes.now in
     let w = settling (g.M.Matcher.matching c.args.matcher.now) c.args.context.now.remembered.assumptions in
-    let p = (steps_to c.args.place.now) in
+    let p = steps_to c.args.place.now in
     let s = subject_of c.args.instance in
     let busy = busy_at p c.args.context.now.in_progress in
     let part = shaped_part g.K.Validate.shape (entry_of c.args.entry.now) in
@@ -364,7 +364,7 @@ pub run_child-returns-in_ok-run_edge-in-None-one_below-clause-meets : goal.run_c
 run_child-returns-in_ok-run_edge-in-None-one_below-clause-meets g t c =
     let ns = numbered g.K.Validate.shape c.args.nodes.now in
     let w = settling (g.M.Matcher.matching c.args.matcher.now) c.args.context.now.remembered.assumptions in
-    let p = (steps_to c.args.place.now) in
+    let p = steps_to c.args.place.now in
     let s = subject_of c.args.instance in
     let busy = busy_at p c.args.context.now.in_progress in
     let e = edge_of c.in-Some.edge.now in
@@ -376,7 +376,7 @@ pub run_child-returns-in_ok-run_edge-in-Some-one_below-clause-meets : goal.run_c
 run_child-returns-in_ok-run_edge-in-Some-one_below-clause-meets g t c =
     let ns = numbered g.K.Validate.shape c.args.nodes.now in
     let w = settling (g.M.Matcher.matching c.args.matcher.now) c.args.context.now.remembered.assumptions in
-    let p = (steps_to c.args.place.now) in
+    let p = steps_to c.args.place.now in
     let s = subject_of c.args.instance in
     let busy = busy_at p c.args.context.now.in_progress in
     let e = edge_of c.in-Some.edge.now in
@@ -397,7 +397,7 @@ pub run_form-returns-in_ok-stamped_reply-in-Reference-clause-meets : goal.run_fo
 run_form-returns-in_ok-stamped_reply-in-Reference-clause-meets g t c =
     let ns = numbered g.K.Validate.shape c.args.nodes.now in
     let w = settling (g.M.Matcher.matching c.args.matcher.now) c.args.context.now.remembered.assumptions in
-    let p = (steps_to c.args.place.now) in
+    let p = steps_to c.args.place.now in
     let s = subject_of c.args.instance in
     let busy = busy_at p c.args.context.now.in_progress in
     let e = edge_of c.in-Reference.edge in
@@ -409,7 +409,7 @@ pub run_node-returns-in_ok-refused-in-Never-clause-meets : goal.run_node-returns
 run_node-returns-in_ok-refused-in-Never-clause-meets g t c =
     let ns = numbered g.K.Validate.shape c.args.nodes.now in
     let w = settling (g.M.Matcher.matching c.args.matcher.now) c.args.context.now.remembered.assumptions in
-    let p = (steps_to c.args.place.now) in
+    let p = steps_to c.args.place.now in
     let s = subject_of c.args.instance in
     let busy = busy_at p c.args.context.now.in_progress in
     let plan = plan_is g.K.Validate.shape c.args.nodes.now c.args.node.0 (node_of c.node-found.result.now) _ c.node-found.ensures.found (ap (option_map plan_of) c.in-Some.is ∙ ap (λ f. Some (plan_of f)) c.in-Never.is) in
@@ -419,7 +419,7 @@ pub run_node-returns-in_ok-run_entries-in-Keywords-clause-meets : goal.run_node-
 run_node-returns-in_ok-run_entries-in-Keywords-clause-meets g t c =
     let ns = numbered g.K.Validate.shape c.args.nodes.now in
     let w = settling (g.M.Matcher.matching c.args.matcher.now) c.args.context.now.remembered.assumptions in
-    let p = (steps_to c.args.place.now) in
+    let p = steps_to c.args.place.now in
     let s = subject_of c.args.instance in
     let busy = busy_at p c.args.context.now.in_progress in
     let plan = plan_is g.K.Validate.shape c.args.nodes.now c.args.node.0 (node_of c.node-found.result.now) _ c.node-found.ensures.found (ap (option_map plan_of) c.in-Some.is ∙ ap (λ f. Some (plan_of f)) c.in-Keywords.is) in
@@ -428,7 +428,7 @@ run_node-returns-in_ok-run_entries-in-Keywords-clause-meets g t c =
 pub run_keyword-turns-smaller-in-Ask : goal.run_keyword-turns-smaller-in-Ask
 run_keyword-turns-smaller-in-Ask g t c =
     let ns = numbered g.K.Validate.shape c.args.nodes.now in
-    let p = (steps_to c.args.place.now) in
+    let p = steps_to c.args.place.now in
     let s = subject_of c.args.instance in
     let m = g.K.Validate.shape c.args.keyword.now in
     let es = map (option_map edge_of) c.args.children.now in
@@ -444,7 +444,7 @@ run_keyword-turns-preserved-in-Ask g t c =
     let w = settling (g.M.Matcher.matching c.args.matcher.now) c.args.context.now.remembered.assumptions in
     let name = string_bytes c.args.name.now in
     let ns = numbered g.K.Validate.shape c.args.nodes.now in
-    let p = (steps_to c.args.place.now) in
+    let p = steps_to c.args.place.now in
     let s = subject_of c.args.instance in
     let m = g.K.Validate.shape c.args.keyword.now in
     let es = map (option_map edge_of) c.args.children.now in
@@ -481,7 +481,7 @@ pub run_keyword-turns-smaller-in-Match : goal.run_keyword-turns-smaller-in-Match
 run_keyword-turns-smaller-in-Match g t c =
     let ns = numbered g.K.Validate.shape c.args.nodes.now in
     let w = settling (g.M.Matcher.matching c.args.matcher.now) c.args.context.now.remembered.assumptions in
-    let p = (steps_to c.args.place.now) in
+    let p = steps_to c.args.place.now in
     let s = subject_of c.args.instance in
     let m = g.K.Validate.shape c.args.keyword.now in
     let es = map (option_map edge_of) c.args.children.now in
@@ -498,7 +498,7 @@ pub run_keyword-turns-smaller : goal.run_keyword-turns-smaller
 run_keyword-turns-smaller g t c =
     let ns = numbered g.K.Validate.shape c.args.nodes.now in
     let w = settling (g.M.Matcher.matching c.args.matcher.now) c.args.context.now.remembered.assumptions in
-    let p = (steps_to c.args.place.now) in
+    let p = steps_to c.args.place.now in
     let s = subject_of c.args.instance in
     let m = g.K.Validate.shape c.args.keyword.now in
     let es = map (option_map edge_of) c.args.children.now in
@@ -513,7 +513,7 @@ pub run_keyword-asked_match-requires : goal.run_keyword-asked_match-requires
 run_keyword-asked_match-requires g t c =
     let ns = numbered g.K.Validate.shape c.args.nodes.now in
     let w = settling (g.M.Matcher.matching c.args.matcher.now) c.args.context.now.remembered.assumptions in
-    let p = (steps_to c.args.place.now) in
+    let p = steps_to c.args.place.now in
     let s = subject_of c.args.instance in
     let m = g.K.Validate.shape c.args.keyword.now in
     let es = map (option_map edge_of) c.args.children.now in
@@ -530,7 +530,7 @@ pub run_keyword-turns-preserved-in-Match : goal.run_keyword-turns-preserved-in-M
 run_keyword-turns-preserved-in-Match g t c =
     let ns = numbered g.K.Validate.shape c.args.nodes.now in
     let w = settling (g.M.Matcher.matching c.args.matcher.now) c.args.context.now.remembered.assumptions in
-    let p = (steps_to c.args.place.now) in
+    let p = steps_to c.args.place.now in
     let s = subject_of c.args.instance in
     let m = g.K.Validate.shape c.args.keyword.now in
     let es = map (option_map edge_of) c.args.children.now in
@@ -571,7 +571,7 @@ pub run_keyword-turns-preserved : goal.run_keyword-turns-preserved
 run_keyword-turns-preserved g t c =
     let ns = numbered g.K.Validate.shape c.args.nodes.now in
     let w = settling (g.M.Matcher.matching c.args.matcher.now) c.args.context.now.remembered.assumptions in
-    let p = (steps_to c.args.place.now) in
+    let p = steps_to c.args.place.now in
     let s = subject_of c.args.instance in
     let m = g.K.Validate.shape c.args.keyword.now in
     let es = map (option_map edge_of) c.args.children.now in
@@ -605,7 +605,7 @@ pub run_keyword-returns-in-Done-clause-meets : goal.run_keyword-returns-in-Done-
 run_keyword-returns-in-Done-clause-meets g t c = if_ok_always c.finished.result _ (λ texts root depth reads l.
     let ns = numbered g.K.Validate.shape c.args.nodes.now in
     let w = settling (g.M.Matcher.matching c.args.matcher.now) c.args.context.now.remembered.assumptions in
-    let p = (steps_to c.args.place.now) in
+    let p = steps_to c.args.place.now in
     let s = subject_of c.args.instance in
     let m = g.K.Validate.shape c.args.keyword.now in
     let es = map (option_map edge_of) c.args.children.now in
@@ -628,7 +628,7 @@ pub run_entry-returns-clause-meets : goal.run_entry-returns-clause-meets
 run_entry-returns-clause-meets g t c = λ texts root depth reads l.
     let ns = numbered g.K.Validate.shape c.args.nodes.now in
     let w = settling (g.M.Matcher.matching c.args.matcher.now) c.args.context.now.remembered.assumptions in
-    let p = (steps_to c.args.place.now) in
+    let p = steps_to c.args.place.now in
     let busy = busy_at p c.args.context.now.in_progress in
     let looked = part_looked g.K.Validate.words ns w texts root depth c.args.node.0 (path_of c.args.path.now) p busy (shaped_part g.K.Validate.shape (entry_of c.args.entry.now)) in
     meets_same w.matcher _ _ _ _ (other_entry (mode_of c.args.mode) looked (c.asks_verdict_first.ensures.other c.if-asks_verdict_first.false)) (c.in_ok-run_form-2.ensures.meets texts root depth reads l)
@@ -637,7 +637,7 @@ pub run_entries-returns-clause-meets : goal.run_entries-returns-clause-meets
 run_entries-returns-clause-meets g t c = λ texts root depth reads l.
     let ns = numbered g.K.Validate.shape c.args.nodes.now in
     let w = settling (g.M.Matcher.matching c.args.matcher.now) c.args.context.now.remembered.assumptions in
-    let p = (steps_to c.args.place.now) in
+    let p = steps_to c.args.place.now in
     let looked = λ (es : List (Entry g.row.K.Denot)). parts_looked g.K.Validate.words ns w texts root depth c.args.node.0 (path_of c.args.path.now) p (busy_at p c.args.context.now.in_progress) (map (shaped_part g.K.Validate.shape) (map entry_of es)) in
     end_met w.matcher (mode_of c.args.mode) (looked (drop c.loop-entry.entry-index c.args.entries.now)) (plan_met (mode_of c.args.mode) (looked c.args.entries.now)) c.args.context.now.remembered c.loop-entry.context.remembered
     (ap looked (drop_past c.args.entries.now c.loop-entry.entry-index c.loop-entry-test.false)) (c.loop-entry.invariant.met texts root depth reads l)

@@ -7,5 +7,5 @@ use Rattle.schema_node.proofs.node.sites.place_within.Given as goal
 abbrev pub invariant-loop-step : goal.invariant-loop-step
 invariant-loop-step l = record {
   present : IsPresent (subject_of l.current) (map step_of (drop l.step-index l.steps));
-  so_far : l.lower ++ map step_of (drop l.step-index l.steps) ≡ (steps_to l.place) ++ map step_of l.steps;
+  so_far : l.lower ++ map step_of (drop l.step-index l.steps) ≡ steps_to l.place ++ map step_of l.steps;
 }
