@@ -1,5 +1,5 @@
-use Rattle.engine_bench.proofs.AskAlone.{bench_asks_alone}
+use Rattle.engine_bench.proofs.Unmarked.{bench_takes_no_marks}
 use Rattle.engine_bench.proofs.option_tests.first_is.Goals as goal
 
 pub validate-requires : goal.validate-requires
-validate-requires c = record { asks_alone = bench_asks_alone }
+validate-requires c = record { unmarked = bench_takes_no_marks }
