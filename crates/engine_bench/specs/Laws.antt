@@ -1,5 +1,5 @@
 -- The keywords keep the laws.
-use Rattle.std.proofs.Common.{◌≡◌, ◌∙◌, ℕ, ◌+◌, ◌<◌, ◌⊎◌, ◌∷◌, [], List, Bool, true, false, Option, Some, None, refl, sym, ap, subst, inl, inr, arith, length, zero, suc, is_some, option_and_then, min, ◌-◌, add-zero}
+use Rattle.std.proofs.Common.{◌≡◌, ◌∙◌, ℕ, ◌+◌, ◌<◌, ◌⊎◌, ◌∷◌, [], List, Bool, true, false, Option, Some, None, refl, ap, subst, inl, inr, arith, length, zero, suc, is_some, option_and_then, min, ◌-◌, add-zero}
 use Rattle.std.proofs.lemmas.Slice.Eq.{bytes_eq-Decides}
 use Rattle.std.specs.Prelude.{All, Contains, bytes_eq, if◌then◌else◌, map, option_map, not, ◌++◌}
 use Rattle.std.proofs.lemmas.List.Elements.{All-append, All-map, All-nil, All-cons, All-weaker, Contains-append_right}
@@ -7,7 +7,7 @@ use Rattle.schema_reports.specs.Instance.{Subject, Text, a_name, a_value, item_o
 use Rattle.serde_json.specs.Data.{Data, Items, Members, array, boolean, item, member, no_items, no_members, null, number, object, string}
 use Rattle.schema_reports.specs.Reports.{Unit_, report_of}
 use Rattle.schema_reports.specs.Matching.{Matching, Pair}
-use Rattle.schema_reports.specs.Keywords.{Answer, Answers, Marked, Question, Reply, Turn, done, here, match_text, down, for_all, for_first, for_units, for_verdict}
+use Rattle.schema_reports.specs.Keywords.{Answer, Answers, Marked, Question, Reply, Turn, done, down, match_text, for_all, for_first, for_units, for_verdict}
 use Rattle.schema_reports.specs.Keywords as spec
 use Rattle.schema_reports.specs.Laws.{AsksRightly, IsPresent, IsRight, answer_in, steps_below}
 use Rattle.schema_reports.specs.Turns.{FunctionLaws, Standing, TurnLaws, reply_to, next, step_at as turn_at}

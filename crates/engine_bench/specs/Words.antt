@@ -89,7 +89,7 @@ unless_one none many (suc (suc n)) = many ∷ []
 abbrev pub one_of_tally : Bool → Subject → Tally
 one_of_tally texts s = record { name = codes "oneOf"; enough = 2; told = unless_one (spoken texts (none_text (codes "oneOf") s)) (spoken texts (many_text s)); shows = true }
 
--- ---- pattern
+-- ---- pattern (section 6.3.3 of Validation 2020-12)
 
 abbrev pub pattern_text : Text → Subject → Text
 pattern_text pattern s = subject_text s ++ codes " does not match \"" ++ pattern ++ codes "\""
