@@ -1,7 +1,7 @@
 mod OtherParts
 pub mod Remembers
 pub mod Searches
-pub mod Sentences
+pub mod ErrorSearches
 pub mod Built
 pub mod Compilations
 pub mod RootKeys

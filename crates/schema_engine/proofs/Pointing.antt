@@ -1,9 +1,9 @@
 -- The errors of a validator that is compiled from the schema's root point at keywords and at values.
-use Rattle.std.proofs.Common.{◌≡◌, ◌∙◌, ℕ, sym, ap, subst, Bool, List, map, Some, None}
-use Rattle.std.specs.Prelude.{Option, slice_get}
+use Rattle.std.proofs.Common.{◌≡◌, ◌∙◌, ℕ, sym, ap, subst, Bool, true, false, List, map, Some, None, inl, inr}
+use Rattle.std.proofs.lemmas.List.Elements.{All-contains, All-map, All-weaker}
+use Rattle.std.specs.Prelude.{Option}
 use Rattle.serde_json.specs.Data.{Data}
 use Rattle.schema_reports.specs.Instance.{Text}
-use Rattle.schema_reports.specs.Reports.{Error}
 use Rattle.schema_reports.specs.Matching.{Matcher}
 use Rattle.schema_reports.specs.Resolving.{Resolver}
 use Rattle.schema_reports.specs.Making.{Table}
@@ -11,16 +11,18 @@ use Rattle.schema_reports.specs.Keywords.{Keywords}
 use Rattle.schema_reports.specs.Parts.{Parts}
 use Rattle.schema_reports.specs.Plan.{Key}
 use Rattle.schema_reports.specs.Cover.{Sense}
-use Rattle.schema_reports.specs.Headline.{ErrorsSay, FirstSays}
-use Rattle.schema_reports.specs.ErrorsLead.{EachKeepsAbsorbing, EachLeads, MakesAbsorbing}
+use Rattle.schema_reports.specs.ReportViews.{error_of}
+use Rattle.schema_reports.specs.declared.reports.ValidationError.{ValidationError}
+use Rattle.schema_reports.specs.ErrorsLead.{EachKeepsAbsorbing, EachLeads, MakesAbsorbing, PointsAt}
 use Rattle.schema_reports.specs.Means as means
 use Rattle.schema_reports.specs.Guarded.{guarded_sense}
-use Rattle.schema_reports.specs.Numbered.{AreNumbered, subject_in}
+use Rattle.schema_reports.specs.Numbered.{subject_in}
 use Rattle.schema_reports.proofs.NodeErrorsLead.{node_errors_lead}
-use Rattle.schema_reports.proofs.ListedLead.{first_leads, listed_lead}
+use Rattle.schema_reports.proofs.ListedLead.{first_leads, listed_lead, of_failure}
 use Rattle.schema_node.specs.NodeTable.{numbered}
 use Rattle.schema_node.proofs.PartLaws.{makes_absorbed}
-use Rattle.schema_engine.specs.Program.{Program, FromSomeDepth, Speaks}
+use Rattle.schema_engine.specs.Program.{Program, FromSomeDepth}
+use Rattle.schema_engine.specs.Spoken.{ErrorsAnswered, FirstAnswered, IsGiven}
 use Rattle.schema_engine.specs.ProgramOf.{IsProgramOf}
 use Rattle.schema_engine.specs.Handed.{Options, no_keywords, no_matcher, parts_of}
 use Rattle.schema_engine.specs.Promised.{MeansSchema, OfSchema}
@@ -52,24 +54,38 @@ module _ {S K R C M : Type 0} (resolver : Resolver S) (table : Table K) (matcher
         (numbered_too resolver table no_matcher matcher no_keywords (words texts) options (map Some program.compiled.keys) (numbered shape p.nodes) program.compiled.numbers)
         instance c n p.root root (in_map program.compiled.keys p.root root (program.compiled.is_root ∙ ap Some same)))
 
-  pub each_points : (errors : Bool → List Error) → FromSomeDepth shape words is_whole matching p instance (λ texts v. ErrorsSay v (errors texts))
-      → OfSchema resolver table matcher words options schema instance (λ texts w root. means.FromSomeDepth (words texts) (matching p.matcher) (numbered shape p.nodes) p.root instance (λ v. EachPoints w root instance v (errors texts)))
-  each_points errors says = λ texts root is_root speaks.
-      let here = w texts root in
-      let none = w0 texts root in
-      let same = one_root_key none schema program.root root program.is_root (root_key_too resolver table table matcher no_matcher (words texts) no_keywords options schema root (root_key_of here schema root is_root)) in
-      let deep = says texts (meant instance texts root is_root speaks).0 in
-      (deep.0, λ n more. listed_lead here root instance (sense_at texts root (matching p.matcher) n) (leads texts root same n) (errors texts) (deep.1 n more))
+  -- an error that a completion gives points at keyword and value
+  given_points : (texts : Bool) (root : Key S) (v : Sense) → EachLeads (w texts root) root instance v → (e : ValidationError) → IsGiven v texts e → PointsAt (w texts root) root instance (error_of texts e)
+  given_points texts root v lead e given = All-contains (PointsAt (w texts root) root instance) (v.says given.0).errors (error_of texts e) (lead given.0) given.1
 
-  first_points_at : (texts : Bool) (root : Key S) (v : Sense) → EachLeads (w texts root) root instance v → (o : Option Error) → FirstSays v o → FirstPoints (w texts root) root instance v o
+  each_points_at : (texts : Bool) (root : Key S) (v : Sense) → EachLeads (w texts root) root instance v → (es : List ValidationError) → ErrorsAnswered v texts es → EachPoints (w texts root) root instance v texts es
+  each_points_at true root v lead es says = listed_lead (w true root) root instance v lead (map (error_of true) es) says
+  each_points_at false root v lead es says = (
+    λ decides. elim says.given [
+      | inl all ↦ inl (All-map (PointsAt (w false root) root instance) (error_of false) es (All-weaker (IsGiven v false) (λ e. PointsAt (w false root) root instance (error_of false e)) (given_points false root v lead) es all))
+      | inr failure ↦ inr failure
+    ],
+    says.undecided,
+  )
+
+  pub each_points : (es : List ValidationError) → FromSomeDepth shape words is_whole matching p instance (λ texts v. ErrorsAnswered v texts es)
+      → OfSchema resolver table matcher words options schema instance (λ texts w root. means.FromSomeDepth (words texts) (matching p.matcher) (numbered shape p.nodes) p.root instance (λ v. EachPoints w root instance v texts es))
+  each_points es says = λ texts root is_root speaks.
+      let same = one_root_key (w0 texts root) schema program.root root program.is_root (root_key_too resolver table table matcher no_matcher (words texts) no_keywords options schema root (root_key_of (w texts root) schema root is_root)) in
+      let deep = says texts (meant instance texts root is_root speaks).0 in
+      (deep.0, λ n more. each_points_at texts root (sense_at texts root (matching p.matcher) n) (leads texts root same n) es (deep.1 n more))
+
+  first_points_at : (texts : Bool) (root : Key S) (v : Sense) → EachLeads (w texts root) root instance v → (o : Option ValidationError) → FirstAnswered v texts o → FirstPoints (w texts root) root instance v texts o
   first_points_at texts root v lead None says = tt
-  first_points_at texts root v lead (Some e) says = first_leads (w texts root) root instance v lead e says
+  first_points_at true root v lead (Some e) says = first_leads (w true root) root instance v lead (error_of true e) says
+  first_points_at false root v lead (Some e) says = (
+    λ decides. elim says.given [ inl given ↦ inl (given_points false root v lead e given) | inr failure ↦ inr failure ],
+    λ not. of_failure (PointsAt (w false root) root instance) v (error_of true e) (says.undecided not),
+  )
 
-  pub first_points : (first : Bool → Option Error) → FromSomeDepth shape words is_whole matching p instance (λ texts v. FirstSays v (first texts))
-      → OfSchema resolver table matcher words options schema instance (λ texts w root. means.FromSomeDepth (words texts) (matching p.matcher) (numbered shape p.nodes) p.root instance (λ v. FirstPoints w root instance v (first texts)))
-  first_points first says = λ texts root is_root speaks.
-      let here = w texts root in
-      let none = w0 texts root in
-      let same = one_root_key none schema program.root root program.is_root (root_key_too resolver table table matcher no_matcher (words texts) no_keywords options schema root (root_key_of here schema root is_root)) in
+  pub first_points : (o : Option ValidationError) → FromSomeDepth shape words is_whole matching p instance (λ texts v. FirstAnswered v texts o)
+      → OfSchema resolver table matcher words options schema instance (λ texts w root. means.FromSomeDepth (words texts) (matching p.matcher) (numbered shape p.nodes) p.root instance (λ v. FirstPoints w root instance v texts o))
+  first_points o says = λ texts root is_root speaks.
+      let same = one_root_key (w0 texts root) schema program.root root program.is_root (root_key_too resolver table table matcher no_matcher (words texts) no_keywords options schema root (root_key_of (w texts root) schema root is_root)) in
       let deep = says texts (meant instance texts root is_root speaks).0 in
-      (deep.0, λ n more. first_points_at texts root (sense_at texts root (matching p.matcher) n) (leads texts root same n) (first texts) (deep.1 n more))
+      (deep.0, λ n more. first_points_at texts root (sense_at texts root (matching p.matcher) n) (leads texts root same n) o (deep.1 n more))

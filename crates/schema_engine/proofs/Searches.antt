@@ -1,13 +1,13 @@
 -- The runs of a search over unfinished matches are those of the nodes' sense.
-use Rattle.std.proofs.Common.{◌≡◌, ◌∙◌, ℕ, Bool, true, false, ◌&&◌, [], ◌∷◌, refl, sym, ap, subst, arith, IfOk, Ok, Err, Result}
+use Rattle.std.proofs.Common.{◌≡◌, ◌∙◌, ℕ, Bool, true, false, ◌&&◌, List, [], ◌∷◌, refl, sym, ap, subst, arith, IfOk, Ok, Err, Result}
 use Rattle.std.specs.Prelude.{Option, Some, None, is_some, option_map}
 use Rattle.serde_json.specs.Data.{Data}
-use Rattle.schema_reports.specs.Reports.{Outcome}
+use Rattle.schema_reports.specs.Reports.{Error, Outcome}
 use Rattle.schema_reports.specs.Matching.{Assumptions, Extends, Matcher, completion_of}
-use Rattle.schema_reports.specs.Keywords.{Keywords, for_verdict, truth}
+use Rattle.schema_reports.specs.Keywords.{Keywords, Mode, all_of_it, first_of_it, for_verdict, truth}
 use Rattle.schema_reports.specs.Runs.{Run, no_run}
 use Rattle.schema_reports.specs.Unfinished.{Failure, Remembered, starting}
-use Rattle.schema_reports.specs.Cover.{Cover, Sense, branch_at, is_valid, whole}
+use Rattle.schema_reports.specs.Cover.{Call, Cover, Sense, branch_at, is_valid, mode_of, whole}
 use Rattle.schema_reports.specs.Headline.{VerdictSays}
 use Rattle.schema_reports.specs.Members.{Follows, verdict_of}
 use Rattle.schema_reports.specs.Searched.{IsRunOf, Reaches, here, next}
@@ -25,10 +25,10 @@ module _ {K R : Type 0} (keywords : Keywords K R) (each : EachKeeps keywords) (m
   abbrev pub sense : Sense
   sense = guarded_sense keywords matcher nodes (subject_in instance) n root
 
-  abbrev run_with : Assumptions → Run
+  abbrev pub run_with : Assumptions → Run
   run_with as' = guarded_within no_run (guarded_node keywords matcher nodes (subject_in instance) as') n root [] [] []
 
-  outcome : (as' : Assumptions) → (run_with as').outcome tt ≡ sense.says (completion_of as')
+  pub outcome : (as' : Assumptions) → (run_with as').outcome tt ≡ sense.says (completion_of as')
   outcome as' = (runs_say_outcomes keywords matcher nodes (subject_in instance) as' n root [] [] []).0
 
   pub follows : Follows sense
@@ -47,21 +47,34 @@ module _ {K R : Type 0} (keywords : Keywords K R) (each : EachKeeps keywords) (m
       and_true true = refl
       and_true false = refl
 
-  -- the verdict runs, by a closure that stays as it is
-  module _ {S : Type 0} (Step : S → Remembered → Remembered → Bool → S → Type 0) (start : S) (stays : (given r : Remembered) (b : Bool) (end : S) → Step start given r b end → end ≡ start) where
+  -- the runs of a search, by a closure that stays as it is
+  module _ {S T : Type 0} (Step : S → Remembered → Remembered → T → S → Type 0) (start : S) (stays : (given r : Remembered) (result : T) (end : S) → Step start given r result end → end ≡ start) where
     at_start : (s : S) → Reaches Step start s → s ≡ start
     at_start _ here = refl
-    at_start _ (next s given r b end at step) = stays given r b end (subst (λ z. Step z given r b end) (at_start s at) step)
+    at_start _ (next s given r result end at step) = stays given r result end (subst (λ z. Step z given r result end) (at_start s at) step)
 
-    pub verdict_runs : (first : Remembered) → first.assumptions ≡ [] → MeetsEach matcher (starting []) ((run_with []).met for_verdict) first
-        → ((as' : Assumptions) (r : Remembered) (b : Bool) (end : S) → Step start (starting as') r b end → Extends (completion_of as') as' → (b ≡ ((run_with as').outcome tt).verdict) × MeetsEach matcher (starting as') ((run_with as').met for_verdict) r)
-        → IsRunOf sense is_valid Step first start (λ (b : Bool). b) (verdict_of sense)
-    verdict_runs first none met h = record {
+    -- each step is one from the start
+    pub from_start : (s : S) (given r : Remembered) (result : T) (end : S) → Reaches Step start s → Step s given r result end → Step start given r result end
+    from_start s given r result end at step = subst (λ z. Step z given r result end) (at_start s at) step
+
+    -- the first run has the call's own mode, the further ones may have another one
+    pub search_runs : (call : Call) (mode : Mode) → ((as' : Assumptions) → ¬ (as' ≡ []) → mode_of call as' ≡ mode) → {V : Type 0} (view : T → V) (says : Assumptions → V) (first : Remembered) → first.assumptions ≡ []
+        → MeetsEach matcher (starting []) ((run_with []).met (mode_of call [])) first
+        → ((as' : Assumptions) (r : Remembered) (result : T) (end : S) → Step start (starting as') r result end → Extends (completion_of as') as' → (view result ≡ says as') × MeetsEach matcher (starting as') ((run_with as').met mode) r)
+        → IsRunOf sense call Step first start view says
+    search_runs call mode later view says first none met h = record {
       assumes_none = none;
-      remembers_first = remembers_of matcher sense is_valid [] first refl met;
-      remembers = λ s as' r b end at run step. remembers_of matcher sense is_valid as' r refl (h as' r b end (subst (λ z. Step z (starting as') r b end) (at_start s at) step) (pairs_differ sense is_valid run).1).1;
-      gives = λ s as' r b end at run step all. (h as' r b end (subst (λ z. Step z (starting as') r b end) (at_start s at) step) (pairs_differ sense is_valid run).1).0 ∙ ap (λ (o : Outcome). o.verdict) (outcome as');
+      remembers_first = remembers_of matcher sense call [] first refl met;
+      remembers = λ s as' r result end at run some step. remembers_of matcher sense call as' r refl
+          (subst (λ z. MeetsEach matcher (starting as') ((run_with as').met z) r) (sym (later as' some)) (h as' r result end (from_start s (starting as') r result end at step) (pairs_differ sense call run).1).1);
+      gives = λ s as' r result end at run some step all. (h as' r result end (from_start s (starting as') r result end at step) (pairs_differ sense call run).1).0;
     }
+
+    pub verdict_runs : (view : T → Bool) (first : Remembered) → first.assumptions ≡ [] → MeetsEach matcher (starting []) ((run_with []).met for_verdict) first
+        → ((as' : Assumptions) (r : Remembered) (b : T) (end : S) → Step start (starting as') r b end → Extends (completion_of as') as' → (view b ≡ ((run_with as').outcome tt).verdict) × MeetsEach matcher (starting as') ((run_with as').met for_verdict) r)
+        → IsRunOf sense is_valid Step first start view (verdict_of sense)
+    verdict_runs view first none met h = search_runs is_valid for_verdict (λ as' some. refl) view (verdict_of sense) first none met
+        (λ as' r b end step once. let told = h as' r b end step once in (told.0 ∙ ap (λ (o : Outcome). o.verdict) (outcome as'), told.1))
 
 -- ---- what is said of a result that is there
 
@@ -75,3 +88,9 @@ none_of (Some x) e = absurd (cc e)
 
 pub truth_is : (a b : Bool) → truth a ≡ truth b → a ≡ b
 truth_is a b e = cc
+
+pub first_is : (a b : Option Error) → first_of_it a ≡ first_of_it b → a ≡ b
+first_is a b e = cc
+
+pub errors_are : (a b : List Error) → all_of_it a ≡ all_of_it b → a ≡ b
+errors_are a b e = cc

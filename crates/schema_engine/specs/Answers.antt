@@ -1,14 +1,15 @@
 -- What the run of the root's node answers: at every great enough depth, what its guarded meaning does, by the mode.
-use Rattle.std.specs.Prelude.{◌≡◌, ℕ, ◌<◌, [], Bool, length, Option, Some, None, Result, Ok, Err}
+use Rattle.std.specs.Prelude.{◌≡◌, ℕ, ◌<◌, [], Bool, List, length, map, option_map, Option, Some, None, Result, Ok, Err}
 use Rattle.serde_json.specs.Data.{Data}
 use Rattle.schema_reports.specs.Matching.{Assumptions, Extends, Matcher, completion_of}
 use Rattle.schema_reports.specs.Keywords.{Keywords}
 use Rattle.schema_reports.specs.Keywords as wanted
-use Rattle.schema_reports.specs.Runs.{Run, reply_in, no_run}
+use Rattle.schema_reports.specs.Runs.{Run, first_error, reply_in, no_run}
 use Rattle.schema_reports.specs.Unfinished.{Remembered}
 use Rattle.schema_node.specs.Matches.{MeetsEach}
 use Rattle.schema_reports.specs.Guarded.{guarded_within, guarded_node}
 use Rattle.schema_reports.specs.Numbered.{left, subject_in}
+use Rattle.schema_reports.specs.ReportViews.{error_of}
 use Rattle.schema_reports.specs.declared.reports.ValidationError.{ValidationError}
 use Rattle.schema_node.specs.KeywordViews.{mode_of, reply_of}
 use Rattle.schema_node.specs.NodeTable.{numbered}
@@ -30,6 +31,12 @@ module _ {K S R M : Type 0} (shape : K → S) (words : Bool → Keywords S R) (i
 
   abbrev pub SaysVerdict : Assumptions → Bool → Type 0
   SaysVerdict as' b = OfRun as' (λ texts run. b ≡ (run.outcome tt).verdict)
+
+  abbrev pub SaysErrors : Assumptions → List ValidationError → Type 0
+  SaysErrors as' es = OfRun as' (λ texts run. map (error_of texts) es ≡ (run.outcome tt).errors)
+
+  abbrev pub SaysFirst : Assumptions → Option ValidationError → Type 0
+  SaysFirst as' o = OfRun as' (λ texts run. option_map (error_of texts) o ≡ first_error (run.outcome tt).errors)
 
   -- what it remembers after it, of what it met
   abbrev pub MeetsMatches : wanted.Mode → Remembered → Remembered → Type 0

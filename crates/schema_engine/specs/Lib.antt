@@ -2,6 +2,7 @@ pub mod Program
 pub mod Compiled
 pub mod Handed
 pub mod Answers
+pub mod Spoken
 pub mod Promised
 pub mod Pointing
 pub mod Roots

@@ -1,19 +1,20 @@
 //! A validator: what it answers of instances.
-ghost use Rattle.std.specs.Prelude.{◌≡◌, false, ℕ, List, Bool, Option, IfOk, All, IfSome, option_map, map, length, ◌<◌};
+ghost use Rattle.std.specs.Prelude.{◌≡◌, [], false, ℕ, List, Bool, Option, IfOk, All, IfSome, length, slice_get, ◌<◌};
 ghost use Rattle.serde_json.specs.View.{view};
-ghost use Rattle.schema_reports.specs.Laws.{AsksAlone};
 ghost use Rattle.schema_reports.specs.Cover.{is_valid};
-ghost use Rattle.schema_reports.specs.Headline.{VerdictSays, ErrorsSay, FirstSays};
+ghost use Rattle.schema_reports.specs.Headline.{VerdictSays};
 ghost use Rattle.schema_reports.specs.KeywordViews.{draft_of};
-ghost use Rattle.schema_reports.specs.ReportViews.{error_of, BorrowsItsPlace};
+ghost use Rattle.schema_reports.specs.Unfinished.{starting};
+ghost use Rattle.schema_reports.specs.ReportViews.{BorrowsItsPlace};
 ghost use Rattle.schema_engine.specs.Program.{OfEverySense, FromSomeDepth};
 ghost use Rattle.schema_node.specs.FaultViews.{errors_in};
 ghost use Rattle.schema_node.specs.KeywordViews.{mode_of, reply_of};
 ghost use Rattle.schema_node.specs.Marks.{TakesNoMarks};
 ghost use Rattle.schema_node.specs.NodeRuns.{reply_by};
 ghost use Rattle.schema_reports.specs.Reports.{Outcome};
-ghost use Rattle.schema_reports.specs.Keywords.{for_units, for_verdict};
-ghost use Rattle.schema_engine.specs.Answers.{SaysReply, SaysVerdict, MeetsMatches, refusal_of};
+ghost use Rattle.schema_reports.specs.Keywords.{for_all, for_first, for_units, for_verdict};
+ghost use Rattle.schema_engine.specs.Answers.{SaysErrors, SaysFirst, SaysReply, SaysVerdict, MeetsMatches, refusal_of};
+ghost use Rattle.schema_engine.specs.Spoken.{ErrorsAnswered, FirstAnswered};
 
 use schema_node::context::keyword::{Mode, Reply, Validate};
 use schema_node::context::matcher::Matcher;
@@ -23,7 +24,9 @@ use schema_reports::instance::{Instance, Place};
 use schema_reports::keywords::Draft;
 use schema_reports::location::{Location, OutOfMemory};
 use schema_reports::reports::{ErrorIterator, ValidationError};
-use schema_reports::unfinished_matches::{MatchAssumptions, validity_under_each};
+use schema_reports::unfinished_matches::{
+    MatchAssumptions, errors_under_each, validity_under_each,
+};
 use serde_json::Value;
 use std::alloc::Global;
 use std::marker::Model;
@@ -51,6 +54,18 @@ impl<K, M> Model for Validator<K, M> {
     ghost view = { λ v. record { nodes = v.nodes; root = v.root.0; draft = draft_of v.draft; matcher = v.matcher } };
 
     ghost invariant = { λ v. v.root.0 < length v.nodes };
+}
+
+// The first of these errors.
+fn first_of<'i>(errors: Vec<ValidationError<'i>>) -> Option<ValidationError<'i>>
+    ensures first { result ≡ slice_get errors.entry.items 0 }
+{
+    let mut errors = errors;
+    if errors.is_empty() {
+        None
+    } else {
+        Some(errors.remove(0))
+    }
 }
 
 // A refusal with the error, if there is one.
@@ -165,38 +180,90 @@ impl<K: Validate, M: Matcher> Validator<K, M> {
         )
     }
 
-    // The first error of the root's node.
+    // The first error of the root's node, where nothing is assumed.
     fn first<'i>(
         &self,
         alloc: Global,
         instance: &'i Value,
-    ) -> Result<Option<ValidationError<'i>>, OutOfMemory>
-        requires asks_alone { (texts : Bool) → AsksAlone (K.words texts) }
-        ensures depth { IfOk result (λ e. FromSomeDepth K.shape K.words K.is_whole M.matching self.now (view instance.now) (λ texts v. FirstSays v (option_map (error_of texts) e))) }
-        ensures borrows { IfOk result (λ e. IfSome e (BorrowsItsPlace (view instance.now))) }
+    ) -> Result<(MatchAssumptions<'i>, Option<ValidationError<'i>>), OutOfMemory>
+        requires unmarked { (texts : Bool) → TakesNoMarks (K.words texts) }
+        ensures says { IfOk result (λ r. SaysFirst K.shape K.words K.is_whole M.matching self.now (view instance.now) [] r.1) }
+        ensures meets { IfOk result (λ r. MeetsMatches K.shape K.words K.is_whole M.matching self.now (view instance.now) for_first (starting []) r.0) }
+        ensures assumes { IfOk result (λ r. r.0.assumptions ≡ []) }
+        ensures borrows { IfOk result (λ r. IfSome r.1 (BorrowsItsPlace (view instance.now))) }
     {
-        let (_, reply) = self.asked(alloc, instance, Mode::First, MatchAssumptions::new(alloc))?;
+        let (met, reply) = self.asked(alloc, instance, Mode::First, MatchAssumptions::new(alloc))?;
         match reply {
-            Reply::First(error) => Ok(error),
+            Reply::First(error) => Ok((met, error)),
             _ => unreachable!(),
         }
     }
 
-    // All errors of the root's node.
+    // All errors of the root's node, under what is assumed of unfinished matches.
     fn errors<'i>(
         &self,
         alloc: Global,
         instance: &'i Value,
-    ) -> Result<Vec<ValidationError<'i>>, OutOfMemory>
-        requires asks_alone { (texts : Bool) → AsksAlone (K.words texts) }
-        ensures depth { IfOk result (λ es. FromSomeDepth K.shape K.words K.is_whole M.matching self.now (view instance.now) (λ texts v. ErrorsSay v (map (error_of texts) es.items))) }
-        ensures borrows { IfOk result (λ es. All (BorrowsItsPlace (view instance.now)) es.items) }
+        matches: MatchAssumptions<'i>,
+    ) -> Result<(MatchAssumptions<'i>, Vec<ValidationError<'i>>), OutOfMemory>
+        requires unmarked { (texts : Bool) → TakesNoMarks (K.words texts) }
+        ensures says { IfOk result (λ r. SaysErrors K.shape K.words K.is_whole M.matching self.now (view instance.now) matches.entry.assumptions r.1.items) }
+        ensures meets { IfOk result (λ r. MeetsMatches K.shape K.words K.is_whole M.matching self.now (view instance.now) for_all matches.entry r.0) }
+        ensures assumes { IfOk result (λ r. r.0.assumptions ≡ matches.entry.assumptions) }
+        ensures borrows { IfOk result (λ r. All (BorrowsItsPlace (view instance.now)) r.1.items) }
     {
-        let (_, reply) = self.asked(alloc, instance, Mode::All, MatchAssumptions::new(alloc))?;
+        let (met, reply) = self.asked(alloc, instance, Mode::All, matches)?;
         match reply {
-            Reply::All(errors) => Ok(errors),
+            Reply::All(errors) => Ok((met, errors)),
             _ => unreachable!(),
         }
+    }
+
+    // The first of the errors that every outcome of the unfinished matches gives. Where the first run meets such a match, the
+    // further runs want all errors.
+    fn first_under_each<'i>(
+        &self,
+        alloc: Global,
+        instance: &'i Value,
+    ) -> Result<Option<ValidationError<'i>>, OutOfMemory>
+        requires unmarked { (texts : Bool) → TakesNoMarks (K.words texts) }
+        ensures depth { IfOk result (λ e. FromSomeDepth K.shape K.words K.is_whole M.matching self.now (view instance.now) (λ texts v. FirstAnswered v texts e)) }
+        ensures borrows { IfOk result (λ e. IfSome e (BorrowsItsPlace (view instance.now))) }
+    {
+        let (met, error) = self.first(alloc, instance)?;
+        if !met.met_unassumed() {
+            return Ok(error);
+        }
+        let shared = errors_under_each(
+            alloc,
+            |matches| self.errors(alloc, instance, matches),
+            (met, Vec::new(alloc)),
+            instance,
+        )?;
+        Ok(first_of(shared))
+    }
+
+    // The errors that every outcome of the unfinished matches gives.
+    fn all_under_each<'i>(
+        &self,
+        alloc: Global,
+        instance: &'i Value,
+    ) -> Result<Vec<ValidationError<'i>>, OutOfMemory>
+        requires unmarked { (texts : Bool) → TakesNoMarks (K.words texts) }
+        ensures depth { IfOk result (λ es. FromSomeDepth K.shape K.words K.is_whole M.matching self.now (view instance.now) (λ texts v. ErrorsAnswered v texts es.items)) }
+        ensures borrows { IfOk result (λ es. All (BorrowsItsPlace (view instance.now)) es.items) }
+    {
+        let (met, errors) = self.errors(alloc, instance, MatchAssumptions::new(alloc))?;
+        if !met.met_unassumed() {
+            return Ok(errors);
+        }
+        let shared = errors_under_each(
+            alloc,
+            |matches| self.errors(alloc, instance, matches),
+            (met, errors),
+            instance,
+        )?;
+        Ok(shared)
     }
 
     /// Whether the instance is accepted. Where the first run meets a match that the matcher leaves unfinished, whether all
@@ -209,31 +276,35 @@ impl<K: Validate, M: Matcher> Validator<K, M> {
         Ok(self.valid_under_each(alloc, instance)?)
     }
 
-    /// The first error, or none where the instance is accepted.
+    /// The first error, or none where the instance is accepted. Where the first run meets a match that the matcher leaves
+    /// unfinished, the first of the errors that all outcomes of such matches give, or one that tells of such a match, where they
+    /// give none in common and some outcome refuses, or where more runs are called for than a call makes.
     pub fn validate<'i>(
         &self,
         alloc: Global,
         instance: &'i Value,
     ) -> Result<Result<(), ValidationError<'i>>, OutOfMemory>
-        requires asks_alone { (texts : Bool) → AsksAlone (K.words texts) }
-        ensures depth { IfOk result (λ r. FromSomeDepth K.shape K.words K.is_whole M.matching self.now (view instance.now) (λ texts v. FirstSays v (option_map (error_of texts) (refusal_of r)))) }
-        ensures senses { IfOk result (λ r. OfEverySense K.shape K.words K.is_whole M.matching self.now (view instance.now) (λ texts v. FirstSays v (option_map (error_of texts) (refusal_of r)))) }
+        requires unmarked { (texts : Bool) → TakesNoMarks (K.words texts) }
+        ensures depth { IfOk result (λ r. FromSomeDepth K.shape K.words K.is_whole M.matching self.now (view instance.now) (λ texts v. FirstAnswered v texts (refusal_of r))) }
+        ensures senses { IfOk result (λ r. OfEverySense K.shape K.words K.is_whole M.matching self.now (view instance.now) (λ texts v. FirstAnswered v texts (refusal_of r))) }
         ensures borrows { IfOk result (λ r. IfSome (refusal_of r) (BorrowsItsPlace (view instance.now))) }
     {
-        Ok(unless_refused(self.first(alloc, instance)?))
+        Ok(unless_refused(self.first_under_each(alloc, instance)?))
     }
 
-    /// All errors, in order; none where the instance is accepted.
+    /// All errors, in order; none where the instance is accepted. Where the first run meets a match that the matcher leaves
+    /// unfinished, the errors that all outcomes of such matches give, or one that tells of such a match, where they give none in
+    /// common and some outcome refuses, or where more runs are called for than a call makes.
     pub fn iter_errors<'i>(
         &self,
         alloc: Global,
         instance: &'i Value,
     ) -> Result<ErrorIterator<'i>, OutOfMemory>
-        requires asks_alone { (texts : Bool) → AsksAlone (K.words texts) }
-        ensures depth { IfOk result (λ es. FromSomeDepth K.shape K.words K.is_whole M.matching self.now (view instance.now) (λ texts v. ErrorsSay v (map (error_of texts) es))) }
-        ensures senses { IfOk result (λ es. OfEverySense K.shape K.words K.is_whole M.matching self.now (view instance.now) (λ texts v. ErrorsSay v (map (error_of texts) es))) }
+        requires unmarked { (texts : Bool) → TakesNoMarks (K.words texts) }
+        ensures depth { IfOk result (λ es. FromSomeDepth K.shape K.words K.is_whole M.matching self.now (view instance.now) (λ texts v. ErrorsAnswered v texts es)) }
+        ensures senses { IfOk result (λ es. OfEverySense K.shape K.words K.is_whole M.matching self.now (view instance.now) (λ texts v. ErrorsAnswered v texts es)) }
         ensures borrows { IfOk result (λ es. All (BorrowsItsPlace (view instance.now)) es) }
     {
-        Ok(ErrorIterator::new(self.errors(alloc, instance)?))
+        Ok(ErrorIterator::new(self.all_under_each(alloc, instance)?))
     }
 }

@@ -59,4 +59,5 @@ mod SearchedSense
 mod SearchedFailure
 mod SearchedSays
 mod SearchedErrors
+pub mod SitesInside
 pub mod Remembering

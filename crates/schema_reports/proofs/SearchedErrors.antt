@@ -1,29 +1,32 @@
 -- The errors of the search over a sense's runs are those that the sense's call lists.
-use Rattle.std.proofs.Common.{◌≡◌, ℕ, List, [], ◌∷◌, ◌++◌, Bool, true, false, ◌&&◌, ◌||◌, cond, Some, sym, ◌∙◌, ap, ap₂, subst, refl, arith, map}
-use Rattle.std.specs.Prelude.{Option, filter, option_map}
+use Rattle.std.proofs.Common.{◌≡◌, ℕ, zero, List, [], ◌∷◌, ◌++◌, ◌⊎◌, inl, inr, Bool, true, false, ◌&&◌, ◌||◌, cond, Some, None, sym, ◌∙◌, ap, ap₂, subst, refl, arith, map}
+use Rattle.std.specs.Prelude.{All, Contains, Option, filter, option_map}
+use Rattle.std.proofs.lemmas.List.Elements.{All-contains, All-contains_itself, All-filter, All-map, All-nil, All-weaker, Contains-append_right}
 use Rattle.std.specs.List.{list_all, list_any}
 use Rattle.std.specs.Global.{Vec}
 use Rattle.serde_json.specs.Data.{Data}
-use Rattle.schema_reports.specs.Matching.{Assumptions}
-use Rattle.schema_reports.specs.Reports.{Error, same_error}
+use Rattle.schema_reports.specs.Matching.{Assumptions, completion_of}
+use Rattle.schema_reports.specs.Reports.{Error, Outcome, same_error}
 use Rattle.schema_reports.specs.Runs.{first_error}
-use Rattle.schema_reports.specs.Cover.{Call, Sense, branch_at, evaluate, iter_errors, validate}
+use Rattle.schema_reports.specs.Cover.{Call, IsRun, Sense, branch_at, iter_errors, validate}
 use Rattle.schema_reports.specs.Headline.{ErrorsSay, FirstSays, IsFailure, VerdictSays}
-use Rattle.schema_reports.specs.Members.{Follows, is_nil, listed, none_has, or_failure, shared_with}
+use Rattle.schema_reports.specs.Laws.{Agrees}
+use Rattle.schema_reports.specs.Members.{Follows, all_accept, is_nil, listed, none_has, or_failure, shared_with, verdict_of}
 use Rattle.schema_reports.specs.Shared.{errors_of, in_each}
 use Rattle.schema_reports.specs.ReportViews.{error_of}
-use Rattle.schema_reports.specs.Unfinished.{Failure, Remembered}
+use Rattle.schema_reports.specs.Unfinished.{Failure, Remembered, starting}
 use Rattle.schema_reports.specs.Search.{Made, Tree, lists_of, results_of, sites}
-use Rattle.schema_reports.specs.SharedResults.{IsSharedBy, OrFailure, has_key, in_each_of, is_empty, or_none, shared_among}
+use Rattle.schema_reports.specs.SearchGives.{FailureAlone, GivesErrors, OfRun}
+use Rattle.schema_reports.specs.SharedResults.{IsSharedBy, OneError, OrFailure, has_key, in_each_of, is_empty, or_none, shared_among}
 use Rattle.schema_reports.specs.Outcomes.{AreErrors, AreOutcomes, errors_in, none_in}
-use Rattle.schema_reports.specs.Searched.{IsRunOf, failure_error}
+use Rattle.schema_reports.specs.Searched.{IsRunOf, Reaches, failure_error}
 use Rattle.schema_reports.specs.declared.reports.ValidationError.{ValidationError}
 use Rattle.schema_reports.specs.declared.unfinished_matches.search.Outcomes.{Outcomes}
 use Rattle.schema_reports.specs.declared.unfinished_matches.search.Outcomes.TheVariants.{Assumed, Undecided}
 use Rattle.schema_reports.proofs.CoversApart.{both_left, both_right}
-use Rattle.schema_reports.proofs.Sentences.{errors_say, evaluate_says, first_says}
+use Rattle.schema_reports.proofs.Sentences.{errors_say, first_says, verdict_says}
 use Rattle.schema_reports.proofs.SharedLists.{map_last}
-use Rattle.schema_reports.proofs.SearchedSense.{call_part}
+use Rattle.schema_reports.proofs.SearchedSense.{call_each, call_part}
 use Rattle.schema_reports.proofs.SearchedFailure.{IsAt, at_all, at_first, is_failure}
 use Rattle.schema_reports.proofs.SearchedSays.{all_map, are_few, not_decided}
 
@@ -140,9 +143,15 @@ module _ (root : Data) (f : Failure) where
 
 -- ---- where only that there is no error is looked at
 
-nil_of : (es : List Error) → is_nil es ≡ true → es ≡ []
-nil_of [] e = refl
-nil_of (x ∷ es) e = absurd (cc e)
+-- an outcome has no error exactly where it is a yes
+nil_agrees : (o : Outcome) → Agrees o → is_nil o.errors ≡ o.verdict
+nil_agrees o a = go o.verdict o.errors refl refl
+  where
+    go : (b : Bool) (es : List Error) → o.verdict ≡ b → o.errors ≡ es → is_nil es ≡ b
+    go true [] e e' = refl
+    go false (x ∷ es) e e' = refl
+    go true (x ∷ es) e e' = absurd (let none : o.errors ≡ [] = a.0 e in cc)
+    go false [] e e' = absurd (let yes : o.verdict ≡ true = a.1 e' in cc)
 
 none_of : (es : List ValidationError) → is_empty es ≡ true → es ≡ []
 none_of [] e = refl
@@ -151,15 +160,6 @@ none_of (x ∷ es) e = absurd (cc e)
 last_of_all : {A : Type 0} (p : A → Bool) (xs : List A) (x : A) → list_all p (xs ++ x ∷ []) ≡ true → p x ≡ true
 last_of_all p [] x e = both_left (p x) true e
 last_of_all p (y ∷ xs) x e = last_of_all p xs x (both_right (p y) _ e)
-
-nil_listed : (v : Sense) (others : List Assumptions) (last : Assumptions) (failure : Error) → is_nil (listed v others last failure) ≡ none_has v (others ++ last ∷ [])
-nil_listed v others last failure = go (shared_with v others last) (none_has v (others ++ last ∷ [])) (λ e. ap (filter (in_each v others)) (nil_of (errors_of v last) (last_of_all (λ m. is_nil (errors_of v m)) others last e)))
-  where
-    go : (s : List Error) (b : Bool) → (b ≡ true → s ≡ []) → is_nil (or_failure s b failure) ≡ b
-    go [] true h = refl
-    go [] false h = refl
-    go (x ∷ s) true h = absurd (cc (h refl))
-    go (x ∷ s) false h = refl
 
 module _ (root : Data) (f : Failure) where
   none_is : (shared : List ValidationError) (empty : Bool) (o : Option (List ValidationError)) (answer : List ValidationError) → (empty ≡ true → shared ≡ []) → o ≡ or_none shared empty → OrFailure root f o answer
@@ -216,14 +216,61 @@ module _ (v : Sense) (follows : Follows v) (root : Data) {S : Type 0} (Step : S 
     λ n. (failure_error f, fails v validate Step first start errors_in (errors_of v) is 64 tree f made, ap (λ z. first_error (told z)) one.alone ∙ ap Some one.is),
   )
 
-  pub evaluation_says : IsRunOf v evaluate Step first start none_in (λ m. is_nil (errors_of v m)) → (o : Outcomes (Vec ValidationError)) → AreOutcomes Step first start 64 o → (es : Vec ValidationError) → AreErrors root o es.items → VerdictSays v evaluate (none_in es)
-  evaluation_says is (Assumed results f) (tree, made, whole, same) es (o, shared, answer) =
-      let m = are_few v evaluate Step first start none_in (λ x. is_nil (errors_of v x)) is 64 tree f made whole in
+  accepts_is : (ms : List Assumptions) → none_has v ms ≡ all_accept v ms
+  accepts_is ms = all_same (λ m. is_nil (errors_of v m)) (verdict_of v) ms (λ m. nil_agrees (v.says (completion_of m)) (follows.agrees (completion_of m)))
+
+  -- no error is given exactly where the call's sentence says yes
+  pub none_says : (call : Call) → IsRunOf v call Step first start none_in (λ m. is_nil (errors_of v m)) → (o : Outcomes (Vec ValidationError)) → AreOutcomes Step first start 64 o → (es : Vec ValidationError) → AreErrors root o es.items → VerdictSays v call (none_in es)
+  none_says call is (Assumed results f) (tree, made, whole, same) es (o, shared, answer) =
+      let m = are_few v call Step first start none_in (λ x. is_nil (errors_of v x)) is 64 tree f made whole in
       let it = none_answer root f (map (λ (r : Vec ValidationError). r.items) results.items) o es.items shared answer in
       let none : list_all is_empty (map (λ (r : Vec ValidationError). r.items) results.items) ≡ none_has v (lists_of [] tree) =
       all_map is_empty (λ (r : Vec ValidationError). r.items) results.items ∙ (sym (all_map (λ b. b) none_in results.items) ∙ (ap (λ z. list_all (λ b. b) (map none_in z)) same
       ∙ (ap (list_all (λ b. b)) m.same ∙ all_map (λ b. b) (λ x. is_nil (errors_of v x)) (lists_of [] tree)))) in
-      subst (VerdictSays v evaluate) (nil_listed v m.others m.last (failure_error f) ∙ (ap (none_has v) (sym m.split) ∙ (sym none ∙ sym it)))
-      (evaluate_says v follows m.others m.last (failure_error f) (lists_of [] tree) m.cover m.split (omega (arith, m.few)) (λ x e. fails v evaluate Step first start none_in (λ y. is_nil (errors_of v y)) is 64 tree f made))
-  evaluation_says is (Undecided f) (tree, made, cut) es one =
-      (λ d. absurd (not_decided v evaluate Step first start none_in (λ x. is_nil (errors_of v x)) is tree f made cut d), λ n. ap is_empty one.alone)
+      subst (VerdictSays v call) (sym (accepts_is (lists_of [] tree)) ∙ (sym none ∙ sym it)) (verdict_says v call follows (lists_of [] tree) m.cover (omega (arith, m.few)))
+  none_says call is (Undecided f) (tree, made, cut) es one =
+      (λ d. absurd (not_decided v call Step first start none_in (λ x. is_nil (errors_of v x)) is tree f made cut d), λ n. ap is_empty one.alone)
+
+-- ---- which errors are given
+
+shared_each : (P : ValidationError → Type 0) (results : List (List ValidationError)) (xs : List ValidationError) → All (All P) results → IsSharedBy results (Some xs) → All P xs
+shared_each P [] xs h e = let none : xs ≡ [] = cc in subst (All P) (sym none) (All-nil P)
+shared_each P (r ∷ rs) xs h (front, end, is, shared) =
+    subst (All P) (sym (kept (shared_among front end) (list_all is_empty (front ++ end ∷ [])) shared)) (All-filter (in_each_of front) P end (All-contains (All P) (r ∷ rs) end h (subst (λ l. Contains l end) (sym is) (Contains-append_right front (end ∷ []) end (zero, omega arith, refl)))))
+  where
+    kept : (s : List ValidationError) (b : Bool) → Some xs ≡ or_none s b → xs ≡ s
+    kept (x ∷ s) b e = cc
+    kept [] true e = cc
+    kept [] false e = absurd (cc e)
+
+module _ (v : Sense) (call : Call) (root : Data) {S : Type 0} (Step : S → Remembered → Remembered → Vec ValidationError → S → Type 0) (first : Remembered) (start : S) (is : IsRunOf v call Step first start none_in (λ m. is_nil (errors_of v m))) where
+  failure_alone : (tree : Tree (Vec ValidationError)) (f : Failure) → Made Step first start 64 tree f → (es : List ValidationError) → OneError root f es → FailureAlone v call root es
+  failure_alone tree f made es one = record {
+    error = one.error;
+    alone = one.alone;
+    is = subst (IsFailure v call) (sym one.is) (fails v call Step first start none_in (λ m. is_nil (errors_of v m)) is 64 tree f made);
+    instance = one.instance;
+  }
+
+  abbrev AllOfRuns : Vec ValidationError → Type 0
+  AllOfRuns r = All (OfRun v call Step start) r.items
+
+  all_of_runs : (s : S) (as' : Assumptions) (r : Remembered) (result : Vec ValidationError) (end : S) → Reaches Step start s → IsRun v call as' → ¬ (as' ≡ []) → Step s (starting as') r result end → r.unassumed ≡ None → AllOfRuns result
+  all_of_runs s as' r result end at run some step none = All-weaker (Contains result.items) (OfRun v call Step start)
+      (λ e inside. record { before = s; assumptions = as'; remembered = r; errors = result; after = end; reaches = at; runs = run; further = some; is_step = step; all_assumed = none; gives = inside })
+      result.items (All-contains_itself result.items)
+
+  pub errors_given : (o : Outcomes (Vec ValidationError)) → AreOutcomes Step first start 64 o → (es : Vec ValidationError) → AreErrors root o es.items → GivesErrors v call Step start root es.items
+  errors_given (Assumed results f) (tree, made, whole, same) es (o, shared, answer) = record {
+    each = go o shared answer;
+    undecided = λ n. let m = are_few v call Step first start none_in (λ x. is_nil (errors_of v x)) is 64 tree f made whole in absurd (n (lists_of [] tree, m.cover, omega (arith, m.few)));
+  }
+    where
+      lists : All (All (OfRun v call Step start)) (map (λ (r : Vec ValidationError). r.items) results.items)
+      lists = All-map (All (OfRun v call Step start)) (λ (r : Vec ValidationError). r.items) results.items
+          (subst (All AllOfRuns) (sym same) (call_each v call Step first start none_in (λ m. is_nil (errors_of v m)) is AllOfRuns all_of_runs tree made.end made.grows))
+
+      go : (o : Option (List ValidationError)) → IsSharedBy (map (λ (r : Vec ValidationError). r.items) results.items) o → OrFailure root f o es.items → All (OfRun v call Step start) es.items ⊎ FailureAlone v call root es.items
+      go (Some xs) shared answer = inl (subst (All (OfRun v call Step start)) (sym answer) (shared_each (OfRun v call Step start) (map (λ (r : Vec ValidationError). r.items) results.items) xs lists shared))
+      go None shared answer = inr (failure_alone tree f made es.items answer)
+  errors_given (Undecided f) (tree, made, cut) es one = record { each = inr (failure_alone tree f made es.items one); undecided = λ n. failure_alone tree f made es.items one }

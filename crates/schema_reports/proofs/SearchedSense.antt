@@ -1,6 +1,7 @@
 -- The tree that a sense's runs grow is the sense's cover, or a part of it.
 use Rattle.std.proofs.Common.{◌≡◌, List, [], ◌∷◌, ◌++◌, true, false, Some, None, sym, ◌∙◌, ap, ap₂, subst, refl, arith, map}
-use Rattle.std.specs.Prelude.{⊤, option_map, is_some, Contains}
+use Rattle.std.specs.Prelude.{⊤, option_map, is_some, All, Contains}
+use Rattle.std.proofs.lemmas.List.Elements.{All-nil, All-cons, All-append}
 use Rattle.schema_reports.specs.Matching.{Assumptions}
 use Rattle.schema_reports.specs.Runs.{Met}
 use Rattle.schema_reports.specs.Cover.{Call, Cover, IsRun, Sense, assuming, branch_at, first_run, further, split, whole}
@@ -50,35 +51,48 @@ module _ (v : Sense) (call : Call) where
       pub cover : Cover v call as' (lists_of as' tree)
       pub same : map view (results_of tree) ≡ map says (lists_of as' tree)
 
-    grown_part : (as' : Assumptions) (s : S) (tree : Tree T) (end : S) → IsRun v call as' → Reaches Step start s → Grows Step as' s tree end → IsPart as' tree
-    grown_part as' s unrun end run at g = record { part = waits; sited = tt }
-    grown_part as' s (member r result) end run at g = record { part = waits; sited = ((as', run, (is.remembers s as' r result end at run g.0).sites), tt) }
-    grown_part as' s (branch r f a b) end run at g =
-        let h = is.remembers s as' r g.0 g.1 at run g.3 in
+    grown_part : (as' : Assumptions) (s : S) (tree : Tree T) (end : S) → ¬ (as' ≡ []) → IsRun v call as' → Reaches Step start s → Grows Step as' s tree end → IsPart as' tree
+    grown_part as' s unrun end some run at g = record { part = waits; sited = tt }
+    grown_part as' s (member r result) end some run at g = record { part = waits; sited = ((as', run, (is.remembers s as' r result end at run some g.0).sites), tt) }
+    grown_part as' s (branch r f a b) end some run at g =
+        let h = is.remembers s as' r g.0 g.1 at run some g.3 in
         let e = some_from as' r f h g.4 in
         let at1 = next s (starting as') r g.0 g.1 at g.3 in
         let at2 = reaches_end Step start (assuming f.met false as') g.1 a g.2 at1 g.5 in
-        let p = grown_part (assuming f.met false as') g.1 a g.2 (further f.met false run e) at1 g.5 in
-        let q = grown_part (assuming f.met true as') g.2 b end (further f.met true run e) at2 g.6 in
+        let p = grown_part (assuming f.met false as') g.1 a g.2 (λ e'. cc e') (further f.met false run e) at1 g.5 in
+        let q = grown_part (assuming f.met true as') g.2 b end (λ e'. cc e') (further f.met true run e) at2 g.6 in
         record { part = splits f.met e p.part q.part; sited = ((as', run, h.sites), all_sited_append (sites a) (sites b) p.sited q.sited) }
 
-    grown_cover : (as' : Assumptions) (s : S) (tree : Tree T) (end : S) → IsRun v call as' → Reaches Step start s → Grows Step as' s tree end → waiting tree ≡ 0 → IsCovered as' tree
-    grown_cover as' s unrun end run at g w = absurd (omega arith)
-    grown_cover as' s (member r result) end run at g w = record {
-      cover = whole (none_from as' r (is.remembers s as' r result end at run g.0) g.1);
-      same = ap (λ z. z ∷ []) (is.gives s as' r result end at run g.0 g.1);
+    grown_cover : (as' : Assumptions) (s : S) (tree : Tree T) (end : S) → ¬ (as' ≡ []) → IsRun v call as' → Reaches Step start s → Grows Step as' s tree end → waiting tree ≡ 0 → IsCovered as' tree
+    grown_cover as' s unrun end some run at g w = absurd (omega arith)
+    grown_cover as' s (member r result) end some run at g w = record {
+      cover = whole (none_from as' r (is.remembers s as' r result end at run some g.0) g.1);
+      same = ap (λ z. z ∷ []) (is.gives s as' r result end at run some g.0 g.1);
     }
-    grown_cover as' s (branch r f a b) end run at g w =
-        let h = is.remembers s as' r g.0 g.1 at run g.3 in
+    grown_cover as' s (branch r f a b) end some run at g w =
+        let h = is.remembers s as' r g.0 g.1 at run some g.3 in
         let e = some_from as' r f h g.4 in
         let at1 = next s (starting as') r g.0 g.1 at g.3 in
         let at2 = reaches_end Step start (assuming f.met false as') g.1 a g.2 at1 g.5 in
-        let p = grown_cover (assuming f.met false as') g.1 a g.2 (further f.met false run e) at1 g.5 (omega arith) in
-        let q = grown_cover (assuming f.met true as') g.2 b end (further f.met true run e) at2 g.6 (omega arith) in
+        let p = grown_cover (assuming f.met false as') g.1 a g.2 (λ e'. cc e') (further f.met false run e) at1 g.5 (omega arith) in
+        let q = grown_cover (assuming f.met true as') g.2 b end (λ e'. cc e') (further f.met true run e) at2 g.6 (omega arith) in
         record {
           cover = split f.met e p.cover q.cover;
           same = map_append view (results_of a) (results_of b) ∙ ap₂ (λ x y. x ++ y) p.same q.same ∙ sym (map_append says (lists_of (assuming f.met false as') a) (lists_of (assuming f.met true as') b));
         }
+
+    -- each result is one that a further run gave, which met no match but those assumed
+    module _ (Q : T → Type 0) (each : (s : S) (as' : Assumptions) (r : Remembered) (result : T) (end : S) → Reaches Step start s → IsRun v call as' → ¬ (as' ≡ []) → Step s (starting as') r result end → r.unassumed ≡ None → Q result) where
+      grown_each : (as' : Assumptions) (s : S) (tree : Tree T) (end : S) → ¬ (as' ≡ []) → IsRun v call as' → Reaches Step start s → Grows Step as' s tree end → All Q (results_of tree)
+      grown_each as' s unrun end some run at g = All-nil Q
+      grown_each as' s (member r result) end some run at g = All-cons Q result [] (each s as' r result end at run some g.0 g.1) (All-nil Q)
+      grown_each as' s (branch r f a b) end some run at g =
+          let e = some_from as' r f (is.remembers s as' r g.0 g.1 at run some g.3) g.4 in
+          let at1 = next s (starting as') r g.0 g.1 at g.3 in
+          let at2 = reaches_end Step start (assuming f.met false as') g.1 a g.2 at1 g.5 in
+          let p = grown_each (assuming f.met false as') g.1 a g.2 (λ e'. cc e') (further f.met false run e) at1 g.5 in
+          let q = grown_each (assuming f.met true as') g.2 b end (λ e'. cc e') (further f.met true run e) at2 g.6 in
+          All-append Q (results_of a) (results_of b) p q
 
     -- the same of the call's tree
     from_first : (as' : Assumptions) (s s2 end : S) (f : Failure) (a b : Tree T) → as' ≡ []
@@ -92,8 +106,8 @@ module _ (v : Sense) (call : Call) where
     call_part (branch r f a b) end g =
         let e = some_from [] first f is.remembers_first g.2 in
         let grown = from_first first.assumptions start g.0 end f a b is.assumes_none g.3 g.4 in
-        let p = grown_part (assuming f.met false []) start a g.0 (further f.met false first_run e) here grown.0 in
-        let q = grown_part (assuming f.met true []) g.0 b end (further f.met true first_run e) (reaches_end Step start (assuming f.met false []) start a g.0 here grown.0) grown.1 in
+        let p = grown_part (assuming f.met false []) start a g.0 (λ e'. cc e') (further f.met false first_run e) here grown.0 in
+        let q = grown_part (assuming f.met true []) g.0 b end (λ e'. cc e') (further f.met true first_run e) (reaches_end Step start (assuming f.met false []) start a g.0 here grown.0) grown.1 in
         record {
           part = splits f.met e p.part q.part;
           sited = (([], first_run, subst (λ (z : Remembered). (m : Met) → Contains z.located m → Contains (v.meets call []) m × (is_some m.site.located ≡ true)) (sym g.1) is.remembers_first.sites), all_sited_append (sites a) (sites b) p.sited q.sited);
@@ -105,9 +119,20 @@ module _ (v : Sense) (call : Call) where
     call_cover (branch r f a b) end g w =
         let e = some_from [] first f is.remembers_first g.2 in
         let grown = from_first first.assumptions start g.0 end f a b is.assumes_none g.3 g.4 in
-        let p = grown_cover (assuming f.met false []) start a g.0 (further f.met false first_run e) here grown.0 (omega arith) in
-        let q = grown_cover (assuming f.met true []) g.0 b end (further f.met true first_run e) (reaches_end Step start (assuming f.met false []) start a g.0 here grown.0) grown.1 (omega arith) in
+        let p = grown_cover (assuming f.met false []) start a g.0 (λ e'. cc e') (further f.met false first_run e) here grown.0 (omega arith) in
+        let q = grown_cover (assuming f.met true []) g.0 b end (λ e'. cc e') (further f.met true first_run e) (reaches_end Step start (assuming f.met false []) start a g.0 here grown.0) grown.1 (omega arith) in
         record {
           cover = split f.met e p.cover q.cover;
           same = map_append view (results_of a) (results_of b) ∙ ap₂ (λ x y. x ++ y) p.same q.same ∙ sym (map_append says (lists_of (assuming f.met false []) a) (lists_of (assuming f.met true []) b));
         }
+
+    pub call_each : (Q : T → Type 0) → ((s : S) (as' : Assumptions) (r : Remembered) (result : T) (end : S) → Reaches Step start s → IsRun v call as' → ¬ (as' ≡ []) → Step s (starting as') r result end → r.unassumed ≡ None → Q result)
+        → (tree : Tree T) (end : S) → GrowsFrom Step first start tree end → All Q (results_of tree)
+    call_each Q each unrun end g = absurd g
+    call_each Q each (member r result) end g = absurd g
+    call_each Q each (branch r f a b) end g =
+        let e = some_from [] first f is.remembers_first g.2 in
+        let grown = from_first first.assumptions start g.0 end f a b is.assumes_none g.3 g.4 in
+        let p = grown_each Q each (assuming f.met false []) start a g.0 (λ e'. cc e') (further f.met false first_run e) here grown.0 in
+        let q = grown_each Q each (assuming f.met true []) g.0 b end (λ e'. cc e') (further f.met true first_run e) (reaches_end Step start (assuming f.met false []) start a g.0 here grown.0) grown.1 in
+        All-append Q (results_of a) (results_of b) p q

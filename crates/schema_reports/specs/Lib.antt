@@ -47,4 +47,5 @@ pub mod Unfinished
 pub mod Search
 pub mod Searched
 pub mod SharedResults
+pub mod SearchGives
 pub mod Outcomes

@@ -19,12 +19,12 @@ module _ (v : Sense) (call : Call) where
     pub reason : (f : Failure) → r.unassumed ≡ Some f → v.is_match f.met.pair.pattern f.met.pair.subject ≡ unfinished f.reason
     pub sites : (m : Met) → Contains r.located m → Contains (v.meets call as') m × (is_some m.site.located ≡ true)
 
-  -- each use of the run, under a list under which the call runs, is the sense's run; where it meets no match but those assumed, its result is what the sense says under that list, as far as is looked at
+  -- each further use of the run, under a list that assumes a match and under which the call runs, is the sense's run; where it meets no match but those assumed, its result is what the sense says under that list, as far as is looked at; of the first run only what it remembers is looked at
   pub record IsRunOf {S T V : Type 0} (Step : S → Remembered → Remembered → T → S → Type 0) (first : Remembered) (start : S) (view : T → V) (says : Assumptions → V) : Type 0 where
     pub assumes_none : first.assumptions ≡ []
     pub remembers_first : Remembers [] first
-    pub remembers : (s : S) (as' : Assumptions) (r : Remembered) (result : T) (end : S) → Reaches Step start s → IsRun v call as' → Step s (starting as') r result end → Remembers as' r
-    pub gives : (s : S) (as' : Assumptions) (r : Remembered) (result : T) (end : S) → Reaches Step start s → IsRun v call as' → Step s (starting as') r result end → r.unassumed ≡ None → view result ≡ says as'
+    pub remembers : (s : S) (as' : Assumptions) (r : Remembered) (result : T) (end : S) → Reaches Step start s → IsRun v call as' → ¬ (as' ≡ []) → Step s (starting as') r result end → Remembers as' r
+    pub gives : (s : S) (as' : Assumptions) (r : Remembered) (result : T) (end : S) → Reaches Step start s → IsRun v call as' → ¬ (as' ≡ []) → Step s (starting as') r result end → r.unassumed ≡ None → view result ≡ says as'
 
 -- the error of a failure; where its site has no evaluation path, that is the schema path, and the place is the root
 abbrev pub failure_error : Failure → Error

@@ -1,8 +1,6 @@
 use Rattle.serde_json.specs.View.{view}
 use Rattle.schema_reports.specs.KeywordTable.{builtin_in}
-use Rattle.std.specs.Prelude.{map}
-use Rattle.schema_reports.specs.Headline.{ErrorsSay}
-use Rattle.schema_reports.specs.ReportViews.{error_of}
+use Rattle.schema_engine.specs.Spoken.{ErrorsAnswered}
 use Rattle.schema_engine.specs.Handed.{default_options, table_of}
 use Rattle.std.proofs.Common.{Bool}
 use Rattle.schema_reports.specs.ErrorsLead.{EachKeepsAbsorbing}
@@ -18,7 +16,7 @@ returns-clause-answer g c =
     let m = g.M.Matcher.matching c.args.matcher.now in
     let k = g.K.Validate in
     plainly_from r table m k.words default_options (view c.args.schema.now) k.shape k.is_whole g.M.Matcher.matching c.in_ok-validator.validator (view c.args.instance.now)
-    (λ texts v. ErrorsSay v (map (error_of texts) c.in_ok-iter_errors.field-0)) c.in_ok-validator.ensures.means c.in_ok-iter_errors.ensures.senses
+    (λ texts v. ErrorsAnswered v texts c.in_ok-iter_errors.field-0) c.in_ok-validator.ensures.means c.in_ok-iter_errors.ensures.senses
 
 pub returns-clause-guarded : goal.returns-clause-guarded
 returns-clause-guarded g c = (c.in_ok-validator.validator, c.in_ok-validator.ensures.program, c.in_ok-iter_errors.ensures.depth)
@@ -35,5 +33,5 @@ returns-clause-leads g c =
       c.in_ok-validator.validator,
       built.program,
       each_points r table m k.words default_options (view c.args.schema.now) k.absorbed k.is_whole each (g.met.T.KeywordTable.right c.args.table.now) k.shape g.M.Matcher.matching c.in_ok-validator.validator
-          built.program built.means (view c.args.instance.now) (λ texts. map (error_of texts) c.in_ok-iter_errors.field-0) c.in_ok-iter_errors.ensures.depth,
+          built.program built.means (view c.args.instance.now) c.in_ok-iter_errors.field-0 c.in_ok-iter_errors.ensures.depth,
     )

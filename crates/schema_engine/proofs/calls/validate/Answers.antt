@@ -1,9 +1,7 @@
 use Rattle.serde_json.specs.View.{view}
 use Rattle.schema_reports.specs.KeywordTable.{builtin_in}
-use Rattle.std.specs.Prelude.{option_map}
-use Rattle.schema_reports.specs.Headline.{FirstSays}
-use Rattle.schema_reports.specs.ReportViews.{error_of}
 use Rattle.schema_engine.specs.Answers.{refusal_of}
+use Rattle.schema_engine.specs.Spoken.{FirstAnswered}
 use Rattle.schema_engine.specs.Handed.{default_options, table_of}
 use Rattle.std.proofs.Common.{Bool}
 use Rattle.schema_reports.specs.ErrorsLead.{EachKeepsAbsorbing}
@@ -19,7 +17,7 @@ returns-clause-answer g c =
     let m = g.M.Matcher.matching c.args.matcher.now in
     let k = g.K.Validate in
     plainly_from r table m k.words default_options (view c.args.schema.now) k.shape k.is_whole g.M.Matcher.matching c.in_ok-validator.validator (view c.args.instance.now)
-    (λ texts v. FirstSays v (option_map (error_of texts) (refusal_of c.in_ok-validate.field-0))) c.in_ok-validator.ensures.means c.in_ok-validate.ensures.senses
+    (λ texts v. FirstAnswered v texts (refusal_of c.in_ok-validate.field-0)) c.in_ok-validator.ensures.means c.in_ok-validate.ensures.senses
 
 pub returns-clause-guarded : goal.returns-clause-guarded
 returns-clause-guarded g c = (c.in_ok-validator.validator, c.in_ok-validator.ensures.program, c.in_ok-validate.ensures.depth)
@@ -36,5 +34,5 @@ returns-clause-leads g c =
       c.in_ok-validator.validator,
       built.program,
       first_points r table m k.words default_options (view c.args.schema.now) k.absorbed k.is_whole each (g.met.T.KeywordTable.right c.args.table.now) k.shape g.M.Matcher.matching c.in_ok-validator.validator
-          built.program built.means (view c.args.instance.now) (λ texts. option_map (error_of texts) (refusal_of c.in_ok-validate.field-0)) c.in_ok-validate.ensures.depth,
+          built.program built.means (view c.args.instance.now) (refusal_of c.in_ok-validate.field-0) c.in_ok-validate.ensures.depth,
     )

@@ -1,25 +1,25 @@
-use Rattle.std.proofs.Common.{List, map, subst, sym}
+use Rattle.std.proofs.Common.{List, subst, sym}
 use Rattle.std.specs.Prelude.{All}
 use Rattle.serde_json.specs.View.{view}
 use Rattle.schema_reports.specs.Cover.{Sense}
-use Rattle.schema_reports.specs.Headline.{ErrorsSay}
 use Rattle.schema_reports.specs.Means.{FromSomeDepth}
-use Rattle.schema_reports.specs.ReportViews.{error_of, BorrowsItsPlace}
+use Rattle.schema_reports.specs.ReportViews.{BorrowsItsPlace}
 use Rattle.schema_reports.specs.declared.reports.ValidationError.{ValidationError}
 use Rattle.schema_reports.proofs.SensesMeant.{of_every_sense}
 use Rattle.schema_node.specs.NodeTable.{numbered}
+use Rattle.schema_engine.specs.Spoken.{ErrorsAnswered}
 use Rattle.schema_engine.proofs.validator.Validator.iter_errors.Goals as goal
 
 pub returns-clause-depth : goal.returns-clause-depth
 returns-clause-depth g c = λ texts speaks.
     let p = c.args.self.now in
-    subst (λ (es : List ValidationError). FromSomeDepth (g.K.Validate.words texts) (g.M.Matcher.matching p.matcher) (numbered g.K.Validate.shape p.nodes) p.root (view c.args.instance.now) (λ (v : Sense). ErrorsSay v (map (error_of texts) es))) (sym c.new.ensures.errors) (c.in_ok-errors.ensures.depth texts speaks)
+    subst (λ (es : List ValidationError). FromSomeDepth (g.K.Validate.words texts) (g.M.Matcher.matching p.matcher) (numbered g.K.Validate.shape p.nodes) p.root (view c.args.instance.now) (λ (v : Sense). ErrorsAnswered v texts es)) (sym c.new.ensures.errors) (c.in_ok-all_under_each.ensures.depth texts speaks)
 
 pub returns-clause-senses : goal.returns-clause-senses
 returns-clause-senses g c = λ texts speaks.
     let p = c.args.self.now in
-    of_every_sense (g.K.Validate.words texts) (g.M.Matcher.matching p.matcher) (numbered g.K.Validate.shape p.nodes) p.root (view c.args.instance.now) (λ (v : Sense). ErrorsSay v (map (error_of texts) _))
-    (subst (λ (es : List ValidationError). FromSomeDepth (g.K.Validate.words texts) (g.M.Matcher.matching p.matcher) (numbered g.K.Validate.shape p.nodes) p.root (view c.args.instance.now) (λ (v : Sense). ErrorsSay v (map (error_of texts) es))) (sym c.new.ensures.errors) (c.in_ok-errors.ensures.depth texts speaks))
+    of_every_sense (g.K.Validate.words texts) (g.M.Matcher.matching p.matcher) (numbered g.K.Validate.shape p.nodes) p.root (view c.args.instance.now) (λ (v : Sense). ErrorsAnswered v texts _)
+    (subst (λ (es : List ValidationError). FromSomeDepth (g.K.Validate.words texts) (g.M.Matcher.matching p.matcher) (numbered g.K.Validate.shape p.nodes) p.root (view c.args.instance.now) (λ (v : Sense). ErrorsAnswered v texts es)) (sym c.new.ensures.errors) (c.in_ok-all_under_each.ensures.depth texts speaks))
 
 pub returns-clause-borrows : goal.returns-clause-borrows
-returns-clause-borrows g c = subst (λ (es : List ValidationError). All (BorrowsItsPlace (view c.args.instance.now)) es) (sym c.new.ensures.errors) c.in_ok-errors.ensures.borrows
+returns-clause-borrows g c = subst (λ (es : List ValidationError). All (BorrowsItsPlace (view c.args.instance.now)) es) (sym c.new.ensures.errors) c.in_ok-all_under_each.ensures.borrows

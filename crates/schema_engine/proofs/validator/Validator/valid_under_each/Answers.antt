@@ -47,7 +47,7 @@ returns g c =
           let each : EachKeeps (w.words x.0) = λ m. (w.absorbed m, keeps_of_turns (w.words x.0) m (w.absorbed m) (w.remaining m) (w.ends x.0 m) (w.fits x.0 m) (g.met.K.Validate.turn_laws x.0 m) (g.met.K.Validate.function_laws x.0 m)) in
           let enough : deep < x.2 = omega (arith, x.3) in
           c.validity_under_each.ensures.says (sense (w.words x.0) each (g.M.Matcher.matching p.matcher) nodes d p.root x.2) is_valid (follows (w.words x.0) each (g.M.Matcher.matching p.matcher) nodes d p.root x.2)
-          (verdict_runs (w.words x.0) each (g.M.Matcher.matching p.matcher) nodes d p.root x.2 _ _ (λ given r b end step. search rules) c.in_ok-first.first.0 none (meets x.0 x.1 nothing_twice x.2 enough)
+          (verdict_runs (w.words x.0) each (g.M.Matcher.matching p.matcher) nodes d p.root x.2 _ _ (λ given r b end step. search rules) (λ (b : Bool). b) c.in_ok-first.first.0 none (meets x.0 x.1 nothing_twice x.2 enough)
           (λ as' r b end step once.
           let fact : SaysVerdict w.shape w.words w.is_whole g.M.Matcher.matching p d as' b = search rules in
           let met : MeetsMatches w.shape w.words w.is_whole g.M.Matcher.matching p d for_verdict (starting as') r = search rules in

@@ -1,0 +1,39 @@
+-- What `validate` and `iter_errors` are said to answer. Where texts of errors are spoken of, their sentences are said. Where
+-- the instance or a keyword holds a fraction, texts are not spoken of, and so it is not known which errors all completions
+-- share: then the verdict is said, where each error comes from, and the sentences where the first run meets no unfinished match.
+use Rattle.std.specs.Prelude.{All, Bool, Contains, IfSome, List, None, Option, Some, [], false, is_none, map, option_map, true, ◌≡◌, ◌⊎◌}
+use Rattle.schema_reports.specs.Reports.{Error}
+use Rattle.schema_reports.specs.Matching.{Completion}
+use Rattle.schema_reports.specs.Cover.{Decides, Sense, branch_at, iter_errors, validate}
+use Rattle.schema_reports.specs.Headline.{ErrorsSay, FirstSays, IsFailure, OneFailure, VerdictSays}
+use Rattle.schema_reports.specs.ReportViews.{error_of}
+use Rattle.schema_reports.specs.SharedResults.{is_empty}
+use Rattle.schema_reports.specs.declared.reports.ValidationError.{ValidationError}
+
+module _ (v : Sense) where
+  -- some completion gives the error
+  abbrev pub IsGiven : Bool → ValidationError → Type 0
+  IsGiven texts e = (c : Completion) × Contains (v.says c).errors (error_of texts e)
+
+  -- errors where texts are not spoken of: each is one of some completion's, or the failure stands alone; the latter where the call doesn't decide
+  pub record ErrorsUnspoken (es : List ValidationError) : Type 0 where
+    pub verdict : VerdictSays v iter_errors (is_empty es)
+    pub given : All (IsGiven false) es ⊎ OneFailure v iter_errors (map (error_of true) es)
+    pub undecided : ¬ (Decides v iter_errors) → OneFailure v iter_errors (map (error_of true) es)
+    pub alone : branch_at v iter_errors [] ≡ None → ErrorsSay v (map (error_of false) es)
+
+  -- the same of a first error, or of none
+  pub record FirstUnspoken (o : Option ValidationError) : Type 0 where
+    pub verdict : VerdictSays v validate (is_none o)
+    pub given : IfSome o (λ e. IsGiven false e ⊎ IsFailure v validate (error_of true e))
+    pub undecided : ¬ (Decides v validate) → (e : Error) × IsFailure v validate e × (option_map (error_of true) o ≡ Some e)
+    pub alone : branch_at v validate [] ≡ None → FirstSays v (option_map (error_of false) o)
+
+  -- what the contracts of the two calls cite, texts being spoken of or not
+  abbrev pub ErrorsAnswered : Bool → List ValidationError → Type 0
+  ErrorsAnswered true es = ErrorsSay v (map (error_of true) es)
+  ErrorsAnswered false es = ErrorsUnspoken es
+
+  abbrev pub FirstAnswered : Bool → Option ValidationError → Type 0
+  FirstAnswered true o = FirstSays v (option_map (error_of true) o)
+  FirstAnswered false o = FirstUnspoken o
