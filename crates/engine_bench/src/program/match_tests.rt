@@ -137,13 +137,41 @@ fn numbered_texts(alloc: Global, count: u32) -> Result<String, OutOfMemory> {
     Ok(list)
 }
 
-// Far more matches than any call decides by, and a call that ends before it asks for one.
-#[test]
-fn hostile_matches(rt: HostRuntime) -> Result<(), OutOfMemory> {
-    let alloc = rt.alloc();
+/// Whether a call refuses three hundred texts, whose matches stay unfinished, by printing this.
+fn refuses_many(alloc: Global, mode: &str, want: &str) -> Result<bool, OutOfMemory> {
     let each = r#"{"items":{"pattern":"(?<=ab)c"}}"#;
     let texts = numbered_texts(alloc, 300)?;
-    assert!(rt; fails(alloc, each, texts.as_str(), P, "/0", "/items/pattern")?);
+    let answer = printed(alloc, &[mode, each, texts.as_str(), P])?;
+    Ok(answer.0.as_slice() == want.as_bytes() && answer.2 == 1)
+}
+
+// Far more matches than any call decides by.
+#[test]
+fn no_verdict_of_many(rt: HostRuntime) -> Result<(), OutOfMemory> {
+    assert!(rt; refuses_many(rt.alloc(), "valid", "false\n")?);
+    Ok(())
+}
+
+#[test]
+fn no_first_error_of_many(rt: HostRuntime) -> Result<(), OutOfMemory> {
+    let alloc = rt.alloc();
+    let line = unfinished_line(alloc, "/0", "/items/pattern")?;
+    assert!(rt; refuses_many(alloc, "first", line.as_str())?);
+    Ok(())
+}
+
+#[test]
+fn no_errors_of_many(rt: HostRuntime) -> Result<(), OutOfMemory> {
+    let alloc = rt.alloc();
+    let line = unfinished_line(alloc, "/0", "/items/pattern")?;
+    assert!(rt; refuses_many(alloc, "errors", line.as_str())?);
+    Ok(())
+}
+
+// A call that ends before it asks for a match, and one that asks for too many.
+#[test]
+fn first_errors_without_matches(rt: HostRuntime) -> Result<(), OutOfMemory> {
+    let alloc = rt.alloc();
     let six = r#"["a","b","c","d","e","f"]"#;
     let typed = r#"{"items":{"pattern":"(?<=ab)c"},"type":"object"}"#;
     let first = printed(alloc, &["first", typed, six, P])?;
