@@ -12,7 +12,7 @@ pub mod PathsNamed
 pub mod DraftsAlong
 pub mod Indexes
 pub mod PointerTexts
-mod AskAlone
+mod Unmarked
 mod ErrorLists
 mod BuildFaults
 mod MeantAnswers

@@ -13,6 +13,8 @@ pub data BenchShape : Type 0 where
   has_properties : List Text → BenchShape
   -- a keyword that counts, with its limit
   has_count : CountKind → ℕ → BenchShape
+  -- `pattern`, with its text
+  has_pattern : Text → BenchShape
   -- how many schemas there are
   has_all_of : ℕ → BenchShape
   has_prefix_items : ℕ → BenchShape

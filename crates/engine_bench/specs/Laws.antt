@@ -1,13 +1,13 @@
 -- The keywords keep the laws.
-use Rattle.std.proofs.Common.{◌≡◌, ◌∙◌, ℕ, ◌+◌, ◌<◌, ◌⊎◌, ◌∷◌, [], List, Bool, true, false, Option, Some, None, refl, sym, ap, subst, inl, inr, arith, length, zero, suc, is_some, option_and_then, min, ◌-◌, add-zero}
+use Rattle.std.proofs.Common.{◌≡◌, ◌∙◌, ℕ, ◌+◌, ◌<◌, ◌⊎◌, ◌∷◌, [], List, Bool, true, false, Option, Some, None, refl, ap, subst, inl, inr, arith, length, zero, suc, is_some, option_and_then, min, ◌-◌, add-zero}
 use Rattle.std.proofs.lemmas.Slice.Eq.{bytes_eq-Decides}
 use Rattle.std.specs.Prelude.{All, Contains, bytes_eq, if◌then◌else◌, map, option_map, not, ◌++◌}
 use Rattle.std.proofs.lemmas.List.Elements.{All-append, All-map, All-nil, All-cons, All-weaker, Contains-append_right}
 use Rattle.schema_reports.specs.Instance.{Subject, Text, a_name, a_value, item_of, member_of, to_item, to_member, to_name, subject_from, after_step}
 use Rattle.serde_json.specs.Data.{Data, Items, Members, array, boolean, item, member, no_items, no_members, null, number, object, string}
 use Rattle.schema_reports.specs.Reports.{Unit_, report_of}
-use Rattle.schema_reports.specs.Matching.{Matching}
-use Rattle.schema_reports.specs.Keywords.{Answer, Answers, Marked, Question, Reply, Turn, ask, done, here, down, for_all, for_first, for_units, for_verdict}
+use Rattle.schema_reports.specs.Matching.{Matching, Pair}
+use Rattle.schema_reports.specs.Keywords.{Answer, Answers, Marked, Question, Reply, Turn, done, down, match_text, for_all, for_first, for_units, for_verdict}
 use Rattle.schema_reports.specs.Keywords as spec
 use Rattle.schema_reports.specs.Laws.{AsksRightly, IsPresent, IsRight, answer_in, steps_below}
 use Rattle.schema_reports.specs.Turns.{FunctionLaws, Standing, TurnLaws, reply_to, next, step_at as turn_at}
@@ -18,13 +18,14 @@ use Rattle.engine_bench.specs.declared.keywords.run.Stage.{Stage}
 use Rattle.engine_bench.specs.declared.keywords.run.Stage.TheVariants.{Begun, Asked, Counted, Ended}
 use Rattle.engine_bench.specs.declared.keywords.run.Progress.{Progress}
 use Rattle.engine_bench.specs.Members.{has_member, names_in, subject_names}
-use Rattle.engine_bench.specs.BenchShape.{BenchShape, has_all_of, has_any_of, has_count, has_if, has_items, has_not, has_one_of, has_prefix_items, has_properties, has_property_names, has_type, has_types, requires}
+use Rattle.engine_bench.specs.BenchShape.{BenchShape, has_all_of, has_any_of, has_count, has_if, has_items, has_not, has_one_of, has_pattern, has_prefix_items, has_properties, has_property_names, has_type, has_types, requires}
 use Rattle.engine_bench.specs.Items.{child_at_item, child_here, each_from, first_at_item, item_count, items_count}
-use Rattle.engine_bench.specs.Ways.{Way, tells, passes_on, judges, branches, chosen, left_to_judge, questions, step_at, stage_after, mode_from, left_of, way_left, way_turns, asked, next_if, nth, goes_on}
-use Rattle.engine_bench.specs.WayRuns.{Replies, reply_for, end_at, fits_at, Keeps, way_falls, way_bounded, way_keeps, way_stands, way_ends}
+use Rattle.engine_bench.specs.Ways.{Way, asks_match, tells, passes_on, judges, branches, chosen, left_to_judge, questions, step_at, stage_after, mode_from, left_of, match_point, way_left, way_turns, asked, next_if, nth, goes_on}
+use Rattle.engine_bench.specs.WayRuns.{Replies, replies_by, reply_for, end_at, fits_at, Keeps, way_falls, way_bounded, way_keeps, way_stands, way_ends}
 use Rattle.engine_bench.specs.Tallies.{asked_in, is_settled, says_yes, tallied, wants_units}
 use Rattle.engine_bench.specs.WayReads.{way_agrees, way_holds_reads, way_faults_read, way_units_read, way_stands_inside, way_passes}
-use Rattle.engine_bench.specs.Words.{at_name, way, words, present_from, kept, turns_left}
+use Rattle.engine_bench.specs.Words.{at_name, way, words, pattern_way, present_from, kept, turns_left}
+use Rattle.engine_bench.specs.Counts.{subject_string}
 
 abbrev pub none_absorbed : BenchShape → List Text
 none_absorbed m = []
@@ -32,7 +33,7 @@ none_absorbed m = []
 -- ---- how a run stands
 
 abbrev pub run_replies : Standing (Progress × Answer) → Replies
-run_replies x m = reply_for m x.answers x.unit_at
+run_replies x = replies_by x.matches x.answers x.unit_at
 
 abbrev pub ends_in : Bool → BenchShape → Standing (Progress × Answer) → Answer
 ends_in texts m x = end_at (way texts m x.subject) (run_replies x) x.state.0.mode x.state.0.stage x.state.1
@@ -42,12 +43,17 @@ fits_in texts m x = fits_at (way texts m x.subject) (run_replies x) x.state.0.mo
 
 -- ---- turns
 
+same_asked : (texts : Bool) (pattern : Text) (s : Subject) (o : Option Text) → questions (pattern_way texts pattern s o) ≡ questions (pattern_way false pattern s o)
+same_asked texts pattern s None = refl
+same_asked texts pattern s (Some text) = refl
+
 same_questions : (texts : Bool) (m : BenchShape) (s : Subject) → questions (way texts m s) ≡ questions (way false m s)
 same_questions texts (has_type t) s = refl
 same_questions texts (has_types ts) s = refl
 same_questions texts (requires ks) s = refl
 same_questions texts (has_properties ks) s = refl
 same_questions texts (has_count kind n) s = refl
+same_questions texts (has_pattern pattern) s = same_asked texts pattern s (subject_string s)
 same_questions texts (has_all_of n) s = refl
 same_questions texts (has_prefix_items n) s = refl
 same_questions texts (has_items n) s = refl
@@ -91,36 +97,32 @@ chosen-contains false q None (Some n) p h = Contains-append_right (q ∷ []) (n 
 chosen-contains false q (Some y) None p h = cc
 chosen-contains false q (Some y) (Some n) p h = Contains-append_right (q ∷ y ∷ []) (n ∷ []) p (nth-contains 0 (n ∷ []) p h)
 
--- a step that asks, asks one of the way's questions
-pub record Asking (w : Way) (step : Turn) : Type 0 where
-  pub mode : Mode
-  pub question : Option Question
-  pub is : step ≡ asked mode question
-  pub among : (q : Question) → question ≡ Some q → Contains (questions w) q
+no_question : (w : Way) (q : Question) → None ≡ Some q → Contains (questions w) q
+no_question w q h = cc
 
-no_question : (w : Way) → Asking w done
-no_question w = record { mode = mode.Verdict; question = None; is = refl; among = λ q h. cc }
-
-asking : (w : Way) (mode' : Mode) (stage : Stage) (r : Reply) → Asking w (step_at w mode' stage r)
-asking (tells name ts) mode' stage r = no_question (tells name ts)
-asking (passes_on qs) mode' Begun r = record { mode = mode'; question = nth 0 qs; is = refl; among = nth-contains 0 qs }
-asking (passes_on qs) mode' (Asked i) r = record { mode = mode'; question = next_if (goes_on r) (nth (i + 1) qs); is = refl; among = next-contains (goes_on r) (i + 1) qs }
-asking (passes_on qs) mode' (Counted i n) r = no_question (passes_on qs)
-asking (passes_on qs) mode' Ended r = no_question (passes_on qs)
-asking (judges t qs) mode' Begun r = record { mode = asked_in (wants_units t mode'); question = nth 0 qs; is = refl; among = nth-contains 0 qs }
-asking (judges t qs) mode' (Asked i) r = no_question (judges t qs)
-asking (judges t qs) mode' (Counted i n) r = record {
-  mode = asked_in (wants_units t mode');
-  question = left_to_judge t mode' (tallied t.enough r n) (nth (i + 1) qs);
-  is = refl;
-  among = next-contains (not (is_settled (wants_units t mode') t.enough (tallied t.enough r n))) (i + 1) qs;
-}
-asking (judges t qs) mode' Ended r = no_question (judges t qs)
-asking (branches q one other) mode' Begun r = record { mode = mode.Verdict; question = Some q; is = refl; among = nth-contains 0 (q ∷ (option_list one ++ option_list other)) }
-asking (branches q one other) mode' (Asked zero) r = record { mode = mode'; question = chosen (says_yes r) one other; is = refl; among = chosen-contains (says_yes r) q one other }
-asking (branches q one other) mode' (Asked (suc i)) r = no_question (branches q one other)
-asking (branches q one other) mode' (Counted i n) r = no_question (branches q one other)
-asking (branches q one other) mode' Ended r = no_question (branches q one other)
+-- what is true of each turn that asks one of the way's questions, or for a match at the keyword, or is the last, is true of
+-- each of its steps
+each_step : (P : Turn → Type 0) (w : Way) → ((m : Mode) (o : Option Question) → ((q : Question) → o ≡ Some q → Contains (questions w) q) → P (asked m o))
+    → ((a : Pair) (m : Mode) → P (match_text a (match_point m a.pattern))) → (mode' : Mode) (stage : Stage) (r : Reply) → P (step_at w mode' stage r)
+each_step P (tells name ts) asks matched mode' stage r = asks mode' None (no_question (tells name ts))
+each_step P (passes_on qs) asks matched mode' Begun r = asks mode' (nth 0 qs) (nth-contains 0 qs)
+each_step P (passes_on qs) asks matched mode' (Asked i) r = asks mode' (next_if (goes_on r) (nth (i + 1) qs)) (next-contains (goes_on r) (i + 1) qs)
+each_step P (passes_on qs) asks matched mode' (Counted i n) r = asks mode' None (no_question (passes_on qs))
+each_step P (passes_on qs) asks matched mode' Ended r = asks mode' None (no_question (passes_on qs))
+each_step P (judges t qs) asks matched mode' Begun r = asks (asked_in (wants_units t mode')) (nth 0 qs) (nth-contains 0 qs)
+each_step P (judges t qs) asks matched mode' (Asked i) r = asks mode' None (no_question (judges t qs))
+each_step P (judges t qs) asks matched mode' (Counted i n) r = asks (asked_in (wants_units t mode')) (left_to_judge t mode' (tallied t.enough r n) (nth (i + 1) qs))
+    (next-contains (not (is_settled (wants_units t mode') t.enough (tallied t.enough r n))) (i + 1) qs)
+each_step P (judges t qs) asks matched mode' Ended r = asks mode' None (no_question (judges t qs))
+each_step P (branches q one other) asks matched mode' Begun r = asks mode.Verdict (Some q) (nth-contains 0 (q ∷ (option_list one ++ option_list other)))
+each_step P (branches q one other) asks matched mode' (Asked zero) r = asks mode' (chosen (says_yes r) one other) (chosen-contains (says_yes r) q one other)
+each_step P (branches q one other) asks matched mode' (Asked (suc i)) r = asks mode' None (no_question (branches q one other))
+each_step P (branches q one other) asks matched mode' (Counted i n) r = asks mode' None (no_question (branches q one other))
+each_step P (branches q one other) asks matched mode' Ended r = asks mode' None (no_question (branches q one other))
+each_step P (asks_match name a text) asks matched mode' Begun r = matched a mode'
+each_step P (asks_match name a text) asks matched mode' (Asked i) r = asks mode' None (no_question (asks_match name a text))
+each_step P (asks_match name a text) asks matched mode' (Counted i n) r = asks mode' None (no_question (asks_match name a text))
+each_step P (asks_match name a text) asks matched mode' Ended r = asks mode' None (no_question (asks_match name a text))
 
 asked_rightly : (texts : Bool) (m : BenchShape) (s : Subject) (mode' : Mode) (o : Option Question) → ((q : Question) → o ≡ Some q → Contains (questions (way texts m s)) q)
     → AsksRightly (words texts) m s [] (asked mode' o)
@@ -128,22 +130,22 @@ asked_rightly texts m s mode' None h = tt
 asked_rightly texts m s mode' (Some q) h = h q refl
 
 asks : (texts : Bool) (m : BenchShape) (s : Subject) (mode' : Mode) (stage : Stage) (r : Reply) → AsksRightly (words texts) m s [] (step_at (way texts m s) mode' stage r)
-asks texts m s mode' stage r = let a : Asking (way texts m s) (step_at (way texts m s) mode' stage r) = asking (way texts m s) mode' stage r in
-    subst (AsksRightly (words texts) m s []) (sym a.is) (asked_rightly texts m s a.mode a.question a.among)
+asks texts m s = each_step (AsksRightly (words texts) m s []) (way texts m s) (asked_rightly texts m s) (λ a m'. (refl, ([], refl), tt))
 
 fits_begun : (w : Way) (replies : Replies) (m : Mode) (r : Reply) → fits_at w replies m Begun r
 fits_begun (tells name ts) replies m r = tt
 fits_begun (passes_on qs) replies m r = tt
 fits_begun (judges t qs) replies m r = tt
 fits_begun (branches q one other) replies m r = tt
+fits_begun (asks_match name p text) replies m r = tt
 
 ends_rightly : (texts : Bool) (m : BenchShape) (s : Subject) (mode' : spec.Mode) (matches : Matching) (a : Answers) (u : Question → Unit_) (same : Marked → Marked → Bool)
     → ((q : Question) → (report_of (u q)).valid ≡ (a q).verdict)
-    → IsRight (words texts) m s matches a u same mode' (end_at (way texts m s) (λ m'. reply_for m' a u) (mode_from mode') Begun fresh)
-ends_rightly texts m s for_verdict matches a u same valid = way_ends (way texts m s) a u valid for_verdict
-ends_rightly texts m s for_first matches a u same valid = way_ends (way texts m s) a u valid for_first
-ends_rightly texts m s for_all matches a u same valid = way_ends (way texts m s) a u valid for_all
-ends_rightly texts m s for_units matches a u same valid = way_ends (way texts m s) a u valid for_units
+    → IsRight (words texts) m s matches a u same mode' (end_at (way texts m s) (replies_by matches a u) (mode_from mode') Begun fresh)
+ends_rightly texts m s for_verdict matches a u same valid = way_ends (way texts m s) matches a u valid for_verdict
+ends_rightly texts m s for_first matches a u same valid = way_ends (way texts m s) matches a u valid for_first
+ends_rightly texts m s for_all matches a u same valid = way_ends (way texts m s) matches a u valid for_all
+ends_rightly texts m s for_units matches a u same valid = way_ends (way texts m s) matches a u valid for_units
 
 same_reply : (texts : Bool) (m : BenchShape) (s : Subject) (matches : Matching) (a : Answers) (u : Question → Unit_) (same : Marked → Marked → Bool) (mode' : Mode) (q : Question)
     → answer_in (words texts) m s matches a u same (mode_of mode') q ≡ reply_for mode' a u q
@@ -156,13 +158,14 @@ keeps : (texts : Bool) (m : BenchShape) (x : Standing (Progress × Answer)) → 
     → Keeps (way texts m x.subject) (run_replies x) x.state.0.mode x.state.0.stage x.state.1 x.reply (next (words texts) m x).reply
 keeps texts m x fits h = way_keeps (way texts m x.subject) (run_replies x) x.state.0.mode x.state.0.stage x.state.1 x.reply (next (words texts) m x).reply fits h
     (λ q m' e. ap (reply_to (words texts) m x.subject x.matches x.answers x.unit_at x.same x.marks) e ∙ same_reply texts m x.subject x.matches x.answers x.unit_at x.same m' q)
+    (λ p point e. ap (reply_to (words texts) m x.subject x.matches x.answers x.unit_at x.same x.marks) e)
 
 pub turns_keep : (texts : Bool) (m : BenchShape) → TurnLaws (words texts) m (none_absorbed m) (turns_left m) (ends_in texts m) (fits_in texts m)
 turns_keep texts m = record {
   bounded = λ s mode'. bounded texts m s;
   falls = λ s r reply. falls texts m s r.0.mode r.0.stage reply;
   asks = λ s r reply. asks texts m s r.0.mode r.0.stage reply;
-  begins = λ s mode' matches a u same agrees valid. (fits_begun (way texts m s) (λ m'. reply_for m' a u) (mode_from mode') spec.no_reply, ends_rightly texts m s mode' matches a u same valid);
+  begins = λ s mode' matches a u same agrees valid. (fits_begun (way texts m s) (replies_by matches a u) (mode_from mode') spec.no_reply, ends_rightly texts m s mode' matches a u same valid);
   keeps = λ x fits h. let k : Keeps (way texts m x.subject) (run_replies x) x.state.0.mode x.state.0.stage x.state.1 x.reply (next (words texts) m x).reply = keeps texts m x fits h in (k.fits, k.ends);
   stands = λ x fits h. way_stands (way texts m x.subject) (run_replies x) x.state.0.mode x.state.0.stage x.state.1 x.reply fits h;
 }
@@ -250,12 +253,17 @@ names_present (a_value (array ds)) = All-nil _
 names_present (a_value (object ms)) = All-map (λ q. IsPresent (a_value (object ms)) (steps_below q.below)) at_name (names_in ms)
     (All-weaker (IsNamed ms) (λ k. IsPresent (a_value (object ms)) (to_name k ∷ [])) (λ k h. name_leads k (member_of k ms) h) (names_in ms) (each_named ms))
 
+pattern_present : (texts : Bool) (pattern : Text) (s : Subject) (o : Option Text) → All (λ q. IsPresent s (steps_below q.below)) (questions (pattern_way texts pattern s o))
+pattern_present texts pattern s None = All-nil _
+pattern_present texts pattern s (Some text) = All-nil _
+
 present : (texts : Bool) (m : BenchShape) (s : Subject) → All (λ q. IsPresent s (steps_below q.below)) (questions (way texts m s))
 present texts (has_type t) s = All-nil _
 present texts (has_types ts) s = All-nil _
 present texts (requires ks) s = All-nil _
 present texts (has_properties ks) s = members_present 0 ks s
 present texts (has_count kind n) s = All-nil _
+present texts (has_pattern pattern) s = pattern_present texts pattern s (subject_string s)
 present texts (has_all_of n) s = each_present child_here s 0 n (λ k h. refl)
 present texts (has_prefix_items n) s = each_present child_at_item s 0 (min n (item_count s)) (λ k h. item_present s (0 + k) (omega arith))
 present texts (has_items n) s = each_present first_at_item s n (item_count s - n) (λ k h. item_present s (n + k) (omega arith))
@@ -269,10 +277,10 @@ present texts (has_not schema fraction) s = each_present child_here s 0 1 (λ k 
 pub functions_keep : (texts : Bool) (m : BenchShape) → FunctionLaws (words texts) m (none_absorbed m)
 functions_keep texts m = record {
   present = present texts m;
-  agree = λ s matches a agrees. way_agrees (way texts m s) a agrees;
-  holds_reads = λ s matches a b h. way_holds_reads (way texts m s) a b h;
-  faults_read = λ s matches a b h. way_faults_read (way texts m s) a b h;
-  units_read = λ s matches a b h. way_units_read (way texts m s) a b h;
-  stands = λ s matches a. way_stands_inside (way texts m s) s [] a;
-  passes = λ s matches a. way_passes (way texts m s) a;
+  agree = λ s matches a agrees. way_agrees (way texts m s) matches a agrees;
+  holds_reads = λ s matches a b h. way_holds_reads (way texts m s) matches a b h;
+  faults_read = λ s matches a b h. way_faults_read (way texts m s) matches a b h;
+  units_read = λ s matches a b h. way_units_read (way texts m s) matches a b h;
+  stands = λ s matches a. way_stands_inside (way texts m s) matches s [] a;
+  passes = λ s matches a. way_passes (way texts m s) matches a;
 }

@@ -18,7 +18,7 @@ use Rattle.engine_bench.specs.declared.keywords.counts.CountKind.{CountKind}
 use Rattle.engine_bench.specs.declared.keywords.type_names.TypeName.{TypeName}
 use Rattle.engine_bench.specs.declared.keywords.counts.CountKind.TheVariants.{MaxLength, MinLength, MinProperties}
 use Rattle.engine_bench.specs.Laws.{none_absorbed}
-use Rattle.engine_bench.specs.Makers.{asks_for, bench_script, count_shape, has_branch, if_script, is_older_list, items_from, items_script, list_script, makes_if, member_script, names_of, properties_script, required_shape, schema_script, texts_of, type_named, type_shape, types_of, value_script, values_below}
+use Rattle.engine_bench.specs.Makers.{asks_for, bench_script, count_shape, has_branch, if_script, is_older_list, items_from, items_script, list_script, makes_if, member_script, names_of, pattern_shape, properties_script, required_shape, schema_script, texts_of, type_named, type_shape, types_of, value_script, values_below}
 
 abbrev pub Rightly : Members → Script BenchShape → Type 0
 Rightly = MakesRightly none_absorbed is_whole
@@ -82,6 +82,14 @@ required_shape_whole (string t) = tt
 required_shape_whole (array ds) = texts_whole (texts_of ds)
 required_shape_whole (object ms) = tt
 
+pattern_whole : (d : Data) → IsWholeIf (pattern_shape d)
+pattern_whole null = tt
+pattern_whole (boolean b) = tt
+pattern_whole (number n) = tt
+pattern_whole (string t) = refl
+pattern_whole (array ds) = tt
+pattern_whole (object ms) = tt
+
 count_whole : (kind : CountKind) (o : Option ℕ) → IsWholeIf (option_map (has_count kind) o)
 count_whole kind None = tt
 count_whole kind (Some n) = refl
@@ -139,7 +147,8 @@ value_rightly owner draft name d here =
     (one_of owner (bytes_eq name (codes "minLength")) _ _ (made_rightly owner name d (count_shape MinLength d) (count_whole MinLength _))
     (one_of owner (bytes_eq name (codes "maxLength")) _ _ (made_rightly owner name d (count_shape MaxLength d) (count_whole MaxLength _))
     (one_of owner (bytes_eq name (codes "minProperties")) _ _ (made_rightly owner name d (count_shape MinProperties d) (count_whole MinProperties _))
-    (schema_rightly owner draft name d here))))))
+    (one_of owner (bytes_eq name (codes "pattern")) _ _ (made_rightly owner name d (pattern_shape d) (pattern_whole d))
+    (schema_rightly owner draft name d here)))))))
 
 member_rightly : (owner : Members) (draft : Draft) (name : Text) (o : Option Data) → get_member name owner ≡ o → Rightly owner (member_script draft owner name o)
 member_rightly owner draft name None here = tt

@@ -11,7 +11,7 @@ use Rattle.schema_reports.specs.Making.{Made, Script, a_keyword, nothing, refuse
 use Rattle.schema_node.specs.MakerViews.{Waiting, begun, ended, waits}
 use Rattle.engine_bench.specs.declared.keywords.type_names.TypeName.{TypeName}
 use Rattle.engine_bench.specs.declared.keywords.type_names.TypeName.TheVariants as type
-use Rattle.engine_bench.specs.BenchShape.{BenchShape, has_all_of, has_any_of, has_count, has_if, has_items, has_not, has_one_of, has_prefix_items, has_properties, has_property_names, has_type, has_types, requires}
+use Rattle.engine_bench.specs.BenchShape.{BenchShape, has_all_of, has_any_of, has_count, has_if, has_items, has_not, has_one_of, has_pattern, has_prefix_items, has_properties, has_property_names, has_type, has_types, requires}
 use Rattle.engine_bench.specs.Items.{count_in, items_count}
 use Rattle.engine_bench.specs.declared.keywords.counts.CountKind.{CountKind}
 use Rattle.engine_bench.specs.declared.keywords.counts.CountKind.TheVariants.{MaxLength, MinLength, MinProperties}
@@ -105,6 +105,12 @@ abbrev pub properties_script : Text → Data → Script BenchShape
 properties_script name (object ms) = asks_for (values_below name (names_of ms)) (a_keyword (has_properties (names_of ms)) [])
 properties_script name d = malformed name d
 
+-- ---- pattern
+
+abbrev pub pattern_shape : Data → Option BenchShape
+pattern_shape (string t) = Some (has_pattern t)
+pattern_shape _ = None
+
 -- ---- minLength, maxLength, minProperties
 
 abbrev pub count_shape : CountKind → Data → Option BenchShape
@@ -184,7 +190,8 @@ abbrev pub later_script : Draft → Members → Text → Data → Script BenchSh
 later_script draft ms name d =
     if bytes_eq name (codes "minLength") then makes_if name d (count_shape MinLength d)
     else (if bytes_eq name (codes "maxLength") then makes_if name d (count_shape MaxLength d)
-    else (if bytes_eq name (codes "minProperties") then makes_if name d (count_shape MinProperties d) else schema_script draft ms name d))
+    else (if bytes_eq name (codes "minProperties") then makes_if name d (count_shape MinProperties d)
+    else (if bytes_eq name (codes "pattern") then makes_if name d (pattern_shape d) else schema_script draft ms name d)))
 
 abbrev pub value_script : Draft → Members → Text → Data → Script BenchShape
 value_script draft ms name d =

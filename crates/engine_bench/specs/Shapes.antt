@@ -2,7 +2,7 @@
 use Rattle.std.specs.Prelude.{map, string_bytes}
 use Rattle.serde_json.specs.View.{view}
 use Rattle.serde_json.specs.Written.{compact_text, has_float}
-use Rattle.engine_bench.specs.BenchShape.{BenchShape, has_all_of, has_any_of, has_count, has_if, has_items, has_not, has_one_of, has_prefix_items, has_properties, has_property_names, has_type, has_types, requires}
+use Rattle.engine_bench.specs.BenchShape.{BenchShape, has_all_of, has_any_of, has_count, has_if, has_items, has_not, has_one_of, has_pattern, has_prefix_items, has_properties, has_property_names, has_type, has_types, requires}
 use Rattle.engine_bench.specs.declared.keywords.BenchKeyword.{BenchKeyword}
 use Rattle.engine_bench.specs.declared.keywords.BenchKeyword.TheVariants as keyword
 
@@ -12,6 +12,7 @@ shape_of (keyword.Types names) = has_types names.items
 shape_of (keyword.Required names) = requires (map string_bytes names.items)
 shape_of (keyword.Properties names) = has_properties (map string_bytes names.items)
 shape_of (keyword.Count kind limit) = has_count kind limit
+shape_of (keyword.Pattern pattern) = has_pattern (string_bytes pattern)
 shape_of (keyword.AllOf count) = has_all_of count
 shape_of (keyword.PrefixItems count) = has_prefix_items count
 shape_of (keyword.Items before) = has_items before

@@ -5,7 +5,8 @@ use Rattle.std.specs.Prelude.{flat_map, if◌then◌else◌, nat_le, not}
 use Rattle.std.proofs.lemmas.Bool.{leb-true}
 use Rattle.schema_reports.specs.Instance.{Text}
 use Rattle.schema_reports.specs.Reports.{Unit_, Error, report_of}
-use Rattle.schema_reports.specs.Keywords.{Answer, Answers, Fault, Gives, Question, Reply, Turn, all_of_it, ask, done, first_of_it, for_all, for_first, for_units, for_verdict, no_reply, own, passed, truth, unit_of_it}
+use Rattle.schema_reports.specs.Matching.{Matching, Pair}
+use Rattle.schema_reports.specs.Keywords.{Answer, Answers, Fault, Gives, MatchPoint, Question, Reply, Turn, all_of_it, ask, done, first_of_it, for_all, for_first, for_units, for_verdict, match_text, no_reply, own, passed, truth, unit_of_it}
 use Rattle.schema_reports.specs.Keywords as spec
 use Rattle.schema_reports.specs.Laws.{first_fault}
 use Rattle.schema_reports.specs.Runs.{first_error}
@@ -14,7 +15,7 @@ use Rattle.schema_node.specs.declared.context.keyword.Mode.{Mode}
 use Rattle.schema_node.specs.declared.context.keyword.Mode.TheVariants as mode
 use Rattle.engine_bench.specs.declared.keywords.run.Stage.{Stage}
 use Rattle.engine_bench.specs.declared.keywords.run.Stage.TheVariants.{Begun, Asked, Counted, Ended}
-use Rattle.engine_bench.specs.Ways.{Way, described, evaluated, tells, passes_on, judges, branches, branch, branch_number, chosen, counted_at, given, judged_at, plain, way_holds, way_faults, way_units, refused, with_first, noted, with_unit, taken, goes_on, nth, asked, stage_at, next_if, step_at, stage_after, answer_after, mode_from, way_left, way_turns, left_of}
+use Rattle.engine_bench.specs.Ways.{Way, asks_match, described, evaluated, is_matched, match_point, unless, tells, passes_on, judges, branches, branch, branch_number, chosen, counted_at, given, judged_at, plain, way_holds, way_faults, way_units, refused, with_first, noted, with_unit, taken, goes_on, nth, asked, stage_at, next_if, step_at, stage_after, answer_after, mode_from, way_left, way_turns, left_of}
 use Rattle.engine_bench.specs.Tallies.{Tally, asked_in, counted, is_settled, says_yes, tallied, told_by, wants_units, with_child, yes_count}
 
 -- the true reply to a question in a mode
@@ -40,13 +41,18 @@ judged_on t units reply m n a (q ∷ qs) = either (is_settled units t.enough (ta
     (noted m t.name (with_child a (reply q)) (t.told (tallied t.enough (reply q) n)))
     (judged_on t units reply m (tallied t.enough (reply q) n) (with_child a (reply q)) qs)
 
--- the replies are the true ones, by the mode in which a question is asked
-abbrev pub Replies : Type 0
-Replies = Mode → Question → Reply
+-- the true replies: to a question by the mode in which it is asked, and whether a pattern matches a text
+pub record Replies : Type 0 where
+  pub to_question : Mode → Question → Reply
+  pub to_match : Pair → Bool
+
+-- those that matches, answers and units give
+abbrev pub replies_by : Matching → Answers → (Question → Unit_) → Replies
+replies_by matching answers u = record { to_question = λ m. reply_for m answers u; to_match = is_matched matching }
 
 -- those to a run that judges
 abbrev pub judge_replies : Tally → Replies → Mode → Question → Reply
-judge_replies t replies m = replies (asked_in (wants_units t m))
+judge_replies t replies m = replies.to_question (asked_in (wants_units t m))
 
 -- the answer that a run ends in
 abbrev pub end_at : Way → Replies → Mode → Stage → Answer → Answer
@@ -54,26 +60,30 @@ end_at (tells name ts) replies m Begun a = noted m name a ts
 end_at (tells name ts) replies m (Asked i) a = a
 end_at (tells name ts) replies m (Counted i n) a = a
 end_at (tells name ts) replies m Ended a = a
-end_at (passes_on qs) replies m Begun a = led (replies m) a qs
-end_at (passes_on qs) replies m (Asked i) a = led (replies m) a (drop i qs)
+end_at (passes_on qs) replies m Begun a = led (replies.to_question m) a qs
+end_at (passes_on qs) replies m (Asked i) a = led (replies.to_question m) a (drop i qs)
 end_at (passes_on qs) replies m (Counted i n) a = a
 end_at (passes_on qs) replies m Ended a = a
 end_at (judges t qs) replies m Begun a = judged_on t (wants_units t m) (judge_replies t replies m) m 0 a qs
 end_at (judges t qs) replies m (Asked i) a = a
 end_at (judges t qs) replies m (Counted i n) a = judged_on t (wants_units t m) (judge_replies t replies m) m n a (drop i qs)
 end_at (judges t qs) replies m Ended a = a
-end_at (branches q one other) replies m Begun a = led (replies m) a (branch (says_yes (replies mode.Verdict q)) one other)
-end_at (branches q one other) replies m (Asked zero) a = led (replies m) a (branch (says_yes (replies mode.Verdict q)) one other)
-end_at (branches q one other) replies m (Asked (suc zero)) a = led (replies m) a (option_list one)
-end_at (branches q one other) replies m (Asked (suc (suc i))) a = led (replies m) a (option_list other)
+end_at (branches q one other) replies m Begun a = led (replies.to_question m) a (branch (says_yes (replies.to_question mode.Verdict q)) one other)
+end_at (branches q one other) replies m (Asked zero) a = led (replies.to_question m) a (branch (says_yes (replies.to_question mode.Verdict q)) one other)
+end_at (branches q one other) replies m (Asked (suc zero)) a = led (replies.to_question m) a (option_list one)
+end_at (branches q one other) replies m (Asked (suc (suc i))) a = led (replies.to_question m) a (option_list other)
 end_at (branches q one other) replies m (Counted i n) a = a
 end_at (branches q one other) replies m Ended a = a
+end_at (asks_match name p text) replies m Begun a = noted m name a (unless (replies.to_match p) text)
+end_at (asks_match name p text) replies m (Asked i) a = noted m name a (unless (replies.to_match p) text)
+end_at (asks_match name p text) replies m (Counted i n) a = a
+end_at (asks_match name p text) replies m Ended a = a
 
 -- the last reply is the true one
 abbrev pub fits_at : Way → Replies → Mode → Stage → Reply → Type 0
 fits_at (tells name ts) replies m stage r = Unit {0}
 fits_at (passes_on qs) replies m Begun r = Unit {0}
-fits_at (passes_on qs) replies m (Asked i) r = (q : Question) × (nth i qs ≡ Some q) × (r ≡ replies m q)
+fits_at (passes_on qs) replies m (Asked i) r = (q : Question) × (nth i qs ≡ Some q) × (r ≡ replies.to_question m q)
 fits_at (passes_on qs) replies m (Counted i n) r = Unit {0}
 fits_at (passes_on qs) replies m Ended r = Unit {0}
 fits_at (judges t qs) replies m Begun r = Unit {0}
@@ -81,11 +91,15 @@ fits_at (judges t qs) replies m (Asked i) r = Unit {0}
 fits_at (judges t qs) replies m (Counted i n) r = (q : Question) × (nth i qs ≡ Some q) × (r ≡ judge_replies t replies m q)
 fits_at (judges t qs) replies m Ended r = Unit {0}
 fits_at (branches q one other) replies m Begun r = Unit {0}
-fits_at (branches q one other) replies m (Asked zero) r = r ≡ replies mode.Verdict q
-fits_at (branches q one other) replies m (Asked (suc zero)) r = (p : Question) × (one ≡ Some p) × (r ≡ replies m p)
-fits_at (branches q one other) replies m (Asked (suc (suc i))) r = (p : Question) × (other ≡ Some p) × (r ≡ replies m p)
+fits_at (branches q one other) replies m (Asked zero) r = r ≡ replies.to_question mode.Verdict q
+fits_at (branches q one other) replies m (Asked (suc zero)) r = (p : Question) × (one ≡ Some p) × (r ≡ replies.to_question m p)
+fits_at (branches q one other) replies m (Asked (suc (suc i))) r = (p : Question) × (other ≡ Some p) × (r ≡ replies.to_question m p)
 fits_at (branches q one other) replies m (Counted i n) r = Unit {0}
 fits_at (branches q one other) replies m Ended r = Unit {0}
+fits_at (asks_match name p text) replies m Begun r = Unit {0}
+fits_at (asks_match name p text) replies m (Asked i) r = r ≡ truth (replies.to_match p)
+fits_at (asks_match name p text) replies m (Counted i n) r = Unit {0}
+fits_at (asks_match name p text) replies m Ended r = Unit {0}
 
 nth-drop_suc : (i : ℕ) (qs : List Question) (q : Question) → nth i qs ≡ Some q → drop i qs ≡ q ∷ drop (suc i) qs
 nth-drop_suc zero [] q h = cc
@@ -157,6 +171,10 @@ way_falls (branches q one other) m (Asked zero) r = falls_branch (length (q ∷ 
 way_falls (branches q one other) m (Asked (suc i)) r = inl refl
 way_falls (branches q one other) m (Counted i n) r = inl refl
 way_falls (branches q one other) m Ended r = inl refl
+way_falls (asks_match name p text) m Begun r = inr (omega arith)
+way_falls (asks_match name p text) m (Asked i) r = inl refl
+way_falls (asks_match name p text) m (Counted i n) r = inl refl
+way_falls (asks_match name p text) m Ended r = inl refl
 
 pub way_bounded : (w : Way) → way_left w Begun < way_turns w
 way_bounded w = omega arith
@@ -169,7 +187,11 @@ pub record Keeps (w : Way) (replies : Replies) (m : Mode) (stage : Stage) (a : A
 
 -- the next reply is the true one to the step
 abbrev pub IsTrueNext : Replies → Turn → Reply → Type 0
-IsTrueNext replies step next = (q : Question) (m : Mode) → step ≡ ask q (mode_of m) → next ≡ replies m q
+IsTrueNext replies step next = (q : Question) (m : Mode) → step ≡ ask q (mode_of m) → next ≡ replies.to_question m q
+
+-- the next reply is the true one to a step that asks for a match
+abbrev pub IsTrueMatch : Replies → Turn → Reply → Type 0
+IsTrueMatch replies step next = (p : Pair) (point : MatchPoint) → step ≡ match_text p point → next ≡ truth (replies.to_match p)
 
 keeps_begun : (qs : List Question) (replies : Replies) (m : Mode) (a : Answer) (r next : Reply) → (asked m (nth 0 qs) ≡ done → ⊥)
     → IsTrueNext replies (asked m (nth 0 qs)) next → Keeps (passes_on qs) replies m Begun a r next
@@ -177,19 +199,19 @@ keeps_begun [] replies m a r next h f = absurd (h refl)
 keeps_begun (q ∷ qs) replies m a r next h f = record { fits = (q, refl, f q m refl); ends = refl }
 
 asked_kept : (qs : List Question) (replies : Replies) (m : Mode) (i : ℕ) (a : Answer) (q : Question) (next : Reply) (b : Bool) (o : Option Question)
-    → nth i qs ≡ Some q → b ≡ goes_on (replies m q) → nth (i + 1) qs ≡ o
+    → nth i qs ≡ Some q → b ≡ goes_on (replies.to_question m q) → nth (i + 1) qs ≡ o
     → (asked m (next_if b o) ≡ done → ⊥) → IsTrueNext replies (asked m (next_if b o)) next
-    → fits_at (passes_on qs) replies m (stage_at (i + 1) (next_if b o)) next × (end_at (passes_on qs) replies m (stage_at (i + 1) (next_if b o)) (taken a (replies m q)) ≡ led (replies m) a (drop i qs))
+    → fits_at (passes_on qs) replies m (stage_at (i + 1) (next_if b o)) next × (end_at (passes_on qs) replies m (stage_at (i + 1) (next_if b o)) (taken a (replies.to_question m q)) ≡ led (replies.to_question m) a (drop i qs))
 asked_kept qs replies m i a q next false o here goes later h f = absurd (h refl)
 asked_kept qs replies m i a q next true None here goes later h f = absurd (h refl)
 asked_kept qs replies m i a q next true (Some p) here goes later h f =
-    ((p, later, f p m refl), sym (led_at (replies m) a i qs q here ∙ ap (λ b. either b (led (replies m) (taken a (replies m q)) (drop (i + 1) qs)) (taken a (replies m q))) (sym goes)))
+    ((p, later, f p m refl), sym (led_at (replies.to_question m) a i qs q here ∙ ap (λ b. either b (led (replies.to_question m) (taken a (replies.to_question m q)) (drop (i + 1) qs)) (taken a (replies.to_question m q))) (sym goes)))
 
 keeps_asked : (qs : List Question) (replies : Replies) (m : Mode) (i : ℕ) (a : Answer) (r next : Reply) → fits_at (passes_on qs) replies m (Asked i) r
     → (step_at (passes_on qs) m (Asked i) r ≡ done → ⊥) → IsTrueNext replies (step_at (passes_on qs) m (Asked i) r) next
     → Keeps (passes_on qs) replies m (Asked i) a r next
 keeps_asked qs replies m i a r next (q, here, true_reply) h f =
-    let parts : fits_at (passes_on qs) replies m (stage_at (i + 1) (next_if (goes_on r) (nth (i + 1) qs))) next × (end_at (passes_on qs) replies m (stage_at (i + 1) (next_if (goes_on r) (nth (i + 1) qs))) (taken a (replies m q)) ≡ led (replies m) a (drop i qs))
+    let parts : fits_at (passes_on qs) replies m (stage_at (i + 1) (next_if (goes_on r) (nth (i + 1) qs))) next × (end_at (passes_on qs) replies m (stage_at (i + 1) (next_if (goes_on r) (nth (i + 1) qs))) (taken a (replies.to_question m q)) ≡ led (replies.to_question m) a (drop i qs))
     = asked_kept qs replies m i a q next (goes_on r) (nth (i + 1) qs) here (ap goes_on true_reply) refl h f in
     record { fits = parts.0; ends = ap (λ x. end_at (passes_on qs) replies m (stage_at (i + 1) (next_if (goes_on r) (nth (i + 1) qs))) (taken a x)) true_reply ∙ parts.1 }
 
@@ -243,40 +265,44 @@ keeps_counted t qs replies m i n a r next (q, here, true_reply) h f =
         = counted_kept t qs replies m i n a q next (is_settled (wants_units t m) t.enough (tallied t.enough (judge_replies t replies m q) n)) (nth (i + 1) qs) here refl refl h f in
         record { fits = parts.0; ends = parts.1 }
 
-branch_kept : (q : Question) (one other : Option Question) (replies : Replies) (m : Mode) (a : Answer) (next : Reply) (b : Bool) → b ≡ says_yes (replies mode.Verdict q)
+branch_kept : (q : Question) (one other : Option Question) (replies : Replies) (m : Mode) (a : Answer) (next : Reply) (b : Bool) → b ≡ says_yes (replies.to_question mode.Verdict q)
     → (asked m (chosen b one other) ≡ done → ⊥) → IsTrueNext replies (asked m (chosen b one other)) next
     → fits_at (branches q one other) replies m (stage_at (branch_number b) (chosen b one other)) next
-    × (end_at (branches q one other) replies m (stage_at (branch_number b) (chosen b one other)) a ≡ led (replies m) a (branch (says_yes (replies mode.Verdict q)) one other))
+    × (end_at (branches q one other) replies m (stage_at (branch_number b) (chosen b one other)) a ≡ led (replies.to_question m) a (branch (says_yes (replies.to_question mode.Verdict q)) one other))
 branch_kept q None other replies m a next true says h f = absurd (h refl)
-branch_kept q (Some p) other replies m a next true says h f = ((p, refl, f p m refl), ap (λ b. led (replies m) a (branch b (Some p) other)) says)
+branch_kept q (Some p) other replies m a next true says h f = ((p, refl, f p m refl), ap (λ b. led (replies.to_question m) a (branch b (Some p) other)) says)
 branch_kept q one None replies m a next false says h f = absurd (h refl)
-branch_kept q one (Some p) replies m a next false says h f = ((p, refl, f p m refl), ap (λ b. led (replies m) a (branch b one (Some p))) says)
+branch_kept q one (Some p) replies m a next false says h f = ((p, refl, f p m refl), ap (λ b. led (replies.to_question m) a (branch b one (Some p))) says)
 
-keeps_branch : (q : Question) (one other : Option Question) (replies : Replies) (m : Mode) (a : Answer) (r next : Reply) → r ≡ replies mode.Verdict q
+keeps_branch : (q : Question) (one other : Option Question) (replies : Replies) (m : Mode) (a : Answer) (r next : Reply) → r ≡ replies.to_question mode.Verdict q
     → (asked m (chosen (says_yes r) one other) ≡ done → ⊥) → IsTrueNext replies (asked m (chosen (says_yes r) one other)) next → Keeps (branches q one other) replies m (Asked 0) a r next
 keeps_branch q one other replies m a r next true_reply h f =
     let parts : fits_at (branches q one other) replies m (stage_at (branch_number (says_yes r)) (chosen (says_yes r) one other)) next
-    × (end_at (branches q one other) replies m (stage_at (branch_number (says_yes r)) (chosen (says_yes r) one other)) a ≡ led (replies m) a (branch (says_yes (replies mode.Verdict q)) one other))
+    × (end_at (branches q one other) replies m (stage_at (branch_number (says_yes r)) (chosen (says_yes r) one other)) a ≡ led (replies.to_question m) a (branch (says_yes (replies.to_question mode.Verdict q)) one other))
     = branch_kept q one other replies m a next (says_yes r) (ap says_yes true_reply) h f in
     record { fits = parts.0; ends = parts.1 }
 
 pub way_keeps : (w : Way) (replies : Replies) (m : Mode) (stage : Stage) (a : Answer) (r next : Reply) → fits_at w replies m stage r
-    → (step_at w m stage r ≡ done → ⊥) → IsTrueNext replies (step_at w m stage r) next
+    → (step_at w m stage r ≡ done → ⊥) → IsTrueNext replies (step_at w m stage r) next → IsTrueMatch replies (step_at w m stage r) next
     → Keeps w replies m stage a r next
-way_keeps (tells name ts) replies m stage a r next fits h f = absurd (h refl)
-way_keeps (passes_on qs) replies m Begun a r next fits h f = keeps_begun qs replies m a r next h f
-way_keeps (passes_on qs) replies m (Asked i) a r next fits h f = keeps_asked qs replies m i a r next fits h f
-way_keeps (passes_on qs) replies m (Counted i n) a r next fits h f = absurd (h refl)
-way_keeps (passes_on qs) replies m Ended a r next fits h f = absurd (h refl)
-way_keeps (judges t qs) replies m Begun a r next fits h f = keeps_judging t qs replies m a r next h f
-way_keeps (judges t qs) replies m (Asked i) a r next fits h f = absurd (h refl)
-way_keeps (judges t qs) replies m (Counted i n) a r next fits h f = keeps_counted t qs replies m i n a r next fits h f
-way_keeps (judges t qs) replies m Ended a r next fits h f = absurd (h refl)
-way_keeps (branches q one other) replies m Begun a r next fits h f = record { fits = f q mode.Verdict refl; ends = refl }
-way_keeps (branches q one other) replies m (Asked zero) a r next fits h f = keeps_branch q one other replies m a r next fits h f
-way_keeps (branches q one other) replies m (Asked (suc i)) a r next fits h f = absurd (h refl)
-way_keeps (branches q one other) replies m (Counted i n) a r next fits h f = absurd (h refl)
-way_keeps (branches q one other) replies m Ended a r next fits h f = absurd (h refl)
+way_keeps (tells name ts) replies m stage a r next fits h f g = absurd (h refl)
+way_keeps (passes_on qs) replies m Begun a r next fits h f g = keeps_begun qs replies m a r next h f
+way_keeps (passes_on qs) replies m (Asked i) a r next fits h f g = keeps_asked qs replies m i a r next fits h f
+way_keeps (passes_on qs) replies m (Counted i n) a r next fits h f g = absurd (h refl)
+way_keeps (passes_on qs) replies m Ended a r next fits h f g = absurd (h refl)
+way_keeps (judges t qs) replies m Begun a r next fits h f g = keeps_judging t qs replies m a r next h f
+way_keeps (judges t qs) replies m (Asked i) a r next fits h f g = absurd (h refl)
+way_keeps (judges t qs) replies m (Counted i n) a r next fits h f g = keeps_counted t qs replies m i n a r next fits h f
+way_keeps (judges t qs) replies m Ended a r next fits h f g = absurd (h refl)
+way_keeps (branches q one other) replies m Begun a r next fits h f g = record { fits = f q mode.Verdict refl; ends = refl }
+way_keeps (branches q one other) replies m (Asked zero) a r next fits h f g = keeps_branch q one other replies m a r next fits h f
+way_keeps (branches q one other) replies m (Asked (suc i)) a r next fits h f g = absurd (h refl)
+way_keeps (branches q one other) replies m (Counted i n) a r next fits h f g = absurd (h refl)
+way_keeps (branches q one other) replies m Ended a r next fits h f g = absurd (h refl)
+way_keeps (asks_match name p text) replies m Begun a r next fits h f g = record { fits = g p (match_point m p.pattern) refl; ends = refl }
+way_keeps (asks_match name p text) replies m (Asked i) a r next fits h f g = absurd (h refl)
+way_keeps (asks_match name p text) replies m (Counted i n) a r next fits h f g = absurd (h refl)
+way_keeps (asks_match name p text) replies m Ended a r next fits h f g = absurd (h refl)
 
 -- ---- at `done` the end stands in the answer
 
@@ -293,8 +319,8 @@ asked_stands qs reply m i a q true None here goes later h =
 asked_stands qs reply m i a q true (Some p) here goes later h = cc
 
 stands_asked : (qs : List Question) (replies : Replies) (m : Mode) (i : ℕ) (a : Answer) (r : Reply) → fits_at (passes_on qs) replies m (Asked i) r
-    → step_at (passes_on qs) m (Asked i) r ≡ done → taken a r ≡ led (replies m) a (drop i qs)
-stands_asked qs replies m i a r (q, here, true_reply) h = ap (taken a) true_reply ∙ asked_stands qs (replies m) m i a q (goes_on r) (nth (i + 1) qs) here (ap goes_on true_reply) refl h
+    → step_at (passes_on qs) m (Asked i) r ≡ done → taken a r ≡ led (replies.to_question m) a (drop i qs)
+stands_asked qs replies m i a r (q, here, true_reply) h = ap (taken a) true_reply ∙ asked_stands qs (replies.to_question m) m i a q (goes_on r) (nth (i + 1) qs) here (ap goes_on true_reply) refl h
 
 stands_judging : (t : Tally) (qs : List Question) (replies : Replies) (m : Mode) (a : Answer) → asked (asked_in (wants_units t m)) (nth 0 qs) ≡ done
     → judged_at t m 0 a (nth 0 qs) ≡ judged_on t (wants_units t m) (judge_replies t replies m) m 0 a qs
@@ -322,18 +348,18 @@ stands_counted t qs replies m i n a r (q, here, true_reply) h =
     (sym true_reply)
     (λ e. counted_stands t qs replies m i n a q (is_settled (wants_units t m) t.enough (tallied t.enough (judge_replies t replies m q) n)) (nth (i + 1) qs) here refl refl e) h
 
-branch_stands : (one other : Option Question) (replies : Replies) (m : Mode) (a : Answer) (b c : Bool) → b ≡ c → asked m (chosen b one other) ≡ done → a ≡ led (replies m) a (branch c one other)
-branch_stands None other replies m a true c says h = ap (λ b. led (replies m) a (branch b None other)) says
+branch_stands : (one other : Option Question) (replies : Replies) (m : Mode) (a : Answer) (b c : Bool) → b ≡ c → asked m (chosen b one other) ≡ done → a ≡ led (replies.to_question m) a (branch c one other)
+branch_stands None other replies m a true c says h = ap (λ b. led (replies.to_question m) a (branch b None other)) says
 branch_stands (Some p) other replies m a true c says h = cc
-branch_stands one None replies m a false c says h = ap (λ b. led (replies m) a (branch b one None)) says
+branch_stands one None replies m a false c says h = ap (λ b. led (replies.to_question m) a (branch b one None)) says
 branch_stands one (Some p) replies m a false c says h = cc
 
 either_same : (b : Bool) (a : Answer) → a ≡ either b a a
 either_same true a = refl
 either_same false a = refl
 
-stands_branch : (o : Option Question) (replies : Replies) (m : Mode) (a : Answer) (r : Reply) → ((p : Question) × (o ≡ Some p) × (r ≡ replies m p)) → taken a r ≡ led (replies m) a (option_list o)
-stands_branch o replies m a r (p, there, true_reply) = ap (taken a) true_reply ∙ (either_same (goes_on (replies m p)) (taken a (replies m p)) ∙ ap (λ o. led (replies m) a (option_list o)) (sym there))
+stands_branch : (o : Option Question) (replies : Replies) (m : Mode) (a : Answer) (r : Reply) → ((p : Question) × (o ≡ Some p) × (r ≡ replies.to_question m p)) → taken a r ≡ led (replies.to_question m) a (option_list o)
+stands_branch o replies m a r (p, there, true_reply) = ap (taken a) true_reply ∙ (either_same (goes_on (replies.to_question m p)) (taken a (replies.to_question m p)) ∙ ap (λ o. led (replies.to_question m) a (option_list o)) (sym there))
 
 pub way_stands : (w : Way) (replies : Replies) (m : Mode) (stage : Stage) (a : Answer) (r : Reply) → fits_at w replies m stage r
     → step_at w m stage r ≡ done → answer_after w m stage a r ≡ end_at w replies m stage a
@@ -341,7 +367,7 @@ way_stands (tells name ts) replies m Begun a r fits h = refl
 way_stands (tells name ts) replies m (Asked i) a r fits h = refl
 way_stands (tells name ts) replies m (Counted i n) a r fits h = refl
 way_stands (tells name ts) replies m Ended a r fits h = refl
-way_stands (passes_on qs) replies m Begun a r fits h = stands_begun qs (replies m) m a h
+way_stands (passes_on qs) replies m Begun a r fits h = stands_begun qs (replies.to_question m) m a h
 way_stands (passes_on qs) replies m (Asked i) a r fits h = stands_asked qs replies m i a r fits h
 way_stands (passes_on qs) replies m (Counted i n) a r fits h = refl
 way_stands (passes_on qs) replies m Ended a r fits h = refl
@@ -350,11 +376,15 @@ way_stands (judges t qs) replies m (Asked i) a r fits h = refl
 way_stands (judges t qs) replies m (Counted i n) a r fits h = stands_counted t qs replies m i n a r fits h
 way_stands (judges t qs) replies m Ended a r fits h = refl
 way_stands (branches q one other) replies m Begun a r fits h = cc
-way_stands (branches q one other) replies m (Asked zero) a r fits h = branch_stands one other replies m a (says_yes r) (says_yes (replies mode.Verdict q)) (ap says_yes fits) h
+way_stands (branches q one other) replies m (Asked zero) a r fits h = branch_stands one other replies m a (says_yes r) (says_yes (replies.to_question mode.Verdict q)) (ap says_yes fits) h
 way_stands (branches q one other) replies m (Asked (suc zero)) a r fits h = stands_branch one replies m a r fits
 way_stands (branches q one other) replies m (Asked (suc (suc i))) a r fits h = stands_branch other replies m a r fits
 way_stands (branches q one other) replies m (Counted i n) a r fits h = refl
 way_stands (branches q one other) replies m Ended a r fits h = refl
+way_stands (asks_match name p text) replies m Begun a r fits h = cc
+way_stands (asks_match name p text) replies m (Asked i) a r fits h = ap (λ x. noted m name a (unless (says_yes x) text)) fits
+way_stands (asks_match name p text) replies m (Counted i n) a r fits h = refl
+way_stands (asks_match name p text) replies m Ended a r fits h = refl
 
 -- ---- the end is the way's own
 
@@ -507,38 +537,49 @@ judged_evaluation t answers u valid qs true = judged_given t answers u valid mod
 judged_evaluation t answers u valid qs false = judged_fresh t answers u mode.Evaluate qs
 
 -- what is wanted of the end, by mode
-abbrev pub IsEnd : Way → Answers → (Question → Unit_) → spec.Mode → Answer → Type 0
-IsEnd w answers u for_verdict a = a.verdict ≡ way_holds w (λ q. (answers q).verdict)
-IsEnd w answers u for_first a = a.errors ≡ first_fault (way_faults w answers)
-IsEnd w answers u for_all a = a.errors ≡ way_faults w answers
-IsEnd w answers u for_units a = (a.gives ≡ way_units w u) × (a.verdict ≡ way_holds w (λ q. (answers q).verdict))
+abbrev pub IsEnd : Way → Matching → Answers → (Question → Unit_) → spec.Mode → Answer → Type 0
+IsEnd w matching answers u for_verdict a = a.verdict ≡ way_holds w matching (λ q. (answers q).verdict)
+IsEnd w matching answers u for_first a = a.errors ≡ first_fault (way_faults w matching answers)
+IsEnd w matching answers u for_all a = a.errors ≡ way_faults w matching answers
+IsEnd w matching answers u for_units a = (a.gives ≡ way_units w matching u) × (a.verdict ≡ way_holds w matching (λ q. (answers q).verdict))
 
 branch_valid : (answers : Answers) (u : Question → Unit_) (one other : Option Question) (a b : Bool) → a ≡ b → map u (branch b one other) ≡ map u (branch a one other)
 branch_valid answers u one other a b h = ap (λ x. map u (branch x one other)) (sym h)
 
-pub way_ends : (w : Way) (answers : Answers) (u : Question → Unit_) → ((q : Question) → (report_of (u q)).valid ≡ (answers q).verdict) → (m : spec.Mode)
-    → IsEnd w answers u m (end_at w (λ mode'. reply_for mode' answers u) (mode_from m) Begun fresh)
-way_ends (tells name ts) answers u valid for_verdict = noted_verdict name ts fresh refl
-way_ends (tells name ts) answers u valid for_first = noted_first name ts
-way_ends (tells name ts) answers u valid for_all = noted_all name ts fresh
-way_ends (tells name ts) answers u valid for_units =
+nil_unless : (b : Bool) (text : Text) → is_nil (unless b text) ≡ b
+nil_unless true text = refl
+nil_unless false text = refl
+
+pub way_ends : (w : Way) (matching : Matching) (answers : Answers) (u : Question → Unit_) → ((q : Question) → (report_of (u q)).valid ≡ (answers q).verdict) → (m : spec.Mode)
+    → IsEnd w matching answers u m (end_at w (replies_by matching answers u) (mode_from m) Begun fresh)
+way_ends (tells name ts) matching answers u valid for_verdict = noted_verdict name ts fresh refl
+way_ends (tells name ts) matching answers u valid for_first = noted_first name ts
+way_ends (tells name ts) matching answers u valid for_all = noted_all name ts fresh
+way_ends (tells name ts) matching answers u valid for_units =
     (evaluated_gives name ts fresh, evaluated_verdict name ts fresh refl)
-way_ends (passes_on qs) answers u valid for_verdict = led_verdict answers u qs fresh refl
-way_ends (passes_on qs) answers u valid for_first = led_first answers u qs fresh refl
-way_ends (passes_on qs) answers u valid for_all = led_all answers u qs fresh
-way_ends (passes_on qs) answers u valid for_units = (led_gives answers u qs fresh, led_valid answers u valid qs fresh)
-way_ends (judges t qs) answers u valid for_verdict = ap (λ a. a.verdict) (judged_fresh t answers u mode.Verdict qs) ∙ noted_verdict t.name (told_by t (λ q. (answers q).verdict) qs) fresh refl
-way_ends (judges t qs) answers u valid for_first = ap (λ a. a.errors) (judged_fresh t answers u mode.First qs) ∙ noted_first t.name (told_by t (λ q. (answers q).verdict) qs)
-way_ends (judges t qs) answers u valid for_all = ap (λ a. a.errors) (judged_fresh t answers u mode.All qs) ∙ noted_all t.name (told_by t (λ q. (answers q).verdict) qs) fresh
-way_ends (judges t qs) answers u valid for_units = (
+way_ends (passes_on qs) matching answers u valid for_verdict = led_verdict answers u qs fresh refl
+way_ends (passes_on qs) matching answers u valid for_first = led_first answers u qs fresh refl
+way_ends (passes_on qs) matching answers u valid for_all = led_all answers u qs fresh
+way_ends (passes_on qs) matching answers u valid for_units = (led_gives answers u qs fresh, led_valid answers u valid qs fresh)
+way_ends (judges t qs) matching answers u valid for_verdict = ap (λ a. a.verdict) (judged_fresh t answers u mode.Verdict qs) ∙ noted_verdict t.name (told_by t (λ q. (answers q).verdict) qs) fresh refl
+way_ends (judges t qs) matching answers u valid for_first = ap (λ a. a.errors) (judged_fresh t answers u mode.First qs) ∙ noted_first t.name (told_by t (λ q. (answers q).verdict) qs)
+way_ends (judges t qs) matching answers u valid for_all = ap (λ a. a.errors) (judged_fresh t answers u mode.All qs) ∙ noted_all t.name (told_by t (λ q. (answers q).verdict) qs) fresh
+way_ends (judges t qs) matching answers u valid for_units = (
   ap (λ a. a.gives) (judged_evaluation t answers u valid qs t.shows) ∙ (evaluated_gives t.name (told_by t (λ q. (answers q).verdict) qs) (with_children fresh (given t.shows u qs))
       ∙ ap (λ n. record no_gives { children = given t.shows u qs; errors = map (described t.name) (t.told (min t.enough n)) }) (sym (same_count (λ q. (report_of (u q)).valid) (λ q. (answers q).verdict) valid qs))),
   ap (λ a. a.verdict) (judged_evaluation t answers u valid qs t.shows) ∙ evaluated_verdict t.name (told_by t (λ q. (answers q).verdict) qs) (with_children fresh (given t.shows u qs)) refl,
 )
-way_ends (branches q one other) answers u valid for_verdict = led_verdict answers u (branch (answers q).verdict one other) fresh refl
-way_ends (branches q one other) answers u valid for_first = led_first answers u (branch (answers q).verdict one other) fresh refl
-way_ends (branches q one other) answers u valid for_all = led_all answers u (branch (answers q).verdict one other) fresh
-way_ends (branches q one other) answers u valid for_units = (
+way_ends (branches q one other) matching answers u valid for_verdict = led_verdict answers u (branch (answers q).verdict one other) fresh refl
+way_ends (branches q one other) matching answers u valid for_first = led_first answers u (branch (answers q).verdict one other) fresh refl
+way_ends (branches q one other) matching answers u valid for_all = led_all answers u (branch (answers q).verdict one other) fresh
+way_ends (branches q one other) matching answers u valid for_units = (
   led_gives answers u (branch (answers q).verdict one other) fresh ∙ ap (λ us. record no_gives { children = us }) (branch_valid answers u one other (report_of (u q)).valid (answers q).verdict (valid q)),
   led_valid answers u valid (branch (answers q).verdict one other) fresh,
+)
+way_ends (asks_match name p text) matching answers u valid for_verdict = noted_verdict name (unless (is_matched matching p) text) fresh refl ∙ nil_unless (is_matched matching p) text
+way_ends (asks_match name p text) matching answers u valid for_first = noted_first name (unless (is_matched matching p) text)
+way_ends (asks_match name p text) matching answers u valid for_all = noted_all name (unless (is_matched matching p) text) fresh
+way_ends (asks_match name p text) matching answers u valid for_units = (
+  evaluated_gives name (unless (is_matched matching p) text) fresh,
+  evaluated_verdict name (unless (is_matched matching p) text) fresh refl ∙ nil_unless (is_matched matching p) text,
 )

@@ -1,11 +1,13 @@
 -- How a keyword goes about an instance: it tells its own errors at once; or it asks questions in order and passes on what
 -- they answer; or it judges by how many of them accept; or it asks one question, and then one of two as that one answers,
--- whose answer it passes on. Its runs by turns follow from that.
+-- whose answer it passes on; or it asks whether a pattern matches a text, and tells an error where it does not. Its runs by
+-- turns follow from that.
 use Rattle.std.specs.List.{list_all}
 use Rattle.std.specs.Prelude.{Bool, List, None, Option, Some, [], false, flat_map, if◌then◌else◌, length, map, not, suc, true, zero, ℕ, ◌++◌, ◌+◌, ◌-◌, ◌∷◌}
 use Rattle.schema_reports.specs.Instance.{Text}
 use Rattle.schema_reports.specs.Reports.{Described, Unit_, report_of}
-use Rattle.schema_reports.specs.Keywords.{Answer, Answers, Fault, Gives, Own, Question, Reply, Turn, all_of_it, ask, done, first_of_it, for_all, for_first, for_units, for_verdict, no_reply, own, passed, truth, unit_of_it}
+use Rattle.schema_reports.specs.Matching.{Matching, Pair}
+use Rattle.schema_reports.specs.Keywords.{Answer, Answers, Fault, Gives, MatchPoint, Own, Question, Reply, Spot, Turn, all_of_it, ask, done, first_of_it, for_all, for_first, for_units, for_verdict, match_text, no_reply, own, passed, truth, unit_of_it}
 use Rattle.schema_reports.specs.Keywords as spec
 use Rattle.schema_node.specs.KeywordViews.{is_nil, mode_of, no_gives, option_list, with_errors}
 use Rattle.schema_node.specs.declared.context.keyword.Mode.{Mode}
@@ -22,10 +24,21 @@ pub data Way : Type 0 where
   judges : Tally → List Question → Way
   -- a question, the one that follows where it accepts, and the one that follows else
   branches : Question → Option Question → Option Question → Way
+  -- a pattern and the text that it is to match, and an error of this name with this text where it does not
+  asks_match : Text → Pair → Text → Way
+
+-- one text where the test fails
+abbrev pub unless : Bool → Text → List Text
+unless true text = []
+unless false text = text ∷ []
+
+-- at the keyword itself
+abbrev pub at_keyword : Spot
+at_keyword = record { absorbed = None; path = []; below = [] }
 
 -- an error at the keyword itself
 abbrev pub plain : Text → Text → Own
-plain name text = record { spot = record { absorbed = None; path = []; below = [] }; name = name; text = text }
+plain name text = record { spot = at_keyword; name = name; text = text }
 
 -- the same, as a unit has it
 abbrev pub described : Text → Text → Described
@@ -38,6 +51,7 @@ questions (tells name ts) = []
 questions (passes_on qs) = qs
 questions (judges t qs) = qs
 questions (branches q one other) = q ∷ (option_list one ++ option_list other)
+questions (asks_match name a text) = []
 
 -- the branch that follows, if there is one
 abbrev pub branch : Bool → Option Question → Option Question → List Question
@@ -48,23 +62,30 @@ abbrev pub given : Bool → (Question → Unit_) → List Question → List Unit
 given true unit_at qs = map unit_at qs
 given false unit_at qs = []
 
-abbrev pub way_holds : Way → (Question → Bool) → Bool
-way_holds (tells name ts) accepts = is_nil ts
-way_holds (passes_on qs) accepts = list_all accepts qs
-way_holds (judges t qs) accepts = is_nil (told_by t accepts qs)
-way_holds (branches q one other) accepts = list_all accepts (branch (accepts q) one other)
+-- whether the pattern matches the text
+abbrev pub is_matched : Matching → Pair → Bool
+is_matched matching a = matching.matches a.pattern a.subject
 
-abbrev pub way_faults : Way → Answers → List Fault
-way_faults (tells name ts) answers = map (λ t. own (plain name t)) ts
-way_faults (passes_on qs) answers = flat_map (λ q. map passed (answers q).errors) qs
-way_faults (judges t qs) answers = map (λ x. own (plain t.name x)) (told_by t (λ q. (answers q).verdict) qs)
-way_faults (branches q one other) answers = flat_map (λ q. map passed (answers q).errors) (branch (answers q).verdict one other)
+abbrev pub way_holds : Way → Matching → (Question → Bool) → Bool
+way_holds (tells name ts) matching accepts = is_nil ts
+way_holds (passes_on qs) matching accepts = list_all accepts qs
+way_holds (judges t qs) matching accepts = is_nil (told_by t accepts qs)
+way_holds (branches q one other) matching accepts = list_all accepts (branch (accepts q) one other)
+way_holds (asks_match name a text) matching accepts = is_matched matching a
 
-abbrev pub way_units : Way → (Question → Unit_) → Gives
-way_units (tells name ts) unit_at = record no_gives { errors = map (described name) ts }
-way_units (passes_on qs) unit_at = record no_gives { children = map unit_at qs }
-way_units (judges t qs) unit_at = record no_gives { children = given t.shows unit_at qs; errors = map (described t.name) (told_by t (λ q. (report_of (unit_at q)).valid) qs) }
-way_units (branches q one other) unit_at = record no_gives { children = map unit_at (branch (report_of (unit_at q)).valid one other) }
+abbrev pub way_faults : Way → Matching → Answers → List Fault
+way_faults (tells name ts) matching answers = map (λ t. own (plain name t)) ts
+way_faults (passes_on qs) matching answers = flat_map (λ q. map passed (answers q).errors) qs
+way_faults (judges t qs) matching answers = map (λ x. own (plain t.name x)) (told_by t (λ q. (answers q).verdict) qs)
+way_faults (branches q one other) matching answers = flat_map (λ q. map passed (answers q).errors) (branch (answers q).verdict one other)
+way_faults (asks_match name a text) matching answers = map (λ t. own (plain name t)) (unless (is_matched matching a) text)
+
+abbrev pub way_units : Way → Matching → (Question → Unit_) → Gives
+way_units (tells name ts) matching unit_at = record no_gives { errors = map (described name) ts }
+way_units (passes_on qs) matching unit_at = record no_gives { children = map unit_at qs }
+way_units (judges t qs) matching unit_at = record no_gives { children = given t.shows unit_at qs; errors = map (described t.name) (told_by t (λ q. (report_of (unit_at q)).valid) qs) }
+way_units (branches q one other) matching unit_at = record no_gives { children = map unit_at (branch (report_of (unit_at q)).valid one other) }
+way_units (asks_match name a text) matching unit_at = record no_gives { errors = map (described name) (unless (is_matched matching a) text) }
 
 -- ---- what stands in an answer
 
@@ -163,6 +184,16 @@ abbrev pub branch_number : Bool → ℕ
 branch_number true = 1
 branch_number false = 2
 
+-- where a match is asked for: at the keyword, shown with evaluation path and place but in a verdict, with the pattern
+abbrev pub is_located : Mode → Bool
+is_located mode.Verdict = false
+is_located mode.First = true
+is_located mode.All = true
+is_located mode.Evaluate = true
+
+abbrev pub match_point : Mode → Text → MatchPoint
+match_point m pattern = record { spot = at_keyword; located = is_located m; pattern = Some pattern }
+
 abbrev pub step_at : Way → Mode → Stage → Reply → Turn
 step_at (tells name ts) m stage reply = done
 step_at (passes_on qs) m Begun reply = asked m (nth 0 qs)
@@ -178,6 +209,10 @@ step_at (branches q one other) m (Asked zero) reply = asked m (chosen (says_yes 
 step_at (branches q one other) m (Asked (suc i)) reply = done
 step_at (branches q one other) m (Counted i n) reply = done
 step_at (branches q one other) m Ended reply = done
+step_at (asks_match name a text) m Begun reply = match_text a (match_point m a.pattern)
+step_at (asks_match name a text) m (Asked i) reply = done
+step_at (asks_match name a text) m (Counted i n) reply = done
+step_at (asks_match name a text) m Ended reply = done
 
 abbrev pub stage_after : Way → Mode → Stage → Reply → Stage
 stage_after (tells name ts) m stage reply = Ended
@@ -194,6 +229,10 @@ stage_after (branches q one other) m (Asked zero) reply = stage_at (branch_numbe
 stage_after (branches q one other) m (Asked (suc i)) reply = Ended
 stage_after (branches q one other) m (Counted i n) reply = Ended
 stage_after (branches q one other) m Ended reply = Ended
+stage_after (asks_match name a text) m Begun reply = Asked 0
+stage_after (asks_match name a text) m (Asked i) reply = Ended
+stage_after (asks_match name a text) m (Counted i n) reply = Ended
+stage_after (asks_match name a text) m Ended reply = Ended
 
 -- what is told is told in the first turn
 abbrev pub at_first : Stage → Answer → Answer → Answer
@@ -207,6 +246,7 @@ told_at_once (tells name ts) m a = noted m name a ts
 told_at_once (passes_on qs) m a = a
 told_at_once (judges t qs) m a = a
 told_at_once (branches q one other) m a = a
+told_at_once (asks_match name p text) m a = a
 
 abbrev pub answer_after : Way → Mode → Stage → Answer → Reply → Answer
 answer_after (tells name ts) m stage a reply = at_first stage (noted m name a ts) a
@@ -223,6 +263,10 @@ answer_after (branches q one other) m (Asked zero) a reply = a
 answer_after (branches q one other) m (Asked (suc i)) a reply = taken a reply
 answer_after (branches q one other) m (Counted i n) a reply = a
 answer_after (branches q one other) m Ended a reply = a
+answer_after (asks_match name p text) m Begun a reply = a
+answer_after (asks_match name p text) m (Asked i) a reply = noted m name a (unless (says_yes reply) text)
+answer_after (asks_match name p text) m (Counted i n) a reply = a
+answer_after (asks_match name p text) m Ended a reply = a
 
 abbrev pub way_begin : spec.Mode → Progress
 way_begin m = record { mode = mode_from m; stage = Begun }

@@ -1,6 +1,6 @@
 -- What each keyword says of an instance.
 use Rattle.std.specs.List.{list_any}
-use Rattle.std.specs.Prelude.{Bool, List, [], codes, false, filter, map, min, not, option_map, suc, true, zero, ℕ, ◌++◌, ◌+◌, ◌-◌, ◌&&◌, ◌∷◌}
+use Rattle.std.specs.Prelude.{Bool, List, None, Option, Some, [], codes, false, filter, map, min, not, option_map, suc, true, zero, ℕ, ◌++◌, ◌+◌, ◌-◌, ◌&&◌, ◌∷◌}
 use Rattle.schema_reports.specs.Instance.{Subject, Text, a_name, to_member, to_name}
 use Rattle.schema_reports.specs.ReportViews.{spoken}
 use Rattle.schema_reports.specs.Keywords.{Answer, Keywords, Question, down}
@@ -10,16 +10,11 @@ use Rattle.engine_bench.specs.declared.keywords.type_names.TypeName.{TypeName}
 use Rattle.engine_bench.specs.declared.keywords.run.Progress.{Progress}
 use Rattle.engine_bench.specs.TypeNames.{fits, type_name}
 use Rattle.engine_bench.specs.Members.{has_member, is_object, subject_names}
-use Rattle.engine_bench.specs.BenchShape.{BenchShape, has_all_of, has_any_of, has_count, has_if, has_items, has_not, has_one_of, has_prefix_items, has_properties, has_property_names, has_type, has_types, requires}
-use Rattle.engine_bench.specs.Counts.{count_fits, count_name, count_text}
+use Rattle.engine_bench.specs.BenchShape.{BenchShape, has_all_of, has_any_of, has_count, has_if, has_items, has_not, has_one_of, has_pattern, has_prefix_items, has_properties, has_property_names, has_type, has_types, requires}
+use Rattle.engine_bench.specs.Counts.{count_fits, count_name, count_text, subject_string}
 use Rattle.engine_bench.specs.Items.{child_at_item, child_here, each_from, first_at_item, item_count}
 use Rattle.engine_bench.specs.Tallies.{Tally}
-use Rattle.engine_bench.specs.Ways.{Way, branches, judges, passes_on, questions, tells, way_begin, way_faults, way_holds, way_left, way_step, way_turn, way_turns, way_units}
-
--- one text where the test fails; each counts as empty where texts are not spoken of
-abbrev pub unless : Bool → Text → List Text
-unless true text = []
-unless false text = text ∷ []
+use Rattle.engine_bench.specs.Ways.{Way, asks_match, branches, judges, passes_on, questions, tells, unless, way_begin, way_faults, way_holds, way_left, way_step, way_turn, way_turns, way_units}
 
 -- ---- type
 
@@ -94,13 +89,23 @@ unless_one none many (suc (suc n)) = many ∷ []
 abbrev pub one_of_tally : Bool → Subject → Tally
 one_of_tally texts s = record { name = codes "oneOf"; enough = 2; told = unless_one (spoken texts (none_text (codes "oneOf") s)) (spoken texts (many_text s)); shows = true }
 
+-- ---- pattern (section 6.3.3 of Validation 2020-12)
+
+abbrev pub pattern_text : Text → Subject → Text
+pattern_text pattern s = subject_text s ++ codes " does not match \"" ++ pattern ++ codes "\""
+
+-- what is no text is accepted; of a text it is asked whether the pattern matches it
+abbrev pub pattern_way : Bool → Text → Subject → Option Text → Way
+pattern_way texts pattern s None = tells (codes "pattern") []
+pattern_way texts pattern s (Some text) = asks_match (codes "pattern") (record { pattern = pattern; subject = text }) (spoken texts (pattern_text pattern s))
+
 -- ---- propertyNames
 
 -- the only child, at a name
 abbrev pub at_name : Text → Question
 at_name k = record { child = 0; below = down (to_name k) }
 
--- ---- all of them
+-- ---- all of them; a text counts as empty where texts are not spoken of
 
 abbrev pub way : Bool → BenchShape → Subject → Way
 way texts (has_type t) s = tells (codes "type") (map (spoken texts) (unless (fits t s) (type_text t s)))
@@ -108,6 +113,7 @@ way texts (has_types ts) s = tells (codes "type") (map (spoken texts) (unless (l
 way texts (requires ks) s = tells (codes "required") (map (λ k. spoken texts (required_text k)) (missing ks s))
 way texts (has_properties ks) s = passes_on (present_from 0 ks s)
 way texts (has_count kind n) s = tells (count_name kind) (map (spoken texts) (unless (count_fits kind n s) (count_text kind n s)))
+way texts (has_pattern pattern) s = pattern_way texts pattern s (subject_string s)
 way texts (has_all_of n) s = passes_on (each_from child_here 0 n)
 way texts (has_prefix_items n) s = passes_on (each_from child_at_item 0 (min n (item_count s)))
 way texts (has_items n) s = passes_on (each_from first_at_item n (item_count s - n))
@@ -121,9 +127,9 @@ abbrev pub words : Bool → Keywords BenchShape (Progress × Answer)
 words texts = record {
   texts = texts;
   may_ask = λ m s. questions (way texts m s);
-  holds = λ m s matches accepts. way_holds (way texts m s) accepts;
-  faults = λ m s matches answers. way_faults (way texts m s) answers;
-  units = λ m s matches unit_at. way_units (way texts m s) unit_at;
+  holds = λ m s matches accepts. way_holds (way texts m s) matches accepts;
+  faults = λ m s matches answers. way_faults (way texts m s) matches answers;
+  units = λ m s matches unit_at. way_units (way texts m s) matches unit_at;
   most_turns = λ m s. way_turns (way texts m s);
   begin = λ m s mode. (way_begin mode, fresh);
   turn = λ m s. way_turn (way texts m s);

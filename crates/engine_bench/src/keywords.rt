@@ -9,6 +9,7 @@ pub mod judging;
 pub mod members;
 pub mod not;
 pub mod one_of;
+pub mod pattern;
 pub mod properties;
 pub mod property_names;
 pub mod required;
@@ -35,6 +36,7 @@ use crate::keywords::counts::{CountKind, tell_count};
 use crate::keywords::each::{turn_all_of, turn_items, turn_prefix_items};
 use crate::keywords::not::turn_not;
 use crate::keywords::one_of::turn_one_of;
+use crate::keywords::pattern::turn_pattern;
 use crate::keywords::properties::turn_properties;
 use crate::keywords::property_names::turn_property_names;
 use crate::keywords::required::tell_required;
@@ -60,6 +62,8 @@ pub enum BenchKeyword {
     Properties(Vec<String>),
     /// One that counts, with its limit.
     Count(CountKind, u64),
+    /// `pattern`, with its text.
+    Pattern(String),
     /// How many schemas there are.
     AllOf(usize),
     /// How many schemas there are.
@@ -188,6 +192,9 @@ impl Validate for BenchKeyword {
             BenchKeyword::Count(_, _) => turn_telling(self, alloc, run, instance, reply, answer),
             BenchKeyword::Properties(names) => {
                 turn_properties(alloc, names.as_slice(), run, instance, reply, answer)
+            }
+            BenchKeyword::Pattern(pattern) => {
+                turn_pattern(alloc, pattern.as_str(), run, instance, reply, answer)
             }
             BenchKeyword::AllOf(count) => turn_all_of(alloc, *count, run, reply, answer),
             BenchKeyword::PrefixItems(count) => {

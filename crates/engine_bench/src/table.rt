@@ -21,7 +21,8 @@ pub mod schema_values;
 use crate::keywords::BenchKeyword;
 use crate::keywords::counts::CountKind;
 use crate::table::keyword_values::{
-    count_keyword, items_below, names_of, required_keyword, type_keyword, values_below,
+    count_keyword, items_below, names_of, pattern_keyword, required_keyword, type_keyword,
+    values_below,
 };
 use crate::table::maker::{BenchMaker, Ending, ListKeyword};
 use crate::table::schema_values::{is_older_list, items_before, push_branch, value_in, value_of};
@@ -258,6 +259,10 @@ fn later_maker(
             value,
             count_keyword(CountKind::MinProperties, value),
         );
+    }
+    if name == "pattern" {
+        let keyword = pattern_keyword(alloc, value)?;
+        return makes_if(alloc, name, value, keyword);
     }
     schema_maker(alloc, name, value, object, draft)
 }

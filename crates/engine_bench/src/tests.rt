@@ -446,6 +446,74 @@ fn property_names(rt: HostRuntime) -> Result<(), serde_json::Error> {
     Ok(())
 }
 
+/// What a keyword's run in a mode asks a matcher, as pattern, subject and `located` or `bare`, and the texts of its own
+/// errors in all mode, where that is answered so.
+fn matched<K: Validate>(
+    alloc: Global,
+    keyword: &K,
+    value: &Value,
+    mode: Mode,
+    matches: bool,
+    log: &mut String,
+) -> Result<(), OutOfMemory> {
+    let instance = Instance::Value(value);
+    let mut answer = Answer::All(Vec::new(alloc));
+    let mut run = keyword.begin(alloc, instance, mode)?;
+    let first = keyword.turn(alloc, &mut run, instance, Reply::Nothing, &mut answer)?;
+    if let Step::Match(pattern, subject, point) = first {
+        let site = if point.located { " located " } else { " bare " };
+        for part in [pattern, " ", subject, site] {
+            log.push_str(part)?;
+        }
+        keyword.turn(
+            alloc,
+            &mut run,
+            instance,
+            Reply::Truth(matches),
+            &mut answer,
+        )?;
+    }
+    push_texts(answer, log)
+}
+
+/// Whether that is what the keyword `pattern` of a schema asks and tells, schema and value being JSON texts.
+fn asks_match(
+    alloc: Global,
+    value: &str,
+    mode: Mode,
+    matches: bool,
+    want: &str,
+) -> Result<bool, serde_json::Error> {
+    let schema = Value::from_str(alloc, r#"{"pattern": "b\"c"}"#)?;
+    let value = Value::from_str(alloc, value)?;
+    let mut log = String::new(alloc);
+    let keyword: Option<BenchKeyword> = make(
+        alloc,
+        &BenchTable {},
+        &schema,
+        Draft::Draft202012,
+        "pattern",
+        &mut log,
+    )?;
+    if let Some(keyword) = keyword {
+        matched(alloc, &keyword, &value, mode, matches, &mut log)?;
+    }
+    Ok(log.as_str() == want)
+}
+
+#[test]
+fn pattern(rt: HostRuntime) -> Result<(), serde_json::Error> {
+    let alloc = rt.alloc();
+    let refused = r#"b"c é located "é" does not match "b"c";"#;
+    assert!(rt; asks_match(alloc, r#""é""#, Mode::All, false, refused)?);
+    assert!(rt; asks_match(alloc, r#""é""#, Mode::First, true, r#"b"c é located "#)?);
+    assert!(rt; asks_match(alloc, r#""é""#, Mode::Verdict, true, r#"b"c é bare "#)?);
+    assert!(rt; asks_match(alloc, "[1]", Mode::All, false, "")?);
+    let malformed = r#""pattern" has a value of another shape"#;
+    assert!(rt; logs(alloc, r#"{"pattern": 1}"#, "pattern", "1", malformed)?);
+    Ok(())
+}
+
 /// What a matcher says: `yes`, `no`, or the text of a limit.
 fn said<M: Matcher>(
     alloc: Global,

@@ -9,8 +9,7 @@ ghost use Rattle.schema_reports.specs.InstanceTexts.{subject_has_float};
 ghost use Rattle.schema_node.specs.FaultViews.{faults_in, PassesBorrowed};
 ghost use Rattle.schema_node.specs.KeywordViews.{answer_of, Tells};
 ghost use Rattle.engine_bench.specs.Counts.{allows, count_fits, count_name, count_of, count_text, count_words, many_counted, member_count, one_counted, subject_members, subject_string};
-ghost use Rattle.engine_bench.specs.Ways.{noted};
-ghost use Rattle.engine_bench.specs.Words.{unless};
+ghost use Rattle.engine_bench.specs.Ways.{noted, unless};
 
 use crate::keywords::answers::note;
 use crate::keywords::texts::instance_text;

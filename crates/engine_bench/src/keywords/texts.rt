@@ -1,15 +1,26 @@
 //! Texts of instances.
-ghost use Rattle.std.specs.Prelude.{◌≡◌, false, IfOk, string_bytes};
+ghost use Rattle.std.specs.Prelude.{◌≡◌, false, IfOk, option_map, string_bytes};
 ghost use Rattle.schema_reports.specs.Instance.{a_name};
 ghost use Rattle.schema_reports.specs.InstanceViews.{subject_of};
 ghost use Rattle.schema_reports.specs.Meaning.{subject_text};
 ghost use Rattle.schema_reports.specs.InstanceTexts.{subject_has_float};
+ghost use Rattle.engine_bench.specs.Counts.{subject_string};
 ghost use Rattle.engine_bench.specs.Words.{none_text};
 
 use schema_reports::instance::Instance;
 use schema_reports::location::OutOfMemory;
 use serde_json::Value;
 use std::alloc::Global;
+
+/// The text that an instance is, where it is a text or a name.
+pub fn text_of<'i>(instance: Instance<'i>) -> Option<&'i str>
+    ensures text { option_map (λ text. text.now) result ≡ subject_string (subject_of instance.entry) }
+{
+    match instance {
+        Instance::Name(name) => Some(name),
+        Instance::Value(value) => value.as_str(),
+    }
+}
 
 /// The compact text of an instance; a name is quoted.
 pub fn instance_text(alloc: Global, instance: Instance<'_>) -> Result<String, OutOfMemory>

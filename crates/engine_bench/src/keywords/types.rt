@@ -8,8 +8,8 @@ ghost use Rattle.schema_reports.specs.InstanceTexts.{subject_has_float};
 ghost use Rattle.schema_node.specs.FaultViews.{faults_in, PassesBorrowed};
 ghost use Rattle.schema_node.specs.KeywordViews.{answer_of, Tells};
 ghost use Rattle.engine_bench.specs.TypeNames.{fits, type_name};
-ghost use Rattle.engine_bench.specs.Ways.{noted};
-ghost use Rattle.engine_bench.specs.Words.{more_names, names_text, type_text, types_text, unless};
+ghost use Rattle.engine_bench.specs.Ways.{noted, unless};
+ghost use Rattle.engine_bench.specs.Words.{more_names, names_text, type_text, types_text};
 
 use crate::keywords::answers::note;
 use crate::keywords::texts::instance_text;

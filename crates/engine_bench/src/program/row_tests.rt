@@ -3,15 +3,13 @@ use crate::program::run;
 use schema_reports::location::OutOfMemory;
 use std::alloc::Global;
 
-/// What the program writes for three words: standard output, then standard error, then its status.
-fn printed(
+/// What the program writes for its words: standard output, then standard error, then its status.
+pub(super) fn printed(
     alloc: Global,
-    mode: &str,
-    schema: &str,
-    instance: &str,
+    texts: &[&str],
 ) -> Result<(Vec<u8>, Vec<u8>, u8), OutOfMemory> {
     let mut words = Vec::new(alloc);
-    for text in [mode, schema, instance] {
+    for text in texts {
         words.push(Vec::from_slice(alloc, text.as_bytes())?)?;
     }
     let mut out: Vec<u8> = Vec::new(alloc);
@@ -27,13 +25,24 @@ fn refuses(
     instance: &str,
     lines: &[&str],
 ) -> Result<bool, OutOfMemory> {
+    refuses_unfinished(alloc, schema, instance, "[]", lines)
+}
+
+/// The same, where these patterns stay unfinished.
+pub(super) fn refuses_unfinished(
+    alloc: Global,
+    schema: &str,
+    instance: &str,
+    unfinished: &str,
+    lines: &[&str],
+) -> Result<bool, OutOfMemory> {
     let mut all = String::new(alloc);
     for line in lines {
         all.push_str(line)?;
     }
-    let valid = printed(alloc, "valid", schema, instance)?;
-    let first = printed(alloc, "first", schema, instance)?;
-    let errors = printed(alloc, "errors", schema, instance)?;
+    let valid = printed(alloc, &["valid", schema, instance, unfinished])?;
+    let first = printed(alloc, &["first", schema, instance, unfinished])?;
+    let errors = printed(alloc, &["errors", schema, instance, unfinished])?;
     Ok(
         valid.0.as_slice() == b"false\n".as_slice()
             && valid.2 == 1
@@ -47,9 +56,19 @@ fn refuses(
 
 /// Whether the schema accepts the instance in each call.
 fn accepts(alloc: Global, schema: &str, instance: &str) -> Result<bool, OutOfMemory> {
-    let valid = printed(alloc, "valid", schema, instance)?;
-    let first = printed(alloc, "first", schema, instance)?;
-    let errors = printed(alloc, "errors", schema, instance)?;
+    accepts_unfinished(alloc, schema, instance, "[]")
+}
+
+/// The same, where these patterns stay unfinished.
+pub(super) fn accepts_unfinished(
+    alloc: Global,
+    schema: &str,
+    instance: &str,
+    unfinished: &str,
+) -> Result<bool, OutOfMemory> {
+    let valid = printed(alloc, &["valid", schema, instance, unfinished])?;
+    let first = printed(alloc, &["first", schema, instance, unfinished])?;
+    let errors = printed(alloc, &["errors", schema, instance, unfinished])?;
     Ok(
         valid.0.as_slice() == b"true\n".as_slice()
             && valid.2 == 0
@@ -62,7 +81,7 @@ fn accepts(alloc: Global, schema: &str, instance: &str) -> Result<bool, OutOfMem
 
 /// Whether the schema is refused with this line.
 fn unbuilt(alloc: Global, schema: &str, line: &str) -> Result<bool, OutOfMemory> {
-    let valid = printed(alloc, "valid", schema, "1")?;
+    let valid = printed(alloc, &["valid", schema, "1"])?;
     Ok(valid.0.is_empty() && valid.1.as_slice() == line.as_bytes() && valid.2 == 2)
 }
 
@@ -138,7 +157,7 @@ fn cycles(rt: HostRuntime) -> Result<(), OutOfMemory> {
         r##"{"$ref":"#/$defs/a","$defs":{"a":{"$ref":"#/$defs/b"},"b":{"$ref":"#/$defs/a","type":"string"}}}"##;
     let once = "\t/$defs/b/type\t/$ref/$ref/type\t1 is not of type \"string\"\n";
     let twice = "\t/$defs/b/type\t/$ref/$ref/$ref/$ref/type\t1 is not of type \"string\"\n";
-    let errors = printed(alloc, "errors", round, "1")?;
+    let errors = printed(alloc, &["errors", round, "1"])?;
     assert_eq!(rt; errors.2, 1);
     let mut either = String::from_str(alloc, once)?;
     either.push_str(twice)?;
@@ -156,7 +175,7 @@ fn cycles(rt: HostRuntime) -> Result<(), OutOfMemory> {
     let all = r##"{"allOf":[{"$ref":"#"}],"type":"string"}"##;
     let own = "\t/type\t/type\t1 is not of type \"string\"\n";
     let again = "\t/type\t/allOf/0/$ref/type\t1 is not of type \"string\"\n";
-    let errors = printed(alloc, "errors", all, "1")?;
+    let errors = printed(alloc, &["errors", all, "1"])?;
     let mut own_first = String::from_str(alloc, own)?;
     own_first.push_str(again)?;
     let mut own_last = String::from_str(alloc, again)?;
@@ -188,12 +207,8 @@ fn combined_keywords(rt: HostRuntime) -> Result<(), OutOfMemory> {
     let short =
         "\t/propertyNames/minLength\t/propertyNames/minLength\t\"a\" is shorter than 3 characters\n";
     assert!(rt; refuses(alloc, names, r#"{"a":3}"#, &[few, short])?);
-    let first = printed(
-        alloc,
-        "first",
-        r#"{"prefixItems":[{},{},{}],"items":false}"#,
-        "[1,2,3,4,5]",
-    )?;
+    let prefixed = r#"{"prefixItems":[{},{},{}],"items":false}"#;
+    let first = printed(alloc, &["first", prefixed, "[1,2,3,4,5]"])?;
     assert!(rt;
         first.0.as_slice() == b"/3\t/items\t/items\tFalse schema does not allow 4\n".as_slice()
     );

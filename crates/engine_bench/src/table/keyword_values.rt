@@ -2,7 +2,7 @@
 ghost use Rattle.std.specs.Prelude.{◌≡◌, ◌∷◌, [], IfOk, map, option_map, string_bytes};
 ghost use Rattle.serde_json.specs.View.{items_view, members_view, view};
 ghost use Rattle.schema_reports.specs.Instance.{to_item, to_member};
-ghost use Rattle.engine_bench.specs.Makers.{count_shape, items_from, names_of, required_shape, text_of, texts_of, type_named, type_of, type_shape, types_of, values_below};
+ghost use Rattle.engine_bench.specs.Makers.{count_shape, items_from, names_of, pattern_shape, required_shape, text_of, texts_of, type_named, type_of, type_shape, types_of, values_below};
 ghost use Rattle.engine_bench.specs.Shapes.{shape_of};
 
 use crate::keywords::BenchKeyword;
@@ -100,6 +100,19 @@ pub fn required_keyword(alloc: Global, value: &Value) -> Result<Option<BenchKeyw
             Some(names) => Ok(Some(BenchKeyword::Required(names))),
             None => Ok(None),
         },
+        _ => Ok(None),
+    }
+}
+
+/// `pattern`.
+pub fn pattern_keyword(alloc: Global, value: &Value) -> Result<Option<BenchKeyword>, OutOfMemory>
+    ensures shaped { IfOk result (λ keyword. option_map shape_of keyword ≡ pattern_shape (view value.now)) }
+{
+    match value {
+        Value::String(text) => {
+            let pattern = String::from_str(alloc, text.as_str())?;
+            Ok(Some(BenchKeyword::Pattern(pattern)))
+        }
         _ => Ok(None),
     }
 }

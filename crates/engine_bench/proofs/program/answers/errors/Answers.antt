@@ -3,14 +3,12 @@ use Rattle.schema_reports.specs.ReportViews.{error_of}
 use Rattle.schema_reports.specs.declared.reports.ValidationError.{ValidationError}
 use Rattle.schema_node.specs.KeywordViews.{is_nil}
 use Rattle.engine_bench.specs.ProgramTexts.{errors_text}
-use Rattle.schema_node.proofs.KeywordTurns.{unmarked_of_alone}
-use Rattle.engine_bench.specs.Words.{words}
-use Rattle.engine_bench.proofs.AskAlone.{bench_asks_alone}
+use Rattle.engine_bench.proofs.Unmarked.{bench_takes_no_marks}
 use Rattle.engine_bench.proofs.ErrorLists.{all_counted, all_printed}
 use Rattle.engine_bench.proofs.program.answers.errors.Goals as goal
 
 pub iter_errors-requires : goal.iter_errors-requires
-iter_errors-requires c = record { unmarked = λ texts. unmarked_of_alone (words texts) (bench_asks_alone texts) }
+iter_errors-requires c = record { unmarked = bench_takes_no_marks }
 
 pub returns-clause-senses : goal.returns-clause-senses
 returns-clause-senses c =
