@@ -2,6 +2,8 @@
 //! table, a resolver and a matcher that are made for tests and for this program.
 #![tactic(auto)]
 
+#[cfg(test)]
+mod failing_matcher_tests;
 pub mod keywords;
 pub mod matcher;
 pub mod meta;
