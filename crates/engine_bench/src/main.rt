@@ -3,6 +3,8 @@
 #![tactic(auto)]
 
 #[cfg(test)]
+mod failing_matcher_tests;
+#[cfg(test)]
 mod keyword_table_tests;
 pub mod keywords;
 pub mod matcher;

@@ -1,0 +1,79 @@
+//! A matcher whose engine fails.
+use crate::keywords::BenchKeyword;
+use crate::resolver::BenchResolver;
+use crate::table::BenchTable;
+use schema_compiler::compiler::error::BuildError;
+use schema_engine::validate;
+use schema_node::context::matcher::Matcher;
+use schema_reports::keywords::VocabularySet;
+use schema_reports::location::OutOfMemory;
+use schema_reports::unfinished_matches::{Match, Reason};
+use serde_json::{Value, json};
+use std::alloc::{AllocError, Global};
+
+/// A matcher that leaves every match unfinished, since its engine fails.
+#[derive(Drop)]
+struct FailingMatcher {}
+
+impl Clone for FailingMatcher {
+    ghost use Rattle.std.specs.Prelude.{◌≡◌};
+
+    ghost is_clone = { λ m n. n ≡ m };
+
+    fn clone(&self) -> Result<FailingMatcher, AllocError> {
+        Ok(FailingMatcher {})
+    }
+}
+
+impl Matcher for FailingMatcher {
+    ghost use Rattle.std.specs.Prelude.{refl, true};
+    ghost use Rattle.schema_reports.specs.Matching.{engine, unfinished};
+
+    ghost matching = { λ _. record { is_match = λ p s. unfinished engine; is_ecma = λ p. true } };
+
+    fn is_match(
+        &self,
+        _alloc: Global,
+        _pattern: &str,
+        _subject: &str,
+    ) -> Result<Match, OutOfMemory> {
+        Ok(Match::Unfinished(Reason::Engine))
+    }
+
+    fn is_valid_ecma_regex(&self, _alloc: Global, _pattern: &str) -> Result<bool, OutOfMemory> {
+        Ok(true)
+    }
+
+    ghost cloned = { λ m n same. refl };
+}
+
+/// Whether the first error has this text.
+fn first_fails(
+    alloc: Global,
+    schema: &Value,
+    instance: &Value,
+    text: &str,
+) -> Result<bool, BuildError> {
+    let resolver = BenchResolver::new(alloc, schema, VocabularySet::new(alloc))?;
+    match validate::<_, _, BenchKeyword, _>(
+        alloc,
+        schema,
+        instance,
+        &BenchTable {},
+        &resolver,
+        &FailingMatcher {},
+    )? {
+        Ok(()) => Ok(false),
+        Err(error) => Ok(error.text.as_str() == text),
+    }
+}
+
+#[test]
+fn failures_name_the_pattern(rt: HostRuntime) -> Result<(), OutOfMemory> {
+    let alloc = rt.alloc();
+    let schema = json!(in alloc; {"pattern": "q"})?;
+    let instance = json!(in alloc; "abc")?;
+    let text = "Regex engine failed to evaluate pattern 'q'";
+    assert!(rt; matches!(first_fails(alloc, &schema, &instance, text), Ok(true)));
+    Ok(())
+}
