@@ -107,17 +107,13 @@ fn doubled(alloc: Global, before: &str, between: &str, after: &str) -> Result<Va
         let next = here + 1;
         let name = format!(in alloc; "\"d{here}\":")?;
         let reference = format!(in alloc; "{{\"$ref\":\"#/$defs/d{next}\"}}")?;
-        for part in [
-            name.as_str(),
-            before,
-            reference.as_str(),
-            between,
-            reference.as_str(),
-            after,
-            ",",
-        ] {
-            text.push_str(part)?;
-        }
+        text.push_str(name.as_str())?;
+        text.push_str(before)?;
+        text.push_str(reference.as_str())?;
+        text.push_str(between)?;
+        text.push_str(reference.as_str())?;
+        text.push_str(after)?;
+        text.push_str(",")?;
     }
     text.push_str(r#""d40":{"type":"string"}}}"#)?;
     schema_of(alloc, text.as_str())
