@@ -1,4 +1,5 @@
 pub mod SameKeys
+pub mod Chains
 pub mod Fragments
 pub mod Innermost
 pub mod Lists

@@ -1,4 +1,5 @@
 pub mod KeyViews
+pub mod KeyHashes
 pub mod Compiling
 pub mod Ordering
 pub mod Refusing

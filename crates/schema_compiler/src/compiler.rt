@@ -10,6 +10,7 @@ ghost use Rattle.schema_compiler.specs.Compilation.{IsCompilation, RefusesRoot, 
 
 use crate::compiler::error::BuildError;
 use crate::compiler::key::SchemaKey;
+use crate::compiler::keys::Keys;
 use crate::compiler::nodes_of::edge_to;
 use crate::compiler::table::{CompileOptions, Compiled, check_declared};
 use schema_node::context::keyword::Validate;
@@ -25,6 +26,7 @@ pub mod context;
 pub mod entries;
 pub mod error;
 pub mod key;
+pub mod keys;
 pub mod nodes_of;
 pub mod start;
 pub mod table;
@@ -45,13 +47,13 @@ pub fn compile<R: Resolver, K: Validate, T: KeywordTable<K>>(
     root: SchemaKey<R::State>,
 ) -> Result<Compiled<R::State, K>, BuildError>
     ensures compiled { IfOk result (λ m. (matcher : matching.Matcher) (keywords : words.Keywords K.Shape (K.Run × words.Answer)) (draft : Option drafts.Draft) (base : Option Text)
-        → IsCompilation (all_parts (R.resolving resolver.now) (record { owns = T.owned table.now; builtin = builtin; script = T.script table.now }) options.now.formats (map string_bytes options.now.declared.items) matcher keywords draft base) K.shape options.now.node_limit (key_of R.point root) (map (key_of R.point) m.keys.items) m.nodes) }
+        → IsCompilation (all_parts (R.resolving resolver.now) (record { owns = T.owned table.now; builtin = builtin; script = T.script table.now }) options.now.formats (map string_bytes options.now.declared.items) matcher keywords draft base) K.shape options.now.node_limit (key_of R.point root) (map (key_of R.point) m.keys) m.nodes) }
     ensures refused { IfErr result (λ e. (matcher : matching.Matcher) (keywords : words.Keywords K.Shape (K.Run × words.Answer)) (draft : Option drafts.Draft) (base : Option Text)
         → RefusesRoot (all_parts (R.resolving resolver.now) (record { owns = T.owned table.now; builtin = builtin; script = T.script table.now }) options.now.formats (map string_bytes options.now.declared.items) matcher keywords draft base) options.now.node_limit (key_of R.point root) e) }
 {
     check_declared(alloc, resolver, table, options, &root.vocabularies)?;
     let mut compiled = Compiled {
-        keys: Vec::new(alloc),
+        keys: Keys::new(alloc),
         nodes: Nodes::new(alloc),
     };
     let path = Location::new(alloc);

@@ -86,20 +86,6 @@ pub fn copy_of<R: Resolver>(
     })
 }
 
-/// The number of a key, if it has one.
-pub fn find<R: Resolver>(keys: &[SchemaKey<R::State>], key: &SchemaKey<R::State>) -> Option<usize>
-    ensures found { MatchOption result
-        ((i : ℕ) → slice_get (map (key_of R.point) keys.now) i ≢ Some (key_of R.point key.now))
-        (λ n. slice_get (map (key_of R.point) keys.now) n ≡ Some (key_of R.point key.now)) }
-{
-    for (number, other) in keys.iter().enumerate() {
-        if same_key::<R>(other, key) {
-            return Some(number);
-        }
-    }
-    None
-}
-
 /// The URI that absolute locations in a key's resource begin with; a base of scheme `json-schema` gives none.
 pub fn shown_base_of<R: Resolver>(
     alloc: Global,

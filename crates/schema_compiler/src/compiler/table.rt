@@ -25,6 +25,7 @@ ghost use Rattle.schema_compiler.specs.declared.compiler.error.BuildError.TheVar
 
 use crate::compiler::error::BuildError;
 use crate::compiler::key::{SchemaKey, copy_of, shown_base_of};
+use crate::compiler::keys::Keys;
 use crate::ref_::{ReferenceKind, target_key};
 use schema_node::context::keyword::Validate;
 use schema_node::context::resolver::Resolver;
@@ -49,7 +50,7 @@ pub struct CompileOptions {
 /// The keys that were reached, and the node of each, at the same number.
 #[derive(Drop)]
 pub struct Compiled<S, K> {
-    pub keys: Vec<SchemaKey<S>>,
+    pub keys: Keys<S>,
     pub nodes: Nodes<K>,
 }
 
@@ -69,11 +70,11 @@ pub fn reserve<R: Resolver, K: Validate, T: KeywordTable<K>>(
     compiled: &mut Compiled<R::State, K>,
     key: &SchemaKey<R::State>,
 ) -> Result<SchemaNode, BuildError>
-    requires table { IsTable (given_parts (R.resolving resolver.now) (T.owned _table.now) (T.script _table.now) options.now) K.shape options.now.node_limit (map (key_of R.point) compiled.old.keys.items) compiled.old.nodes }
-    requires absent { (i : ℕ) → slice_get (map (key_of R.point) compiled.old.keys.items) i ≢ Some (key_of R.point key.now) }
-    requires room { length compiled.old.keys.items < options.now.node_limit }
-    ensures table { OnOk result (IsTable (given_parts (R.resolving resolver.now) (T.owned _table.now) (T.script _table.now) options.now) K.shape options.now.node_limit (map (key_of R.point) compiled.new.keys.items) compiled.new.nodes) }
-    ensures keys { OnOk result ((map (key_of R.point) compiled.new.keys.items) ≡ (map (key_of R.point) compiled.old.keys.items) ++ (key_of R.point key.now) ∷ []) }
+    requires table { IsTable (given_parts (R.resolving resolver.now) (T.owned _table.now) (T.script _table.now) options.now) K.shape options.now.node_limit (map (key_of R.point) compiled.old.keys) compiled.old.nodes }
+    requires absent { (i : ℕ) → slice_get (map (key_of R.point) compiled.old.keys) i ≢ Some (key_of R.point key.now) }
+    requires room { length compiled.old.keys < options.now.node_limit }
+    ensures table { OnOk result (IsTable (given_parts (R.resolving resolver.now) (T.owned _table.now) (T.script _table.now) options.now) K.shape options.now.node_limit (map (key_of R.point) compiled.new.keys) compiled.new.nodes) }
+    ensures keys { OnOk result ((map (key_of R.point) compiled.new.keys) ≡ (map (key_of R.point) compiled.old.keys) ++ (key_of R.point key.now) ∷ []) }
     ensures nodes { OnOk result ((n : NodeEntry K) × (compiled.new.nodes ≡ compiled.old.nodes ++ n ∷ []) × (n.plan ≡ None)) }
     ensures number { IfOk result (λ n. n.0 ≡ length compiled.old.nodes) }
     ensures memory { IfErr result (λ e. e ≡ build.OutOfMemory) }
@@ -97,13 +98,13 @@ pub fn finish<R: Resolver, K: Validate, T: KeywordTable<K>>(
     _key: &SchemaKey<R::State>,
     path: Location,
 ) -> Edge
-    requires table { IsTable (given_parts (R.resolving _resolver.now) (T.owned _table.now) (T.script _table.now) options.now) K.shape options.now.node_limit (map (key_of R.point) compiled.old.keys.items) compiled.old.nodes }
-    requires numbered { slice_get (map (key_of R.point) compiled.old.keys.items) number.0 ≡ Some (key_of R.point _key.now) }
+    requires table { IsTable (given_parts (R.resolving _resolver.now) (T.owned _table.now) (T.script _table.now) options.now) K.shape options.now.node_limit (map (key_of R.point) compiled.old.keys) compiled.old.nodes }
+    requires numbered { slice_get (map (key_of R.point) compiled.old.keys) number.0 ≡ Some (key_of R.point _key.now) }
     requires reserved { IsReserved compiled.old.nodes number.0 }
-    requires planned { IsPlanned (given_parts (R.resolving _resolver.now) (T.owned _table.now) (T.script _table.now) options.now) K.shape (map (key_of R.point) compiled.old.keys.items) compiled.old.nodes (key_of R.point _key.now) (plan_of planned.form) }
+    requires planned { IsPlanned (given_parts (R.resolving _resolver.now) (T.owned _table.now) (T.script _table.now) options.now) K.shape (map (key_of R.point) compiled.old.keys) compiled.old.nodes (key_of R.point _key.now) (plan_of planned.form) }
     requires annotated { option_map view planned.annotations ≡ annotations_of (given_parts (R.resolving _resolver.now) (T.owned _table.now) (T.script _table.now) options.now) (key_of R.point _key.now) }
-    ensures table { IsTable (given_parts (R.resolving _resolver.now) (T.owned _table.now) (T.script _table.now) options.now) K.shape options.now.node_limit (map (key_of R.point) compiled.new.keys.items) compiled.new.nodes }
-    ensures keys { (map (key_of R.point) compiled.new.keys.items) ≡ (map (key_of R.point) compiled.old.keys.items) }
+    ensures table { IsTable (given_parts (R.resolving _resolver.now) (T.owned _table.now) (T.script _table.now) options.now) K.shape options.now.node_limit (map (key_of R.point) compiled.new.keys) compiled.new.nodes }
+    ensures keys { (map (key_of R.point) compiled.new.keys) ≡ (map (key_of R.point) compiled.old.keys) }
     ensures filled { Finishes compiled.old.nodes number.0 compiled.new.nodes }
     ensures node { result.node.0 ≡ number.0 }
     ensures path { result.path ≡ path }
@@ -128,8 +129,8 @@ pub fn edge_at<R: Resolver, K: Validate, T: KeywordTable<K>>(
     number: usize,
     path: Location,
 ) -> Edge
-    requires table { IsTable (given_parts (R.resolving _resolver.now) (T.owned _table.now) (T.script _table.now) _options.now) K.shape _options.now.node_limit (map (key_of R.point) compiled.now.keys.items) compiled.now.nodes }
-    requires numbered { (k : Key R.Point) × (slice_get (map (key_of R.point) compiled.now.keys.items) number ≡ Some k) }
+    requires table { IsTable (given_parts (R.resolving _resolver.now) (T.owned _table.now) (T.script _table.now) _options.now) K.shape _options.now.node_limit (map (key_of R.point) compiled.now.keys) compiled.now.nodes }
+    requires numbered { (k : Key R.Point) × (slice_get (map (key_of R.point) compiled.now.keys) number ≡ Some k) }
     ensures node { result.node.0 ≡ number }
     ensures path { result.path ≡ path }
     ensures leads { LeadsToFilled compiled.now.nodes (edge_of result) }

@@ -37,7 +37,7 @@ child_edge-returns-in_err-edge_to-clause-refused g t c =
     let v = key_of g.R.Resolver.point in
     let w = given_parts (g.R.Resolver.resolving c.args.resolver.now) (g.T.KeywordTable.owned c.args.table.now) (g.T.KeywordTable.script c.args.table.now) c.args.options.now in
     let lim = c.args.options.now.node_limit in
-    let keys = map v c.args.compiled.now.keys.items in
+    let keys = map v c.args.compiled.now.keys in
     let p = err_from_is_err_and c.from_residual-in_err-edge_to.result c.from_residual-in_err-edge_to.ensures.1 in
     rw (p.1, p.2) (asked_refused w lim _ (record { key = v c.in_ok-below.below; path = pointer_to c.args.path.now; is_reference = false }) _ keys _ c.in_ok-below.ensures.below c.in_err-edge_to.ensures.refused)
 
@@ -47,26 +47,26 @@ child_edge-returns-clause-answered g t c =
     let w = given_parts (g.R.Resolver.resolving c.args.resolver.now) (g.T.KeywordTable.owned c.args.table.now) (g.T.KeywordTable.script c.args.table.now) c.args.options.now in
     let sh = g.K.Validate.shape in
     let lim = c.args.options.now.node_limit in
-    let keys = map v c.args.compiled.now.keys.items in
+    let keys = map v c.args.compiled.now.keys in
     let nodes = c.args.compiled.now.nodes in
-    is_answered w sh lim _ (record { key = v c.in_ok-below.below; path = pointer_to c.args.path.now; is_reference = false }) _ keys (map v c.edge_to.new.compiled.keys.items) nodes c.edge_to.new.compiled.nodes (edge_of c.in_ok-edge_to.field-0) _ c.in_ok-below.ensures.below
+    is_answered w sh lim _ (record { key = v c.in_ok-below.below; path = pointer_to c.args.path.now; is_reference = false }) _ keys (map v c.edge_to.new.compiled.keys) nodes c.edge_to.new.compiled.nodes (edge_of c.in_ok-edge_to.field-0) _ c.in_ok-below.ensures.below
     (compile_clean w (v c.args.key.now) c.args.path.now (record { key = v c.in_ok-below.below; path = pointer_to c.args.path.now; is_reference = false }) c.in_ok-below.ensures.below) (λ f. absurd (true≢false (sym f))) c.in_ok-location.ensures.pointer c.in_ok-edge_to.ensures.edge
 
 pub edge_to-edge_at-requires-clause-numbered : goal.edge_to-edge_at-requires-clause-numbered
 edge_to-edge_at-requires-clause-numbered g t c =
     let v = key_of g.R.Resolver.point in
-    (v c.args.key, rw c.as_slice.ensures.value at c.in-Some.ensures.found)
+    (v c.args.key, c.in-Some.ensures.found)
 
 pub edge_to-returns-in-Some-clause-edge : goal.edge_to-returns-in-Some-clause-edge
 edge_to-returns-in-Some-clause-edge g t c =
     let v = key_of g.R.Resolver.point in
-    let keys = map v c.args.compiled.now.keys.items in
+    let keys = map v c.args.compiled.now.keys in
     let nodes = c.args.compiled.now.nodes in
     record {
       table = c.requires.table;
       grown = grown_none _ keys nodes c.requires.table.lengths;
-      number = rw c.edge_at.ensures.node (rw c.as_slice.ensures.value at c.in-Some.ensures.found);
-      fresh = λ absent. absurd (absent (rw c.edge_at.ensures.node (rw c.as_slice.ensures.value at c.in-Some.ensures.found)));
+      number = rw c.edge_at.ensures.node (c.in-Some.ensures.found);
+      fresh = λ absent. absurd (absent (rw c.edge_at.ensures.node (c.in-Some.ensures.found)));
       at_path = c.edge_at.ensures.path;
       leads = c.edge_at.ensures.leads;
     }
@@ -74,25 +74,25 @@ edge_to-returns-in-Some-clause-edge g t c =
 pub edge_to-returns-then-len-options-clause-refused : goal.edge_to-returns-then-len-options-clause-refused
 edge_to-returns-then-len-options-clause-refused g t c =
     let v = key_of g.R.Resolver.point in
-    let keys = map v c.args.compiled.now.keys.items in
-    let absent = rw c.as_slice.ensures.value at (rw c.in_default.is at c.find.ensures.found) in
-    (refl, (v c.args.key ∷ [], (at_first, tt), pushed_distinct keys (v c.args.key) c.requires.table.distinct absent, omega (arith, length-more keys (v c.args.key), length-map c.args.compiled.now.keys.items v)))
+    let keys = map v c.args.compiled.now.keys in
+    let absent = rw c.in_default.is at c.find.ensures.found in
+    (refl, (v c.args.key ∷ [], (at_first, tt), pushed_distinct keys (v c.args.key) c.requires.table.distinct absent, omega (arith, length-more keys (v c.args.key), length-map c.args.compiled.now.keys v)))
 
 pub edge_to-returns-in_err-planned-clause-refused : goal.edge_to-returns-in_err-planned-clause-refused
 edge_to-returns-in_err-planned-clause-refused g t c =
     let v = key_of g.R.Resolver.point in
     let w = given_parts (g.R.Resolver.resolving c.args.resolver.now) (g.T.KeywordTable.owned c.args.table.now) (g.T.KeywordTable.script c.args.table.now) c.args.options.now in
     let lim = c.args.options.now.node_limit in
-    let keys = map v c.args.compiled.now.keys.items in
+    let keys = map v c.args.compiled.now.keys in
     let p = err_from_is_err_and c.from_residual-in_err-planned.result c.from_residual-in_err-planned.ensures.1 in
     let k = v c.args.key in
-    rw (p.1, p.2) (refusal_map lim _ _ _ _ keys (map v c.reserve.new.compiled.keys.items) (k ∷ []) (from_key w k) (blames_key w k) c.in_ok-number.ensures.keys (at_first, tt) _ c.in_err-planned.ensures.refused)
+    rw (p.1, p.2) (refusal_map lim _ _ _ _ keys (map v c.reserve.new.compiled.keys) (k ∷ []) (from_key w k) (blames_key w k) c.in_ok-number.ensures.keys (at_first, tt) _ c.in_err-planned.ensures.refused)
 
 pub edge_to-finish-requires-clause-numbered : goal.edge_to-finish-requires-clause-numbered
 edge_to-finish-requires-clause-numbered g t c =
     let v = key_of g.R.Resolver.point in
-    let keys = map v c.args.compiled.now.keys.items in
-    (numbered_after keys (map v c.reserve.new.compiled.keys.items) (map v c.planned_node.new.compiled.keys.items) c.in_ok-planned.ensures.planned.step.grown.added.0 (v c.args.key) c.in_ok-number.number.0 (c.in_ok-number.ensures.number ∙ c.requires.table.lengths) c.in_ok-number.ensures.keys c.in_ok-planned.ensures.planned.step.grown.added.1)
+    let keys = map v c.args.compiled.now.keys in
+    (numbered_after keys (map v c.reserve.new.compiled.keys) (map v c.planned_node.new.compiled.keys) c.in_ok-planned.ensures.planned.step.grown.added.0 (v c.args.key) c.in_ok-number.number.0 (c.in_ok-number.ensures.number ∙ c.requires.table.lengths) c.in_ok-number.ensures.keys c.in_ok-planned.ensures.planned.step.grown.added.1)
 
 pub edge_to-finish-requires-clause-reserved : goal.edge_to-finish-requires-clause-reserved
 edge_to-finish-requires-clause-reserved g t c =
@@ -104,16 +104,16 @@ pub edge_to-returns-clause-edge : goal.edge_to-returns-clause-edge
 edge_to-returns-clause-edge g t c =
     let v = key_of g.R.Resolver.point in
     let w = given_parts (g.R.Resolver.resolving c.args.resolver.now) (g.T.KeywordTable.owned c.args.table.now) (g.T.KeywordTable.script c.args.table.now) c.args.options.now in
-    let keys = map v c.args.compiled.now.keys.items in
+    let keys = map v c.args.compiled.now.keys in
     let nodes = c.args.compiled.now.nodes in
     let n = c.in_ok-number.ensures.nodes in
     let k = v c.args.key in
-    let reserved = map v c.reserve.new.compiled.keys.items in
-    let planned = map v c.planned_node.new.compiled.keys.items in
+    let reserved = map v c.reserve.new.compiled.keys in
+    let planned = map v c.planned_node.new.compiled.keys in
     let grown = c.in_ok-planned.ensures.planned.step.grown in
     record {
       table = c.finish.ensures.table;
-      grown = finished_grown _ keys reserved planned (map v c.finish.new.compiled.keys.items) nodes c.reserve.new.compiled.nodes c.planned_node.new.compiled.nodes c.finish.new.compiled.nodes k n.0 c.in_ok-number.number.0
+      grown = finished_grown _ keys reserved planned (map v c.finish.new.compiled.keys) nodes c.reserve.new.compiled.nodes c.planned_node.new.compiled.nodes c.finish.new.compiled.nodes k n.0 c.in_ok-number.number.0
           c.requires.table.lengths c.in_ok-number.ensures.number c.in_ok-number.ensures.keys n.1 at_first (grown_map _ _ _ _ _ _ (from_key w k) grown) c.finish.ensures.keys c.finish.ensures.filled;
       number = rw (c.finish.ensures.keys, c.finish.ensures.node) (numbered_after keys reserved planned grown.added.0 k c.in_ok-number.number.0 (c.in_ok-number.ensures.number ∙ c.requires.table.lengths) c.in_ok-number.ensures.keys grown.added.1);
       fresh = λ absent. c.finish.ensures.node ∙ c.in_ok-number.ensures.number ∙ c.requires.table.lengths;
@@ -127,7 +127,7 @@ keywords_of-loop-name-init g t c =
     let w = given_parts (g.R.Resolver.resolving c.args.resolver.now) (g.T.KeywordTable.owned c.args.table.now) (g.T.KeywordTable.script c.args.table.now) c.args.options.now in
     let sh = g.K.Validate.shape in
     let lim = c.args.options.now.node_limit in
-    let keys = map v c.args.compiled.now.keys.items in
+    let keys = map v c.args.compiled.now.keys in
     let nodes = c.args.compiled.now.nodes in
     let all : c.into_iter-name-iterator.result ≡ c.args.members.now.entries = search rules in
     record {
@@ -143,7 +143,7 @@ keywords_of-returns-in_err-entry-clause-refused g t c =
     let w = given_parts (g.R.Resolver.resolving c.args.resolver.now) (g.T.KeywordTable.owned c.args.table.now) (g.T.KeywordTable.script c.args.table.now) c.args.options.now in
     let sh = g.K.Validate.shape in
     let lim = c.args.options.now.node_limit in
-    let keys = map v c.args.compiled.now.keys.items in
+    let keys = map v c.args.compiled.now.keys in
     let nodes = c.args.compiled.now.nodes in
     let k = v c.args.key.now in
     let whole = members_view c.args.members.now.entries in
@@ -152,7 +152,7 @@ keywords_of-returns-in_err-entry-clause-refused g t c =
     let value = view c.in-Some.value.now in
     let rest = members_view c.next.new.self in
     let es = map entry_of c.loop-name.entries.items in
-    let keys' = map v c.loop-name.compiled.keys.items in
+    let keys' = map v c.loop-name.compiled.keys in
     let nodes' = c.loop-name.compiled.nodes in
     let p = err_from_is_err_and c.from_residual.result c.from_residual.ensures.1 in
     rw (p.1, p.2) (member_refused w sh lim k whole name value rest es keys keys' nodes nodes' _ s c.in_err-entry.ensures.refused)
@@ -163,7 +163,7 @@ keywords_of-loop-name-preserved-in-Continue-branch-3 g t c =
     let w = given_parts (g.R.Resolver.resolving c.args.resolver.now) (g.T.KeywordTable.owned c.args.table.now) (g.T.KeywordTable.script c.args.table.now) c.args.options.now in
     let sh = g.K.Validate.shape in
     let lim = c.args.options.now.node_limit in
-    let keys = map v c.args.compiled.now.keys.items in
+    let keys = map v c.args.compiled.now.keys in
     let nodes = c.args.compiled.now.nodes in
     let k = v c.args.key.now in
     let whole = members_view c.args.members.now.entries in
@@ -172,9 +172,9 @@ keywords_of-loop-name-preserved-in-Continue-branch-3 g t c =
     let value = view c.in-Some.value.now in
     let rest = members_view c.next.new.self in
     let es = map entry_of c.loop-name.entries.items in
-    let keys' = map v c.loop-name.compiled.keys.items in
+    let keys' = map v c.loop-name.compiled.keys in
     let nodes' = c.loop-name.compiled.nodes in
-    let keys'' = map v c.entry_of.new.compiled.keys.items in
+    let keys'' = map v c.entry_of.new.compiled.keys in
     let nodes'' = c.entry_of.new.compiled.nodes in
     let inv = c.loop-name.invariant.unknown in
     let done = inv.0 in
@@ -197,7 +197,7 @@ keywords_of-loop-name-preserved g t c =
     let w = given_parts (g.R.Resolver.resolving c.args.resolver.now) (g.T.KeywordTable.owned c.args.table.now) (g.T.KeywordTable.script c.args.table.now) c.args.options.now in
     let sh = g.K.Validate.shape in
     let lim = c.args.options.now.node_limit in
-    let keys = map v c.args.compiled.now.keys.items in
+    let keys = map v c.args.compiled.now.keys in
     let nodes = c.args.compiled.now.nodes in
     let k = v c.args.key.now in
     let whole = members_view c.args.members.now.entries in
@@ -206,9 +206,9 @@ keywords_of-loop-name-preserved g t c =
     let value = view c.in-Some.value.now in
     let rest = members_view c.next.new.self in
     let es = map entry_of c.loop-name.entries.items in
-    let keys' = map v c.loop-name.compiled.keys.items in
+    let keys' = map v c.loop-name.compiled.keys in
     let nodes' = c.loop-name.compiled.nodes in
-    let keys'' = map v c.entry_of.new.compiled.keys.items in
+    let keys'' = map v c.entry_of.new.compiled.keys in
     let nodes'' = c.entry_of.new.compiled.nodes in
     let inv = c.loop-name.invariant.unknown in
     let done = inv.0 in
@@ -236,14 +236,14 @@ keywords_of-returns-clause-parts g t c =
     let w = given_parts (g.R.Resolver.resolving c.args.resolver.now) (g.T.KeywordTable.owned c.args.table.now) (g.T.KeywordTable.script c.args.table.now) c.args.options.now in
     let sh = g.K.Validate.shape in
     let lim = c.args.options.now.node_limit in
-    let keys = map v c.args.compiled.now.keys.items in
+    let keys = map v c.args.compiled.now.keys in
     let nodes = c.args.compiled.now.nodes in
     let k = v c.args.key.now in
     let whole = members_view c.args.members.now.entries in
     let ended = c.in-None.ensures.steps.0 in
     let s = rw ended at c.loop-name.invariant.so_far in
     let es = map entry_of c.loop-name.entries.items in
-    let keys' = map v c.loop-name.compiled.keys.items in
+    let keys' = map v c.loop-name.compiled.keys in
     let nodes' = c.loop-name.compiled.nodes in
     let inv = c.loop-name.invariant.unknown in
     record {
@@ -257,7 +257,7 @@ entry_of-returns-then-owns-clause-refused g t c =
     let v = key_of g.R.Resolver.point in
     let w = given_parts (g.R.Resolver.resolving c.args.resolver.now) (g.T.KeywordTable.owned c.args.table.now) (g.T.KeywordTable.script c.args.table.now) c.args.options.now in
     let lim = c.args.options.now.node_limit in
-    let keys = map v c.args.compiled.now.keys.items in
+    let keys = map v c.args.compiled.now.keys in
     let k = v c.args.key.now in
     let whole = members_view c.args.members.now.entries in
     let name = string_bytes c.args.name.now in
@@ -270,7 +270,7 @@ entry_of-returns-in-Some-reference_kind-clause-refused g t c =
     let v = key_of g.R.Resolver.point in
     let w = given_parts (g.R.Resolver.resolving c.args.resolver.now) (g.T.KeywordTable.owned c.args.table.now) (g.T.KeywordTable.script c.args.table.now) c.args.options.now in
     let lim = c.args.options.now.node_limit in
-    let keys = map v c.args.compiled.now.keys.items in
+    let keys = map v c.args.compiled.now.keys in
     let k = v c.args.key.now in
     let whole = members_view c.args.members.now.entries in
     let name = string_bytes c.args.name.now in
@@ -285,7 +285,7 @@ entry_of-returns-in-None-reference_kind-clause-refused g t c =
     let v = key_of g.R.Resolver.point in
     let w = given_parts (g.R.Resolver.resolving c.args.resolver.now) (g.T.KeywordTable.owned c.args.table.now) (g.T.KeywordTable.script c.args.table.now) c.args.options.now in
     let lim = c.args.options.now.node_limit in
-    let keys = map v c.args.compiled.now.keys.items in
+    let keys = map v c.args.compiled.now.keys in
     let k = v c.args.key.now in
     let whole = members_view c.args.members.now.entries in
     let name = string_bytes c.args.name.now in
@@ -301,14 +301,14 @@ entry_of-returns-then-owns-clause-part g t c =
     let w = given_parts (g.R.Resolver.resolving c.args.resolver.now) (g.T.KeywordTable.owned c.args.table.now) (g.T.KeywordTable.script c.args.table.now) c.args.options.now in
     let sh = g.K.Validate.shape in
     let lim = c.args.options.now.node_limit in
-    let keys = map v c.args.compiled.now.keys.items in
+    let keys = map v c.args.compiled.now.keys in
     let nodes = c.args.compiled.now.nodes in
     let k = v c.args.key.now in
     let whole = members_view c.args.members.now.entries in
     let name = string_bytes c.args.name.now in
     let value = view c.args.value.now in
     let owns = rw c.as_str-text.ensures.value at c.owns.ensures.owned in
-    own_is w k whole name value (λ (es : List (Edge _)) (cs : List Cause) (p : Option (Part _)). IfOk c.made_entry.result (λ o. MakesPart w sh lim keys (map v c.made_entry.new.compiled.keys.items) nodes c.made_entry.new.compiled.nodes es cs k (option_map entry_of o) p)) (sym owns ∙ c.if-owns.true) c.made_entry.ensures.part
+    own_is w k whole name value (λ (es : List (Edge _)) (cs : List Cause) (p : Option (Part _)). IfOk c.made_entry.result (λ o. MakesPart w sh lim keys (map v c.made_entry.new.compiled.keys) nodes c.made_entry.new.compiled.nodes es cs k (option_map entry_of o) p)) (sym owns ∙ c.if-owns.true) c.made_entry.ensures.part
 
 pub entry_of-returns-in-Some-reference_kind-clause-part : goal.entry_of-returns-in-Some-reference_kind-clause-part
 entry_of-returns-in-Some-reference_kind-clause-part g t c =
@@ -316,7 +316,7 @@ entry_of-returns-in-Some-reference_kind-clause-part g t c =
     let w = given_parts (g.R.Resolver.resolving c.args.resolver.now) (g.T.KeywordTable.owned c.args.table.now) (g.T.KeywordTable.script c.args.table.now) c.args.options.now in
     let sh = g.K.Validate.shape in
     let lim = c.args.options.now.node_limit in
-    let keys = map v c.args.compiled.now.keys.items in
+    let keys = map v c.args.compiled.now.keys in
     let nodes = c.args.compiled.now.nodes in
     let k = v c.args.key.now in
     let whole = members_view c.args.members.now.entries in
@@ -325,7 +325,7 @@ entry_of-returns-in-Some-reference_kind-clause-part g t c =
     let owns = rw c.as_str-text.ensures.value at c.owns.ensures.owned in
     let row = rw c.as_str-text.ensures.value at c.in-Some.ensures.row in
     let kind = rw c.as_str-text.ensures.value at c.in-Some-reference_kind.ensures.kind in
-    reference_is w k whole name value (λ (es : List (Edge _)) (cs : List Cause) (p : Option (Part _)). IfOk c.reference_entry.result (λ o. MakesPart w sh lim keys (map v c.reference_entry.new.compiled.keys.items) nodes c.reference_entry.new.compiled.nodes es cs k (option_map entry_of o) p)) _ (kind_of c.in-Some-reference_kind.kind) (sym owns ∙ c.if-owns.false) row kind c.reference_entry.ensures.part
+    reference_is w k whole name value (λ (es : List (Edge _)) (cs : List Cause) (p : Option (Part _)). IfOk c.reference_entry.result (λ o. MakesPart w sh lim keys (map v c.reference_entry.new.compiled.keys) nodes c.reference_entry.new.compiled.nodes es cs k (option_map entry_of o) p)) _ (kind_of c.in-Some-reference_kind.kind) (sym owns ∙ c.if-owns.false) row kind c.reference_entry.ensures.part
 
 pub entry_of-returns-in-None-reference_kind-clause-part : goal.entry_of-returns-in-None-reference_kind-clause-part
 entry_of-returns-in-None-reference_kind-clause-part g t c =
@@ -333,7 +333,7 @@ entry_of-returns-in-None-reference_kind-clause-part g t c =
     let w = given_parts (g.R.Resolver.resolving c.args.resolver.now) (g.T.KeywordTable.owned c.args.table.now) (g.T.KeywordTable.script c.args.table.now) c.args.options.now in
     let sh = g.K.Validate.shape in
     let lim = c.args.options.now.node_limit in
-    let keys = map v c.args.compiled.now.keys.items in
+    let keys = map v c.args.compiled.now.keys in
     let nodes = c.args.compiled.now.nodes in
     let k = v c.args.key.now in
     let whole = members_view c.args.members.now.entries in
@@ -342,7 +342,7 @@ entry_of-returns-in-None-reference_kind-clause-part g t c =
     let owns = rw c.as_str-text.ensures.value at c.owns.ensures.owned in
     let row = rw c.as_str-text.ensures.value at c.in-Some.ensures.row in
     let kind = rw c.as_str-text.ensures.value at c.in-None-reference_kind.ensures.kind in
-    built_is w k whole name value (λ (es : List (Edge _)) (cs : List Cause) (p : Option (Part _)). IfOk c.made_entry-in-None-reference_kind.result (λ o. MakesPart w sh lim keys (map v c.made_entry-in-None-reference_kind.new.compiled.keys.items) nodes c.made_entry-in-None-reference_kind.new.compiled.nodes es cs k (option_map entry_of o) p)) _ (sym owns ∙ c.if-owns.false) row kind c.made_entry-in-None-reference_kind.ensures.part
+    built_is w k whole name value (λ (es : List (Edge _)) (cs : List Cause) (p : Option (Part _)). IfOk c.made_entry-in-None-reference_kind.result (λ o. MakesPart w sh lim keys (map v c.made_entry-in-None-reference_kind.new.compiled.keys) nodes c.made_entry-in-None-reference_kind.new.compiled.nodes es cs k (option_map entry_of o) p)) _ (sym owns ∙ c.if-owns.false) row kind c.made_entry-in-None-reference_kind.ensures.part
 
 pub entry_of-returns-in-None-clause-part : goal.entry_of-returns-in-None-clause-part
 entry_of-returns-in-None-clause-part g t c =
@@ -350,7 +350,7 @@ entry_of-returns-in-None-clause-part g t c =
     let w = given_parts (g.R.Resolver.resolving c.args.resolver.now) (g.T.KeywordTable.owned c.args.table.now) (g.T.KeywordTable.script c.args.table.now) c.args.options.now in
     let sh = g.K.Validate.shape in
     let lim = c.args.options.now.node_limit in
-    let keys = map v c.args.compiled.now.keys.items in
+    let keys = map v c.args.compiled.now.keys in
     let nodes = c.args.compiled.now.nodes in
     let k = v c.args.key.now in
     let whole = members_view c.args.members.now.entries in
@@ -367,7 +367,7 @@ made_entry-loop-children-init g t c =
     let w = given_parts (g.R.Resolver.resolving c.args.resolver.now) (g.T.KeywordTable.owned c.args.table.now) (g.T.KeywordTable.script c.args.table.now) c.args.options.now in
     let sh = g.K.Validate.shape in
     let lim = c.args.options.now.node_limit in
-    let keys = map v c.args.compiled.now.keys.items in
+    let keys = map v c.args.compiled.now.keys in
     let nodes = c.args.compiled.now.nodes in
     let k = v c.args.key.now in
     let whole = members_view c.args.members.now.entries in
@@ -382,7 +382,7 @@ made_entry-returns-in_err-edge-in-Compile-clause-refused g t c =
     let w = given_parts (g.R.Resolver.resolving c.args.resolver.now) (g.T.KeywordTable.owned c.args.table.now) (g.T.KeywordTable.script c.args.table.now) c.args.options.now in
     let sh = g.K.Validate.shape in
     let lim = c.args.options.now.node_limit in
-    let keys = map v c.args.compiled.now.keys.items in
+    let keys = map v c.args.compiled.now.keys in
     let nodes = c.args.compiled.now.nodes in
     let k = v c.args.key.now in
     let whole = members_view c.args.members.now.entries in
@@ -393,7 +393,7 @@ made_entry-returns-in_err-edge-in-Compile-clause-refused g t c =
     let waiting' = g.T.KeywordTable.waiting c.turn.new.maker in
     let told = maker_reply_of c.loop-children.reply in
     let es = map (option_map edge_of) c.loop-children.children.items in
-    let keys' = map v c.loop-children.compiled.keys.items in
+    let keys' = map v c.loop-children.compiled.keys in
     let nodes' = c.loop-children.compiled.nodes in
     let takes = rw c.in-Compile.is at c.in_ok-path.ensures.takes in
     let p = err_from_is_err_and c.from_residual-in_err-edge-in-Compile.result c.from_residual-in_err-edge-in-Compile.ensures.1 in
@@ -405,7 +405,7 @@ made_entry-loop-children-preserved-in-Compile g t c =
     let w = given_parts (g.R.Resolver.resolving c.args.resolver.now) (g.T.KeywordTable.owned c.args.table.now) (g.T.KeywordTable.script c.args.table.now) c.args.options.now in
     let sh = g.K.Validate.shape in
     let lim = c.args.options.now.node_limit in
-    let keys = map v c.args.compiled.now.keys.items in
+    let keys = map v c.args.compiled.now.keys in
     let nodes = c.args.compiled.now.nodes in
     let k = v c.args.key.now in
     let whole = members_view c.args.members.now.entries in
@@ -416,12 +416,12 @@ made_entry-loop-children-preserved-in-Compile g t c =
     let waiting' = g.T.KeywordTable.waiting c.turn.new.maker in
     let told = maker_reply_of c.loop-children.reply in
     let es = map (option_map edge_of) c.loop-children.children.items in
-    let keys' = map v c.loop-children.compiled.keys.items in
+    let keys' = map v c.loop-children.compiled.keys in
     let nodes' = c.loop-children.compiled.nodes in
     let takes = rw c.in-Compile.is at c.in_ok-path.ensures.takes in
     let e = c.in_ok-edge-in-Compile.ensures.answered in
     rw (c.in_ok-push-in-Compile.ensures.items, map-append (option_map edge_of) c.loop-children.children.items (Some c.in_ok-edge-in-Compile.edge ∷ []))
-    (asked_compile w sh lim k name making waiting waiting' told es keys keys' (map v c.child_edge.new.compiled.keys.items) nodes nodes' c.child_edge.new.compiled.nodes c.in-Compile.path (edge_of c.in_ok-edge-in-Compile.edge) c.len.result
+    (asked_compile w sh lim k name making waiting waiting' told es keys keys' (map v c.child_edge.new.compiled.keys) nodes nodes' c.child_edge.new.compiled.nodes c.in-Compile.path (edge_of c.in_ok-edge-in-Compile.edge) c.len.result
     inv takes (omega (arith, length-map c.loop-children.children.items (option_map edge_of), c.loop-children.children.ok.0, c.len.ensures)) e.leads e.filled.0 e.step)
 
 pub made_entry-returns-in_err-edge-in-Refer-clause-refused : goal.made_entry-returns-in_err-edge-in-Refer-clause-refused
@@ -430,7 +430,7 @@ made_entry-returns-in_err-edge-in-Refer-clause-refused g t c =
     let w = given_parts (g.R.Resolver.resolving c.args.resolver.now) (g.T.KeywordTable.owned c.args.table.now) (g.T.KeywordTable.script c.args.table.now) c.args.options.now in
     let sh = g.K.Validate.shape in
     let lim = c.args.options.now.node_limit in
-    let keys = map v c.args.compiled.now.keys.items in
+    let keys = map v c.args.compiled.now.keys in
     let nodes = c.args.compiled.now.nodes in
     let k = v c.args.key.now in
     let whole = members_view c.args.members.now.entries in
@@ -441,7 +441,7 @@ made_entry-returns-in_err-edge-in-Refer-clause-refused g t c =
     let waiting' = g.T.KeywordTable.waiting c.turn.new.maker in
     let told = maker_reply_of c.loop-children.reply in
     let es = map (option_map edge_of) c.loop-children.children.items in
-    let keys' = map v c.loop-children.compiled.keys.items in
+    let keys' = map v c.loop-children.compiled.keys in
     let nodes' = c.loop-children.compiled.nodes in
     let takes = rw c.in-Refer.is at c.in_ok-path.ensures.takes in
     let p = err_from_is_err_and c.from_residual-in_err-edge-in-Refer.result c.from_residual-in_err-edge-in-Refer.ensures.1 in
@@ -453,7 +453,7 @@ made_entry-loop-children-preserved g t c =
     let w = given_parts (g.R.Resolver.resolving c.args.resolver.now) (g.T.KeywordTable.owned c.args.table.now) (g.T.KeywordTable.script c.args.table.now) c.args.options.now in
     let sh = g.K.Validate.shape in
     let lim = c.args.options.now.node_limit in
-    let keys = map v c.args.compiled.now.keys.items in
+    let keys = map v c.args.compiled.now.keys in
     let nodes = c.args.compiled.now.nodes in
     let k = v c.args.key.now in
     let whole = members_view c.args.members.now.entries in
@@ -464,12 +464,12 @@ made_entry-loop-children-preserved g t c =
     let waiting' = g.T.KeywordTable.waiting c.turn.new.maker in
     let told = maker_reply_of c.loop-children.reply in
     let es = map (option_map edge_of) c.loop-children.children.items in
-    let keys' = map v c.loop-children.compiled.keys.items in
+    let keys' = map v c.loop-children.compiled.keys in
     let nodes' = c.loop-children.compiled.nodes in
     let takes = rw c.in-Refer.is at c.in_ok-path.ensures.takes in
     let e = c.in_ok-edge-in-Refer.ensures.answered in
     rw (c.in_ok-push-in-Refer.ensures.items, map-append (option_map edge_of) c.loop-children.children.items (c.in_ok-edge-in-Refer.edge ∷ []))
-    (asked_refer w sh lim k name making waiting waiting' told _ es keys keys' (map v c.reference_edge.new.compiled.keys.items) nodes nodes' c.reference_edge.new.compiled.nodes c.in-Refer.text (option_map edge_of c.in_ok-edge-in-Refer.edge) c.len-in-Refer.result
+    (asked_refer w sh lim k name making waiting waiting' told _ es keys keys' (map v c.reference_edge.new.compiled.keys) nodes nodes' c.reference_edge.new.compiled.nodes c.in-Refer.text (option_map edge_of c.in_ok-edge-in-Refer.edge) c.len-in-Refer.result
     inv takes (omega (arith, length-map c.loop-children.children.items (option_map edge_of), c.loop-children.children.ok.0, c.len-in-Refer.ensures)) c.reply_for-reply.ensures.reply e.leads e.filled e.step)
 
 pub made_entry-returns-in-Keyword-clause-part : goal.made_entry-returns-in-Keyword-clause-part
@@ -478,7 +478,7 @@ made_entry-returns-in-Keyword-clause-part g t c =
     let w = given_parts (g.R.Resolver.resolving c.args.resolver.now) (g.T.KeywordTable.owned c.args.table.now) (g.T.KeywordTable.script c.args.table.now) c.args.options.now in
     let sh = g.K.Validate.shape in
     let lim = c.args.options.now.node_limit in
-    let keys = map v c.args.compiled.now.keys.items in
+    let keys = map v c.args.compiled.now.keys in
     let nodes = c.args.compiled.now.nodes in
     let k = v c.args.key.now in
     let whole = members_view c.args.members.now.entries in
@@ -489,7 +489,7 @@ made_entry-returns-in-Keyword-clause-part g t c =
     let waiting' = g.T.KeywordTable.waiting c.turn.new.maker in
     let told = maker_reply_of c.loop-children.reply in
     let es = map (option_map edge_of) c.loop-children.children.items in
-    let keys' = map v c.loop-children.compiled.keys.items in
+    let keys' = map v c.loop-children.compiled.keys in
     let nodes' = c.loop-children.compiled.nodes in
     let takes = rw c.in-Keyword.is at c.in_ok-path.ensures.takes in
     let made = made_keyword w sh lim k name making waiting waiting' told es keys keys' nodes nodes' c.args.priority c.args.is_leaf c.in-Keyword.keyword c.in-Keyword.field-1 inv takes in
@@ -501,7 +501,7 @@ made_entry-returns-in-Nothing-clause-part g t c =
     let w = given_parts (g.R.Resolver.resolving c.args.resolver.now) (g.T.KeywordTable.owned c.args.table.now) (g.T.KeywordTable.script c.args.table.now) c.args.options.now in
     let sh = g.K.Validate.shape in
     let lim = c.args.options.now.node_limit in
-    let keys = map v c.args.compiled.now.keys.items in
+    let keys = map v c.args.compiled.now.keys in
     let nodes = c.args.compiled.now.nodes in
     let k = v c.args.key.now in
     let whole = members_view c.args.members.now.entries in
@@ -512,7 +512,7 @@ made_entry-returns-in-Nothing-clause-part g t c =
     let waiting' = g.T.KeywordTable.waiting c.turn.new.maker in
     let told = maker_reply_of c.loop-children.reply in
     let es = map (option_map edge_of) c.loop-children.children.items in
-    let keys' = map v c.loop-children.compiled.keys.items in
+    let keys' = map v c.loop-children.compiled.keys in
     let nodes' = c.loop-children.compiled.nodes in
     let takes = rw c.in-Nothing.is at c.in_ok-path.ensures.takes in
     let made = made_nothing w sh lim k name making waiting waiting' told es keys keys' nodes nodes' c.args.priority c.args.is_leaf inv takes in
@@ -523,7 +523,7 @@ planned_object-returns-in_err-entry-in-Some-clause-refused g t c =
     let v = key_of g.R.Resolver.point in
     let w = given_parts (g.R.Resolver.resolving c.args.resolver.now) (g.T.KeywordTable.owned c.args.table.now) (g.T.KeywordTable.script c.args.table.now) c.args.options.now in
     let lim = c.args.options.now.node_limit in
-    let keys = map v c.args.compiled.now.keys.items in
+    let keys = map v c.args.compiled.now.keys in
     let k = v c.args.key.now in
     let whole = members_view c.args.members.now.entries in
     let p = err_from_is_err_and c.from_residual-in_err-entry-in-Some.result c.from_residual-in_err-entry-in-Some.ensures.1 in
@@ -534,7 +534,7 @@ planned_object-returns-in_err-keywords-in-None-clause-refused g t c =
     let v = key_of g.R.Resolver.point in
     let w = given_parts (g.R.Resolver.resolving c.args.resolver.now) (g.T.KeywordTable.owned c.args.table.now) (g.T.KeywordTable.script c.args.table.now) c.args.options.now in
     let lim = c.args.options.now.node_limit in
-    let keys = map v c.args.compiled.now.keys.items in
+    let keys = map v c.args.compiled.now.keys in
     let k = v c.args.key.now in
     let whole = members_view c.args.members.now.entries in
     let p = err_from_is_err_and c.from_residual-in_err-keywords-in-None.result c.from_residual-in_err-keywords-in-None.ensures.1 in
@@ -546,12 +546,12 @@ planned_object-returns-in_ok-node_alone-in-Some-clause-planned g t c =
     let w = given_parts (g.R.Resolver.resolving c.args.resolver.now) (g.T.KeywordTable.owned c.args.table.now) (g.T.KeywordTable.script c.args.table.now) c.args.options.now in
     let sh = g.K.Validate.shape in
     let lim = c.args.options.now.node_limit in
-    let keys = map v c.args.compiled.now.keys.items in
+    let keys = map v c.args.compiled.now.keys in
     let nodes = c.args.compiled.now.nodes in
     let k = v c.args.key.now in
     let whole = members_view c.args.members.now.entries in
     let n = c.in_ok-node_alone-in-Some.field-0 in
-    let keys' = map v c.reference_entry.new.compiled.keys.items in
+    let keys' = map v c.reference_entry.new.compiled.keys in
     let nodes' = c.reference_entry.new.compiled.nodes in
     lone_is w k whole (λ (es : List (Edge _)) (cs : List Cause) (q : Plan _) (a : Option Data). MakesPlan w sh lim keys keys' nodes nodes' es cs k (plan_of n.form) q (option_map view n.annotations) a) (view c.in-Some.value.now) c.in-Some.ensures.alone
     (planned_alone w k sh lim keys keys' nodes nodes' _ _ _ _ (plan_of n.form) n.annotations c.in_ok-node_alone-in-Some.ensures.plan c.in_ok-node_alone-in-Some.ensures.annotations (rw c.in_ok-name-in-Some.ensures.ok at c.in_ok-entry-in-Some.ensures.part))
@@ -562,12 +562,12 @@ planned_object-returns-in_ok-keywords-in-None-clause-planned g t c =
     let w = given_parts (g.R.Resolver.resolving c.args.resolver.now) (g.T.KeywordTable.owned c.args.table.now) (g.T.KeywordTable.script c.args.table.now) c.args.options.now in
     let sh = g.K.Validate.shape in
     let lim = c.args.options.now.node_limit in
-    let keys = map v c.args.compiled.now.keys.items in
+    let keys = map v c.args.compiled.now.keys in
     let nodes = c.args.compiled.now.nodes in
     let k = v c.args.key.now in
     let whole = members_view c.args.members.now.entries in
     let m = c.in_ok-keywords-in-None.ensures.parts in
-    let keys' = map v c.keywords_of.new.compiled.keys.items in
+    let keys' = map v c.keywords_of.new.compiled.keys in
     let nodes' = c.keywords_of.new.compiled.nodes in
     members_are w k whole (λ (es : List (Edge _)) (cs : List Cause) (q : Plan _) (a : Option Data). MakesPlan w sh lim keys keys' nodes nodes' es cs k (node_these (map entry_of c.in_ok-keywords-in-None.keywords.entries.items)) q (option_map view c.object_of.result) a) c.in-None.ensures.alone
     (record { step = m.step; plan = m.entries; annotated = c.object_of.ensures.object ∙ ap object_of m.unknown })
@@ -575,7 +575,7 @@ planned_object-returns-in_ok-keywords-in-None-clause-planned g t c =
 pub reference_edge-returns-in_err-target_of-clause-refused : goal.reference_edge-returns-in_err-target_of-clause-refused
 reference_edge-returns-in_err-target_of-clause-refused g t c =
     let v = key_of g.R.Resolver.point in
-    let keys = map v c.args.compiled.now.keys.items in
+    let keys = map v c.args.compiled.now.keys in
     let name = string_bytes c.args.name.now in
     let h = rw c.as_str.ensures.value at (c.in_err-target_of.ensures.refused name keys) in
     let p = err_from_is_err_and c.from_residual.result c.from_residual.ensures.1 in
@@ -586,7 +586,7 @@ reference_edge-returns-in_err-edge_to-in-Some-clause-refused g t c =
     let v = key_of g.R.Resolver.point in
     let w = given_parts (g.R.Resolver.resolving c.args.resolver.now) (g.T.KeywordTable.owned c.args.table.now) (g.T.KeywordTable.script c.args.table.now) c.args.options.now in
     let lim = c.args.options.now.node_limit in
-    let keys = map v c.args.compiled.now.keys.items in
+    let keys = map v c.args.compiled.now.keys in
     let k = v c.args.key.now in
     let name = string_bytes c.args.name.now in
     let kind = kind_of c.args.kind in
@@ -602,7 +602,7 @@ reference_edge-returns-in-None-clause-answered g t c =
     let w = given_parts (g.R.Resolver.resolving c.args.resolver.now) (g.T.KeywordTable.owned c.args.table.now) (g.T.KeywordTable.script c.args.table.now) c.args.options.now in
     let sh = g.K.Validate.shape in
     let lim = c.args.options.now.node_limit in
-    let keys = map v c.args.compiled.now.keys.items in
+    let keys = map v c.args.compiled.now.keys in
     let nodes = c.args.compiled.now.nodes in
     let k = v c.args.key.now in
     let name = string_bytes c.args.name.now in
@@ -618,7 +618,7 @@ reference_edge-returns-in_ok-edge_to-in-Some-clause-answered g t c =
     let w = given_parts (g.R.Resolver.resolving c.args.resolver.now) (g.T.KeywordTable.owned c.args.table.now) (g.T.KeywordTable.script c.args.table.now) c.args.options.now in
     let sh = g.K.Validate.shape in
     let lim = c.args.options.now.node_limit in
-    let keys = map v c.args.compiled.now.keys.items in
+    let keys = map v c.args.compiled.now.keys in
     let nodes = c.args.compiled.now.nodes in
     let k = v c.args.key.now in
     let name = string_bytes c.args.name.now in
@@ -626,7 +626,7 @@ reference_edge-returns-in_ok-edge_to-in-Some-clause-answered g t c =
     let text = string_bytes c.args.text.now in
     let target = rw c.as_str.ensures.value at c.in_ok-target_of.ensures.target in
     let t = rw c.in-Some.is at target in
-    is_answered w sh lim (reference_asked w k name kind text) (record { key = v c.in-Some.target; path = joined [] name; is_reference = true }) _ keys (map v c.edge_to.new.compiled.keys.items) nodes c.edge_to.new.compiled.nodes (edge_of c.in_ok-edge_to-in-Some.field-0) _ (asked_edge w k name kind text (record { key = v c.in-Some.target; path = joined [] name; is_reference = true }) t.0 (t.1 name))
+    is_answered w sh lim (reference_asked w k name kind text) (record { key = v c.in-Some.target; path = joined [] name; is_reference = true }) _ keys (map v c.edge_to.new.compiled.keys) nodes c.edge_to.new.compiled.nodes (edge_of c.in_ok-edge_to-in-Some.field-0) _ (asked_edge w k name kind text (record { key = v c.in-Some.target; path = joined [] name; is_reference = true }) t.0 (t.1 name))
     (reference_clean w k name kind text (record { key = v c.in-Some.target; path = joined [] name; is_reference = true }) (t.1 name)) (λ f. t.2) (grind (arith, common_steps, c.in_ok-path-in-Some.ensures)) c.in_ok-edge_to-in-Some.ensures.edge
 
 pub reference_entry-returns-in_err-text-clause-refused : goal.reference_entry-returns-in_err-text-clause-refused
@@ -634,7 +634,7 @@ reference_entry-returns-in_err-text-clause-refused g t c =
     let v = key_of g.R.Resolver.point in
     let w = given_parts (g.R.Resolver.resolving c.args.resolver.now) (g.T.KeywordTable.owned c.args.table.now) (g.T.KeywordTable.script c.args.table.now) c.args.options.now in
     let lim = c.args.options.now.node_limit in
-    let keys = map v c.args.compiled.now.keys.items in
+    let keys = map v c.args.compiled.now.keys in
     let k = v c.args.key.now in
     let name = string_bytes c.args.name.now in
     let kind = kind_of c.args.kind in
@@ -647,7 +647,7 @@ reference_entry-returns-in_err-reference_edge-clause-refused g t c =
     let v = key_of g.R.Resolver.point in
     let w = given_parts (g.R.Resolver.resolving c.args.resolver.now) (g.T.KeywordTable.owned c.args.table.now) (g.T.KeywordTable.script c.args.table.now) c.args.options.now in
     let lim = c.args.options.now.node_limit in
-    let keys = map v c.args.compiled.now.keys.items in
+    let keys = map v c.args.compiled.now.keys in
     let k = v c.args.key.now in
     let name = string_bytes c.args.name.now in
     let kind = kind_of c.args.kind in
@@ -661,13 +661,13 @@ reference_entry-returns-in-None-clause-part g t c =
     let w = given_parts (g.R.Resolver.resolving c.args.resolver.now) (g.T.KeywordTable.owned c.args.table.now) (g.T.KeywordTable.script c.args.table.now) c.args.options.now in
     let sh = g.K.Validate.shape in
     let lim = c.args.options.now.node_limit in
-    let keys = map v c.args.compiled.now.keys.items in
+    let keys = map v c.args.compiled.now.keys in
     let nodes = c.args.compiled.now.nodes in
     let k = v c.args.key.now in
     let name = string_bytes c.args.name.now in
     let kind = kind_of c.args.kind in
     let value = view c.args.value.now in
-    reference_made w k sh lim keys (map v c.reference_edge.new.compiled.keys.items) nodes c.reference_edge.new.compiled.nodes name kind (string_bytes c.in_ok-text.text.now) value c.args.priority None c.in_ok-text.ensures.text (rw c.in-None.is at c.in_ok-reference_edge.ensures.answered)
+    reference_made w k sh lim keys (map v c.reference_edge.new.compiled.keys) nodes c.reference_edge.new.compiled.nodes name kind (string_bytes c.in_ok-text.text.now) value c.args.priority None c.in_ok-text.ensures.text (rw c.in-None.is at c.in_ok-reference_edge.ensures.answered)
 
 pub reference_entry-returns-in_ok-entry_named-in-Some-clause-part : goal.reference_entry-returns-in_ok-entry_named-in-Some-clause-part
 reference_entry-returns-in_ok-entry_named-in-Some-clause-part g t c =
@@ -675,20 +675,20 @@ reference_entry-returns-in_ok-entry_named-in-Some-clause-part g t c =
     let w = given_parts (g.R.Resolver.resolving c.args.resolver.now) (g.T.KeywordTable.owned c.args.table.now) (g.T.KeywordTable.script c.args.table.now) c.args.options.now in
     let sh = g.K.Validate.shape in
     let lim = c.args.options.now.node_limit in
-    let keys = map v c.args.compiled.now.keys.items in
+    let keys = map v c.args.compiled.now.keys in
     let nodes = c.args.compiled.now.nodes in
     let k = v c.args.key.now in
     let name = string_bytes c.args.name.now in
     let kind = kind_of c.args.kind in
     let value = view c.args.value.now in
-    rw c.in_ok-entry_named-in-Some.ensures.entry (reference_made w k sh lim keys (map v c.reference_edge.new.compiled.keys.items) nodes c.reference_edge.new.compiled.nodes name kind (string_bytes c.in_ok-text.text.now) value c.args.priority (Some (edge_of c.in-Some.edge)) c.in_ok-text.ensures.text (rw c.in-Some.is at c.in_ok-reference_edge.ensures.answered))
+    rw c.in_ok-entry_named-in-Some.ensures.entry (reference_made w k sh lim keys (map v c.reference_edge.new.compiled.keys) nodes c.reference_edge.new.compiled.nodes name kind (string_bytes c.in_ok-text.text.now) value c.args.priority (Some (edge_of c.in-Some.edge)) c.in_ok-text.ensures.text (rw c.in-Some.is at c.in_ok-reference_edge.ensures.answered))
 
 pub planned_node-returns-in-Some-clause-refused : goal.planned_node-returns-in-Some-clause-refused
 planned_node-returns-in-Some-clause-refused g t c =
     let v = key_of g.R.Resolver.point in
     let w = given_parts (g.R.Resolver.resolving c.args.resolver.now) (g.T.KeywordTable.owned c.args.table.now) (g.T.KeywordTable.script c.args.table.now) c.args.options.now in
     let lim = c.args.options.now.node_limit in
-    let keys = map v c.args.compiled.now.keys.items in
+    let keys = map v c.args.compiled.now.keys in
     let k = v c.args.key.now in
     object_stands w k (λ (es : List (Edge _)) (cs : List Cause) (q : Plan _) (a : Option Data). IfErr c.planned_object.result (Refused w lim es cs keys)) (members_view c.in-Some.members.now.entries) (object_is w k _ (members_view c.in-Some.members.now.entries) c.in-Some.ensures.object) c.planned_object.ensures.refused
 
@@ -698,17 +698,17 @@ planned_node-returns-in-Some-clause-planned g t c =
     let w = given_parts (g.R.Resolver.resolving c.args.resolver.now) (g.T.KeywordTable.owned c.args.table.now) (g.T.KeywordTable.script c.args.table.now) c.args.options.now in
     let sh = g.K.Validate.shape in
     let lim = c.args.options.now.node_limit in
-    let keys = map v c.args.compiled.now.keys.items in
+    let keys = map v c.args.compiled.now.keys in
     let nodes = c.args.compiled.now.nodes in
     let k = v c.args.key.now in
-    object_stands w k (λ (es : List (Edge _)) (cs : List Cause) (q : Plan _) (a : Option Data). IfOk c.planned_object.result (λ n. MakesPlan w sh lim keys (map v c.planned_object.new.compiled.keys.items) nodes c.planned_object.new.compiled.nodes es cs k (plan_of n.form) q (option_map view n.annotations) a)) (members_view c.in-Some.members.now.entries) (object_is w k _ (members_view c.in-Some.members.now.entries) c.in-Some.ensures.object) c.planned_object.ensures.planned
+    object_stands w k (λ (es : List (Edge _)) (cs : List Cause) (q : Plan _) (a : Option Data). IfOk c.planned_object.result (λ n. MakesPlan w sh lim keys (map v c.planned_object.new.compiled.keys) nodes c.planned_object.new.compiled.nodes es cs k (plan_of n.form) q (option_map view n.annotations) a)) (members_view c.in-Some.members.now.entries) (object_is w k _ (members_view c.in-Some.members.now.entries) c.in-Some.ensures.object) c.planned_object.ensures.planned
 
 pub planned_node-returns-in_err-form_at-in-None-clause-refused : goal.planned_node-returns-in_err-form_at-in-None-clause-refused
 planned_node-returns-in_err-form_at-in-None-clause-refused g t c =
     let v = key_of g.R.Resolver.point in
     let w = given_parts (g.R.Resolver.resolving c.args.resolver.now) (g.T.KeywordTable.owned c.args.table.now) (g.T.KeywordTable.script c.args.table.now) c.args.options.now in
     let lim = c.args.options.now.node_limit in
-    let keys = map v c.args.compiled.now.keys.items in
+    let keys = map v c.args.compiled.now.keys in
     let k = v c.args.key.now in
     let p = err_from_is_err_and c.from_residual.result c.from_residual.ensures.1 in
     rw (p.1, p.2) (other_refused w k lim keys _ c.in-None.ensures.object c.in_err-form_at-in-None.ensures.other c.in_err-form_at-in-None.ensures.refused)
@@ -719,7 +719,7 @@ planned_node-returns-in_ok-form_at-in-None-clause-planned g t c =
     let w = given_parts (g.R.Resolver.resolving c.args.resolver.now) (g.T.KeywordTable.owned c.args.table.now) (g.T.KeywordTable.script c.args.table.now) c.args.options.now in
     let sh = g.K.Validate.shape in
     let lim = c.args.options.now.node_limit in
-    let keys = map v c.args.compiled.now.keys.items in
+    let keys = map v c.args.compiled.now.keys in
     let nodes = c.args.compiled.now.nodes in
     let k = v c.args.key.now in
     let f = c.in_ok-form_at-in-None.ensures.form in

@@ -11,20 +11,20 @@ pub fill-requires-clause-ready : goal.fill-requires-clause-ready
 fill-requires-clause-ready g c =
     let v = key_of g.R.Resolver.point in
     let w = given_parts (g.R.Resolver.resolving c.args._resolver.now) (g.T.KeywordTable.owned c.args._table.now) (g.T.KeywordTable.script c.args._table.now) c.args.options.now in
-    are_filled w g.K.Validate.shape c.args.options.now.node_limit (map v c.args.compiled.now.keys.items) c.args.compiled.now.nodes (v c.args._key.now) (plan_of c.args.planned.form) c.requires.planned
+    are_filled w g.K.Validate.shape c.args.options.now.node_limit (map v c.args.compiled.now.keys) c.args.compiled.now.nodes (v c.args._key.now) (plan_of c.args.planned.form) c.requires.planned
 
 pub returns-clause-table : goal.returns-clause-table
 returns-clause-table g c =
     let v = key_of g.R.Resolver.point in
     let w = given_parts (g.R.Resolver.resolving c.args._resolver.now) (g.T.KeywordTable.owned c.args._table.now) (g.T.KeywordTable.script c.args._table.now) c.args.options.now in
-    finished_table w g.K.Validate.shape c.args.options.now.node_limit (map v c.args.compiled.now.keys.items) c.args.compiled.now.nodes c.fill.new.self c.args.number.0 (v c.args._key.now) c.args.planned.annotations (plan_of c.args.planned.form)
+    finished_table w g.K.Validate.shape c.args.options.now.node_limit (map v c.args.compiled.now.keys) c.args.compiled.now.nodes c.fill.new.self c.args.number.0 (v c.args._key.now) c.args.planned.annotations (plan_of c.args.planned.form)
     c.requires.table c.requires.numbered c.requires.reserved c.fill.ensures.filled c.requires.planned c.requires.annotated
 
 pub returns-clause-leads : goal.returns-clause-leads
 returns-clause-leads g c =
     let v = key_of g.R.Resolver.point in
     let w = given_parts (g.R.Resolver.resolving c.args._resolver.now) (g.T.KeywordTable.owned c.args._table.now) (g.T.KeywordTable.script c.args._table.now) c.args.options.now in
-    let f = filled_now w g.K.Validate.shape c.args.options.now.node_limit (map v c.args.compiled.now.keys.items) c.args.compiled.now.nodes c.fill.new.self c.args.number.0 (v c.args._key.now) c.args.planned.annotations (plan_of c.args.planned.form)
+    let f = filled_now w g.K.Validate.shape c.args.options.now.node_limit (map v c.args.compiled.now.keys) c.args.compiled.now.nodes c.fill.new.self c.args.number.0 (v c.args._key.now) c.args.planned.annotations (plan_of c.args.planned.form)
     c.requires.table c.requires.numbered c.requires.reserved c.fill.ensures.filled in
     record { within = slice_get_within c.fill.new.self c.args.number.0 f.0 f.2; unguarded = λ h. f }
 

@@ -56,7 +56,7 @@ returns-clause-means g c =
     let schema = view c.args.schema.now in
     let v = key_of g.S.Resolver.point in
     let key = v c.in_ok-root.root in
-    let keys = map v c.in_ok-compiled.compiled.keys.items in
+    let keys = map v c.in_ok-compiled.compiled.keys in
     let nodes = c.in_ok-compiled.compiled.nodes in
     let done = subst (λ (o : Options). IsCompilation (all_parts r (record { owns = owns; builtin = builtin; script = script }) o.formats o.declared m words o.draft o.base) shape o.limit key keys nodes) c.self.view_is
     (c.in_ok-compiled.ensures.compiled m words (option_map draft_of inside.draft) (option_map string_bytes inside.base)) in
@@ -80,7 +80,7 @@ returns-clause-program g c =
     let schema = view c.args.schema.now in
     let v = key_of g.S.Resolver.point in
     let key = v c.in_ok-root.root in
-    let keys = map v c.in_ok-compiled.compiled.keys.items in
+    let keys = map v c.in_ok-compiled.compiled.keys in
     let nodes = c.in_ok-compiled.compiled.nodes in
     let done = subst (λ (o : Options). IsCompilation (all_parts r (record { owns = owns; builtin = builtin; script = script }) o.formats o.declared m words o.draft o.base) shape o.limit key keys nodes) c.self.view_is
     (c.in_ok-compiled.ensures.compiled m words (option_map draft_of inside.draft) (option_map string_bytes inside.base)) in
@@ -109,7 +109,7 @@ returns-clause-built g c = λ texts.
     let schema = view c.args.schema.now in
     let v = key_of g.S.Resolver.point in
     let key = v c.in_ok-root.root in
-    let keys = map v c.in_ok-compiled.compiled.keys.items in
+    let keys = map v c.in_ok-compiled.compiled.keys in
     let nodes = c.in_ok-compiled.compiled.nodes in
     let done = subst (λ (o : Options). IsCompilation (all_parts r (record { owns = owns; builtin = builtin; script = script }) o.formats o.declared m words o.draft o.base) shape o.limit key keys nodes) c.self.view_is
     (c.in_ok-compiled.ensures.compiled m words (option_map draft_of inside.draft) (option_map string_bytes inside.base)) in
