@@ -27,6 +27,7 @@ pub mod entries;
 pub mod error;
 pub mod key;
 pub mod keys;
+pub mod makers;
 pub mod nodes_of;
 pub mod start;
 pub mod table;

@@ -1,18 +1,15 @@
 //! One node for each key: what a key asks for is compiled before its own node is filled.
-ghost use Rattle.std.specs.Prelude.{◌≡◌, ◌≢◌, ℕ, ◌<◌, ◌++◌, ◌∷◌, [], Bool, true, false, IfOk, IfErr, OnOk, map, option_map, Some, None, slice_get, length, string_bytes, codes};
+ghost use Rattle.std.specs.Prelude.{IfOk, IfErr, map, option_map, Some, string_bytes};
 ghost use Rattle.serde_json.specs.View.{view, members_view};
 ghost use Rattle.serde_json.specs.Data.{object};
 ghost use Rattle.schema_reports.specs.Making.{compile};
-ghost use Rattle.schema_reports.specs.Plan.{Part, plan, plan_of as plan_of_schema, sorted, parts, part, part_made, making, reference_part, subschema, found, to_ref};
+ghost use Rattle.schema_reports.specs.Plan.{plan, plan_of as plan_of_schema, sorted, parts, part, part_made, making, reference_part, subschema, found};
 ghost use Rattle.schema_reports.specs.Reach.{Reached, asked_edges, members_edges, maker_edges, reference_edges};
 ghost use Rattle.schema_reports.specs.Refusals.{causes, schema_causes, members_causes, maker_causes, reference_causes, request_causes, lookup_causes};
 ghost use Rattle.schema_reports.specs.Units.{annotations_of, object_annotations, unknown};
-ghost use Rattle.schema_reports.specs.Guarded.{form_edges};
-ghost use Rattle.schema_node.specs.NodeTable.{LeadsToFilled};
 ghost use Rattle.schema_node.specs.NodeViews.{edge_of, entry_of as entry_view, plan_of};
-ghost use Rattle.schema_node.specs.ResolverViews.{place_of};
 ghost use Rattle.schema_compiler.specs.KeyViews.{key_of, kind_of};
-ghost use Rattle.schema_compiler.specs.Compiling.{Each, ReachedFrom, StandsBelow, Blames, member_edges, member_causes, object_edges, reference_asked, option_one};
+ghost use Rattle.schema_compiler.specs.Compiling.{StandsBelow, member_edges, member_causes, object_edges, reference_asked, option_one};
 ghost use Rattle.schema_compiler.specs.Options.{given_parts};
 ghost use Rattle.schema_compiler.specs.Refusing.{IsRefusal, Refused};
 ghost use Rattle.schema_compiler.specs.Filling.{IsTable};
@@ -24,9 +21,10 @@ use crate::compiler::entries::{entry_named, insert_by_priority, node_alone};
 use crate::compiler::error::BuildError;
 use crate::compiler::key::{SchemaKey, subschema_key};
 use crate::compiler::keys::find;
+use crate::compiler::makers::{keep_edge, maker_of};
 use crate::compiler::table::{
-    CompileOptions, Compiled, PlannedNode, checks_formats, edge_at, finish, keyword_location,
-    lone_reference, origin_of, reply_for, reserve, target_of,
+    CompileOptions, Compiled, PlannedNode, edge_at, finish, lone_reference, reserve_within,
+    target_of,
 };
 use crate::compiler::values::{form_at, object_at, text_of};
 use crate::ref_::{ReferenceKind, reference_kind};
@@ -65,10 +63,7 @@ pub fn edge_to<R: Resolver, K: Validate, T: KeywordTable<K>>(
     if let Some(number) = find::<R>(&compiled.keys, &key) {
         return Ok(edge_at(resolver, table, options, compiled, number, path));
     }
-    if compiled.keys.len() >= options.node_limit {
-        return Err(BuildError::NodeLimit(options.node_limit));
-    }
-    let number = reserve(alloc, resolver, table, options, compiled, &key)?;
+    let number = reserve_within(alloc, resolver, table, options, compiled, &key)?;
     let planned = planned_node(alloc, resolver, table, options, compiled, &key)?;
     Ok(finish(
         resolver, table, options, compiled, number, planned, &key, path,
@@ -242,24 +237,14 @@ fn made_entry<R: Resolver, K: Validate, T: KeywordTable<K>>(
     ensures part { IfOk result (λ o. MakesPart (given_parts (R.resolving resolver.now) (T.owned table.now) (T.script table.now) options.now) K.shape options.now.node_limit (map (key_of R.point) compiled.old.keys) (map (key_of R.point) compiled.new.keys) compiled.old.nodes compiled.new.nodes (maker_edges (given_parts (R.resolving resolver.now) (T.owned table.now) (T.script table.now) options.now) (key_of R.point key.now) (string_bytes name.now) (making (given_parts (R.resolving resolver.now) (T.owned table.now) (T.script table.now) options.now) (key_of R.point key.now) (members_view members.now.entries) own (string_bytes name.now))) (maker_causes (given_parts (R.resolving resolver.now) (T.owned table.now) (T.script table.now) options.now) (key_of R.point key.now) (making (given_parts (R.resolving resolver.now) (T.owned table.now) (T.script table.now) options.now) (key_of R.point key.now) (members_view members.now.entries) own (string_bytes name.now))) (key_of R.point key.now) (option_map entry_view o) (part_made (given_parts (R.resolving resolver.now) (T.owned table.now) (T.script table.now) options.now) (string_bytes name.now) priority is_leaf (making (given_parts (R.resolving resolver.now) (T.owned table.now) (T.script table.now) options.now) (key_of R.point key.now) (members_view members.now.entries) own (string_bytes name.now)))) }
     ensures refused { IfErr result (Refused (given_parts (R.resolving resolver.now) (T.owned table.now) (T.script table.now) options.now) options.now.node_limit (maker_edges (given_parts (R.resolving resolver.now) (T.owned table.now) (T.script table.now) options.now) (key_of R.point key.now) (string_bytes name.now) (making (given_parts (R.resolving resolver.now) (T.owned table.now) (T.script table.now) options.now) (key_of R.point key.now) (members_view members.now.entries) own (string_bytes name.now))) (maker_causes (given_parts (R.resolving resolver.now) (T.owned table.now) (T.script table.now) options.now) (key_of R.point key.now) (making (given_parts (R.resolving resolver.now) (T.owned table.now) (T.script table.now) options.now) (key_of R.point key.now) (members_view members.now.entries) own (string_bytes name.now))) (map (key_of R.point) compiled.old.keys)) }
 {
-    let origin = origin_of(own, name.as_str());
-    let formats = checks_formats(options, key);
-    let mut maker = table.begin(
-        alloc,
-        origin,
-        members,
-        key.draft,
-        &key.vocabularies,
-        formats,
-    )?;
+    let mut maker = maker_of(alloc, table, options, key, members, own, name)?;
     let mut children = Vec::new(alloc);
     let mut reply = MakerReply::Begun;
     loop {
         match table.turn(alloc, &mut maker, reply)? {
             MakerStep::Compile(path) => {
                 let edge = child_edge(alloc, resolver, table, options, compiled, key, &path)?;
-                reply = MakerReply::Child(children.len());
-                children.push(Some(edge))?;
+                reply = keep_edge(&mut children, Some(edge))?;
             }
             MakerStep::Refer(text) => {
                 let edge = reference_edge(
@@ -273,8 +258,7 @@ fn made_entry<R: Resolver, K: Validate, T: KeywordTable<K>>(
                     ReferenceKind::Ref,
                     &text,
                 )?;
-                reply = reply_for(&edge, children.len());
-                children.push(edge)?;
+                reply = keep_edge(&mut children, edge)?;
             }
             MakerStep::Keyword(keyword, _) => {
                 let form = EntryForm::Keyword(keyword, children);

@@ -15,9 +15,10 @@ ghost use Rattle.schema_reports.specs.KeywordViews.{draft_of};
 ghost use Rattle.schema_node.specs.NodeTable.{NodeEntry, LeadsToFilled, IsReserved};
 ghost use Rattle.schema_node.specs.NodeViews.{edge_of, plan_of};
 ghost use Rattle.schema_compiler.specs.KeyViews.{key_of, kind_of};
-ghost use Rattle.schema_compiler.specs.Compiling.{answers, option_one, reference_asked};
+ghost use Rattle.schema_compiler.specs.Compiling.{StandsBelow, answers, option_one, reference_asked};
+ghost use Rattle.schema_reports.specs.Reach.{Reached};
 ghost use Rattle.schema_compiler.specs.Options.{given_parts};
-ghost use Rattle.schema_compiler.specs.Refusing.{Names, Refused};
+ghost use Rattle.schema_compiler.specs.Refusing.{IsRefusal, Names, Refused};
 ghost use Rattle.schema_compiler.specs.Filling.{IsTable, IsPlanned, Finishes, boolean_plan};
 ghost use Rattle.schema_node.specs.MakerViews.{is_own, name_of, maker_reply_of};
 ghost use Rattle.serde_json.specs.Find.{as_bool};
@@ -85,6 +86,29 @@ pub fn reserve<R: Resolver, K: Validate, T: KeywordTable<K>>(
     let number = compiled.nodes.reserve(location, base, key.start)?;
     compiled.keys.push(own)?;
     Ok(number)
+}
+
+/// Gives a key the next number, with a node that is reserved, unless the limit is reached.
+pub fn reserve_within<R: Resolver, K: Validate, T: KeywordTable<K>>(
+    alloc: Global,
+    resolver: &R,
+    table: &T,
+    options: &CompileOptions,
+    compiled: &mut Compiled<R::State, K>,
+    key: &SchemaKey<R::State>,
+) -> Result<SchemaNode, BuildError>
+    requires table { IsTable (given_parts (R.resolving resolver.now) (T.owned table.now) (T.script table.now) options.now) K.shape options.now.node_limit (map (key_of R.point) compiled.old.keys) compiled.old.nodes }
+    requires absent { (i : ℕ) → slice_get (map (key_of R.point) compiled.old.keys) i ≢ Some (key_of R.point key.now) }
+    ensures table { OnOk result (IsTable (given_parts (R.resolving resolver.now) (T.owned table.now) (T.script table.now) options.now) K.shape options.now.node_limit (map (key_of R.point) compiled.new.keys) compiled.new.nodes) }
+    ensures keys { OnOk result ((map (key_of R.point) compiled.new.keys) ≡ (map (key_of R.point) compiled.old.keys) ++ (key_of R.point key.now) ∷ []) }
+    ensures nodes { OnOk result ((n : NodeEntry K) × (compiled.new.nodes ≡ compiled.old.nodes ++ n ∷ []) × (n.plan ≡ None)) }
+    ensures number { IfOk result (λ n. n.0 ≡ length compiled.old.nodes) }
+    ensures refused { IfErr result (IsRefusal options.now.node_limit (map (key_of R.point) compiled.old.keys) (Reached (given_parts (R.resolving resolver.now) (T.owned table.now) (T.script table.now) options.now) (key_of R.point key.now)) (StandsBelow (given_parts (R.resolving resolver.now) (T.owned table.now) (T.script table.now) options.now) (key_of R.point key.now))) }
+{
+    if compiled.keys.len() >= options.node_limit {
+        return Err(BuildError::NodeLimit(options.node_limit));
+    }
+    Ok(reserve(alloc, resolver, table, options, compiled, key)?)
 }
 
 /// Fills the node of a reserved number; the edge to it is not guarded.

@@ -1,6 +1,6 @@
-use Rattle.std.proofs.Common.{◌≡◌, ◌∷◌, [], ◌++◌, List, append_assoc, string_cmp, subst, map, refl, sym, ap, ◌∙◌, arith, Some, None, rules, true, false, true≢false}
+use Rattle.std.proofs.Common.{length, ◌≡◌, ◌∷◌, [], ◌++◌, List, append_assoc, string_cmp, subst, map, refl, sym, ap, ◌∙◌, arith, Some, None, rules, true, false, true≢false}
 use Rattle.std.specs.Prelude.{IfErr, IfOk, Option, string_bytes, option_map}
-use Rattle.std.proofs.lemmas.List.{append-nil, length-map, map-append}
+use Rattle.std.proofs.lemmas.List.{append-nil, length-map}
 use Rattle.std.proofs.lemmas.Result.{err_from_is_err_and}
 use Rattle.std.proofs.lemmas.Grind.{common_steps}
 use Rattle.std.specs.List.Sorted.{IsStrictlySortedBy}
@@ -21,9 +21,8 @@ use Rattle.schema_compiler.specs.Options.{given_parts}
 use Rattle.schema_compiler.specs.Compiling.{reference_asked}
 use Rattle.schema_compiler.specs.Refusing.{Refused}
 use Rattle.schema_compiler.specs.Steps.{MakesPart, MakesPlan}
-use Rattle.schema_compiler.proofs.Lists.{length-more}
 use Rattle.schema_compiler.proofs.Growing.{refusal_map, from_key, blames_key, grown_none, grown_map, step_none}
-use Rattle.schema_compiler.proofs.Tables.{pushed_distinct, numbered_after, reserved_after, finished_grown}
+use Rattle.schema_compiler.proofs.Tables.{numbered_after, reserved_after, finished_grown}
 use Rattle.schema_compiler.proofs.References.{asked_refused, compile_clean, reference_clean, self_clean, asked_self, asked_edge, is_answered, is_skipped}
 use Rattle.schema_compiler.proofs.Entries.{all_entries, all_steps, so_far_none, so_far_more, member_refused}
 use Rattle.schema_compiler.proofs.Forms.{boolean_made, object_is, object_stands, other_refused}
@@ -71,12 +70,10 @@ edge_to-returns-in-Some-clause-edge g t c =
       leads = c.edge_at.ensures.leads;
     }
 
-pub edge_to-returns-then-len-options-clause-refused : goal.edge_to-returns-then-len-options-clause-refused
-edge_to-returns-then-len-options-clause-refused g t c =
-    let v = key_of g.R.Resolver.point in
-    let keys = map v c.args.compiled.now.keys in
-    let absent = rw c.in_default.is at c.find.ensures.found in
-    (refl, (v c.args.key ∷ [], (at_first, tt), pushed_distinct keys (v c.args.key) c.requires.table.distinct absent, omega (arith, length-more keys (v c.args.key), length-map c.args.compiled.now.keys v)))
+pub edge_to-returns-in_err-number-clause-refused : goal.edge_to-returns-in_err-number-clause-refused
+edge_to-returns-in_err-number-clause-refused g t c =
+    let p = err_from_is_err_and c.from_residual.result c.from_residual.ensures.1 in
+    rw (p.1, p.2) c.in_err-number.ensures.refused
 
 pub edge_to-returns-in_err-planned-clause-refused : goal.edge_to-returns-in_err-planned-clause-refused
 edge_to-returns-in_err-planned-clause-refused g t c =
@@ -86,19 +83,19 @@ edge_to-returns-in_err-planned-clause-refused g t c =
     let keys = map v c.args.compiled.now.keys in
     let p = err_from_is_err_and c.from_residual-in_err-planned.result c.from_residual-in_err-planned.ensures.1 in
     let k = v c.args.key in
-    rw (p.1, p.2) (refusal_map lim _ _ _ _ keys (map v c.reserve.new.compiled.keys) (k ∷ []) (from_key w k) (blames_key w k) c.in_ok-number.ensures.keys (at_first, tt) _ c.in_err-planned.ensures.refused)
+    rw (p.1, p.2) (refusal_map lim _ _ _ _ keys (map v c.reserve_within.new.compiled.keys) (k ∷ []) (from_key w k) (blames_key w k) c.in_ok-number.ensures.keys (at_first, tt) _ c.in_err-planned.ensures.refused)
 
 pub edge_to-finish-requires-clause-numbered : goal.edge_to-finish-requires-clause-numbered
 edge_to-finish-requires-clause-numbered g t c =
     let v = key_of g.R.Resolver.point in
     let keys = map v c.args.compiled.now.keys in
-    (numbered_after keys (map v c.reserve.new.compiled.keys) (map v c.planned_node.new.compiled.keys) c.in_ok-planned.ensures.planned.step.grown.added.0 (v c.args.key) c.in_ok-number.number.0 (c.in_ok-number.ensures.number ∙ c.requires.table.lengths) c.in_ok-number.ensures.keys c.in_ok-planned.ensures.planned.step.grown.added.1)
+    (numbered_after keys (map v c.reserve_within.new.compiled.keys) (map v c.planned_node.new.compiled.keys) c.in_ok-planned.ensures.planned.step.grown.added.0 (v c.args.key) c.in_ok-number.number.0 (c.in_ok-number.ensures.number ∙ c.requires.table.lengths) c.in_ok-number.ensures.keys c.in_ok-planned.ensures.planned.step.grown.added.1)
 
 pub edge_to-finish-requires-clause-reserved : goal.edge_to-finish-requires-clause-reserved
 edge_to-finish-requires-clause-reserved g t c =
     let nodes = c.args.compiled.now.nodes in
     let n = c.in_ok-number.ensures.nodes in
-    reserved_after nodes c.reserve.new.compiled.nodes c.planned_node.new.compiled.nodes n.0 c.in_ok-number.number.0 c.in_ok-number.ensures.number n.1 n.2 c.in_ok-planned.ensures.planned.step.grown.stay
+    reserved_after nodes c.reserve_within.new.compiled.nodes c.planned_node.new.compiled.nodes n.0 c.in_ok-number.number.0 c.in_ok-number.ensures.number n.1 n.2 c.in_ok-planned.ensures.planned.step.grown.stay
 
 pub edge_to-returns-clause-edge : goal.edge_to-returns-clause-edge
 edge_to-returns-clause-edge g t c =
@@ -108,12 +105,12 @@ edge_to-returns-clause-edge g t c =
     let nodes = c.args.compiled.now.nodes in
     let n = c.in_ok-number.ensures.nodes in
     let k = v c.args.key in
-    let reserved = map v c.reserve.new.compiled.keys in
+    let reserved = map v c.reserve_within.new.compiled.keys in
     let planned = map v c.planned_node.new.compiled.keys in
     let grown = c.in_ok-planned.ensures.planned.step.grown in
     record {
       table = c.finish.ensures.table;
-      grown = finished_grown _ keys reserved planned (map v c.finish.new.compiled.keys) nodes c.reserve.new.compiled.nodes c.planned_node.new.compiled.nodes c.finish.new.compiled.nodes k n.0 c.in_ok-number.number.0
+      grown = finished_grown _ keys reserved planned (map v c.finish.new.compiled.keys) nodes c.reserve_within.new.compiled.nodes c.planned_node.new.compiled.nodes c.finish.new.compiled.nodes k n.0 c.in_ok-number.number.0
           c.requires.table.lengths c.in_ok-number.ensures.number c.in_ok-number.ensures.keys n.1 at_first (grown_map _ _ _ _ _ _ (from_key w k) grown) c.finish.ensures.keys c.finish.ensures.filled;
       number = rw (c.finish.ensures.keys, c.finish.ensures.node) (numbered_after keys reserved planned grown.added.0 k c.in_ok-number.number.0 (c.in_ok-number.ensures.number ∙ c.requires.table.lengths) c.in_ok-number.ensures.keys grown.added.1);
       fresh = λ absent. c.finish.ensures.node ∙ c.in_ok-number.ensures.number ∙ c.requires.table.lengths;
@@ -373,8 +370,7 @@ made_entry-loop-children-init g t c =
     let whole = members_view c.args.members.now.entries in
     let name = string_bytes c.args.name.now in
     let making = making w k whole c.args.own name in
-    let begins = rw (c.origin_of-origin.ensures.own, c.origin_of-origin.ensures.name, c.as_str.ensures.value, c.checks_formats-formats.ensures.formats) at c.in_ok-maker.ensures.begins in
-    rw c.new-children.ensures.items (asked_begun w sh lim k name making _ (g.T.KeywordTable.waiting c.in_ok-maker.maker) keys nodes refl begins c.requires.table)
+    rw c.new-children.ensures.items (asked_begun w sh lim k name making _ (g.T.KeywordTable.waiting c.in_ok-maker.maker) keys nodes refl c.in_ok-maker.ensures.begins c.requires.table)
 
 pub made_entry-returns-in_err-edge-in-Compile-clause-refused : goal.made_entry-returns-in_err-edge-in-Compile-clause-refused
 made_entry-returns-in_err-edge-in-Compile-clause-refused g t c =
@@ -420,9 +416,9 @@ made_entry-loop-children-preserved-in-Compile g t c =
     let nodes' = c.loop-children.compiled.nodes in
     let takes = rw c.in-Compile.is at c.in_ok-path.ensures.takes in
     let e = c.in_ok-edge-in-Compile.ensures.answered in
-    rw (c.in_ok-push-in-Compile.ensures.items, map-append (option_map edge_of) c.loop-children.children.items (Some c.in_ok-edge-in-Compile.edge ∷ []))
-    (asked_compile w sh lim k name making waiting waiting' told es keys keys' (map v c.child_edge.new.compiled.keys) nodes nodes' c.child_edge.new.compiled.nodes c.in-Compile.path (edge_of c.in_ok-edge-in-Compile.edge) c.len.result
-    inv takes (omega (arith, length-map c.loop-children.children.items (option_map edge_of), c.loop-children.children.ok.0, c.len.ensures)) e.leads e.filled.0 e.step)
+    rw (c.in_ok-reply-in-Compile.ensures.kept, c.in_ok-reply-in-Compile.ensures.told)
+    (asked_compile w sh lim k name making waiting waiting' told es keys keys' (map v c.child_edge.new.compiled.keys) nodes nodes' c.child_edge.new.compiled.nodes c.in-Compile.path (edge_of c.in_ok-edge-in-Compile.edge) (length c.loop-children.children.items)
+    inv takes (sym (length-map c.loop-children.children.items (option_map edge_of))) e.leads e.filled.0 e.step)
 
 pub made_entry-returns-in_err-edge-in-Refer-clause-refused : goal.made_entry-returns-in_err-edge-in-Refer-clause-refused
 made_entry-returns-in_err-edge-in-Refer-clause-refused g t c =
@@ -468,9 +464,9 @@ made_entry-loop-children-preserved g t c =
     let nodes' = c.loop-children.compiled.nodes in
     let takes = rw c.in-Refer.is at c.in_ok-path.ensures.takes in
     let e = c.in_ok-edge-in-Refer.ensures.answered in
-    rw (c.in_ok-push-in-Refer.ensures.items, map-append (option_map edge_of) c.loop-children.children.items (c.in_ok-edge-in-Refer.edge ∷ []))
-    (asked_refer w sh lim k name making waiting waiting' told _ es keys keys' (map v c.reference_edge.new.compiled.keys) nodes nodes' c.reference_edge.new.compiled.nodes c.in-Refer.text (option_map edge_of c.in_ok-edge-in-Refer.edge) c.len-in-Refer.result
-    inv takes (omega (arith, length-map c.loop-children.children.items (option_map edge_of), c.loop-children.children.ok.0, c.len-in-Refer.ensures)) c.reply_for-reply.ensures.reply e.leads e.filled e.step)
+    rw c.in_ok-reply-in-Refer.ensures.kept
+    (asked_refer w sh lim k name making waiting waiting' told _ es keys keys' (map v c.reference_edge.new.compiled.keys) nodes nodes' c.reference_edge.new.compiled.nodes c.in-Refer.text (option_map edge_of c.in_ok-edge-in-Refer.edge) (length c.loop-children.children.items)
+    inv takes (sym (length-map c.loop-children.children.items (option_map edge_of))) c.in_ok-reply-in-Refer.ensures.told e.leads e.filled e.step)
 
 pub made_entry-returns-in-Keyword-clause-part : goal.made_entry-returns-in-Keyword-clause-part
 made_entry-returns-in-Keyword-clause-part g t c =
