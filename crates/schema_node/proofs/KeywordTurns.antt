@@ -13,7 +13,7 @@ use Rattle.schema_reports.specs.Matching.{Pair, completed, matching, settled}
 use Rattle.schema_reports.specs.Keywords.{Answer, Answers, Fault, Keywords, Marked, MatchPoint, Mode, Question, Reply, Turn, all_of_it, ask, done, ecma, first_of_it, for_all, for_first, for_units, for_verdict, mark, match_text, no_reply, truth, unmark}
 use Rattle.schema_reports.specs.Meaning.{Where, fault_error, keyword_outcome}
 use Rattle.schema_reports.specs.Runs.{first_error}
-use Rattle.schema_reports.specs.Laws.{Agrees, AlwaysAsksAlone, AsksAlone, AsksRightly, IsAskAlone, IsPresent, IsRight, SpotInside, StandsInside, answer_in, first_fault, steps_below}
+use Rattle.schema_reports.specs.Laws.{Agrees, AsksRightly, IsPresent, IsRight, SpotInside, StandsInside, answer_in, first_fault, steps_below}
 use Rattle.schema_reports.specs.Turns.{Standing, TurnLaws, marks_after, next, reply_to}
 use Rattle.schema_node.specs.KeywordViews.{Tells, answer_of, fault_of}
 use Rattle.schema_node.specs.FaultViews.{FaultsLieInside, LiesInside, PassesBorrowed, answer_reply, faults_in}
@@ -177,20 +177,3 @@ keyword_says shape ns words x path p s i n name m answers e at_p =
     let b = stands_in x.root p s at_p in
     ap (λ w. keyword_outcome (words x.texts) w name m s (matching x.matcher x.completion) answers) (sym a)
     ∙ ap (λ t. keyword_outcome (words x.texts) (node_at (words x.texts) x.matcher (numbered shape ns) (subject_in x.root) i path p) name m t (matching x.matcher x.completion) answers) (sym b)
-
--- ---- keywords that only ask their children
-
-unmarked_ask : (t : Turn) → IsAskAlone t → IsUnmarked t
-unmarked_ask (ask q mode) h = h
-unmarked_ask done h = tt
-unmarked_ask (match_text a point) h = tt
-unmarked_ask (ecma text) h = tt
-unmarked_ask (mark i) h = h
-unmarked_ask unmark h = h
-
-always_unmarked : {K R : Type 0} (keywords : Keywords K R) (m : K) (s : Subject) (n : ℕ) (r : R) (reply : Reply) → AlwaysAsksAlone keywords m s n r reply → AlwaysUnmarked keywords m s n r reply
-always_unmarked keywords m s zero r reply h = tt
-always_unmarked keywords m s (suc n) r reply h = (unmarked_ask _ h.0, λ next. always_unmarked keywords m s n (keywords.turn m s r reply) next (h.1 next))
-
-pub unmarked_of_alone : {K R : Type 0} (keywords : Keywords K R) → AsksAlone keywords → TakesNoMarks keywords
-unmarked_of_alone keywords alone m s mode less = always_unmarked keywords m s (keywords.most_turns m s) (keywords.begin m s mode) no_reply (alone m s mode less)

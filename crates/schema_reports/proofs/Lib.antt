@@ -30,7 +30,6 @@ mod Valid
 mod Runs
 pub mod PlainSense
 pub mod GuardedSense
-pub mod NothingMet
 pub mod CoverCounts
 mod OneKeyword
 pub mod SensesMeant

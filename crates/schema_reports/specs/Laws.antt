@@ -27,12 +27,6 @@ IsPresent s p = is_some (subject_from p s) ≡ true
 abbrev pub SpotInside : Subject → List Text → Spot → Type 0
 SpotInside s absorbed spot = IsPresent s spot.below × ((path : Place) × (spot.path ≡ pointer_to path)) × (elim spot.absorbed [ None ↦ Unit {0} | Some name ↦ Contains absorbed name ])
 
--- a turn asks a child, and not for its units, or is the last
-abbrev pub IsAskAlone : Turn → Type 0
-IsAskAlone (ask q mode) = ¬ (mode ≡ for_units)
-IsAskAlone done = Unit {0}
-IsAskAlone _ = ⊥
-
 module _ {K R : Type 0} (keywords : Keywords K R) (m : K) (s : Subject) where
   -- a run ends in at most n more turns, whatever is replied
   abbrev pub EndsWithin : ℕ → R → Reply → Type 0
@@ -48,11 +42,6 @@ module _ {K R : Type 0} (keywords : Keywords K R) (m : K) (s : Subject) where
   abbrev pub AlwaysAsksRightly : List Text → ℕ → R → Reply → Type 0
   AlwaysAsksRightly absorbed zero r reply = Unit {0}
   AlwaysAsksRightly absorbed (suc n) r reply = AsksRightly absorbed (keywords.step m s r reply) × ((next : Reply) → AlwaysAsksRightly absorbed n (keywords.turn m s r reply) next)
-
-  -- each of at most n more turns does so, whatever is replied
-  abbrev pub AlwaysAsksAlone : ℕ → R → Reply → Type 0
-  AlwaysAsksAlone zero r reply = Unit {0}
-  AlwaysAsksAlone (suc n) r reply = IsAskAlone (keywords.step m s r reply) × ((next : Reply) → AlwaysAsksAlone n (keywords.turn m s r reply) next)
 
   -- ---- a run whose matches, questions and marks are answered in one way; `same` says which children have one key
 
@@ -120,7 +109,3 @@ pub record KeepsLaws {K R : Type 0} (keywords : Keywords K R) (m : K) (absorbed 
 -- every keyword keeps them, absorbing what it absorbs
 abbrev pub EachKeeps : {K R : Type 0} → Keywords K R → Type 0
 EachKeeps {K} keywords = (m : K) → (absorbed : List Text) × KeepsLaws keywords m absorbed
-
--- a run that wants no units only asks children, and none for its units: it asks for no match, and marks nothing
-abbrev pub AsksAlone : {K R : Type 0} → Keywords K R → Type 0
-AsksAlone {K} keywords = (m : K) (s : Subject) (mode : Mode) → ¬ (mode ≡ for_units) → AlwaysAsksAlone keywords m s (keywords.most_turns m s) (keywords.begin m s mode) no_reply
