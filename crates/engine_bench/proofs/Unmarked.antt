@@ -16,7 +16,7 @@ use Rattle.engine_bench.specs.Ways.{Way, asked, asks_match, branches, chosen, go
 use Rattle.engine_bench.specs.Words.{way, words}
 
 -- a mode that wants no units
-abbrev WantsNone : Mode → Type 0
+abbrev pub WantsNone : Mode → Type 0
 WantsNone mode' = ¬ (mode_of mode' ≡ for_units)
 
 asked_unmarked : (mode' : Mode) (o : Option Question) → WantsNone mode' → IsUnmarked (asked mode' o)
@@ -33,7 +33,7 @@ judge_unmarked t mode.First none = verdict_unmarked
 judge_unmarked t mode.All none = verdict_unmarked
 judge_unmarked t mode.Evaluate none = absurd (none refl)
 
-step_unmarked : (w : Way) (mode' : Mode) (stage : Stage) (r : Reply) → WantsNone mode' → IsUnmarked (step_at w mode' stage r)
+pub step_unmarked : (w : Way) (mode' : Mode) (stage : Stage) (r : Reply) → WantsNone mode' → IsUnmarked (step_at w mode' stage r)
 step_unmarked (tells name ts) mode' stage r none = tt
 step_unmarked (passes_on qs) mode' Begun r none = asked_unmarked mode' (nth 0 qs) none
 step_unmarked (passes_on qs) mode' (Asked i) r none = asked_unmarked mode' (next_if (goes_on r) (nth (i + 1) qs)) none
@@ -60,7 +60,7 @@ turns_unmarked texts m s zero r reply none = tt
 turns_unmarked texts m s (suc n) r reply none =
     (step_unmarked (way texts m s) r.0.mode r.0.stage reply none, λ next. turns_unmarked texts m s n ((words texts).turn m s r reply) next none)
 
-mode-kept : (mode' : spec.Mode) → mode_of (mode_from mode') ≡ mode'
+pub mode-kept : (mode' : spec.Mode) → mode_of (mode_from mode') ≡ mode'
 mode-kept for_verdict = refl
 mode-kept for_first = refl
 mode-kept for_all = refl

@@ -132,7 +132,7 @@ asked_rightly texts m s mode' (Some q) h = h q refl
 asks : (texts : Bool) (m : BenchShape) (s : Subject) (mode' : Mode) (stage : Stage) (r : Reply) → AsksRightly (words texts) m s [] (step_at (way texts m s) mode' stage r)
 asks texts m s = each_step (AsksRightly (words texts) m s []) (way texts m s) (asked_rightly texts m s) (λ a m'. (refl, ([], refl), tt))
 
-fits_begun : (w : Way) (replies : Replies) (m : Mode) (r : Reply) → fits_at w replies m Begun r
+pub fits_begun : (w : Way) (replies : Replies) (m : Mode) (r : Reply) → fits_at w replies m Begun r
 fits_begun (tells name ts) replies m r = tt
 fits_begun (passes_on qs) replies m r = tt
 fits_begun (judges t qs) replies m r = tt

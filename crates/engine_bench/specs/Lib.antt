@@ -11,6 +11,7 @@ pub mod Words
 pub mod WayRuns
 pub mod WayReads
 pub mod Laws
+pub mod Detours
 pub mod Shapes
 pub mod Makers
 pub mod MakerViews

@@ -7,6 +7,8 @@ mod failing_matcher_tests;
 #[cfg(test)]
 mod keyword_table_tests;
 pub mod keywords;
+#[cfg(test)]
+mod leaf_tests;
 pub mod matcher;
 pub mod meta;
 #[cfg(test)]

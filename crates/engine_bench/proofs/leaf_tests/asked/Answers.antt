@@ -1,0 +1,33 @@
+use Rattle.std.proofs.Common.{Bool, suc, sym, zero, ℕ, ◌∙◌}
+use Rattle.schema_reports.specs.Instance.{Subject}
+use Rattle.schema_reports.specs.Keywords.{Answer, Reply, no_reply}
+use Rattle.schema_node.specs.KeywordViews.{fresh}
+use Rattle.schema_node.specs.Marks.{AlwaysUnmarked, TakesNoMarks}
+use Rattle.engine_bench.specs.declared.keywords.run.Progress.{Progress}
+use Rattle.engine_bench.specs.Detours.{Detour, detour_words, matches_before}
+use Rattle.engine_bench.specs.Ways.{way_begin}
+use Rattle.engine_bench.specs.Words.{way, words}
+use Rattle.engine_bench.proofs.Unmarked.{WantsNone, mode-kept, step_unmarked}
+use Rattle.engine_bench.proofs.leaf_tests.asked.Goals as goal
+
+-- each turn keeps the run's mode
+turns_unmarked : (texts : Bool) (m : Detour) (s : Subject) (n left : ℕ) (r : Progress × Answer) (reply : Reply) → WantsNone r.0.mode
+    → AlwaysUnmarked (detour_words texts) m s n ((left, r.0), r.1) reply
+turns_unmarked texts m s zero left r reply none = tt
+turns_unmarked texts m s (suc n) zero r reply none =
+    (step_unmarked (way texts m.1 s) r.0.mode r.0.stage reply none, λ next. turns_unmarked texts m s n 0 ((words texts).turn m.1 s r reply) next none)
+turns_unmarked texts m s (suc n) (suc k) r reply none = (tt, λ next. turns_unmarked texts m s n k r next none)
+
+-- a detour takes no marks
+takes_no_marks : (texts : Bool) → TakesNoMarks (detour_words texts)
+takes_no_marks texts = λ m s mode' none.
+    turns_unmarked texts m s ((detour_words texts).most_turns m s) (matches_before m.0 mode') (way_begin mode', fresh) no_reply (λ e. none (sym (mode-kept mode') ∙ e))
+
+pub is_valid-requires : goal.is_valid-requires
+is_valid-requires c = record { unmarked = takes_no_marks }
+
+pub validate-requires : goal.validate-requires
+validate-requires c = record { unmarked = takes_no_marks }
+
+pub iter_errors-requires : goal.iter_errors-requires
+iter_errors-requires c = record { unmarked = takes_no_marks }
