@@ -46,12 +46,16 @@ fn schema_site<'i>(alloc: Global, path: &str) -> Result<MatchSite<'i>, OutOfMemo
     Ok(MatchSite::schema(Location::from_escaped(alloc, path)?))
 }
 
-fn a_failure<'i>(alloc: Global, reason: Reason) -> Result<MatchFailure<'i>, OutOfMemory> {
+// The failure of a search whose first run met a match that stays unfinished.
+fn a_failure<'i>(alloc: Global, reason: Reason) -> Result<Option<MatchFailure<'i>>, OutOfMemory> {
     let mut first = MatchAssumptions::new(alloc);
     first.resolve("compiled", "abc", reason, schema_site(alloc, "/pattern")?)?;
+    if !first.met_unassumed() {
+        return Ok(None);
+    }
     match assume_each_outcome(alloc, |matches| Ok((matches, true)), (first, true))? {
-        Outcomes::Assumed { failure, .. } => Ok(failure),
-        Outcomes::Undecided(failure) => Ok(failure),
+        Outcomes::Assumed { failure, .. } => Ok(Some(failure)),
+        Outcomes::Undecided(failure) => Ok(Some(failure)),
     }
 }
 
@@ -77,8 +81,10 @@ fn shared_of<'i>(
     let mut results = Vec::new(alloc);
     results.push(one)?;
     results.push(other)?;
-    let failure = a_failure(alloc, Reason::Engine)?;
-    errors(alloc, Outcomes::Assumed { results, failure }, root)
+    match a_failure(alloc, Reason::Engine)? {
+        Some(failure) => errors(alloc, Outcomes::Assumed { results, failure }, root),
+        None => Ok(Vec::new(alloc)),
+    }
 }
 
 #[test]
@@ -106,8 +112,10 @@ fn an_undecided_search_fails(rt: HostRuntime) -> Result<(), OutOfMemory> {
     let alloc = rt.alloc();
     let root = Value::Null;
     let told = "Error executing regex: Max limit for backtracking count exceeded";
-    let failure = a_failure(alloc, Reason::Limit(Text::new(alloc, told)?))?;
-    let undecided = errors(alloc, Outcomes::Undecided(failure), &root)?;
+    let undecided = match a_failure(alloc, Reason::Limit(Text::new(alloc, told)?))? {
+        Some(failure) => errors(alloc, Outcomes::Undecided(failure), &root)?,
+        None => Vec::new(alloc),
+    };
     assert!(rt; have_texts(&undecided, &[told]));
     Ok(())
 }
