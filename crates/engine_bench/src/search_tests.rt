@@ -107,15 +107,25 @@ fn what_two_results_share(rt: HostRuntime) -> Result<(), OutOfMemory> {
     Ok(())
 }
 
+// What a search gives that is undecided, its failure having this reason.
+fn errors_of_undecided<'i>(
+    alloc: Global,
+    root: &'i Value,
+    reason: Reason,
+) -> Result<Vec<ValidationError<'i>>, OutOfMemory> {
+    match a_failure(alloc, reason)? {
+        Some(failure) => errors(alloc, Outcomes::Undecided(failure), root),
+        None => Ok(Vec::new(alloc)),
+    }
+}
+
 #[test]
 fn an_undecided_search_fails(rt: HostRuntime) -> Result<(), OutOfMemory> {
     let alloc = rt.alloc();
     let root = Value::Null;
     let told = "Error executing regex: Max limit for backtracking count exceeded";
-    let undecided = match a_failure(alloc, Reason::Limit(Text::new(alloc, told)?))? {
-        Some(failure) => errors(alloc, Outcomes::Undecided(failure), &root)?,
-        None => Vec::new(alloc),
-    };
+    let reason = Reason::Limit(Text::new(alloc, told)?);
+    let undecided = errors_of_undecided(alloc, &root, reason)?;
     assert!(rt; have_texts(&undecided, &[told]));
     Ok(())
 }
