@@ -20,6 +20,8 @@ pub mod program;
 mod report_tests;
 pub mod resolver;
 #[cfg(test)]
+mod retry_tests;
+#[cfg(test)]
 mod search_tests;
 pub mod table;
 #[cfg(test)]

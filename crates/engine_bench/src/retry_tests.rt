@@ -1,0 +1,77 @@
+//! A call that was refused memory leaves the validator as it was: asked again, it gives the row's answer.
+use crate::keywords::BenchKeyword;
+use crate::matcher::BenchMatcher;
+use crate::resolver::BenchResolver;
+use crate::table::BenchTable;
+use schema_compiler::compiler::error::BuildError;
+use schema_engine::validator::Validator;
+use schema_reports::keywords::VocabularySet;
+use schema_reports::location::OutOfMemory;
+use serde_json::{Value, json};
+use std::alloc::{AllocError, Global};
+
+/// How many errors the validator lists; it is asked once more where memory was refused.
+fn count_again(
+    alloc: Global,
+    validator: &Validator<BenchKeyword, BenchMatcher>,
+    instance: &Value,
+) -> Result<usize, OutOfMemory> {
+    if let Ok(errors) = validator.iter_errors(alloc, instance) {
+        return Ok(errors.count());
+    }
+    Ok(validator.iter_errors(alloc, instance)?.count())
+}
+
+/// How many errors a validator of the schema lists, these patterns staying unfinished; 99 where the schema is refused.
+fn count_of(
+    alloc: Global,
+    schema: &Value,
+    instance: &Value,
+    patterns: &[&str],
+) -> Result<usize, OutOfMemory> {
+    let mut unfinished = Vec::new(alloc);
+    for pattern in patterns {
+        unfinished.push(String::from_str(alloc, pattern)?)?;
+    }
+    let matcher = BenchMatcher::new(unfinished);
+    let resolver = BenchResolver::new(alloc, schema, VocabularySet::new(alloc))?;
+    let built: Result<Validator<BenchKeyword, BenchMatcher>, BuildError> = Validator::new(
+        alloc,
+        schema,
+        &BenchTable {},
+        &resolver,
+        &matcher,
+    );
+    match built {
+        Ok(validator) => count_again(alloc, &validator, instance),
+        Err(BuildError::OutOfMemory) => Err(AllocError),
+        Err(_) => Ok(99),
+    }
+}
+
+#[test]
+fn one_error_is_shared_again(rt: HostRuntime) -> Result<(), OutOfMemory> {
+    let alloc = rt.alloc();
+    let schema = json!(in alloc; {
+        "if": {"pattern": "(?<=ab)c"}, "then": {"minLength": 9}, "maxLength": 1
+    })?;
+    let instance = json!(in alloc; "abc")?;
+    assert_eq!(rt; count_of(alloc, &schema, &instance, &["(?<=ab)c"])?, 1);
+    Ok(())
+}
+
+#[test]
+fn five_matches_are_accepted_again(rt: HostRuntime) -> Result<(), OutOfMemory> {
+    let alloc = rt.alloc();
+    let schema = json!(in alloc; {"allOf": [
+        {"anyOf": [{"pattern": "(?<=d)c"}, {"type": "string"}]},
+        {"anyOf": [{"pattern": "(?<=e)c"}, {"type": "string"}]},
+        {"anyOf": [{"pattern": "(?<=f)c"}, {"type": "string"}]},
+        {"anyOf": [{"pattern": "(?<=g)c"}, {"type": "string"}]},
+        {"anyOf": [{"pattern": "(?<=h)c"}, {"type": "string"}]}
+    ]})?;
+    let instance = json!(in alloc; "abc")?;
+    let patterns = ["(?<=d)c", "(?<=e)c", "(?<=f)c", "(?<=g)c", "(?<=h)c"];
+    assert_eq!(rt; count_of(alloc, &schema, &instance, &patterns)?, 0);
+    Ok(())
+}
