@@ -10,6 +10,7 @@ pub mod MissingNames
 pub mod Unescaping
 pub mod PathsNamed
 pub mod DraftsAlong
+pub mod OnWay
 pub mod Indexes
 pub mod PointerTexts
 mod Unmarked

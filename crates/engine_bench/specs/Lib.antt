@@ -22,6 +22,7 @@ pub mod BenchPointers
 pub mod BenchPointersLead
 pub mod BenchDocuments
 pub mod BenchAnswers
+pub mod OnWay
 pub mod BenchMeta
 pub mod ResolverLaws
 pub mod FaultLists

@@ -10,6 +10,7 @@ ghost use Rattle.engine_bench.specs.BenchAnswers.{base_of, bench_resolving};
 pub mod drafts;
 pub mod identifiers;
 pub mod known;
+pub mod on_way;
 pub mod places;
 pub mod pointers;
 pub mod references;
@@ -21,12 +22,13 @@ pub mod vocabularies;
 use crate::resolver::drafts::detected;
 use crate::resolver::identifiers::{identifier, without_fragment};
 use crate::resolver::known::is_known;
+use crate::resolver::on_way::subschema_on_way;
 use crate::resolver::places::{refusal, root_place, value_at};
 use crate::resolver::references::looked_up;
 use crate::resolver::subschemas::subschemas;
 use crate::resolver::vocabularies::DraftVocabularies;
 use schema_node::context::resolver::{LookupError, Resolver, Target};
-use schema_node::context::schema_place::SchemaPlace;
+use schema_node::context::schema_place::{SchemaPath, SchemaPlace};
 use schema_reports::keywords::{Draft, VocabularySet};
 use schema_reports::location::OutOfMemory;
 use serde_json::Value;
@@ -268,6 +270,16 @@ impl<'a> Resolver for BenchResolver<'a> {
             Some(schema) => subschemas(alloc, place, schema),
             None => Ok(Vec::new(alloc)),
         }
+    }
+
+    fn subresource_on_way(
+        &self,
+        alloc: Global,
+        _draft: Draft,
+        place: &SchemaPlace,
+        path: &SchemaPath,
+    ) -> Result<Option<SchemaPlace>, OutOfMemory> {
+        subschema_on_way(alloc, self.document, place, path)
     }
 
     fn is_known_keyword(&self, _draft: Draft, name: &str) -> bool {

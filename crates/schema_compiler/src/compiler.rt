@@ -20,19 +20,19 @@ use schema_node::node::Nodes;
 use schema_reports::location::Location;
 use std::alloc::Global;
 
-pub mod annotations;
-pub mod builtin;
+mod annotations;
+mod builtin;
 pub mod context;
-pub mod entries;
+mod entries;
 pub mod error;
 pub mod key;
-pub mod keys;
-pub mod makers;
-pub mod nodes_of;
-pub mod start;
+mod keys;
+mod makers;
+mod nodes_of;
+pub(crate) mod start;
 pub mod table;
-pub mod text;
-pub mod values;
+pub(crate) mod text;
+mod values;
 
 /// Compiles all that a key reaches. Each key gets one number, the key itself the first. What is said holds whatever
 /// matcher, keywords' words, draft and base go with the parts: the compiler reads none of them.

@@ -2,4 +2,4 @@
 #![tactic(auto)]
 
 pub mod compiler;
-pub mod ref_;
+mod ref_;

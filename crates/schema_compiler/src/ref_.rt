@@ -32,7 +32,7 @@ pub enum ReferenceKind {
 }
 
 /// The reference keyword of a name, if it is one.
-pub fn reference_kind(name: &str) -> Option<ReferenceKind>
+pub(crate) fn reference_kind(name: &str) -> Option<ReferenceKind>
     ensures kind { option_map kind_of result ≡ reference_named name.now }
 {
     if name == "$ref" {
@@ -178,7 +178,7 @@ fn is_skipped<R: Resolver>(
 }
 
 /// The key that a reference leads to; none where it leads to the very object that holds it.
-pub fn target_key<R: Resolver>(
+pub(crate) fn target_key<R: Resolver>(
     alloc: Global,
     resolver: &R,
     key: &SchemaKey<R::State>,

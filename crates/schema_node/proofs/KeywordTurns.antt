@@ -10,14 +10,14 @@ use Rattle.schema_node.specs.NodeTable.{NodeEntry, numbered}
 use Rattle.schema_node.proofs.NodeRuns.{stands_in, where_is}
 use Rattle.schema_reports.specs.Reports.{Error}
 use Rattle.schema_reports.specs.Matching.{Pair, completed, matching, settled}
-use Rattle.schema_reports.specs.Keywords.{Answer, Answers, Fault, Keywords, Marked, MatchPoint, Mode, Question, Reply, Turn, all_of_it, ask, done, ecma, first_of_it, for_all, for_first, for_units, for_verdict, mark, match_text, no_reply, truth, unmark}
+use Rattle.schema_reports.specs.Keywords.{Answer, Answers, Fault, Keywords, Marked, MatchPoint, Mode, Question, Reply, Turn, all_of_it, ask, done, ecma, first_of_it, for_all, for_first, for_units, for_verdict, match_text, no_reply, truth}
 use Rattle.schema_reports.specs.Meaning.{Where, fault_error, keyword_outcome}
 use Rattle.schema_reports.specs.Runs.{first_error}
 use Rattle.schema_reports.specs.Laws.{Agrees, AsksRightly, IsPresent, IsRight, SpotInside, StandsInside, answer_in, first_fault, steps_below}
 use Rattle.schema_reports.specs.Turns.{Standing, TurnLaws, marks_after, next, reply_to}
 use Rattle.schema_node.specs.KeywordViews.{Tells, answer_of, fault_of}
 use Rattle.schema_node.specs.FaultViews.{FaultsLieInside, LiesInside, PassesBorrowed, answer_reply, faults_in}
-use Rattle.schema_node.specs.Marks.{AlwaysUnmarked, IsUnmarked, TakesNoMarks}
+use Rattle.schema_node.specs.Marks.{AlwaysUnmarked, IsUnmarked}
 use Rattle.schema_node.specs.Matches.{Settling}
 use Rattle.schema_node.proofs.Matches.{decides, deciding}
 use Rattle.schema_node.specs.NodeRuns.{Reading, Reads, entry_where, reply_by}

@@ -10,8 +10,10 @@ pub mod Marks
 pub mod NodeMeets
 pub mod ProgressViews
 pub mod FaultViews
+pub mod AnswerModes
 pub mod EvaluationPaths
 pub mod EvaluationPlaces
+pub mod PlaceForms
 pub mod NodeRuns
 pub mod Turning
 pub mod ValidatorViews

@@ -1,44 +1,22 @@
 //! Where references into the document lead.
-ghost use Rattle.std.specs.Prelude.{◌≡◌, IfOk, MatchResult, Ok, map, string_bytes};
-ghost use Rattle.std.specs.List.{list_any};
+ghost use Rattle.std.specs.Prelude.{◌≡◌, MatchResult, Ok, string_bytes};
 ghost use Rattle.serde_json.specs.View.{view};
-ghost use Rattle.schema_reports.specs.Instance.{same_place};
 ghost use Rattle.schema_reports.specs.KeywordViews.{draft_of};
-ghost use Rattle.schema_node.specs.ResolverViews.{found_of, place_of, Refuses};
-ghost use Rattle.engine_bench.specs.BenchAnswers.{is_subschema, looked_up, target_draft};
+ghost use Rattle.schema_node.specs.ResolverViews.{found_of, Refuses};
+ghost use Rattle.engine_bench.specs.BenchAnswers.{looked_up, target_draft};
 
 use crate::resolver::BenchState;
 use crate::resolver::drafts::detected;
 use crate::resolver::identifiers::identifier;
-use crate::resolver::places::{copy_of_step, refusal, root_place, value_below};
+use crate::resolver::on_way::is_subschema;
+use crate::resolver::places::{copy_of_step, refusal, value_below};
 use crate::resolver::pointers::{path_of_pointer, pointer_of};
-use crate::resolver::subschemas::subschemas;
 use schema_node::context::resolver::{LookupError, Target};
 use schema_node::context::schema_place::{SchemaPath, SchemaPlace};
 use schema_reports::keywords::Draft;
 use schema_reports::location::OutOfMemory;
 use serde_json::Value;
 use std::alloc::Global;
-
-/// Whether one of the places has this path.
-fn is_among(path: &SchemaPath, places: &[SchemaPlace]) -> bool
-    ensures among { result ≡ list_any (λ p. same_place path.now p.path) (map place_of places.now) }
-{
-    for place in places {
-        if path.same(&place.path) {
-            return true;
-        }
-    }
-    false
-}
-
-/// Whether a path leads from a schema to one of its subschemas.
-fn is_subschema(alloc: Global, path: &SchemaPath, schema: &Value) -> Result<bool, OutOfMemory>
-    ensures subschema { IfOk result (λ b. b ≡ is_subschema path.now (view schema.now)) }
-{
-    let places = subschemas(alloc, &root_place(alloc), schema)?;
-    Ok(is_among(path, places.as_slice()))
-}
 
 /// The draft of the target at a path, taken on the document, on each subschema on the way and on the target.
 fn target_draft(
@@ -61,7 +39,7 @@ fn target_draft(
         };
         since.push(copy_of_step(step)?)?;
         reached = below;
-        if is_subschema(alloc, &since, schema)? {
+        if is_subschema(&since, schema) {
             draft = detected(draft, below);
             if identifier(draft, below).is_some() {
                 return Err(refusal(alloc, "this resolver knows no identifier below the root"));

@@ -11,7 +11,7 @@ use schema_reports::location::OutOfMemory;
 use serde_json::{Map, Value};
 
 /// Keeps a member whose name the key's draft does not know.
-pub fn keep_unknown<R: Resolver>(
+pub(crate) fn keep_unknown<R: Resolver>(
     resolver: &R,
     key: &SchemaKey<R::State>,
     unknown: &mut Map<String, Value>,
@@ -28,7 +28,7 @@ pub fn keep_unknown<R: Resolver>(
 }
 
 /// The members as an object, where there are any.
-pub fn object_of(members: Map<String, Value>) -> Option<Value>
+pub(crate) fn object_of(members: Map<String, Value>) -> Option<Value>
     ensures object { option_map view result ≡ object_of (members_view members.entries) }
 {
     if members.is_empty() {

@@ -26,7 +26,7 @@ fn place_for<K>(entries: &[Entry<K>], priority: u8) -> usize
 }
 
 /// Puts a keyword in its place.
-pub fn insert_by_priority<K: Drop>(
+pub(crate) fn insert_by_priority<K: Drop>(
     entries: &mut Vec<Entry<K>>,
     entry: Entry<K>,
 ) -> Result<(), OutOfMemory>
@@ -38,7 +38,7 @@ pub fn insert_by_priority<K: Drop>(
 }
 
 /// A keyword of this name and form.
-pub fn entry_named<K: Drop>(
+pub(crate) fn entry_named<K: Drop>(
     name: &String,
     priority: u8,
     is_leaf: bool,
@@ -55,7 +55,7 @@ pub fn entry_named<K: Drop>(
 }
 
 /// What a keyword that stands alone asks of an instance; nothing where it is skipped.
-pub fn node_alone<K: Drop>(
+pub(crate) fn node_alone<K: Drop>(
     alloc: Global,
     entry: Option<Entry<K>>,
 ) -> Result<PlannedNode<K>, OutOfMemory>

@@ -37,7 +37,7 @@ pub struct SchemaKey<S> {
 }
 
 /// Whether both are one key.
-pub fn same_key<R: Resolver>(left: &SchemaKey<R::State>, right: &SchemaKey<R::State>) -> bool
+pub(crate) fn same_key<R: Resolver>(left: &SchemaKey<R::State>, right: &SchemaKey<R::State>) -> bool
     ensures same { IsTrue result ↔ (key_of R.point left.now ≡ key_of R.point right.now) }
 {
     if !left.place.same(&right.place) {
@@ -69,7 +69,7 @@ fn same_location(left: &Location, right: &Location) -> bool
 }
 
 /// The same key in memory of its own.
-pub fn copy_of<R: Resolver>(
+pub(crate) fn copy_of<R: Resolver>(
     alloc: Global,
     key: &SchemaKey<R::State>,
 ) -> Result<SchemaKey<R::State>, OutOfMemory>
@@ -87,7 +87,7 @@ pub fn copy_of<R: Resolver>(
 }
 
 /// The URI that absolute locations in a key's resource begin with; a base of scheme `json-schema` gives none.
-pub fn shown_base_of<R: Resolver>(
+pub(crate) fn shown_base_of<R: Resolver>(
     alloc: Global,
     resolver: &R,
     key: &SchemaKey<R::State>,
@@ -151,7 +151,7 @@ fn vocabularies_inside<R: Resolver>(
 }
 
 /// Whether both are one draft.
-pub fn is_same_draft(left: Draft, right: Draft) -> bool
+pub(crate) fn is_same_draft(left: Draft, right: Draft) -> bool
     ensures same { result ≡ same_draft (draft_of left) (draft_of right) }
 {
     match (left, right) {
@@ -166,7 +166,7 @@ pub fn is_same_draft(left: Draft, right: Draft) -> bool
 }
 
 /// Whether the schema at a place has an identifier.
-pub fn has_id<R: Resolver>(resolver: &R, draft: Draft, place: &SchemaPlace) -> bool
+pub(crate) fn has_id<R: Resolver>(resolver: &R, draft: Draft, place: &SchemaPlace) -> bool
     ensures identified { result ≡ is_some ((R.resolving resolver.now).id (draft_of draft) (schema_at (resolving_parts (R.resolving resolver.now)) (place_of place.now))) }
 {
     match resolver.value(place) {
@@ -176,7 +176,7 @@ pub fn has_id<R: Resolver>(resolver: &R, draft: Draft, place: &SchemaPlace) -> b
 }
 
 /// The draft of the schema at a place, inside a schema of this draft.
-pub fn draft_at<R: Resolver>(resolver: &R, draft: Draft, place: &SchemaPlace) -> Draft
+pub(crate) fn draft_at<R: Resolver>(resolver: &R, draft: Draft, place: &SchemaPlace) -> Draft
     ensures detected { draft_of result ≡ (R.resolving resolver.now).detect (draft_of draft) (schema_at (resolving_parts (R.resolving resolver.now)) (place_of place.now)) }
 {
     match resolver.value(place) {
@@ -186,7 +186,7 @@ pub fn draft_at<R: Resolver>(resolver: &R, draft: Draft, place: &SchemaPlace) ->
 }
 
 /// The key of the subschema at a path below.
-pub fn subschema_key<R: Resolver>(
+pub(crate) fn subschema_key<R: Resolver>(
     alloc: Global,
     resolver: &R,
     key: &SchemaKey<R::State>,

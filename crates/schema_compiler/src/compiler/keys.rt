@@ -36,7 +36,7 @@ impl<S> Model for Keys<S> {
 
 impl<S: Drop> Keys<S> {
     /// No keys.
-    pub fn new(alloc: Global) -> Keys<S>
+    pub(crate) fn new(alloc: Global) -> Keys<S>
         ensures none { result ≡ [] }
     {
         Keys {
@@ -47,14 +47,14 @@ impl<S: Drop> Keys<S> {
     }
 
     /// How many there are.
-    pub fn len(&self) -> usize
+    pub(crate) fn len(&self) -> usize
         ensures count { result ≡ length self.now }
     {
         self.keys.len()
     }
 
     /// Gives a key the next number.
-    pub fn push(&mut self, key: SchemaKey<S>) -> Result<(), OutOfMemory>
+    pub(crate) fn push(&mut self, key: SchemaKey<S>) -> Result<(), OutOfMemory>
         ensures pushed { OnOk result (self.new ≡ self.old ++ key ∷ []) }
         ensures unchanged { OnErr result (self.new ≡ self.old) }
     {
@@ -82,7 +82,7 @@ fn hash_of<S>(key: &SchemaKey<S>) -> u64
 }
 
 /// The number of a key, if it has one.
-pub fn find<R: Resolver>(keys: &Keys<R::State>, key: &SchemaKey<R::State>) -> Option<usize>
+pub(crate) fn find<R: Resolver>(keys: &Keys<R::State>, key: &SchemaKey<R::State>) -> Option<usize>
     ensures found { MatchOption result
         ((i : ℕ) → slice_get (map (key_of R.point) keys.now) i ≢ Some (key_of R.point key.now))
         (λ n. slice_get (map (key_of R.point) keys.now) n ≡ Some (key_of R.point key.now)) }

@@ -17,7 +17,7 @@ use serde_json::{Map, Value};
 use std::alloc::Global;
 
 /// The maker of a key's member, which has asked for nothing yet.
-pub fn maker_of<S, K: Validate, T: KeywordTable<K>>(
+pub(crate) fn maker_of<S, K: Validate, T: KeywordTable<K>>(
     alloc: Global,
     table: &T,
     options: &CompileOptions,
@@ -42,7 +42,7 @@ pub fn maker_of<S, K: Validate, T: KeywordTable<K>>(
 }
 
 /// Keeps the edge that a request got, and gives what the maker is told of it.
-pub fn keep_edge(
+pub(crate) fn keep_edge(
     edges: &mut Vec<Option<Edge>>,
     edge: Option<Edge>,
 ) -> Result<MakerReply, OutOfMemory>

@@ -47,7 +47,7 @@ struct ObjectKeywords<K> {
 /// The edge to the node of a key, which is compiled first where it has no number. The edge is guarded where the node is
 /// still being compiled.
 #[cycle(compile)]
-pub fn edge_to<R: Resolver, K: Validate, T: KeywordTable<K>>(
+pub(crate) fn edge_to<R: Resolver, K: Validate, T: KeywordTable<K>>(
     alloc: Global,
     resolver: &R,
     table: &T,

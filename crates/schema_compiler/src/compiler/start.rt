@@ -1,7 +1,6 @@
 //! How much of a pointer lies outside the innermost resource that it passes into.
-ghost use Rattle.std.specs.Prelude.{◌≡◌, ◌-◌, IfOk, option_map, find, map, Option, Some, length, suc, take, is_some, if◌then◌else◌};
+ghost use Rattle.std.specs.Prelude.{◌≡◌, ◌-◌, IfOk, length, suc, take, is_some, if◌then◌else◌};
 ghost use Rattle.schema_reports.specs.Plan.{segment_count, segments_length, innermost, start_of, schema_at};
-ghost use Rattle.schema_reports.specs.Instance.{same_place};
 ghost use Rattle.schema_reports.specs.KeywordViews.{draft_of};
 ghost use Rattle.schema_node.specs.ResolverViews.{place_of, found_of};
 ghost use Rattle.schema_compiler.specs.Compiling.{resolving_parts};
@@ -58,22 +57,6 @@ fn counts_from(
     })
 }
 
-// The first of these places that lies on the way to a path.
-fn first_on_way(
-    alloc: Global,
-    places: &[SchemaPlace],
-    path: &SchemaPath,
-) -> Result<Option<SchemaPlace>, OutOfMemory>
-    ensures first { IfOk result (λ o. option_map place_of o ≡ find (λ q. same_place q.path (take (length q.path) path.now)) (map place_of places.now)) }
-{
-    for place in places {
-        if place.path.is_prefix_of(path) {
-            return Ok(Some(place.copy(alloc)?));
-        }
-    }
-    Ok(None)
-}
-
 // The next place inwards, where it has an identifier, or else the one that is given.
 fn nearer_place<R: Resolver>(
     alloc: Global,
@@ -106,8 +89,7 @@ fn innermost_place<R: Resolver>(
     let mut place = from.copy(alloc)?;
     let mut given = from.copy(alloc)?;
     loop {
-        let below = resolver.subresources_of(alloc, inner_draft, &place)?;
-        match first_on_way(alloc, below.as_slice(), path)? {
+        match resolver.subresource_on_way(alloc, inner_draft, &place, path)? {
             None => return Ok(given),
             Some(next) => {
                 inner_draft = draft_at(resolver, inner_draft, &next);
@@ -123,7 +105,7 @@ fn innermost_place<R: Resolver>(
 }
 
 /// The length of a pointer's part up to the innermost subresource with an identifier that it passes into.
-pub fn start_of_target<R: Resolver>(
+pub(crate) fn start_of_target<R: Resolver>(
     alloc: Global,
     resolver: &R,
     draft: Draft,

@@ -57,13 +57,13 @@ pub struct Compiled<S, K> {
 
 /// What a key's node asks of an instance, and the members that no keyword is made of, as an object.
 #[derive(Drop)]
-pub struct PlannedNode<K> {
+pub(crate) struct PlannedNode<K> {
     pub form: NodeForm<K>,
     pub annotations: Option<Value>,
 }
 
 /// Gives a key the next number, with a node that is reserved.
-pub fn reserve<R: Resolver, K: Validate, T: KeywordTable<K>>(
+pub(crate) fn reserve<R: Resolver, K: Validate, T: KeywordTable<K>>(
     alloc: Global,
     resolver: &R,
     _table: &T,
@@ -89,7 +89,7 @@ pub fn reserve<R: Resolver, K: Validate, T: KeywordTable<K>>(
 }
 
 /// Gives a key the next number, with a node that is reserved, unless the limit is reached.
-pub fn reserve_within<R: Resolver, K: Validate, T: KeywordTable<K>>(
+pub(crate) fn reserve_within<R: Resolver, K: Validate, T: KeywordTable<K>>(
     alloc: Global,
     resolver: &R,
     table: &T,
@@ -112,7 +112,7 @@ pub fn reserve_within<R: Resolver, K: Validate, T: KeywordTable<K>>(
 }
 
 /// Fills the node of a reserved number; the edge to it is not guarded.
-pub fn finish<R: Resolver, K: Validate, T: KeywordTable<K>>(
+pub(crate) fn finish<R: Resolver, K: Validate, T: KeywordTable<K>>(
     _resolver: &R,
     _table: &T,
     options: &CompileOptions,
@@ -145,7 +145,7 @@ pub fn finish<R: Resolver, K: Validate, T: KeywordTable<K>>(
 }
 
 /// The edge to a number that is there, which is guarded where the number is only reserved.
-pub fn edge_at<R: Resolver, K: Validate, T: KeywordTable<K>>(
+pub(crate) fn edge_at<R: Resolver, K: Validate, T: KeywordTable<K>>(
     _resolver: &R,
     _table: &T,
     _options: &CompileOptions,
@@ -169,7 +169,7 @@ pub fn edge_at<R: Resolver, K: Validate, T: KeywordTable<K>>(
 }
 
 /// Whether formats are checked for a key: by the option, or else by its draft and vocabularies.
-pub fn checks_formats<S>(options: &CompileOptions, key: &SchemaKey<S>) -> bool
+pub(crate) fn checks_formats<S>(options: &CompileOptions, key: &SchemaKey<S>) -> bool
     ensures formats { result ≡ unwrap_or options.now.formats (ref_stands_alone (draft_of key.now.draft) || has_vocabulary key.now.vocabularies format_assertion_vocabulary || has_vocabulary key.now.vocabularies format_vocabulary) }
 {
     match options.formats {
@@ -183,7 +183,7 @@ pub fn checks_formats<S>(options: &CompileOptions, key: &SchemaKey<S>) -> bool
 }
 
 /// Whether `$ref` stands alone in a draft: in 4 to 7. It takes no memory.
-pub fn stands_alone(draft: Draft) -> bool
+pub(crate) fn stands_alone(draft: Draft) -> bool
     ensures alone { result ≡ ref_stands_alone (draft_of draft) }
 {
     match draft {
@@ -197,7 +197,7 @@ pub fn stands_alone(draft: Draft) -> bool
 }
 
 /// The value of the `$ref` that stands alone in an object.
-pub fn lone_reference(draft: Draft, members: &Map<String, Value>) -> Option<&Value>
+pub(crate) fn lone_reference(draft: Draft, members: &Map<String, Value>) -> Option<&Value>
     ensures alone { option_map (λ v. view v.now) result ≡ (if ref_stands_alone (draft_of draft) then member_of (codes "$ref") (members_view members.now.entries) else None) }
 {
     if stands_alone(draft) {
@@ -208,7 +208,10 @@ pub fn lone_reference(draft: Draft, members: &Map<String, Value>) -> Option<&Val
 }
 
 /// The location of a key's keyword.
-pub fn keyword_location<S>(key: &SchemaKey<S>, name: &String) -> Result<Location, OutOfMemory>
+pub(crate) fn keyword_location<S>(
+    key: &SchemaKey<S>,
+    name: &String,
+) -> Result<Location, OutOfMemory>
     ensures location { IfOk result (λ l. l ≡ joined key.now.location (string_bytes name.now)) }
 {
     key.location.join(LocationSegment::Property(name.as_str()))
@@ -246,7 +249,7 @@ fn check_each<R: Resolver, K: Validate, T: KeywordTable<K>>(
 }
 
 /// Refuses a custom vocabulary that is not declared.
-pub fn check_declared<R: Resolver, K: Validate, T: KeywordTable<K>>(
+pub(crate) fn check_declared<R: Resolver, K: Validate, T: KeywordTable<K>>(
     alloc: Global,
     resolver: &R,
     table: &T,
@@ -260,7 +263,7 @@ pub fn check_declared<R: Resolver, K: Validate, T: KeywordTable<K>>(
 }
 
 /// The key that a reference leads to, where it requires no vocabulary that is not declared; none where it is skipped.
-pub fn target_of<R: Resolver, K: Validate, T: KeywordTable<K>>(
+pub(crate) fn target_of<R: Resolver, K: Validate, T: KeywordTable<K>>(
     alloc: Global,
     resolver: &R,
     table: &T,
@@ -285,7 +288,7 @@ pub fn target_of<R: Resolver, K: Validate, T: KeywordTable<K>>(
 }
 
 /// What a maker makes, by the name.
-pub fn origin_of(own: bool, name: &str) -> KeywordOrigin<'_>
+pub(crate) fn origin_of(own: bool, name: &str) -> KeywordOrigin<'_>
     ensures own { is_own result ≡ own }
     ensures name { name_of result ≡ name.now }
 {
@@ -297,7 +300,7 @@ pub fn origin_of(own: bool, name: &str) -> KeywordOrigin<'_>
 }
 
 /// What a maker is told of a request with this number, which got this edge.
-pub fn reply_for(edge: &Option<Edge>, number: usize) -> MakerReply
+pub(crate) fn reply_for(edge: &Option<Edge>, number: usize) -> MakerReply
     ensures reply { maker_reply_of result ≡ answers (option_map edge_of edge.now) number }
 {
     match edge {
@@ -307,7 +310,10 @@ pub fn reply_for(edge: &Option<Edge>, number: usize) -> MakerReply
 }
 
 /// What a value that is no object asks of an instance; only a boolean is a schema.
-pub fn plain_form<S, K: Drop>(key: &SchemaKey<S>, value: &Value) -> Result<NodeForm<K>, BuildError>
+pub(crate) fn plain_form<S, K: Drop>(
+    key: &SchemaKey<S>,
+    value: &Value,
+) -> Result<NodeForm<K>, BuildError>
     ensures form { IfOk result (λ form. (b : Bool) × (as_bool (view value.now) ≡ Some b) × (plan_of form ≡ boolean_plan b)) }
     ensures refused { IfErr result (Names (not_a_schema key.now.location ∷ [])) }
     ensures other { IfErr result (λ _. as_bool (view value.now) ≡ None) }

@@ -4,7 +4,7 @@ ghost use Rattle.std.specs.List.{starts_with};
 ghost use Rattle.schema_reports.specs.Plan.{fragment, without_fragment};
 
 /// What follows the first `#`, and nothing where there is none.
-pub fn fragment_of(text: &str) -> &str
+pub(crate) fn fragment_of(text: &str) -> &str
     ensures fragment { result.now ≡ fragment text.now }
 {
     match text.split_once('#') {
@@ -14,7 +14,7 @@ pub fn fragment_of(text: &str) -> &str
 }
 
 /// What stands before the first `#`, and all where there is none.
-pub fn text_before_fragment(text: &str) -> &str
+pub(crate) fn text_before_fragment(text: &str) -> &str
     ensures before { result.now ≡ without_fragment text.now }
 {
     match text.split_once('#') {
@@ -24,7 +24,7 @@ pub fn text_before_fragment(text: &str) -> &str
 }
 
 /// Whether a URI has the scheme of schemas that have no URI of their own.
-pub fn has_own_scheme(uri: &str) -> bool
+pub(crate) fn has_own_scheme(uri: &str) -> bool
     ensures scheme { result ≡ starts_with (λ x y. x == y) uri.now (codes "json-schema:") }
 {
     uri.as_bytes().starts_with("json-schema:".as_bytes())

@@ -20,7 +20,7 @@ use schema_node::node::NodeForm;
 use serde_json::{Map, Value};
 
 /// The members of the object at a key's place, if there is one.
-pub fn object_at<'a, R: Resolver>(
+pub(crate) fn object_at<'a, R: Resolver>(
     resolver: &'a R,
     key: &SchemaKey<R::State>,
 ) -> Option<&'a Map<String, Value>>
@@ -33,7 +33,7 @@ pub fn object_at<'a, R: Resolver>(
 }
 
 /// What a key's value that is no object asks of an instance; only a boolean is a schema.
-pub fn form_at<R: Resolver, K: Drop>(
+pub(crate) fn form_at<R: Resolver, K: Drop>(
     resolver: &R,
     key: &SchemaKey<R::State>,
 ) -> Result<NodeForm<K>, BuildError>
@@ -48,7 +48,7 @@ pub fn form_at<R: Resolver, K: Drop>(
 }
 
 /// The text of a key's reference; only a text is one.
-pub fn text_of<'a, S>(
+pub(crate) fn text_of<'a, S>(
     key: &SchemaKey<S>,
     name: &String,
     value: &'a Value,

@@ -1,14 +1,14 @@
 //! The resolver, which answers what references and identifiers lead to.
-ghost use Rattle.std.specs.Prelude.{◌≡◌, ◌↔◌, ℕ, true, Bool, Some, None, Ok, IfOk, IfErr, MatchResult, option_map, is_some, map};
+ghost use Rattle.std.specs.Prelude.{◌≡◌, ◌↔◌, ℕ, true, Bool, Some, None, Ok, IfOk, IfErr, MatchResult, option_map, is_some, map, find, take, length};
 ghost use Rattle.serde_json.specs.Data.{Data};
 ghost use Rattle.serde_json.specs.View.{view};
 ghost use Rattle.schema_reports.specs.Resolving as spec;
 ghost use Rattle.schema_reports.specs.Drafts as drafts;
-ghost use Rattle.schema_reports.specs.Instance.{Text, Place, subject_at, a_value};
+ghost use Rattle.schema_reports.specs.Instance.{Text, Place, same_place, subject_at, a_value};
 ghost use Rattle.schema_reports.specs.KeywordViews.{draft_of};
 ghost use Rattle.schema_node.specs.ResolverViews.{place_of, entrance_of, found_of, Refuses, IsInside};
 
-use crate::context::schema_place::SchemaPlace;
+use crate::context::schema_place::{SchemaPath, SchemaPlace};
 use schema_reports::keywords::{Draft, VocabularySet};
 use schema_reports::location::OutOfMemory;
 use serde_json::Value;
@@ -48,6 +48,22 @@ impl<T: Drop> From<AllocFailed<T>> for LookupError {
     fn from(_refused: AllocFailed<T>) -> LookupError {
         LookupError::OutOfMemory
     }
+}
+
+// The first of these places that lies on the way to a path.
+fn first_on_way(
+    alloc: Global,
+    places: &[SchemaPlace],
+    path: &SchemaPath,
+) -> Result<Option<SchemaPlace>, OutOfMemory>
+    ensures first { IfOk result (λ o. option_map place_of o ≡ find (λ q. same_place q.path (take (length q.path) path.now)) (map place_of places.now)) }
+{
+    for place in places {
+        if place.path.is_prefix_of(path) {
+            return Ok(Some(place.copy(alloc)?));
+        }
+    }
+    Ok(None)
 }
 
 /// Everything that the engine asks about documents. Each answer is a function of the arguments; what a state is apart
@@ -151,6 +167,21 @@ pub trait Resolver {
         place: &SchemaPlace,
     ) -> Result<Vec<SchemaPlace>, OutOfMemory>
         ensures places { IfOk result (λ ps. map place_of ps.items ≡ (resolving self.now).subresources_of (draft_of draft) (place_of place.now)) };
+
+    /// The first subschema, in order, of the schema at a place that lies on the way down to a path. It is asked for each
+    /// subschema on the way to a reference's target: a resolver that finds it without listing them all gives its own body.
+    fn subresource_on_way(
+        &self,
+        alloc: Global,
+        draft: Draft,
+        place: &SchemaPlace,
+        path: &SchemaPath,
+    ) -> Result<Option<SchemaPlace>, OutOfMemory>
+        ensures first { IfOk result (λ o. option_map place_of o ≡ find (λ q. same_place q.path (take (length q.path) path.now)) ((resolving self.now).subresources_of (draft_of draft) (place_of place.now))) }
+    {
+        let below = self.subresources_of(alloc, draft, place)?;
+        first_on_way(alloc, below.as_slice(), path)
+    }
 
     /// Whether the draft knows a keyword of this name.
     fn is_known_keyword(&self, draft: Draft, name: &str) -> bool

@@ -2,6 +2,8 @@
 ghost use Rattle.std.specs.Prelude.{◌≡◌, ◌++◌, ◌∷◌, [], IfOk};
 ghost use Rattle.schema_reports.specs.InstanceViews.{step_of};
 ghost use Rattle.schema_node.specs.EvaluationPlaces.{steps_to};
+ghost use Rattle.schema_node.specs.KeywordViews.{mode_of};
+ghost use Rattle.schema_node.specs.PlaceForms.{is_made, wants_more};
 
 use crate::context::keyword::Mode;
 use schema_reports::instance::{InstanceStep, Place};
@@ -30,6 +32,7 @@ impl<'p, 'i> EvaluationPlace<'p, 'i> {
         mode: Mode,
     ) -> Result<EvaluationPlace<'p, 'i>, OutOfMemory>
         ensures below { IfOk result (λ p. steps_to p ≡ steps_to self.now ++ step_of step.entry ∷ []) }
+        ensures form { IfOk result (λ p. is_made p ≡ wants_more (mode_of mode)) }
     {
         match mode {
             Mode::Verdict => Ok(EvaluationPlace::Below(self, step)),

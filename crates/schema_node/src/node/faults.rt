@@ -7,6 +7,7 @@ ghost use Rattle.schema_reports.specs.Laws.{IsPresent};
 ghost use Rattle.schema_reports.specs.Meaning.{fault_error};
 ghost use Rattle.schema_reports.specs.Pointer.{joined};
 ghost use Rattle.schema_reports.specs.ReportViews.{error_of, BorrowsItsPlace};
+ghost use Rattle.schema_node.specs.AnswerModes.{mode_in};
 ghost use Rattle.schema_node.specs.FaultViews.{answer_reply, errors_in, faults_in, FaultsLieInside, LiesInside};
 ghost use Rattle.schema_node.specs.KeywordViews.{answer_of, fault_of, fresh, mode_of, own_of, reply_of};
 ghost use Rattle.schema_reports.specs.Keywords.{own};
@@ -29,6 +30,7 @@ use std::alloc::Global;
 pub fn begun<'i>(alloc: Global, mode: Mode) -> Answer<'i>
     ensures fresh { (texts : Bool) → answer_of texts result ≡ fresh }
     ensures no_faults { faults_in result ≡ [] }
+    ensures form { mode_in result ≡ mode_of mode }
 {
     match mode {
         Mode::Verdict => Answer::Verdict(true),

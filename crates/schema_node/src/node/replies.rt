@@ -54,12 +54,12 @@ pub fn is_settled(reply: &Reply<'_>) -> bool
 }
 
 /// Whether the reply is a verdict that says yes.
-pub fn is_yes(reply: &Reply<'_>) -> bool
-    ensures yes { (texts : Bool) → result ≡ accepts (reply_of texts reply.now) }
+pub fn is_yes(reply: Reply<'_>) -> bool
+    ensures yes { (texts : Bool) → result ≡ accepts (reply_of texts reply.entry) }
 {
     match reply {
         Reply::Nothing => false,
-        Reply::Truth(yes) => *yes,
+        Reply::Truth(yes) => yes,
         Reply::First(_) => false,
         Reply::All(_) => false,
     }

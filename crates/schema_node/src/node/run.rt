@@ -110,8 +110,8 @@ fn run_node<'i, K: Validate, M: Matcher>(
         None => Ok(accepted(alloc, mode)),
         Some(form) => match form {
             NodeForm::Always => Ok(accepted(alloc, mode)),
-            NodeForm::Never => Ok(refused(alloc, found, instance, place, path, mode)?),
-            NodeForm::Keywords(entries) => Ok(run_entries(
+            NodeForm::Never => refused(alloc, found, instance, place, path, mode),
+            NodeForm::Keywords(entries) => run_entries(
                 nodes,
                 alloc,
                 matcher,
@@ -122,7 +122,7 @@ fn run_node<'i, K: Validate, M: Matcher>(
                 path,
                 mode,
                 context,
-            )?),
+            ),
         },
     }
 }
@@ -205,16 +205,16 @@ fn run_entry<'i, K: Validate, M: Matcher>(
             Mode::Verdict,
             context,
         )?;
-        if is_yes(&verdict) {
+        if is_yes(verdict) {
             return Ok(accepted(alloc, mode));
         }
-        return Ok(run_form(
+        return run_form(
             nodes, alloc, matcher, node, entry, instance, place, path, mode, context,
-        )?);
+        );
     }
-    Ok(run_form(
+    run_form(
         nodes, alloc, matcher, node, entry, instance, place, path, mode, context,
-    )?)
+    )
 }
 
 // The reply of an entry's keyword, or of the node that its reference leads to.
@@ -244,7 +244,7 @@ fn run_form<'i, K: Validate, M: Matcher>(
         (mode_of mode) (path_of path.now) (steps_to place.now) (busy_at (steps_to place.now) context.old.in_progress) (subject_of instance.entry) context.old.remembered context.new.remembered node.0 (string_bytes entry.now.name) (shaped_form K.shape (form_of entry.now.form))) }
 {
     match &entry.form {
-        EntryForm::Keyword(keyword, children) => Ok(run_keyword(
+        EntryForm::Keyword(keyword, children) => run_keyword(
             nodes,
             alloc,
             matcher,
@@ -257,12 +257,12 @@ fn run_form<'i, K: Validate, M: Matcher>(
             path,
             mode,
             context,
-        )?),
+        ),
         EntryForm::Reference(edge) => {
             let reply = run_edge(
                 nodes, alloc, matcher, edge, instance, place, path, mode, context,
             )?;
-            Ok(stamped_reply(alloc, nodes.node(node), &entry.name, reply)?)
+            stamped_reply(alloc, nodes.node(node), &entry.name, reply)
         }
     }
 }
@@ -376,9 +376,9 @@ fn run_child<'i, K: Validate, M: Matcher>(
     match child_edge(children, child) {
         None => Ok(accepted(alloc, mode)),
         Some(edge) => match one_below(instance, below) {
-            None => Ok(run_edge(
+            None => run_edge(
                 nodes, alloc, matcher, edge, instance, place, path, mode, context,
-            )?),
+            ),
             Some((inner, step)) => {
                 let lower = place.below(step, mode)?;
                 Ok(run_edge(

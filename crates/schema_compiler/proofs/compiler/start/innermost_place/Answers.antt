@@ -10,8 +10,7 @@ use Rattle.schema_compiler.proofs.compiler.start.innermost_place.Goals as goal
 pub returns-then-depth-eq0 : goal.returns-then-depth-eq0
 returns-then-depth-eq0 g c =
     let w = resolving_parts (g.R.Resolver.resolving c.args.resolver.now) in
-    let found = rw (c.as_slice.ensures.value, c.in_ok-below.ensures.places) at c.in_ok-first_on_way.ensures.first in
-    let at = sym found ∙ ap (option_map place_of) c.in-Some.is in
+    let at = sym c.in_ok-subresource_on_way.ensures.first ∙ ap (option_map place_of) c.in-Some.is in
     let step = step_inwards w c.args.path.now 0 (draft_of c.loop-given.inner_draft) (draft_of c.draft_at-inner_draft.result) (place_of c.loop-given.place) (place_of c.in-Some.next) (place_of c.loop-given.given) (place_of c.in_ok-given-in-Some.given)
     at c.draft_at-inner_draft.ensures.detected c.in_ok-given-in-Some.ensures.nearer in
     let e : c.loop-given.depth ≡ 0 = omega arith in
@@ -20,8 +19,7 @@ returns-then-depth-eq0 g c =
 pub loop-given-preserved : goal.loop-given-preserved
 loop-given-preserved g c =
     let w = resolving_parts (g.R.Resolver.resolving c.args.resolver.now) in
-    let found = rw (c.as_slice.ensures.value, c.in_ok-below.ensures.places) at c.in_ok-first_on_way.ensures.first in
-    let at = sym found ∙ ap (option_map place_of) c.in-Some.is in
+    let at = sym c.in_ok-subresource_on_way.ensures.first ∙ ap (option_map place_of) c.in-Some.is in
     let step = step_inwards w c.args.path.now (suc (c.loop-given.depth - 1)) (draft_of c.loop-given.inner_draft) (draft_of c.draft_at-inner_draft.result) (place_of c.loop-given.place) (place_of c.in-Some.next) (place_of c.loop-given.given) (place_of c.in_ok-given-in-Some.given)
     at c.draft_at-inner_draft.ensures.detected c.in_ok-given-in-Some.ensures.nearer in
     let e : c.loop-given.depth ≡ suc (c.loop-given.depth - 1) = omega arith in

@@ -1,6 +1,11 @@
-use Rattle.std.proofs.Common.{◌≡◌, ◌∙◌, ◌+◌, arith, sym, refl, ap, subst, map, option_map, string_bytes, length, Some, false, List, [], ◌∷◌, ◌++◌, drop}
+use Rattle.std.proofs.lemmas.List.Elements.{All-nil}
+use Rattle.std.specs.Prelude.{All}
+use Rattle.schema_reports.specs.ReportViews.{BorrowsItsPlace}
+use Rattle.schema_node.specs.FaultViews.{PassesBorrowed}
+use Rattle.std.proofs.Common.{◌≡◌, ◌∙◌, ◌+◌, ◌*◌, ◌<◌, ◌≤◌, ℕ, suc, arith, sym, refl, ap, subst, map, option_map, string_bytes, length, Some, false, List, [], ◌∷◌, ◌++◌, drop}
 use Rattle.schema_reports.specs.InstanceViews.{subject_of, step_of}
-use Rattle.schema_reports.specs.Keywords.{Question, ask, ecma, match_text, truth}
+use Rattle.schema_reports.specs.Instance.{Text}
+use Rattle.schema_reports.specs.Keywords.{MatchPoint, Mode, Question, ask, done, ecma, match_text, truth}
 use Rattle.schema_node.specs.EvaluationPlaces.{steps_to}
 use Rattle.schema_node.specs.EvaluationPaths.{path_of}
 use Rattle.schema_node.specs.Marks.{IsUnmarked}
@@ -19,7 +24,7 @@ use Rattle.schema_node.specs.NodeRuns.{ChildReplies, NodeReplies, EdgeReplies, c
 use Rattle.schema_node.specs.Progress.{NoDeeper, busy_at}
 use Rattle.schema_node.proofs.Pairs.{busy-below, busy-pushed, deeper-below, deeper-pushed, entered_new, entered_old}
 use Rattle.schema_node.proofs.KeywordTurns.{unmarked_after, unmarked_first, asked, is_unmarked, asks_less, matched, matches_present, told_pattern, asks_present, begins, ended_right, falls_turned, faults_lie, keyword_says, right_reply, silent, silent_reads, tells_nothing}
-use Rattle.schema_node.proofs.Replies.{if_ok_always, if_ok_both}
+use Rattle.schema_node.proofs.Replies.{if_ok_always, if_ok_both, if_ok_mono}
 use Rattle.schema_node.proofs.NodeRuns.{agrees_answers, agrees_says, child_below, child_here, edge_busy, edge_entered, falls_below, falls_here, form_reference, leaf_accepts, needs_of_entered, node_by_plan, one_entry, settled_entries, stands_in, start_entries, where_is}
 use Rattle.schema_node.proofs.Matches.{after_assumes, moved, meets_append, meets_same}
 use Rattle.schema_node.proofs.KeywordMeets.{meets_all, meets_asked, meets_begun, meets_matched, meets_nothing}
@@ -28,13 +33,38 @@ use Rattle.schema_node.proofs.NodeParts.{absolute_is, drop_at, drop_past, keywor
 use Rattle.schema_node.specs.declared.node.Entry.{Entry}
 use Rattle.schema_node.proofs.node.run.+run.Goals as goal
 
+-- ---- a call's measure falls
+
+lower_same : (a b t i d : ℕ) → a ≡ b → 8 * b + (i + suc d) ≡ t → 8 * a + i < t
+lower_same a b t i d l e = omega (arith, l, e)
+
+lower_edge : (a b c t d : ℕ) → a ≡ b → b ≤ c → 8 * c + suc d ≡ t → 8 * a < t
+lower_edge a b c t d n l e = omega (arith, n, l, e)
+
+lower_entered : (a b c t : ℕ) → a ≡ b → c ≡ suc b → 8 * c ≡ t → 8 * a + 6 < t
+lower_entered a b c t l n e = omega (arith, l, n, e)
+
+no_deeper : (depth : ℕ) → depth ≤ depth
+no_deeper depth = omega arith
+
+-- ---- a turn that asks for something is not the last
+
+ask_goes_on : (q : Question) (wanted : Mode) → ¬ (ask q wanted ≡ done)
+ask_goes_on q wanted e = cc
+
+match_goes_on : (a : Pair) (point : MatchPoint) → ¬ (match_text a point ≡ done)
+match_goes_on a point e = cc
+
+ecma_goes_on : (text : Text) → ¬ (ecma text ≡ done)
+ecma_goes_on text e = cc
+
 pub run_child-run_edge-requires : goal.run_child-run_edge-requires
 run_child-run_edge-requires g t c =
     let ns = numbered g.K.Validate.shape c.args.nodes.now in
     let e = edge_of c.in-Some.edge.now in
     let k = c.requires.children c.args.child e (sym c.in-Some.ensures.edge) in
     let l = falls_here g.K.Validate.words g.K.Validate.is_whole ns (length c.args.nodes.now) (settling (g.M.Matcher.matching c.args.matcher.now) c.args.context.now.remembered.assumptions) c.requires.ready.ranked c.args.node.0 (subject_of c.args.instance) (busy_at (steps_to c.args.place.now) c.args.context.now.in_progress) e c.requires.known k in
-    λ κs h. (omega (arith, l, c.decreases), (h.0, (h.1.0, (h.1.1.0, (h.1.1.1, ((c.requires.ready.ranked c.args.node.0 c.requires.known e k).0, (c.requires.ready, (c.requires.above, c.requires.wanted))))))))
+    λ κs h. (lower_edge _ _ _ t 0 refl l c.decreases, (h.0, (h.1.0, (h.1.1.0, (h.1.1.1, ((c.requires.ready.ranked c.args.node.0 c.requires.known e k).0, (c.requires.ready, (c.requires.above, c.requires.wanted))))))))
 
 pub run_child-run_edge-requires-in-Some-one_below : goal.run_child-run_edge-requires-in-Some-one_below
 run_child-run_edge-requires-in-Some-one_below g t c =
@@ -48,16 +78,16 @@ run_child-run_edge-requires-in-Some-one_below g t c =
     let deeper = subst (λ q. NoDeeper q es) (sym c.in_ok-lower-in-Some-one_below.ensures.below) (deeper-below p step es c.requires.above) in
     let l = falls_below g.K.Validate.words g.K.Validate.is_whole ns (length c.args.nodes.now) (settling (g.M.Matcher.matching c.args.matcher.now) c.args.context.now.remembered.assumptions) c.requires.ready.ranked c.args.node.0 (subject_of c.args.instance) (subject_of c.in-Some-one_below.inner) step (busy_at p es) e c.requires.known k c.in-Some-one_below.ensures.below.1 in
     let n = ap (edge_needs ns (length c.args.nodes.now) e (subject_of c.in-Some-one_below.inner)) none in
-    λ κs h. (omega (arith, l, n, c.decreases), (h.0, (h.1.0, (h.1.1.0, (h.1.1.1, ((c.requires.ready.ranked c.args.node.0 c.requires.known e k).0, (c.requires.ready, (deeper, c.requires.wanted))))))))
+    λ κs h. (lower_edge _ _ _ t 0 n l c.decreases, (h.0, (h.1.0, (h.1.1.0, (h.1.1.1, ((c.requires.ready.ranked c.args.node.0 c.requires.known e k).0, (c.requires.ready, (deeper, c.requires.wanted))))))))
 
-pub run_child-returns-in_ok-run_edge-in-None-one_below-clause-says : goal.run_child-returns-in_ok-run_edge-in-None-one_below-clause-says
-run_child-returns-in_ok-run_edge-in-None-one_below-clause-says g t c =
+pub run_child-returns-in-None-one_below-clause-says : goal.run_child-returns-in-None-one_below-clause-says
+run_child-returns-in-None-one_below-clause-says g t c =
     let ns = numbered g.K.Validate.shape c.args.nodes.now in
     let e = edge_of c.in-Some.edge.now in
     let k = c.requires.children c.args.child e (sym c.in-Some.ensures.edge) in
     let l = falls_here g.K.Validate.words g.K.Validate.is_whole ns (length c.args.nodes.now) (settling (g.M.Matcher.matching c.args.matcher.now) c.args.context.now.remembered.assumptions) c.requires.ready.ranked c.args.node.0 (subject_of c.args.instance) (busy_at (steps_to c.args.place.now) c.args.context.now.in_progress) e c.requires.known k in
-    child_here g.K.Validate.words g.K.Validate.is_whole ns (length c.args.nodes.now) (settling (g.M.Matcher.matching c.args.matcher.now) c.args.context.now.remembered.assumptions) (mode_of c.args.mode) (path_of c.args.path.now) (steps_to c.args.place.now) (busy_at (steps_to c.args.place.now) c.args.context.now.in_progress) (subject_of c.args.instance) c.args.node.0 _
-    (record { child = c.args.child; below = below_of c.args.below }) c.in_ok-run_edge-in-None-one_below.field-0 e (sym c.in-Some.ensures.edge) c.in-None-one_below.ensures.below l c.in_ok-run_edge-in-None-one_below.ensures.says
+    if_ok_mono c.run_edge.result _ _ (λ r says. child_here g.K.Validate.words g.K.Validate.is_whole ns (length c.args.nodes.now) (settling (g.M.Matcher.matching c.args.matcher.now) c.args.context.now.remembered.assumptions) (mode_of c.args.mode) (path_of c.args.path.now) (steps_to c.args.place.now) (busy_at (steps_to c.args.place.now) c.args.context.now.in_progress) (subject_of c.args.instance) c.args.node.0 _
+    (record { child = c.args.child; below = below_of c.args.below }) r e (sym c.in-Some.ensures.edge) c.in-None-one_below.ensures.below l says) c.run_edge.ensures.says
 
 pub run_child-returns-in_ok-run_edge-in-Some-one_below-clause-says : goal.run_child-returns-in_ok-run_edge-in-Some-one_below-clause-says
 run_child-returns-in_ok-run_edge-in-Some-one_below-clause-says g t c =
@@ -96,7 +126,7 @@ run_edge-run_node-requires-2 g t c =
     let there : steps_to c.given-place.result ≡ p = c.given-place.ensures.same ∙ c.in_ok-here.ensures.same in
     let l = ap (λ q. left ns (length c.args.nodes.now) e.node s (busy_at q c.enter.new.self.in_progress)) there ∙ ap (left ns (length c.args.nodes.now) e.node s) busy in
     let deeper = subst (λ q. NoDeeper q c.enter.new.self.in_progress) (sym there) (subst (NoDeeper p) (sym new.1) (deeper-pushed p e.node c.args.context.now.in_progress c.requires.above)) in
-    λ κs h. (omega (arith, l, needs, c.decreases), (h.0, (h.1.0, (h.1.1.0, (h.1.1.1, (c.requires.known, (c.requires.ready, (deeper, c.requires.wanted))))))))
+    λ κs h. (lower_entered _ _ _ t l needs c.decreases, (h.0, (h.1.0, (h.1.1.0, (h.1.1.1, (c.requires.known, (c.requires.ready, (deeper, c.requires.wanted))))))))
 
 pub run_edge-returns-clause-says : goal.run_edge-returns-clause-says
 run_edge-returns-clause-says g t c =
@@ -116,44 +146,44 @@ run_form-run_edge-requires g t c =
     let e = edge_of c.in-Reference.edge in
     let k = reference_edge ns c.args.node.0 e (rw c.in-Reference.is at c.requires.form) in
     let l = falls_here g.K.Validate.words g.K.Validate.is_whole ns (length c.args.nodes.now) (settling (g.M.Matcher.matching c.args.matcher.now) c.args.context.now.remembered.assumptions) c.requires.ready.ranked c.args.node.0 (subject_of c.args.instance) (busy_at (steps_to c.args.place.now) c.args.context.now.in_progress) e c.requires.known k in
-    λ κs h. (omega (arith, l, c.decreases), (h.0, (h.1.0, (h.1.1.0, (h.1.1.1, ((c.requires.ready.ranked c.args.node.0 c.requires.known e k).0, (c.requires.ready, (c.requires.above, c.requires.wanted))))))))
+    λ κs h. (lower_edge _ _ _ t 2 refl l c.decreases, (h.0, (h.1.0, (h.1.1.0, (h.1.1.1, ((c.requires.ready.ranked c.args.node.0 c.requires.known e k).0, (c.requires.ready, (c.requires.above, c.requires.wanted))))))))
 
-pub run_form-returns-in_ok-run_keyword-in-Keyword-clause-says : goal.run_form-returns-in_ok-run_keyword-in-Keyword-clause-says
-run_form-returns-in_ok-run_keyword-in-Keyword-clause-says g t c = rw (c.in-Keyword.is, ← c.as_slice.ensures.value) c.in_ok-run_keyword-in-Keyword.ensures.says
+pub run_form-returns-in-Keyword-clause-says : goal.run_form-returns-in-Keyword-clause-says
+run_form-returns-in-Keyword-clause-says g t c = rw (c.in-Keyword.is, ← c.as_slice.ensures.value) c.run_keyword.ensures.says
 
-pub run_form-returns-in_ok-stamped_reply-in-Reference-clause-says : goal.run_form-returns-in_ok-stamped_reply-in-Reference-clause-says
-run_form-returns-in_ok-stamped_reply-in-Reference-clause-says g t c =
+pub run_form-returns-in_ok-reply-in-Reference-clause-says : goal.run_form-returns-in_ok-reply-in-Reference-clause-says
+run_form-returns-in_ok-reply-in-Reference-clause-says g t c =
     let ns = numbered g.K.Validate.shape c.args.nodes.now in
     let e = edge_of c.in-Reference.edge in
     let k = reference_edge ns c.args.node.0 e (rw c.in-Reference.is at c.requires.form) in
     let l = falls_here g.K.Validate.words g.K.Validate.is_whole ns (length c.args.nodes.now) (settling (g.M.Matcher.matching c.args.matcher.now) c.args.context.now.remembered.assumptions) c.requires.ready.ranked c.args.node.0 (subject_of c.args.instance) (busy_at (steps_to c.args.place.now) c.args.context.now.in_progress) e c.requires.known k in
     let at_node = absolute_is g.K.Validate.shape c.args.nodes.now c.args.node.0 (node_of c.node.result.now) (string_bytes c.args.entry.now.name) c.node.ensures.found in
-    rw c.in-Reference.is (form_reference g.K.Validate.words g.K.Validate.is_whole ns (length c.args.nodes.now) (settling (g.M.Matcher.matching c.args.matcher.now) c.args.context.now.remembered.assumptions) (mode_of c.args.mode) (path_of c.args.path.now) (steps_to c.args.place.now) (busy_at (steps_to c.args.place.now) c.args.context.now.in_progress) (subject_of c.args.instance) c.args.node.0 (string_bytes c.args.entry.now.name) e
-    c.in_ok-reply-in-Reference.reply c.in_ok-stamped_reply-in-Reference.field-0 _ at_node l c.in_ok-stamped_reply-in-Reference.ensures.stamped c.in_ok-stamped_reply-in-Reference.ensures.borrows c.in_ok-reply-in-Reference.ensures.says)
+    rw c.in-Reference.is (if_ok_both c.stamped_reply.result _ _ _ (λ r stamped borrows. form_reference g.K.Validate.words g.K.Validate.is_whole ns (length c.args.nodes.now) (settling (g.M.Matcher.matching c.args.matcher.now) c.args.context.now.remembered.assumptions) (mode_of c.args.mode) (path_of c.args.path.now) (steps_to c.args.place.now) (busy_at (steps_to c.args.place.now) c.args.context.now.in_progress) (subject_of c.args.instance) c.args.node.0 (string_bytes c.args.entry.now.name) e
+    c.in_ok-reply-in-Reference.reply r _ at_node l stamped borrows c.in_ok-reply-in-Reference.ensures.says) c.stamped_reply.ensures.stamped c.stamped_reply.ensures.borrows)
 
 pub run_node-run_entries-requires : goal.run_node-run_entries-requires
 run_node-run_entries-requires g t c =
     let plan = plan_is g.K.Validate.shape c.args.nodes.now c.args.node.0 (node_of c.node-found.result.now) _ c.node-found.ensures.found (ap (option_map plan_of) c.in-Some.is ∙ ap (λ f. Some (plan_of f)) c.in-Keywords.is) in
-    λ κs h. (omega (arith, c.decreases), (h.0, (h.1.0, (h.1.1.0, (h.1.1.1, (c.requires.known, (rw c.as_slice.ensures.value (_, plan, λ y k. k), (c.requires.ready, (c.requires.above, c.requires.wanted)))))))))
+    λ κs h. (lower_same _ _ t 5 0 refl c.decreases, (h.0, (h.1.0, (h.1.1.0, (h.1.1.1, (c.requires.known, (rw c.as_slice.ensures.value (_, plan, λ y k. k), (c.requires.ready, (c.requires.above, c.requires.wanted)))))))))
 
-pub run_node-returns-in_ok-refused-in-Never-clause-says : goal.run_node-returns-in_ok-refused-in-Never-clause-says
-run_node-returns-in_ok-refused-in-Never-clause-says g t c =
+pub run_node-returns-in-Never-clause-says : goal.run_node-returns-in-Never-clause-says
+run_node-returns-in-Never-clause-says g t c =
     let ns = numbered g.K.Validate.shape c.args.nodes.now in
     let n = node_of c.node-found.result.now in
     let p = steps_to c.args.place.now in
     let s = subject_of c.args.instance in
     let plan = plan_is g.K.Validate.shape c.args.nodes.now c.args.node.0 n _ c.node-found.ensures.found (ap (option_map plan_of) c.in-Some.is ∙ ap (λ f. Some (plan_of f)) c.in-Never.is) in
-    node_by_plan g.K.Validate.words g.K.Validate.is_whole ns (length c.args.nodes.now) (settling (g.M.Matcher.matching c.args.matcher.now) c.args.context.now.remembered.assumptions) (mode_of c.args.mode) (path_of c.args.path.now) p (busy_at p c.args.context.now.in_progress) s c.args.node.0 c.in_ok-refused-in-Never.field-0 node_never plan
-    (λ x reads l. replies_refused g.K.Validate.shape c.args.nodes.now g.K.Validate.words x (mode_of c.args.mode) (path_of c.args.path.now) p s c.args.node.0 n c.in_ok-refused-in-Never.field-0 c.node-found.ensures.found (g.met.K.Validate.speaks x.texts) reads.stands
-    (c.in_ok-refused-in-Never.ensures.refuses x.texts (plain_there g.K.Validate.is_whole ns (length c.args.nodes.now) (settling (g.M.Matcher.matching c.args.matcher.now) c.args.context.now.remembered.assumptions) p s x reads)) (c.in_ok-refused-in-Never.ensures.borrows x.root reads.stands))
+    if_ok_both c.refused.result _ _ _ (λ r refuses borrows. node_by_plan g.K.Validate.words g.K.Validate.is_whole ns (length c.args.nodes.now) (settling (g.M.Matcher.matching c.args.matcher.now) c.args.context.now.remembered.assumptions) (mode_of c.args.mode) (path_of c.args.path.now) p (busy_at p c.args.context.now.in_progress) s c.args.node.0 r node_never plan
+    (λ x reads l. replies_refused g.K.Validate.shape c.args.nodes.now g.K.Validate.words x (mode_of c.args.mode) (path_of c.args.path.now) p s c.args.node.0 n r c.node-found.ensures.found (g.met.K.Validate.speaks x.texts) reads.stands
+    (refuses x.texts (plain_there g.K.Validate.is_whole ns (length c.args.nodes.now) (settling (g.M.Matcher.matching c.args.matcher.now) c.args.context.now.remembered.assumptions) p s x reads)) (borrows x.root reads.stands))) c.refused.ensures.refuses c.refused.ensures.borrows
 
-pub run_node-returns-in_ok-run_entries-in-Keywords-clause-says : goal.run_node-returns-in_ok-run_entries-in-Keywords-clause-says
-run_node-returns-in_ok-run_entries-in-Keywords-clause-says g t c =
+pub run_node-returns-in-Keywords-clause-says : goal.run_node-returns-in-Keywords-clause-says
+run_node-returns-in-Keywords-clause-says g t c =
     let ns = numbered g.K.Validate.shape c.args.nodes.now in
     let p = steps_to c.args.place.now in
     let plan = plan_is g.K.Validate.shape c.args.nodes.now c.args.node.0 (node_of c.node-found.result.now) _ c.node-found.ensures.found (ap (option_map plan_of) c.in-Some.is ∙ ap (λ f. Some (plan_of f)) c.in-Keywords.is) in
-    node_by_plan g.K.Validate.words g.K.Validate.is_whole ns (length c.args.nodes.now) (settling (g.M.Matcher.matching c.args.matcher.now) c.args.context.now.remembered.assumptions) (mode_of c.args.mode) (path_of c.args.path.now) p (busy_at p c.args.context.now.in_progress) (subject_of c.args.instance) c.args.node.0 c.in_ok-run_entries-in-Keywords.field-0 _ plan
-    (rw c.as_slice.ensures.value at c.in_ok-run_entries-in-Keywords.ensures.says)
+    if_ok_mono c.run_entries.result _ _ (λ r says. node_by_plan g.K.Validate.words g.K.Validate.is_whole ns (length c.args.nodes.now) (settling (g.M.Matcher.matching c.args.matcher.now) c.args.context.now.remembered.assumptions) (mode_of c.args.mode) (path_of c.args.path.now) p (busy_at p c.args.context.now.in_progress) (subject_of c.args.instance) c.args.node.0 r _ plan says)
+    (rw c.as_slice.ensures.value at c.run_entries.ensures.says)
 
 pub run_entries-loop-entry-init : goal.run_entries-loop-entry-init
 run_entries-loop-entry-init g t c = record {
@@ -171,7 +201,7 @@ run_entries-run_entry-requires g t c =
     let kept = c.loop-entry.invariant.kept in
     let l = ap (λ es. left ns (length c.args.nodes.now) c.args.node.0 (subject_of c.args.instance) (busy_at p es)) kept in
     let here = part_at entry_of (shaped_part g.K.Validate.shape) c.args.entries.now c.loop-entry.entry-index c.entry-item.result c.loop-entry-test.true c.entry-item.is in
-    λ κs h. (omega (arith, l, c.decreases), (h.0, (h.1.0, (h.1.1.0, (h.1.1.1, (c.requires.known, ((c.requires.parts.0, c.requires.parts.1, shaped_part g.K.Validate.shape (entry_of c.entry-item.result), c.requires.parts.2 _ here, refl), (c.requires.ready, (subst (NoDeeper p) (sym kept) c.requires.above, c.requires.wanted)))))))))
+    λ κs h. (lower_same _ _ t 4 0 l c.decreases, (h.0, (h.1.0, (h.1.1.0, (h.1.1.1, (c.requires.known, ((c.requires.parts.0, c.requires.parts.1, shaped_part g.K.Validate.shape (entry_of c.entry-item.result), c.requires.parts.2 _ here, refl), (c.requires.ready, (subst (NoDeeper p) (sym kept) c.requires.above, c.requires.wanted)))))))))
 
 pub run_entries-loop-entry-preserved : goal.run_entries-loop-entry-preserved
 run_entries-loop-entry-preserved g t c = record {
@@ -221,7 +251,7 @@ run_entry-returns-then-is_yes-clause-says g t c = λ x reads l.
     (busy_at (steps_to c.args.place.now) c.args.context.now.in_progress) (string_bytes c.args.entry.now.name) _ c.in_ok-verdict.verdict c.accepted.result (sym (c.is_yes.ensures.yes x.texts) ∙ c.if-is_yes.true) (c.in_ok-verdict.ensures.says x reads l) c.accepted.ensures.accepts c.accepted.ensures.no_errors
 
 pub run_entry-returns-then-asks_verdict_first-clause-says : goal.run_entry-returns-then-asks_verdict_first-clause-says
-run_entry-returns-then-asks_verdict_first-clause-says g t c = rw (c.in_ok-verdict.ensures.kept, c.in_ok-verdict.ensures.assumes) at c.in_ok-run_form.ensures.says
+run_entry-returns-then-asks_verdict_first-clause-says g t c = rw (c.in_ok-verdict.ensures.kept, c.in_ok-verdict.ensures.assumes) at c.run_form-then-asks_verdict_first.ensures.says
 
 pub run_keyword-turns-init : goal.run_keyword-turns-init
 run_keyword-turns-init g t c =
@@ -238,7 +268,7 @@ run_keyword-turns-init g t c =
       assumes = refl;
       unmarked = unmarked_first (g.K.Validate.words false) (g.K.Validate.shape c.args.keyword.now) (g.K.Validate.absorbed (g.K.Validate.shape c.args.keyword.now)) (g.K.Validate.remaining (g.K.Validate.shape c.args.keyword.now)) (g.K.Validate.ends false (g.K.Validate.shape c.args.keyword.now)) (g.K.Validate.fits false (g.K.Validate.shape c.args.keyword.now)) (g.met.K.Validate.turn_laws false (g.K.Validate.shape c.args.keyword.now)) s (mode_of c.args.mode) (c.in_ok-run.run', answer_of false c.begun-answer.result) (c.requires.ready.unmarked false m s (mode_of c.args.mode) c.requires.wanted)
           (c.in_ok-run.ensures.begins false ∙ ap (λ a. (c.in_ok-run.run', a)) (sym (c.begun-answer.ensures.fresh false)));
-      borrows = λ root at_place. (λ i d l. absurd (omega arith), rw c.begun-answer.ensures.no_faults (λ i d l. absurd (omega arith)));
+      borrows = λ root at_place. (All-nil (BorrowsItsPlace root), subst (All (PassesBorrowed root)) (sym c.begun-answer.ensures.no_faults) (All-nil (PassesBorrowed root)));
       leads = λ x reads l. begins (g.K.Validate.words x.texts) (g.K.Validate.shape c.args.keyword.now) (g.K.Validate.absorbed (g.K.Validate.shape c.args.keyword.now)) (g.K.Validate.remaining (g.K.Validate.shape c.args.keyword.now)) (g.K.Validate.ends x.texts (g.K.Validate.shape c.args.keyword.now)) (g.K.Validate.fits x.texts (g.K.Validate.shape c.args.keyword.now)) (g.met.K.Validate.turn_laws x.texts (g.K.Validate.shape c.args.keyword.now)) s x (mode_of c.args.mode) (child_says g.K.Validate.words ns x (path_of c.args.path.now) p busy es) (c.in_ok-run.run', answer_of x.texts c.begun-answer.result)
           (agrees_answers g.K.Validate.words ns (λ texts m s completion matcher a h. (g.met.K.Validate.function_laws texts m).agree s (matching matcher completion) a h) x (path_of c.args.path.now) p busy es)
           (c.in_ok-run.ensures.begins x.texts ∙ ap (λ a. (c.in_ok-run.run', a)) (sym (c.begun-answer.ensures.fresh x.texts)));
@@ -261,7 +291,7 @@ run_keyword-run_child-requires g t c =
     let q : Question = record { child = c.in-Ask.child; below = below_of c.in-Ask.below } in
     let there = asks_present (g.K.Validate.words false) (g.K.Validate.shape c.args.keyword.now) (g.K.Validate.absorbed (g.K.Validate.shape c.args.keyword.now)) (g.K.Validate.remaining (g.K.Validate.shape c.args.keyword.now)) (g.K.Validate.ends false (g.K.Validate.shape c.args.keyword.now)) (g.K.Validate.fits false (g.K.Validate.shape c.args.keyword.now)) (g.met.K.Validate.turn_laws false (g.K.Validate.shape c.args.keyword.now)) s (c.turns.run, answer_of false c.turns.answer) told q (mode_of c.in-Ask.wanted) ((g.met.K.Validate.function_laws false m).present s) step in
     let less = asks_less (g.K.Validate.words false) (g.K.Validate.shape c.args.keyword.now) (g.K.Validate.absorbed (g.K.Validate.shape c.args.keyword.now)) (g.K.Validate.remaining (g.K.Validate.shape c.args.keyword.now)) (g.K.Validate.ends false (g.K.Validate.shape c.args.keyword.now)) (g.K.Validate.fits false (g.K.Validate.shape c.args.keyword.now)) (g.met.K.Validate.turn_laws false (g.K.Validate.shape c.args.keyword.now)) s (c.turns.run, answer_of false c.turns.answer) told q (mode_of c.in-Ask.wanted) c.turns.invariant.unmarked step in
-    λ κs h. (omega (arith, l, c.decreases), (h.0, (h.1.0, (h.1.1.0, (h.1.1.1, (c.requires.known, (keyword_children ns c.args.node.0 m es c.requires.form, (there, (c.requires.ready, (subst (NoDeeper p) (sym kept) c.requires.above, less))))))))))
+    λ κs h. (lower_same _ _ t 1 0 l c.decreases, (h.0, (h.1.0, (h.1.1.0, (h.1.1.1, (c.requires.known, (keyword_children ns c.args.node.0 m es c.requires.form, (there, (c.requires.ready, (subst (NoDeeper p) (sym kept) c.requires.above, less))))))))))
 
 pub run_keyword-returns-in-Done-clause-says : goal.run_keyword-returns-in-Done-clause-says
 run_keyword-returns-in-Done-clause-says g t c =
@@ -348,7 +378,7 @@ run_entry-returns-then-is_yes-clause-meets g t c = λ texts root depth reads l.
     meets_same w.matcher _ _ _ _ (leaf_yes (mode_of c.args.mode) looked (c.asks_verdict_first.ensures.leaf c.if-asks_verdict_first.true) (c.asks_verdict_first.ensures.wants_more c.if-asks_verdict_first.true) c.requires.wanted holds) (c.in_ok-verdict.ensures.meets texts root depth reads l)
 
 pub run_entry-returns-then-asks_verdict_first-clause-meets : goal.run_entry-returns-then-asks_verdict_first-clause-meets
-run_entry-returns-then-asks_verdict_first-clause-meets g t c = λ texts root depth reads l.
+run_entry-returns-then-asks_verdict_first-clause-meets g t c = if_ok_mono c.run_form-then-asks_verdict_first.result _ _ (λ r met texts root depth reads l.
     let ns = numbered g.K.Validate.shape c.args.nodes.now in
     let w = settling (g.M.Matcher.matching c.args.matcher.now) c.args.context.now.remembered.assumptions in
     let p = steps_to c.args.place.now in
@@ -357,11 +387,11 @@ run_entry-returns-then-asks_verdict_first-clause-meets g t c = λ texts root dep
     let part = shaped_part g.K.Validate.shape (entry_of c.args.entry.now) in
     let looked = part_looked g.K.Validate.words ns w texts root depth c.args.node.0 (path_of c.args.path.now) p busy part in
     let holds = leaf_holds g.K.Validate.words ns w texts root depth c.args.node.0 (path_of c.args.path.now) p busy part c.in_ok-verdict.verdict _ (c.in_ok-verdict.ensures.says (reading w texts root depth) reads l) (sym (c.is_yes.ensures.yes texts) ∙ c.if-is_yes.false) in
-    let more = moved (λ es as'. FormMeets g.K.Validate.words g.K.Validate.is_whole ns (length c.args.nodes.now) (settling (g.M.Matcher.matching c.args.matcher.now) as') (mode_of c.args.mode) (path_of c.args.path.now) p (busy_at p es) s c.run_form.new.context.remembered c.run_form-then-asks_verdict_first.new.context.remembered c.args.node.0 part.name part.form) c.in_ok-verdict.ensures.kept c.in_ok-verdict.ensures.assumes c.in_ok-run_form.ensures.meets texts root depth reads l in
-    meets_same w.matcher _ _ _ _ (leaf_no (mode_of c.args.mode) looked (c.asks_verdict_first.ensures.leaf c.if-asks_verdict_first.true) (c.asks_verdict_first.ensures.wants_more c.if-asks_verdict_first.true) c.requires.wanted holds) (meets_append w.matcher _ _ _ _ _ (c.in_ok-verdict.ensures.meets texts root depth reads l) more)
+    let more = moved (λ es as'. FormMeets g.K.Validate.words g.K.Validate.is_whole ns (length c.args.nodes.now) (settling (g.M.Matcher.matching c.args.matcher.now) as') (mode_of c.args.mode) (path_of c.args.path.now) p (busy_at p es) s c.run_form.new.context.remembered c.run_form-then-asks_verdict_first.new.context.remembered c.args.node.0 part.name part.form) c.in_ok-verdict.ensures.kept c.in_ok-verdict.ensures.assumes met texts root depth reads l in
+    meets_same w.matcher _ _ _ _ (leaf_no (mode_of c.args.mode) looked (c.asks_verdict_first.ensures.leaf c.if-asks_verdict_first.true) (c.asks_verdict_first.ensures.wants_more c.if-asks_verdict_first.true) c.requires.wanted holds) (meets_append w.matcher _ _ _ _ _ (c.in_ok-verdict.ensures.meets texts root depth reads l) more)) c.run_form-then-asks_verdict_first.ensures.meets
 
-pub run_child-returns-in_ok-run_edge-in-None-one_below-clause-meets : goal.run_child-returns-in_ok-run_edge-in-None-one_below-clause-meets
-run_child-returns-in_ok-run_edge-in-None-one_below-clause-meets g t c =
+pub run_child-returns-in-None-one_below-clause-meets : goal.run_child-returns-in-None-one_below-clause-meets
+run_child-returns-in-None-one_below-clause-meets g t c =
     let ns = numbered g.K.Validate.shape c.args.nodes.now in
     let w = settling (g.M.Matcher.matching c.args.matcher.now) c.args.context.now.remembered.assumptions in
     let p = steps_to c.args.place.now in
@@ -370,7 +400,7 @@ run_child-returns-in_ok-run_edge-in-None-one_below-clause-meets g t c =
     let e = edge_of c.in-Some.edge.now in
     let k = c.requires.children c.args.child e (sym c.in-Some.ensures.edge) in
     let l = falls_here g.K.Validate.words g.K.Validate.is_whole ns (length c.args.nodes.now) w c.requires.ready.ranked c.args.node.0 s busy e c.requires.known k in
-    meets_here g.K.Validate.words g.K.Validate.is_whole ns (length c.args.nodes.now) w (mode_of c.args.mode) (path_of c.args.path.now) p busy s c.args.node.0 _ (record { child = c.args.child; below = below_of c.args.below }) _ _ e (sym c.in-Some.ensures.edge) c.in-None-one_below.ensures.below l c.in_ok-run_edge-in-None-one_below.ensures.meets
+    if_ok_mono c.run_edge.result _ _ (λ r met. meets_here g.K.Validate.words g.K.Validate.is_whole ns (length c.args.nodes.now) w (mode_of c.args.mode) (path_of c.args.path.now) p busy s c.args.node.0 _ (record { child = c.args.child; below = below_of c.args.below }) _ _ e (sym c.in-Some.ensures.edge) c.in-None-one_below.ensures.below l met) c.run_edge.ensures.meets
 
 pub run_child-returns-in_ok-run_edge-in-Some-one_below-clause-meets : goal.run_child-returns-in_ok-run_edge-in-Some-one_below-clause-meets
 run_child-returns-in_ok-run_edge-in-Some-one_below-clause-meets g t c =
@@ -390,11 +420,11 @@ run_child-returns-in_ok-run_edge-in-Some-one_below-clause-meets g t c =
     meets_below g.K.Validate.words g.K.Validate.is_whole ns (length c.args.nodes.now) w (mode_of c.args.mode) (path_of c.args.path.now) p busy s c.args.node.0 _ (record { child = c.args.child; below = below_of c.args.below }) _ _ e step (steps_to c.in_ok-lower-in-Some-one_below.lower) inner (sym c.in-Some.ensures.edge) c.in-Some-one_below.ensures.below.0
     c.in_ok-lower-in-Some-one_below.ensures.below c.in-Some-one_below.ensures.below.1 l met
 
-pub run_form-returns-in_ok-run_keyword-in-Keyword-clause-meets : goal.run_form-returns-in_ok-run_keyword-in-Keyword-clause-meets
-run_form-returns-in_ok-run_keyword-in-Keyword-clause-meets g t c = rw (c.in-Keyword.is, ← c.as_slice.ensures.value) c.in_ok-run_keyword-in-Keyword.ensures.meets
+pub run_form-returns-in-Keyword-clause-meets : goal.run_form-returns-in-Keyword-clause-meets
+run_form-returns-in-Keyword-clause-meets g t c = rw (c.in-Keyword.is, ← c.as_slice.ensures.value) c.run_keyword.ensures.meets
 
-pub run_form-returns-in_ok-stamped_reply-in-Reference-clause-meets : goal.run_form-returns-in_ok-stamped_reply-in-Reference-clause-meets
-run_form-returns-in_ok-stamped_reply-in-Reference-clause-meets g t c =
+pub run_form-returns-in_ok-reply-in-Reference-clause-meets : goal.run_form-returns-in_ok-reply-in-Reference-clause-meets
+run_form-returns-in_ok-reply-in-Reference-clause-meets g t c =
     let ns = numbered g.K.Validate.shape c.args.nodes.now in
     let w = settling (g.M.Matcher.matching c.args.matcher.now) c.args.context.now.remembered.assumptions in
     let p = steps_to c.args.place.now in
@@ -403,27 +433,27 @@ run_form-returns-in_ok-stamped_reply-in-Reference-clause-meets g t c =
     let e = edge_of c.in-Reference.edge in
     let k = reference_edge ns c.args.node.0 e (rw c.in-Reference.is at c.requires.form) in
     let l = falls_here g.K.Validate.words g.K.Validate.is_whole ns (length c.args.nodes.now) w c.requires.ready.ranked c.args.node.0 s busy e c.requires.known k in
-    rw c.in-Reference.is (meets_reference g.K.Validate.words g.K.Validate.is_whole ns (length c.args.nodes.now) w (mode_of c.args.mode) (path_of c.args.path.now) p busy s c.args.node.0 (string_bytes c.args.entry.now.name) e _ _ l c.in_ok-reply-in-Reference.ensures.meets)
+    rw c.in-Reference.is (if_ok_always c.stamped_reply.result _ (meets_reference g.K.Validate.words g.K.Validate.is_whole ns (length c.args.nodes.now) w (mode_of c.args.mode) (path_of c.args.path.now) p busy s c.args.node.0 (string_bytes c.args.entry.now.name) e _ _ l c.in_ok-reply-in-Reference.ensures.meets))
 
-pub run_node-returns-in_ok-refused-in-Never-clause-meets : goal.run_node-returns-in_ok-refused-in-Never-clause-meets
-run_node-returns-in_ok-refused-in-Never-clause-meets g t c =
+pub run_node-returns-in-Never-clause-meets : goal.run_node-returns-in-Never-clause-meets
+run_node-returns-in-Never-clause-meets g t c =
     let ns = numbered g.K.Validate.shape c.args.nodes.now in
     let w = settling (g.M.Matcher.matching c.args.matcher.now) c.args.context.now.remembered.assumptions in
     let p = steps_to c.args.place.now in
     let s = subject_of c.args.instance in
     let busy = busy_at p c.args.context.now.in_progress in
     let plan = plan_is g.K.Validate.shape c.args.nodes.now c.args.node.0 (node_of c.node-found.result.now) _ c.node-found.ensures.found (ap (option_map plan_of) c.in-Some.is ∙ ap (λ f. Some (plan_of f)) c.in-Never.is) in
-    meets_never g.K.Validate.words g.K.Validate.is_whole ns (length c.args.nodes.now) w (mode_of c.args.mode) (path_of c.args.path.now) p busy s c.args.node.0 _ _ plan refl
+    if_ok_always c.refused.result _ (meets_never g.K.Validate.words g.K.Validate.is_whole ns (length c.args.nodes.now) w (mode_of c.args.mode) (path_of c.args.path.now) p busy s c.args.node.0 _ _ plan refl)
 
-pub run_node-returns-in_ok-run_entries-in-Keywords-clause-meets : goal.run_node-returns-in_ok-run_entries-in-Keywords-clause-meets
-run_node-returns-in_ok-run_entries-in-Keywords-clause-meets g t c =
+pub run_node-returns-in-Keywords-clause-meets : goal.run_node-returns-in-Keywords-clause-meets
+run_node-returns-in-Keywords-clause-meets g t c =
     let ns = numbered g.K.Validate.shape c.args.nodes.now in
     let w = settling (g.M.Matcher.matching c.args.matcher.now) c.args.context.now.remembered.assumptions in
     let p = steps_to c.args.place.now in
     let s = subject_of c.args.instance in
     let busy = busy_at p c.args.context.now.in_progress in
     let plan = plan_is g.K.Validate.shape c.args.nodes.now c.args.node.0 (node_of c.node-found.result.now) _ c.node-found.ensures.found (ap (option_map plan_of) c.in-Some.is ∙ ap (λ f. Some (plan_of f)) c.in-Keywords.is) in
-    meets_these g.K.Validate.words g.K.Validate.is_whole ns (length c.args.nodes.now) w (mode_of c.args.mode) (path_of c.args.path.now) p busy s c.args.node.0 _ _ _ plan (rw c.as_slice.ensures.value at c.in_ok-run_entries-in-Keywords.ensures.meets)
+    if_ok_mono c.run_entries.result _ _ (λ r met. meets_these g.K.Validate.words g.K.Validate.is_whole ns (length c.args.nodes.now) w (mode_of c.args.mode) (path_of c.args.path.now) p busy s c.args.node.0 _ _ _ plan met) (rw c.as_slice.ensures.value at c.run_entries.ensures.meets)
 
 pub run_keyword-turns-smaller-in-Ask : goal.run_keyword-turns-smaller-in-Ask
 run_keyword-turns-smaller-in-Ask g t c =
@@ -437,7 +467,7 @@ run_keyword-turns-smaller-in-Ask g t c =
     let turn = c.in_ok-child.ensures.turns false (tells_nothing (g.K.Validate.is_whole m) s) in
     let step = rw c.in-Ask.is at (c.in_ok-child.ensures.steps false (tells_nothing (g.K.Validate.is_whole m) s)) in
     let q : Question = record { child = c.in-Ask.child; below = below_of c.in-Ask.below } in
-    falls_turned (g.K.Validate.words false) (g.K.Validate.shape c.args.keyword.now) (g.K.Validate.absorbed (g.K.Validate.shape c.args.keyword.now)) (g.K.Validate.remaining (g.K.Validate.shape c.args.keyword.now)) (g.K.Validate.ends false (g.K.Validate.shape c.args.keyword.now)) (g.K.Validate.fits false (g.K.Validate.shape c.args.keyword.now)) (g.met.K.Validate.turn_laws false (g.K.Validate.shape c.args.keyword.now)) s (c.turns.run, answer_of false c.turns.answer) (c.turn.new.run, answer_of false c.turn.new.answer) told (ask q (mode_of c.in-Ask.wanted)) turn step (λ f. cc f)
+    falls_turned (g.K.Validate.words false) (g.K.Validate.shape c.args.keyword.now) (g.K.Validate.absorbed (g.K.Validate.shape c.args.keyword.now)) (g.K.Validate.remaining (g.K.Validate.shape c.args.keyword.now)) (g.K.Validate.ends false (g.K.Validate.shape c.args.keyword.now)) (g.K.Validate.fits false (g.K.Validate.shape c.args.keyword.now)) (g.met.K.Validate.turn_laws false (g.K.Validate.shape c.args.keyword.now)) s (c.turns.run, answer_of false c.turns.answer) (c.turn.new.run, answer_of false c.turn.new.answer) told (ask q (mode_of c.in-Ask.wanted)) turn step (ask_goes_on q (mode_of c.in-Ask.wanted))
 
 pub run_keyword-turns-preserved-in-Ask : goal.run_keyword-turns-preserved-in-Ask
 run_keyword-turns-preserved-in-Ask g t c =
@@ -458,11 +488,11 @@ run_keyword-turns-preserved-in-Ask g t c =
     record {
       kept = c.in_ok-reply-in-Ask.ensures.kept ∙ c.turns.invariant.kept;
       assumes = c.in_ok-reply-in-Ask.ensures.assumes ∙ c.turns.invariant.assumes;
-      unmarked = unmarked_after (g.K.Validate.words false) (g.K.Validate.shape c.args.keyword.now) (g.K.Validate.absorbed (g.K.Validate.shape c.args.keyword.now)) (g.K.Validate.remaining (g.K.Validate.shape c.args.keyword.now)) (g.K.Validate.ends false (g.K.Validate.shape c.args.keyword.now)) (g.K.Validate.fits false (g.K.Validate.shape c.args.keyword.now)) (g.met.K.Validate.turn_laws false (g.K.Validate.shape c.args.keyword.now)) s (c.turns.run, answer_of false c.turns.answer) (c.turn.new.run, answer_of false c.turn.new.answer) told (reply_of false c.in_ok-reply-in-Ask.reply) (ask q (mode_of c.in-Ask.wanted)) c.turns.invariant.unmarked turn step (λ f. cc f);
+      unmarked = unmarked_after (g.K.Validate.words false) (g.K.Validate.shape c.args.keyword.now) (g.K.Validate.absorbed (g.K.Validate.shape c.args.keyword.now)) (g.K.Validate.remaining (g.K.Validate.shape c.args.keyword.now)) (g.K.Validate.ends false (g.K.Validate.shape c.args.keyword.now)) (g.K.Validate.fits false (g.K.Validate.shape c.args.keyword.now)) (g.met.K.Validate.turn_laws false (g.K.Validate.shape c.args.keyword.now)) s (c.turns.run, answer_of false c.turns.answer) (c.turn.new.run, answer_of false c.turn.new.answer) told (reply_of false c.in_ok-reply-in-Ask.reply) (ask q (mode_of c.in-Ask.wanted)) c.turns.invariant.unmarked turn step (ask_goes_on q (mode_of c.in-Ask.wanted));
       borrows = λ root at_place.
           let i = c.turns.invariant.borrows root at_place in
           let d = left ns (length c.args.nodes.now) c.args.node.0 s busy in
-          ((says (silent (settling (g.M.Matcher.matching c.args.matcher.now) c.args.context.now.remembered.assumptions) root d) (silent_reads g.K.Validate.is_whole ns (length c.args.nodes.now) (settling (g.M.Matcher.matching c.args.matcher.now) c.args.context.now.remembered.assumptions) p s root d at_place) (omega arith)).borrows, c.in_ok-child.ensures.borrows root i.0 i.1);
+          ((says (silent (settling (g.M.Matcher.matching c.args.matcher.now) c.args.context.now.remembered.assumptions) root d) (silent_reads g.K.Validate.is_whole ns (length c.args.nodes.now) (settling (g.M.Matcher.matching c.args.matcher.now) c.args.context.now.remembered.assumptions) p s root d at_place) (no_deeper d)).borrows, c.in_ok-child.ensures.borrows root i.0 i.1);
       leads = λ x reads l.
           let tells = tells_keyword g.K.Validate.is_whole ns (length c.args.nodes.now) (settling (g.M.Matcher.matching c.args.matcher.now) c.args.context.now.remembered.assumptions) p s x c.args.node.0 m es c.requires.known reads c.requires.form in
           asked (g.K.Validate.words x.texts) (g.K.Validate.shape c.args.keyword.now) (g.K.Validate.absorbed (g.K.Validate.shape c.args.keyword.now)) (g.K.Validate.remaining (g.K.Validate.shape c.args.keyword.now)) (g.K.Validate.ends x.texts (g.K.Validate.shape c.args.keyword.now)) (g.K.Validate.fits x.texts (g.K.Validate.shape c.args.keyword.now)) (g.met.K.Validate.turn_laws x.texts (g.K.Validate.shape c.args.keyword.now)) s x (mode_of c.args.mode) (child_says g.K.Validate.words ns x (path_of c.args.path.now) p busy es) (c.turns.run, answer_of x.texts c.turns.answer) (c.turn.new.run, answer_of x.texts c.turn.new.answer)
@@ -471,7 +501,7 @@ run_keyword-turns-preserved-in-Ask g t c =
           let tells = tells_keyword g.K.Validate.is_whole ns (length c.args.nodes.now) w p s (reading w texts root depth) c.args.node.0 m es c.requires.known reads c.requires.form in
           let step' = rw c.in-Ask.is at (c.in_ok-child.ensures.steps texts tells) in
           let turn' = c.in_ok-child.ensures.turns texts tells in
-          let falls = falls_turned (g.K.Validate.words texts) m (g.K.Validate.absorbed m) (g.K.Validate.remaining m) (g.K.Validate.ends texts m) (g.K.Validate.fits texts m) (g.met.K.Validate.turn_laws texts m) s (c.turns.run, answer_of texts c.turns.answer) (c.turn.new.run, answer_of texts c.turn.new.answer) (reply_of texts c.turns.reply) (ask q (mode_of c.in-Ask.wanted)) turn' step' (λ f. cc f) in
+          let falls = falls_turned (g.K.Validate.words texts) m (g.K.Validate.absorbed m) (g.K.Validate.remaining m) (g.K.Validate.ends texts m) (g.K.Validate.fits texts m) (g.met.K.Validate.turn_laws texts m) s (c.turns.run, answer_of texts c.turns.answer) (c.turn.new.run, answer_of texts c.turn.new.answer) (reply_of texts c.turns.reply) (ask q (mode_of c.in-Ask.wanted)) turn' step' (ask_goes_on q (mode_of c.in-Ask.wanted)) in
           let replied = (says (reading w texts root depth) reads l).same ∙ child_replies g.K.Validate.words ns w texts root depth (mode_of c.in-Ask.wanted) less (path_of c.args.path.now) p busy es q in
           let met = moved (λ es' as'. ChildMeets g.K.Validate.words g.K.Validate.is_whole ns (length c.args.nodes.now) (settling (g.M.Matcher.matching c.args.matcher.now) as') (mode_of c.in-Ask.wanted) (path_of c.args.path.now) p (busy_at p es') s c.turns.context.remembered c.run_child.new.context.remembered c.args.node.0 es q) c.turns.invariant.kept c.turns.invariant.assumes c.in_ok-reply-in-Ask.ensures.meets texts root depth reads l in
           meets_asked (g.K.Validate.words texts) w.matcher w.assumptions (node_at (g.K.Validate.words texts) w.matcher ns (subject_in root) c.args.node.0 (path_of c.args.path.now) p) s (child_run g.K.Validate.words ns w texts root depth (path_of c.args.path.now) p busy es) (same_edge es) name m (g.K.Validate.remaining m s) _ _ _ _ _ _ _ _ q (mode_of c.in-Ask.wanted) turn' step' falls replied met (c.turns.invariant.met texts root depth reads l);
@@ -492,7 +522,7 @@ run_keyword-turns-smaller-in-Match g t c =
     let a : Pair = record { pattern = c.in-Match.pattern.now; subject = c.in-Match.subject.now } in
     let point = point_of c.in-Match.point in
     let step = rw c.in-Match.is at (c.in_ok-child.ensures.steps false (tells_nothing (g.K.Validate.is_whole m) s)) in
-    falls_turned (g.K.Validate.words false) m (g.K.Validate.absorbed m) (g.K.Validate.remaining m) (g.K.Validate.ends false m) (g.K.Validate.fits false m) (g.met.K.Validate.turn_laws false m) s (c.turns.run, answer_of false c.turns.answer) (c.turn.new.run, answer_of false c.turn.new.answer) told (match_text a point) turn step (λ f. cc f)
+    falls_turned (g.K.Validate.words false) m (g.K.Validate.absorbed m) (g.K.Validate.remaining m) (g.K.Validate.ends false m) (g.K.Validate.fits false m) (g.met.K.Validate.turn_laws false m) s (c.turns.run, answer_of false c.turns.answer) (c.turn.new.run, answer_of false c.turn.new.answer) told (match_text a point) turn step (match_goes_on a point)
 
 pub run_keyword-turns-smaller : goal.run_keyword-turns-smaller
 run_keyword-turns-smaller g t c =
@@ -507,7 +537,7 @@ run_keyword-turns-smaller g t c =
     let told = reply_of false c.turns.reply in
     let turn = c.in_ok-child.ensures.turns false (tells_nothing (g.K.Validate.is_whole m) s) in
     let step = rw c.in-Ecma.is at (c.in_ok-child.ensures.steps false (tells_nothing (g.K.Validate.is_whole m) s)) in
-    falls_turned (g.K.Validate.words false) m (g.K.Validate.absorbed m) (g.K.Validate.remaining m) (g.K.Validate.ends false m) (g.K.Validate.fits false m) (g.met.K.Validate.turn_laws false m) s (c.turns.run, answer_of false c.turns.answer) (c.turn.new.run, answer_of false c.turn.new.answer) told (ecma c.in-Ecma.text.now) turn step (λ f. cc f)
+    falls_turned (g.K.Validate.words false) m (g.K.Validate.absorbed m) (g.K.Validate.remaining m) (g.K.Validate.ends false m) (g.K.Validate.fits false m) (g.met.K.Validate.turn_laws false m) s (c.turns.run, answer_of false c.turns.answer) (c.turn.new.run, answer_of false c.turn.new.answer) told (ecma c.in-Ecma.text.now) turn step (ecma_goes_on c.in-Ecma.text.now)
 
 pub run_keyword-asked_match-requires : goal.run_keyword-asked_match-requires
 run_keyword-asked_match-requires g t c =
@@ -547,10 +577,10 @@ run_keyword-turns-preserved-in-Match g t c =
     record {
       kept = c.asked_match.ensures.in_progress ∙ c.turns.invariant.kept;
       assumes = ap (λ (r : Remembered). r.assumptions) c.in_ok-matches-in-Match.ensures.met ∙ after_assumes _ _ answer ∙ c.turns.invariant.assumes;
-      unmarked = unmarked_after (g.K.Validate.words false) m (g.K.Validate.absorbed m) (g.K.Validate.remaining m) (g.K.Validate.ends false m) (g.K.Validate.fits false m) (g.met.K.Validate.turn_laws false m) s (c.turns.run, answer_of false c.turns.answer) (c.turn.new.run, answer_of false c.turn.new.answer) told (truth c.in_ok-matches-in-Match.matches) (match_text a point) c.turns.invariant.unmarked turn step (λ f. cc f);
+      unmarked = unmarked_after (g.K.Validate.words false) m (g.K.Validate.absorbed m) (g.K.Validate.remaining m) (g.K.Validate.ends false m) (g.K.Validate.fits false m) (g.met.K.Validate.turn_laws false m) s (c.turns.run, answer_of false c.turns.answer) (c.turn.new.run, answer_of false c.turn.new.answer) told (truth c.in_ok-matches-in-Match.matches) (match_text a point) c.turns.invariant.unmarked turn step (match_goes_on a point);
       borrows = λ root at_place.
           let i = c.turns.invariant.borrows root at_place in
-          ((λ i d l. absurd (omega arith)), c.in_ok-child.ensures.borrows root i.0 i.1);
+          (All-nil (BorrowsItsPlace root), c.in_ok-child.ensures.borrows root i.0 i.1);
       leads = λ x reads l.
           let tells = tells_keyword g.K.Validate.is_whole ns (length c.args.nodes.now) w p s x c.args.node.0 m es c.requires.known reads c.requires.form in
           let is = ap truth (out ∙ ap (λ b. settled b answer) (sym (reads.completes a)) ∙ ap (λ (o : Matcher). settled (completed x.completion a) (o.is_match a.pattern a.subject)) (sym reads.matcher)) in
@@ -560,7 +590,7 @@ run_keyword-turns-preserved-in-Match g t c =
           let tells = tells_keyword g.K.Validate.is_whole ns (length c.args.nodes.now) w p s (reading w texts root depth) c.args.node.0 m es c.requires.known reads c.requires.form in
           let step' = rw c.in-Match.is at (c.in_ok-child.ensures.steps texts tells) in
           let turn' = c.in_ok-child.ensures.turns texts tells in
-          let falls = falls_turned (g.K.Validate.words texts) m (g.K.Validate.absorbed m) (g.K.Validate.remaining m) (g.K.Validate.ends texts m) (g.K.Validate.fits texts m) (g.met.K.Validate.turn_laws texts m) s (c.turns.run, answer_of texts c.turns.answer) (c.turn.new.run, answer_of texts c.turn.new.answer) (reply_of texts c.turns.reply) (match_text a point) turn' step' (λ f. cc f) in
+          let falls = falls_turned (g.K.Validate.words texts) m (g.K.Validate.absorbed m) (g.K.Validate.remaining m) (g.K.Validate.ends texts m) (g.K.Validate.fits texts m) (g.met.K.Validate.turn_laws texts m) s (c.turns.run, answer_of texts c.turns.answer) (c.turn.new.run, answer_of texts c.turn.new.answer) (reply_of texts c.turns.reply) (match_text a point) turn' step' (match_goes_on a point) in
           let is = ap truth (out ∙ ap (λ b. settled b answer) (sym (reads.completes a))) in
           let there = where_is g.K.Validate.shape c.args.nodes.now (g.K.Validate.words texts) w.matcher (subject_in root) c.args.node.0 n (path_of c.args.path.now) p c.node-in-Match.ensures.found in
           let new = c.in_ok-matches-in-Match.ensures.met ∙ ap (λ (v : Where). after_match c.turns.context.remembered (record { pair = a; site = site_at v name point }) answer) (sym there) in
@@ -584,10 +614,10 @@ run_keyword-turns-preserved g t c =
     record {
       kept = c.turns.invariant.kept;
       assumes = c.turns.invariant.assumes;
-      unmarked = unmarked_after (g.K.Validate.words false) m (g.K.Validate.absorbed m) (g.K.Validate.remaining m) (g.K.Validate.ends false m) (g.K.Validate.fits false m) (g.met.K.Validate.turn_laws false m) s (c.turns.run, answer_of false c.turns.answer) (c.turn.new.run, answer_of false c.turn.new.answer) told (truth c.in_ok-valid-in-Ecma.valid) (ecma text) c.turns.invariant.unmarked turn step (λ f. cc f);
+      unmarked = unmarked_after (g.K.Validate.words false) m (g.K.Validate.absorbed m) (g.K.Validate.remaining m) (g.K.Validate.ends false m) (g.K.Validate.fits false m) (g.met.K.Validate.turn_laws false m) s (c.turns.run, answer_of false c.turns.answer) (c.turn.new.run, answer_of false c.turn.new.answer) told (truth c.in_ok-valid-in-Ecma.valid) (ecma text) c.turns.invariant.unmarked turn step (ecma_goes_on text);
       borrows = λ root at_place.
           let i = c.turns.invariant.borrows root at_place in
-          ((λ i d l. absurd (omega arith)), c.in_ok-child.ensures.borrows root i.0 i.1);
+          (All-nil (BorrowsItsPlace root), c.in_ok-child.ensures.borrows root i.0 i.1);
       leads = λ x reads l.
           let tells = tells_keyword g.K.Validate.is_whole ns (length c.args.nodes.now) w p s x c.args.node.0 m es c.requires.known reads c.requires.form in
           let is = ap truth (c.in_ok-valid-in-Ecma.ensures.valid ∙ ap (λ (o : Matcher). o.is_ecma text) (sym reads.matcher)) in
@@ -597,7 +627,7 @@ run_keyword-turns-preserved g t c =
           let tells = tells_keyword g.K.Validate.is_whole ns (length c.args.nodes.now) w p s (reading w texts root depth) c.args.node.0 m es c.requires.known reads c.requires.form in
           let step' = rw c.in-Ecma.is at (c.in_ok-child.ensures.steps texts tells) in
           let turn' = c.in_ok-child.ensures.turns texts tells in
-          let falls = falls_turned (g.K.Validate.words texts) m (g.K.Validate.absorbed m) (g.K.Validate.remaining m) (g.K.Validate.ends texts m) (g.K.Validate.fits texts m) (g.met.K.Validate.turn_laws texts m) s (c.turns.run, answer_of texts c.turns.answer) (c.turn.new.run, answer_of texts c.turn.new.answer) (reply_of texts c.turns.reply) (ecma text) turn' step' (λ f. cc f) in
+          let falls = falls_turned (g.K.Validate.words texts) m (g.K.Validate.absorbed m) (g.K.Validate.remaining m) (g.K.Validate.ends texts m) (g.K.Validate.fits texts m) (g.met.K.Validate.turn_laws texts m) s (c.turns.run, answer_of texts c.turns.answer) (c.turn.new.run, answer_of texts c.turn.new.answer) (reply_of texts c.turns.reply) (ecma text) turn' step' (ecma_goes_on text) in
           meets_nothing (g.K.Validate.words texts) w.matcher w.assumptions (node_at (g.K.Validate.words texts) w.matcher ns (subject_in root) c.args.node.0 (path_of c.args.path.now) p) s (child_run g.K.Validate.words ns w texts root depth (path_of c.args.path.now) p busy es) (same_edge es) name m (g.K.Validate.remaining m s) _ _ _ _ _ _ _ _ text turn' step' falls (ap truth c.in_ok-valid-in-Ecma.ensures.valid) refl (c.turns.invariant.met texts root depth reads l);
     }
 
@@ -625,13 +655,13 @@ run_keyword-unreachable-requires g t c =
     subst IsUnmarked step (is_unmarked (g.K.Validate.words false) (g.K.Validate.shape c.args.keyword.now) (g.K.Validate.absorbed (g.K.Validate.shape c.args.keyword.now)) (g.K.Validate.remaining (g.K.Validate.shape c.args.keyword.now)) (g.K.Validate.ends false (g.K.Validate.shape c.args.keyword.now)) (g.K.Validate.fits false (g.K.Validate.shape c.args.keyword.now)) (g.met.K.Validate.turn_laws false (g.K.Validate.shape c.args.keyword.now)) s (c.turns.run, answer_of false c.turns.answer) (reply_of false c.turns.reply) c.turns.invariant.unmarked)
 
 pub run_entry-returns-clause-meets : goal.run_entry-returns-clause-meets
-run_entry-returns-clause-meets g t c = λ texts root depth reads l.
+run_entry-returns-clause-meets g t c = if_ok_mono c.run_form-2.result _ _ (λ r met texts root depth reads l.
     let ns = numbered g.K.Validate.shape c.args.nodes.now in
     let w = settling (g.M.Matcher.matching c.args.matcher.now) c.args.context.now.remembered.assumptions in
     let p = steps_to c.args.place.now in
     let busy = busy_at p c.args.context.now.in_progress in
     let looked = part_looked g.K.Validate.words ns w texts root depth c.args.node.0 (path_of c.args.path.now) p busy (shaped_part g.K.Validate.shape (entry_of c.args.entry.now)) in
-    meets_same w.matcher _ _ _ _ (other_entry (mode_of c.args.mode) looked (c.asks_verdict_first.ensures.other c.if-asks_verdict_first.false)) (c.in_ok-run_form-2.ensures.meets texts root depth reads l)
+    meets_same w.matcher _ _ _ _ (other_entry (mode_of c.args.mode) looked (c.asks_verdict_first.ensures.other c.if-asks_verdict_first.false)) (met texts root depth reads l)) c.run_form-2.ensures.meets
 
 pub run_entries-returns-clause-meets : goal.run_entries-returns-clause-meets
 run_entries-returns-clause-meets g t c = λ texts root depth reads l.
