@@ -1,9 +1,12 @@
+//! The table of the standard's keywords, cell by cell, and what keywords and vocabularies say of themselves.
+use crate::rows::{column, text_at, wrong_row};
 use schema_reports::keywords::*;
+use schema_reports::location::OutOfMemory;
+use serde_json::Value;
 use std::alloc::{AllocError, Global};
 use std::test::Fail;
 
-/// What a draft says of a keyword, as the published table has it: not there, with no need, with no need in draft 4's
-/// form, or by the vocabulary named (`Content` as an annotation).
+/// What a draft says of a keyword, as the published table has it.
 #[derive(Clone, Copy, Debug, PartialEq, Eq)]
 enum Cell {
     Absent,
@@ -17,257 +20,53 @@ enum Cell {
 
 use Cell::{Absent, Applicator, Content, Free, Legacy, Unevaluated, Validation};
 
-/// A row of the published table: name, priority, leaf, and a cell for each of the drafts 4, 6, 7, 2019-09 and 2020-12.
-type Row = (&'static str, u8, bool, [Cell; 5]);
-
-static ROWS: [Row; 42] = [
-    (
-        "type",
-        1,
-        true,
-        [Legacy, Validation, Validation, Validation, Validation],
-    ),
-    (
-        "const",
-        5,
-        true,
-        [Absent, Validation, Validation, Validation, Validation],
-    ),
-    (
-        "enum",
-        6,
-        true,
-        [Validation, Validation, Validation, Validation, Validation],
-    ),
-    (
-        "minimum",
-        10,
-        true,
-        [Legacy, Validation, Validation, Validation, Validation],
-    ),
-    (
-        "maximum",
-        11,
-        true,
-        [Legacy, Validation, Validation, Validation, Validation],
-    ),
-    (
-        "exclusiveMinimum",
-        12,
-        true,
-        [Absent, Validation, Validation, Validation, Validation],
-    ),
-    (
-        "exclusiveMaximum",
-        13,
-        true,
-        [Absent, Validation, Validation, Validation, Validation],
-    ),
-    (
-        "multipleOf",
-        14,
-        true,
-        [Validation, Validation, Validation, Validation, Validation],
-    ),
-    (
-        "minLength",
-        20,
-        true,
-        [Validation, Validation, Validation, Validation, Validation],
-    ),
-    (
-        "maxLength",
-        21,
-        true,
-        [Validation, Validation, Validation, Validation, Validation],
-    ),
-    (
-        "minItems",
-        22,
-        true,
-        [Validation, Validation, Validation, Validation, Validation],
-    ),
-    (
-        "maxItems",
-        23,
-        true,
-        [Validation, Validation, Validation, Validation, Validation],
-    ),
-    (
-        "minProperties",
-        24,
-        true,
-        [Validation, Validation, Validation, Validation, Validation],
-    ),
-    (
-        "maxProperties",
-        25,
-        true,
-        [Validation, Validation, Validation, Validation, Validation],
-    ),
-    (
-        "required",
-        26,
-        true,
-        [Validation, Validation, Validation, Validation, Validation],
-    ),
-    (
-        "dependentRequired",
-        27,
-        true,
-        [Absent, Absent, Absent, Validation, Validation],
-    ),
-    (
-        "pattern",
-        30,
-        true,
-        [Validation, Validation, Validation, Validation, Validation],
-    ),
-    ("format", 31, true, [Free, Free, Free, Free, Free]),
-    (
-        "contentEncoding",
-        32,
-        true,
-        [Absent, Free, Free, Content, Content],
-    ),
-    (
-        "contentMediaType",
-        33,
-        true,
-        [Absent, Free, Free, Content, Content],
-    ),
-    (
-        "contentSchema",
-        34,
-        false,
-        [Absent, Absent, Absent, Content, Content],
-    ),
-    (
-        "uniqueItems",
-        35,
-        true,
-        [Validation, Validation, Validation, Validation, Validation],
-    ),
-    (
-        "properties",
-        40,
-        false,
-        [Applicator, Applicator, Applicator, Applicator, Applicator],
-    ),
-    (
-        "patternProperties",
-        41,
-        false,
-        [Applicator, Applicator, Applicator, Applicator, Applicator],
-    ),
-    (
-        "additionalProperties",
-        42,
-        false,
-        [Applicator, Applicator, Applicator, Applicator, Applicator],
-    ),
-    (
-        "propertyNames",
-        43,
-        false,
-        [Absent, Applicator, Applicator, Applicator, Applicator],
-    ),
-    (
-        "items",
-        44,
-        false,
-        [Applicator, Applicator, Applicator, Applicator, Applicator],
-    ),
-    (
-        "prefixItems",
-        45,
-        false,
-        [Absent, Absent, Absent, Absent, Applicator],
-    ),
-    (
-        "additionalItems",
-        46,
-        false,
-        [Applicator, Applicator, Applicator, Applicator, Applicator],
-    ),
-    (
-        "contains",
-        47,
-        false,
-        [Absent, Applicator, Applicator, Applicator, Applicator],
-    ),
-    (
-        "dependencies",
-        48,
-        false,
-        [Applicator, Applicator, Applicator, Applicator, Applicator],
-    ),
-    (
-        "dependentSchemas",
-        49,
-        false,
-        [Absent, Absent, Absent, Applicator, Applicator],
-    ),
-    (
-        "allOf",
-        50,
-        false,
-        [Applicator, Applicator, Applicator, Applicator, Applicator],
-    ),
-    (
-        "anyOf",
-        51,
-        false,
-        [Applicator, Applicator, Applicator, Applicator, Applicator],
-    ),
-    (
-        "oneOf",
-        52,
-        false,
-        [Applicator, Applicator, Applicator, Applicator, Applicator],
-    ),
-    (
-        "not",
-        53,
-        false,
-        [Applicator, Applicator, Applicator, Applicator, Applicator],
-    ),
-    (
-        "if",
-        54,
-        false,
-        [Absent, Absent, Applicator, Applicator, Applicator],
-    ),
-    (
-        "unevaluatedProperties",
-        60,
-        false,
-        [Absent, Absent, Absent, Applicator, Unevaluated],
-    ),
-    (
-        "unevaluatedItems",
-        61,
-        false,
-        [Absent, Absent, Absent, Applicator, Unevaluated],
-    ),
-    ("$ref", 70, false, [Free, Free, Free, Free, Free]),
-    (
-        "$recursiveRef",
-        71,
-        false,
-        [Absent, Absent, Absent, Free, Absent],
-    ),
-    (
-        "$dynamicRef",
-        72,
-        false,
-        [Absent, Absent, Absent, Absent, Free],
-    ),
-];
-
-fn rows() -> &'static [Row] {
-    &ROWS
-}
+/// Rows of the published table: name, priority, leaf, and a cell for each of the drafts 4, 6, 7, 2019-09 and 2020-12: `-`
+/// where it is not there, `F` with no need, `D` with no need in draft 4's form, or by the vocabulary `V` (validation),
+/// `A` (applicator), `U` (unevaluated), or `C` (content, as an annotation).
+const ROWS: &str = r##"[
+["type", 1, true, "D", "V", "V", "V", "V"],
+["const", 5, true, "-", "V", "V", "V", "V"],
+["enum", 6, true, "V", "V", "V", "V", "V"],
+["minimum", 10, true, "D", "V", "V", "V", "V"],
+["maximum", 11, true, "D", "V", "V", "V", "V"],
+["exclusiveMinimum", 12, true, "-", "V", "V", "V", "V"],
+["exclusiveMaximum", 13, true, "-", "V", "V", "V", "V"],
+["multipleOf", 14, true, "V", "V", "V", "V", "V"],
+["minLength", 20, true, "V", "V", "V", "V", "V"],
+["maxLength", 21, true, "V", "V", "V", "V", "V"],
+["minItems", 22, true, "V", "V", "V", "V", "V"],
+["maxItems", 23, true, "V", "V", "V", "V", "V"],
+["minProperties", 24, true, "V", "V", "V", "V", "V"],
+["maxProperties", 25, true, "V", "V", "V", "V", "V"],
+["required", 26, true, "V", "V", "V", "V", "V"],
+["dependentRequired", 27, true, "-", "-", "-", "V", "V"],
+["pattern", 30, true, "V", "V", "V", "V", "V"],
+["format", 31, true, "F", "F", "F", "F", "F"],
+["contentEncoding", 32, true, "-", "F", "F", "C", "C"],
+["contentMediaType", 33, true, "-", "F", "F", "C", "C"],
+["contentSchema", 34, false, "-", "-", "-", "C", "C"],
+["uniqueItems", 35, true, "V", "V", "V", "V", "V"],
+["properties", 40, false, "A", "A", "A", "A", "A"],
+["patternProperties", 41, false, "A", "A", "A", "A", "A"],
+["additionalProperties", 42, false, "A", "A", "A", "A", "A"],
+["propertyNames", 43, false, "-", "A", "A", "A", "A"],
+["items", 44, false, "A", "A", "A", "A", "A"],
+["prefixItems", 45, false, "-", "-", "-", "-", "A"],
+["additionalItems", 46, false, "A", "A", "A", "A", "A"],
+["contains", 47, false, "-", "A", "A", "A", "A"],
+["dependencies", 48, false, "A", "A", "A", "A", "A"],
+["dependentSchemas", 49, false, "-", "-", "-", "A", "A"],
+["allOf", 50, false, "A", "A", "A", "A", "A"],
+["anyOf", 51, false, "A", "A", "A", "A", "A"],
+["oneOf", 52, false, "A", "A", "A", "A", "A"],
+["not", 53, false, "A", "A", "A", "A", "A"],
+["if", 54, false, "-", "-", "A", "A", "A"],
+["unevaluatedProperties", 60, false, "-", "-", "-", "A", "U"],
+["unevaluatedItems", 61, false, "-", "-", "-", "A", "U"],
+["$ref", 70, false, "F", "F", "F", "F", "F"],
+["$recursiveRef", 71, false, "-", "-", "-", "F", "-"],
+["$dynamicRef", 72, false, "-", "-", "-", "-", "F"]
+]"##;
 
 fn drafts() -> [Draft; 6] {
     [
@@ -280,13 +79,26 @@ fn drafts() -> [Draft; 6] {
     ]
 }
 
-fn cell_in(draft: Draft, cells: &[Cell; 5]) -> Cell {
+/// The column of a draft's cells.
+fn column_of(draft: Draft) -> usize {
     match draft {
-        Draft::Draft4 => cells[0],
-        Draft::Draft6 => cells[1],
-        Draft::Draft7 => cells[2],
-        Draft::Draft201909 => cells[3],
-        Draft::Draft202012 | Draft::Unknown => cells[4],
+        Draft::Draft4 => 3,
+        Draft::Draft6 => 4,
+        Draft::Draft7 => 5,
+        Draft::Draft201909 => 6,
+        Draft::Draft202012 | Draft::Unknown => 7,
+    }
+}
+
+fn cell_in(draft: Draft, row: &Value) -> Cell {
+    match text_at(row, column_of(draft)) {
+        "F" => Free,
+        "D" => Legacy,
+        "V" => Validation,
+        "A" => Applicator,
+        "U" => Unevaluated,
+        "C" => Content,
+        _ => Absent,
     }
 }
 
@@ -369,55 +181,75 @@ fn forms_published(draft: Draft, cell: Cell) -> (Option<KeywordForm>, Option<Key
     }
 }
 
-#[test]
-fn walks_every_name_in_every_draft(rt: HostRuntime) -> Result<(), Fail> {
-    for (name, _, _, cells) in rows() {
-        for draft in drafts() {
-            let cell = cell_in(draft, cells);
-            let found = forms_found(rt.alloc(), draft, name, cell)?;
-            assert_eq!(rt; found, forms_published(draft, cell), "{name} in {draft:?}");
+/// Whether each draft has the row's form, with every vocabulary and without the one that its cell needs.
+fn is_found(alloc: Global, row: &Value) -> Result<bool, OutOfMemory> {
+    for draft in drafts() {
+        let cell = cell_in(draft, row);
+        if forms_found(alloc, draft, text_at(row, 0), cell)? != forms_published(draft, cell) {
+            return Ok(false);
         }
     }
+    Ok(true)
+}
+
+#[test]
+fn walks_every_name_in_every_draft(rt: HostRuntime) -> Result<(), serde_json::Error> {
+    let alloc = rt.alloc();
+    assert_eq!(rt; wrong_row(alloc, ROWS, |row| is_found(alloc, row))?, None);
     Ok(())
 }
 
-fn keyword_facts(name: &str) -> Option<(&'static str, u8, bool)> {
-    let builtin = BuiltinKeyword::named(name)?;
+/// Whether a keyword of the row's name has its priority and is a leaf where the row says so.
+fn is_known(row: &Value) -> bool {
+    let Some(builtin) = BuiltinKeyword::named(text_at(row, 0)) else {
+        return false;
+    };
     let keyword = Keyword::from(builtin);
-    Some((
-        builtin.as_str(),
-        keyword_priority(&keyword),
-        keyword_is_leaf(&keyword),
-    ))
+    builtin.as_str() == text_at(row, 0)
+        && column(row, 1).as_u64() == Some(u64::from(keyword_priority(&keyword)))
+        && column(row, 2).as_bool() == Some(keyword_is_leaf(&keyword))
 }
 
 #[test]
-fn knows_every_name(rt: HostRuntime) {
-    for (name, priority, is_leaf, _) in rows() {
-        assert_eq!(rt; keyword_facts(name), Some((*name, *priority, *is_leaf)));
-    }
+fn knows_every_name(rt: HostRuntime) -> Result<(), serde_json::Error> {
+    let wrong = wrong_row(rt.alloc(), ROWS, |row| Ok(is_known(row)))?;
+    assert_eq!(rt; wrong, None);
     for name in [
         "", "Type", "typ", "types", "$defs", "then", "else", "$anchor",
     ] {
         assert!(rt; BuiltinKeyword::named(name).is_none(), "{name}");
     }
+    Ok(())
 }
 
-/// In each draft, of each name, the form, priority and leaf that the published table has there.
-#[test]
-fn finds_the_rows_of_every_draft(rt: HostRuntime) -> Result<(), Fail> {
-    let all = needed_but(rt.alloc(), &None)?;
-    for (name, priority, is_leaf, cells) in rows() {
-        for draft in drafts() {
-            let published = form_in(cell_in(draft, cells)).map(|form| (form, *priority, *is_leaf));
-            let found = builtin_row(draft, &all, name).map(|row| (
-                row.entry.form,
-                row.priority,
-                row.is_leaf,
-            ));
-            assert_eq!(rt; found, published, "{name} in {draft:?}");
+/// Whether each draft, with all vocabularies, has the row's form, priority and leaf.
+fn has_its_row(all: &VocabularySet, row: &Value) -> bool {
+    for draft in drafts() {
+        let published = form_in(cell_in(draft, row));
+        match builtin_row(draft, all, text_at(row, 0)) {
+            None => {
+                if published.is_some() {
+                    return false;
+                }
+            }
+            Some(found) => {
+                if published != Some(found.entry.form)
+                    || column(row, 1).as_u64() != Some(u64::from(found.priority))
+                    || column(row, 2).as_bool() != Some(found.is_leaf)
+                {
+                    return false;
+                }
+            }
         }
     }
+    true
+}
+
+#[test]
+fn finds_the_rows_of_every_draft(rt: HostRuntime) -> Result<(), serde_json::Error> {
+    let all = needed_but(rt.alloc(), &None)?;
+    let wrong = wrong_row(rt.alloc(), ROWS, |row| Ok(has_its_row(&all, row)))?;
+    assert_eq!(rt; wrong, None);
     Ok(())
 }
 
@@ -431,47 +263,28 @@ fn answers_the_published_calls(rt: HostRuntime) -> Result<(), Fail> {
     let content = VocabularySet::new(rt.alloc()).with(Vocabulary::Content)?;
     let applicator = VocabularySet::new(rt.alloc()).with(Vocabulary::Applicator)?;
     let plain = KeywordForm::Plain;
-    for (draft, set, name, found) in [
-        (
-            Draft::Draft4,
-            &none,
-            "type",
-            entry(BuiltinKeyword::TypeKeyword, KeywordForm::Draft4),
-        ),
-        (Draft::Draft202012, &none, "type", None),
-        (
-            Draft::Draft202012,
-            &none,
-            "format",
-            entry(BuiltinKeyword::Format, plain),
-        ),
-        (Draft::Draft6, &none, "if", None),
-        (
-            Draft::Draft7,
-            &none,
-            "contentMediaType",
-            entry(BuiltinKeyword::ContentMediaType, plain),
-        ),
-        (
-            Draft::Unknown,
-            &content,
-            "contentMediaType",
-            entry(BuiltinKeyword::ContentMediaType, KeywordForm::Annotating),
-        ),
-        (Draft::Draft201909, &applicator, "prefixItems", None),
-        (
-            Draft::Draft201909,
-            &none,
-            "$recursiveRef",
-            entry(BuiltinKeyword::RecursiveRef, plain),
-        ),
-    ] {
-        assert_eq!(rt;
-            get_for_draft(draft, set, name),
-            found,
-            "{name} in {draft:?}"
-        );
-    }
+    let found = get_for_draft(Draft::Draft4, &none, "type");
+    assert_eq!(rt;
+        found,
+        entry(BuiltinKeyword::TypeKeyword, KeywordForm::Draft4)
+    );
+    assert_eq!(rt; get_for_draft(Draft::Draft202012, &none, "type"), None);
+    let found = get_for_draft(Draft::Draft202012, &none, "format");
+    assert_eq!(rt; found, entry(BuiltinKeyword::Format, plain));
+    assert_eq!(rt; get_for_draft(Draft::Draft6, &none, "if"), None);
+    let found = get_for_draft(Draft::Draft7, &none, "contentMediaType");
+    assert_eq!(rt; found, entry(BuiltinKeyword::ContentMediaType, plain));
+    let found = get_for_draft(Draft::Unknown, &content, "contentMediaType");
+    assert_eq!(rt;
+        found,
+        entry(BuiltinKeyword::ContentMediaType, KeywordForm::Annotating)
+    );
+    assert_eq!(rt;
+        get_for_draft(Draft::Draft201909, &applicator, "prefixItems"),
+        None
+    );
+    let found = get_for_draft(Draft::Draft201909, &none, "$recursiveRef");
+    assert_eq!(rt; found, entry(BuiltinKeyword::RecursiveRef, plain));
     Ok(())
 }
 

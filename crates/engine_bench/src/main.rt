@@ -22,6 +22,8 @@ pub mod resolver;
 #[cfg(test)]
 mod retry_tests;
 #[cfg(test)]
+mod rows;
+#[cfg(test)]
 mod search_tests;
 pub mod table;
 #[cfg(test)]

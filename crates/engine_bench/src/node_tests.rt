@@ -15,31 +15,45 @@ fn a_path(alloc: Global) -> Result<SchemaPath, OutOfMemory> {
     Ok(path)
 }
 
+/// The pointers of a path's first steps, so many, and of those after them.
+fn cut_at(alloc: Global, path: &SchemaPath, count: usize) -> Result<String, OutOfMemory> {
+    let mut text = String::new(alloc);
+    text.push_str(path.first(alloc, count)?.pointer(alloc)?.as_str())?;
+    text.push_str(" ")?;
+    text.push_str(path.after(alloc, count)?.pointer(alloc)?.as_str())?;
+    Ok(text)
+}
+
 #[test]
-fn schema_paths(rt: HostRuntime) -> Result<(), OutOfMemory> {
+fn parts_of_paths(rt: HostRuntime) -> Result<(), OutOfMemory> {
     let alloc = rt.alloc();
     let path = a_path(alloc)?;
     assert_eq!(rt; path.len(), 3);
     assert_eq!(rt; path.steps().len(), 3);
-    assert_eq!(rt; path.pointer(alloc)?.as_str(), "/$defs/a~1b/2");
-    assert_eq!(rt; SchemaPath::root(alloc).pointer(alloc)?.as_str(), "");
-    assert_eq!(rt; path.first(alloc, 1)?.pointer(alloc)?.as_str(), "/$defs");
-    assert_eq!(rt;
-        path.first(alloc, 9)?.pointer(alloc)?.as_str(),
-        "/$defs/a~1b/2"
-    );
-    assert_eq!(rt; path.after(alloc, 1)?.pointer(alloc)?.as_str(), "/a~1b/2");
-    assert_eq!(rt; path.after(alloc, 9)?.pointer(alloc)?.as_str(), "");
+    assert_eq!(rt; cut_at(alloc, &path, 1)?.as_str(), "/$defs /a~1b/2");
+    assert_eq!(rt; cut_at(alloc, &path, 9)?.as_str(), "/$defs/a~1b/2 ");
+    assert_eq!(rt; cut_at(alloc, &SchemaPath::root(alloc), 0)?.as_str(), " ");
+    Ok(())
+}
+
+#[test]
+fn longer_paths(rt: HostRuntime) -> Result<(), OutOfMemory> {
+    let alloc = rt.alloc();
+    let path = a_path(alloc)?;
     let twice = path.append(alloc, &path)?;
     assert_eq!(rt;
-        twice.pointer(alloc)?.as_str(),
-        "/$defs/a~1b/2/$defs/a~1b/2"
+        cut_at(alloc, &twice, 0)?.as_str(),
+        " /$defs/a~1b/2/$defs/a~1b/2"
     );
-    assert!(rt; path.is_prefix_of(&twice));
-    assert!(rt; !twice.is_prefix_of(&path));
-    assert!(rt; path.same(&path.copy(alloc)?));
-    assert!(rt; !path.same(&twice));
+    assert!(rt; path.is_prefix_of(&twice) && !twice.is_prefix_of(&path));
+    assert!(rt; path.same(&path.copy(alloc)?) && !path.same(&twice));
     Ok(())
+}
+
+/// The place of that path in a document.
+fn a_place(alloc: Global, document: usize) -> Result<SchemaPlace, OutOfMemory> {
+    let path = a_path(alloc)?;
+    Ok(SchemaPlace { document, path })
 }
 
 #[test]
@@ -50,15 +64,9 @@ fn schema_places(rt: HostRuntime) -> Result<(), OutOfMemory> {
         path: SchemaPath::root(alloc),
     };
     let below = root.below(alloc, &a_path(alloc)?)?;
-    assert_eq!(rt; below.document, 1);
-    assert_eq!(rt; below.path.pointer(alloc)?.as_str(), "/$defs/a~1b/2");
+    assert!(rt; below.same(&a_place(alloc, 1)?) && !below.same(&root));
     assert!(rt; below.same(&below.copy(alloc)?));
-    assert!(rt; !below.same(&root));
-    let other = SchemaPlace {
-        document: 2,
-        path: a_path(alloc)?,
-    };
-    assert!(rt; !below.same(&other));
+    assert!(rt; !below.same(&a_place(alloc, 2)?));
     Ok(())
 }
 

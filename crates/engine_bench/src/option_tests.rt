@@ -9,7 +9,7 @@ use schema_engine::validator::Validator;
 use schema_engine::{is_valid, iter_errors, validate};
 use schema_reports::keywords::{Draft, Vocabulary, VocabularySet};
 use schema_reports::location::OutOfMemory;
-use serde_json::{Value, json};
+use serde_json::Value;
 use std::alloc::Global;
 
 /// The number of the refusal of a schema under these options, where every schema requires these vocabularies; 0 where it
@@ -54,45 +54,27 @@ fn needs_keys(
 #[test]
 fn a_key_is_compiled_once(rt: HostRuntime) -> Result<(), OutOfMemory> {
     let alloc = rt.alloc();
-    let shared = json!(in alloc; {
-        "properties": {"a": {"$ref": "#/$defs/s"}, "b": {"$ref": "#/$defs/s"}},
-        "$defs": {"s": {"type": "string"}}
-    })?;
-    assert!(rt; needs_keys(alloc, &shared, 4, 3)?);
+    let text =
+        r##"{"properties":{"a":{"$ref":"#/$defs/s"},"b":{"$ref":"#/$defs/s"}},"$defs":{"s":{"type":"string"}}}"##;
+    assert!(rt; needs_keys(alloc, &value_of(alloc, text)?, 4, 3)?);
     Ok(())
 }
 
-/// `c0` refers to `c1`, and so on to `c9`, a text; the root refers to `c0`.
-fn a_chain(alloc: Global) -> Result<Value, OutOfMemory> {
-    let mut text = String::from_str(alloc, r##"{"$ref":"#/$defs/c0","$defs":{"##)?;
-    for (here, next) in [
-        ("c0", "c1"),
-        ("c1", "c2"),
-        ("c2", "c3"),
-        ("c3", "c4"),
-        ("c4", "c5"),
-        ("c5", "c6"),
-        ("c6", "c7"),
-        ("c7", "c8"),
-        ("c8", "c9"),
-    ] {
-        for part in ["\"", here, r##"":{"$ref":"#/$defs/"##, next, "\"},"] {
-            text.push_str(part)?;
-        }
-    }
-    text.push_str(r#""c9":{"type":"string"}}}"#)?;
-    schema_of(alloc, text.as_str())
-}
-
+// The root, and ten definitions of which each refers to the next.
 #[test]
 fn a_chain_has_eleven_keys(rt: HostRuntime) -> Result<(), OutOfMemory> {
     let alloc = rt.alloc();
-    assert!(rt; needs_keys(alloc, &a_chain(alloc)?, 11, 10)?);
+    assert!(rt; needs_keys(alloc, &value_of(alloc, CHAIN)?, 11, 10)?);
     Ok(())
 }
 
-/// A schema with this text; `null` where it is none.
-fn schema_of(alloc: Global, text: &str) -> Result<Value, OutOfMemory> {
+const CHAIN: &str = r##"{"$ref":"#/$defs/c0","$defs":{
+  "c0":{"$ref":"#/$defs/c1"},"c1":{"$ref":"#/$defs/c2"},"c2":{"$ref":"#/$defs/c3"},"c3":{"$ref":"#/$defs/c4"},
+  "c4":{"$ref":"#/$defs/c5"},"c5":{"$ref":"#/$defs/c6"},"c6":{"$ref":"#/$defs/c7"},"c7":{"$ref":"#/$defs/c8"},
+  "c8":{"$ref":"#/$defs/c9"},"c9":{"type":"string"}}}"##;
+
+/// The JSON value of this text; `null` where it is none.
+fn value_of(alloc: Global, text: &str) -> Result<Value, OutOfMemory> {
     match Value::from_str(alloc, text) {
         Ok(value) => Ok(value),
         Err(_) => Ok(Value::Null),
@@ -116,7 +98,7 @@ fn doubled(alloc: Global, before: &str, between: &str, after: &str) -> Result<Va
         text.push_str(",")?;
     }
     text.push_str(r#""d40":{"type":"string"}}}"#)?;
-    schema_of(alloc, text.as_str())
+    value_of(alloc, text.as_str())
 }
 
 #[test]
@@ -143,7 +125,7 @@ fn a_missing_vocabulary_is_named(rt: HostRuntime) -> Result<(), OutOfMemory> {
 #[test]
 fn required_vocabularies(rt: HostRuntime) -> Result<(), OutOfMemory> {
     let alloc = rt.alloc();
-    let schema = json!(in alloc; {})?;
+    let schema = value_of(alloc, "{}")?;
     let uri = "http://v/x";
     let required = VocabularySet::new(alloc).with(Vocabulary::Custom(String::from_str(
         alloc, uri,
@@ -158,7 +140,7 @@ fn required_vocabularies(rt: HostRuntime) -> Result<(), OutOfMemory> {
 #[test]
 fn bases(rt: HostRuntime) -> Result<(), OutOfMemory> {
     let alloc = rt.alloc();
-    let schema = json!(in alloc; {"type": "string"})?;
+    let schema = value_of(alloc, r#"{"type":"string"}"#)?;
     let other = ValidationOptions::new(alloc).with_base_uri(alloc, "http://x/no")?;
     assert_eq!(rt;
         refusal(alloc, &schema, &other, VocabularySet::new(alloc))?,
@@ -175,8 +157,8 @@ fn bases(rt: HostRuntime) -> Result<(), OutOfMemory> {
 #[test]
 fn the_option_goes_before_the_schema(rt: HostRuntime) -> Result<(), OutOfMemory> {
     let alloc = rt.alloc();
-    let schema =
-        json!(in alloc; {"$schema": "http://json-schema.org/draft-07/schema#", "type": "string"})?;
+    let text = r##"{"$schema":"http://json-schema.org/draft-07/schema#","type":"string"}"##;
+    let schema = value_of(alloc, text)?;
     let resolver = BenchResolver::new(alloc, &schema, VocabularySet::new(alloc))?;
     let matcher = BenchMatcher::new(Vec::new(alloc));
     let options = ValidationOptions::new(alloc).with_draft(Draft::Draft4);
@@ -195,65 +177,79 @@ fn the_option_goes_before_the_schema(rt: HostRuntime) -> Result<(), OutOfMemory>
 }
 
 /// Whether a schema accepts an instance, by the call that builds and asks.
-fn accepts(alloc: Global, schema: &Value, instance: &Value) -> Result<bool, BuildError> {
-    let resolver = BenchResolver::new(alloc, schema, VocabularySet::new(alloc))?;
-    let matcher = BenchMatcher::new(Vec::new(alloc));
-    is_valid::<_, _, BenchKeyword, _>(alloc, schema, instance, &BenchTable {}, &resolver, &matcher)
+fn accepts(
+    alloc: Global,
+    resolver: &BenchResolver,
+    matcher: &BenchMatcher,
+    schema: &Value,
+    instance: &Value,
+) -> Result<bool, BuildError> {
+    is_valid::<_, _, BenchKeyword, _>(alloc, schema, instance, &BenchTable {}, resolver, matcher)
 }
 
 /// Whether the first error has this text.
 fn first_is(
     alloc: Global,
+    resolver: &BenchResolver,
+    matcher: &BenchMatcher,
     schema: &Value,
     instance: &Value,
     text: &str,
 ) -> Result<bool, BuildError> {
-    let resolver = BenchResolver::new(alloc, schema, VocabularySet::new(alloc))?;
-    let matcher = BenchMatcher::new(Vec::new(alloc));
     match validate::<_, _, BenchKeyword, _>(
         alloc,
         schema,
         instance,
         &BenchTable {},
-        &resolver,
-        &matcher,
+        resolver,
+        matcher,
     )? {
         Ok(()) => Ok(false),
         Err(error) => Ok(error.text.as_str() == text),
     }
 }
 
-/// Whether each error has this schema path.
-fn each_is_at(
+/// Whether there is one error, and it has this schema path.
+fn only_one_is_at(
     alloc: Global,
+    resolver: &BenchResolver,
+    matcher: &BenchMatcher,
     schema: &Value,
     instance: &Value,
     path: &str,
 ) -> Result<bool, BuildError> {
-    let resolver = BenchResolver::new(alloc, schema, VocabularySet::new(alloc))?;
-    let matcher = BenchMatcher::new(Vec::new(alloc));
-    let mut each = true;
+    let mut found = 0u32;
     for error in iter_errors::<_, _, BenchKeyword, _>(
         alloc,
         schema,
         instance,
         &BenchTable {},
-        &resolver,
-        &matcher,
+        resolver,
+        matcher,
     )? {
-        each = each && error.schema_path.as_str() == path;
+        found = if found == 0 && error.schema_path.as_str() == path {
+            1
+        } else {
+            2
+        };
     }
-    Ok(each)
+    Ok(found == 1)
 }
 
 #[test]
 fn calls_that_build_and_ask(rt: HostRuntime) -> Result<(), OutOfMemory> {
     let alloc = rt.alloc();
-    let schema = json!(in alloc; {"required": ["a", "b"]})?;
-    let instance = json!(in alloc; {"a": 1})?;
-    assert!(rt; matches!(accepts(alloc, &schema, &instance), Ok(false)));
+    let schema = value_of(alloc, r#"{"required":["a","b"]}"#)?;
+    let instance = value_of(alloc, r#"{"a":1}"#)?;
+    let resolver = BenchResolver::new(alloc, &schema, VocabularySet::new(alloc))?;
+    let matcher = BenchMatcher::new(Vec::new(alloc));
+    let accepted = accepts(alloc, &resolver, &matcher, &schema, &instance);
+    assert!(rt; matches!(accepted, Ok(false)));
     let text = "\"b\" is a required property";
-    assert!(rt; matches!(first_is(alloc, &schema, &instance, text), Ok(true)));
-    assert!(rt; matches!(each_is_at(alloc, &schema, &instance, "/required"), Ok(true)));
+    let first = first_is(alloc, &resolver, &matcher, &schema, &instance, text);
+    assert!(rt; matches!(first, Ok(true)));
+    let path = "/required";
+    let one = only_one_is_at(alloc, &resolver, &matcher, &schema, &instance, path);
+    assert!(rt; matches!(one, Ok(true)));
     Ok(())
 }

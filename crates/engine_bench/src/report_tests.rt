@@ -2,7 +2,7 @@
 use schema_reports::instance::{Instance, InstanceStep, Place, same_step};
 use schema_reports::location::{Location, LocationSegment, OutOfMemory};
 use schema_reports::reports::{ErrorIterator, ValidationError};
-use serde_json::{Value, json};
+use serde_json::Value;
 use std::alloc::Global;
 
 // Sections 3 to 5 of RFC 6901.
@@ -47,32 +47,55 @@ fn places(rt: HostRuntime) -> Result<(), OutOfMemory> {
     Ok(())
 }
 
+/// One step down.
+type Below<'i> = Option<(Instance<'i>, InstanceStep<'i>)>;
+
+/// Whether the step leads to what has this text; an empty one where it leads nowhere.
+fn leads_to(alloc: Global, found: Below<'_>, want: &str) -> Result<bool, OutOfMemory> {
+    match found {
+        Some((instance, _)) => Ok(instance.text(alloc)?.as_str() == want),
+        None => Ok(want.is_empty()),
+    }
+}
+
+/// Whether the step leads to what is this JSON text as a value.
+fn is_value(alloc: Global, found: Below<'_>, want: &str) -> Result<bool, OutOfMemory> {
+    match found {
+        Some((instance, _)) => Ok(instance.to_value(alloc)?.to_string(alloc)?.as_str() == want),
+        None => Ok(false),
+    }
+}
+
+/// The instance that a step leads to, or else the one that it begins at.
+fn below<'i>(start: Instance<'i>, found: Below<'i>) -> Instance<'i> {
+    match found {
+        Some((instance, _)) => instance,
+        None => start,
+    }
+}
+
 #[test]
-fn steps_down(rt: HostRuntime) -> Result<(), OutOfMemory> {
+fn steps_down(rt: HostRuntime) -> Result<(), serde_json::Error> {
     let alloc = rt.alloc();
-    let value = json!(in alloc; {"list": [10, true], "other": "é"})?;
+    let value = Value::from_str(alloc, r#"{"list":[10,true],"other":"é"}"#)?;
     let root = Instance::Value(&value);
-    match root.member("list") {
-        Some((list, _)) => {
-            assert_eq!(rt; list.text(alloc)?.as_str(), "[10,true]");
-            match list.item(1) {
-                Some((item, _)) => assert_eq!(rt; item.text(alloc)?.as_str(), "true"),
-                None => assert!(rt; false, "no item"),
-            }
-            assert!(rt; list.item(2).is_none());
-            assert!(rt; list.member("list").is_none());
-        }
-        None => assert!(rt; false, "no member"),
-    }
-    match root.name_of("other") {
-        Some((name, _)) => {
-            assert_eq!(rt; name.text(alloc)?.as_str(), "\"other\"");
-            assert!(rt; name.name_of("other").is_none());
-            assert_eq!(rt; name.to_value(alloc)?, json!(in alloc; "other")?);
-        }
-        None => assert!(rt; false, "no name"),
-    }
-    assert!(rt; root.name_of("none").is_none());
+    assert!(rt; leads_to(alloc, root.member("list"), "[10,true]")?);
+    assert!(rt; leads_to(alloc, root.item(0), "")?);
+    let list = below(root, root.member("list"));
+    assert!(rt; leads_to(alloc, list.item(1), "true")?);
+    assert!(rt; list.item(2).is_none() && list.member("list").is_none());
+    Ok(())
+}
+
+#[test]
+fn steps_to_names(rt: HostRuntime) -> Result<(), serde_json::Error> {
+    let alloc = rt.alloc();
+    let value = Value::from_str(alloc, r#"{"other":"é"}"#)?;
+    let root = Instance::Value(&value);
+    assert!(rt; leads_to(alloc, root.name_of("other"), "\"other\"")?);
+    assert!(rt; is_value(alloc, root.name_of("other"), "\"other\"")?);
+    let name = below(root, root.name_of("other"));
+    assert!(rt; name.name_of("other").is_none() && root.name_of("none").is_none());
     Ok(())
 }
 
@@ -93,9 +116,9 @@ fn refusal<'i>(alloc: Global, value: &'i Value) -> Result<ValidationError<'i>, O
 }
 
 #[test]
-fn errors(rt: HostRuntime) -> Result<(), OutOfMemory> {
+fn errors(rt: HostRuntime) -> Result<(), serde_json::Error> {
     let alloc = rt.alloc();
-    let value = json!(in alloc; {"a": [1, null]})?;
+    let value = Value::from_str(alloc, r#"{"a":[1,null]}"#)?;
     let error = refusal(alloc, &value)?;
     let text = error.to_string(alloc)?;
     let path = error.instance_path(alloc)?;
@@ -109,9 +132,9 @@ fn errors(rt: HostRuntime) -> Result<(), OutOfMemory> {
 }
 
 #[test]
-fn owned_errors(rt: HostRuntime) -> Result<(), OutOfMemory> {
+fn owned_errors(rt: HostRuntime) -> Result<(), serde_json::Error> {
     let alloc = rt.alloc();
-    let value = json!(in alloc; [])?;
+    let value = Value::from_str(alloc, "[]")?;
     let outer = Location::from_escaped(alloc, "/outer")?;
     let owned = refusal(alloc, &value)?.to_owned(alloc)?;
     let owned = owned.with_instance_path_prefix(&outer)?;
@@ -121,13 +144,20 @@ fn owned_errors(rt: HostRuntime) -> Result<(), OutOfMemory> {
     Ok(())
 }
 
+fn two_refusals<'i>(
+    alloc: Global,
+    value: &'i Value,
+) -> Result<Vec<ValidationError<'i>>, OutOfMemory> {
+    let mut list = Vec::new(alloc);
+    list.push(refusal(alloc, value)?)?;
+    list.push(refusal(alloc, value)?)?;
+    Ok(list)
+}
+
 #[test]
 fn errors_in_order(rt: HostRuntime) -> Result<(), OutOfMemory> {
     let alloc = rt.alloc();
-    let value = json!(in alloc; {"a": [1, null]})?;
-    let first = refusal(alloc, &value)?;
-    let second = refusal(alloc, &value)?;
-    let list = vec![in alloc; first, second]?;
+    let list = two_refusals(alloc, &Value::Null)?;
     assert_eq!(rt; ErrorIterator::new(list).count(), 2);
     Ok(())
 }

@@ -7,7 +7,7 @@ use schema_compiler::compiler::error::BuildError;
 use schema_engine::validator::Validator;
 use schema_reports::keywords::VocabularySet;
 use schema_reports::location::OutOfMemory;
-use serde_json::{Value, json};
+use serde_json::Value;
 use std::alloc::{AllocError, Global};
 
 /// How many errors the validator lists; it is asked once more where memory was refused.
@@ -22,13 +22,13 @@ fn count_again(
     Ok(validator.iter_errors(alloc, instance)?.count())
 }
 
-/// How many errors a validator of the schema lists, these patterns staying unfinished; 99 where the schema is refused.
+/// How many errors a validator of the schema lists, these patterns staying unfinished; nothing where the schema is refused.
 fn count_of(
     alloc: Global,
     schema: &Value,
     instance: &Value,
     patterns: &[&str],
-) -> Result<usize, OutOfMemory> {
+) -> Result<Option<usize>, OutOfMemory> {
     let mut unfinished = Vec::new(alloc);
     for pattern in patterns {
         unfinished.push(String::from_str(alloc, pattern)?)?;
@@ -43,35 +43,36 @@ fn count_of(
         &matcher,
     );
     match built {
-        Ok(validator) => count_again(alloc, &validator, instance),
+        Ok(validator) => Ok(Some(count_again(alloc, &validator, instance)?)),
         Err(BuildError::OutOfMemory) => Err(AllocError),
-        Err(_) => Ok(99),
+        Err(_) => Ok(None),
     }
 }
 
 #[test]
-fn one_error_is_shared_again(rt: HostRuntime) -> Result<(), OutOfMemory> {
+fn one_error_is_shared_again(rt: HostRuntime) -> Result<(), serde_json::Error> {
     let alloc = rt.alloc();
-    let schema = json!(in alloc; {
-        "if": {"pattern": "(?<=ab)c"}, "then": {"minLength": 9}, "maxLength": 1
-    })?;
-    let instance = json!(in alloc; "abc")?;
-    assert_eq!(rt; count_of(alloc, &schema, &instance, &["(?<=ab)c"])?, 1);
+    let text = r#"{"if":{"pattern":"(?<=ab)c"},"then":{"minLength":9},"maxLength":1}"#;
+    let schema = Value::from_str(alloc, text)?;
+    let instance = Value::from_str(alloc, r#""abc""#)?;
+    assert_eq!(rt;
+        count_of(alloc, &schema, &instance, &["(?<=ab)c"])?,
+        Some(1)
+    );
     Ok(())
 }
 
+const FIVE_MATCHES: &str = r#"{"allOf":[
+  {"anyOf":[{"pattern":"(?<=d)c"},{"type":"string"}]}, {"anyOf":[{"pattern":"(?<=e)c"},{"type":"string"}]},
+  {"anyOf":[{"pattern":"(?<=f)c"},{"type":"string"}]}, {"anyOf":[{"pattern":"(?<=g)c"},{"type":"string"}]},
+  {"anyOf":[{"pattern":"(?<=h)c"},{"type":"string"}]}]}"#;
+
 #[test]
-fn five_matches_are_accepted_again(rt: HostRuntime) -> Result<(), OutOfMemory> {
+fn five_matches_are_accepted_again(rt: HostRuntime) -> Result<(), serde_json::Error> {
     let alloc = rt.alloc();
-    let schema = json!(in alloc; {"allOf": [
-        {"anyOf": [{"pattern": "(?<=d)c"}, {"type": "string"}]},
-        {"anyOf": [{"pattern": "(?<=e)c"}, {"type": "string"}]},
-        {"anyOf": [{"pattern": "(?<=f)c"}, {"type": "string"}]},
-        {"anyOf": [{"pattern": "(?<=g)c"}, {"type": "string"}]},
-        {"anyOf": [{"pattern": "(?<=h)c"}, {"type": "string"}]}
-    ]})?;
-    let instance = json!(in alloc; "abc")?;
+    let schema = Value::from_str(alloc, FIVE_MATCHES)?;
+    let instance = Value::from_str(alloc, r#""abc""#)?;
     let patterns = ["(?<=d)c", "(?<=e)c", "(?<=f)c", "(?<=g)c", "(?<=h)c"];
-    assert_eq!(rt; count_of(alloc, &schema, &instance, &patterns)?, 0);
+    assert_eq!(rt; count_of(alloc, &schema, &instance, &patterns)?, Some(0));
     Ok(())
 }

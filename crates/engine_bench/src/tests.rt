@@ -1,6 +1,7 @@
 //! Texts of errors, made and run through the traits' bounds, and each public call once.
 use crate::keywords::BenchKeyword;
 use crate::matcher::BenchMatcher;
+use crate::rows::{column, list_at, text_at, wrong_row};
 use crate::table::BenchTable;
 use schema_node::context::keyword::{Answer, Fault, Mode, Reply, Step, Validate};
 use schema_node::context::matcher::Matcher;
@@ -71,13 +72,21 @@ fn reply_to<'i>(alloc: Global, mode: Mode, verdict: bool) -> Reply<'i> {
     }
 }
 
+/// The verdict of this number; no where there are fewer.
+fn verdict_at(verdicts: &[Value], number: usize) -> bool {
+    match verdicts.get(number) {
+        Some(verdict) => verdict.as_bool().unwrap_or(false),
+        None => false,
+    }
+}
+
 /// The texts of a keyword's own errors in all mode, each with `;` after it, and before them `?` for each question, which
 /// is answered by no error, or `!` for one that asks a verdict, which is answered by these in turn.
 fn told<K: Validate>(
     alloc: Global,
     keyword: &K,
     value: &Value,
-    verdicts: &[bool],
+    verdicts: &[Value],
     log: &mut String,
 ) -> Result<(), OutOfMemory> {
     let instance = Instance::Value(value);
@@ -89,7 +98,7 @@ fn told<K: Validate>(
             None => return push_texts(answer, log),
             Some(mode) => {
                 log.push_str(if let Mode::Verdict = mode { "!" } else { "?" })?;
-                let verdict = question < verdicts.len() && verdicts[question];
+                let verdict = verdict_at(verdicts, question);
                 reply = reply_to(alloc, mode, verdict);
             }
         }
@@ -144,307 +153,131 @@ fn push_descriptions(answer: Answer<'_>, log: &mut String) -> Result<(), OutOfMe
     Ok(())
 }
 
-/// Whether the evaluation by a keyword of a schema, both as JSON texts, gives this for its unit.
-fn evaluates(
-    alloc: Global,
-    schema: &str,
-    name: &str,
-    value: &str,
-    want: &str,
-) -> Result<bool, serde_json::Error> {
-    let schema = Value::from_str(alloc, schema)?;
-    let value = Value::from_str(alloc, value)?;
-    let table = BenchTable {};
-    let mut requests = String::new(alloc);
-    let keyword: Option<BenchKeyword> = make(
-        alloc,
-        &table,
-        &schema,
-        Draft::Draft202012,
-        name,
-        &mut requests,
-    )?;
-    let mut log = String::new(alloc);
-    if let Some(keyword) = keyword {
-        evaluated(alloc, &keyword, &value, &mut log)?;
+/// The draft of this name.
+fn draft_named(name: &str) -> Draft {
+    match name {
+        "7" => Draft::Draft7,
+        "2019-09" => Draft::Draft201909,
+        "unknown" => Draft::Unknown,
+        _ => Draft::Draft202012,
     }
-    Ok(log.as_str() == want)
+}
+
+/// What a row's keyword is asked for when it is made, and what it then tells of the row's value.
+fn log_of(alloc: Global, row: &Value) -> Result<String, OutOfMemory> {
+    let mut log = String::new(alloc);
+    let draft = draft_named(text_at(row, 0));
+    let schema = column(row, 1);
+    let name = text_at(row, 2);
+    let made: Option<BenchKeyword> = make(alloc, &BenchTable {}, schema, draft, name, &mut log)?;
+    if let Some(keyword) = made {
+        told(alloc, &keyword, column(row, 3), list_at(row, 4), &mut log)?;
+    }
+    Ok(log)
+}
+
+/// The number of the first row that is wrong of a table of drafts, schemas, names, values, verdicts and logs.
+fn wrong_log(alloc: Global, table: &str) -> Result<Option<usize>, serde_json::Error> {
+    wrong_row(
+        alloc,
+        table,
+        |row| Ok(log_of(alloc, row)?.as_str() == text_at(row, 5)),
+    )
+}
+
+#[test]
+fn keywords_that_ask_nothing(rt: HostRuntime) -> Result<(), serde_json::Error> {
+    assert_eq!(rt; wrong_log(rt.alloc(), LEAVES)?, None);
+    Ok(())
+}
+
+const LEAVES: &str = r##"[
+["2020-12", {"type":"string"}, "type", 1, [], "1 is not of type \"string\";"],
+["2020-12", {"type":"string"}, "type", "AB", [], ""],
+["2020-12", {"type":["string","null"]}, "type", 1, [], "1 is not of types \"string\", \"null\";"],
+["2020-12", {"type":"integer"}, "type", 18446744073709551615, [], ""],
+["2020-12", {"type":"text"}, "type", 1, [], "\"type\" has a value of another shape"],
+["2020-12", {"required":["foo","a","bar"]}, "required", {"a":3}, [],
+ "\"foo\" is a required property;\"bar\" is a required property;"],
+["2020-12", {"required":["foo","a","bar"]}, "required", 1, [], ""],
+["2020-12", {"minLength":3}, "minLength", "aé", [], "\"aé\" is shorter than 3 characters;"],
+["2020-12", {"maxLength":1}, "maxLength", "abc", [], "\"abc\" is longer than 1 character;"],
+["2020-12", {"minProperties":2}, "minProperties", {"a":3}, [], "{\"a\":3} has less than 2 properties;"],
+["2020-12", {"minProperties":1}, "minProperties", {}, [], "{} has less than 1 property;"],
+["2020-12", {"pattern":1}, "pattern", 1, [], "\"pattern\" has a value of another shape"]
+]"##;
+
+#[test]
+fn keywords_that_ask(rt: HostRuntime) -> Result<(), serde_json::Error> {
+    assert_eq!(rt; wrong_log(rt.alloc(), QUESTIONS)?, None);
+    Ok(())
+}
+
+const QUESTIONS: &str = r##"[
+["2020-12", {"properties":{"b":true,"a":{}}}, "properties", {"a":3}, [], "/properties/a /properties/b ?"],
+["2020-12", {"allOf":[true,{}]}, "allOf", 1, [], "/allOf/0 /allOf/1 ??"],
+["2020-12", {"prefixItems":[{},{},{}]}, "prefixItems", [1,2], [], "/prefixItems/0 /prefixItems/1 /prefixItems/2 ??"],
+["2020-12", {"prefixItems":[{},{},{}],"items":false}, "items", [1,2,3,4,5], [], "/items ??"],
+["unknown", {"prefixItems":[{},{},{}],"items":false}, "items", [1,2,3,4,5], [], "/items ??"],
+["2019-09", {"prefixItems":[{},{},{}],"items":false}, "items", [1,2,3,4,5], [], "/items ?????"],
+["2020-12", {"prefixItems":[{},{},{}],"items":false}, "items", 5, [], "/items "],
+["2020-12", {"items":[true]}, "items", [1,2,3,4,5], [], "/items ?????"],
+["7", {"items":[true]}, "items", [1,2,3,4,5], [], ""],
+["2020-12", {"propertyNames":{}}, "propertyNames", {"a":3,"b":4}, [], "/propertyNames ??"],
+["2020-12", {"propertyNames":{}}, "propertyNames", [1], [], "/propertyNames "],
+["2020-12", {"not":{"type":"integer"}}, "not", 1, [true], "/not !{\"type\":\"integer\"} is not allowed for 1;"],
+["2020-12", {"not":{"type":"integer"}}, "not", 1, [false], "/not !"],
+["2020-12", {"anyOf":[{},{},{}]}, "anyOf", 1, [false,false,false],
+ "/anyOf/0 /anyOf/1 /anyOf/2 !!!1 is not valid under any of the schemas listed in the 'anyOf' keyword;"],
+["2020-12", {"anyOf":[{},{},{}]}, "anyOf", 1, [false,true,true], "/anyOf/0 /anyOf/1 /anyOf/2 !!"],
+["2020-12", {"anyOf":{}}, "anyOf", 1, [], "\"anyOf\" has a value of another shape"],
+["2020-12", {"oneOf":[{},{},{}]}, "oneOf", 1, [false,false,false],
+ "/oneOf/0 /oneOf/1 /oneOf/2 !!!1 is not valid under any of the schemas listed in the 'oneOf' keyword;"],
+["2020-12", {"oneOf":[{},{},{}]}, "oneOf", 1, [true,true,false],
+ "/oneOf/0 /oneOf/1 /oneOf/2 !!1 is valid under more than one of the schemas listed in the 'oneOf' keyword;"],
+["2020-12", {"oneOf":[{},{},{}]}, "oneOf", 1, [false,true,false], "/oneOf/0 /oneOf/1 /oneOf/2 !!!"],
+["2020-12", {"oneOf":1}, "oneOf", 1, [], "\"oneOf\" has a value of another shape"],
+["2020-12", {"else":{},"if":{},"then":{}}, "if", 1, [true], "/if /then /else !?"],
+["2020-12", {"else":{},"if":{},"then":{}}, "if", 1, [false], "/if /then /else !?"],
+["2020-12", {"else":{},"if":{}}, "if", 1, [true], "/if /else !"],
+["2020-12", {"else":{},"if":{}}, "if", 1, [false], "/if /else !?"]
+]"##;
+
+/// What the evaluation by a row's keyword of its value gives for its unit.
+fn unit_of(alloc: Global, row: &Value) -> Result<String, OutOfMemory> {
+    let mut log = String::new(alloc);
+    let draft = Draft::Draft202012;
+    let name = text_at(row, 1);
+    let made: Option<BenchKeyword> = make(
+        alloc,
+        &BenchTable {},
+        column(row, 0),
+        draft,
+        name,
+        &mut log,
+    )?;
+    log.clear();
+    if let Some(keyword) = made {
+        evaluated(alloc, &keyword, column(row, 2), &mut log)?;
+    }
+    Ok(log)
 }
 
 #[test]
 fn units(rt: HostRuntime) -> Result<(), serde_json::Error> {
     let alloc = rt.alloc();
-    let one = r#"{"type": "string"}"#;
-    let refused = r#"invalid type: 1 is not of type "string""#;
-    assert!(rt; evaluates(alloc, one, "type", "1", refused)?);
-    assert!(rt; evaluates(alloc, one, "type", r#""AB""#, "valid ")?);
-    let not = r#"{"not": {"type": "integer"}}"#;
-    let text = r#"invalid not: {"type":"integer"} is not allowed for 1"#;
-    assert!(rt; evaluates(alloc, not, "not", "1", text)?);
+    let wrong = wrong_row(alloc, UNITS, |row| {
+        Ok(unit_of(alloc, row)?.as_str() == text_at(row, 3))
+    })?;
+    assert_eq!(rt; wrong, None);
     Ok(())
 }
 
-/// What a schema's keyword asks for, and what it tells of a value.
-fn log_of(
-    alloc: Global,
-    schema: &Value,
-    draft: Draft,
-    name: &str,
-    value: &Value,
-    verdicts: &[bool],
-) -> Result<String, OutOfMemory> {
-    let mut log = String::new(alloc);
-    let table = BenchTable {};
-    let keyword: Option<BenchKeyword> = make(alloc, &table, schema, draft, name, &mut log)?;
-    if let Some(keyword) = keyword {
-        told(alloc, &keyword, value, verdicts, &mut log)?;
-    }
-    Ok(log)
-}
-
-/// Whether the log of a keyword and a value, both as JSON texts, is this one.
-fn logs(
-    alloc: Global,
-    schema: &str,
-    name: &str,
-    value: &str,
-    want: &str,
-) -> Result<bool, serde_json::Error> {
-    logs_in(alloc, Draft::Draft202012, schema, name, value, want)
-}
-
-/// The same in a draft.
-fn logs_in(
-    alloc: Global,
-    draft: Draft,
-    schema: &str,
-    name: &str,
-    value: &str,
-    want: &str,
-) -> Result<bool, serde_json::Error> {
-    let schema = Value::from_str(alloc, schema)?;
-    let value = Value::from_str(alloc, value)?;
-    let log = log_of(alloc, &schema, draft, name, &value, &[])?;
-    Ok(log.as_str() == want)
-}
-
-/// The same, where the verdicts that it asks for are these.
-fn judges(
-    alloc: Global,
-    schema: &str,
-    name: &str,
-    verdicts: &[bool],
-    want: &str,
-) -> Result<bool, serde_json::Error> {
-    let schema = Value::from_str(alloc, schema)?;
-    let value = Value::from_str(alloc, "1")?;
-    let log = log_of(alloc, &schema, Draft::Draft202012, name, &value, verdicts)?;
-    Ok(log.as_str() == want)
-}
-
-#[test]
-fn types(rt: HostRuntime) -> Result<(), serde_json::Error> {
-    let alloc = rt.alloc();
-    let one = r#"{"type": "string"}"#;
-    let two = r#"{"type": ["string", "null"]}"#;
-    assert!(rt; logs(alloc, one, "type", "1", r#"1 is not of type "string";"#)?);
-    assert!(rt; logs(alloc, one, "type", r#""AB""#, "")?);
-    assert!(rt;
-        logs(
-            alloc,
-            two,
-            "type",
-            "1",
-            r#"1 is not of types "string", "null";"#
-        )?
-    );
-    assert!(rt;
-        logs(
-            alloc,
-            r#"{"type": "integer"}"#,
-            "type",
-            "18446744073709551615",
-            ""
-        )?
-    );
-    assert!(rt;
-        logs(
-            alloc,
-            r#"{"type": "text"}"#,
-            "type",
-            "1",
-            r#""type" has a value of another shape"#
-        )?
-    );
-    Ok(())
-}
-
-#[test]
-fn required(rt: HostRuntime) -> Result<(), serde_json::Error> {
-    let alloc = rt.alloc();
-    let schema = r#"{"required": ["foo", "a", "bar"]}"#;
-    let want = r#""foo" is a required property;"bar" is a required property;"#;
-    assert!(rt; logs(alloc, schema, "required", r#"{"a": 3}"#, want)?);
-    assert!(rt; logs(alloc, schema, "required", "1", "")?);
-    Ok(())
-}
-
-#[test]
-fn counts(rt: HostRuntime) -> Result<(), serde_json::Error> {
-    let alloc = rt.alloc();
-    let schema = r#"{"minLength": 3, "maxLength": 1, "minProperties": 2}"#;
-    assert!(rt;
-        logs(
-            alloc,
-            schema,
-            "minLength",
-            r#""aé""#,
-            r#""aé" is shorter than 3 characters;"#
-        )?
-    );
-    assert!(rt;
-        logs(
-            alloc,
-            schema,
-            "maxLength",
-            r#""abc""#,
-            r#""abc" is longer than 1 character;"#
-        )?
-    );
-    assert!(rt;
-        logs(
-            alloc,
-            schema,
-            "minProperties",
-            r#"{"a": 3}"#,
-            r#"{"a":3} has less than 2 properties;"#
-        )?
-    );
-    assert!(rt;
-        logs(
-            alloc,
-            r#"{"minProperties": 1}"#,
-            "minProperties",
-            "{}",
-            "{} has less than 1 property;"
-        )?
-    );
-    Ok(())
-}
-
-#[test]
-fn children(rt: HostRuntime) -> Result<(), serde_json::Error> {
-    let alloc = rt.alloc();
-    let schema =
-        r#"{"properties": {"b": true, "a": {}}, "allOf": [true, {}], "prefixItems": [{}, {}, {}]}"#;
-    assert!(rt;
-        logs(
-            alloc,
-            schema,
-            "properties",
-            r#"{"a": 3}"#,
-            "/properties/a /properties/b ?"
-        )?
-    );
-    assert!(rt; logs(alloc, schema, "allOf", "1", "/allOf/0 /allOf/1 ??")?);
-    assert!(rt;
-        logs(
-            alloc,
-            schema,
-            "prefixItems",
-            "[1, 2]",
-            "/prefixItems/0 /prefixItems/1 /prefixItems/2 ??"
-        )?
-    );
-    Ok(())
-}
-
-#[test]
-fn items(rt: HostRuntime) -> Result<(), serde_json::Error> {
-    let alloc = rt.alloc();
-    let schema = r#"{"prefixItems": [{}, {}, {}], "items": false}"#;
-    let list = r#"{"items": [true]}"#;
-    let five = "[1,2,3,4,5]";
-    assert!(rt; logs(alloc, schema, "items", five, "/items ??")?);
-    assert!(rt; logs_in(alloc, Draft::Unknown, schema, "items", five, "/items ??")?);
-    assert!(rt;
-        logs_in(
-            alloc,
-            Draft::Draft201909,
-            schema,
-            "items",
-            five,
-            "/items ?????"
-        )?
-    );
-    assert!(rt; logs(alloc, schema, "items", "5", "/items ")?);
-    assert!(rt; logs(alloc, list, "items", five, "/items ?????")?);
-    assert!(rt; logs_in(alloc, Draft::Draft7, list, "items", five, "")?);
-    Ok(())
-}
-
-#[test]
-fn not(rt: HostRuntime) -> Result<(), serde_json::Error> {
-    let alloc = rt.alloc();
-    let schema = r#"{"not": {"type": "integer"}}"#;
-    let refused = r#"/not !{"type":"integer"} is not allowed for 1;"#;
-    assert!(rt; judges(alloc, schema, "not", &[true], refused)?);
-    assert!(rt; judges(alloc, schema, "not", &[false], "/not !")?);
-    Ok(())
-}
-
-#[test]
-fn any_of(rt: HostRuntime) -> Result<(), serde_json::Error> {
-    let alloc = rt.alloc();
-    let schema = r#"{"anyOf": [{}, {}, {}]}"#;
-    let none =
-        "/anyOf/0 /anyOf/1 /anyOf/2 !!!1 is not valid under any of the schemas listed in the 'anyOf' keyword;";
-    assert!(rt; judges(alloc, schema, "anyOf", &[false, false, false], none)?);
-    let second = "/anyOf/0 /anyOf/1 /anyOf/2 !!";
-    assert!(rt; judges(alloc, schema, "anyOf", &[false, true, true], second)?);
-    let malformed = r#""anyOf" has a value of another shape"#;
-    assert!(rt; judges(alloc, r#"{"anyOf": {}}"#, "anyOf", &[], malformed)?);
-    Ok(())
-}
-
-#[test]
-fn one_of(rt: HostRuntime) -> Result<(), serde_json::Error> {
-    let alloc = rt.alloc();
-    let schema = r#"{"oneOf": [{}, {}, {}]}"#;
-    let none =
-        "/oneOf/0 /oneOf/1 /oneOf/2 !!!1 is not valid under any of the schemas listed in the 'oneOf' keyword;";
-    assert!(rt; judges(alloc, schema, "oneOf", &[false, false, false], none)?);
-    let many =
-        "/oneOf/0 /oneOf/1 /oneOf/2 !!1 is valid under more than one of the schemas listed in the 'oneOf' keyword;";
-    assert!(rt; judges(alloc, schema, "oneOf", &[true, true, false], many)?);
-    let one = "/oneOf/0 /oneOf/1 /oneOf/2 !!!";
-    assert!(rt; judges(alloc, schema, "oneOf", &[false, true, false], one)?);
-    let malformed = r#""oneOf" has a value of another shape"#;
-    assert!(rt; judges(alloc, r#"{"oneOf": 1}"#, "oneOf", &[], malformed)?);
-    Ok(())
-}
-
-#[test]
-fn conditions(rt: HostRuntime) -> Result<(), serde_json::Error> {
-    let alloc = rt.alloc();
-    let both = r#"{"else": {}, "if": {}, "then": {}}"#;
-    let last = r#"{"else": {}, "if": {}}"#;
-    assert!(rt; judges(alloc, both, "if", &[true], "/if /then /else !?")?);
-    assert!(rt; judges(alloc, both, "if", &[false], "/if /then /else !?")?);
-    assert!(rt; judges(alloc, last, "if", &[true], "/if /else !")?);
-    assert!(rt; judges(alloc, last, "if", &[false], "/if /else !?")?);
-    Ok(())
-}
-
-#[test]
-fn property_names(rt: HostRuntime) -> Result<(), serde_json::Error> {
-    let alloc = rt.alloc();
-    let schema = r#"{"propertyNames": {}}"#;
-    let two = r#"{"a": 3, "b": 4}"#;
-    assert!(rt; logs(alloc, schema, "propertyNames", two, "/propertyNames ??")?);
-    assert!(rt; logs(alloc, schema, "propertyNames", "[1]", "/propertyNames ")?);
-    Ok(())
-}
+const UNITS: &str = r##"[
+[{"type":"string"}, "type", 1, "invalid type: 1 is not of type \"string\""],
+[{"type":"string"}, "type", "AB", "valid "],
+[{"not":{"type":"integer"}}, "not", 1, "invalid not: {\"type\":\"integer\"} is not allowed for 1"]
+]"##;
 
 /// What a keyword's run in a mode asks a matcher, as pattern, subject and `located` or `bare`, and the texts of its own
 /// errors in all mode, where that is answered so.
@@ -476,43 +309,37 @@ fn matched<K: Validate>(
     push_texts(answer, log)
 }
 
-/// Whether that is what the keyword `pattern` of a schema asks and tells, schema and value being JSON texts.
-fn asks_match(
-    alloc: Global,
-    value: &str,
-    mode: Mode,
-    matches: bool,
-    want: &str,
-) -> Result<bool, serde_json::Error> {
-    let schema = Value::from_str(alloc, r#"{"pattern": "b\"c"}"#)?;
-    let value = Value::from_str(alloc, value)?;
+/// What the keyword `pattern` of a schema asks of a row's value in a mode, and what it then tells.
+fn match_asked(alloc: Global, row: &Value) -> Result<String, OutOfMemory> {
     let mut log = String::new(alloc);
-    let keyword: Option<BenchKeyword> = make(
-        alloc,
-        &BenchTable {},
-        &schema,
-        Draft::Draft202012,
-        "pattern",
-        &mut log,
-    )?;
-    if let Some(keyword) = keyword {
-        matched(alloc, &keyword, &value, mode, matches, &mut log)?;
-    }
-    Ok(log.as_str() == want)
+    let mode = match text_at(row, 2) {
+        "verdict" => Mode::Verdict,
+        "first" => Mode::First,
+        _ => Mode::All,
+    };
+    let matches = column(row, 3).as_bool().unwrap_or(false);
+    let pattern = String::from_str(alloc, text_at(row, 0))?;
+    let keyword = BenchKeyword::Pattern(pattern);
+    matched(alloc, &keyword, column(row, 1), mode, matches, &mut log)?;
+    Ok(log)
 }
 
 #[test]
 fn pattern(rt: HostRuntime) -> Result<(), serde_json::Error> {
     let alloc = rt.alloc();
-    let refused = r#"b"c é located "é" does not match "b"c";"#;
-    assert!(rt; asks_match(alloc, r#""é""#, Mode::All, false, refused)?);
-    assert!(rt; asks_match(alloc, r#""é""#, Mode::First, true, r#"b"c é located "#)?);
-    assert!(rt; asks_match(alloc, r#""é""#, Mode::Verdict, true, r#"b"c é bare "#)?);
-    assert!(rt; asks_match(alloc, "[1]", Mode::All, false, "")?);
-    let malformed = r#""pattern" has a value of another shape"#;
-    assert!(rt; logs(alloc, r#"{"pattern": 1}"#, "pattern", "1", malformed)?);
+    let wrong = wrong_row(alloc, PATTERNS, |row| {
+        Ok(match_asked(alloc, row)?.as_str() == text_at(row, 4))
+    })?;
+    assert_eq!(rt; wrong, None);
     Ok(())
 }
+
+const PATTERNS: &str = r##"[
+["b\"c", "é", "all", false, "b\"c é located \"é\" does not match \"b\"c\";"],
+["b\"c", "é", "first", true, "b\"c é located "],
+["b\"c", "é", "verdict", true, "b\"c é bare "],
+["b\"c", [1], "all", false, ""]
+]"##;
 
 /// What a matcher says: `yes`, `no`, or the text of a limit.
 fn said<M: Matcher>(

@@ -138,17 +138,40 @@ fn with_own<'i>(
     match mode {
         Mode::Verdict => Ok(refused(before)),
         Mode::Evaluate => evaluated(alloc, keyword, text, before),
-        Mode::First => {
-            let fault = own_fault(alloc, keyword, text)?;
-            Ok(with_first(before, fault))
-        }
-        Mode::All => {
-            let fault = own_fault(alloc, keyword, text)?;
-            let mut faults = faults_of(alloc, before)?;
-            faults.push(fault)?;
-            Ok(Answer::All(faults))
-        }
+        Mode::First => with_own_first(alloc, keyword, text, before),
+        Mode::All => with_own_last(alloc, keyword, text, before),
     }
+}
+
+/// The answer with an error of the keyword's own as its first, where it has none.
+fn with_own_first<'i>(
+    alloc: Global,
+    keyword: &str,
+    text: String,
+    before: Answer<'i>,
+) -> Result<Answer<'i>, OutOfMemory>
+    ensures noted { IfOk result (λ after. (texts : Bool) → answer_of texts after
+        ≡ noted_one Mode.First (answer_of texts before.entry) (own (plain keyword.now (spoken texts (string_bytes text))))) }
+    ensures borrows { IfOk result (λ after. (root : Data) → All (PassesBorrowed root) (faults_in before.entry) → All (PassesBorrowed root) (faults_in after)) }
+{
+    let fault = own_fault(alloc, keyword, text)?;
+    Ok(with_first(before, fault))
+}
+
+/// The answer with an error of the keyword's own after the others.
+fn with_own_last<'i>(
+    alloc: Global,
+    keyword: &str,
+    text: String,
+    before: Answer<'i>,
+) -> Result<Answer<'i>, OutOfMemory>
+    ensures noted { IfOk result (λ after. (texts : Bool) → answer_of texts after
+        ≡ noted_one Mode.All (answer_of texts before.entry) (own (plain keyword.now (spoken texts (string_bytes text))))) }
+    ensures borrows { IfOk result (λ after. (root : Data) → All (PassesBorrowed root) (faults_in before.entry) → All (PassesBorrowed root) (faults_in after)) }
+{
+    let mut faults = faults_of(alloc, before)?;
+    faults.push(own_fault(alloc, keyword, text)?)?;
+    Ok(Answer::All(faults))
 }
 
 /// An error at the keyword itself.
@@ -178,7 +201,7 @@ pub fn goes_on(reply: &Reply<'_>) -> bool
 }
 
 /// Whether a reply says yes.
-pub fn says_yes(reply: &Reply<'_>) -> bool
+fn is_yes(reply: &Reply<'_>) -> bool
     ensures yes { (texts : Bool) → result ≡ says_yes (reply_of texts reply.now) }
 {
     match reply {
@@ -187,6 +210,13 @@ pub fn says_yes(reply: &Reply<'_>) -> bool
         Reply::First(_) => false,
         Reply::All(_) => false,
     }
+}
+
+/// Whether a reply says yes, which is all that is wanted of it.
+pub fn says_yes(reply: Reply<'_>) -> bool
+    ensures yes { (texts : Bool) → result ≡ says_yes (reply_of texts reply.entry) }
+{
+    is_yes(&reply)
 }
 
 /// Takes what a child answered.

@@ -58,7 +58,7 @@ pub fn turn_any_of<'s, 'i>(
         enough: 1,
         shows: true,
     };
-    match judge_on(judge, run, &reply) {
+    match judge_on(judge, run, reply) {
         Judging::Asks(child, asked) => Ok(Step::Ask(child, Below::Here, asked)),
         Judging::Judged(accepted) => {
             tell_any_of(alloc, accepted, mode, instance, answer)?;

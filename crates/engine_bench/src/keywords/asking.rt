@@ -5,6 +5,7 @@ ghost use Rattle.schema_reports.specs.ReportViews.{BorrowsItsPlace};
 ghost use Rattle.schema_reports.specs.Keywords.{Question};
 ghost use Rattle.schema_node.specs.FaultViews.{errors_in, faults_in, PassesBorrowed};
 ghost use Rattle.schema_node.specs.KeywordViews.{answer_of, reply_of};
+ghost use Rattle.schema_node.specs.declared.context.keyword.Mode.{Mode};
 ghost use Rattle.engine_bench.specs.Ways.{answer_after, passes_on};
 ghost use Rattle.engine_bench.specs.Asking.{IsNext};
 
@@ -13,6 +14,23 @@ use crate::keywords::run::{Progress, Stage};
 use schema_node::context::keyword::{Answer, Reply};
 use schema_reports::location::OutOfMemory;
 use std::alloc::Global;
+
+/// Takes the reply to what was asked; where nothing was, there is nothing to take.
+fn take_asked<'i>(
+    alloc: Global,
+    stage: Stage,
+    reply: Reply<'i>,
+    answer: &mut Answer<'i>,
+) -> Result<(), OutOfMemory>
+    ensures answered { IfOk result (λ _. (texts : Bool) (qs : List Question) (m : Mode) → answer_of texts answer.new
+        ≡ answer_after (passes_on qs) m stage (answer_of texts answer.old) (reply_of texts reply.entry)) }
+    ensures borrows { IfOk result (λ _. (root : Data) → All (BorrowsItsPlace root) (errors_in reply.entry) → All (PassesBorrowed root) (faults_in answer.old) → All (PassesBorrowed root) (faults_in answer.new)) }
+{
+    match stage {
+        Stage::Asked(_) => take(alloc, reply, answer),
+        _ => Ok(()),
+    }
+}
 
 /// Takes a reply, and says which question comes next, by its place in order. There are at most `limit` questions.
 pub fn onward<'i>(
@@ -27,11 +45,11 @@ pub fn onward<'i>(
     ensures next { IfOk result (λ place. (texts : Bool) (qs : List Question) → length qs ≤ limit → IsNext qs run.now.stage (reply_of texts reply.entry) place) }
     ensures borrows { IfOk result (λ _. (root : Data) → All (BorrowsItsPlace root) (errors_in reply.entry) → All (PassesBorrowed root) (faults_in answer.old) → All (PassesBorrowed root) (faults_in answer.new)) }
 {
+    let onward = goes_on(&reply);
+    take_asked(alloc, run.stage, reply, answer)?;
     match run.stage {
         Stage::Begun => Ok(Some(0)),
         Stage::Asked(last) => {
-            let onward = goes_on(&reply);
-            take(alloc, reply, answer)?;
             if !onward {
                 return Ok(None);
             }

@@ -59,7 +59,7 @@ pub fn turn_if<'s, 'i>(
         }
         Stage::Asked(place) => {
             if place == 0 {
-                return Ok(ask_branch(says_yes(&reply), accepted, refused, run));
+                return Ok(ask_branch(says_yes(reply), accepted, refused, run));
             }
             run.stage = Stage::Ended;
             take(alloc, reply, answer)?;

@@ -105,19 +105,20 @@ fn place_after(last: usize, count: usize, settled: bool) -> Option<usize>
 }
 
 /// Takes a turn of a run that judges.
-pub fn judge_on(judge: Judge, run: &mut Progress, reply: &Reply<'_>) -> Judging
+pub fn judge_on(judge: Judge, run: &mut Progress, reply: Reply<'_>) -> Judging
     ensures stage { (texts : Bool) (t : Tally) → t.enough ≡ judge.enough → t.shows ≡ judge.shows
-        → run.new ≡ record run.old { stage = stage_after (judges t (each_from child_here 0 judge.count)) run.old.mode run.old.stage (reply_of texts reply.now) } }
+        → run.new ≡ record run.old { stage = stage_after (judges t (each_from child_here 0 judge.count)) run.old.mode run.old.stage (reply_of texts reply.entry) } }
     ensures step { (texts : Bool) (t : Tally) → t.enough ≡ judge.enough → t.shows ≡ judge.shows
-        → step_at (judges t (each_from child_here 0 judge.count)) run.old.mode run.old.stage (reply_of texts reply.now) ≡ judging_turn result }
+        → step_at (judges t (each_from child_here 0 judge.count)) run.old.mode run.old.stage (reply_of texts reply.entry) ≡ judging_turn result }
     ensures answer { (texts : Bool) (t : Tally) (a : AnswerOfRun) → t.enough ≡ judge.enough → t.shows ≡ judge.shows
-        → answer_after (judges t (each_from child_here 0 judge.count)) run.old.mode run.old.stage a (reply_of texts reply.now) ≡ judging_answer t run.old.mode a result }
+        → answer_after (judges t (each_from child_here 0 judge.count)) run.old.mode run.old.stage a (reply_of texts reply.entry) ≡ judging_answer t run.old.mode a result }
 {
     let units = wants_units(judge.shows, run.mode);
+    let yes = says_yes(reply);
     match run.stage {
         Stage::Begun => judge_at(Some(0), 0, judge.count, units, run),
         Stage::Counted(last, before) => {
-            let accepted = tallied(judge.enough, says_yes(reply), before);
+            let accepted = tallied(judge.enough, yes, before);
             let settled = is_settled(units, judge.enough, accepted);
             let place = place_after(last, judge.count, settled);
             judge_at(place, accepted, judge.count, units, run)

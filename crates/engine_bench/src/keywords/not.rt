@@ -74,7 +74,7 @@ pub fn turn_not<'s, 'i>(
         enough: 1,
         shows: false,
     };
-    match judge_on(judge, run, &reply) {
+    match judge_on(judge, run, reply) {
         Judging::Asks(child, asked) => Ok(Step::Ask(child, Below::Here, asked)),
         Judging::Judged(accepted) => {
             tell_not(alloc, schema, accepted, mode, instance, answer)?;

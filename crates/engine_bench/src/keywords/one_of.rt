@@ -72,7 +72,7 @@ pub fn turn_one_of<'s, 'i>(
         enough: 2,
         shows: true,
     };
-    match judge_on(judge, run, &reply) {
+    match judge_on(judge, run, reply) {
         Judging::Asks(child, asked) => Ok(Step::Ask(child, Below::Here, asked)),
         Judging::Judged(accepted) => {
             tell_one_of(alloc, accepted, mode, instance, answer)?;

@@ -83,6 +83,7 @@ fn turn_of_text<'s, 'i>(
         → way_step (asks_match (codes "pattern") (record { pattern = pattern.now; subject = text.now }) (spoken texts (pattern_text pattern.now (subject_of instance.entry)))) (run.old, answer_of texts answer.old) (reply_of texts reply.entry) ≡ turn_of step) }
     ensures borrows { IfOk result (λ _. (root : Data) → All (BorrowsItsPlace root) (errors_in reply.entry) → All (PassesBorrowed root) (faults_in answer.old) → All (PassesBorrowed root) (faults_in answer.new)) }
 {
+    let matches = says_yes(reply);
     match run.stage {
         Stage::Begun => {
             run.stage = Stage::Asked(0);
@@ -90,7 +91,7 @@ fn turn_of_text<'s, 'i>(
         }
         Stage::Asked(_) => {
             run.stage = Stage::Ended;
-            tell_pattern(alloc, pattern, says_yes(&reply), run.mode, instance, answer)?;
+            tell_pattern(alloc, pattern, matches, run.mode, instance, answer)?;
             Ok(Step::Done)
         }
         _ => {

@@ -7,6 +7,7 @@ ghost use Rattle.engine_bench.specs.ProgramViews.{texts, words_of};
 ghost use Rattle.engine_bench.specs.ProgramWords.{Holds, IsListOf, IsTextOf, call_in, call_named, listed, words_in};
 
 use crate::program::faults::{Fault, Word};
+use crate::table::keyword_values::texts_of;
 use schema_reports::location::OutOfMemory;
 use serde_json::{Category, Value};
 use std::alloc::Global;
@@ -96,20 +97,6 @@ fn listed(alloc: Global, value: &Value) -> Result<Option<Vec<String>>, OutOfMemo
         return Ok(None);
     };
     texts_of(alloc, items.as_slice())
-}
-
-/// The texts that values are, if each is one.
-fn texts_of(alloc: Global, items: &[Value]) -> Result<Option<Vec<String>>, OutOfMemory>
-    ensures texts { IfOk result (λ found. option_map (λ v. map string_bytes v.items) found ≡ texts_of (items_view items.now)) }
-{
-    let mut found = Vec::new(alloc);
-    for item in items {
-        match item {
-            Value::String(text) => found.push(String::from_str(alloc, text.as_str())?)?,
-            _ => return Ok(None),
-        }
-    }
-    Ok(Some(found))
 }
 
 /// The texts that the JSON text of a list of texts holds.

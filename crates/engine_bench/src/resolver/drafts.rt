@@ -1,5 +1,5 @@
 //! The drafts that values name.
-ghost use Rattle.std.specs.Prelude.{◌≡◌, bytes_eq, codes, option_map};
+ghost use Rattle.std.specs.Prelude.{◌≡◌, ◌||◌, bytes_eq, codes, option_map};
 ghost use Rattle.serde_json.specs.View.{view};
 ghost use Rattle.schema_reports.specs.KeywordViews.{draft_of};
 ghost use Rattle.engine_bench.specs.BenchResolving.{detected, draft_of_uri, text_member};
@@ -17,36 +17,57 @@ pub fn text_member<'v>(value: &'v Value, name: &str) -> Option<&'v str>
     }
 }
 
+/// Whether a text is one of two.
+fn is_either(text: &str, one: &str, other: &str) -> bool
+    ensures either { result ≡ bytes_eq text.now one.now || bytes_eq text.now other.now }
+{
+    text == one || text == other
+}
+
 /// The draft that a URI names, with or without a last `#`.
 fn draft_of_uri(uri: &str) -> Draft
     ensures draft { draft_of result ≡ draft_of_uri uri.now }
 {
-    if uri == "http://json-schema.org/draft-04/schema"
-        || uri == "http://json-schema.org/draft-04/schema#"
-    {
+    if is_either(
+        uri,
+        "http://json-schema.org/draft-04/schema",
+        "http://json-schema.org/draft-04/schema#",
+    ) {
         return Draft::Draft4;
     }
-    if uri == "http://json-schema.org/draft-06/schema"
-        || uri == "http://json-schema.org/draft-06/schema#"
-    {
+    if is_either(
+        uri,
+        "http://json-schema.org/draft-06/schema",
+        "http://json-schema.org/draft-06/schema#",
+    ) {
         return Draft::Draft6;
     }
-    if uri == "http://json-schema.org/draft-07/schema"
-        || uri == "http://json-schema.org/draft-07/schema#"
-    {
+    if is_either(
+        uri,
+        "http://json-schema.org/draft-07/schema",
+        "http://json-schema.org/draft-07/schema#",
+    ) {
         return Draft::Draft7;
     }
-    if uri == "https://json-schema.org/draft/2019-09/schema"
-        || uri == "https://json-schema.org/draft/2019-09/schema#"
-    {
+    if is_either(
+        uri,
+        "https://json-schema.org/draft/2019-09/schema",
+        "https://json-schema.org/draft/2019-09/schema#",
+    ) {
         return Draft::Draft201909;
     }
-    if uri == "https://json-schema.org/draft/2020-12/schema"
-        || uri == "https://json-schema.org/draft/2020-12/schema#"
-    {
+    if is_either(
+        uri,
+        "https://json-schema.org/draft/2020-12/schema",
+        "https://json-schema.org/draft/2020-12/schema#",
+    ) {
         return Draft::Draft202012;
     }
-    if uri == "https://json-schema.org/schema" || uri == "https://json-schema.org/schema#" {
+    if is_either(
+        uri,
+        "https://json-schema.org/schema",
+        "https://json-schema.org/schema#",
+    ) {
         return Draft::Draft202012;
     }
     Draft::Unknown

@@ -78,7 +78,7 @@ pub fn type_keyword(alloc: Global, value: &Value) -> Result<Option<BenchKeyword>
 }
 
 /// The texts that values are, if each is one.
-fn texts_of(alloc: Global, values: &[Value]) -> Result<Option<Vec<String>>, OutOfMemory>
+pub fn texts_of(alloc: Global, values: &[Value]) -> Result<Option<Vec<String>>, OutOfMemory>
     ensures texts { IfOk result (λ texts. option_map (λ v. map string_bytes v.items) texts ≡ texts_of (items_view values.now)) }
 {
     let mut texts = Vec::new(alloc);
