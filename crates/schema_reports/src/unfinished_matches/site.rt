@@ -224,11 +224,18 @@ impl<'i> Model for LocatedMatch<'i> {
 }
 
 impl<'i> LocatedMatch<'i> {
-    /// This match at this site.
-    pub(super) fn new(unfinished: UnfinishedMatch, site: MatchSite<'i>) -> LocatedMatch<'i>
-        ensures { result ≡ record { pair = unfinished; site = site.entry } }
+    /// The match of this pattern and this subject at a copy of this site.
+    pub(super) fn met(
+        alloc: Global,
+        pattern: &str,
+        subject: &str,
+        site: &MatchSite<'i>,
+    ) -> Result<LocatedMatch<'i>, OutOfMemory>
+        ensures { IfOk result (λ l. l ≡ record { pair = record { pattern = pattern.now; subject = subject.now }; site = site.now }) }
     {
-        LocatedMatch { unfinished, site }
+        let unfinished = UnfinishedMatch::new(alloc, pattern, subject)?;
+        let site = site.copy()?;
+        Ok(LocatedMatch { unfinished, site })
     }
 }
 
@@ -250,19 +257,22 @@ impl<'i> Model for MatchFailure<'i> {
 }
 
 impl<'i> MatchFailure<'i> {
-    /// The failure of this match at this site.
-    pub(super) fn new(
-        unfinished: UnfinishedMatch,
+    /// The failure of the match of this pattern and this subject at this site.
+    pub(super) fn met(
+        alloc: Global,
+        pattern: &str,
+        subject: &str,
         reason: Reason,
         site: MatchSite<'i>,
-    ) -> MatchFailure<'i>
-        ensures failure { result ≡ record { met = record { pair = unfinished; site = site.entry }; reason = reason_of reason } }
+    ) -> Result<MatchFailure<'i>, OutOfMemory>
+        ensures failure { IfOk result (λ f. f ≡ record { met = record { pair = record { pattern = pattern.now; subject = subject.now }; site = site.entry }; reason = reason_of reason }) }
     {
-        MatchFailure {
+        let unfinished = UnfinishedMatch::new(alloc, pattern, subject)?;
+        Ok(MatchFailure {
             unfinished,
             reason,
             site,
-        }
+        })
     }
 
     /// The match.
@@ -270,6 +280,13 @@ impl<'i> MatchFailure<'i> {
         ensures { result.now ≡ self.now.met.pair }
     {
         &self.unfinished
+    }
+
+    /// The site.
+    pub(super) fn site(&self) -> &MatchSite<'i>
+        ensures { result.now ≡ self.now.met.site }
+    {
+        &self.site
     }
 
     /// The match alone.
