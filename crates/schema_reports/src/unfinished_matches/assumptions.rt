@@ -246,7 +246,13 @@ impl<'i> MatchAssumptions<'i> {
         ensures err { OnErr result (self.new ≡ self.old) }
     {
         let failure = MatchFailure::met(self.alloc, pattern, subject, reason, site)?;
-        match note(self.alloc, &mut self.located, pattern, subject, failure.site()) {
+        match note(
+            self.alloc,
+            &mut self.located,
+            pattern,
+            subject,
+            failure.site(),
+        ) {
             Ok(()) => {
                 let outcome = assumed_outcome(&self.assumed.matches, pattern, subject);
                 keep_first(&mut self.unassumed, outcome, failure);

@@ -289,13 +289,6 @@ impl<'i> MatchFailure<'i> {
         &self.site
     }
 
-    /// The match alone.
-    pub(super) fn into_unfinished(self) -> UnfinishedMatch
-        ensures { result ≡ self.entry.met.pair }
-    {
-        self.unfinished
-    }
-
     /// Takes over the first of these sites that is of this match, where its own has no instance path.
     pub(super) fn locate(&mut self, located: Vec<LocatedMatch<'i>>)
         ensures { self.new ≡ located_by self.old located.entry.items }
