@@ -187,8 +187,8 @@ impl<'i> MatchSite<'i> {
         ensures same { IfOk result (λ s. s ≡ self.now) }
     {
         let schema_path = self.schema_path.copy()?;
-        let located = copied_place(&self.located)?;
         let pattern = copied_pattern(&self.pattern)?;
+        let located = copied_place(&self.located)?;
         Ok(MatchSite {
             schema_path,
             located,
