@@ -168,8 +168,13 @@ fn copied_place<'i>(
         None => Ok(None),
         Some(located) => {
             let evaluation_path = located.0.copy()?;
-            let place = located.1.copy()?;
-            Ok(Some((evaluation_path, place)))
+            match located.1.copy() {
+                Ok(place) => Ok(Some((evaluation_path, place))),
+                Err(error) => {
+                    drop(evaluation_path);
+                    Err(error)
+                }
+            }
         }
     }
 }
