@@ -1,5 +1,5 @@
 -- Trees that grow from the lists that wait on the stack.
-use Rattle.std.proofs.Common.{◌≡◌, ℕ, ◌+◌, List, [], ◌∷◌, ◌++◌, Some, None, true, false, sym, ◌∙◌, ap, subst, refl, append_assoc, arith, length, reverse}
+use Rattle.std.proofs.Common.{◌≡◌, ℕ, ◌+◌, List, [], ◌∷◌, ◌++◌, Option, Some, None, true, false, sym, ◌∙◌, ap, subst, refl, append_assoc, arith, length, reverse}
 use Rattle.std.proofs.lemmas.List.{append-nil, reverse-append}
 use Rattle.schema_reports.specs.Matching.{Assumptions}
 use Rattle.schema_reports.specs.Runs.{Met}
@@ -145,6 +145,15 @@ module _ {S T : Type 0} (Step : S → Remembered → Remembered → T → S → 
       let q = ap reverse e ∙ reverse-push items a in
       let q' = ap reverse ei ∙ reverse-push_two items (assuming v.met true a) (assuming v.met false a) in
       rw (q', ef) (completes_branch (reverse items) a s results count failure met result v s' (subst (λ z. Completes z s results count failure) q h) step some)
+
+  -- either of them, as the run met a match that it did not assume
+  pub stack_taken : (stack items items' : List Assumptions) (a : Assumptions) (s : S) (results results' : List T) (count : ℕ) (failure failure' : Failure) (met : Remembered) (result : T) (s' : S) (unassumed : Option Failure) → met.unassumed ≡ unassumed → stack ≡ items ++ a ∷ [] → Completes (reverse stack) s results count failure → Step s (starting a) met result s' → failure' ≡ located_by failure met.located → (met.unassumed ≡ None → (items' ≡ items) × (results' ≡ results ++ result ∷ [])) → ((v : Failure) → met.unassumed ≡ Some v → (items' ≡ items ++ assuming v.met true a ∷ [] ++ assuming v.met false a ∷ []) × (results' ≡ results)) → Completes (reverse items') s' results' (count + 1) failure'
+  stack_taken stack items items' a s results results' count failure failure' met result s' None none e h step ef whole branches =
+      let w = whole none in
+      subst (λ z. Completes (reverse z) s' results' (count + 1) failure') (sym w.0) (stack_member stack items a s results count failure met result s' results' failure' e h step none w.1 ef)
+  stack_taken stack items items' a s results results' count failure failure' met result s' (Some v) some e h step ef whole branches =
+      let w = branches v some in
+      subst (λ z. Completes (reverse items') s' z (count + 1) failure') (sym w.1) (stack_branch stack items items' a s results count failure met result v s' failure' e h step some w.0 ef)
 
   pub stack_end : (stack : List Assumptions) (s : S) (results : List T) (count : ℕ) (failure : Failure) → stack ≡ [] → Completes (reverse stack) s results count failure → Grown s results count 0 failure
   stack_end stack s results count failure e h =

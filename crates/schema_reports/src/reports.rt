@@ -2,7 +2,7 @@
 ghost use Rattle.std.specs.Prelude.{◌≡◌, List, Bool, true, false, IfOk, option_map, Some, map, drop, string_bytes};
 ghost use Rattle.std.specs.Iterator.{YieldsFirst, item_count};
 ghost use Rattle.schema_reports.specs.Pointer.{pointer_to};
-ghost use Rattle.schema_reports.specs.Meaning.{false_error};
+ghost use Rattle.schema_reports.specs.Meaning.{false_error, false_text};
 ghost use Rattle.schema_reports.specs.Owned.{owned, prefixed};
 ghost use Rattle.schema_reports.specs.InstanceTexts.{subject_has_float};
 ghost use Rattle.schema_reports.specs.InstanceViews.{subject_of};
@@ -65,6 +65,16 @@ fn copy_text(text: &Option<String>) -> Result<Option<String>, OutOfMemory>
     }
 }
 
+// The text of the schema `false`, which shows the instance, with no digits promised for a float.
+fn false_text(alloc: Global, instance: Instance<'_>) -> Result<String, OutOfMemory>
+    ensures text { IfOk result (λ t. subject_has_float (subject_of instance.entry) ≡ false → string_bytes t ≡ false_text true (subject_of instance.entry)) }
+{
+    let shown = instance.text(alloc)?;
+    let mut text = String::from_str(alloc, "False schema does not allow ")?;
+    text.push_str(shown.as_str())?;
+    Ok(text)
+}
+
 impl<'i> ValidationError<'i> {
     /// The error of the schema `false`, which refuses each instance. Its text shows the instance, with no digits promised for a float.
     pub fn false_schema(
@@ -80,8 +90,7 @@ impl<'i> ValidationError<'i> {
             → error_of texts e ≡ false_error texts (where_of place.entry schema_path evaluation_path absolute) (subject_of instance.entry)) }
         ensures borrows { IfOk result (λ e. e.instance ≡ instance.entry) }
     {
-        let mut text = String::from_str(alloc, "False schema does not allow ")?;
-        text.push_str(instance.text(alloc)?.as_str())?;
+        let text = false_text(alloc, instance)?;
         let keyword = String::from_str(alloc, "falseSchema")?;
         Ok(ValidationError {
             instance,

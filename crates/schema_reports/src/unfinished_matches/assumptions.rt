@@ -2,7 +2,7 @@
 ghost use Rattle.std.specs.Prelude.{◌≡◌, ◌∷◌, [], IfOk, IsTrue, OnErr, OnOk, is_some};
 ghost use Rattle.schema_reports.specs.Matching.{assumed};
 ghost use Rattle.schema_reports.specs.MatchViews.{reason_of};
-ghost use Rattle.schema_reports.specs.Unfinished.{is_known, meet, meet_known, noted, or_no, site_of, starting};
+ghost use Rattle.schema_reports.specs.Unfinished.{first_unassumed, is_known, meet, meet_known, noted, or_no, site_of, starting};
 
 use super::site::{LocatedMatch, MatchFailure, MatchSite, Reason, UnfinishedMatch, place_of};
 use crate::location::OutOfMemory;
@@ -174,23 +174,38 @@ fn has_site(sites: &[LocatedMatch<'_>], pattern: &str, subject: &str) -> bool
 
 // Remembers the site, where it has an instance path and there is none of the match yet.
 fn note<'i>(
+    alloc: Global,
     sites: &mut Vec<LocatedMatch<'i>>,
-    unfinished: &UnfinishedMatch,
+    pattern: &str,
+    subject: &str,
     site: &MatchSite<'i>,
 ) -> Result<(), OutOfMemory>
-    ensures ok { OnOk result (sites.new.items ≡ noted sites.old.items (record { pair = unfinished.now; site = site.now })) }
+    ensures ok { OnOk result (sites.new.items ≡ noted sites.old.items (record { pair = record { pattern = pattern.now; subject = subject.now }; site = site.now })) }
     ensures err { OnErr result (sites.new.items ≡ sites.old.items) }
 {
     if !site.has_place() {
         return Ok(());
     }
-    if has_site(sites, unfinished.pattern(), unfinished.subject()) {
+    if has_site(sites, pattern, subject) {
         return Ok(());
     }
-    let unfinished = unfinished.copy()?;
-    let site = site.copy()?;
-    sites.push(LocatedMatch::new(unfinished, site))?;
+    sites.push(LocatedMatch::met(alloc, pattern, subject, site)?)?;
     Ok(())
+}
+
+// Keeps the failure, where nothing is assumed of its match and none is kept yet.
+fn keep_first<'i>(
+    kept: &mut Option<MatchFailure<'i>>,
+    outcome: Option<bool>,
+    failure: MatchFailure<'i>,
+)
+    ensures { kept.new ≡ first_unassumed kept.old outcome failure.entry }
+{
+    if outcome.is_none() && kept.is_none() {
+        drop(kept.replace(failure));
+    } else {
+        drop(failure);
+    }
 }
 
 impl<'i> MatchAssumptions<'i> {
@@ -230,15 +245,22 @@ impl<'i> MatchAssumptions<'i> {
         ensures ok { OnOk result (self.new ≡ meet self.old (record { met = record { pair = record { pattern = pattern.now; subject = subject.now }; site = site.entry }; reason = reason_of reason })) }
         ensures err { OnErr result (self.new ≡ self.old) }
     {
-        let unfinished = UnfinishedMatch::new(self.alloc, pattern, subject)?;
-        note(&mut self.located, &unfinished, &site)?;
-        match assumed_outcome(&self.assumed.matches, pattern, subject) {
-            Some(matches) => Ok(matches),
-            None => {
-                if self.unassumed.is_none() {
-                    self.unassumed = Some(MatchFailure::new(unfinished, reason, site));
-                }
-                Ok(false)
+        let failure = MatchFailure::met(self.alloc, pattern, subject, reason, site)?;
+        match note(
+            self.alloc,
+            &mut self.located,
+            pattern,
+            subject,
+            failure.site(),
+        ) {
+            Ok(()) => {
+                let outcome = assumed_outcome(&self.assumed.matches, pattern, subject);
+                keep_first(&mut self.unassumed, outcome, failure);
+                Ok(outcome.unwrap_or(false))
+            }
+            Err(error) => {
+                drop(failure);
+                Err(error)
             }
         }
     }
@@ -255,8 +277,9 @@ impl<'i> MatchAssumptions<'i> {
         ensures ok { OnOk result (self.new ≡ meet_known self.old (record { pair = record { pattern = pattern.now; subject = subject.now }; site = site.entry })) }
         ensures err { OnErr result (self.new ≡ self.old) }
     {
-        let unfinished = UnfinishedMatch::new(self.alloc, pattern, subject)?;
-        note(&mut self.located, &unfinished, &site)?;
+        let noted = note(self.alloc, &mut self.located, pattern, subject, &site);
+        drop(site);
+        noted?;
         match assumed_outcome(&self.assumed.matches, pattern, subject) {
             Some(matches) => Ok(matches),
             None => Ok(false),

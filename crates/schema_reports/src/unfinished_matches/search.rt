@@ -1,7 +1,7 @@
 //! The search over what unfinished matches may come out as.
-ghost use Rattle.std.specs.Prelude.{[], IfOk, IsSome, Ok, Some, false, true, ◌++◌, ◌∷◌, ◌≡◌, ◌≤◌};
+ghost use Rattle.std.specs.Prelude.{[], IfOk, IsSome, None, Ok, Some, false, true, ◌++◌, ◌∷◌, ◌≡◌, ◌≤◌};
 ghost use Rattle.schema_reports.specs.Cover.{assuming};
-ghost use Rattle.schema_reports.specs.Unfinished.{Failure, located_by};
+ghost use Rattle.schema_reports.specs.Unfinished.{Failure, located_by, starting};
 ghost use Rattle.schema_reports.specs.Matching.{Assumptions};
 ghost use Rattle.schema_reports.specs.Outcomes.{AreOutcomes};
 
@@ -25,20 +25,32 @@ pub enum Outcomes<'i, T> {
     Undecided(MatchFailure<'i>),
 }
 
+// Pushes the list that assumes an outcome of the match too.
+fn push_one(
+    alloc: Global,
+    pending: &mut Vec<AssumedOutcomes>,
+    assumed: &AssumedOutcomes,
+    unfinished: &UnfinishedMatch,
+    matches: bool,
+) -> Result<(), OutOfMemory>
+    ensures { IfOk result (λ _. pending.new.items ≡ pending.old.items ++ (record { pair = unfinished.now; outcome = matches } ∷ assumed.now) ∷ []) }
+{
+    let unfinished = unfinished.copy()?;
+    pending.push(assumed.copy(alloc)?.with(unfinished, matches)?)?;
+    Ok(())
+}
+
 // Pushes the two lists that assume an outcome of the match, yes below no.
 fn push_both(
     alloc: Global,
     pending: &mut Vec<AssumedOutcomes>,
-    assumed: AssumedOutcomes,
-    unfinished: UnfinishedMatch,
+    assumed: &AssumedOutcomes,
+    unfinished: &UnfinishedMatch,
 ) -> Result<(), OutOfMemory>
-    ensures { IfOk result (λ _. pending.new.items ≡ pending.old.items ++ (record { pair = unfinished; outcome = true } ∷ assumed) ∷ [] ++ (record { pair = unfinished; outcome = false } ∷ assumed) ∷ []) }
+    ensures { IfOk result (λ _. pending.new.items ≡ pending.old.items ++ (record { pair = unfinished.now; outcome = true } ∷ assumed.now) ∷ [] ++ (record { pair = unfinished.now; outcome = false } ∷ assumed.now) ∷ []) }
 {
-    let yes = assumed.copy(alloc)?.with(unfinished.copy()?, true)?;
-    let no = assumed.with(unfinished, false)?;
-    pending.push(yes)?;
-    pending.push(no)?;
-    Ok(())
+    push_one(alloc, pending, assumed, unfinished, true)?;
+    push_one(alloc, pending, assumed, unfinished, false)
 }
 
 // The two lists that the first run calls for, and the failure: the match that it met, at the sites that it remembers.
@@ -54,8 +66,15 @@ fn begin<'i>(
     let mut failure = unassumed.unwrap();
     failure.locate(located);
     let mut pending = Vec::new(alloc);
-    push_both(alloc, &mut pending, assumed, failure.unfinished().copy()?)?;
-    Ok((pending, failure))
+    let pushed = push_both(alloc, &mut pending, &assumed, failure.unfinished());
+    drop(assumed);
+    match pushed {
+        Ok(()) => Ok((pending, failure)),
+        Err(error) => {
+            drop((pending, failure));
+            Err(error)
+        }
+    }
 }
 
 // The match that a run met and did not assume; the failure stands at the first site of its own match that has an
@@ -72,37 +91,91 @@ fn take_met<'i>(
     unassumed
 }
 
-/// Makes the runs that the unfinished matches call for, at most so many. The first run has been made, and met one.
+// Makes the run that assumes these outcomes.
+fn run_from<
+    'i,
+    T,
+    F: FnMut(MatchAssumptions<'i>) -> Result<(MatchAssumptions<'i>, T), OutOfMemory>,
+>(
+    alloc: Global,
+    run: &mut F,
+    outcomes: &AssumedOutcomes,
+) -> Result<(MatchAssumptions<'i>, T), OutOfMemory>
+    requires callable { F.IsAlwaysCallable run.old }
+    ensures callable { F.IsAlwaysCallable run.new }
+    ensures made { IfOk result (λ r. F.step run.old (starting outcomes.now) (Ok r) run.new) }
+{
+    let start = outcomes.start(alloc)?;
+    run(start)
+}
+
+// Takes what the run gave that assumed these outcomes: the sites that it met locate the failure; where it met a match
+// that it did not assume, the two lists are pushed that assume an outcome of it too; else its result is one of the search.
+fn take<'i, T: Drop>(
+    alloc: Global,
+    outcomes: &AssumedOutcomes,
+    given: (MatchAssumptions<'i>, T),
+    pending: &mut Vec<AssumedOutcomes>,
+    results: &mut Vec<T>,
+    failure: &mut MatchFailure<'i>,
+) -> Result<(), OutOfMemory>
+    ensures located { failure.new ≡ located_by failure.old given.entry.0.located }
+    ensures whole { given.entry.0.unassumed ≡ None → IfOk result (λ _. (pending.new.items ≡ pending.old.items) × (results.new.items ≡ results.old.items ++ given.entry.1 ∷ [])) }
+    ensures branches { (u : Failure) → given.entry.0.unassumed ≡ Some u → IfOk result (λ _. (pending.new.items ≡ pending.old.items ++ assuming u.met true outcomes.now ∷ [] ++ assuming u.met false outcomes.now ∷ []) × (results.new.items ≡ results.old.items)) }
+{
+    let (met, result) = given;
+    match take_met(met, failure) {
+        None => {
+            results.push(result)?;
+            Ok(())
+        }
+        Some(next) => {
+            drop(result);
+            let pushed = push_both(alloc, pending, outcomes, next.unfinished());
+            drop(next);
+            pushed
+        }
+    }
+}
+
+// Makes the runs that the unfinished matches call for, at most so many. The first run has been made, and met one.
 fn assume_within<
     'i,
     T: Drop,
     F: FnMut(MatchAssumptions<'i>) -> Result<(MatchAssumptions<'i>, T), OutOfMemory>,
 >(
     alloc: Global,
-    mut run: F,
-    first: (MatchAssumptions<'i>, T),
+    run: &mut F,
+    first: MatchAssumptions<'i>,
     run_limit: u32,
 ) -> Result<Outcomes<'i, T>, OutOfMemory>
-    requires callable { F.IsAlwaysCallable run }
-    requires met { IsSome first.0.unassumed }
+    requires callable { F.IsAlwaysCallable run.old }
+    requires met { IsSome first.unassumed }
     requires limit { 1 ≤ run_limit }
-    ensures outcomes { IfOk result (AreOutcomes (λ s x m t end. F.step s x (Ok (m, t)) end) first.entry.0 run run_limit) }
+    ensures outcomes { IfOk result (AreOutcomes (λ s x m t end. F.step s x (Ok (m, t)) end) first.entry run.old run_limit) }
 {
-    let (mut pending, mut failure) = begin(alloc, first.0)?;
+    let (mut pending, mut failure) = begin(alloc, first)?;
     let mut results = Vec::new(alloc);
     let mut runs = 1;
     while let Some(outcomes) = pending.pop() {
         if runs == run_limit {
+            drop((outcomes, pending, results));
             return Ok(Outcomes::Undecided(failure));
         }
         runs += 1;
-        let start = outcomes.start(alloc)?;
-        let (met, result) = run(start)?;
-        match take_met(met, &mut failure) {
-            None => results.push(result)?,
-            Some(next) => push_both(alloc, &mut pending, outcomes, next.into_unfinished())?,
-        }
+        let given = run_from(alloc, run, &outcomes)?;
+        let taken = take(
+            alloc,
+            &outcomes,
+            given,
+            &mut pending,
+            &mut results,
+            &mut failure,
+        );
+        drop(outcomes);
+        taken?;
     }
+    drop(pending);
     Ok(Outcomes::Assumed { results, failure })
 }
 
@@ -111,10 +184,16 @@ pub fn assume_each_outcome<
     'i,
     T: Drop,
     F: FnMut(MatchAssumptions<'i>) -> Result<(MatchAssumptions<'i>, T), OutOfMemory>,
->(alloc: Global, run: F, first: (MatchAssumptions<'i>, T)) -> Result<Outcomes<'i, T>, OutOfMemory>
+>(
+    alloc: Global,
+    mut run: F,
+    first: (MatchAssumptions<'i>, T),
+) -> Result<Outcomes<'i, T>, OutOfMemory>
     requires callable { F.IsAlwaysCallable run }
     requires met { IsSome first.0.unassumed }
     ensures outcomes { IfOk result (AreOutcomes (λ s x m t end. F.step s x (Ok (m, t)) end) first.entry.0 run MAX_ASSUMED_RUNS) }
 {
-    assume_within(alloc, run, first, MAX_ASSUMED_RUNS)
+    let (first, result) = first;
+    drop(result);
+    assume_within(alloc, &mut run, first, MAX_ASSUMED_RUNS)
 }

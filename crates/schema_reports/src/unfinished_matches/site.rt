@@ -168,8 +168,13 @@ fn copied_place<'i>(
         None => Ok(None),
         Some(located) => {
             let evaluation_path = located.0.copy()?;
-            let place = located.1.copy()?;
-            Ok(Some((evaluation_path, place)))
+            match located.1.copy() {
+                Ok(place) => Ok(Some((evaluation_path, place))),
+                Err(error) => {
+                    drop(evaluation_path);
+                    Err(error)
+                }
+            }
         }
     }
 }
@@ -187,8 +192,8 @@ impl<'i> MatchSite<'i> {
         ensures same { IfOk result (λ s. s ≡ self.now) }
     {
         let schema_path = self.schema_path.copy()?;
-        let located = copied_place(&self.located)?;
         let pattern = copied_pattern(&self.pattern)?;
+        let located = copied_place(&self.located)?;
         Ok(MatchSite {
             schema_path,
             located,
@@ -224,11 +229,18 @@ impl<'i> Model for LocatedMatch<'i> {
 }
 
 impl<'i> LocatedMatch<'i> {
-    /// This match at this site.
-    pub(super) fn new(unfinished: UnfinishedMatch, site: MatchSite<'i>) -> LocatedMatch<'i>
-        ensures { result ≡ record { pair = unfinished; site = site.entry } }
+    /// The match of this pattern and this subject at a copy of this site.
+    pub(super) fn met(
+        alloc: Global,
+        pattern: &str,
+        subject: &str,
+        site: &MatchSite<'i>,
+    ) -> Result<LocatedMatch<'i>, OutOfMemory>
+        ensures { IfOk result (λ l. l ≡ record { pair = record { pattern = pattern.now; subject = subject.now }; site = site.now }) }
     {
-        LocatedMatch { unfinished, site }
+        let unfinished = UnfinishedMatch::new(alloc, pattern, subject)?;
+        let site = site.copy()?;
+        Ok(LocatedMatch { unfinished, site })
     }
 }
 
@@ -250,19 +262,22 @@ impl<'i> Model for MatchFailure<'i> {
 }
 
 impl<'i> MatchFailure<'i> {
-    /// The failure of this match at this site.
-    pub(super) fn new(
-        unfinished: UnfinishedMatch,
+    /// The failure of the match of this pattern and this subject at this site.
+    pub(super) fn met(
+        alloc: Global,
+        pattern: &str,
+        subject: &str,
         reason: Reason,
         site: MatchSite<'i>,
-    ) -> MatchFailure<'i>
-        ensures failure { result ≡ record { met = record { pair = unfinished; site = site.entry }; reason = reason_of reason } }
+    ) -> Result<MatchFailure<'i>, OutOfMemory>
+        ensures failure { IfOk result (λ f. f ≡ record { met = record { pair = record { pattern = pattern.now; subject = subject.now }; site = site.entry }; reason = reason_of reason }) }
     {
-        MatchFailure {
+        let unfinished = UnfinishedMatch::new(alloc, pattern, subject)?;
+        Ok(MatchFailure {
             unfinished,
             reason,
             site,
-        }
+        })
     }
 
     /// The match.
@@ -272,11 +287,11 @@ impl<'i> MatchFailure<'i> {
         &self.unfinished
     }
 
-    /// The match alone.
-    pub(super) fn into_unfinished(self) -> UnfinishedMatch
-        ensures { result ≡ self.entry.met.pair }
+    /// The site.
+    pub(super) fn site(&self) -> &MatchSite<'i>
+        ensures { result.now ≡ self.now.met.site }
     {
-        self.unfinished
+        &self.site
     }
 
     /// Takes over the first of these sites that is of this match, where its own has no instance path.

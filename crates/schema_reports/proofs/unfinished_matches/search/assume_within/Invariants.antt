@@ -8,7 +8,7 @@ abbrev pub invariant-loop-outcomes : goal.invariant-loop-outcomes
 invariant-loop-outcomes g l = record {
   callable : always_mut g.F.FnMut l.run;
   within : l.runs ≤ l.run_limit;
-  completes : (u : Failure) → l.fn.first.0.unassumed ≡ Some u → Completes (λ s x m t end. goal.F-step g s x (Ok (m, t)) end) l.fn.first.0 u l.fn.run (reverse l.pending.items) l.run l.results.items l.runs l.failure;
+  completes : (u : Failure) → l.fn.first.unassumed ≡ Some u → Completes (λ s x m t end. goal.F-step g s x (Ok (m, t)) end) l.fn.first u l.fn.run (reverse l.pending.items) l.run l.results.items l.runs l.failure;
 }
 
 abbrev pub decreases-loop-outcomes : goal.decreases-loop-outcomes
