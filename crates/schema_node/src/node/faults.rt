@@ -10,10 +10,12 @@ ghost use Rattle.schema_reports.specs.ReportViews.{error_of, BorrowsItsPlace};
 ghost use Rattle.schema_node.specs.AnswerModes.{mode_in};
 ghost use Rattle.schema_node.specs.FaultViews.{answer_reply, errors_in, faults_in, FaultsLieInside, LiesInside};
 ghost use Rattle.schema_node.specs.KeywordViews.{answer_of, fault_of, fresh, mode_of, own_of, reply_of};
-ghost use Rattle.schema_reports.specs.Keywords.{own};
+ghost use Rattle.schema_reports.specs.Keywords.{for_all, for_first, own, truth};
+ghost use Rattle.schema_reports.specs.Keywords as spec;
 ghost use Rattle.schema_node.specs.EvaluationPaths.{path_of};
 ghost use Rattle.schema_node.specs.EvaluationPlaces.{steps_to};
 ghost use Rattle.schema_node.specs.NodeRuns.{entry_where};
+ghost use Rattle.schema_node.specs.NodeTable.{absolute_in};
 ghost use Rattle.schema_node.specs.NodeViews.{node_of};
 
 use crate::context::keyword::{Answer, Fault, Mode, OwnError, Reply};
@@ -103,6 +105,58 @@ fn spot_path(
         .append(&rest)
 }
 
+// Where an error of the keyword's own stands.
+#[derive(Drop)]
+struct ErrorPlaces<'i> {
+    place: Place<'i>,
+    schema_path: Location,
+    evaluation_path: Location,
+    absolute_keyword_location: Option<String>,
+}
+
+// A path from the keyword on, or from the one that it absorbs, as it was evaluated.
+fn evaluated_spot_path(
+    alloc: Global,
+    path: &EvaluationPath<'_>,
+    absorbed: &Option<String>,
+    name: &String,
+    rest: &String,
+) -> Result<Location, OutOfMemory>
+    ensures path { IfOk result (λ l. l ≡ joined (path_of path.now) (unwrap_or (option_map string_bytes absorbed.now) (string_bytes name.now)) ++ string_bytes rest.now) }
+{
+    let path = path.made(alloc)?;
+    spot_path(alloc, &path, absorbed, name, rest)
+}
+
+// The paths and the place of an error of the keyword's own.
+fn error_places<'i, K>(
+    alloc: Global,
+    node: &Node<K>,
+    name: &String,
+    place: &EvaluationPlace<'_, 'i>,
+    path: &EvaluationPath<'_>,
+    found: &OwnError<'i>,
+) -> Result<ErrorPlaces<'i>, OutOfMemory>
+    ensures place { IfOk result (λ p. p.place ≡ steps_to place.now ++ map step_of found.now.below.items) }
+    ensures schema_path { IfOk result (λ p. p.schema_path
+        ≡ joined (node_of node.now).location (unwrap_or (option_map string_bytes found.now.absorbed) (string_bytes name.now)) ++ string_bytes found.now.path) }
+    ensures evaluation_path { IfOk result (λ p. p.evaluation_path
+        ≡ joined (path_of path.now) (unwrap_or (option_map string_bytes found.now.absorbed) (string_bytes name.now)) ++ string_bytes found.now.path) }
+    ensures absolute { IfOk result (λ p. option_map string_bytes p.absolute_keyword_location
+        ≡ absolute_in (node_of node.now) (joined (node_of node.now).location (string_bytes name.now))) }
+{
+    let schema_path = spot_path(alloc, &node.location, &found.absorbed, name, &found.path)?;
+    let evaluation_path = evaluated_spot_path(alloc, path, &found.absorbed, name, &found.path)?;
+    let absolute_keyword_location = keyword_location(alloc, node, name)?;
+    let place = place_below(place, found.below.as_slice())?;
+    Ok(ErrorPlaces {
+        place,
+        schema_path,
+        evaluation_path,
+        absolute_keyword_location,
+    })
+}
+
 // An error of the keyword's own.
 fn own_error<'i, K>(
     alloc: Global,
@@ -118,23 +172,14 @@ fn own_error<'i, K>(
     ensures borrows { IfOk result (λ e. (root : Data) → subject_at root (steps_to place.now) ≡ Some (subject_of instance.entry)
         → IsPresent (subject_of instance.entry) (map step_of found.entry.below.items) → BorrowsItsPlace root e) }
 {
-    let schema_path = spot_path(alloc, &node.location, &found.absorbed, name, &found.path)?;
-    let evaluation_path = spot_path(
-        alloc,
-        &path.made(alloc)?,
-        &found.absorbed,
-        name,
-        &found.path,
-    )?;
-    let absolute_keyword_location = keyword_location(alloc, node, name)?;
-    let place = place_below(place, found.below.as_slice())?;
+    let places = error_places(alloc, node, name, place, path, &found)?;
     let instance = instance_below(instance, found.below.as_slice());
     Ok(ValidationError {
         instance,
-        place,
-        schema_path,
-        evaluation_path,
-        absolute_keyword_location,
+        place: places.place,
+        schema_path: places.schema_path,
+        evaluation_path: places.evaluation_path,
+        absolute_keyword_location: places.absolute_keyword_location,
         keyword: found.keyword,
         text: found.text,
     })
@@ -232,6 +277,66 @@ fn first_fault<'i>(answer: Answer<'i>) -> Option<Fault<'i>>
     }
 }
 
+// The verdict of an answer, as a reply.
+fn verdict_reply<'i>(answer: Answer<'i>) -> Reply<'i>
+    ensures verdict { (texts : Bool) → reply_of texts result ≡ truth (answer_of texts answer.entry).verdict }
+    ensures no_errors { errors_in result ≡ [] }
+{
+    Reply::Truth(is_accepting(&answer))
+}
+
+// No reply, whatever the answer.
+fn no_reply<'i>(_answer: Answer<'i>) -> Reply<'i>
+    ensures nothing { (texts : Bool) → reply_of texts result ≡ spec.no_reply }
+    ensures no_errors { errors_in result ≡ [] }
+{
+    Reply::Nothing
+}
+
+// The first fault of an answer, as a reply.
+fn first_reply<'i, K>(
+    alloc: Global,
+    node: &Node<K>,
+    name: &String,
+    instance: Instance<'i>,
+    place: &EvaluationPlace<'_, 'i>,
+    path: &EvaluationPath<'_>,
+    answer: Answer<'i>,
+) -> Result<Reply<'i>, OutOfMemory>
+    ensures reply { IfOk result (λ r. (texts : Bool) → reply_of texts r
+        ≡ answer_reply for_first (entry_where (node_of node.now) (path_of path.now) (steps_to place.now)) (string_bytes name.now) (answer_of texts answer.entry)) }
+    ensures borrows { IfOk result (λ r. (root : Data) → subject_at root (steps_to place.now) ≡ Some (subject_of instance.entry)
+        → FaultsLieInside for_first root (subject_of instance.entry) answer.entry → All (BorrowsItsPlace root) (errors_in r)) }
+{
+    match first_fault(answer) {
+        None => Ok(Reply::First(None)),
+        Some(fault) => {
+            let error = error_by(alloc, node, name, instance, place, path, fault)?;
+            Ok(Reply::First(Some(error)))
+        }
+    }
+}
+
+// The faults of an answer, as a reply.
+fn all_reply<'i, K>(
+    alloc: Global,
+    node: &Node<K>,
+    name: &String,
+    instance: Instance<'i>,
+    place: &EvaluationPlace<'_, 'i>,
+    path: &EvaluationPath<'_>,
+    answer: Answer<'i>,
+) -> Result<Reply<'i>, OutOfMemory>
+    ensures reply { IfOk result (λ r. (texts : Bool) → reply_of texts r
+        ≡ answer_reply for_all (entry_where (node_of node.now) (path_of path.now) (steps_to place.now)) (string_bytes name.now) (answer_of texts answer.entry)) }
+    ensures borrows { IfOk result (λ r. (root : Data) → subject_at root (steps_to place.now) ≡ Some (subject_of instance.entry)
+        → FaultsLieInside for_all root (subject_of instance.entry) answer.entry → All (BorrowsItsPlace root) (errors_in r)) }
+{
+    let faults = all_faults(alloc, answer)?;
+    let errors = errors_by(alloc, node, name, instance, place, path, faults)?;
+    Ok(Reply::All(errors))
+}
+
 /// What an answer says in a mode, as a reply.
 pub fn finished<'i, K>(
     alloc: Global,
@@ -249,19 +354,9 @@ pub fn finished<'i, K>(
         → FaultsLieInside (mode_of mode) root (subject_of instance.entry) answer.entry → All (BorrowsItsPlace root) (errors_in r)) }
 {
     match mode {
-        Mode::Verdict => Ok(Reply::Truth(is_accepting(&answer))),
-        Mode::First => match first_fault(answer) {
-            None => Ok(Reply::First(None)),
-            Some(fault) => {
-                let error = error_by(alloc, node, name, instance, place, path, fault)?;
-                Ok(Reply::First(Some(error)))
-            }
-        },
-        Mode::All => {
-            let faults = all_faults(alloc, answer)?;
-            let errors = errors_by(alloc, node, name, instance, place, path, faults)?;
-            Ok(Reply::All(errors))
-        }
-        Mode::Evaluate => Ok(Reply::Nothing),
+        Mode::Verdict => Ok(verdict_reply(answer)),
+        Mode::First => first_reply(alloc, node, name, instance, place, path, answer),
+        Mode::All => all_reply(alloc, node, name, instance, place, path, answer),
+        Mode::Evaluate => Ok(no_reply(answer)),
     }
 }

@@ -11,6 +11,7 @@ ghost use Rattle.schema_reports.specs.ReportViews.{error_of, BorrowsItsPlace};
 ghost use Rattle.schema_reports.specs.Meaning.{stamped, false_outcome, false_error};
 ghost use Rattle.std.specs.Prelude.{string_bytes, option_map, map};
 ghost use Rattle.schema_node.specs.KeywordViews.{mode_of, reply_of};
+ghost use Rattle.schema_node.specs.declared.context.keyword.Reply.TheVariants as variant;
 ghost use Rattle.schema_node.specs.NodeTable.{absolute_in};
 ghost use Rattle.schema_node.specs.NodeViews.{node_of};
 ghost use Rattle.schema_node.specs.FaultViews.{errors_in};
@@ -65,6 +66,34 @@ pub fn is_yes(reply: Reply<'_>) -> bool
     }
 }
 
+// The first error of a reply, or else of the other one.
+fn joined_first<'i>(found: Option<ValidationError<'i>>, more: Reply<'i>) -> Reply<'i>
+    ensures both { (texts : Bool) → Joins (reply_of texts (variant.First found.entry)) (reply_of texts more.entry) (reply_of texts result) }
+    ensures borrows { (root : Data) → All (BorrowsItsPlace root) (errors_in (variant.First found.entry)) → All (BorrowsItsPlace root) (errors_in more.entry) → All (BorrowsItsPlace root) (errors_in result) }
+{
+    match found {
+        Some(error) => Reply::First(Some(error)),
+        None => more,
+    }
+}
+
+// All errors of a reply, then those of the other one.
+fn joined_all<'i>(
+    mut errors: Vec<ValidationError<'i>>,
+    more: Reply<'i>,
+) -> Result<Reply<'i>, OutOfMemory>
+    ensures both { IfOk result (λ r. (texts : Bool) → Joins (reply_of texts (variant.All errors.entry)) (reply_of texts more.entry) (reply_of texts r)) }
+    ensures borrows { IfOk result (λ r. (root : Data) → All (BorrowsItsPlace root) errors.entry.items → All (BorrowsItsPlace root) (errors_in more.entry) → All (BorrowsItsPlace root) (errors_in r)) }
+{
+    match more {
+        Reply::All(mut others) => {
+            errors.append(&mut others)?;
+            Ok(Reply::All(errors))
+        }
+        _ => Ok(Reply::All(errors)),
+    }
+}
+
 /// Both replies, the first one first.
 pub fn joined<'i>(found: Reply<'i>, more: Reply<'i>) -> Result<Reply<'i>, OutOfMemory>
     ensures both { IfOk result (λ r. (texts : Bool) → Joins (reply_of texts found.entry) (reply_of texts more.entry) (reply_of texts r)) }
@@ -72,25 +101,12 @@ pub fn joined<'i>(found: Reply<'i>, more: Reply<'i>) -> Result<Reply<'i>, OutOfM
 {
     match found {
         Reply::Nothing => Ok(more),
-        Reply::Truth(a) => match more {
-            Reply::Truth(b) => Ok(Reply::Truth(a && b)),
-            Reply::Nothing => Ok(Reply::Truth(a)),
-            Reply::First(_) => Ok(Reply::Truth(a)),
-            Reply::All(_) => Ok(Reply::Truth(a)),
-        },
-        Reply::First(a) => match a {
-            Some(error) => Ok(Reply::First(Some(error))),
-            None => Ok(more),
-        },
-        Reply::All(mut errors) => match more {
-            Reply::All(mut others) => {
-                errors.append(&mut others)?;
-                Ok(Reply::All(errors))
-            }
-            Reply::Nothing => Ok(Reply::All(errors)),
-            Reply::Truth(_) => Ok(Reply::All(errors)),
-            Reply::First(_) => Ok(Reply::All(errors)),
-        },
+        Reply::Truth(yes) => {
+            let both = is_yes(more);
+            Ok(Reply::Truth(yes && both))
+        }
+        Reply::First(error) => Ok(joined_first(error, more)),
+        Reply::All(errors) => joined_all(errors, more),
     }
 }
 

@@ -1,29 +1,30 @@
 //! Runs of nodes over instances.
-ghost use Rattle.std.specs.Prelude.{◌≡◌, ◌<◌, ℕ, All, Bool, IfOk, true, false, Some, MatchOption, length, map, option_map, slice_get, string_bytes};
+ghost use Rattle.std.specs.Prelude.{◌≡◌, ◌<◌, ◌≤◌, [], ℕ, All, Bool, IfOk, true, false, Some, MatchOption, length, map, option_map, slice_get, string_bytes};
 ghost use Rattle.serde_json.specs.Data.{Data};
 ghost use Rattle.schema_reports.specs.Instance.{after_step, subject_at};
 ghost use Rattle.schema_reports.specs.InstanceViews.{subject_of, step_of};
 ghost use Rattle.schema_reports.specs.Keywords.{down, here, for_units, for_verdict};
-ghost use Rattle.schema_reports.specs.Laws.{IsPresent, steps_below};
-ghost use Rattle.schema_reports.specs.Matching.{Extends, completion_of};
+ghost use Rattle.schema_reports.specs.Laws.{IsPresent, IsRight, steps_below};
+ghost use Rattle.schema_reports.specs.Matching.{Extends, completion_of, matching};
 ghost use Rattle.schema_reports.specs.Numbered.{left, subject_in};
 ghost use Rattle.schema_reports.specs.ReportViews.{BorrowsItsPlace};
 ghost use Rattle.schema_reports.specs.Reports.{Outcome};
 ghost use Rattle.schema_reports.specs.Runs.{no_run, reply_in};
-ghost use Rattle.schema_node.specs.FaultViews.{errors_in};
+ghost use Rattle.schema_node.specs.FaultViews.{errors_in, faults_in, PassesBorrowed};
 ghost use Rattle.schema_reports.specs.Guarded.{guarded_node, guarded_within, node_child, node_keyword};
-ghost use Rattle.schema_node.specs.KeywordViews.{below_of, mode_of, reply_of};
+ghost use Rattle.schema_node.specs.KeywordViews.{answer_of, below_of, mode_of, reply_of};
 ghost use Rattle.schema_node.specs.NodeTable.{numbered, shaped_form, shaped_part, IsRanked};
 ghost use Rattle.schema_node.specs.NodeViews.{edge_of, entry_of, form_of, node_of};
 ghost use Rattle.schema_node.specs.EvaluationPaths.{path_of};
 ghost use Rattle.schema_node.specs.EvaluationPlaces.{steps_to};
-ghost use Rattle.schema_node.specs.NodeRuns.{Ready, TellsAll, HasForm, HasParts, NodeReplies, EdgeReplies, ChildReplies, FormReplies, HasChildren, PartsReply, reply_by};
+ghost use Rattle.schema_node.specs.NodeRuns.{Reading, Reads, Ready, TellsAll, HasForm, HasParts, NodeReplies, EdgeReplies, ChildReplies, FormReplies, HasChildren, PartsReply, child_says, reply_by};
 ghost use Rattle.schema_node.specs.Marks.{TakesNoMarks};
 ghost use Rattle.schema_node.specs.Matches.{MeetsEach, settling};
 ghost use Rattle.schema_node.specs.NodeMeets.{NodeMeets, EdgeMeets, ChildMeets, FormMeets, EntryMeets, PartsMeet};
 ghost use Rattle.schema_node.specs.Progress.{busy_at, NoDeeper};
+ghost use Rattle.schema_node.specs.Turning.{unit_with};
 
-use crate::context::keyword::{Below, Mode, Reply, Step, Validate};
+use crate::context::keyword::{Answer, Below, Mode, Reply, Step, Validate};
 use crate::context::matcher::Matcher;
 use crate::context::validation::ValidationContext;
 use crate::node::evaluation_path::EvaluationPath;
@@ -267,7 +268,7 @@ fn run_form<'i, K: Validate, M: Matcher>(
     }
 }
 
-// The reply of a keyword, turn by turn.
+// The reply of a keyword.
 #[cycle(run)]
 fn run_keyword<'i, K: Validate, M: Matcher>(
     nodes: &Nodes<K>,
@@ -297,27 +298,79 @@ fn run_keyword<'i, K: Validate, M: Matcher>(
 {
     let mut run = keyword.begin(alloc, instance, mode)?;
     let mut answer = begun(alloc, mode);
+    run_turns(
+        nodes,
+        alloc,
+        matcher,
+        node,
+        name,
+        keyword,
+        children,
+        instance,
+        place,
+        path,
+        mode,
+        &mut run,
+        &mut answer,
+        context,
+    )?;
+    finished(
+        alloc,
+        nodes.node(node),
+        name,
+        instance,
+        place,
+        path,
+        mode,
+        answer,
+    )
+}
+
+// The turns of a keyword's run that has begun, and its answer once they are done.
+#[cycle(run)]
+fn run_turns<'i, K: Validate, M: Matcher>(
+    nodes: &Nodes<K>,
+    alloc: Global,
+    matcher: &M,
+    node: SchemaNode,
+    name: &String,
+    keyword: &K,
+    children: &[Option<Edge>],
+    instance: Instance<'i>,
+    place: &EvaluationPlace<'_, 'i>,
+    path: &EvaluationPath<'_>,
+    mode: Mode,
+    run: &mut K::Run,
+    answer: &mut Answer<'i>,
+    context: &mut ValidationContext<'i>,
+) -> Result<(), OutOfMemory>
+    requires known { node.0 < length nodes.now }
+    requires form { HasForm (numbered K.shape nodes.now) node.0 (node_keyword (K.shape keyword.now) (map (option_map edge_of) children.now)) }
+    requires ready { Ready K.words (numbered K.shape nodes.now) (length nodes.now) }
+    requires above { NoDeeper (steps_to place.now) context.old.in_progress }
+    requires wanted { ¬ (mode_of mode ≡ for_units) }
+    requires begun { (texts : Bool) → (K.words texts).begin (K.shape keyword.now) (subject_of instance) (mode_of mode) ≡ (run.old, answer_of texts answer.old) }
+    requires no_faults { faults_in answer.old ≡ [] }
+    ensures kept { IfOk result (λ _. context.new.in_progress ≡ context.old.in_progress) }
+    ensures assumes { IfOk result (λ _. context.new.remembered.assumptions ≡ context.old.remembered.assumptions) }
+    ensures right { IfOk result (λ _. (x : Reading) → Reads K.is_whole (numbered K.shape nodes.now) (length nodes.now) (settling (M.matching matcher.now) context.old.remembered.assumptions) (steps_to place.now) (subject_of instance.entry) x
+        → left (numbered K.shape nodes.now) (length nodes.now) node.0 (subject_of instance.entry) (busy_at (steps_to place.now) context.old.in_progress) ≤ x.depth
+        → (let answers = child_says K.words (numbered K.shape nodes.now) x (path_of path.now) (steps_to place.now) (busy_at (steps_to place.now) context.old.in_progress) (map (option_map edge_of) children.now) in
+        IsRight (K.words x.texts) (K.shape keyword.now) (subject_of instance.entry) (matching x.matcher x.completion) answers (λ q. unit_with (answers q)) (λ a b. false) (mode_of mode) (answer_of x.texts answer.new))) }
+    ensures passes { IfOk result (λ _. (root : Data) → subject_at root (steps_to place.now) ≡ Some (subject_of instance.entry) → All (PassesBorrowed root) (faults_in answer.new)) }
+    ensures meets { IfOk result (λ _. FormMeets K.words K.is_whole (numbered K.shape nodes.now) (length nodes.now) (settling (M.matching matcher.now) context.old.remembered.assumptions)
+        (mode_of mode) (path_of path.now) (steps_to place.now) (busy_at (steps_to place.now) context.old.in_progress) (subject_of instance.entry) context.old.remembered context.new.remembered node.0 (string_bytes name.now) (node_keyword (K.shape keyword.now) (map (option_map edge_of) children.now))) }
+{
     let mut reply = Reply::Nothing;
     'turns: loop {
-        match keyword.turn(alloc, &mut run, instance, reply, &mut answer)? {
+        match keyword.turn(alloc, run, instance, reply, answer)? {
             Step::Ask(child, below, wanted) => {
                 reply = run_child(
                     nodes, alloc, matcher, node, children, child, below, instance, place, path,
                     wanted, context,
                 )?;
             }
-            Step::Done => {
-                return finished(
-                    alloc,
-                    nodes.node(node),
-                    name,
-                    instance,
-                    place,
-                    path,
-                    mode,
-                    answer,
-                );
-            }
+            Step::Done => return Ok(()),
             Step::Match(pattern, subject, point) => {
                 let matches = asked_match(
                     alloc,

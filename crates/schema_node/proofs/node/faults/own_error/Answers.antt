@@ -1,4 +1,4 @@
-use Rattle.std.proofs.Common.{◌∙◌, ◌++◌, ap, map}
+use Rattle.std.proofs.Common.{map}
 use Rattle.schema_reports.specs.InstanceViews.{step_of, subject_of}
 use Rattle.schema_node.specs.EvaluationPlaces.{steps_to}
 use Rattle.schema_node.proofs.Replies.{stands_below}
@@ -6,6 +6,5 @@ use Rattle.schema_node.proofs.node.faults.own_error.Goals as goal
 
 pub returns-clause-borrows : goal.returns-clause-borrows
 returns-clause-borrows g c = λ root at_place inside.
-    let lower = c.in_ok-place.ensures.below ∙ ap (λ xs. steps_to c.args.place.now ++ map step_of xs) c.as_slice.ensures.value in
-    let found = (rw c.as_slice-2.ensures.value at c.instance_below-instance.ensures.below) inside in
-    stands_below root (steps_to c.args.place.now) (map step_of c.args.found.below.items) _ (subject_of c.args.instance) _ lower at_place found
+    let found = (rw c.as_slice.ensures.value at c.instance_below-instance.ensures.below) inside in
+    stands_below root (steps_to c.args.place.now) (map step_of c.args.found.below.items) _ (subject_of c.args.instance) _ c.in_ok-places.ensures.place at_place found

@@ -2,7 +2,7 @@ use Rattle.std.proofs.lemmas.List.Elements.{All-nil}
 use Rattle.std.specs.Prelude.{All}
 use Rattle.schema_reports.specs.ReportViews.{BorrowsItsPlace}
 use Rattle.schema_node.specs.FaultViews.{PassesBorrowed}
-use Rattle.std.proofs.Common.{◌≡◌, ◌∙◌, ◌+◌, ◌*◌, ◌<◌, ◌≤◌, ℕ, suc, arith, sym, refl, ap, subst, map, option_map, string_bytes, length, Some, false, List, [], ◌∷◌, ◌++◌, drop}
+use Rattle.std.proofs.Common.{◌≡◌, ◌∙◌, ◌+◌, ◌*◌, ◌<◌, ◌≤◌, ℕ, Bool, suc, arith, sym, refl, ap, subst, map, option_map, string_bytes, length, Some, false, List, [], ◌∷◌, ◌++◌, drop}
 use Rattle.schema_reports.specs.InstanceViews.{subject_of, step_of}
 use Rattle.schema_reports.specs.Instance.{Text}
 use Rattle.schema_reports.specs.Keywords.{MatchPoint, Mode, Question, ask, done, ecma, match_text, truth}
@@ -41,7 +41,7 @@ lower_same a b t i d l e = omega (arith, l, e)
 lower_edge : (a b c t d : ℕ) → a ≡ b → b ≤ c → 8 * c + suc d ≡ t → 8 * a < t
 lower_edge a b c t d n l e = omega (arith, n, l, e)
 
-lower_entered : (a b c t : ℕ) → a ≡ b → c ≡ suc b → 8 * c ≡ t → 8 * a + 6 < t
+lower_entered : (a b c t : ℕ) → a ≡ b → c ≡ suc b → 8 * c ≡ t → 8 * a + 7 < t
 lower_entered a b c t l n e = omega (arith, l, n, e)
 
 no_deeper : (depth : ℕ) → depth ≤ depth
@@ -146,7 +146,7 @@ run_form-run_edge-requires g t c =
     let e = edge_of c.in-Reference.edge in
     let k = reference_edge ns c.args.node.0 e (rw c.in-Reference.is at c.requires.form) in
     let l = falls_here g.K.Validate.words g.K.Validate.is_whole ns (length c.args.nodes.now) (settling (g.M.Matcher.matching c.args.matcher.now) c.args.context.now.remembered.assumptions) c.requires.ready.ranked c.args.node.0 (subject_of c.args.instance) (busy_at (steps_to c.args.place.now) c.args.context.now.in_progress) e c.requires.known k in
-    λ κs h. (lower_edge _ _ _ t 2 refl l c.decreases, (h.0, (h.1.0, (h.1.1.0, (h.1.1.1, ((c.requires.ready.ranked c.args.node.0 c.requires.known e k).0, (c.requires.ready, (c.requires.above, c.requires.wanted))))))))
+    λ κs h. (lower_edge _ _ _ t 3 refl l c.decreases, (h.0, (h.1.0, (h.1.1.0, (h.1.1.1, ((c.requires.ready.ranked c.args.node.0 c.requires.known e k).0, (c.requires.ready, (c.requires.above, c.requires.wanted))))))))
 
 pub run_form-returns-in-Keyword-clause-says : goal.run_form-returns-in-Keyword-clause-says
 run_form-returns-in-Keyword-clause-says g t c = rw (c.in-Keyword.is, ← c.as_slice.ensures.value) c.run_keyword.ensures.says
@@ -164,7 +164,7 @@ run_form-returns-in_ok-reply-in-Reference-clause-says g t c =
 pub run_node-run_entries-requires : goal.run_node-run_entries-requires
 run_node-run_entries-requires g t c =
     let plan = plan_is g.K.Validate.shape c.args.nodes.now c.args.node.0 (node_of c.node-found.result.now) _ c.node-found.ensures.found (ap (option_map plan_of) c.in-Some.is ∙ ap (λ f. Some (plan_of f)) c.in-Keywords.is) in
-    λ κs h. (lower_same _ _ t 5 0 refl c.decreases, (h.0, (h.1.0, (h.1.1.0, (h.1.1.1, (c.requires.known, (rw c.as_slice.ensures.value (_, plan, λ y k. k), (c.requires.ready, (c.requires.above, c.requires.wanted)))))))))
+    λ κs h. (lower_same _ _ t 6 0 refl c.decreases, (h.0, (h.1.0, (h.1.1.0, (h.1.1.1, (c.requires.known, (rw c.as_slice.ensures.value (_, plan, λ y k. k), (c.requires.ready, (c.requires.above, c.requires.wanted)))))))))
 
 pub run_node-returns-in-Never-clause-says : goal.run_node-returns-in-Never-clause-says
 run_node-returns-in-Never-clause-says g t c =
@@ -201,7 +201,7 @@ run_entries-run_entry-requires g t c =
     let kept = c.loop-entry.invariant.kept in
     let l = ap (λ es. left ns (length c.args.nodes.now) c.args.node.0 (subject_of c.args.instance) (busy_at p es)) kept in
     let here = part_at entry_of (shaped_part g.K.Validate.shape) c.args.entries.now c.loop-entry.entry-index c.entry-item.result c.loop-entry-test.true c.entry-item.is in
-    λ κs h. (lower_same _ _ t 4 0 l c.decreases, (h.0, (h.1.0, (h.1.1.0, (h.1.1.1, (c.requires.known, ((c.requires.parts.0, c.requires.parts.1, shaped_part g.K.Validate.shape (entry_of c.entry-item.result), c.requires.parts.2 _ here, refl), (c.requires.ready, (subst (NoDeeper p) (sym kept) c.requires.above, c.requires.wanted)))))))))
+    λ κs h. (lower_same _ _ t 5 0 l c.decreases, (h.0, (h.1.0, (h.1.1.0, (h.1.1.1, (c.requires.known, ((c.requires.parts.0, c.requires.parts.1, shaped_part g.K.Validate.shape (entry_of c.entry-item.result), c.requires.parts.2 _ here, refl), (c.requires.ready, (subst (NoDeeper p) (sym kept) c.requires.above, c.requires.wanted)))))))))
 
 pub run_entries-loop-entry-preserved : goal.run_entries-loop-entry-preserved
 run_entries-loop-entry-preserved g t c = record {
@@ -253,8 +253,8 @@ run_entry-returns-then-is_yes-clause-says g t c = λ x reads l.
 pub run_entry-returns-then-asks_verdict_first-clause-says : goal.run_entry-returns-then-asks_verdict_first-clause-says
 run_entry-returns-then-asks_verdict_first-clause-says g t c = rw (c.in_ok-verdict.ensures.kept, c.in_ok-verdict.ensures.assumes) at c.run_form-then-asks_verdict_first.ensures.says
 
-pub run_keyword-turns-init : goal.run_keyword-turns-init
-run_keyword-turns-init g t c =
+pub run_turns-turns-init : goal.run_turns-turns-init
+run_turns-turns-init g t c =
     let w = settling (g.M.Matcher.matching c.args.matcher.now) c.args.context.now.remembered.assumptions in
     let name = string_bytes c.args.name.now in
     let ns = numbered g.K.Validate.shape c.args.nodes.now in
@@ -266,17 +266,17 @@ run_keyword-turns-init g t c =
     record {
       kept = refl;
       assumes = refl;
-      unmarked = unmarked_first (g.K.Validate.words false) (g.K.Validate.shape c.args.keyword.now) (g.K.Validate.absorbed (g.K.Validate.shape c.args.keyword.now)) (g.K.Validate.remaining (g.K.Validate.shape c.args.keyword.now)) (g.K.Validate.ends false (g.K.Validate.shape c.args.keyword.now)) (g.K.Validate.fits false (g.K.Validate.shape c.args.keyword.now)) (g.met.K.Validate.turn_laws false (g.K.Validate.shape c.args.keyword.now)) s (mode_of c.args.mode) (c.in_ok-run.run', answer_of false c.begun-answer.result) (c.requires.ready.unmarked false m s (mode_of c.args.mode) c.requires.wanted)
-          (c.in_ok-run.ensures.begins false ∙ ap (λ a. (c.in_ok-run.run', a)) (sym (c.begun-answer.ensures.fresh false)));
-      borrows = λ root at_place. (All-nil (BorrowsItsPlace root), subst (All (PassesBorrowed root)) (sym c.begun-answer.ensures.no_faults) (All-nil (PassesBorrowed root)));
-      leads = λ x reads l. begins (g.K.Validate.words x.texts) (g.K.Validate.shape c.args.keyword.now) (g.K.Validate.absorbed (g.K.Validate.shape c.args.keyword.now)) (g.K.Validate.remaining (g.K.Validate.shape c.args.keyword.now)) (g.K.Validate.ends x.texts (g.K.Validate.shape c.args.keyword.now)) (g.K.Validate.fits x.texts (g.K.Validate.shape c.args.keyword.now)) (g.met.K.Validate.turn_laws x.texts (g.K.Validate.shape c.args.keyword.now)) s x (mode_of c.args.mode) (child_says g.K.Validate.words ns x (path_of c.args.path.now) p busy es) (c.in_ok-run.run', answer_of x.texts c.begun-answer.result)
+      unmarked = unmarked_first (g.K.Validate.words false) (g.K.Validate.shape c.args.keyword.now) (g.K.Validate.absorbed (g.K.Validate.shape c.args.keyword.now)) (g.K.Validate.remaining (g.K.Validate.shape c.args.keyword.now)) (g.K.Validate.ends false (g.K.Validate.shape c.args.keyword.now)) (g.K.Validate.fits false (g.K.Validate.shape c.args.keyword.now)) (g.met.K.Validate.turn_laws false (g.K.Validate.shape c.args.keyword.now)) s (mode_of c.args.mode) (c.args.run.now, answer_of false c.args.answer.now) (c.requires.ready.unmarked false m s (mode_of c.args.mode) c.requires.wanted)
+          (c.requires.begun false);
+      borrows = λ root at_place. (All-nil (BorrowsItsPlace root), subst (All (PassesBorrowed root)) (sym c.requires.no_faults) (All-nil (PassesBorrowed root)));
+      leads = λ x reads l. begins (g.K.Validate.words x.texts) (g.K.Validate.shape c.args.keyword.now) (g.K.Validate.absorbed (g.K.Validate.shape c.args.keyword.now)) (g.K.Validate.remaining (g.K.Validate.shape c.args.keyword.now)) (g.K.Validate.ends x.texts (g.K.Validate.shape c.args.keyword.now)) (g.K.Validate.fits x.texts (g.K.Validate.shape c.args.keyword.now)) (g.met.K.Validate.turn_laws x.texts (g.K.Validate.shape c.args.keyword.now)) s x (mode_of c.args.mode) (child_says g.K.Validate.words ns x (path_of c.args.path.now) p busy es) (c.args.run.now, answer_of x.texts c.args.answer.now)
           (agrees_answers g.K.Validate.words ns (λ texts m s completion matcher a h. (g.met.K.Validate.function_laws texts m).agree s (matching matcher completion) a h) x (path_of c.args.path.now) p busy es)
-          (c.in_ok-run.ensures.begins x.texts ∙ ap (λ a. (c.in_ok-run.run', a)) (sym (c.begun-answer.ensures.fresh x.texts)));
-      met = λ texts root depth reads l. meets_begun (g.K.Validate.words texts) w.matcher w.assumptions (node_at (g.K.Validate.words texts) w.matcher ns (subject_in root) c.args.node.0 (path_of c.args.path.now) p) s (child_run g.K.Validate.words ns w texts root depth (path_of c.args.path.now) p busy es) (same_edge es) name m (g.K.Validate.remaining m s) _ (mode_of c.args.mode) (c.in_ok-run.run', answer_of texts c.begun-answer.result) (c.in_ok-run.ensures.begins texts ∙ ap (λ a. (c.in_ok-run.run', a)) (sym (c.begun-answer.ensures.fresh texts))) ((g.met.K.Validate.turn_laws texts m).bounded s (mode_of c.args.mode));
+          (c.requires.begun x.texts);
+      met = λ texts root depth reads l. meets_begun (g.K.Validate.words texts) w.matcher w.assumptions (node_at (g.K.Validate.words texts) w.matcher ns (subject_in root) c.args.node.0 (path_of c.args.path.now) p) s (child_run g.K.Validate.words ns w texts root depth (path_of c.args.path.now) p busy es) (same_edge es) name m (g.K.Validate.remaining m s) _ (mode_of c.args.mode) (c.args.run.now, answer_of texts c.args.answer.now) (c.requires.begun texts) ((g.met.K.Validate.turn_laws texts m).bounded s (mode_of c.args.mode));
     }
 
-pub run_keyword-run_child-requires : goal.run_keyword-run_child-requires
-run_keyword-run_child-requires g t c =
+pub run_turns-run_child-requires : goal.run_turns-run_child-requires
+run_turns-run_child-requires g t c =
     let ns = numbered g.K.Validate.shape c.args.nodes.now in
     let p = steps_to c.args.place.now in
     let s = subject_of c.args.instance in
@@ -293,8 +293,30 @@ run_keyword-run_child-requires g t c =
     let less = asks_less (g.K.Validate.words false) (g.K.Validate.shape c.args.keyword.now) (g.K.Validate.absorbed (g.K.Validate.shape c.args.keyword.now)) (g.K.Validate.remaining (g.K.Validate.shape c.args.keyword.now)) (g.K.Validate.ends false (g.K.Validate.shape c.args.keyword.now)) (g.K.Validate.fits false (g.K.Validate.shape c.args.keyword.now)) (g.met.K.Validate.turn_laws false (g.K.Validate.shape c.args.keyword.now)) s (c.turns.run, answer_of false c.turns.answer) told q (mode_of c.in-Ask.wanted) c.turns.invariant.unmarked step in
     λ κs h. (lower_same _ _ t 1 0 l c.decreases, (h.0, (h.1.0, (h.1.1.0, (h.1.1.1, (c.requires.known, (keyword_children ns c.args.node.0 m es c.requires.form, (there, (c.requires.ready, (subst (NoDeeper p) (sym kept) c.requires.above, less))))))))))
 
-pub run_keyword-returns-in-Done-clause-says : goal.run_keyword-returns-in-Done-clause-says
-run_keyword-returns-in-Done-clause-says g t c =
+pub run_turns-returns-in-Done-clause-right : goal.run_turns-returns-in-Done-clause-right
+run_turns-returns-in-Done-clause-right g t c = λ x reads l.
+    let ns = numbered g.K.Validate.shape c.args.nodes.now in
+    let p = steps_to c.args.place.now in
+    let s = subject_of c.args.instance in
+    let m = g.K.Validate.shape c.args.keyword.now in
+    let es = map (option_map edge_of) c.args.children.now in
+    let busy = busy_at p c.args.context.now.in_progress in
+    let tells = tells_keyword g.K.Validate.is_whole ns (length c.args.nodes.now) (settling (g.M.Matcher.matching c.args.matcher.now) c.args.context.now.remembered.assumptions) p s x c.args.node.0 m es c.requires.known reads c.requires.form in
+    let answers = child_says g.K.Validate.words ns x (path_of c.args.path.now) p busy es in
+    ended_right (g.K.Validate.words x.texts) (g.K.Validate.shape c.args.keyword.now) (g.K.Validate.absorbed (g.K.Validate.shape c.args.keyword.now)) (g.K.Validate.remaining (g.K.Validate.shape c.args.keyword.now)) (g.K.Validate.ends x.texts (g.K.Validate.shape c.args.keyword.now)) (g.K.Validate.fits x.texts (g.K.Validate.shape c.args.keyword.now)) (g.met.K.Validate.turn_laws x.texts (g.K.Validate.shape c.args.keyword.now)) s x (mode_of c.args.mode) answers (c.turns.run, answer_of x.texts c.turns.answer) (c.turn.new.run, answer_of x.texts c.turn.new.answer) (reply_of x.texts c.turns.reply) (answer_of x.texts c.turn.new.answer) (c.turns.invariant.leads x reads l) (c.in_ok-child.ensures.turns x.texts tells) (g.met.K.Validate.answers x.texts c.turn.new.run (answer_of x.texts c.turn.new.answer)) (rw c.in-Done.is at (c.in_ok-child.ensures.steps x.texts tells))
+
+pub run_turns-returns-in-Done-clause-passes : goal.run_turns-returns-in-Done-clause-passes
+run_turns-returns-in-Done-clause-passes g t c = λ root at_place.
+    let i = c.turns.invariant.borrows root at_place in
+    c.in_ok-child.ensures.borrows root i.0 i.1
+
+pub run_keyword-run_turns-requires : goal.run_keyword-run_turns-requires
+run_keyword-run_turns-requires g t c =
+    let begun = λ (texts : Bool). c.in_ok-run.ensures.begins texts ∙ ap (λ a. (c.in_ok-run.run', a)) (sym (c.begun-answer.ensures.fresh texts)) in
+    λ κs h. (lower_same _ _ t 2 0 refl c.decreases, (h.0, (h.1.0, (h.1.1.0, (h.1.1.1, (c.requires.known, (c.requires.form, (c.requires.ready, (c.requires.above, (c.requires.wanted, (begun, c.begun-answer.ensures.no_faults)))))))))))
+
+pub run_keyword-returns-clause-says : goal.run_keyword-returns-clause-says
+run_keyword-returns-clause-says g t c =
     let ns = numbered g.K.Validate.shape c.args.nodes.now in
     let p = steps_to c.args.place.now in
     let s = subject_of c.args.instance in
@@ -304,20 +326,20 @@ run_keyword-returns-in-Done-clause-says g t c =
     let n = node_of c.node.result.now in
     let name = string_bytes c.args.name.now in
     if_ok_both c.finished.result _ _ _ (λ r reply borrows x reads l.
-    let tells = tells_keyword g.K.Validate.is_whole ns (length c.args.nodes.now) (settling (g.M.Matcher.matching c.args.matcher.now) c.args.context.now.remembered.assumptions) p s x c.args.node.0 m es c.requires.known reads c.requires.form in
     let answers = child_says g.K.Validate.words ns x (path_of c.args.path.now) p busy es in
-    let i = c.turns.invariant.borrows x.root reads.stands in
-    let right = ended_right (g.K.Validate.words x.texts) (g.K.Validate.shape c.args.keyword.now) (g.K.Validate.absorbed (g.K.Validate.shape c.args.keyword.now)) (g.K.Validate.remaining (g.K.Validate.shape c.args.keyword.now)) (g.K.Validate.ends x.texts (g.K.Validate.shape c.args.keyword.now)) (g.K.Validate.fits x.texts (g.K.Validate.shape c.args.keyword.now)) (g.met.K.Validate.turn_laws x.texts (g.K.Validate.shape c.args.keyword.now)) s x (mode_of c.args.mode) answers (c.turns.run, answer_of x.texts c.turns.answer) (c.turn.new.run, answer_of x.texts c.turn.new.answer) (reply_of x.texts c.turns.reply) (answer_of x.texts c.turn.new.answer)
-    (c.turns.invariant.leads x reads l) (c.in_ok-child.ensures.turns x.texts tells) (g.met.K.Validate.answers x.texts c.turn.new.run (answer_of x.texts c.turn.new.answer)) (rw c.in-Done.is at (c.in_ok-child.ensures.steps x.texts tells)) in
-    let says = right_reply (g.K.Validate.words x.texts) m s x answers (entry_where n (path_of c.args.path.now) p) name (mode_of c.args.mode) (answer_of x.texts c.turn.new.answer) c.requires.wanted right in
+    let right = c.in_ok-run_turns.ensures.right x reads l in
+    let says = right_reply (g.K.Validate.words x.texts) m s x answers (entry_where n (path_of c.args.path.now) p) name (mode_of c.args.mode) (answer_of x.texts c.run_turns.new.answer) c.requires.wanted right in
     let whole = keyword_says g.K.Validate.shape c.args.nodes.now g.K.Validate.words x (path_of c.args.path.now) p s c.args.node.0 n name m answers c.node.ensures.found reads.stands in
-    let lie = faults_lie x.texts x.root s (g.K.Validate.absorbed m) (g.K.Validate.words x.texts) m x answers (mode_of c.args.mode) c.turn.new.answer ((g.met.K.Validate.function_laws x.texts m).stands s (matching x.matcher x.completion) answers) right
-    (c.in_ok-child.ensures.borrows x.root i.0 i.1) in
+    let lie = faults_lie x.texts x.root s (g.K.Validate.absorbed m) (g.K.Validate.words x.texts) m x answers (mode_of c.args.mode) c.run_turns.new.answer ((g.met.K.Validate.function_laws x.texts m).stands s (matching x.matcher x.completion) answers) right
+    (c.in_ok-run_turns.ensures.passes x.root reads.stands) in
     record { same = reply x.texts ∙ says ∙ ap (reply_by (mode_of c.args.mode)) whole; borrows = borrows x.root reads.stands lie })
     c.finished.ensures.reply c.finished.ensures.borrows
 
-pub run_keyword-unreachable-requires-in-Unmark : goal.run_keyword-unreachable-requires-in-Unmark
-run_keyword-unreachable-requires-in-Unmark g t c =
+pub run_keyword-returns-clause-meets : goal.run_keyword-returns-clause-meets
+run_keyword-returns-clause-meets g t c = if_ok_always c.finished.result _ c.in_ok-run_turns.ensures.meets
+
+pub run_turns-unreachable-requires-in-Unmark : goal.run_turns-unreachable-requires-in-Unmark
+run_turns-unreachable-requires-in-Unmark g t c =
     let s = subject_of c.args.instance in
     let m = g.K.Validate.shape c.args.keyword.now in
     let step = rw c.in-Unmark.is at (c.in_ok-child.ensures.steps false (tells_nothing (g.K.Validate.is_whole m) s)) in
@@ -455,8 +477,8 @@ run_node-returns-in-Keywords-clause-meets g t c =
     let plan = plan_is g.K.Validate.shape c.args.nodes.now c.args.node.0 (node_of c.node-found.result.now) _ c.node-found.ensures.found (ap (option_map plan_of) c.in-Some.is ∙ ap (λ f. Some (plan_of f)) c.in-Keywords.is) in
     if_ok_mono c.run_entries.result _ _ (λ r met. meets_these g.K.Validate.words g.K.Validate.is_whole ns (length c.args.nodes.now) w (mode_of c.args.mode) (path_of c.args.path.now) p busy s c.args.node.0 _ _ _ plan met) (rw c.as_slice.ensures.value at c.run_entries.ensures.meets)
 
-pub run_keyword-turns-smaller-in-Ask : goal.run_keyword-turns-smaller-in-Ask
-run_keyword-turns-smaller-in-Ask g t c =
+pub run_turns-turns-smaller-in-Ask : goal.run_turns-turns-smaller-in-Ask
+run_turns-turns-smaller-in-Ask g t c =
     let ns = numbered g.K.Validate.shape c.args.nodes.now in
     let p = steps_to c.args.place.now in
     let s = subject_of c.args.instance in
@@ -469,8 +491,8 @@ run_keyword-turns-smaller-in-Ask g t c =
     let q : Question = record { child = c.in-Ask.child; below = below_of c.in-Ask.below } in
     falls_turned (g.K.Validate.words false) (g.K.Validate.shape c.args.keyword.now) (g.K.Validate.absorbed (g.K.Validate.shape c.args.keyword.now)) (g.K.Validate.remaining (g.K.Validate.shape c.args.keyword.now)) (g.K.Validate.ends false (g.K.Validate.shape c.args.keyword.now)) (g.K.Validate.fits false (g.K.Validate.shape c.args.keyword.now)) (g.met.K.Validate.turn_laws false (g.K.Validate.shape c.args.keyword.now)) s (c.turns.run, answer_of false c.turns.answer) (c.turn.new.run, answer_of false c.turn.new.answer) told (ask q (mode_of c.in-Ask.wanted)) turn step (ask_goes_on q (mode_of c.in-Ask.wanted))
 
-pub run_keyword-turns-preserved-in-Ask : goal.run_keyword-turns-preserved-in-Ask
-run_keyword-turns-preserved-in-Ask g t c =
+pub run_turns-turns-preserved-in-Ask : goal.run_turns-turns-preserved-in-Ask
+run_turns-turns-preserved-in-Ask g t c =
     let w = settling (g.M.Matcher.matching c.args.matcher.now) c.args.context.now.remembered.assumptions in
     let name = string_bytes c.args.name.now in
     let ns = numbered g.K.Validate.shape c.args.nodes.now in
@@ -507,8 +529,8 @@ run_keyword-turns-preserved-in-Ask g t c =
           meets_asked (g.K.Validate.words texts) w.matcher w.assumptions (node_at (g.K.Validate.words texts) w.matcher ns (subject_in root) c.args.node.0 (path_of c.args.path.now) p) s (child_run g.K.Validate.words ns w texts root depth (path_of c.args.path.now) p busy es) (same_edge es) name m (g.K.Validate.remaining m s) _ _ _ _ _ _ _ _ q (mode_of c.in-Ask.wanted) turn' step' falls replied met (c.turns.invariant.met texts root depth reads l);
     }
 
-pub run_keyword-turns-smaller-in-Match : goal.run_keyword-turns-smaller-in-Match
-run_keyword-turns-smaller-in-Match g t c =
+pub run_turns-turns-smaller-in-Match : goal.run_turns-turns-smaller-in-Match
+run_turns-turns-smaller-in-Match g t c =
     let ns = numbered g.K.Validate.shape c.args.nodes.now in
     let w = settling (g.M.Matcher.matching c.args.matcher.now) c.args.context.now.remembered.assumptions in
     let p = steps_to c.args.place.now in
@@ -524,8 +546,8 @@ run_keyword-turns-smaller-in-Match g t c =
     let step = rw c.in-Match.is at (c.in_ok-child.ensures.steps false (tells_nothing (g.K.Validate.is_whole m) s)) in
     falls_turned (g.K.Validate.words false) m (g.K.Validate.absorbed m) (g.K.Validate.remaining m) (g.K.Validate.ends false m) (g.K.Validate.fits false m) (g.met.K.Validate.turn_laws false m) s (c.turns.run, answer_of false c.turns.answer) (c.turn.new.run, answer_of false c.turn.new.answer) told (match_text a point) turn step (match_goes_on a point)
 
-pub run_keyword-turns-smaller : goal.run_keyword-turns-smaller
-run_keyword-turns-smaller g t c =
+pub run_turns-turns-smaller : goal.run_turns-turns-smaller
+run_turns-turns-smaller g t c =
     let ns = numbered g.K.Validate.shape c.args.nodes.now in
     let w = settling (g.M.Matcher.matching c.args.matcher.now) c.args.context.now.remembered.assumptions in
     let p = steps_to c.args.place.now in
@@ -539,8 +561,8 @@ run_keyword-turns-smaller g t c =
     let step = rw c.in-Ecma.is at (c.in_ok-child.ensures.steps false (tells_nothing (g.K.Validate.is_whole m) s)) in
     falls_turned (g.K.Validate.words false) m (g.K.Validate.absorbed m) (g.K.Validate.remaining m) (g.K.Validate.ends false m) (g.K.Validate.fits false m) (g.met.K.Validate.turn_laws false m) s (c.turns.run, answer_of false c.turns.answer) (c.turn.new.run, answer_of false c.turn.new.answer) told (ecma c.in-Ecma.text.now) turn step (ecma_goes_on c.in-Ecma.text.now)
 
-pub run_keyword-asked_match-requires : goal.run_keyword-asked_match-requires
-run_keyword-asked_match-requires g t c =
+pub run_turns-asked_match-requires : goal.run_turns-asked_match-requires
+run_turns-asked_match-requires g t c =
     let ns = numbered g.K.Validate.shape c.args.nodes.now in
     let w = settling (g.M.Matcher.matching c.args.matcher.now) c.args.context.now.remembered.assumptions in
     let p = steps_to c.args.place.now in
@@ -556,8 +578,8 @@ run_keyword-asked_match-requires g t c =
     let step = rw c.in-Match.is at (c.in_ok-child.ensures.steps false (tells_nothing (g.K.Validate.is_whole m) s)) in
     record { present = matches_present (g.K.Validate.words false) m (g.K.Validate.absorbed m) (g.K.Validate.remaining m) (g.K.Validate.ends false m) (g.K.Validate.fits false m) (g.met.K.Validate.turn_laws false m) s (c.turns.run, answer_of false c.turns.answer) told a point step }
 
-pub run_keyword-turns-preserved-in-Match : goal.run_keyword-turns-preserved-in-Match
-run_keyword-turns-preserved-in-Match g t c =
+pub run_turns-turns-preserved-in-Match : goal.run_turns-turns-preserved-in-Match
+run_turns-turns-preserved-in-Match g t c =
     let ns = numbered g.K.Validate.shape c.args.nodes.now in
     let w = settling (g.M.Matcher.matching c.args.matcher.now) c.args.context.now.remembered.assumptions in
     let p = steps_to c.args.place.now in
@@ -570,7 +592,7 @@ run_keyword-turns-preserved-in-Match g t c =
     let turn = c.in_ok-child.ensures.turns false (tells_nothing (g.K.Validate.is_whole m) s) in
     let a : Pair = record { pattern = c.in-Match.pattern.now; subject = c.in-Match.subject.now } in
     let point = point_of c.in-Match.point in
-    let n = node_of c.node-in-Match.result.now in
+    let n = node_of c.node.result.now in
     let answer = (w.matcher).is_match a.pattern a.subject in
     let step = rw c.in-Match.is at (c.in_ok-child.ensures.steps false (tells_nothing (g.K.Validate.is_whole m) s)) in
     let out = rw c.turns.invariant.assumes at c.in_ok-matches-in-Match.ensures.answer in
@@ -592,13 +614,13 @@ run_keyword-turns-preserved-in-Match g t c =
           let turn' = c.in_ok-child.ensures.turns texts tells in
           let falls = falls_turned (g.K.Validate.words texts) m (g.K.Validate.absorbed m) (g.K.Validate.remaining m) (g.K.Validate.ends texts m) (g.K.Validate.fits texts m) (g.met.K.Validate.turn_laws texts m) s (c.turns.run, answer_of texts c.turns.answer) (c.turn.new.run, answer_of texts c.turn.new.answer) (reply_of texts c.turns.reply) (match_text a point) turn' step' (match_goes_on a point) in
           let is = ap truth (out ∙ ap (λ b. settled b answer) (sym (reads.completes a))) in
-          let there = where_is g.K.Validate.shape c.args.nodes.now (g.K.Validate.words texts) w.matcher (subject_in root) c.args.node.0 n (path_of c.args.path.now) p c.node-in-Match.ensures.found in
+          let there = where_is g.K.Validate.shape c.args.nodes.now (g.K.Validate.words texts) w.matcher (subject_in root) c.args.node.0 n (path_of c.args.path.now) p c.node.ensures.found in
           let new = c.in_ok-matches-in-Match.ensures.met ∙ ap (λ (v : Where). after_match c.turns.context.remembered (record { pair = a; site = site_at v name point }) answer) (sym there) in
           meets_matched (g.K.Validate.words texts) w.matcher w.assumptions (node_at (g.K.Validate.words texts) w.matcher ns (subject_in root) c.args.node.0 (path_of c.args.path.now) p) s (child_run g.K.Validate.words ns w texts root depth (path_of c.args.path.now) p busy es) (same_edge es) name m (g.K.Validate.remaining m s) _ _ _ _ _ _ _ _ a point turn' step' falls is new (c.turns.invariant.met texts root depth reads l);
     }
 
-pub run_keyword-turns-preserved : goal.run_keyword-turns-preserved
-run_keyword-turns-preserved g t c =
+pub run_turns-turns-preserved : goal.run_turns-turns-preserved
+run_turns-turns-preserved g t c =
     let ns = numbered g.K.Validate.shape c.args.nodes.now in
     let w = settling (g.M.Matcher.matching c.args.matcher.now) c.args.context.now.remembered.assumptions in
     let p = steps_to c.args.place.now in
@@ -631,8 +653,8 @@ run_keyword-turns-preserved g t c =
           meets_nothing (g.K.Validate.words texts) w.matcher w.assumptions (node_at (g.K.Validate.words texts) w.matcher ns (subject_in root) c.args.node.0 (path_of c.args.path.now) p) s (child_run g.K.Validate.words ns w texts root depth (path_of c.args.path.now) p busy es) (same_edge es) name m (g.K.Validate.remaining m s) _ _ _ _ _ _ _ _ text turn' step' falls (ap truth c.in_ok-valid-in-Ecma.ensures.valid) refl (c.turns.invariant.met texts root depth reads l);
     }
 
-pub run_keyword-returns-in-Done-clause-meets : goal.run_keyword-returns-in-Done-clause-meets
-run_keyword-returns-in-Done-clause-meets g t c = if_ok_always c.finished.result _ (λ texts root depth reads l.
+pub run_turns-returns-in-Done-clause-meets : goal.run_turns-returns-in-Done-clause-meets
+run_turns-returns-in-Done-clause-meets g t c = λ texts root depth reads l.
     let ns = numbered g.K.Validate.shape c.args.nodes.now in
     let w = settling (g.M.Matcher.matching c.args.matcher.now) c.args.context.now.remembered.assumptions in
     let p = steps_to c.args.place.now in
@@ -645,10 +667,10 @@ run_keyword-returns-in-Done-clause-meets g t c = if_ok_always c.finished.result 
     let turn = c.in_ok-child.ensures.turns false (tells_nothing (g.K.Validate.is_whole m) s) in
     let tells = tells_keyword g.K.Validate.is_whole ns (length c.args.nodes.now) w p s (reading w texts root depth) c.args.node.0 m es c.requires.known reads c.requires.form in
     let all = meets_all (g.K.Validate.words texts) w.matcher w.assumptions (node_at (g.K.Validate.words texts) w.matcher ns (subject_in root) c.args.node.0 (path_of c.args.path.now) p) s (child_run g.K.Validate.words ns w texts root depth (path_of c.args.path.now) p busy es) (same_edge es) name m (g.K.Validate.remaining m s) _ _ c.turns.context.remembered (c.turns.run, answer_of texts c.turns.answer) (reply_of texts c.turns.reply) (rw c.in-Done.is at (c.in_ok-child.ensures.steps texts tells)) (c.turns.invariant.met texts root depth reads l) in
-    meets_same w.matcher _ _ _ _ (ap (λ v. keyword_met (g.K.Validate.words texts) w.matcher w.assumptions (node_at (g.K.Validate.words texts) w.matcher ns (subject_in root) c.args.node.0 (path_of c.args.path.now) p) v (child_run g.K.Validate.words ns w texts root depth (path_of c.args.path.now) p busy es) (same_edge es) name m (mode_of c.args.mode)) (sym (stands_in root p s reads.stands))) all)
+    meets_same w.matcher _ _ _ _ (ap (λ v. keyword_met (g.K.Validate.words texts) w.matcher w.assumptions (node_at (g.K.Validate.words texts) w.matcher ns (subject_in root) c.args.node.0 (path_of c.args.path.now) p) v (child_run g.K.Validate.words ns w texts root depth (path_of c.args.path.now) p busy es) (same_edge es) name m (mode_of c.args.mode)) (sym (stands_in root p s reads.stands))) all
 
-pub run_keyword-unreachable-requires : goal.run_keyword-unreachable-requires
-run_keyword-unreachable-requires g t c =
+pub run_turns-unreachable-requires : goal.run_turns-unreachable-requires
+run_turns-unreachable-requires g t c =
     let s = subject_of c.args.instance in
     let m = g.K.Validate.shape c.args.keyword.now in
     let step = rw c.in-Mark.is at (c.in_ok-child.ensures.steps false (tells_nothing (g.K.Validate.is_whole m) s)) in

@@ -30,19 +30,22 @@ abbrev pub decreases-run_edge : goal.decreases-run_edge
 decreases-run_edge g l = 8 * edge_needs (numbered g.K.Validate.shape l.nodes.now) (length l.nodes.now) (edge_of l.edge.now) (subject_of l.instance) (busy_at (steps_to l.place.now) l.context.now.in_progress)
 
 abbrev pub decreases-run_entries : goal.decreases-run_entries
-decreases-run_entries g l = 8 * left (numbered g.K.Validate.shape l.nodes.now) (length l.nodes.now) l.node.0 (subject_of l.instance) (busy_at (steps_to l.place.now) l.context.now.in_progress) + 5
+decreases-run_entries g l = 8 * left (numbered g.K.Validate.shape l.nodes.now) (length l.nodes.now) l.node.0 (subject_of l.instance) (busy_at (steps_to l.place.now) l.context.now.in_progress) + 6
 
 abbrev pub decreases-run_entry : goal.decreases-run_entry
-decreases-run_entry g l = 8 * left (numbered g.K.Validate.shape l.nodes.now) (length l.nodes.now) l.node.0 (subject_of l.instance) (busy_at (steps_to l.place.now) l.context.now.in_progress) + 4
+decreases-run_entry g l = 8 * left (numbered g.K.Validate.shape l.nodes.now) (length l.nodes.now) l.node.0 (subject_of l.instance) (busy_at (steps_to l.place.now) l.context.now.in_progress) + 5
 
 abbrev pub decreases-run_form : goal.decreases-run_form
-decreases-run_form g l = 8 * left (numbered g.K.Validate.shape l.nodes.now) (length l.nodes.now) l.node.0 (subject_of l.instance) (busy_at (steps_to l.place.now) l.context.now.in_progress) + 3
+decreases-run_form g l = 8 * left (numbered g.K.Validate.shape l.nodes.now) (length l.nodes.now) l.node.0 (subject_of l.instance) (busy_at (steps_to l.place.now) l.context.now.in_progress) + 4
 
 abbrev pub decreases-run_keyword : goal.decreases-run_keyword
-decreases-run_keyword g l = 8 * left (numbered g.K.Validate.shape l.nodes.now) (length l.nodes.now) l.node.0 (subject_of l.instance) (busy_at (steps_to l.place.now) l.context.now.in_progress) + 2
+decreases-run_keyword g l = 8 * left (numbered g.K.Validate.shape l.nodes.now) (length l.nodes.now) l.node.0 (subject_of l.instance) (busy_at (steps_to l.place.now) l.context.now.in_progress) + 3
 
 abbrev pub decreases-run_node : goal.decreases-run_node
-decreases-run_node g l = 8 * left (numbered g.K.Validate.shape l.nodes.now) (length l.nodes.now) l.node.0 (subject_of l.instance) (busy_at (steps_to l.place.now) l.context.now.in_progress) + 6
+decreases-run_node g l = 8 * left (numbered g.K.Validate.shape l.nodes.now) (length l.nodes.now) l.node.0 (subject_of l.instance) (busy_at (steps_to l.place.now) l.context.now.in_progress) + 7
+
+abbrev pub decreases-run_turns : goal.decreases-run_turns
+decreases-run_turns g l = 8 * left (numbered g.K.Validate.shape l.nodes.now) (length l.nodes.now) l.node.0 (subject_of l.instance) (busy_at (steps_to l.place.now) l.context.now.in_progress) + 2
 
 abbrev pub invariant-run_entries-loop-entry : goal.invariant-run_entries-loop-entry
 invariant-run_entries-loop-entry g l =
@@ -64,8 +67,8 @@ invariant-run_entries-loop-entry g l =
           ≡ plan_met (mode_of l.mode) (parts_looked g.K.Validate.words ns w texts root depth l.node.0 (path_of l.path) (steps_to l.place) busy (map (shaped_part g.K.Validate.shape) (map entry_of l.entries))));
     }
 
-abbrev pub invariant-run_keyword-turns : goal.invariant-run_keyword-turns
-invariant-run_keyword-turns g l =
+abbrev pub invariant-run_turns-turns : goal.invariant-run_turns-turns
+invariant-run_turns-turns g l =
     let ns = numbered g.K.Validate.shape l.nodes in
     let busy = busy_at (steps_to l.place) l.initial.context.in_progress in
     let s = subject_of l.instance in
@@ -86,5 +89,5 @@ invariant-run_keyword-turns g l =
           l.context.remembered (l.run, answer_of texts l.answer) (reply_of texts l.reply);
     }
 
-abbrev pub decreases-run_keyword-turns : goal.decreases-run_keyword-turns
-decreases-run_keyword-turns g l = g.K.Validate.remaining (g.K.Validate.shape l.keyword) (subject_of l.instance) (l.run, answer_of false l.answer)
+abbrev pub decreases-run_turns-turns : goal.decreases-run_turns-turns
+decreases-run_turns-turns g l = g.K.Validate.remaining (g.K.Validate.shape l.keyword) (subject_of l.instance) (l.run, answer_of false l.answer)
