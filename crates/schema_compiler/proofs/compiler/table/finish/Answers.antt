@@ -3,8 +3,7 @@ use Rattle.schema_node.specs.NodeViews.{plan_of}
 use Rattle.schema_node.specs.NodeTable.{filled}
 use Rattle.schema_compiler.specs.KeyViews.{key_of}
 use Rattle.schema_compiler.specs.Options.{given_parts}
-use Rattle.schema_compiler.proofs.Tables.{finished_table, are_filled, filled_now}
-use Rattle.std.proofs.lemmas.Option.{slice_get_within}
+use Rattle.schema_compiler.proofs.Tables.{finished_table, are_filled}
 use Rattle.schema_compiler.proofs.compiler.table.finish.Goals as goal
 
 pub fill-requires-clause-ready : goal.fill-requires-clause-ready

@@ -1,4 +1,4 @@
-use Rattle.std.proofs.Common.{◌≡◌, ◌∷◌, ◌++◌, [], List, Some, Option, ap, cond, length, map, nat_eq, ℕ, arith, ◌∙◌}
+use Rattle.std.proofs.Common.{◌≡◌, ◌∷◌, ◌++◌, [], List, Some, ap, cond, length, map, nat_eq, ℕ, arith, ◌∙◌}
 use Rattle.std.proofs.lemmas.List.{length-map, map-append}
 use Rattle.std.specs.HashMap.{get}
 use Rattle.schema_compiler.specs.KeyHashes.{hash_of}
