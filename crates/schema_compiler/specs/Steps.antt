@@ -12,6 +12,13 @@ use Rattle.schema_compiler.specs.Compiling.{Each, option_one}
 use Rattle.schema_compiler.specs.Filling.{AreParts, IsGrown, IsMadePart, IsPlan, IsStep, IsTable, LeadsTo}
 
 module _ {S K R C : Type 0} (w : Parts S K R) (shape : C → K) (limit : ℕ) (keys keys' : List (Key S)) (nodes nodes' : List (NodeEntry C)) where
+  -- a key has this number, the next one if it had none before
+  pub record IsNumbered (k : Key S) (n : ℕ) : Type 0 where
+    pub table : IsTable w shape limit keys' nodes'
+    pub grown : IsGrown (Reached w k) keys keys' nodes nodes'
+    pub number : slice_get keys' n ≡ Some k
+    pub fresh : slice_get keys n ≢ Some k → n ≡ length keys
+
   -- a key has a number, the next one if it had none before, and this edge leads there
   pub record IsEdgeTo (k : Key S) (path : Text) (e : NodeEdge) : Type 0 where
     pub table : IsTable w shape limit keys' nodes'

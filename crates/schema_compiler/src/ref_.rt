@@ -5,7 +5,7 @@ ghost use Rattle.schema_reports.specs.Pointer.{joined};
 ghost use Rattle.schema_reports.specs.Plan.{found, location_by, start_by, referred, reference_edge, reference_named, is_self};
 ghost use Rattle.schema_reports.specs.Refusals.{lookup_causes};
 ghost use Rattle.schema_reports.specs.KeywordViews.{draft_of};
-ghost use Rattle.schema_node.specs.ResolverViews.{found_of, place_of};
+ghost use Rattle.schema_node.specs.ResolverViews.{Refuses, found_of, place_of};
 ghost use Rattle.schema_compiler.specs.KeyViews.{key_of, kind_of};
 ghost use Rattle.schema_compiler.specs.Compiling.{resolving_parts, skips};
 ghost use Rattle.std.specs.Str.Lossy.{utf8_lossy};
@@ -18,7 +18,7 @@ use crate::compiler::key::SchemaKey;
 use crate::compiler::start::start_of_target;
 use crate::compiler::text::fragment_of;
 use percent_encoding::{decode_utf8_lossy, percent_decode};
-use schema_node::context::resolver::{Resolver, Target};
+use schema_node::context::resolver::{LookupError, Resolver, Target};
 use schema_reports::keywords::Draft;
 use schema_reports::location::{Location, OutOfMemory};
 use std::alloc::Global;
@@ -46,7 +46,27 @@ pub(crate) fn reference_kind(name: &str) -> Option<ReferenceKind>
     }
 }
 
-// What a reference's text leads to; an empty text is read as `#`.
+// What the resolver finds for a reference's text; an empty text is read as `#`.
+fn looked_up<R: Resolver>(
+    alloc: Global,
+    resolver: &R,
+    key: &SchemaKey<R::State>,
+    kind: ReferenceKind,
+    text: &str,
+) -> Result<Target<R::State>, LookupError>
+    ensures found { MatchResult result
+        (λ t. found (resolving_parts (R.resolving resolver.now)) (key_of R.point key.now) (kind_of kind) text.now ≡ Ok (found_of R.point t))
+        (Refuses (found (resolving_parts (R.resolving resolver.now)) (key_of R.point key.now) (kind_of kind) text.now)) }
+{
+    let reference = if text.is_empty() { "#" } else { text };
+    match kind {
+        ReferenceKind::Ref => resolver.lookup(alloc, &key.state, reference, false),
+        ReferenceKind::Dynamic => resolver.lookup(alloc, &key.state, reference, true),
+        ReferenceKind::Recursive => resolver.lookup_recursive_ref(alloc, &key.state),
+    }
+}
+
+// What a reference's text leads to.
 fn lookup_reference<R: Resolver>(
     alloc: Global,
     resolver: &R,
@@ -57,12 +77,7 @@ fn lookup_reference<R: Resolver>(
     ensures found { IfOk result (λ t. found (resolving_parts (R.resolving resolver.now)) (key_of R.point key.now) (kind_of kind) text.now ≡ Ok (found_of R.point t)) }
     ensures refused { IfErr result (Names (lookup_causes (resolving_parts (R.resolving resolver.now)) (found (resolving_parts (R.resolving resolver.now)) (key_of R.point key.now) (kind_of kind) text.now))) }
 {
-    let reference = if text.is_empty() { "#" } else { text };
-    match kind {
-        ReferenceKind::Ref => Ok(resolver.lookup(alloc, &key.state, reference, false)?),
-        ReferenceKind::Dynamic => Ok(resolver.lookup(alloc, &key.state, reference, true)?),
-        ReferenceKind::Recursive => Ok(resolver.lookup_recursive_ref(alloc, &key.state)?),
-    }
+    Ok(looked_up(alloc, resolver, key, kind, text)?)
 }
 
 // The text of a pointer in a fragment.

@@ -1,11 +1,11 @@
 //! Keys: what a node is compiled for. Comparison, copies, and the key of a subschema.
-ghost use Rattle.std.specs.Prelude.{◌≡◌, ◌≢◌, ℕ, ◌↔◌, true, IfOk, MatchOption, MatchResult, IsTrue, map, Some, slice_get, option_map, string_bytes};
+ghost use Rattle.std.specs.Prelude.{◌≡◌, ◌≢◌, ℕ, ◌++◌, ◌↔◌, true, IfOk, MatchOption, MatchResult, IsTrue, map, Some, slice_get, option_map, string_bytes};
 ghost use Rattle.schema_reports.specs.Pointer.{pointer_to};
 ghost use Rattle.schema_reports.specs.Making.{compile};
 ghost use Rattle.schema_reports.specs.Plan.{subschema, inside};
 ghost use Rattle.schema_reports.specs.Refusals.{request_causes};
 ghost use Rattle.schema_reports.specs.KeywordViews.{draft_of};
-ghost use Rattle.schema_node.specs.ResolverViews.{place_of};
+ghost use Rattle.schema_node.specs.ResolverViews.{found_of, place_of};
 ghost use Rattle.schema_compiler.specs.KeyViews.{key_of};
 ghost use Rattle.schema_compiler.specs.Compiling.{resolving_parts};
 ghost use Rattle.schema_compiler.specs.Refusing.{Names};
@@ -16,7 +16,7 @@ ghost use Rattle.schema_reports.specs.Plan.{schema_at};
 
 use crate::compiler::error::BuildError;
 use crate::compiler::text::{has_own_scheme, text_before_fragment};
-use schema_node::context::resolver::Resolver;
+use schema_node::context::resolver::{Resolver, Target};
 use schema_node::context::schema_place::{SchemaPath, SchemaPlace};
 use schema_reports::keywords::{Draft, VocabularySet};
 use schema_reports::location::{Location, OutOfMemory};
@@ -68,6 +68,21 @@ fn same_location(left: &Location, right: &Location) -> bool
     left.as_str() == right.as_str()
 }
 
+// The place, the state and the draft of a key, in memory of their own.
+fn target_copy<R: Resolver>(
+    alloc: Global,
+    key: &SchemaKey<R::State>,
+) -> Result<Target<R::State>, OutOfMemory>
+    ensures target { IfOk result (λ t. found_of R.point t ≡ record { place = place_of key.now.place; state = R.point key.now.state; draft = draft_of key.now.draft }) }
+{
+    let place = key.place.copy(alloc)?;
+    Ok(Target {
+        state: key.state.clone()?,
+        place,
+        draft: key.draft,
+    })
+}
+
 /// The same key in memory of its own.
 pub(crate) fn copy_of<R: Resolver>(
     alloc: Global,
@@ -75,13 +90,16 @@ pub(crate) fn copy_of<R: Resolver>(
 ) -> Result<SchemaKey<R::State>, OutOfMemory>
     ensures same { IfOk result (λ k. key_of R.point k ≡ key_of R.point key.now) }
 {
+    let location = key.location.copy()?;
+    let base = key.base.copy()?;
+    let target = target_copy::<R>(alloc, key)?;
     Ok(SchemaKey {
-        place: key.place.copy(alloc)?,
-        state: key.state.clone()?,
-        draft: key.draft,
         vocabularies: key.vocabularies.duplicate()?,
-        location: key.location.copy()?,
-        base: key.base.copy()?,
+        place: target.place,
+        state: target.state,
+        draft: target.draft,
+        location,
+        base,
         start: key.start,
     })
 }
@@ -101,33 +119,44 @@ pub(crate) fn shown_base_of<R: Resolver>(
     Ok(Some(String::from_str(alloc, text_before_fragment(uri))?))
 }
 
+// The location of the subschema at a path below.
+fn location_inside<S>(
+    alloc: Global,
+    key: &SchemaKey<S>,
+    path: &SchemaPath,
+) -> Result<Location, OutOfMemory>
+    ensures location { IfOk result (λ l. l ≡ key.now.location ++ pointer_to path.now) }
+{
+    let pointer = path.pointer(alloc)?;
+    key.location.append(&pointer)
+}
+
 // The key of the subschema at a place below, in its state and draft.
 fn key_inside<R: Resolver>(
     alloc: Global,
     resolver: &R,
     key: &SchemaKey<R::State>,
     path: &SchemaPath,
-    place: SchemaPlace,
-    state: R::State,
-    draft: Draft,
+    below: Target<R::State>,
 ) -> Result<SchemaKey<R::State>, OutOfMemory>
-    requires below { place_of place ≡ at_path (place_of key.now.place) path.now }
-    ensures inside { IfOk result (λ k. key_of R.point k ≡ inside (resolving_parts (R.resolving resolver.now)) (key_of R.point key.now) path.now (R.point state) (draft_of draft)) }
+    requires below { place_of below.place ≡ at_path (place_of key.now.place) path.now }
+    ensures inside { IfOk result (λ k. key_of R.point k ≡ inside (resolving_parts (R.resolving resolver.now)) (key_of R.point key.now) path.now (R.point below.state) (draft_of below.draft)) }
 {
-    let location = key.location.append(&path.pointer(alloc)?)?;
-    let start = if has_id(resolver, draft, &place) {
+    let location = location_inside(alloc, key, path)?;
+    let base = key.base.copy()?;
+    let vocabularies = vocabularies_inside(alloc, resolver, key, &below)?;
+    let start = if has_id(resolver, below.draft, &below.place) {
         location.as_str().len()
     } else {
         key.start
     };
-    let vocabularies = vocabularies_inside(alloc, resolver, key, &place, &state, draft)?;
     Ok(SchemaKey {
-        place,
-        state,
-        draft,
+        place: below.place,
+        state: below.state,
+        draft: below.draft,
         vocabularies,
         location,
-        base: key.base.copy()?,
+        base,
         start,
     })
 }
@@ -137,16 +166,14 @@ fn vocabularies_inside<R: Resolver>(
     alloc: Global,
     resolver: &R,
     key: &SchemaKey<R::State>,
-    place: &SchemaPlace,
-    state: &R::State,
-    draft: Draft,
+    below: &Target<R::State>,
 ) -> Result<VocabularySet, OutOfMemory>
-    ensures vocabularies { IfOk result (λ v. v ≡ (if same_draft (draft_of draft) (draft_of key.now.draft) then key.now.vocabularies else (R.resolving resolver.now).find_vocabularies (R.point state.now) (draft_of draft) (place_of place.now))) }
+    ensures vocabularies { IfOk result (λ v. v ≡ (if same_draft (draft_of below.now.draft) (draft_of key.now.draft) then key.now.vocabularies else (R.resolving resolver.now).find_vocabularies (R.point below.now.state) (draft_of below.now.draft) (place_of below.now.place))) }
 {
-    if is_same_draft(draft, key.draft) {
+    if is_same_draft(below.draft, key.draft) {
         key.vocabularies.duplicate()
     } else {
-        resolver.find_vocabularies(alloc, state, draft, place)
+        resolver.find_vocabularies(alloc, &below.state, below.draft, &below.place)
     }
 }
 
@@ -198,5 +225,10 @@ pub(crate) fn subschema_key<R: Resolver>(
     let place = key.place.below(alloc, path)?;
     let draft = draft_at(resolver, key.draft, &place);
     let state = resolver.in_subresource(alloc, &key.state, draft, &place)?;
-    Ok(key_inside(alloc, resolver, key, path, place, state, draft)?)
+    let below = Target {
+        place,
+        state,
+        draft,
+    };
+    Ok(key_inside(alloc, resolver, key, path, below)?)
 }

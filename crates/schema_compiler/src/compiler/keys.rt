@@ -1,5 +1,6 @@
 //! The keys that were reached, in the order of their numbers. A key is found by a hash, from number to number.
-ghost use Rattle.std.specs.Prelude.{◌≡◌, ◌≢◌, ◌++◌, ◌∷◌, ℕ, [], MatchOption, OnErr, OnOk, Some, length, map, slice_get};
+ghost use Rattle.std.specs.Prelude.{◌≡◌, ◌≢◌, ◌≤◌, ◌+◌, ◌++◌, ◌∷◌, ℕ, [], MatchOption, OnErr, OnOk, Some, if◌then◌else◌, length, map, nat_eq, slice_get, vec_capacity, vec_len};
+ghost use Rattle.std.specs.HashMap.{IsUnchanged, get};
 ghost use Rattle.schema_compiler.specs.KeyViews.{key_of};
 ghost use Rattle.schema_compiler.specs.KeyHashes.{hash_of};
 
@@ -58,15 +59,31 @@ impl<S: Drop> Keys<S> {
         ensures pushed { OnOk result (self.new ≡ self.old ++ key ∷ []) }
         ensures unchanged { OnErr result (self.new ≡ self.old) }
     {
-        self.keys.reserve(1)?;
-        self.earlier.reserve(1)?;
         let hash = hash_of(&key);
-        let number = self.keys.len();
-        let earlier = self.last.insert(hash, number)?;
+        link(&mut self.keys, &mut self.last, &mut self.earlier, hash)?;
         self.keys.push(key)?;
-        self.earlier.push(earlier)?;
         Ok(())
     }
+}
+
+// Links the next number to the one before it with the same hash, with room for its key.
+fn link<S>(
+    keys: &mut Vec<SchemaKey<S>>,
+    last: &mut HashMap<u64, usize>,
+    earlier: &mut Vec<Option<usize>>,
+    hash: u64,
+) -> Result<(), OutOfMemory>
+    ensures keys { keys.new.items ≡ keys.old.items }
+    ensures room { OnOk result (vec_len keys.new + 1 ≤ vec_capacity keys.new) }
+    ensures last { OnOk result ((q : ℕ) → get nat_eq last.new q ≡ (if nat_eq hash q then Some (length keys.old.items) else get nat_eq last.old q)) }
+    ensures linked { OnOk result (earlier.new.items ≡ earlier.old.items ++ get nat_eq last.old hash ∷ []) }
+    ensures unchanged { OnErr result (IsUnchanged last.old last.new × (earlier.new.items ≡ earlier.old.items)) }
+{
+    keys.reserve(1)?;
+    earlier.reserve(1)?;
+    let before = last.insert(hash, keys.len())?;
+    earlier.push(before)?;
+    Ok(())
 }
 
 // The hash by which a key is found.

@@ -13,7 +13,7 @@ ghost use Rattle.schema_compiler.specs.Compiling.{StandsBelow, member_edges, mem
 ghost use Rattle.schema_compiler.specs.Options.{given_parts};
 ghost use Rattle.schema_compiler.specs.Refusing.{IsRefusal, Refused};
 ghost use Rattle.schema_compiler.specs.Filling.{IsTable};
-ghost use Rattle.schema_compiler.specs.Steps.{IsEdgeTo, IsAnswered, MakesPart, MakesParts, MakesPlan};
+ghost use Rattle.schema_compiler.specs.Steps.{IsEdgeTo, IsNumbered, IsAnswered, MakesPart, MakesParts, MakesPlan};
 
 use crate::compiler::annotations::{keep_unknown, object_of};
 use crate::compiler::builtin::builtin_row;
@@ -60,14 +60,32 @@ pub(crate) fn edge_to<R: Resolver, K: Validate, T: KeywordTable<K>>(
     ensures edge { IfOk result (λ e. IsEdgeTo (given_parts (R.resolving resolver.now) (T.owned table.now) (T.script table.now) options.now) K.shape options.now.node_limit (map (key_of R.point) compiled.old.keys) (map (key_of R.point) compiled.new.keys) compiled.old.nodes compiled.new.nodes (key_of R.point key) path (edge_of e)) }
     ensures refused { IfErr result (IsRefusal options.now.node_limit (map (key_of R.point) compiled.old.keys) (Reached (given_parts (R.resolving resolver.now) (T.owned table.now) (T.script table.now) options.now) (key_of R.point key)) (StandsBelow (given_parts (R.resolving resolver.now) (T.owned table.now) (T.script table.now) options.now) (key_of R.point key))) }
 {
-    if let Some(number) = find::<R>(&compiled.keys, &key) {
-        return Ok(edge_at(resolver, table, options, compiled, number, path));
+    let number = number_of(alloc, resolver, table, options, compiled, &key);
+    drop(key);
+    Ok(edge_at(resolver, table, options, compiled, number?, path))
+}
+
+// The number of a key, which is compiled first where it has none.
+#[cycle(compile)]
+fn number_of<R: Resolver, K: Validate, T: KeywordTable<K>>(
+    alloc: Global,
+    resolver: &R,
+    table: &T,
+    options: &CompileOptions,
+    compiled: &mut Compiled<R::State, K>,
+    key: &SchemaKey<R::State>,
+) -> Result<usize, BuildError>
+    requires table { IsTable (given_parts (R.resolving resolver.now) (T.owned table.now) (T.script table.now) options.now) K.shape options.now.node_limit (map (key_of R.point) compiled.old.keys) compiled.old.nodes }
+    ensures numbered { IfOk result (IsNumbered (given_parts (R.resolving resolver.now) (T.owned table.now) (T.script table.now) options.now) K.shape options.now.node_limit (map (key_of R.point) compiled.old.keys) (map (key_of R.point) compiled.new.keys) compiled.old.nodes compiled.new.nodes (key_of R.point key.now)) }
+    ensures refused { IfErr result (IsRefusal options.now.node_limit (map (key_of R.point) compiled.old.keys) (Reached (given_parts (R.resolving resolver.now) (T.owned table.now) (T.script table.now) options.now) (key_of R.point key.now)) (StandsBelow (given_parts (R.resolving resolver.now) (T.owned table.now) (T.script table.now) options.now) (key_of R.point key.now))) }
+{
+    if let Some(number) = find::<R>(&compiled.keys, key) {
+        return Ok(number);
     }
-    let number = reserve_within(alloc, resolver, table, options, compiled, &key)?;
-    let planned = planned_node(alloc, resolver, table, options, compiled, &key)?;
-    Ok(finish(
-        resolver, table, options, compiled, number, planned, &key, path,
-    ))
+    let number = reserve_within(alloc, resolver, table, options, compiled, key)?;
+    let planned = planned_node(alloc, resolver, table, options, compiled, key)?;
+    finish(resolver, table, options, compiled, number, planned, key);
+    Ok(number.0)
 }
 
 // What a key's node asks of an instance, and its annotations.
@@ -285,8 +303,8 @@ fn child_edge<R: Resolver, K: Validate, T: KeywordTable<K>>(
     ensures answered { IfOk result (λ e. IsAnswered (given_parts (R.resolving resolver.now) (T.owned table.now) (T.script table.now) options.now) K.shape options.now.node_limit (map (key_of R.point) compiled.old.keys) (map (key_of R.point) compiled.new.keys) compiled.old.nodes compiled.new.nodes (subschema (given_parts (R.resolving resolver.now) (T.owned table.now) (T.script table.now) options.now) (key_of R.point key.now) path.now) (request_causes (given_parts (R.resolving resolver.now) (T.owned table.now) (T.script table.now) options.now) (key_of R.point key.now) (compile path.now)) (Some (edge_of e))) }
     ensures refused { IfErr result (Refused (given_parts (R.resolving resolver.now) (T.owned table.now) (T.script table.now) options.now) options.now.node_limit (option_one (subschema (given_parts (R.resolving resolver.now) (T.owned table.now) (T.script table.now) options.now) (key_of R.point key.now) path.now)) (request_causes (given_parts (R.resolving resolver.now) (T.owned table.now) (T.script table.now) options.now) (key_of R.point key.now) (compile path.now)) (map (key_of R.point) compiled.old.keys)) }
 {
-    let below = subschema_key(alloc, resolver, key, path)?;
     let location = path.pointer(alloc)?;
+    let below = subschema_key(alloc, resolver, key, path)?;
     Ok(edge_to(alloc, resolver, table, options, compiled, below, location)?)
 }
 
@@ -307,11 +325,12 @@ fn reference_edge<R: Resolver, K: Validate, T: KeywordTable<K>>(
     ensures answered { IfOk result (λ o. IsAnswered (given_parts (R.resolving resolver.now) (T.owned table.now) (T.script table.now) options.now) K.shape options.now.node_limit (map (key_of R.point) compiled.old.keys) (map (key_of R.point) compiled.new.keys) compiled.old.nodes compiled.new.nodes (reference_asked (given_parts (R.resolving resolver.now) (T.owned table.now) (T.script table.now) options.now) (key_of R.point key.now) (string_bytes name.now) (kind_of kind) (string_bytes text.now)) (lookup_causes (given_parts (R.resolving resolver.now) (T.owned table.now) (T.script table.now) options.now) (found (given_parts (R.resolving resolver.now) (T.owned table.now) (T.script table.now) options.now) (key_of R.point key.now) (kind_of kind) (string_bytes text.now))) (option_map edge_of o)) }
     ensures refused { IfErr result (Refused (given_parts (R.resolving resolver.now) (T.owned table.now) (T.script table.now) options.now) options.now.node_limit (option_one (reference_asked (given_parts (R.resolving resolver.now) (T.owned table.now) (T.script table.now) options.now) (key_of R.point key.now) (string_bytes name.now) (kind_of kind) (string_bytes text.now))) (lookup_causes (given_parts (R.resolving resolver.now) (T.owned table.now) (T.script table.now) options.now) (found (given_parts (R.resolving resolver.now) (T.owned table.now) (T.script table.now) options.now) (key_of R.point key.now) (kind_of kind) (string_bytes text.now))) (map (key_of R.point) compiled.old.keys)) }
 {
+    let path = Location::new(alloc).join(LocationSegment::Property(name.as_str()))?;
     match target_of(alloc, resolver, table, options, key, kind, text.as_str())? {
         None => Ok(None),
         Some(target) => {
-            let path = Location::new(alloc).join(LocationSegment::Property(name.as_str()))?;
-            Ok(Some(edge_to(alloc, resolver, table, options, compiled, target, path)?))
+            let edge = edge_to(alloc, resolver, table, options, compiled, target, path)?;
+            Ok(Some(edge))
         }
     }
 }

@@ -1,5 +1,5 @@
 //! The table of keys and nodes while it is filled, and what a key is compiled by.
-ghost use Rattle.std.specs.Prelude.{◌≡◌, ◌≢◌, ℕ, ◌<◌, ◌++◌, ◌∷◌, [], Bool, true, false, IfOk, IfErr, OnOk, MatchOption, map, option_map, Some, None, slice_get, length, List, string_bytes, codes, flat_map, if◌then◌else◌};
+ghost use Rattle.std.specs.Prelude.{◌≡◌, ◌≢◌, ℕ, ◌<◌, ◌++◌, ◌∷◌, [], Bool, true, false, IfOk, IfErr, IfSome, OnOk, MatchOption, map, option_map, Some, None, slice_get, length, List, string_bytes, codes, flat_map, if◌then◌else◌};
 ghost use Rattle.serde_json.specs.View.{view, members_view};
 ghost use Rattle.schema_reports.specs.Instance.{Text, member_of};
 ghost use Rattle.schema_reports.specs.Pointer.{joined};
@@ -13,13 +13,13 @@ ghost use Rattle.schema_reports.specs.Refusals.{lookup_causes, undeclared};
 ghost use Rattle.schema_reports.specs.Units.{annotations_of};
 ghost use Rattle.schema_reports.specs.KeywordViews.{draft_of};
 ghost use Rattle.schema_node.specs.NodeTable.{NodeEntry, LeadsToFilled, IsReserved};
-ghost use Rattle.schema_node.specs.NodeViews.{edge_of, plan_of};
+ghost use Rattle.schema_node.specs.NodeViews.{edge_of, plan_of, reserved_node};
 ghost use Rattle.schema_compiler.specs.KeyViews.{key_of, kind_of};
-ghost use Rattle.schema_compiler.specs.Compiling.{StandsBelow, answers, option_one, reference_asked};
+ghost use Rattle.schema_compiler.specs.Compiling.{StandsBelow, answers, option_one, reference_asked, resolving_parts};
 ghost use Rattle.schema_reports.specs.Reach.{Reached};
 ghost use Rattle.schema_compiler.specs.Options.{given_parts};
 ghost use Rattle.schema_compiler.specs.Refusing.{IsRefusal, Names, Refused};
-ghost use Rattle.schema_compiler.specs.Filling.{IsTable, IsPlanned, Finishes, boolean_plan};
+ghost use Rattle.schema_compiler.specs.Filling.{IsTable, IsPlanned, Finishes, boolean_plan, shown_base};
 ghost use Rattle.schema_node.specs.MakerViews.{is_own, name_of, maker_reply_of};
 ghost use Rattle.serde_json.specs.Find.{as_bool};
 ghost use Rattle.schema_compiler.specs.declared.compiler.error.BuildError.TheVariants as build;
@@ -62,6 +62,21 @@ pub(crate) struct PlannedNode<K> {
     pub annotations: Option<Value>,
 }
 
+// Reserves the node of a key.
+fn reserve_node<R: Resolver, K: Validate>(
+    alloc: Global,
+    resolver: &R,
+    nodes: &mut Nodes<K>,
+    key: &SchemaKey<R::State>,
+) -> Result<SchemaNode, OutOfMemory>
+    ensures added { OnOk result (nodes.new ≡ nodes.old ++ reserved_node key.now.location (shown_base (resolving_parts (R.resolving resolver.now)) (key_of R.point key.now)) key.now.start ∷ []) }
+    ensures number { IfOk result (λ n. n.0 ≡ length nodes.old) }
+{
+    let location = key.location.copy()?;
+    let base = shown_base_of(alloc, resolver, key)?;
+    nodes.reserve(location, base, key.start)
+}
+
 /// Gives a key the next number, with a node that is reserved.
 pub(crate) fn reserve<R: Resolver, K: Validate, T: KeywordTable<K>>(
     alloc: Global,
@@ -80,10 +95,8 @@ pub(crate) fn reserve<R: Resolver, K: Validate, T: KeywordTable<K>>(
     ensures number { IfOk result (λ n. n.0 ≡ length compiled.old.nodes) }
     ensures memory { IfErr result (λ e. e ≡ build.OutOfMemory) }
 {
-    let base = shown_base_of(alloc, resolver, key)?;
-    let location = key.location.copy()?;
+    let number = reserve_node(alloc, resolver, &mut compiled.nodes, key)?;
     let own = copy_of::<R>(alloc, key)?;
-    let number = compiled.nodes.reserve(location, base, key.start)?;
     compiled.keys.push(own)?;
     Ok(number)
 }
@@ -111,7 +124,7 @@ pub(crate) fn reserve_within<R: Resolver, K: Validate, T: KeywordTable<K>>(
     Ok(reserve(alloc, resolver, table, options, compiled, key)?)
 }
 
-/// Fills the node of a reserved number; the edge to it is not guarded.
+/// Fills the node of a reserved number.
 pub(crate) fn finish<R: Resolver, K: Validate, T: KeywordTable<K>>(
     _resolver: &R,
     _table: &T,
@@ -120,8 +133,7 @@ pub(crate) fn finish<R: Resolver, K: Validate, T: KeywordTable<K>>(
     number: SchemaNode,
     planned: PlannedNode<K>,
     _key: &SchemaKey<R::State>,
-    path: Location,
-) -> Edge
+)
     requires table { IsTable (given_parts (R.resolving _resolver.now) (T.owned _table.now) (T.script _table.now) options.now) K.shape options.now.node_limit (map (key_of R.point) compiled.old.keys) compiled.old.nodes }
     requires numbered { slice_get (map (key_of R.point) compiled.old.keys) number.0 ≡ Some (key_of R.point _key.now) }
     requires reserved { IsReserved compiled.old.nodes number.0 }
@@ -130,18 +142,10 @@ pub(crate) fn finish<R: Resolver, K: Validate, T: KeywordTable<K>>(
     ensures table { IsTable (given_parts (R.resolving _resolver.now) (T.owned _table.now) (T.script _table.now) options.now) K.shape options.now.node_limit (map (key_of R.point) compiled.new.keys) compiled.new.nodes }
     ensures keys { (map (key_of R.point) compiled.new.keys) ≡ (map (key_of R.point) compiled.old.keys) }
     ensures filled { Finishes compiled.old.nodes number.0 compiled.new.nodes }
-    ensures node { result.node.0 ≡ number.0 }
-    ensures path { result.path ≡ path }
-    ensures leads { LeadsToFilled compiled.new.nodes (edge_of result) }
 {
     compiled
         .nodes
         .fill(number, planned.form, planned.annotations);
-    Edge {
-        node: number,
-        path,
-        guarded: false,
-    }
 }
 
 /// The edge to a number that is there, which is guarded where the number is only reserved.
@@ -278,12 +282,25 @@ pub(crate) fn target_of<R: Resolver, K: Validate, T: KeywordTable<K>>(
         × (flat_map (undeclared (given_parts (R.resolving resolver.now) (T.owned table.now) (T.script table.now) options.now)) t.vocabularies ≡ []))) }
     ensures refused { IfErr result (λ e. (name : Text) (keys : List (Key R.Point)) → Refused (given_parts (R.resolving resolver.now) (T.owned table.now) (T.script table.now) options.now) options.now.node_limit (option_one (reference_asked (given_parts (R.resolving resolver.now) (T.owned table.now) (T.script table.now) options.now) (key_of R.point key.now) name (kind_of kind) text.now)) (lookup_causes (given_parts (R.resolving resolver.now) (T.owned table.now) (T.script table.now) options.now) (found (given_parts (R.resolving resolver.now) (T.owned table.now) (T.script table.now) options.now) (key_of R.point key.now) (kind_of kind) text.now)) keys e) }
 {
-    match target_key(alloc, resolver, key, kind, text)? {
-        None => Ok(None),
-        Some(target) => {
-            check_declared(alloc, resolver, table, options, &target.vocabularies)?;
-            Ok(Some(target))
-        }
+    let target = target_key(alloc, resolver, key, kind, text)?;
+    check_target(alloc, resolver, table, options, &target)?;
+    Ok(target)
+}
+
+// Refuses a custom vocabulary that is not declared, where a reference's target requires it.
+fn check_target<R: Resolver, K: Validate, T: KeywordTable<K>>(
+    alloc: Global,
+    resolver: &R,
+    table: &T,
+    options: &CompileOptions,
+    target: &Option<SchemaKey<R::State>>,
+) -> Result<(), BuildError>
+    ensures declared { IfOk result (λ _. IfSome target.now (λ t. flat_map (undeclared (given_parts (R.resolving resolver.now) (T.owned table.now) (T.script table.now) options.now)) t.vocabularies ≡ [])) }
+    ensures refused { IfErr result (λ e. MatchOption target.now ⊥ (λ t. Names (flat_map (undeclared (given_parts (R.resolving resolver.now) (T.owned table.now) (T.script table.now) options.now)) t.vocabularies) e)) }
+{
+    match target {
+        None => Ok(()),
+        Some(target) => check_declared(alloc, resolver, table, options, &target.vocabularies),
     }
 }
 

@@ -59,10 +59,20 @@ pub(crate) fn text_of<'a, S>(
 {
     match value {
         Value::String(text) => Ok(text),
-        Value::Null => Err(BuildError::ReferenceNotText(keyword_location(key, name)?)),
-        Value::Bool(_) => Err(BuildError::ReferenceNotText(keyword_location(key, name)?)),
-        Value::Number(_) => Err(BuildError::ReferenceNotText(keyword_location(key, name)?)),
-        Value::Array(_) => Err(BuildError::ReferenceNotText(keyword_location(key, name)?)),
-        Value::Object(_) => Err(BuildError::ReferenceNotText(keyword_location(key, name)?)),
+        Value::Null => Err(not_text(key, name)),
+        Value::Bool(_) => Err(not_text(key, name)),
+        Value::Number(_) => Err(not_text(key, name)),
+        Value::Array(_) => Err(not_text(key, name)),
+        Value::Object(_) => Err(not_text(key, name)),
+    }
+}
+
+// That the reference of this name is no text, or want of memory.
+fn not_text<S>(key: &SchemaKey<S>, name: &String) -> BuildError
+    ensures refused { Names (reference_not_text (joined key.now.location (string_bytes name.now)) ∷ []) result }
+{
+    match keyword_location(key, name) {
+        Ok(location) => BuildError::ReferenceNotText(location),
+        Err(_) => BuildError::OutOfMemory,
     }
 }

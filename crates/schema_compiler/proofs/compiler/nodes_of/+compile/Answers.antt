@@ -54,57 +54,67 @@ child_edge-returns-clause-answered g t c =
 pub edge_to-edge_at-requires-clause-numbered : goal.edge_to-edge_at-requires-clause-numbered
 edge_to-edge_at-requires-clause-numbered g t c =
     let v = key_of g.R.Resolver.point in
-    (v c.args.key, c.in-Some.ensures.found)
+    (v c.args.key, c.in_ok-number.ensures.numbered.number)
 
-pub edge_to-returns-in-Some-clause-edge : goal.edge_to-returns-in-Some-clause-edge
-edge_to-returns-in-Some-clause-edge g t c =
+pub edge_to-returns-clause-edge : goal.edge_to-returns-clause-edge
+edge_to-returns-clause-edge g t c =
+    let n = c.in_ok-number.ensures.numbered in
+    record {
+      table = n.table;
+      grown = n.grown;
+      number = rw c.edge_at.ensures.node (n.number);
+      fresh = rw c.edge_at.ensures.node (n.fresh);
+      at_path = c.edge_at.ensures.path;
+      leads = c.edge_at.ensures.leads;
+    }
+
+pub number_of-returns-in-Some-clause-numbered : goal.number_of-returns-in-Some-clause-numbered
+number_of-returns-in-Some-clause-numbered g t c =
     let v = key_of g.R.Resolver.point in
     let keys = map v c.args.compiled.now.keys in
     let nodes = c.args.compiled.now.nodes in
     record {
       table = c.requires.table;
       grown = grown_none _ keys nodes c.requires.table.lengths;
-      number = rw c.edge_at.ensures.node (c.in-Some.ensures.found);
-      fresh = λ absent. absurd (absent (rw c.edge_at.ensures.node (c.in-Some.ensures.found)));
-      at_path = c.edge_at.ensures.path;
-      leads = c.edge_at.ensures.leads;
+      number = c.in-Some.ensures.found;
+      fresh = λ absent. absurd (absent c.in-Some.ensures.found);
     }
 
-pub edge_to-returns-in_err-number-clause-refused : goal.edge_to-returns-in_err-number-clause-refused
-edge_to-returns-in_err-number-clause-refused g t c =
+pub number_of-returns-in_err-number-clause-refused : goal.number_of-returns-in_err-number-clause-refused
+number_of-returns-in_err-number-clause-refused g t c =
     let p = err_from_is_err_and c.from_residual.result c.from_residual.ensures.1 in
     rw (p.1, p.2) c.in_err-number.ensures.refused
 
-pub edge_to-returns-in_err-planned-clause-refused : goal.edge_to-returns-in_err-planned-clause-refused
-edge_to-returns-in_err-planned-clause-refused g t c =
+pub number_of-returns-in_err-planned-clause-refused : goal.number_of-returns-in_err-planned-clause-refused
+number_of-returns-in_err-planned-clause-refused g t c =
     let v = key_of g.R.Resolver.point in
     let w = given_parts (g.R.Resolver.resolving c.args.resolver.now) (g.T.KeywordTable.owned c.args.table.now) (g.T.KeywordTable.script c.args.table.now) c.args.options.now in
     let lim = c.args.options.now.node_limit in
     let keys = map v c.args.compiled.now.keys in
     let p = err_from_is_err_and c.from_residual-in_err-planned.result c.from_residual-in_err-planned.ensures.1 in
-    let k = v c.args.key in
+    let k = v c.args.key.now in
     rw (p.1, p.2) (refusal_map lim _ _ _ _ keys (map v c.reserve_within.new.compiled.keys) (k ∷ []) (from_key w k) (blames_key w k) c.in_ok-number.ensures.keys (at_first, tt) _ c.in_err-planned.ensures.refused)
 
-pub edge_to-finish-requires-clause-numbered : goal.edge_to-finish-requires-clause-numbered
-edge_to-finish-requires-clause-numbered g t c =
+pub number_of-finish-requires-clause-numbered : goal.number_of-finish-requires-clause-numbered
+number_of-finish-requires-clause-numbered g t c =
     let v = key_of g.R.Resolver.point in
     let keys = map v c.args.compiled.now.keys in
-    (numbered_after keys (map v c.reserve_within.new.compiled.keys) (map v c.planned_node.new.compiled.keys) c.in_ok-planned.ensures.planned.step.grown.added.0 (v c.args.key) c.in_ok-number.number.0 (c.in_ok-number.ensures.number ∙ c.requires.table.lengths) c.in_ok-number.ensures.keys c.in_ok-planned.ensures.planned.step.grown.added.1)
+    (numbered_after keys (map v c.reserve_within.new.compiled.keys) (map v c.planned_node.new.compiled.keys) c.in_ok-planned.ensures.planned.step.grown.added.0 (v c.args.key.now) c.in_ok-number.number.0 (c.in_ok-number.ensures.number ∙ c.requires.table.lengths) c.in_ok-number.ensures.keys c.in_ok-planned.ensures.planned.step.grown.added.1)
 
-pub edge_to-finish-requires-clause-reserved : goal.edge_to-finish-requires-clause-reserved
-edge_to-finish-requires-clause-reserved g t c =
+pub number_of-finish-requires-clause-reserved : goal.number_of-finish-requires-clause-reserved
+number_of-finish-requires-clause-reserved g t c =
     let nodes = c.args.compiled.now.nodes in
     let n = c.in_ok-number.ensures.nodes in
     reserved_after nodes c.reserve_within.new.compiled.nodes c.planned_node.new.compiled.nodes n.0 c.in_ok-number.number.0 c.in_ok-number.ensures.number n.1 n.2 c.in_ok-planned.ensures.planned.step.grown.stay
 
-pub edge_to-returns-clause-edge : goal.edge_to-returns-clause-edge
-edge_to-returns-clause-edge g t c =
+pub number_of-returns-clause-numbered : goal.number_of-returns-clause-numbered
+number_of-returns-clause-numbered g t c =
     let v = key_of g.R.Resolver.point in
     let w = given_parts (g.R.Resolver.resolving c.args.resolver.now) (g.T.KeywordTable.owned c.args.table.now) (g.T.KeywordTable.script c.args.table.now) c.args.options.now in
     let keys = map v c.args.compiled.now.keys in
     let nodes = c.args.compiled.now.nodes in
     let n = c.in_ok-number.ensures.nodes in
-    let k = v c.args.key in
+    let k = v c.args.key.now in
     let reserved = map v c.reserve_within.new.compiled.keys in
     let planned = map v c.planned_node.new.compiled.keys in
     let grown = c.in_ok-planned.ensures.planned.step.grown in
@@ -112,10 +122,8 @@ edge_to-returns-clause-edge g t c =
       table = c.finish.ensures.table;
       grown = finished_grown _ keys reserved planned (map v c.finish.new.compiled.keys) nodes c.reserve_within.new.compiled.nodes c.planned_node.new.compiled.nodes c.finish.new.compiled.nodes k n.0 c.in_ok-number.number.0
           c.requires.table.lengths c.in_ok-number.ensures.number c.in_ok-number.ensures.keys n.1 at_first (grown_map _ _ _ _ _ _ (from_key w k) grown) c.finish.ensures.keys c.finish.ensures.filled;
-      number = rw (c.finish.ensures.keys, c.finish.ensures.node) (numbered_after keys reserved planned grown.added.0 k c.in_ok-number.number.0 (c.in_ok-number.ensures.number ∙ c.requires.table.lengths) c.in_ok-number.ensures.keys grown.added.1);
-      fresh = λ absent. c.finish.ensures.node ∙ c.in_ok-number.ensures.number ∙ c.requires.table.lengths;
-      at_path = c.finish.ensures.path;
-      leads = c.finish.ensures.leads;
+      number = rw c.finish.ensures.keys (numbered_after keys reserved planned grown.added.0 k c.in_ok-number.number.0 (c.in_ok-number.ensures.number ∙ c.requires.table.lengths) c.in_ok-number.ensures.keys grown.added.1);
+      fresh = λ absent. c.in_ok-number.ensures.number ∙ c.requires.table.lengths;
     }
 
 pub keywords_of-loop-name-init : goal.keywords_of-loop-name-init
@@ -573,12 +581,12 @@ reference_edge-returns-in_err-target_of-clause-refused g t c =
     let v = key_of g.R.Resolver.point in
     let keys = map v c.args.compiled.now.keys in
     let name = string_bytes c.args.name.now in
-    let h = rw c.as_str.ensures.value at (c.in_err-target_of.ensures.refused name keys) in
-    let p = err_from_is_err_and c.from_residual.result c.from_residual.ensures.1 in
+    let h = rw c.as_str-2.ensures.value at (c.in_err-target_of.ensures.refused name keys) in
+    let p = err_from_is_err_and c.from_residual-in_err-target_of.result c.from_residual-in_err-target_of.ensures.1 in
     rw (p.1, p.2) h
 
-pub reference_edge-returns-in_err-edge_to-in-Some-clause-refused : goal.reference_edge-returns-in_err-edge_to-in-Some-clause-refused
-reference_edge-returns-in_err-edge_to-in-Some-clause-refused g t c =
+pub reference_edge-returns-in_err-edge-in-Some-clause-refused : goal.reference_edge-returns-in_err-edge-in-Some-clause-refused
+reference_edge-returns-in_err-edge-in-Some-clause-refused g t c =
     let v = key_of g.R.Resolver.point in
     let w = given_parts (g.R.Resolver.resolving c.args.resolver.now) (g.T.KeywordTable.owned c.args.table.now) (g.T.KeywordTable.script c.args.table.now) c.args.options.now in
     let lim = c.args.options.now.node_limit in
@@ -587,10 +595,10 @@ reference_edge-returns-in_err-edge_to-in-Some-clause-refused g t c =
     let name = string_bytes c.args.name.now in
     let kind = kind_of c.args.kind in
     let text = string_bytes c.args.text.now in
-    let target = rw c.as_str.ensures.value at c.in_ok-target_of.ensures.target in
+    let target = rw c.as_str-2.ensures.value at c.in_ok-target_of.ensures.target in
     let t = rw c.in-Some.is at target in
-    let p = err_from_is_err_and c.from_residual-in_err-edge_to-in-Some.result c.from_residual-in_err-edge_to-in-Some.ensures.1 in
-    rw (p.1, p.2) (asked_refused w lim (reference_asked w k name kind text) (record { key = v c.in-Some.target; path = joined [] name; is_reference = true }) _ keys _ (asked_edge w k name kind text (record { key = v c.in-Some.target; path = joined [] name; is_reference = true }) t.0 (t.1 name)) c.in_err-edge_to-in-Some.ensures.refused)
+    let p = err_from_is_err_and c.from_residual-in_err-edge-in-Some.result c.from_residual-in_err-edge-in-Some.ensures.1 in
+    rw (p.1, p.2) (asked_refused w lim (reference_asked w k name kind text) (record { key = v c.in-Some.target; path = joined [] name; is_reference = true }) _ keys _ (asked_edge w k name kind text (record { key = v c.in-Some.target; path = joined [] name; is_reference = true }) t.0 (t.1 name)) c.in_err-edge-in-Some.ensures.refused)
 
 pub reference_edge-returns-in-None-clause-answered : goal.reference_edge-returns-in-None-clause-answered
 reference_edge-returns-in-None-clause-answered g t c =
@@ -604,12 +612,12 @@ reference_edge-returns-in-None-clause-answered g t c =
     let name = string_bytes c.args.name.now in
     let kind = kind_of c.args.kind in
     let text = string_bytes c.args.text.now in
-    let target = rw c.as_str.ensures.value at c.in_ok-target_of.ensures.target in
+    let target = rw c.as_str-2.ensures.value at c.in_ok-target_of.ensures.target in
     let h = rw c.in-None.is at target in
     is_skipped w sh lim (reference_asked w k name kind text) _ keys nodes (asked_self w k name kind text h) (self_clean w k kind text h) c.requires.table
 
-pub reference_edge-returns-in_ok-edge_to-in-Some-clause-answered : goal.reference_edge-returns-in_ok-edge_to-in-Some-clause-answered
-reference_edge-returns-in_ok-edge_to-in-Some-clause-answered g t c =
+pub reference_edge-returns-in_ok-edge-in-Some-clause-answered : goal.reference_edge-returns-in_ok-edge-in-Some-clause-answered
+reference_edge-returns-in_ok-edge-in-Some-clause-answered g t c =
     let v = key_of g.R.Resolver.point in
     let w = given_parts (g.R.Resolver.resolving c.args.resolver.now) (g.T.KeywordTable.owned c.args.table.now) (g.T.KeywordTable.script c.args.table.now) c.args.options.now in
     let sh = g.K.Validate.shape in
@@ -620,10 +628,10 @@ reference_edge-returns-in_ok-edge_to-in-Some-clause-answered g t c =
     let name = string_bytes c.args.name.now in
     let kind = kind_of c.args.kind in
     let text = string_bytes c.args.text.now in
-    let target = rw c.as_str.ensures.value at c.in_ok-target_of.ensures.target in
+    let target = rw c.as_str-2.ensures.value at c.in_ok-target_of.ensures.target in
     let t = rw c.in-Some.is at target in
-    is_answered w sh lim (reference_asked w k name kind text) (record { key = v c.in-Some.target; path = joined [] name; is_reference = true }) _ keys (map v c.edge_to.new.compiled.keys) nodes c.edge_to.new.compiled.nodes (edge_of c.in_ok-edge_to-in-Some.field-0) _ (asked_edge w k name kind text (record { key = v c.in-Some.target; path = joined [] name; is_reference = true }) t.0 (t.1 name))
-    (reference_clean w k name kind text (record { key = v c.in-Some.target; path = joined [] name; is_reference = true }) (t.1 name)) (λ f. t.2) (grind (arith, common_steps, c.in_ok-path-in-Some.ensures)) c.in_ok-edge_to-in-Some.ensures.edge
+    is_answered w sh lim (reference_asked w k name kind text) (record { key = v c.in-Some.target; path = joined [] name; is_reference = true }) _ keys (map v c.edge_to.new.compiled.keys) nodes c.edge_to.new.compiled.nodes (edge_of c.in_ok-edge-in-Some.edge) _ (asked_edge w k name kind text (record { key = v c.in-Some.target; path = joined [] name; is_reference = true }) t.0 (t.1 name))
+    (reference_clean w k name kind text (record { key = v c.in-Some.target; path = joined [] name; is_reference = true }) (t.1 name)) (λ f. t.2) (grind (arith, common_steps, c.in_ok-path.ensures)) c.in_ok-edge-in-Some.ensures.edge
 
 pub reference_entry-returns-in_err-text-clause-refused : goal.reference_entry-returns-in_err-text-clause-refused
 reference_entry-returns-in_err-text-clause-refused g t c =

@@ -3,8 +3,7 @@ use Rattle.schema_node.specs.NodeViews.{plan_of}
 use Rattle.schema_node.specs.NodeTable.{filled}
 use Rattle.schema_compiler.specs.KeyViews.{key_of}
 use Rattle.schema_compiler.specs.Options.{given_parts}
-use Rattle.schema_compiler.proofs.Tables.{finished_table, are_filled, filled_now}
-use Rattle.std.proofs.lemmas.Option.{slice_get_within}
+use Rattle.schema_compiler.proofs.Tables.{finished_table, are_filled}
 use Rattle.schema_compiler.proofs.compiler.table.finish.Goals as goal
 
 pub fill-requires-clause-ready : goal.fill-requires-clause-ready
@@ -19,14 +18,6 @@ returns-clause-table g c =
     let w = given_parts (g.R.Resolver.resolving c.args._resolver.now) (g.T.KeywordTable.owned c.args._table.now) (g.T.KeywordTable.script c.args._table.now) c.args.options.now in
     finished_table w g.K.Validate.shape c.args.options.now.node_limit (map v c.args.compiled.now.keys) c.args.compiled.now.nodes c.fill.new.self c.args.number.0 (v c.args._key.now) c.args.planned.annotations (plan_of c.args.planned.form)
     c.requires.table c.requires.numbered c.requires.reserved c.fill.ensures.filled c.requires.planned c.requires.annotated
-
-pub returns-clause-leads : goal.returns-clause-leads
-returns-clause-leads g c =
-    let v = key_of g.R.Resolver.point in
-    let w = given_parts (g.R.Resolver.resolving c.args._resolver.now) (g.T.KeywordTable.owned c.args._table.now) (g.T.KeywordTable.script c.args._table.now) c.args.options.now in
-    let f = filled_now w g.K.Validate.shape c.args.options.now.node_limit (map v c.args.compiled.now.keys) c.args.compiled.now.nodes c.fill.new.self c.args.number.0 (v c.args._key.now) c.args.planned.annotations (plan_of c.args.planned.form)
-    c.requires.table c.requires.numbered c.requires.reserved c.fill.ensures.filled in
-    record { within = slice_get_within c.fill.new.self c.args.number.0 f.0 f.2; unguarded = λ h. f }
 
 pub returns-clause-filled : goal.returns-clause-filled
 returns-clause-filled g c =

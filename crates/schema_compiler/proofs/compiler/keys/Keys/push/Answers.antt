@@ -1,4 +1,4 @@
-use Rattle.std.proofs.Common.{◌≡◌, ◌∷◌, ◌++◌, [], List, Some, Option, ap, cond, length, map, nat_eq, ℕ, arith, ◌∙◌}
+use Rattle.std.proofs.Common.{◌≡◌, ◌∷◌, ◌++◌, [], List, Some, ap, cond, length, map, nat_eq, ℕ, arith, ◌∙◌}
 use Rattle.std.proofs.lemmas.List.{length-map, map-append}
 use Rattle.std.specs.HashMap.{get}
 use Rattle.schema_compiler.specs.KeyHashes.{hash_of}
@@ -14,11 +14,10 @@ invariant_of-self-2 g c =
     let hashes = map (hash_of {S = g.row.S.Denot}) keys in
     let h = hash_of c.args.key in
     let hash : c.hash_of-hash.result ≡ h = c.hash_of-hash.ensures.hash in
-    let number : c.len-number.result ≡ length hashes = omega (arith, length-map keys (λ (a : SchemaKey g.row.S.Denot). hash_of a), ap length c.in_ok-reserve.ensures.items, c.len-number.ensures) in
-    let updates : (q : ℕ) → get nat_eq c.insert.new.self q ≡ cond (nat_eq h q) (Some (length hashes)) (last q) = λ q. c.in_ok-earlier.ensures.updates.0 q
-    ∙ ap (λ x. cond (nat_eq x q) (Some c.len-number.result) (last q)) hash ∙ ap (λ n. cond (nat_eq h q) (Some n) (last q)) number in
-    let pushed : c.push.new.self.items ≡ keys ++ c.args.key ∷ [] = c.in_ok-push.ensures.items ∙ ap (λ (ks : List (SchemaKey g.row.S.Denot)). ks ++ c.args.key ∷ []) c.in_ok-reserve.ensures.items in
+    let number : length keys ≡ length hashes = omega (arith, length-map keys (λ (a : SchemaKey g.row.S.Denot). hash_of a)) in
+    let updates : (q : ℕ) → get nat_eq c.link.new.last q ≡ cond (nat_eq h q) (Some (length hashes)) (last q) = λ q. c.in_ok-link.ensures.last q
+    ∙ ap (λ x. cond (nat_eq x q) (Some (length keys)) (last q)) hash ∙ ap (λ n. cond (nat_eq h q) (Some n) (last q)) number in
+    let pushed : c.push.new.self.items ≡ keys ++ c.args.key ∷ [] = c.in_ok-push.ensures.items ∙ ap (λ (ks : List (SchemaKey g.row.S.Denot)). ks ++ c.args.key ∷ []) c.in_ok-link.ensures.keys in
     let pushed' : map hash_of c.push.new.self.items ≡ hashes ++ h ∷ [] = ap (map hash_of) pushed ∙ map-append hash_of keys (c.args.key ∷ []) in
-    let linked : c.push-2.new.self.items ≡ earlier ++ last h ∷ [] = c.in_ok-push-2.ensures.items ∙ ap (λ (os : List (Option ℕ)). os ++ c.in_ok-earlier.earlier ∷ []) c.in_ok-reserve-2.ensures.items
-    ∙ ap (λ o. earlier ++ o ∷ []) (c.in_ok-earlier.ensures.old ∙ ap last hash) in
-    rw (pushed', linked) (chained_more hashes earlier last (get nat_eq c.insert.new.self) h c.self.invariant updates)
+    let linked : c.link.new.earlier.items ≡ earlier ++ last h ∷ [] = c.in_ok-link.ensures.linked ∙ ap (λ x. earlier ++ last x ∷ []) hash in
+    rw (pushed', linked) (chained_more hashes earlier last (get nat_eq c.link.new.last) h c.self.invariant updates)
