@@ -26,7 +26,9 @@ pub(crate) fn wrong_row<F: Fn(&Value) -> Result<bool, OutOfMemory>>(
     alloc: Global,
     table: &str,
     holds: F,
-) -> Result<Option<usize>, serde_json::Error> {
+) -> Result<Option<usize>, serde_json::Error>
+    requires callable { F.IsAlwaysCallable holds }
+{
     let table = Value::from_str(alloc, table)?;
     let Some(rows) = table.as_array() else {
         return Ok(Some(0));
