@@ -258,10 +258,8 @@ fn entry(keyword: BuiltinKeyword, form: KeywordForm) -> Option<BuiltinEntry> {
 }
 
 #[test]
-fn answers_the_published_calls(rt: HostRuntime) -> Result<(), Fail> {
+fn answers_the_published_calls(rt: HostRuntime) {
     let none = VocabularySet::new(rt.alloc());
-    let content = VocabularySet::new(rt.alloc()).with(Vocabulary::Content)?;
-    let applicator = VocabularySet::new(rt.alloc()).with(Vocabulary::Applicator)?;
     let plain = KeywordForm::Plain;
     let found = get_for_draft(Draft::Draft4, &none, "type");
     assert_eq!(rt;
@@ -274,17 +272,24 @@ fn answers_the_published_calls(rt: HostRuntime) -> Result<(), Fail> {
     assert_eq!(rt; get_for_draft(Draft::Draft6, &none, "if"), None);
     let found = get_for_draft(Draft::Draft7, &none, "contentMediaType");
     assert_eq!(rt; found, entry(BuiltinKeyword::ContentMediaType, plain));
+    let found = get_for_draft(Draft::Draft201909, &none, "$recursiveRef");
+    assert_eq!(rt; found, entry(BuiltinKeyword::RecursiveRef, plain));
+}
+
+#[test]
+fn answers_by_vocabulary(rt: HostRuntime) -> Result<(), AllocError> {
+    let content = VocabularySet::new(rt.alloc()).with(Vocabulary::Content)?;
     let found = get_for_draft(Draft::Unknown, &content, "contentMediaType");
     assert_eq!(rt;
         found,
         entry(BuiltinKeyword::ContentMediaType, KeywordForm::Annotating)
     );
+    drop(content);
+    let applicator = VocabularySet::new(rt.alloc()).with(Vocabulary::Applicator)?;
     assert_eq!(rt;
         get_for_draft(Draft::Draft201909, &applicator, "prefixItems"),
         None
     );
-    let found = get_for_draft(Draft::Draft201909, &none, "$recursiveRef");
-    assert_eq!(rt; found, entry(BuiltinKeyword::RecursiveRef, plain));
     Ok(())
 }
 
@@ -303,30 +308,65 @@ fn prints_keywords(rt: HostRuntime) -> Result<(), Fail> {
     Ok(())
 }
 
-#[test]
-fn keeps_vocabularies(rt: HostRuntime) -> Result<(), Fail> {
-    let alloc = rt.alloc();
+/// A vocabulary that is not the standard's.
+fn custom_vocabulary(alloc: Global, uri: &str) -> Result<Vocabulary, AllocError> {
+    Ok(Vocabulary::Custom(String::from_str(alloc, uri)?))
+}
+
+/// A set of two custom vocabularies, one of them added twice, and of the one that asserts formats.
+fn a_set(alloc: Global) -> Result<VocabularySet, AllocError> {
     let mut set = VocabularySet::new(alloc);
-    let custom = Vocabulary::Custom(String::from_str(alloc, "http://v/x")?);
-    assert!(rt; !set.contains(&custom));
+    for uri in ["http://v/y", "http://v/x", "http://v/y"] {
+        add_custom(alloc, &mut set, uri)?;
+    }
+    set.with(Vocabulary::FormatAssertion)
+}
+
+fn add_custom(alloc: Global, set: &mut VocabularySet, uri: &str) -> Result<(), AllocError> {
+    set.add(custom_vocabulary(alloc, uri)?)
+}
+
+#[test]
+fn the_standards_vocabularies(rt: HostRuntime) {
+    let set = VocabularySet::new(rt.alloc());
     assert!(rt; has_vocabulary(Draft::Draft202012, &set, &Vocabulary::Core));
     assert!(rt; !set.contains(&Vocabulary::Core));
     assert!(rt; has_vocabulary(Draft::Draft7, &set, &Vocabulary::Content));
     assert!(rt; !has_vocabulary(Draft::Draft201909, &set, &Vocabulary::Content));
-    set.add(Vocabulary::Custom(String::from_str(alloc, "http://v/y")?))?;
-    set.add(Vocabulary::Custom(String::from_str(alloc, "http://v/x")?))?;
-    set.add(Vocabulary::Custom(String::from_str(alloc, "http://v/y")?))?;
-    set.add(Vocabulary::FormatAssertion)?;
+}
+
+/// Whether a set has the vocabularies of `a_set`, and not the one that annotates formats.
+fn has_those(set: &VocabularySet, custom: &Vocabulary) -> bool {
+    let uris = set.custom();
+    set.contains(custom)
+        && set.contains(&Vocabulary::FormatAssertion)
+        && !set.contains(&Vocabulary::FormatAnnotation)
+        && uris.len() == 2
+        && uris.first().map(|uri| uri.as_str()) == Some("http://v/y")
+}
+
+#[test]
+fn keeps_vocabularies(rt: HostRuntime) -> Result<(), AllocError> {
+    let alloc = rt.alloc();
+    let custom = custom_vocabulary(alloc, "http://v/x")?;
+    assert!(rt; !VocabularySet::new(alloc).contains(&custom));
+    let set = a_set(alloc)?;
+    assert!(rt; has_those(&set, &custom));
+    Ok(())
+}
+
+/// Whether a set is the same as its copy, and another one once the copy has one vocabulary more.
+fn is_copied(set: &VocabularySet) -> Result<bool, AllocError> {
     let copy = set.duplicate()?;
-    assert!(rt; copy.same(&set));
-    assert!(rt; copy.contains(&custom));
-    assert!(rt; copy.contains(&Vocabulary::FormatAssertion));
-    assert!(rt; !copy.contains(&Vocabulary::FormatAnnotation));
-    let uris = copy.custom();
-    assert_eq!(rt; uris.len(), 2);
-    assert_eq!(rt; uris.first().map(|uri| uri.as_str()), Some("http://v/y"));
-    set.add(Vocabulary::FormatAnnotation)?;
-    assert!(rt; !copy.same(&set));
+    let same = copy.same(set);
+    let more = copy.with(Vocabulary::FormatAnnotation)?;
+    Ok(same && !more.same(set))
+}
+
+#[test]
+fn copies_vocabularies(rt: HostRuntime) -> Result<(), AllocError> {
+    let set = a_set(rt.alloc())?;
+    assert!(rt; is_copied(&set)?);
     Ok(())
 }
 

@@ -12,27 +12,29 @@ use schema_reports::location::OutOfMemory;
 use serde_json::Value;
 use std::alloc::Global;
 
-/// The number of the refusal of a schema under these options, where every schema requires these vocabularies; 0 where it
-/// builds.
+/// The number of a refusal; 0 where the schema builds.
+fn number_of(built: Result<Validator<BenchKeyword, BenchMatcher>, BuildError>) -> u8 {
+    match built {
+        Ok(_validator) => 0,
+        Err(error) => error.number(),
+    }
+}
+
+/// The number of the refusal of a schema under these options; 0 where it builds.
 fn refusal(
     alloc: Global,
+    resolver: &BenchResolver,
     schema: &Value,
     options: &ValidationOptions,
-    required: VocabularySet,
-) -> Result<u8, OutOfMemory> {
-    let resolver = BenchResolver::new(alloc, schema, required)?;
+) -> u8 {
     let matcher = BenchMatcher::new(Vec::new(alloc));
-    let built: Result<Validator<BenchKeyword, BenchMatcher>, BuildError> = options.build(
-        alloc,
-        schema,
-        &BenchTable {},
-        &resolver,
-        &matcher,
-    );
-    match built {
-        Ok(_validator) => Ok(0),
-        Err(error) => Ok(error.number()),
-    }
+    number_of(options.build(alloc, schema, &BenchTable {}, resolver, &matcher))
+}
+
+/// The number of the refusal under a limit of so many keys.
+fn limited(alloc: Global, resolver: &BenchResolver, schema: &Value, keys: usize) -> u8 {
+    let options = ValidationOptions::new(alloc).with_node_limit(keys);
+    refusal(alloc, resolver, schema, &options)
 }
 
 /// Whether a limit of so many keys builds the schema, and a limit of fewer refuses it.
@@ -42,13 +44,10 @@ fn needs_keys(
     keys: usize,
     fewer: usize,
 ) -> Result<bool, OutOfMemory> {
-    let enough = ValidationOptions::new(alloc).with_node_limit(keys);
-    let few = ValidationOptions::new(alloc).with_node_limit(fewer);
-    let none = VocabularySet::new(alloc);
-    Ok(
-        refusal(alloc, schema, &enough, none)? == 0
-            && refusal(alloc, schema, &few, VocabularySet::new(alloc))? == 8,
-    )
+    let resolver = BenchResolver::new(alloc, schema, VocabularySet::new(alloc))?;
+    let enough = limited(alloc, &resolver, schema, keys);
+    let few = limited(alloc, &resolver, schema, fewer);
+    Ok(enough == 0 && few == 8)
 }
 
 #[test]
@@ -81,23 +80,29 @@ fn value_of(alloc: Global, text: &str) -> Result<Value, OutOfMemory> {
     }
 }
 
-/// `d0` to `d39`, each with two members, between these texts, that refer to the next; `d40` is a text; the root refers to
-/// `d0`.
-fn doubled(alloc: Global, before: &str, between: &str, after: &str) -> Result<Value, OutOfMemory> {
+/// The text of a schema: `d0` to `d39`, each with two members, between these texts, that refer to the next; `d40` is a
+/// text; the root refers to `d0`.
+fn doubled_text(
+    alloc: Global,
+    before: &str,
+    between: &str,
+    after: &str,
+) -> Result<String, OutOfMemory> {
     let mut text = String::from_str(alloc, r##"{"$ref":"#/$defs/d0","$defs":{"##)?;
     for here in 0u32..40 {
         let next = here + 1;
-        let name = format!(in alloc; "\"d{here}\":")?;
-        let reference = format!(in alloc; "{{\"$ref\":\"#/$defs/d{next}\"}}")?;
-        text.push_str(name.as_str())?;
-        text.push_str(before)?;
-        text.push_str(reference.as_str())?;
-        text.push_str(between)?;
-        text.push_str(reference.as_str())?;
-        text.push_str(after)?;
-        text.push_str(",")?;
+        write!(
+            text,
+            "\"d{here}\":{before}{{\"$ref\":\"#/$defs/d{next}\"}}{between}{{\"$ref\":\"#/$defs/d{next}\"}}{after},"
+        )?;
     }
     text.push_str(r#""d40":{"type":"string"}}}"#)?;
+    Ok(text)
+}
+
+/// The schema of that text.
+fn doubled(alloc: Global, before: &str, between: &str, after: &str) -> Result<Value, OutOfMemory> {
+    let text = doubled_text(alloc, before, between, after)?;
     value_of(alloc, text.as_str())
 }
 
@@ -106,52 +111,126 @@ fn two_uses_of_one_definition_are_one_node(rt: HostRuntime) -> Result<(), OutOfM
     let alloc = rt.alloc();
     let members = doubled(alloc, r#"{"properties":{"a":"#, r#","b":"#, "}}")?;
     assert!(rt; needs_keys(alloc, &members, 122, 121)?);
+    Ok(())
+}
+
+#[test]
+fn two_parts_of_one_definition_are_one_node(rt: HostRuntime) -> Result<(), OutOfMemory> {
+    let alloc = rt.alloc();
     let parts = doubled(alloc, r#"{"allOf":["#, ",", "]}")?;
     assert!(rt; needs_keys(alloc, &parts, 122, 121)?);
     Ok(())
 }
 
+/// The text of the refusal of a schema that requires a vocabulary.
+fn unsupported(alloc: Global, uri: &str) -> Result<String, OutOfMemory> {
+    let refused = BuildError::UnsupportedVocabulary(String::from_str(alloc, uri)?);
+    let text = format!(in alloc; "{refused}");
+    drop(refused);
+    Ok(text?)
+}
+
 #[test]
 fn a_missing_vocabulary_is_named(rt: HostRuntime) -> Result<(), OutOfMemory> {
-    let alloc = rt.alloc();
-    let refused = BuildError::UnsupportedVocabulary(String::from_str(alloc, "http://v/x")?);
+    let text = unsupported(rt.alloc(), "http://v/x")?;
     assert_eq!(rt;
-        format!(in alloc; "{refused}")?.as_str(),
+        text.as_str(),
         "Unknown vocabulary: 'http://v/x' is required by the meta-schema. Adjust configuration to declare support for it"
     );
     Ok(())
+}
+
+/// A resolver whose schemas require a vocabulary of this name.
+fn requiring<'d>(
+    alloc: Global,
+    schema: &'d Value,
+    uri: &str,
+) -> Result<BenchResolver<'d>, OutOfMemory> {
+    let custom = Vocabulary::Custom(String::from_str(alloc, uri)?);
+    BenchResolver::new(alloc, schema, VocabularySet::new(alloc).with(custom)?)
+}
+
+/// The number of the refusal where a vocabulary of this name is declared.
+fn declared(
+    alloc: Global,
+    resolver: &BenchResolver,
+    schema: &Value,
+    uri: &str,
+) -> Result<u8, OutOfMemory> {
+    let options = ValidationOptions::new(alloc).with_vocabulary(alloc, uri)?;
+    Ok(refusal(alloc, resolver, schema, &options))
+}
+
+/// The numbers where no vocabulary is declared, another one, and the one that is required.
+fn numbers_by_vocabulary(
+    alloc: Global,
+    resolver: &BenchResolver,
+    schema: &Value,
+) -> Result<[u8; 3], OutOfMemory> {
+    let plain = refusal(alloc, resolver, schema, &ValidationOptions::new(alloc));
+    let other = declared(alloc, resolver, schema, "http://v/y")?;
+    let same = declared(alloc, resolver, schema, "http://v/x")?;
+    Ok([plain, other, same])
 }
 
 #[test]
 fn required_vocabularies(rt: HostRuntime) -> Result<(), OutOfMemory> {
     let alloc = rt.alloc();
     let schema = value_of(alloc, "{}")?;
-    let uri = "http://v/x";
-    let required = VocabularySet::new(alloc).with(Vocabulary::Custom(String::from_str(
-        alloc, uri,
-    )?))?;
-    let plain = ValidationOptions::new(alloc);
-    assert_eq!(rt; refusal(alloc, &schema, &plain, required.duplicate()?)?, 5);
-    let declared = ValidationOptions::new(alloc).with_vocabulary(alloc, uri)?;
-    assert_eq!(rt; refusal(alloc, &schema, &declared, required)?, 0);
+    let resolver = requiring(alloc, &schema, "http://v/x")?;
+    assert!(rt; numbers_by_vocabulary(alloc, &resolver, &schema)? == [5, 5, 0]);
     Ok(())
+}
+
+/// The number of the refusal of a schema under this base.
+fn based(
+    alloc: Global,
+    resolver: &BenchResolver,
+    schema: &Value,
+    base: &str,
+) -> Result<u8, OutOfMemory> {
+    let options = ValidationOptions::new(alloc).with_base_uri(alloc, base)?;
+    Ok(refusal(alloc, resolver, schema, &options))
+}
+
+/// The numbers under a base that the resolver lacks, and under its own.
+fn numbers_by_base(
+    alloc: Global,
+    resolver: &BenchResolver,
+    schema: &Value,
+) -> Result<[u8; 2], OutOfMemory> {
+    let other = based(alloc, resolver, schema, "http://x/no")?;
+    let own = based(alloc, resolver, schema, "json-schema:///")?;
+    Ok([other, own])
 }
 
 #[test]
 fn bases(rt: HostRuntime) -> Result<(), OutOfMemory> {
     let alloc = rt.alloc();
     let schema = value_of(alloc, r#"{"type":"string"}"#)?;
-    let other = ValidationOptions::new(alloc).with_base_uri(alloc, "http://x/no")?;
-    assert_eq!(rt;
-        refusal(alloc, &schema, &other, VocabularySet::new(alloc))?,
-        7
-    );
-    let own = ValidationOptions::new(alloc).with_base_uri(alloc, "json-schema:///")?;
-    assert_eq!(rt;
-        refusal(alloc, &schema, &own, VocabularySet::new(alloc))?,
-        0
-    );
+    let resolver = BenchResolver::new(alloc, &schema, VocabularySet::new(alloc))?;
+    assert!(rt; numbers_by_base(alloc, &resolver, &schema)? == [7, 0]);
     Ok(())
+}
+
+/// The draft of a validator that was built.
+fn draft_of(built: Result<Validator<BenchKeyword, BenchMatcher>, BuildError>) -> Option<Draft> {
+    match built {
+        Ok(validator) => Some(validator.draft()),
+        Err(_) => None,
+    }
+}
+
+/// The draft of the validator that is built under an option for a draft.
+fn draft_under(
+    alloc: Global,
+    resolver: &BenchResolver,
+    schema: &Value,
+    draft: Draft,
+) -> Option<Draft> {
+    let matcher = BenchMatcher::new(Vec::new(alloc));
+    let options = ValidationOptions::new(alloc).with_draft(draft);
+    draft_of(options.build(alloc, schema, &BenchTable {}, resolver, &matcher))
 }
 
 #[test]
@@ -160,19 +239,8 @@ fn the_option_goes_before_the_schema(rt: HostRuntime) -> Result<(), OutOfMemory>
     let text = r##"{"$schema":"http://json-schema.org/draft-07/schema#","type":"string"}"##;
     let schema = value_of(alloc, text)?;
     let resolver = BenchResolver::new(alloc, &schema, VocabularySet::new(alloc))?;
-    let matcher = BenchMatcher::new(Vec::new(alloc));
-    let options = ValidationOptions::new(alloc).with_draft(Draft::Draft4);
-    let built: Result<Validator<BenchKeyword, BenchMatcher>, BuildError> = options.build(
-        alloc,
-        &schema,
-        &BenchTable {},
-        &resolver,
-        &matcher,
-    );
-    match built {
-        Ok(validator) => assert!(rt; validator.draft() == Draft::Draft4),
-        Err(_) => assert!(rt; false, "refused"),
-    }
+    let draft = draft_under(alloc, &resolver, &schema, Draft::Draft4);
+    assert_eq!(rt; draft, Some(Draft::Draft4));
     Ok(())
 }
 

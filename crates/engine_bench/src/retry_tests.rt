@@ -22,6 +22,32 @@ fn count_again(
     Ok(validator.iter_errors(alloc, instance)?.count())
 }
 
+/// A matcher that leaves these patterns unfinished.
+fn matcher_of(alloc: Global, patterns: &[&str]) -> Result<BenchMatcher, OutOfMemory> {
+    let mut unfinished = Vec::new(alloc);
+    for pattern in patterns {
+        unfinished.push(String::from_str(alloc, pattern)?)?;
+    }
+    Ok(BenchMatcher::new(unfinished))
+}
+
+/// How many errors a validator lists; nothing where the schema is refused.
+fn counted(
+    alloc: Global,
+    built: Result<Validator<BenchKeyword, BenchMatcher>, BuildError>,
+    instance: &Value,
+) -> Result<Option<usize>, OutOfMemory> {
+    match built {
+        Ok(validator) => {
+            let count = count_again(alloc, &validator, instance);
+            drop(validator);
+            Ok(Some(count?))
+        }
+        Err(BuildError::OutOfMemory) => Err(AllocError),
+        Err(_) => Ok(None),
+    }
+}
+
 /// How many errors a validator of the schema lists, these patterns staying unfinished; nothing where the schema is refused.
 fn count_of(
     alloc: Global,
@@ -29,24 +55,11 @@ fn count_of(
     instance: &Value,
     patterns: &[&str],
 ) -> Result<Option<usize>, OutOfMemory> {
-    let mut unfinished = Vec::new(alloc);
-    for pattern in patterns {
-        unfinished.push(String::from_str(alloc, pattern)?)?;
-    }
-    let matcher = BenchMatcher::new(unfinished);
+    let matcher = matcher_of(alloc, patterns)?;
     let resolver = BenchResolver::new(alloc, schema, VocabularySet::new(alloc))?;
-    let built: Result<Validator<BenchKeyword, BenchMatcher>, BuildError> = Validator::new(
-        alloc,
-        schema,
-        &BenchTable {},
-        &resolver,
-        &matcher,
-    );
-    match built {
-        Ok(validator) => Ok(Some(count_again(alloc, &validator, instance)?)),
-        Err(BuildError::OutOfMemory) => Err(AllocError),
-        Err(_) => Ok(None),
-    }
+    let built = Validator::new(alloc, schema, &BenchTable {}, &resolver, &matcher);
+    drop((matcher, resolver));
+    counted(alloc, built, instance)
 }
 
 #[test]
