@@ -107,8 +107,10 @@ fn failure_of<'i>(outcomes: Outcomes<'i, bool>) -> MatchFailure<'i> {
 // The failure of a search whose first run met a match that stays unfinished.
 fn a_failure<'i>(alloc: Global, reason: Reason) -> Result<Option<MatchFailure<'i>>, OutOfMemory> {
     let mut first = MatchAssumptions::new(alloc);
-    met_at(alloc, &mut first, "compiled", reason, "/pattern")?;
-    if !first.met_unassumed() {
+    let met = met_at(alloc, &mut first, "compiled", reason, "/pattern");
+    if met.is_err() || !first.met_unassumed() {
+        drop(first);
+        met?;
         return Ok(None);
     }
     let outcomes = assume_each_outcome(alloc, |matches| Ok((matches, true)), (first, true))?;
@@ -209,6 +211,7 @@ fn meet_each<'i>(
 fn accepts(alloc: Global, patterns: &[&str]) -> Result<bool, OutOfMemory> {
     let first = meet_each(alloc, patterns, MatchAssumptions::new(alloc))?;
     if !first.0.met_unassumed() {
+        drop(first);
         return Ok(false);
     }
     validity_under_each(alloc, |met| meet_each(alloc, patterns, met), first)
@@ -300,30 +303,66 @@ fn meet_at<'i>(
     Ok((met, list))
 }
 
+// The errors of a search with such runs, or none where the first run meets nothing.
+fn errors_of_search<'i>(
+    alloc: Global,
+    root: &'i Value,
+) -> Result<Vec<ValidationError<'i>>, OutOfMemory> {
+    let first = meet_at(alloc, root, MatchAssumptions::new(alloc))?;
+    if !first.0.met_unassumed() {
+        drop(first);
+        return Ok(Vec::new(alloc));
+    }
+    errors_under_each(alloc, |met| meet_at(alloc, root, met), first, root)
+}
+
+// Whether an error has this instance path and this instance text.
+fn is_of(
+    alloc: Global,
+    error: &ValidationError<'_>,
+    path: &str,
+    text: &str,
+) -> Result<bool, OutOfMemory> {
+    let instance_path = error.instance_path(alloc)?;
+    let instance = error.instance.text(alloc)?;
+    Ok(instance_path.as_str() == path && instance.as_str() == text)
+}
+
+// Whether each error has this instance path and this instance text.
+fn are_of(
+    alloc: Global,
+    list: &[ValidationError<'_>],
+    path: &str,
+    text: &str,
+) -> Result<bool, OutOfMemory> {
+    for error in list.iter() {
+        if !is_of(alloc, error, path, text)? {
+            return Ok(false);
+        }
+    }
+    Ok(true)
+}
+
 #[test]
 fn a_site_with_a_place_is_taken(rt: HostRuntime) -> Result<(), serde_json::Error> {
     let alloc = rt.alloc();
     let root = Value::from_str(alloc, r#"{"a":"abc"}"#)?;
-    let first = meet_at(alloc, &root, MatchAssumptions::new(alloc))?;
-    if first.0.met_unassumed() {
-        let alone = errors_under_each(alloc, |met| meet_at(alloc, &root, met), first, &root)?;
-        assert!(rt;
-            have_texts(
-                &alone,
-                &["Regex engine failed to evaluate pattern 'source'"]
-            )
+    let alone = errors_of_search(alloc, &root)?;
+    assert!(rt;
+        have_texts(
+            &alone,
+            &["Regex engine failed to evaluate pattern 'source'"]
+        )
+    );
+    for error in &alone {
+        assert_eq!(rt; error.schema_path.as_str(), "/$defs/s/pattern");
+        assert_eq!(rt;
+            error.evaluation_path.as_str(),
+            "/properties/a/$ref/pattern"
         );
-        for error in &alone {
-            assert_eq!(rt; error.schema_path.as_str(), "/$defs/s/pattern");
-            assert_eq!(rt;
-                error.evaluation_path.as_str(),
-                "/properties/a/$ref/pattern"
-            );
-            assert_eq!(rt; error.instance_path(alloc)?.as_str(), "/a");
-            assert_eq!(rt; error.instance.text(alloc)?.as_str(), "\"abc\"");
-        }
-    } else {
-        assert!(rt; false);
     }
+    let are_at_place = are_of(alloc, &alone, "/a", "\"abc\"");
+    drop(alone);
+    assert!(rt; are_at_place?);
     Ok(())
 }
