@@ -258,7 +258,10 @@ fn asked(alloc: Global, text: &str, is_leaf: bool) -> Result<Answers, OutOfMemor
     let text = String::from_str(alloc, text)?;
     let validator = a_validator(alloc, is_leaf)?;
     let instance = Value::String(text);
-    answers_of(alloc, &validator, &instance)
+    let answers = answers_of(alloc, &validator, &instance);
+    drop(validator);
+    drop(instance);
+    answers
 }
 
 /// Whether the only error tells of a match that was left unfinished.

@@ -140,15 +140,23 @@ fn shared_of<'i>(
     let Some(failure) = a_failure(alloc, Reason::Engine)? else {
         return Ok(Vec::new(alloc));
     };
-    let results = two_results(alloc, root, one, other)?;
-    errors(alloc, Outcomes::Assumed { results, failure }, root)
+    match two_results(alloc, root, one, other) {
+        Ok(results) => errors(alloc, Outcomes::Assumed { results, failure }, root),
+        Err(failed) => {
+            drop(failure);
+            Err(failed)
+        }
+    }
 }
 
 // Whether two runs that gave the errors at these paths share errors with these texts.
 fn share(alloc: Global, one: &[&str], other: &[&str], texts: &[&str]) -> Result<bool, OutOfMemory> {
     let root = Value::Null;
     let shared = shared_of(alloc, &root, one, other)?;
-    Ok(have_texts(&shared, texts))
+    let is_told = have_texts(&shared, texts);
+    drop(shared);
+    drop(root);
+    Ok(is_told)
 }
 
 #[test]
@@ -181,6 +189,8 @@ fn an_undecided_search_fails(rt: HostRuntime) -> Result<(), OutOfMemory> {
     let root = Value::Null;
     let undecided = errors_of_undecided(alloc, &root, reason)?;
     assert!(rt; have_texts(&undecided, &[told]));
+    drop(undecided);
+    drop(root);
     Ok(())
 }
 
@@ -203,8 +213,13 @@ fn meet_each<'i>(
     met: MatchAssumptions<'i>,
 ) -> Result<(MatchAssumptions<'i>, bool), OutOfMemory> {
     let mut met = met;
-    meet(alloc, patterns, &mut met)?;
-    Ok((met, true))
+    match meet(alloc, patterns, &mut met) {
+        Ok(()) => Ok((met, true)),
+        Err(failed) => {
+            drop(met);
+            Err(failed)
+        }
+    }
 }
 
 // Whether the search accepts, or no where the first run meets nothing.
@@ -244,8 +259,13 @@ fn meet_twice<'i>(
     met: MatchAssumptions<'i>,
 ) -> Result<(MatchAssumptions<'i>, bool), OutOfMemory> {
     let mut met = met;
-    let is_alike = come_out_alike(alloc, &mut met)?;
-    Ok((met, is_alike))
+    match come_out_alike(alloc, &mut met) {
+        Ok(is_alike) => Ok((met, is_alike)),
+        Err(failed) => {
+            drop(met);
+            Err(failed)
+        }
+    }
 }
 
 #[test]
@@ -299,8 +319,13 @@ fn meet_at<'i>(
     met: MatchAssumptions<'i>,
 ) -> Result<(MatchAssumptions<'i>, Vec<ValidationError<'i>>), OutOfMemory> {
     let mut met = met;
-    let list = refusals_at(alloc, root, &mut met)?;
-    Ok((met, list))
+    match refusals_at(alloc, root, &mut met) {
+        Ok(list) => Ok((met, list)),
+        Err(failed) => {
+            drop(met);
+            Err(failed)
+        }
+    }
 }
 
 // The errors of a search with such runs, or none where the first run meets nothing.
@@ -363,6 +388,7 @@ fn a_site_with_a_place_is_taken(rt: HostRuntime) -> Result<(), serde_json::Error
     }
     let are_at_place = are_of(alloc, &alone, "/a", "\"abc\"");
     drop(alone);
+    drop(root);
     assert!(rt; are_at_place?);
     Ok(())
 }
