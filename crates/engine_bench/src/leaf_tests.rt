@@ -14,6 +14,7 @@ use schema_node::node::{Entry, EntryForm, NodeForm, Nodes};
 use schema_reports::instance::Instance;
 use schema_reports::keywords::Draft;
 use schema_reports::location::{Location, OutOfMemory};
+use schema_reports::reports::{ErrorIterator, ValidationError};
 use serde_json::Value;
 use std::alloc::Global;
 use std::marker::Model;
@@ -151,18 +152,27 @@ impl Validate for DetourKeyword {
     ghost function_laws = { detour_functions };
 }
 
+/// The keyword `"pattern": "b"`, which goes a detour over six patterns.
+fn a_keyword(alloc: Global) -> Result<DetourKeyword, OutOfMemory> {
+    let own = String::from_str(alloc, "b")?;
+    let patterns = six_patterns(alloc)?;
+    Ok(DetourKeyword {
+        patterns,
+        keyword: BenchKeyword::Pattern(own),
+    })
+}
+
 /// The schema `{"pattern": "b"}`, whose keyword goes a detour over six patterns.
 fn a_validator(
     alloc: Global,
     is_leaf: bool,
 ) -> Result<Validator<DetourKeyword, BenchMatcher>, OutOfMemory> {
-    let keyword = DetourKeyword {
-        patterns: six_patterns(alloc)?,
-        keyword: BenchKeyword::Pattern(String::from_str(alloc, "b")?),
-    };
+    let patterns = six_patterns(alloc)?;
+    let name = String::from_str(alloc, "pattern")?;
+    let keyword = a_keyword(alloc)?;
     let mut entries = Vec::new(alloc);
     entries.push(Entry {
-        name: String::from_str(alloc, "pattern")?,
+        name,
         priority: 30,
         is_leaf,
         form: EntryForm::Keyword(keyword, Vec::new(alloc)),
@@ -170,7 +180,7 @@ fn a_validator(
     let mut nodes = Nodes::new(alloc);
     let root = nodes.reserve(Location::new(alloc), None, 0)?;
     nodes.fill(root, NodeForm::Keywords(entries), None);
-    let matcher = BenchMatcher::new(six_patterns(alloc)?);
+    let matcher = BenchMatcher::new(patterns);
     Ok(Validator::of_nodes(nodes, root, Draft::Draft202012, matcher))
 }
 
@@ -190,23 +200,68 @@ struct Answers {
     errors: Vec<String>,
 }
 
-/// What they answer, each error by its text.
-fn asked(alloc: Global, instance: &Value, is_leaf: bool) -> Result<Answers, OutOfMemory> {
-    let validator = a_validator(alloc, is_leaf)?;
-    let is_valid = validator.is_valid(alloc, instance)?;
-    let first = match validator.validate(alloc, instance)? {
+/// The text of the first error, where there is one.
+fn first_of(
+    alloc: Global,
+    validator: &Validator<DetourKeyword, BenchMatcher>,
+    instance: &Value,
+) -> Result<Option<String>, OutOfMemory> {
+    Ok(match validator.validate(alloc, instance)? {
         Ok(()) => None,
         Err(error) => Some(error.text),
-    };
-    let mut errors = Vec::new(alloc);
-    for error in validator.iter_errors(alloc, instance)? {
-        errors.push(error.text)?;
+    })
+}
+
+/// The text of an error comes after these.
+fn push_text(texts: &mut Vec<String>, error: ValidationError<'_>) -> Result<(), OutOfMemory> {
+    Ok(texts.push(error.text)?)
+}
+
+/// The texts of errors, which come after these.
+fn push_texts(texts: &mut Vec<String>, errors: ErrorIterator<'_>) -> Result<(), OutOfMemory> {
+    for error in errors {
+        push_text(texts, error)?;
     }
+    Ok(())
+}
+
+/// The texts of all errors.
+fn errors_of(
+    alloc: Global,
+    validator: &Validator<DetourKeyword, BenchMatcher>,
+    instance: &Value,
+) -> Result<Vec<String>, OutOfMemory> {
+    let errors = validator.iter_errors(alloc, instance)?;
+    let mut texts = Vec::new(alloc);
+    push_texts(&mut texts, errors)?;
+    Ok(texts)
+}
+
+/// What this validator answers, each error by its text.
+fn answers_of(
+    alloc: Global,
+    validator: &Validator<DetourKeyword, BenchMatcher>,
+    instance: &Value,
+) -> Result<Answers, OutOfMemory> {
+    let is_valid = validator.is_valid(alloc, instance)?;
+    let first = first_of(alloc, validator, instance)?;
+    let errors = errors_of(alloc, validator, instance)?;
     Ok(Answers {
         is_valid,
         first,
         errors,
     })
+}
+
+/// What the three calls answer for an instance that is this text.
+fn asked(alloc: Global, text: &str, is_leaf: bool) -> Result<Answers, OutOfMemory> {
+    let text = String::from_str(alloc, text)?;
+    let validator = a_validator(alloc, is_leaf)?;
+    let instance = Value::String(text);
+    let answers = answers_of(alloc, &validator, &instance);
+    drop(validator);
+    drop(instance);
+    answers
 }
 
 /// Whether the only error tells of a match that was left unfinished.
@@ -227,8 +282,7 @@ fn tells_of_a_match(found: &Answers) -> bool {
 #[test]
 fn a_leaf_is_asked_for_its_verdict_first(rt: HostRuntime) -> Result<(), OutOfMemory> {
     let alloc = rt.alloc();
-    let instance = Value::String(String::from_str(alloc, "abc")?);
-    let found = asked(alloc, &instance, true)?;
+    let found = asked(alloc, "abc", true)?;
     assert!(rt; found.is_valid);
     assert!(rt; found.first.is_none());
     assert!(rt; found.errors.is_empty());
@@ -239,8 +293,7 @@ fn a_leaf_is_asked_for_its_verdict_first(rt: HostRuntime) -> Result<(), OutOfMem
 #[test]
 fn others_are_asked_for_errors_at_once(rt: HostRuntime) -> Result<(), OutOfMemory> {
     let alloc = rt.alloc();
-    let instance = Value::String(String::from_str(alloc, "abc")?);
-    let found = asked(alloc, &instance, false)?;
+    let found = asked(alloc, "abc", false)?;
     assert!(rt; found.is_valid);
     assert!(rt; tells_of_a_match(&found));
     Ok(())
@@ -250,8 +303,7 @@ fn others_are_asked_for_errors_at_once(rt: HostRuntime) -> Result<(), OutOfMemor
 #[test]
 fn a_leaf_that_refuses_is_asked_for_errors(rt: HostRuntime) -> Result<(), OutOfMemory> {
     let alloc = rt.alloc();
-    let instance = Value::String(String::from_str(alloc, "acd")?);
-    let found = asked(alloc, &instance, true)?;
+    let found = asked(alloc, "acd", true)?;
     assert!(rt; !found.is_valid);
     assert!(rt; tells_of_a_match(&found));
     Ok(())

@@ -8,7 +8,6 @@ use Rattle.engine_bench.specs.Detours.{Detour, detour_words, matches_before}
 use Rattle.engine_bench.specs.Ways.{way_begin}
 use Rattle.engine_bench.specs.Words.{way, words}
 use Rattle.engine_bench.proofs.Unmarked.{WantsNone, mode-kept, step_unmarked}
-use Rattle.engine_bench.proofs.leaf_tests.asked.Goals as goal
 
 -- each turn keeps the run's mode
 turns_unmarked : (texts : Bool) (m : Detour) (s : Subject) (n left : ℕ) (r : Progress × Answer) (reply : Reply) → WantsNone r.0.mode
@@ -19,15 +18,6 @@ turns_unmarked texts m s (suc n) zero r reply none =
 turns_unmarked texts m s (suc n) (suc k) r reply none = (tt, λ next. turns_unmarked texts m s n k r next none)
 
 -- a detour takes no marks
-takes_no_marks : (texts : Bool) → TakesNoMarks (detour_words texts)
+pub takes_no_marks : (texts : Bool) → TakesNoMarks (detour_words texts)
 takes_no_marks texts = λ m s mode' none.
     turns_unmarked texts m s ((detour_words texts).most_turns m s) (matches_before m.0 mode') (way_begin mode', fresh) no_reply (λ e. none (sym (mode-kept mode') ∙ e))
-
-pub is_valid-requires : goal.is_valid-requires
-is_valid-requires c = record { unmarked = takes_no_marks }
-
-pub validate-requires : goal.validate-requires
-validate-requires c = record { unmarked = takes_no_marks }
-
-pub iter_errors-requires : goal.iter_errors-requires
-iter_errors-requires c = record { unmarked = takes_no_marks }
