@@ -47,7 +47,18 @@ fn make<K: Validate, T: KeywordTable<K>>(
     Ok(None)
 }
 
-/// The mode in which a turn asks a question, where it asks one.
+/// The answer to the question of a mode, if one was asked: this verdict, or no error.
+fn reply_to<'i>(alloc: Global, asked: Option<Mode>, verdict: bool) -> Reply<'i> {
+    match asked {
+        Some(Mode::Verdict) => Reply::Truth(verdict),
+        Some(Mode::First) => Reply::First(None),
+        Some(Mode::All) => Reply::All(Vec::new(alloc)),
+        Some(Mode::Evaluate) => Reply::Nothing,
+        None => Reply::Nothing,
+    }
+}
+
+/// The mode in which a turn with this reply asks a question, where it asks one.
 fn asks<'i, K: Validate>(
     alloc: Global,
     keyword: &K,
@@ -62,16 +73,6 @@ fn asks<'i, K: Validate>(
     }
 }
 
-/// The answer to a question: this verdict, or no error.
-fn reply_to<'i>(alloc: Global, mode: Mode, verdict: bool) -> Reply<'i> {
-    match mode {
-        Mode::Verdict => Reply::Truth(verdict),
-        Mode::First => Reply::First(None),
-        Mode::All => Reply::All(Vec::new(alloc)),
-        Mode::Evaluate => Reply::Nothing,
-    }
-}
-
 /// The verdict of this number; no where there are fewer.
 fn verdict_at(verdicts: &[Value], number: usize) -> bool {
     match verdicts.get(number) {
@@ -80,8 +81,32 @@ fn verdict_at(verdicts: &[Value], number: usize) -> bool {
     }
 }
 
-/// The texts of a keyword's own errors in all mode, each with `;` after it, and before them `?` for each question, which
-/// is answered by no error, or `!` for one that asks a verdict, which is answered by these in turn.
+/// Takes turns until no question is asked, and adds `?` for each question, which is answered by no error, or `!` for one
+/// that asks a verdict, which is answered by these in turn; then the texts of the own errors.
+fn tell_turns<'i, K: Validate>(
+    alloc: Global,
+    keyword: &K,
+    run: &mut K::Run,
+    instance: Instance<'i>,
+    verdicts: &[Value],
+    answer: &mut Answer<'i>,
+    log: &mut String,
+) -> Result<(), OutOfMemory> {
+    let mut asked = None;
+    let mut verdict = false;
+    for question in 0..8usize {
+        let reply = reply_to(alloc, asked, verdict);
+        asked = asks(alloc, keyword, run, instance, reply, answer)?;
+        match asked {
+            None => return push_texts(answer, log),
+            Some(mode) => log.push_str(if let Mode::Verdict = mode { "!" } else { "?" })?,
+        }
+        verdict = verdict_at(verdicts, question);
+    }
+    push_texts(answer, log)
+}
+
+/// Adds what a run of a keyword in all mode asks and finds: `?` or `!` for each question, then the texts of its own errors.
 fn told<K: Validate>(
     alloc: Global,
     keyword: &K,
@@ -90,24 +115,21 @@ fn told<K: Validate>(
     log: &mut String,
 ) -> Result<(), OutOfMemory> {
     let instance = Instance::Value(value);
-    let mut answer = Answer::All(Vec::new(alloc));
     let mut run = keyword.begin(alloc, instance, Mode::All)?;
-    let mut reply = Reply::Nothing;
-    for question in 0..8usize {
-        match asks(alloc, keyword, &mut run, instance, reply, &mut answer)? {
-            None => return push_texts(answer, log),
-            Some(mode) => {
-                log.push_str(if let Mode::Verdict = mode { "!" } else { "?" })?;
-                let verdict = verdict_at(verdicts, question);
-                reply = reply_to(alloc, mode, verdict);
-            }
-        }
-    }
-    push_texts(answer, log)
+    let mut answer = Answer::All(Vec::new(alloc));
+    tell_turns(
+        alloc,
+        keyword,
+        &mut run,
+        instance,
+        verdicts,
+        &mut answer,
+        log,
+    )
 }
 
-/// Adds the texts of own errors.
-fn push_texts(answer: Answer<'_>, log: &mut String) -> Result<(), OutOfMemory> {
+/// Adds the texts of own errors, each with `;` after it.
+fn push_texts(answer: &Answer<'_>, log: &mut String) -> Result<(), OutOfMemory> {
     if let Answer::All(faults) = answer {
         for fault in faults {
             if let Fault::Own(error) = fault {
@@ -119,8 +141,28 @@ fn push_texts(answer: Answer<'_>, log: &mut String) -> Result<(), OutOfMemory> {
     Ok(())
 }
 
-/// What an evaluation by a keyword gives for its unit: each error, as its keyword, `: ` and its text, where each question
-/// is answered by yes; after `valid ` or `invalid `.
+/// Takes turns until no question is asked, each answered by yes, and adds what the unit then has.
+fn evaluate_turns<'i, K: Validate>(
+    alloc: Global,
+    keyword: &K,
+    run: &mut K::Run,
+    instance: Instance<'i>,
+    answer: &mut Answer<'i>,
+    log: &mut String,
+) -> Result<(), OutOfMemory> {
+    let mut asked = None;
+    for _ in 0..8 {
+        let reply = reply_to(alloc, asked, true);
+        asked = asks(alloc, keyword, run, instance, reply, answer)?;
+        if asked.is_none() {
+            return push_descriptions(answer, log);
+        }
+    }
+    push_descriptions(answer, log)
+}
+
+/// Adds what an evaluation by a keyword gives for its unit: each error, as its keyword, `: ` and its text, where each
+/// question is answered by yes; after `valid ` or `invalid `.
 fn evaluated<K: Validate>(
     alloc: Global,
     keyword: &K,
@@ -128,22 +170,15 @@ fn evaluated<K: Validate>(
     log: &mut String,
 ) -> Result<(), OutOfMemory> {
     let instance = Instance::Value(value);
-    let mut answer = Answer::Evaluation(true, Vec::new(alloc));
     let mut run = keyword.begin(alloc, instance, Mode::Evaluate)?;
-    let mut reply = Reply::Nothing;
-    for _ in 0..8 {
-        match asks(alloc, keyword, &mut run, instance, reply, &mut answer)? {
-            None => return push_descriptions(answer, log),
-            Some(mode) => reply = reply_to(alloc, mode, true),
-        }
-    }
-    push_descriptions(answer, log)
+    let mut answer = Answer::Evaluation(true, Vec::new(alloc));
+    evaluate_turns(alloc, keyword, &mut run, instance, &mut answer, log)
 }
 
 /// Adds the verdict and the errors of an evaluation.
-fn push_descriptions(answer: Answer<'_>, log: &mut String) -> Result<(), OutOfMemory> {
+fn push_descriptions(answer: &Answer<'_>, log: &mut String) -> Result<(), OutOfMemory> {
     if let Answer::Evaluation(valid, errors) = answer {
-        log.push_str(if valid { "valid " } else { "invalid " })?;
+        log.push_str(if *valid { "valid " } else { "invalid " })?;
         for error in errors {
             log.push_str(error.keyword.as_str())?;
             log.push_str(": ")?;
@@ -279,8 +314,30 @@ const UNITS: &str = r##"[
 [{"not":{"type":"integer"}}, "not", 1, "invalid not: {\"type\":\"integer\"} is not allowed for 1"]
 ]"##;
 
-/// What a keyword's run in a mode asks a matcher, as pattern, subject and `located` or `bare`, and the texts of its own
-/// errors in all mode, where that is answered so.
+/// Takes a turn, and where it asks for a match another, with this answer; adds the match, as pattern, subject and
+/// `located` or `bare`, and the texts of the own errors.
+fn match_turns<'i, K: Validate>(
+    alloc: Global,
+    keyword: &K,
+    run: &mut K::Run,
+    instance: Instance<'i>,
+    matches: bool,
+    answer: &mut Answer<'i>,
+    log: &mut String,
+) -> Result<(), OutOfMemory> {
+    let first = keyword.turn(alloc, run, instance, Reply::Nothing, answer)?;
+    if let Step::Match(pattern, subject, point) = first {
+        let site = if point.located { " located " } else { " bare " };
+        for part in [pattern, " ", subject, site] {
+            log.push_str(part)?;
+        }
+        keyword.turn(alloc, run, instance, Reply::Truth(matches), answer)?;
+    }
+    push_texts(answer, log)
+}
+
+/// Adds what a keyword's run in a mode asks a matcher, and the texts of its own errors in all mode, where that is answered
+/// so.
 fn matched<K: Validate>(
     alloc: Global,
     keyword: &K,
@@ -290,23 +347,17 @@ fn matched<K: Validate>(
     log: &mut String,
 ) -> Result<(), OutOfMemory> {
     let instance = Instance::Value(value);
-    let mut answer = Answer::All(Vec::new(alloc));
     let mut run = keyword.begin(alloc, instance, mode)?;
-    let first = keyword.turn(alloc, &mut run, instance, Reply::Nothing, &mut answer)?;
-    if let Step::Match(pattern, subject, point) = first {
-        let site = if point.located { " located " } else { " bare " };
-        for part in [pattern, " ", subject, site] {
-            log.push_str(part)?;
-        }
-        keyword.turn(
-            alloc,
-            &mut run,
-            instance,
-            Reply::Truth(matches),
-            &mut answer,
-        )?;
-    }
-    push_texts(answer, log)
+    let mut answer = Answer::All(Vec::new(alloc));
+    match_turns(
+        alloc,
+        keyword,
+        &mut run,
+        instance,
+        matches,
+        &mut answer,
+        log,
+    )
 }
 
 /// What the keyword `pattern` of a schema asks of a row's value in a mode, and what it then tells.
