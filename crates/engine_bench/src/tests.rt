@@ -123,6 +123,19 @@ fn reply_to<'i>(alloc: Global, asked: Option<Mode>, verdict: bool) -> Reply<'i> 
     }
 }
 
+/// Adds what a match asks: its pattern, its subject and `located` or `bare`, each with a space after it.
+fn push_match(
+    pattern: &str,
+    subject: &str,
+    located: bool,
+    log: &mut String,
+) -> Result<(), OutOfMemory> {
+    log.push_str(pattern)?;
+    log.push_str(" ")?;
+    log.push_str(subject)?;
+    log.push_str(if located { " located " } else { " bare " })
+}
+
 /// The mode in which a turn with this reply asks a question, where it asks one: it adds `!` for one that asks a verdict,
 /// `?` for another, and for a match its pattern, its subject and `located` or `bare`.
 fn asks<'i, K: Validate>(
@@ -140,8 +153,7 @@ fn asks<'i, K: Validate>(
             Ok(Some(mode))
         }
         Step::Match(pattern, subject, point) => {
-            let site = if point.located { "located" } else { "bare" };
-            write!(log, "{pattern} {subject} {site} ")?;
+            push_match(pattern, subject, point.located, log)?;
             Ok(Some(Mode::Verdict))
         }
         _ => Ok(None),
@@ -180,6 +192,14 @@ fn tell_turns<'i, K: Validate>(
     push_answer(answer, log)
 }
 
+/// An answer with nothing found yet: an evaluation for that mode, else all errors.
+fn answer_in<'i>(alloc: Global, mode: Mode) -> Answer<'i> {
+    match mode {
+        Mode::Evaluate => Answer::Evaluation(true, Vec::new(alloc)),
+        _ => Answer::All(Vec::new(alloc)),
+    }
+}
+
 /// Adds what a keyword's run in a mode asks, and what it finds: of an evaluation what the unit has, else the errors.
 fn told<K: Validate>(
     alloc: Global,
@@ -191,10 +211,7 @@ fn told<K: Validate>(
 ) -> Result<(), OutOfMemory> {
     let instance = Instance::Value(value);
     let mut run = keyword.begin(alloc, instance, mode)?;
-    let mut answer = match mode {
-        Mode::Evaluate => Answer::Evaluation(true, Vec::new(alloc)),
-        _ => Answer::All(Vec::new(alloc)),
-    };
+    let mut answer = answer_in(alloc, mode);
     tell_turns(
         alloc,
         keyword,
@@ -354,7 +371,7 @@ const UNITS: &str = r##"[
 ]"##;
 
 /// Adds what the keyword `pattern` of a row asks of the row's value in a mode, and what it then tells.
-fn push_match(alloc: Global, row: &Value, log: &mut String) -> Result<(), OutOfMemory> {
+fn tell_match(alloc: Global, row: &Value, log: &mut String) -> Result<(), OutOfMemory> {
     let mode = match text_at(row, 2) {
         "verdict" => Mode::Verdict,
         "first" => Mode::First,
@@ -368,7 +385,7 @@ fn push_match(alloc: Global, row: &Value, log: &mut String) -> Result<(), OutOfM
 /// Whether a row's keyword `pattern` asks and tells this.
 fn asks_match(alloc: Global, row: &Value) -> Result<bool, OutOfMemory> {
     let mut log = String::new(alloc);
-    push_match(alloc, row, &mut log)?;
+    tell_match(alloc, row, &mut log)?;
     Ok(log.as_str() == text_at(row, 4))
 }
 
