@@ -185,7 +185,7 @@ fn tell_turns<'i, K: Validate>(
         let reply = reply_to(alloc, asked, verdict);
         asked = asks(alloc, keyword, run, instance, reply, answer, log)?;
         if asked.is_none() {
-            return push_answer(answer, log);
+            break;
         }
         verdict = verdict_at(verdicts, question);
     }
