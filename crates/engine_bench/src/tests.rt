@@ -3,51 +3,141 @@ use crate::keywords::BenchKeyword;
 use crate::matcher::BenchMatcher;
 use crate::rows::{column, list_at, text_at, wrong_row};
 use crate::table::BenchTable;
-use schema_node::context::keyword::{Answer, Fault, Mode, Reply, Step, Validate};
+use schema_node::context::keyword::{Answer, ErrorDescription, Fault, Mode, Reply, Step, Validate};
 use schema_node::context::matcher::Matcher;
 use schema_node::context::table::{KeywordOrigin, KeywordTable, MakerReply, MakerStep};
 use schema_reports::instance::Instance;
 use schema_reports::keywords::{Draft, VocabularySet};
 use schema_reports::location::OutOfMemory;
 use schema_reports::unfinished_matches::{Match, Reason};
-use serde_json::Value;
+use serde_json::{Map, Value};
 use std::alloc::Global;
 
-/// The keyword that a table makes of a member, if it makes one; with how many children, or with a refusal's text.
+/// Whether a maker asks for a child, whose path is then added and a space; a refusal adds its text.
+fn asks_child<K>(
+    alloc: Global,
+    step: &MakerStep<K>,
+    log: &mut String,
+) -> Result<bool, OutOfMemory> {
+    match step {
+        MakerStep::Compile(path) => {
+            let pointer = path.pointer(alloc)?;
+            log.push_str(pointer.as_str())?;
+            log.push_str(" ")?;
+            Ok(true)
+        }
+        MakerStep::Refuse(error) => {
+            log.push_str(error.text.as_str())?;
+            Ok(false)
+        }
+        _ => Ok(false),
+    }
+}
+
+/// The keyword that a maker ends with, if it does.
+fn keyword_in<K>(step: MakerStep<K>) -> Option<K> {
+    match step {
+        MakerStep::Keyword(keyword, _) => Some(keyword),
+        _ => None,
+    }
+}
+
+/// Whether a turn of a maker asks for a child; else it leaves the keyword that it made, if any.
+fn takes_turn<K: Validate, T: KeywordTable<K>>(
+    alloc: Global,
+    table: &T,
+    maker: &mut T::Maker,
+    reply: MakerReply,
+    made: &mut Option<K>,
+    log: &mut String,
+) -> Result<bool, OutOfMemory> {
+    let step = table.turn(alloc, maker, reply)?;
+    let asks = asks_child(alloc, &step, log);
+    *made = keyword_in(step);
+    asks
+}
+
+/// Takes a maker's turns until it asks for no child, each of which gets the next number.
+fn make_turns<K: Validate, T: KeywordTable<K>>(
+    alloc: Global,
+    table: &T,
+    maker: &mut T::Maker,
+    made: &mut Option<K>,
+    log: &mut String,
+) -> Result<(), OutOfMemory> {
+    let mut reply = MakerReply::Begun;
+    for child in 0..8usize {
+        if !takes_turn(alloc, table, maker, reply, made, log)? {
+            return Ok(());
+        }
+        reply = MakerReply::Child(child);
+    }
+    Ok(())
+}
+
+/// A maker of a member, without vocabularies and formats.
+fn maker_of<K: Validate, T: KeywordTable<K>>(
+    alloc: Global,
+    table: &T,
+    object: &Map<String, Value>,
+    draft: Draft,
+    name: &str,
+) -> Result<T::Maker, OutOfMemory> {
+    let vocabularies = VocabularySet::new(alloc);
+    table.begin(
+        alloc,
+        KeywordOrigin::Builtin(name),
+        object,
+        draft,
+        &vocabularies,
+        false,
+    )
+}
+
+/// Makes the keyword that a table makes of a member, if it makes one, and adds the paths of its children, or a refusal's
+/// text.
 fn make<K: Validate, T: KeywordTable<K>>(
     alloc: Global,
     table: &T,
     schema: &Value,
     draft: Draft,
     name: &str,
+    made: &mut Option<K>,
     log: &mut String,
-) -> Result<Option<K>, OutOfMemory> {
+) -> Result<(), OutOfMemory> {
     let Some(object) = schema.as_object() else {
-        return Ok(None);
+        return Ok(());
     };
-    let vocabularies = VocabularySet::new(alloc);
-    let origin = KeywordOrigin::Builtin(name);
-    let mut maker = table.begin(alloc, origin, object, draft, &vocabularies, false)?;
-    let mut reply = MakerReply::Begun;
-    for child in 0..8usize {
-        match table.turn(alloc, &mut maker, reply)? {
-            MakerStep::Compile(path) => {
-                log.push_str(path.pointer(alloc)?.as_str())?;
-                log.push_str(" ")?;
-                reply = MakerReply::Child(child);
-            }
-            MakerStep::Keyword(keyword, _) => return Ok(Some(keyword)),
-            MakerStep::Refuse(error) => {
-                log.push_str(error.text.as_str())?;
-                return Ok(None);
-            }
-            _ => return Ok(None),
-        }
-    }
-    Ok(None)
+    let mut maker = maker_of(alloc, table, object, draft, name)?;
+    make_turns(alloc, table, &mut maker, made, log)
 }
 
-/// The mode in which a turn asks a question, where it asks one.
+/// The answer to the question of a mode, if one was asked: this verdict, or no error.
+fn reply_to<'i>(alloc: Global, asked: Option<Mode>, verdict: bool) -> Reply<'i> {
+    match asked {
+        Some(Mode::Verdict) => Reply::Truth(verdict),
+        Some(Mode::First) => Reply::First(None),
+        Some(Mode::All) => Reply::All(Vec::new(alloc)),
+        Some(Mode::Evaluate) => Reply::Nothing,
+        None => Reply::Nothing,
+    }
+}
+
+/// Adds what a match asks: its pattern, its subject and `located` or `bare`, each with a space after it.
+fn push_match(
+    pattern: &str,
+    subject: &str,
+    located: bool,
+    log: &mut String,
+) -> Result<(), OutOfMemory> {
+    log.push_str(pattern)?;
+    log.push_str(" ")?;
+    log.push_str(subject)?;
+    log.push_str(if located { " located " } else { " bare " })
+}
+
+/// The mode in which a turn with this reply asks a question, where it asks one: it adds `!` for one that asks a verdict,
+/// `?` for another, and for a match its pattern, its subject and `located` or `bare`.
 fn asks<'i, K: Validate>(
     alloc: Global,
     keyword: &K,
@@ -55,20 +145,18 @@ fn asks<'i, K: Validate>(
     instance: Instance<'i>,
     reply: Reply<'i>,
     answer: &mut Answer<'i>,
+    log: &mut String,
 ) -> Result<Option<Mode>, OutOfMemory> {
     match keyword.turn(alloc, run, instance, reply, answer)? {
-        Step::Ask(_, _, mode) => Ok(Some(mode)),
+        Step::Ask(_, _, mode) => {
+            log.push_str(if let Mode::Verdict = mode { "!" } else { "?" })?;
+            Ok(Some(mode))
+        }
+        Step::Match(pattern, subject, point) => {
+            push_match(pattern, subject, point.located, log)?;
+            Ok(Some(Mode::Verdict))
+        }
         _ => Ok(None),
-    }
-}
-
-/// The answer to a question: this verdict, or no error.
-fn reply_to<'i>(alloc: Global, mode: Mode, verdict: bool) -> Reply<'i> {
-    match mode {
-        Mode::Verdict => Reply::Truth(verdict),
-        Mode::First => Reply::First(None),
-        Mode::All => Reply::All(Vec::new(alloc)),
-        Mode::Evaluate => Reply::Nothing,
     }
 }
 
@@ -80,82 +168,99 @@ fn verdict_at(verdicts: &[Value], number: usize) -> bool {
     }
 }
 
-/// The texts of a keyword's own errors in all mode, each with `;` after it, and before them `?` for each question, which
-/// is answered by no error, or `!` for one that asks a verdict, which is answered by these in turn.
+/// Takes turns until nothing is asked, each question answered by no error or the verdict of its number, and adds what
+/// was found.
+fn tell_turns<'i, K: Validate>(
+    alloc: Global,
+    keyword: &K,
+    run: &mut K::Run,
+    instance: Instance<'i>,
+    verdicts: &[Value],
+    answer: &mut Answer<'i>,
+    log: &mut String,
+) -> Result<(), OutOfMemory> {
+    let mut asked = None;
+    let mut verdict = false;
+    for question in 0..8usize {
+        let reply = reply_to(alloc, asked, verdict);
+        asked = asks(alloc, keyword, run, instance, reply, answer, log)?;
+        if asked.is_none() {
+            break;
+        }
+        verdict = verdict_at(verdicts, question);
+    }
+    push_answer(answer, log)
+}
+
+/// An answer with nothing found yet: an evaluation for that mode, else all errors.
+fn answer_in<'i>(alloc: Global, mode: Mode) -> Answer<'i> {
+    match mode {
+        Mode::Evaluate => Answer::Evaluation(true, Vec::new(alloc)),
+        _ => Answer::All(Vec::new(alloc)),
+    }
+}
+
+/// Adds what a keyword's run in a mode asks, and what it finds: of an evaluation what the unit has, else the errors.
 fn told<K: Validate>(
     alloc: Global,
     keyword: &K,
     value: &Value,
+    mode: Mode,
     verdicts: &[Value],
     log: &mut String,
 ) -> Result<(), OutOfMemory> {
     let instance = Instance::Value(value);
-    let mut answer = Answer::All(Vec::new(alloc));
-    let mut run = keyword.begin(alloc, instance, Mode::All)?;
-    let mut reply = Reply::Nothing;
-    for question in 0..8usize {
-        match asks(alloc, keyword, &mut run, instance, reply, &mut answer)? {
-            None => return push_texts(answer, log),
-            Some(mode) => {
-                log.push_str(if let Mode::Verdict = mode { "!" } else { "?" })?;
-                let verdict = verdict_at(verdicts, question);
-                reply = reply_to(alloc, mode, verdict);
-            }
-        }
-    }
-    push_texts(answer, log)
+    let mut run = keyword.begin(alloc, instance, mode)?;
+    let mut answer = answer_in(alloc, mode);
+    tell_turns(
+        alloc,
+        keyword,
+        &mut run,
+        instance,
+        verdicts,
+        &mut answer,
+        log,
+    )
 }
 
-/// Adds the texts of own errors.
-fn push_texts(answer: Answer<'_>, log: &mut String) -> Result<(), OutOfMemory> {
-    if let Answer::All(faults) = answer {
-        for fault in faults {
-            if let Fault::Own(error) = fault {
-                log.push_str(error.text.as_str())?;
-                log.push_str(";")?;
-            }
+/// Adds the texts of own errors, each with `;` after it; an evaluation leaves its verdict and its errors alone.
+fn push_answer(answer: &Answer<'_>, log: &mut String) -> Result<(), OutOfMemory> {
+    match answer {
+        Answer::All(faults) => push_texts(faults.as_slice(), log),
+        Answer::Evaluation(valid, errors) => {
+            log.clear();
+            log.push_str(if *valid { "valid " } else { "invalid " })?;
+            push_descriptions(errors.as_slice(), log)
+        }
+        _ => Ok(()),
+    }
+}
+
+/// Adds the texts of own errors, each with `;` after it.
+fn push_texts(faults: &[Fault<'_>], log: &mut String) -> Result<(), OutOfMemory> {
+    for fault in faults {
+        if let Fault::Own(error) = fault {
+            log.push_str(error.text.as_str())?;
+            log.push_str(";")?;
         }
     }
     Ok(())
 }
 
-/// What an evaluation by a keyword gives for its unit: each error, as its keyword, `: ` and its text, where each question
-/// is answered by yes; after `valid ` or `invalid `.
-fn evaluated<K: Validate>(
-    alloc: Global,
-    keyword: &K,
-    value: &Value,
-    log: &mut String,
-) -> Result<(), OutOfMemory> {
-    let instance = Instance::Value(value);
-    let mut answer = Answer::Evaluation(true, Vec::new(alloc));
-    let mut run = keyword.begin(alloc, instance, Mode::Evaluate)?;
-    let mut reply = Reply::Nothing;
-    for _ in 0..8 {
-        match asks(alloc, keyword, &mut run, instance, reply, &mut answer)? {
-            None => return push_descriptions(answer, log),
-            Some(mode) => reply = reply_to(alloc, mode, true),
-        }
-    }
-    push_descriptions(answer, log)
-}
-
-/// Adds the verdict and the errors of an evaluation.
-fn push_descriptions(answer: Answer<'_>, log: &mut String) -> Result<(), OutOfMemory> {
-    if let Answer::Evaluation(valid, errors) = answer {
-        log.push_str(if valid { "valid " } else { "invalid " })?;
-        for error in errors {
-            log.push_str(error.keyword.as_str())?;
-            log.push_str(": ")?;
-            log.push_str(error.text.as_str())?;
-        }
+/// Adds the errors of an evaluation, each as its keyword, `: ` and its text.
+fn push_descriptions(errors: &[ErrorDescription], log: &mut String) -> Result<(), OutOfMemory> {
+    for error in errors {
+        log.push_str(error.keyword.as_str())?;
+        log.push_str(": ")?;
+        log.push_str(error.text.as_str())?;
     }
     Ok(())
 }
 
 /// The draft of this name.
-fn draft_named(name: &str) -> Draft {
+pub(crate) fn draft_named(name: &str) -> Draft {
     match name {
+        "4" => Draft::Draft4,
         "7" => Draft::Draft7,
         "2019-09" => Draft::Draft201909,
         "unknown" => Draft::Unknown,
@@ -163,31 +268,40 @@ fn draft_named(name: &str) -> Draft {
     }
 }
 
-/// What a row's keyword is asked for when it is made, and what it then tells of the row's value.
-fn log_of(alloc: Global, row: &Value) -> Result<String, OutOfMemory> {
-    let mut log = String::new(alloc);
+/// Adds what a row's keyword is asked for when it is made, and what it then tells of the row's value in a mode.
+fn push_log(alloc: Global, row: &Value, mode: Mode, log: &mut String) -> Result<(), OutOfMemory> {
     let draft = draft_named(text_at(row, 0));
-    let schema = column(row, 1);
-    let name = text_at(row, 2);
-    let made: Option<BenchKeyword> = make(alloc, &BenchTable {}, schema, draft, name, &mut log)?;
-    if let Some(keyword) = made {
-        told(alloc, &keyword, column(row, 3), list_at(row, 4), &mut log)?;
+    let mut made: Option<BenchKeyword> = None;
+    make(
+        alloc,
+        &BenchTable {},
+        column(row, 1),
+        draft,
+        text_at(row, 2),
+        &mut made,
+        log,
+    )?;
+    match &made {
+        Some(keyword) => told(alloc, keyword, column(row, 3), mode, list_at(row, 4), log),
+        None => Ok(()),
     }
-    Ok(log)
 }
 
-/// The number of the first row that is wrong of a table of drafts, schemas, names, values, verdicts and logs.
-fn wrong_log(alloc: Global, table: &str) -> Result<Option<usize>, serde_json::Error> {
-    wrong_row(
-        alloc,
-        table,
-        |row| Ok(log_of(alloc, row)?.as_str() == text_at(row, 5)),
-    )
+/// Whether a row's log in a mode is this.
+fn logs(alloc: Global, row: &Value, mode: Mode) -> Result<bool, OutOfMemory> {
+    let mut log = String::new(alloc);
+    push_log(alloc, row, mode, &mut log)?;
+    Ok(log.as_str() == text_at(row, 5))
+}
+
+/// The number of the first row that is wrong of a table of drafts, schemas, names, values, verdicts and logs in a mode.
+fn wrong_log(alloc: Global, table: &str, mode: Mode) -> Result<Option<usize>, serde_json::Error> {
+    wrong_row(alloc, table, |row| logs(alloc, row, mode))
 }
 
 #[test]
 fn keywords_that_ask_nothing(rt: HostRuntime) -> Result<(), serde_json::Error> {
-    assert_eq!(rt; wrong_log(rt.alloc(), LEAVES)?, None);
+    assert_eq!(rt; wrong_log(rt.alloc(), LEAVES, Mode::All)?, None);
     Ok(())
 }
 
@@ -209,7 +323,7 @@ const LEAVES: &str = r##"[
 
 #[test]
 fn keywords_that_ask(rt: HostRuntime) -> Result<(), serde_json::Error> {
-    assert_eq!(rt; wrong_log(rt.alloc(), QUESTIONS)?, None);
+    assert_eq!(rt; wrong_log(rt.alloc(), QUESTIONS, Mode::All)?, None);
     Ok(())
 }
 
@@ -243,124 +357,81 @@ const QUESTIONS: &str = r##"[
 ["2020-12", {"else":{},"if":{}}, "if", 1, [false], "/if /else !?"]
 ]"##;
 
-/// What the evaluation by a row's keyword of its value gives for its unit.
-fn unit_of(alloc: Global, row: &Value) -> Result<String, OutOfMemory> {
-    let mut log = String::new(alloc);
-    let draft = Draft::Draft202012;
-    let name = text_at(row, 1);
-    let made: Option<BenchKeyword> = make(
-        alloc,
-        &BenchTable {},
-        column(row, 0),
-        draft,
-        name,
-        &mut log,
-    )?;
-    log.clear();
-    if let Some(keyword) = made {
-        evaluated(alloc, &keyword, column(row, 2), &mut log)?;
-    }
-    Ok(log)
-}
-
 #[test]
 fn units(rt: HostRuntime) -> Result<(), serde_json::Error> {
-    let alloc = rt.alloc();
-    let wrong = wrong_row(alloc, UNITS, |row| {
-        Ok(unit_of(alloc, row)?.as_str() == text_at(row, 3))
-    })?;
-    assert_eq!(rt; wrong, None);
+    assert_eq!(rt; wrong_log(rt.alloc(), UNITS, Mode::Evaluate)?, None);
     Ok(())
 }
 
+// What the evaluation gives for the unit, each question answered by yes.
 const UNITS: &str = r##"[
-[{"type":"string"}, "type", 1, "invalid type: 1 is not of type \"string\""],
-[{"type":"string"}, "type", "AB", "valid "],
-[{"not":{"type":"integer"}}, "not", 1, "invalid not: {\"type\":\"integer\"} is not allowed for 1"]
+["2020-12", {"type":"string"}, "type", 1, [], "invalid type: 1 is not of type \"string\""],
+["2020-12", {"type":"string"}, "type", "AB", [], "valid "],
+["2020-12", {"not":{"type":"integer"}}, "not", 1, [true], "invalid not: {\"type\":\"integer\"} is not allowed for 1"]
 ]"##;
 
-/// What a keyword's run in a mode asks a matcher, as pattern, subject and `located` or `bare`, and the texts of its own
-/// errors in all mode, where that is answered so.
-fn matched<K: Validate>(
-    alloc: Global,
-    keyword: &K,
-    value: &Value,
-    mode: Mode,
-    matches: bool,
-    log: &mut String,
-) -> Result<(), OutOfMemory> {
-    let instance = Instance::Value(value);
-    let mut answer = Answer::All(Vec::new(alloc));
-    let mut run = keyword.begin(alloc, instance, mode)?;
-    let first = keyword.turn(alloc, &mut run, instance, Reply::Nothing, &mut answer)?;
-    if let Step::Match(pattern, subject, point) = first {
-        let site = if point.located { " located " } else { " bare " };
-        for part in [pattern, " ", subject, site] {
-            log.push_str(part)?;
-        }
-        keyword.turn(
-            alloc,
-            &mut run,
-            instance,
-            Reply::Truth(matches),
-            &mut answer,
-        )?;
-    }
-    push_texts(answer, log)
-}
-
-/// What the keyword `pattern` of a schema asks of a row's value in a mode, and what it then tells.
-fn match_asked(alloc: Global, row: &Value) -> Result<String, OutOfMemory> {
-    let mut log = String::new(alloc);
+/// Adds what the keyword `pattern` of a row asks of the row's value in a mode, and what it then tells.
+fn tell_match(alloc: Global, row: &Value, log: &mut String) -> Result<(), OutOfMemory> {
     let mode = match text_at(row, 2) {
         "verdict" => Mode::Verdict,
         "first" => Mode::First,
         _ => Mode::All,
     };
-    let matches = column(row, 3).as_bool().unwrap_or(false);
     let pattern = String::from_str(alloc, text_at(row, 0))?;
     let keyword = BenchKeyword::Pattern(pattern);
-    matched(alloc, &keyword, column(row, 1), mode, matches, &mut log)?;
-    Ok(log)
+    told(alloc, &keyword, column(row, 1), mode, list_at(row, 3), log)
+}
+
+/// Whether a row's keyword `pattern` asks and tells this.
+fn asks_match(alloc: Global, row: &Value) -> Result<bool, OutOfMemory> {
+    let mut log = String::new(alloc);
+    tell_match(alloc, row, &mut log)?;
+    Ok(log.as_str() == text_at(row, 4))
 }
 
 #[test]
 fn pattern(rt: HostRuntime) -> Result<(), serde_json::Error> {
     let alloc = rt.alloc();
-    let wrong = wrong_row(alloc, PATTERNS, |row| {
-        Ok(match_asked(alloc, row)?.as_str() == text_at(row, 4))
-    })?;
-    assert_eq!(rt; wrong, None);
+    assert_eq!(rt;
+        wrong_row(alloc, PATTERNS, |row| asks_match(alloc, row))?,
+        None
+    );
     Ok(())
 }
 
 const PATTERNS: &str = r##"[
-["b\"c", "é", "all", false, "b\"c é located \"é\" does not match \"b\"c\";"],
-["b\"c", "é", "first", true, "b\"c é located "],
-["b\"c", "é", "verdict", true, "b\"c é bare "],
-["b\"c", [1], "all", false, ""]
+["b\"c", "é", "all", [false], "b\"c é located \"é\" does not match \"b\"c\";"],
+["b\"c", "é", "first", [true], "b\"c é located "],
+["b\"c", "é", "verdict", [true], "b\"c é bare "],
+["b\"c", [1], "all", [false], ""]
 ]"##;
 
-/// What a matcher says: `yes`, `no`, or the text of a limit.
-fn said<M: Matcher>(
+/// Whether a matcher says this: `yes`, `no`, or the text of a limit.
+fn says<M: Matcher>(
     alloc: Global,
     matcher: &M,
     pattern: &str,
     subject: &str,
-) -> Result<String, OutOfMemory> {
-    match matcher.is_match(alloc, pattern, subject)? {
-        Match::Finished(matches) => {
-            if matches {
-                String::from_str(alloc, "yes")
-            } else {
-                String::from_str(alloc, "no")
-            }
-        }
-        Match::Unfinished(reason) => match reason {
-            Reason::Limit(text) => Ok(text.into_string()),
-            Reason::Engine => String::from_str(alloc, "engine"),
-        },
-    }
+    want: &str,
+) -> Result<bool, OutOfMemory> {
+    let answer = matcher.is_match(alloc, pattern, subject)?;
+    Ok(match &answer {
+        Match::Finished(matches) => want == if *matches { "yes" } else { "no" },
+        Match::Unfinished(Reason::Limit(text)) => text.is(want),
+        Match::Unfinished(Reason::Engine) => want == "engine",
+    })
+}
+
+/// Whether a matcher that leaves `(?<=ab)c` unfinished and a copy of it answer each call.
+fn answers<M: Matcher>(alloc: Global, matcher: &M, copy: &M) -> Result<bool, OutOfMemory> {
+    let limit = "Error executing regex: Max limit for backtracking count exceeded";
+    Ok(
+        says(alloc, copy, "(?<=ab)c", "abc", limit)?
+            && says(alloc, matcher, "bc", "abcd", "yes")?
+            && says(alloc, matcher, "", "", "yes")?
+            && says(alloc, matcher, "cb", "abcd", "no")?
+            && matcher.is_valid_ecma_regex(alloc, "(")?,
+    )
 }
 
 #[test]
@@ -369,13 +440,6 @@ fn matches(rt: HostRuntime) -> Result<(), OutOfMemory> {
     let unfinished = vec![in alloc; String::from_str(alloc, "(?<=ab)c")?]?;
     let matcher = BenchMatcher::new(unfinished);
     let copy = matcher.clone()?;
-    assert_eq!(rt;
-        said(alloc, &copy, "(?<=ab)c", "abc")?.as_str(),
-        "Error executing regex: Max limit for backtracking count exceeded"
-    );
-    assert_eq!(rt; said(alloc, &matcher, "bc", "abcd")?.as_str(), "yes");
-    assert_eq!(rt; said(alloc, &matcher, "", "")?.as_str(), "yes");
-    assert_eq!(rt; said(alloc, &matcher, "cb", "abcd")?.as_str(), "no");
-    assert!(rt; matcher.is_valid_ecma_regex(alloc, "(")?);
+    assert!(rt; answers(alloc, &matcher, &copy)?);
     Ok(())
 }

@@ -1,86 +1,78 @@
 //! The refusals, with their paths and texts, through the trait's bound.
 use crate::meta::BenchMeta;
+use crate::rows::{column, text_at, wrong_row};
+use crate::tests::draft_named;
 use schema_node::context::meta::MetaValidators;
 use schema_reports::keywords::Draft;
 use schema_reports::location::OutOfMemory;
+use schema_reports::reports::ValidationError;
 use serde_json::Value;
 use std::alloc::Global;
 
-/// The instance path and the text of the error, or nothing.
-fn told<M: MetaValidators>(
+/// Adds the instance path and the text of an error.
+fn push_error(
+    alloc: Global,
+    error: &ValidationError<'_>,
+    log: &mut String,
+) -> Result<(), OutOfMemory> {
+    let path = error.instance_path(alloc)?;
+    log.push_str(path.as_str())?;
+    log.push_str(" ")?;
+    log.push_str(error.text.as_str())
+}
+
+/// Adds the instance path and the text of the error, or nothing.
+fn tell<M: MetaValidators>(
     alloc: Global,
     meta: &M,
     draft: Draft,
     schema: &Value,
-) -> Result<String, OutOfMemory> {
-    let mut log = String::new(alloc);
-    if let Some(error) = meta.check(alloc, draft, schema)? {
-        log.push_str(error.instance_path(alloc)?.as_str())?;
-        log.push_str(" ")?;
-        log.push_str(error.text.as_str())?;
+    log: &mut String,
+) -> Result<(), OutOfMemory> {
+    let refusal = meta.check(alloc, draft, schema)?;
+    match &refusal {
+        Some(error) => push_error(alloc, error, log),
+        None => Ok(()),
     }
-    Ok(log)
 }
 
-/// Whether this is told of each document in its draft, by their texts.
-fn all_tell(alloc: Global, rows: &[(Draft, &str, &str)]) -> Result<bool, serde_json::Error> {
-    let meta = BenchMeta {};
-    for (draft, schema, want) in rows {
-        let schema = Value::from_str(alloc, schema)?;
-        if told(alloc, &meta, *draft, &schema)?.as_str() != *want {
-            return Ok(false);
-        }
-    }
-    Ok(true)
+/// Whether this is told of a row's document in its draft.
+fn tells(alloc: Global, row: &Value) -> Result<bool, OutOfMemory> {
+    let mut log = String::new(alloc);
+    let draft = draft_named(text_at(row, 0));
+    tell(alloc, &BenchMeta {}, draft, column(row, 1), &mut log)?;
+    Ok(log.as_str() == text_at(row, 2))
+}
+
+/// The number of the first row that is wrong of a table of drafts, documents and errors.
+fn wrong(alloc: Global, table: &str) -> Result<Option<usize>, serde_json::Error> {
+    wrong_row(alloc, table, |row| tells(alloc, row))
 }
 
 #[test]
 fn refusals(rt: HostRuntime) -> Result<(), serde_json::Error> {
-    let late = Draft::Draft202012;
-    let rows = [
-        (late, "true", ""),
-        (late, "{}", ""),
-        (late, "[1]", r#" [1] is not of types "boolean", "object""#),
-        (
-            Draft::Draft201909,
-            "7",
-            r#" 7 is not of types "boolean", "object""#,
-        ),
-        (
-            late,
-            r#"{"$defs": {"a": {"minLength": "no"}}}"#,
-            r#"/$defs/a/minLength "no" is not of type "number""#,
-        ),
-        (
-            late,
-            r#"{"$defs": {"a": {"items": [true]}}}"#,
-            r#"/$defs/a/items [true] is not of types "boolean", "object""#,
-        ),
-    ];
-    assert!(rt; all_tell(rt.alloc(), &rows)?);
+    assert_eq!(rt; wrong(rt.alloc(), REFUSALS)?, None);
     Ok(())
 }
 
+const REFUSALS: &str = r##"[
+["2020-12", true, ""],
+["2020-12", {}, ""],
+["2020-12", [1], " [1] is not of types \"boolean\", \"object\""],
+["2019-09", 7, " 7 is not of types \"boolean\", \"object\""],
+["2020-12", {"$defs": {"a": {"minLength": "no"}}}, "/$defs/a/minLength \"no\" is not of type \"number\""],
+["2020-12", {"$defs": {"a": {"items": [true]}}}, "/$defs/a/items [true] is not of types \"boolean\", \"object\""]
+]"##;
+
 #[test]
 fn order_and_drafts(rt: HostRuntime) -> Result<(), serde_json::Error> {
-    let schema = r#"{"b": [3, {"minLength": null}], "a": {"items": [1]}}"#;
-    let rows = [
-        (
-            Draft::Unknown,
-            schema,
-            r#"/a/items [1] is not of types "boolean", "object""#,
-        ),
-        (
-            Draft::Draft7,
-            schema,
-            r#"/b/1/minLength null is not of type "number""#,
-        ),
-        (
-            Draft::Draft4,
-            r#"{"minLength": {"minLength": true}}"#,
-            r#"/minLength {"minLength":true} is not of type "number""#,
-        ),
-    ];
-    assert!(rt; all_tell(rt.alloc(), &rows)?);
+    assert_eq!(rt; wrong(rt.alloc(), ORDER_AND_DRAFTS)?, None);
     Ok(())
 }
+
+const ORDER_AND_DRAFTS: &str = r##"[
+["unknown", {"b": [3, {"minLength": null}], "a": {"items": [1]}},
+ "/a/items [1] is not of types \"boolean\", \"object\""],
+["7", {"b": [3, {"minLength": null}], "a": {"items": [1]}}, "/b/1/minLength null is not of type \"number\""],
+["4", {"minLength": {"minLength": true}}, "/minLength {\"minLength\":true} is not of type \"number\""]
+]"##;
