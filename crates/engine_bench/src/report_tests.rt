@@ -1,7 +1,7 @@
 //! Worked values from outside, and each public call once.
 use schema_reports::instance::{Instance, InstanceStep, Place, same_step};
 use schema_reports::location::{Location, LocationSegment, OutOfMemory};
-use schema_reports::reports::{ErrorIterator, ValidationError};
+use schema_reports::reports::{ErrorIterator, OwnedError, ValidationError};
 use serde_json::Value;
 use std::alloc::Global;
 
@@ -31,18 +31,42 @@ fn pointers(rt: HostRuntime) -> Result<(), OutOfMemory> {
     Ok(())
 }
 
+/// The place of the item 3 in the member `a/b` of a root.
+fn item_of_member(root: &Place<'static>) -> Result<Place<'static>, OutOfMemory> {
+    let member = root.below(InstanceStep::Member("a/b"))?;
+    member.below(InstanceStep::Item(3))
+}
+
+/// Whether a place has this pointer.
+fn points(alloc: Global, place: &Place<'_>, want: &str) -> Result<bool, OutOfMemory> {
+    Ok(place.pointer(alloc)?.as_str() == want)
+}
+
+/// Whether the copy of a place is the same.
+fn is_its_copy(place: &Place<'_>) -> Result<bool, OutOfMemory> {
+    let copied = place.copy()?;
+    Ok(place.same(&copied))
+}
+
 #[test]
 fn places(rt: HostRuntime) -> Result<(), OutOfMemory> {
     let alloc = rt.alloc();
     let root = Place::root(alloc);
-    let member = root.below(InstanceStep::Member("a/b"))?;
-    let item = member.below(InstanceStep::Item(3))?;
+    let root_points = points(alloc, &root, "");
+    let item = item_of_member(&root);
+    drop(root);
+    assert!(rt; root_points?);
+    let item = item?;
     let name = item.below(InstanceStep::NameOf("c"))?;
-    assert_eq!(rt; root.pointer(alloc)?.as_str(), "");
-    assert_eq!(rt; item.pointer(alloc)?.as_str(), "/a~1b/3");
-    assert_eq!(rt; name.pointer(alloc)?.as_str(), "/a~1b/3");
-    assert!(rt; item.same(&item.copy()?));
+    let item_points = points(alloc, &item, "/a~1b/3");
+    let name_points = points(alloc, &name, "/a~1b/3");
+    let copied = is_its_copy(&item);
     assert!(rt; !item.same(&name));
+    drop(name);
+    drop(item);
+    assert!(rt; item_points?);
+    assert!(rt; name_points?);
+    assert!(rt; copied?);
     assert!(rt; !same_step(InstanceStep::Member("c"), InstanceStep::NameOf("c")));
     Ok(())
 }
@@ -79,11 +103,15 @@ fn steps_down(rt: HostRuntime) -> Result<(), serde_json::Error> {
     let alloc = rt.alloc();
     let value = Value::from_str(alloc, r#"{"list":[10,true],"other":"é"}"#)?;
     let root = Instance::Value(&value);
-    assert!(rt; leads_to(alloc, root.member("list"), "[10,true]")?);
-    assert!(rt; leads_to(alloc, root.item(0), "")?);
+    let member = leads_to(alloc, root.member("list"), "[10,true]");
+    let item = leads_to(alloc, root.item(0), "");
     let list = below(root, root.member("list"));
-    assert!(rt; leads_to(alloc, list.item(1), "true")?);
+    let item_of_list = leads_to(alloc, list.item(1), "true");
     assert!(rt; list.item(2).is_none() && list.member("list").is_none());
+    drop(value);
+    assert!(rt; member?);
+    assert!(rt; item?);
+    assert!(rt; item_of_list?);
     Ok(())
 }
 
@@ -92,10 +120,13 @@ fn steps_to_names(rt: HostRuntime) -> Result<(), serde_json::Error> {
     let alloc = rt.alloc();
     let value = Value::from_str(alloc, r#"{"other":"é"}"#)?;
     let root = Instance::Value(&value);
-    assert!(rt; leads_to(alloc, root.name_of("other"), "\"other\"")?);
-    assert!(rt; is_value(alloc, root.name_of("other"), "\"other\"")?);
+    let text = leads_to(alloc, root.name_of("other"), "\"other\"");
+    let as_value = is_value(alloc, root.name_of("other"), "\"other\"");
     let name = below(root, root.name_of("other"));
     assert!(rt; name.name_of("other").is_none() && root.name_of("none").is_none());
+    drop(value);
+    assert!(rt; text?);
+    assert!(rt; as_value?);
     Ok(())
 }
 
@@ -120,26 +151,41 @@ fn errors(rt: HostRuntime) -> Result<(), serde_json::Error> {
     let alloc = rt.alloc();
     let value = Value::from_str(alloc, r#"{"a":[1,null]}"#)?;
     let error = refusal(alloc, &value)?;
-    let text = error.to_string(alloc)?;
-    let path = error.instance_path(alloc)?;
+    let text = error.to_string(alloc);
+    let path = error.instance_path(alloc);
+    assert_eq!(rt; error.keyword(), "falseSchema");
+    drop(error);
+    drop(value);
+    let path = path?;
+    assert_eq!(rt; path.as_str(), "/a");
+    let text = text?;
     assert_eq!(rt;
         text.as_str(),
         "False schema does not allow {\"a\":[1,null]}"
     );
-    assert_eq!(rt; error.keyword(), "falseSchema");
-    assert_eq!(rt; path.as_str(), "/a");
     Ok(())
+}
+
+/// The refusal, owned, as seen from the location `/outer`.
+fn refusal_from_above(alloc: Global, value: &Value) -> Result<OwnedError, OutOfMemory> {
+    let outer = Location::from_escaped(alloc, "/outer")?;
+    let error = refusal(alloc, value)?;
+    let owned = error.to_owned(alloc);
+    drop(error);
+    owned?.with_instance_path_prefix(&outer)
 }
 
 #[test]
 fn owned_errors(rt: HostRuntime) -> Result<(), serde_json::Error> {
     let alloc = rt.alloc();
     let value = Value::from_str(alloc, "[]")?;
-    let outer = Location::from_escaped(alloc, "/outer")?;
-    let owned = refusal(alloc, &value)?.to_owned(alloc)?;
-    let owned = owned.with_instance_path_prefix(&outer)?;
-    let text = owned.to_string(alloc)?;
+    let owned = refusal_from_above(alloc, &value);
+    drop(value);
+    let owned = owned?;
+    let text = owned.to_string(alloc);
     assert_eq!(rt; owned.instance_path.as_str(), "/outer/a");
+    drop(owned);
+    let text = text?;
     assert_eq!(rt; text.as_str(), "False schema does not allow []");
     Ok(())
 }
