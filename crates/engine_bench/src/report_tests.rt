@@ -5,11 +5,44 @@ use schema_reports::reports::{ErrorIterator, OwnedError, ValidationError};
 use serde_json::Value;
 use std::alloc::Global;
 
+/// Whether the member of the root with a row's name has the row's pointer.
+fn row_points(alloc: Global, row: &(&str, &str)) -> Result<bool, OutOfMemory> {
+    let root = Location::new(alloc);
+    let location = root.join(LocationSegment::Property(row.0));
+    drop(root);
+    Ok(location?.as_str() == row.1)
+}
+
+/// Whether each name has the pointer that it is said to have.
+fn all_point(alloc: Global, rows: &[(&str, &str)]) -> Result<bool, OutOfMemory> {
+    for row in rows {
+        if !row_points(alloc, row)? {
+            return Ok(false);
+        }
+    }
+    Ok(true)
+}
+
+/// Whether the item of this number has this pointer.
+fn item_points(items: &Location, number: usize, want: &str) -> Result<bool, OutOfMemory> {
+    let item = items.join(LocationSegment::Index(number))?;
+    Ok(item.as_str() == want)
+}
+
+/// Whether the location of an item, copied, with that of the items after it, is this pointer.
+fn item_with_items_points(items: &Location, want: &str) -> Result<bool, OutOfMemory> {
+    let deep = items.join(LocationSegment::Index(120))?;
+    let copied = deep.copy();
+    drop(deep);
+    let appended = copied?.append(items)?;
+    Ok(appended.as_str() == want)
+}
+
 // Sections 3 to 5 of RFC 6901.
 #[test]
 fn pointers(rt: HostRuntime) -> Result<(), OutOfMemory> {
     let alloc = rt.alloc();
-    for (name, want) in [
+    let rows = [
         ("foo", "/foo"),
         ("", "/"),
         ("a/b", "/a~1b"),
@@ -19,15 +52,16 @@ fn pointers(rt: HostRuntime) -> Result<(), OutOfMemory> {
         ("c%d", "/c%d"),
         (" ", "/ "),
         ("é/ü", "/é~1ü"),
-    ] {
-        let location = Location::new(alloc).join(LocationSegment::Property(name))?;
-        assert_eq!(rt; location.as_str(), want);
-    }
+    ];
+    assert!(rt; all_point(alloc, &rows)?);
     let items = Location::from_escaped(alloc, "/items")?;
-    assert_eq!(rt; items.join(LocationSegment::Index(0))?.as_str(), "/items/0");
-    let deep = items.join(LocationSegment::Index(120))?;
-    assert_eq!(rt; deep.as_str(), "/items/120");
-    assert_eq!(rt; deep.copy()?.append(&items)?.as_str(), "/items/120/items");
+    let first = item_points(&items, 0, "/items/0");
+    let deep = item_points(&items, 120, "/items/120");
+    let with_items = item_with_items_points(&items, "/items/120/items");
+    drop(items);
+    assert!(rt; first?);
+    assert!(rt; deep?);
+    assert!(rt; with_items?);
     Ok(())
 }
 
@@ -48,6 +82,15 @@ fn is_its_copy(place: &Place<'_>) -> Result<bool, OutOfMemory> {
     Ok(place.same(&copied))
 }
 
+/// Whether a member's name has this pointer, and is not the same place as the object.
+fn has_name_apart(alloc: Global, object: &Place<'static>, want: &str) -> Result<bool, OutOfMemory> {
+    let name = object.below(InstanceStep::NameOf("c"))?;
+    let is_same = object.same(&name);
+    let has_pointer = points(alloc, &name, want);
+    drop(name);
+    Ok(has_pointer? && !is_same)
+}
+
 #[test]
 fn places(rt: HostRuntime) -> Result<(), OutOfMemory> {
     let alloc = rt.alloc();
@@ -55,18 +98,15 @@ fn places(rt: HostRuntime) -> Result<(), OutOfMemory> {
     let root_points = points(alloc, &root, "");
     let item = item_of_member(&root);
     drop(root);
-    assert!(rt; root_points?);
     let item = item?;
-    let name = item.below(InstanceStep::NameOf("c"))?;
-    let item_points = points(alloc, &item, "/a~1b/3");
-    let name_points = points(alloc, &name, "/a~1b/3");
-    let copied = is_its_copy(&item);
-    assert!(rt; !item.same(&name));
-    drop(name);
+    let is_item = points(alloc, &item, "/a~1b/3");
+    let is_copy = is_its_copy(&item);
+    let has_name = has_name_apart(alloc, &item, "/a~1b/3");
     drop(item);
-    assert!(rt; item_points?);
-    assert!(rt; name_points?);
-    assert!(rt; copied?);
+    assert!(rt; root_points?);
+    assert!(rt; is_item?);
+    assert!(rt; is_copy?);
+    assert!(rt; has_name?);
     assert!(rt; !same_step(InstanceStep::Member("c"), InstanceStep::NameOf("c")));
     Ok(())
 }
@@ -98,35 +138,54 @@ fn below<'i>(start: Instance<'i>, found: Below<'i>) -> Instance<'i> {
     }
 }
 
+/// Whether the root leads to its list, and to no item.
+fn root_leads(alloc: Global, root: Instance<'_>) -> Result<bool, OutOfMemory> {
+    let list = leads_to(alloc, root.member("list"), "[10,true]")?;
+    let item = leads_to(alloc, root.item(0), "")?;
+    Ok(list && item)
+}
+
+/// Whether the root's list leads to its second item, and neither to a third one nor to a member.
+fn list_leads(alloc: Global, root: Instance<'_>) -> Result<bool, OutOfMemory> {
+    let list = below(root, root.member("list"));
+    let item = leads_to(alloc, list.item(1), "true")?;
+    Ok(item && list.item(2).is_none() && list.member("list").is_none())
+}
+
 #[test]
 fn steps_down(rt: HostRuntime) -> Result<(), serde_json::Error> {
     let alloc = rt.alloc();
     let value = Value::from_str(alloc, r#"{"list":[10,true],"other":"é"}"#)?;
-    let root = Instance::Value(&value);
-    let member = leads_to(alloc, root.member("list"), "[10,true]");
-    let item = leads_to(alloc, root.item(0), "");
-    let list = below(root, root.member("list"));
-    let item_of_list = leads_to(alloc, list.item(1), "true");
-    assert!(rt; list.item(2).is_none() && list.member("list").is_none());
+    let root = root_leads(alloc, Instance::Value(&value));
+    let list = list_leads(alloc, Instance::Value(&value));
     drop(value);
-    assert!(rt; member?);
-    assert!(rt; item?);
-    assert!(rt; item_of_list?);
+    assert!(rt; root?);
+    assert!(rt; list?);
     Ok(())
+}
+
+/// Whether the name of the root's member `other` is its text, and the same as a value.
+fn name_is_text(alloc: Global, root: Instance<'_>) -> Result<bool, OutOfMemory> {
+    let text = leads_to(alloc, root.name_of("other"), "\"other\"")?;
+    let value = is_value(alloc, root.name_of("other"), "\"other\"")?;
+    Ok(text && value)
+}
+
+/// Whether the root has no name `none`, and the name `other` has no name in it.
+fn leads_to_one_name(root: Instance<'_>) -> bool {
+    let name = below(root, root.name_of("other"));
+    name.name_of("other").is_none() && root.name_of("none").is_none()
 }
 
 #[test]
 fn steps_to_names(rt: HostRuntime) -> Result<(), serde_json::Error> {
     let alloc = rt.alloc();
     let value = Value::from_str(alloc, r#"{"other":"é"}"#)?;
-    let root = Instance::Value(&value);
-    let text = leads_to(alloc, root.name_of("other"), "\"other\"");
-    let as_value = is_value(alloc, root.name_of("other"), "\"other\"");
-    let name = below(root, root.name_of("other"));
-    assert!(rt; name.name_of("other").is_none() && root.name_of("none").is_none());
+    let name = name_is_text(alloc, Instance::Value(&value));
+    let none = leads_to_one_name(Instance::Value(&value));
     drop(value);
-    assert!(rt; text?);
-    assert!(rt; as_value?);
+    assert!(rt; name?);
+    assert!(rt; none);
     Ok(())
 }
 
@@ -146,23 +205,45 @@ fn refusal<'i>(alloc: Global, value: &'i Value) -> Result<ValidationError<'i>, O
     )
 }
 
+/// Whether an error's instance path is this pointer.
+fn leads_to_place(
+    alloc: Global,
+    error: &ValidationError<'_>,
+    want: &str,
+) -> Result<bool, OutOfMemory> {
+    Ok(error.instance_path(alloc)?.as_str() == want)
+}
+
+/// Whether an error has this text.
+fn says(alloc: Global, error: &ValidationError<'_>, want: &str) -> Result<bool, OutOfMemory> {
+    let text = error.to_string(alloc)?;
+    Ok(text.as_str() == want)
+}
+
+/// Whether the refusal has these three: its text, its keyword and its instance path.
+fn refusal_shows(
+    alloc: Global,
+    value: &Value,
+    text: &str,
+    keyword: &str,
+    path: &str,
+) -> Result<bool, OutOfMemory> {
+    let error = refusal(alloc, value)?;
+    let has_text = says(alloc, &error, text);
+    let has_path = leads_to_place(alloc, &error, path);
+    let has_keyword = error.keyword() == keyword;
+    drop(error);
+    Ok(has_text? && has_path? && has_keyword)
+}
+
 #[test]
 fn errors(rt: HostRuntime) -> Result<(), serde_json::Error> {
     let alloc = rt.alloc();
     let value = Value::from_str(alloc, r#"{"a":[1,null]}"#)?;
-    let error = refusal(alloc, &value)?;
-    let text = error.to_string(alloc);
-    let path = error.instance_path(alloc);
-    assert_eq!(rt; error.keyword(), "falseSchema");
-    drop(error);
+    let text = "False schema does not allow {\"a\":[1,null]}";
+    let shows = refusal_shows(alloc, &value, text, "falseSchema", "/a");
     drop(value);
-    let path = path?;
-    assert_eq!(rt; path.as_str(), "/a");
-    let text = text?;
-    assert_eq!(rt;
-        text.as_str(),
-        "False schema does not allow {\"a\":[1,null]}"
-    );
+    assert!(rt; shows?);
     Ok(())
 }
 

@@ -239,9 +239,10 @@ fn unknown_drafts_are_refused_at_the_root(rt: HostRuntime) -> Result<(), serde_j
     let plain = Value::from_str(alloc, "{}")?;
     let resolver = BenchResolver::new(alloc, &plain, VocabularySet::new(alloc))?;
     let unknown = refuses(alloc, &resolver, r#"{"$schema": "http://x/meta"}"#);
-    assert!(rt; takes_the_latest(alloc, &resolver, &plain));
+    let latest = takes_the_latest(alloc, &resolver, &plain);
     drop(resolver);
     drop(plain);
+    assert!(rt; latest);
     assert!(rt; unknown?);
     Ok(())
 }
@@ -267,6 +268,17 @@ fn has<R: Resolver>(
     Ok(has == want)
 }
 
+/// Whether each of three drafts has its vocabularies.
+fn each_draft_has<R: Resolver>(alloc: Global, resolver: &R) -> Result<bool, OutOfMemory> {
+    let older = [false, false, false, true];
+    let early = [true, false, false, true];
+    let late = [true, true, true, true];
+    let in_older = has(alloc, resolver, Draft::Draft7, older)?;
+    let in_early = has(alloc, resolver, Draft::Draft201909, early)?;
+    let in_late = has(alloc, resolver, Draft::Draft202012, late)?;
+    Ok(in_older && in_early && in_late)
+}
+
 #[test]
 fn vocabularies_by_draft(rt: HostRuntime) -> Result<(), serde_json::Error> {
     let alloc = rt.alloc();
@@ -274,17 +286,10 @@ fn vocabularies_by_draft(rt: HostRuntime) -> Result<(), serde_json::Error> {
     let custom = Vocabulary::Custom(String::from_str(alloc, "http://v/x")?);
     let required = VocabularySet::new(alloc).with(custom)?;
     let resolver = BenchResolver::new(alloc, &document, required)?;
-    let older = [false, false, false, true];
-    let early = [true, false, false, true];
-    let late = [true, true, true, true];
-    let in_draft_7 = has(alloc, &resolver, Draft::Draft7, older);
-    let in_draft_2019_09 = has(alloc, &resolver, Draft::Draft201909, early);
-    let in_draft_2020_12 = has(alloc, &resolver, Draft::Draft202012, late);
+    let each_has = each_draft_has(alloc, &resolver);
     drop(resolver);
     drop(document);
-    assert!(rt; in_draft_7?);
-    assert!(rt; in_draft_2019_09?);
-    assert!(rt; in_draft_2020_12?);
+    assert!(rt; each_has?);
     Ok(())
 }
 
@@ -337,10 +342,17 @@ fn words_of_a_draft(rt: HostRuntime) -> Result<(), serde_json::Error> {
         r##"{"$schema": "http://json-schema.org/draft-07/schema#", "id": "a", "$id": "#b"}"##;
     let document = Value::from_str(alloc, text)?;
     let resolver = BenchResolver::new(alloc, &document, VocabularySet::new(alloc))?;
-    assert!(rt; detects_draft_7(&resolver, &document));
-    assert!(rt; identifies_in_draft_4_alone(&resolver, &document));
-    assert!(rt; resolver.is_known_keyword(Draft::Draft7, "then"));
-    assert!(rt; !resolver.is_known_keyword(Draft::Draft7, "x-then"));
-    assert!(rt; resolver.contains_resource("json-schema:///#"));
+    let detects = detects_draft_7(&resolver, &document);
+    let identifies = identifies_in_draft_4_alone(&resolver, &document);
+    let knows_then = resolver.is_known_keyword(Draft::Draft7, "then");
+    let knows_another = resolver.is_known_keyword(Draft::Draft7, "x-then");
+    let contains_itself = resolver.contains_resource("json-schema:///#");
+    drop(resolver);
+    drop(document);
+    assert!(rt; detects);
+    assert!(rt; identifies);
+    assert!(rt; knows_then);
+    assert!(rt; !knows_another);
+    assert!(rt; contains_itself);
     Ok(())
 }
