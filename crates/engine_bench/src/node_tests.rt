@@ -1,4 +1,6 @@
 //! Each public call that needs no keyword type once, with values of the standard.
+ghost use Rattle.std.specs.Prelude.{◌≡◌, []};
+
 use schema_node::context::schema_place::{SchemaPath, SchemaPlace, SchemaStep};
 use schema_node::context::validation::ValidationContext;
 use schema_node::node::{NodeForm, Nodes, SchemaNode};
@@ -24,16 +26,44 @@ fn cut_at(alloc: Global, path: &SchemaPath, count: usize) -> Result<String, OutO
     Ok(text)
 }
 
+/// Whether a path cut after so many steps gives these pointers.
+fn is_cut(alloc: Global, path: &SchemaPath, count: usize, want: &str) -> Result<bool, OutOfMemory> {
+    let text = cut_at(alloc, path, count)?;
+    Ok(text.as_str() == want)
+}
+
+/// Whether the root's path cut before all steps gives two empty pointers.
+fn root_is_cut(alloc: Global) -> Result<bool, OutOfMemory> {
+    let root = SchemaPath::root(alloc);
+    is_cut(alloc, &root, 0, " ")
+}
+
 #[test]
 fn parts_of_paths(rt: HostRuntime) -> Result<(), OutOfMemory> {
     let alloc = rt.alloc();
     let path = a_path(alloc)?;
-    assert_eq!(rt; path.len(), 3);
-    assert_eq!(rt; path.steps().len(), 3);
-    assert_eq!(rt; cut_at(alloc, &path, 1)?.as_str(), "/$defs /a~1b/2");
-    assert_eq!(rt; cut_at(alloc, &path, 9)?.as_str(), "/$defs/a~1b/2 ");
-    assert_eq!(rt; cut_at(alloc, &SchemaPath::root(alloc), 0)?.as_str(), " ");
+    let length = path.len();
+    let count = path.steps().len();
+    let at_one = is_cut(alloc, &path, 1, "/$defs /a~1b/2");
+    let past_end = is_cut(alloc, &path, 9, "/$defs/a~1b/2 ");
+    drop(path);
+    assert_eq!(rt; length, 3);
+    assert_eq!(rt; count, 3);
+    assert!(rt; at_one?);
+    assert!(rt; past_end?);
+    assert!(rt; root_is_cut(alloc)?);
     Ok(())
+}
+
+/// Whether a path begins another, is not begun by it, and is not the same.
+fn is_shorter(path: &SchemaPath, longer: &SchemaPath) -> bool {
+    path.is_prefix_of(longer) && !longer.is_prefix_of(path) && !path.same(longer)
+}
+
+/// Whether the copy of a path is the same.
+fn is_its_copied_path(alloc: Global, path: &SchemaPath) -> Result<bool, OutOfMemory> {
+    let copied = path.copy(alloc)?;
+    Ok(path.same(&copied))
 }
 
 #[test]
@@ -41,12 +71,14 @@ fn longer_paths(rt: HostRuntime) -> Result<(), OutOfMemory> {
     let alloc = rt.alloc();
     let path = a_path(alloc)?;
     let twice = path.append(alloc, &path)?;
-    assert_eq!(rt;
-        cut_at(alloc, &twice, 0)?.as_str(),
-        " /$defs/a~1b/2/$defs/a~1b/2"
-    );
-    assert!(rt; path.is_prefix_of(&twice) && !twice.is_prefix_of(&path));
-    assert!(rt; path.same(&path.copy(alloc)?) && !path.same(&twice));
+    let is_twice = is_cut(alloc, &twice, 0, " /$defs/a~1b/2/$defs/a~1b/2");
+    let is_shorter = is_shorter(&path, &twice);
+    let is_copy = is_its_copied_path(alloc, &path);
+    drop(twice);
+    drop(path);
+    assert!(rt; is_twice?);
+    assert!(rt; is_shorter);
+    assert!(rt; is_copy?);
     Ok(())
 }
 
@@ -56,6 +88,24 @@ fn a_place(alloc: Global, document: usize) -> Result<SchemaPlace, OutOfMemory> {
     Ok(SchemaPlace { document, path })
 }
 
+/// The place of that path below a place.
+fn below_by_path(alloc: Global, root: &SchemaPlace) -> Result<SchemaPlace, OutOfMemory> {
+    let path = a_path(alloc)?;
+    root.below(alloc, &path)
+}
+
+/// Whether a place is that of the path in a document.
+fn stands_in(alloc: Global, place: &SchemaPlace, document: usize) -> Result<bool, OutOfMemory> {
+    let other = a_place(alloc, document)?;
+    Ok(place.same(&other))
+}
+
+/// Whether the copy of a place is the same.
+fn is_its_copy(alloc: Global, place: &SchemaPlace) -> Result<bool, OutOfMemory> {
+    let copied = place.copy(alloc)?;
+    Ok(place.same(&copied))
+}
+
 #[test]
 fn schema_places(rt: HostRuntime) -> Result<(), OutOfMemory> {
     let alloc = rt.alloc();
@@ -63,10 +113,16 @@ fn schema_places(rt: HostRuntime) -> Result<(), OutOfMemory> {
         document: 1,
         path: SchemaPath::root(alloc),
     };
-    let below = root.below(alloc, &a_path(alloc)?)?;
-    assert!(rt; below.same(&a_place(alloc, 1)?) && !below.same(&root));
-    assert!(rt; below.same(&below.copy(alloc)?));
-    assert!(rt; !below.same(&a_place(alloc, 2)?));
+    let below = below_by_path(alloc, &root)?;
+    let is_root = below.same(&root);
+    drop(root);
+    let in_document = stands_in(alloc, &below, 1);
+    let is_copy = is_its_copy(alloc, &below);
+    let in_another = stands_in(alloc, &below, 2);
+    drop(below);
+    assert!(rt; in_document? && !is_root);
+    assert!(rt; is_copy?);
+    assert!(rt; !in_another?);
     Ok(())
 }
 
@@ -74,35 +130,71 @@ fn schema_places(rt: HostRuntime) -> Result<(), OutOfMemory> {
 #[test]
 fn pairs_in_progress(rt: HostRuntime) -> Result<(), OutOfMemory> {
     let alloc = rt.alloc();
-    let mut context = ValidationContext::new(alloc);
     let root = Place::root(alloc);
     let member = root.below(InstanceStep::Member("a"))?;
-    assert!(rt; !context.enter(SchemaNode(0), &root)?);
-    assert!(rt; !context.enter(SchemaNode(0), &member)?);
-    assert!(rt; !context.enter(SchemaNode(1), &member)?);
-    assert!(rt; context.enter(SchemaNode(0), &root)?);
-    assert!(rt; context.enter(SchemaNode(0), &member)?);
+    let mut context = ValidationContext::new(alloc);
+    let root_first = context.enter(SchemaNode(0), &root);
+    let member_first = context.enter(SchemaNode(0), &member);
+    let other_first = context.enter(SchemaNode(1), &member);
+    let root_again = context.enter(SchemaNode(0), &root);
+    let member_again = context.enter(SchemaNode(0), &member);
+    drop(context);
+    drop(member);
+    drop(root);
+    assert!(rt; !root_first?);
+    assert!(rt; !member_first?);
+    assert!(rt; !other_first?);
+    assert!(rt; root_again?);
+    assert!(rt; member_again?);
     Ok(())
+}
+
+/// A copy of the root's location.
+fn copied_root(alloc: Global) -> Result<Location, OutOfMemory> {
+    let here = Location::new(alloc);
+    here.copy()
+}
+
+/// The location of the member `a` of the root.
+fn member_of_root(alloc: Global) -> Result<Location, OutOfMemory> {
+    let here = Location::new(alloc);
+    here.join(LocationSegment::Property("a"))
+}
+
+/// Whether two nodes show, at each step from none to both filled, what they are.
+fn nodes_show(
+    nodes: &mut Nodes<usize>,
+    here: Location,
+    below: Location,
+) -> Result<bool, OutOfMemory>
+    requires empty { nodes.old ≡ [] }
+{
+    let root = nodes.reserve(here, None, 0)?;
+    let never = nodes.reserve(below, None, 0)?;
+    let reserved = nodes.len() == 2 && !nodes.is_filled(root);
+    let without = nodes.validators(root).len() == 0;
+    nodes.fill(never, NodeForm::Never, None);
+    let filled = nodes.is_filled(never);
+    let one = nodes.validators(never).len() == 1;
+    let none_single = nodes.single_validator(never).is_none();
+    nodes.fill(root, NodeForm::Always, None);
+    let both_filled = nodes.is_filled(root);
+    let root_without = nodes.validators(root).len() == 0;
+    let root_single = nodes.single_validator(root).is_none();
+    let located = nodes.location(never).as_str() == "/a";
+    let of_never = filled && one && none_single;
+    let of_root = both_filled && root_without && root_single;
+    Ok(reserved && without && of_never && of_root && located)
 }
 
 #[test]
 fn validators_of_nodes(rt: HostRuntime) -> Result<(), OutOfMemory> {
     let alloc = rt.alloc();
+    let here = copied_root(alloc)?;
+    let below = member_of_root(alloc)?;
     let mut nodes: Nodes<usize> = Nodes::new(alloc);
-    let here = Location::new(alloc);
-    let root = nodes.reserve(here.copy()?, None, 0)?;
-    let never = nodes.reserve(here.join(LocationSegment::Property("a"))?, None, 0)?;
-    assert_eq!(rt; nodes.len(), 2);
-    assert!(rt; !nodes.is_filled(root));
-    assert_eq!(rt; nodes.validators(root).len(), 0);
-    nodes.fill(never, NodeForm::Never, None);
-    assert!(rt; nodes.is_filled(never));
-    assert_eq!(rt; nodes.validators(never).len(), 1);
-    assert!(rt; nodes.single_validator(never).is_none());
-    nodes.fill(root, NodeForm::Always, None);
-    assert!(rt; nodes.is_filled(root));
-    assert_eq!(rt; nodes.validators(root).len(), 0);
-    assert!(rt; nodes.single_validator(root).is_none());
-    assert_eq!(rt; nodes.location(never).as_str(), "/a");
+    let show = nodes_show(&mut nodes, here, below);
+    drop(nodes);
+    assert!(rt; show?);
     Ok(())
 }

@@ -1,6 +1,7 @@
 //! Where references lead, by the example of section 6 of RFC 6901, with drafts and vocabularies, through the trait's bound.
 use crate::resolver::BenchResolver;
 use schema_node::context::resolver::{LookupError, Resolver, Target};
+use schema_node::context::schema_place::SchemaPlace;
 use schema_reports::keywords::{Draft, Vocabulary, VocabularySet};
 use schema_reports::location::OutOfMemory;
 use serde_json::Value;
@@ -18,23 +19,50 @@ fn name_of(draft: Draft) -> &'static str {
     }
 }
 
+/// Four words as one text, with spaces between.
+fn joined(
+    alloc: Global,
+    pointer: &str,
+    value: &str,
+    base: &str,
+    draft: &str,
+) -> Result<String, OutOfMemory> {
+    let mut text = String::from_str(alloc, pointer)?;
+    push_word(&mut text, value)?;
+    push_word(&mut text, base)?;
+    push_word(&mut text, draft)?;
+    Ok(text)
+}
+
+/// Puts a space and a word after a text.
+fn push_word(text: &mut String, word: &str) -> Result<(), OutOfMemory> {
+    text.push_str(" ")?;
+    text.push_str(word)
+}
+
+/// The text of the value at a place, empty where there is none.
+fn value_text<R: Resolver>(
+    alloc: Global,
+    resolver: &R,
+    place: &SchemaPlace,
+) -> Result<String, OutOfMemory> {
+    match resolver.value(place) {
+        Some(value) => value.to_string(alloc),
+        None => Ok(String::new(alloc)),
+    }
+}
+
 /// The pointer, the value, the base URI and the draft of a target.
 fn shown<R: Resolver>(
     alloc: Global,
     resolver: &R,
     target: &Target<R::State>,
 ) -> Result<String, OutOfMemory> {
-    let mut text = String::new(alloc);
-    text.push_str(target.place.path.pointer(alloc)?.as_str())?;
-    text.push_str(" ")?;
-    if let Some(value) = resolver.value(&target.place) {
-        text.push_str(value.to_string(alloc)?.as_str())?;
-    }
-    text.push_str(" ")?;
-    text.push_str(resolver.base_uri(&target.state))?;
-    text.push_str(" ")?;
-    text.push_str(name_of(target.draft))?;
-    Ok(text)
+    let pointer = target.place.path.pointer(alloc)?;
+    let value = value_text(alloc, resolver, &target.place)?;
+    let base = resolver.base_uri(&target.state);
+    let draft = name_of(target.draft);
+    joined(alloc, pointer.as_str(), value.as_str(), base, draft)
 }
 
 /// Where a reference leads from the root under a URI, or the text of the refusal.
@@ -54,6 +82,30 @@ fn leads<R: Resolver>(
     }
 }
 
+/// Whether a reference from the root leads where it is said, as a text.
+fn row_leads(
+    alloc: Global,
+    resolver: &BenchResolver<'_>,
+    row: &(&str, &str),
+) -> Result<bool, OutOfMemory> {
+    let found = leads(alloc, resolver, "json-schema:///", row.0)?;
+    Ok(found.as_str() == row.1)
+}
+
+/// Whether each reference from the root leads where it is said.
+fn rows_lead(
+    alloc: Global,
+    resolver: &BenchResolver<'_>,
+    rows: &[(&str, &str)],
+) -> Result<bool, OutOfMemory> {
+    for row in rows {
+        if !row_leads(alloc, resolver, row)? {
+            return Ok(false);
+        }
+    }
+    Ok(true)
+}
+
 /// Whether each reference from the root of a document leads where it is said, both as texts.
 fn all_lead(
     alloc: Global,
@@ -62,13 +114,10 @@ fn all_lead(
 ) -> Result<bool, serde_json::Error> {
     let document = Value::from_str(alloc, document)?;
     let resolver = BenchResolver::new(alloc, &document, VocabularySet::new(alloc))?;
-    for (reference, want) in rows {
-        let found = leads(alloc, &resolver, "json-schema:///", reference)?;
-        if found.as_str() != *want {
-            return Ok(false);
-        }
-    }
-    Ok(true)
+    let lead = rows_lead(alloc, &resolver, rows);
+    drop(resolver);
+    drop(document);
+    Ok(lead?)
 }
 
 #[test]
@@ -155,25 +204,46 @@ fn the_default_draft_is_given(rt: HostRuntime) -> Result<(), serde_json::Error> 
     let document = Value::from_str(alloc, r#"{"id": "http://x/r#", "not": {}}"#)?;
     let required = VocabularySet::new(alloc);
     let resolver = BenchResolver::with_draft(alloc, Draft::Draft4, &document, required)?;
+    let found = leads(alloc, &resolver, "http://x/r", "#/not");
+    let again = recurs(alloc, &resolver, "http://x/r#");
+    drop(resolver);
+    drop(document);
+    let found = found?;
+    assert_eq!(rt; found.as_str(), "/not {} http://x/r 4");
+    let again = again?;
     assert_eq!(rt;
-        leads(alloc, &resolver, "http://x/r", "#/not")?.as_str(),
-        "/not {} http://x/r 4"
-    );
-    assert_eq!(rt;
-        recurs(alloc, &resolver, "http://x/r#")?.as_str(),
+        again.as_str(),
         r#" {"id":"http://x/r#","not":{}} http://x/r 4"#
     );
     Ok(())
+}
+
+/// Whether a resolver refuses the draft of a document, which is given as a text.
+fn refuses(
+    alloc: Global,
+    resolver: &BenchResolver<'_>,
+    document: &str,
+) -> Result<bool, serde_json::Error> {
+    let document = Value::from_str(alloc, document)?;
+    Ok(resolver.draft_for(alloc, &document).is_err())
+}
+
+/// Whether a resolver takes a document as one of the draft 2020-12.
+fn takes_the_latest(alloc: Global, resolver: &BenchResolver<'_>, document: &Value) -> bool {
+    matches!(resolver.draft_for(alloc, document), Ok(Draft::Draft202012))
 }
 
 #[test]
 fn unknown_drafts_are_refused_at_the_root(rt: HostRuntime) -> Result<(), serde_json::Error> {
     let alloc = rt.alloc();
     let plain = Value::from_str(alloc, "{}")?;
-    let unknown = Value::from_str(alloc, r#"{"$schema": "http://x/meta"}"#)?;
     let resolver = BenchResolver::new(alloc, &plain, VocabularySet::new(alloc))?;
-    assert!(rt; resolver.draft_for(alloc, &unknown).is_err());
-    assert!(rt; matches!(resolver.draft_for(alloc, &plain), Ok(Draft::Draft202012)));
+    let unknown = refuses(alloc, &resolver, r#"{"$schema": "http://x/meta"}"#);
+    let latest = takes_the_latest(alloc, &resolver, &plain);
+    drop(resolver);
+    drop(plain);
+    assert!(rt; latest);
+    assert!(rt; unknown?);
     Ok(())
 }
 
@@ -198,6 +268,17 @@ fn has<R: Resolver>(
     Ok(has == want)
 }
 
+/// Whether each of three drafts has its vocabularies.
+fn each_draft_has<R: Resolver>(alloc: Global, resolver: &R) -> Result<bool, OutOfMemory> {
+    let older = [false, false, false, true];
+    let early = [true, false, false, true];
+    let late = [true, true, true, true];
+    let in_older = has(alloc, resolver, Draft::Draft7, older)?;
+    let in_early = has(alloc, resolver, Draft::Draft201909, early)?;
+    let in_late = has(alloc, resolver, Draft::Draft202012, late)?;
+    Ok(in_older && in_early && in_late)
+}
+
 #[test]
 fn vocabularies_by_draft(rt: HostRuntime) -> Result<(), serde_json::Error> {
     let alloc = rt.alloc();
@@ -205,12 +286,10 @@ fn vocabularies_by_draft(rt: HostRuntime) -> Result<(), serde_json::Error> {
     let custom = Vocabulary::Custom(String::from_str(alloc, "http://v/x")?);
     let required = VocabularySet::new(alloc).with(custom)?;
     let resolver = BenchResolver::new(alloc, &document, required)?;
-    let older = [false, false, false, true];
-    let early = [true, false, false, true];
-    let late = [true, true, true, true];
-    assert!(rt; has(alloc, &resolver, Draft::Draft7, older)?);
-    assert!(rt; has(alloc, &resolver, Draft::Draft201909, early)?);
-    assert!(rt; has(alloc, &resolver, Draft::Draft202012, late)?);
+    let each_has = each_draft_has(alloc, &resolver);
+    drop(resolver);
+    drop(document);
+    assert!(rt; each_has?);
     Ok(())
 }
 
@@ -236,11 +315,24 @@ fn the_root_is_found_by_its_identifier(rt: HostRuntime) -> Result<(), serde_json
         r#"{"$id": "http://x/r", "$defs": {"a": true, "b": 5}, "not": {}, "allOf": [{}, 1]}"#;
     let document = Value::from_str(alloc, text)?;
     let resolver = BenchResolver::new(alloc, &document, VocabularySet::new(alloc))?;
-    let found = subschemas_under(alloc, &resolver, "http://x/r#/a")?;
-    assert_eq!(rt; found, Some(3));
-    let other = subschemas_under(alloc, &resolver, "http://x/s")?;
-    assert_eq!(rt; other, None);
+    let found = subschemas_under(alloc, &resolver, "http://x/r#/a");
+    let other = subschemas_under(alloc, &resolver, "http://x/s");
+    drop(resolver);
+    drop(document);
+    assert_eq!(rt; found?, Some(3));
+    assert_eq!(rt; other?, None);
     Ok(())
+}
+
+/// Whether a resolver finds that a document is one of the draft 7.
+fn detects_draft_7(resolver: &BenchResolver<'_>, document: &Value) -> bool {
+    matches!(resolver.detect(Draft::Draft202012, document), Draft::Draft7)
+}
+
+/// Whether a resolver finds the identifier `a` of a document in the draft 4, and none in the draft 7.
+fn identifies_in_draft_4_alone(resolver: &BenchResolver<'_>, document: &Value) -> bool {
+    resolver.id(Draft::Draft7, document).is_none()
+        && resolver.id(Draft::Draft4, document) == Some("a")
 }
 
 #[test]
@@ -250,16 +342,17 @@ fn words_of_a_draft(rt: HostRuntime) -> Result<(), serde_json::Error> {
         r##"{"$schema": "http://json-schema.org/draft-07/schema#", "id": "a", "$id": "#b"}"##;
     let document = Value::from_str(alloc, text)?;
     let resolver = BenchResolver::new(alloc, &document, VocabularySet::new(alloc))?;
-    assert!(rt;
-        matches!(
-            resolver.detect(Draft::Draft202012, &document),
-            Draft::Draft7
-        )
-    );
-    assert!(rt; resolver.id(Draft::Draft7, &document).is_none());
-    assert_eq!(rt; resolver.id(Draft::Draft4, &document), Some("a"));
-    assert!(rt; resolver.is_known_keyword(Draft::Draft7, "then"));
-    assert!(rt; !resolver.is_known_keyword(Draft::Draft7, "x-then"));
-    assert!(rt; resolver.contains_resource("json-schema:///#"));
+    let detects = detects_draft_7(&resolver, &document);
+    let identifies = identifies_in_draft_4_alone(&resolver, &document);
+    let knows_then = resolver.is_known_keyword(Draft::Draft7, "then");
+    let knows_another = resolver.is_known_keyword(Draft::Draft7, "x-then");
+    let contains_itself = resolver.contains_resource("json-schema:///#");
+    drop(resolver);
+    drop(document);
+    assert!(rt; detects);
+    assert!(rt; identifies);
+    assert!(rt; knows_then);
+    assert!(rt; !knows_another);
+    assert!(rt; contains_itself);
     Ok(())
 }
