@@ -9,7 +9,6 @@ pub mod BorrowedFaults
 pub mod MissingNames
 pub mod Unescaping
 pub mod PathsNamed
-pub mod DraftsAlong
 pub mod OnWay
 pub mod Indexes
 pub mod PointerTexts

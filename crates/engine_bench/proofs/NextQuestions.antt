@@ -19,24 +19,10 @@ next_if-none : (b : Bool) → next_if b None ≡ None
 next_if-none true = refl
 next_if-none false = refl
 
--- the reply ends the questions
-pub ended_by_reply : (qs : List Question) (i : ℕ) (r : Reply) → goes_on r ≡ false → IsNext qs (Asked i) r None
-ended_by_reply qs i r h = record {
-  stage_is = λ m. ap (λ b. stage_at (i + 1) (next_if b (nth (i + 1) qs))) h;
-  step_is = λ m. ap (λ b. asked m (next_if b (nth (i + 1) qs))) h;
-}
-
 -- there are no more
 pub ended_at_limit : (qs : List Question) (i : ℕ) (r : Reply) → length qs ≤ i → IsNext qs (Asked i) r None
 ended_at_limit qs i r h = let none : next_if (goes_on r) (nth (i + 1) qs) ≡ None = ap (next_if (goes_on r)) (nth-past (i + 1) qs (omega arith)) ∙ next_if-none (goes_on r) in
     record { stage_is = λ m. ap (stage_at (i + 1)) none; step_is = λ m. ap (asked m) none }
-
--- there is one more
-pub goes_to_next : (qs : List Question) (i : ℕ) (r : Reply) → goes_on r ≡ true → IsNext qs (Asked i) r (Some (i + 1))
-goes_to_next qs i r h = record {
-  stage_is = λ m. ap (λ b. stage_at (i + 1) (next_if b (nth (i + 1) qs))) h;
-  step_is = λ m. ap (λ b. asked m (next_if b (nth (i + 1) qs))) h;
-}
 
 -- a turn that goes to the place
 pub turned : (qs : List Question) (run after : Progress) (a b : Answer) (r : Reply) (place : Option ℕ) → IsNext qs run.stage r place

@@ -98,14 +98,6 @@ in_a_list k s t (Some (number n)) = sym (and_false _)
 in_a_list k s t (Some (string x)) = sym (and_false _)
 in_a_list k s t (Some (object ms)) = sym (and_false _)
 
-pub at_a_value : (k : Text) (s : Step) (o : Option Data) → list_any (same_place (s ∷ [])) (below_value k o) ≡ (same_step s (to_member k) && holds_of is_schema o)
-at_a_value k s None = sym (and_false _)
-at_a_value k s (Some d) = go (is_schema d)
-  where
-    go : (c : Bool) → list_any (same_place (s ∷ [])) (place_if c (to_member k ∷ []) []) ≡ (same_step s (to_member k) && c)
-    go true = or_false _ ∙ refl
-    go false = sym (and_false _)
-
 -- ---- the member of a name, in an object whose names ascend
 
 no_more : (name : Text) (es : List Entry) → AllByRecursion (λ y. slice_cmp nat_cmp name (string_bytes y) ≡ Less) (keys_of es) → member_among (to_member name) (members_view es) ≡ false

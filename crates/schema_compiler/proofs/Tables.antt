@@ -8,7 +8,7 @@ use Rattle.schema_reports.specs.Parts.{Parts}
 use Rattle.schema_reports.specs.Units.{annotations_of}
 use Rattle.schema_reports.specs.Plan.{Key, Part, Plan, always, never, plan, these}
 use Rattle.schema_reports.specs.Guarded.{NodePart, NodePlan, form_edges, node_always, node_edges, node_never, node_these}
-use Rattle.schema_node.specs.NodeTable.{AreFilled, Fills, IsFilled, IsReserved, LeadsToFilled, NodeEntry, filled}
+use Rattle.schema_node.specs.NodeTable.{AreFilled, Fills, IsReserved, LeadsToFilled, NodeEntry, filled}
 use Rattle.schema_compiler.specs.Compiling.{Each}
 use Rattle.schema_compiler.specs.Refusing.{AreDistinct}
 use Rattle.schema_compiler.specs.Filling.{AreParts, Finishes, IsGrown, IsNode, IsPlan, IsPlanned, IsTable, shown_base}
@@ -106,9 +106,6 @@ module _ {S K R C : Type 0} (w : Parts S K R) (shape : C → K) (limit : ℕ) wh
         | inr ne ↦ t.stands j q m at' (sym (others j ne) ∙ here)
       ]);
     }
-
-    pub filled_now : IsFilled nodes' i
-    filled_now = (now, p, now_at, refl)
 
   -- ---- the edges of a plan lead to numbers that have their form
 

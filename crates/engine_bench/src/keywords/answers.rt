@@ -200,23 +200,16 @@ pub fn goes_on(reply: &Reply<'_>) -> bool
     }
 }
 
-/// Whether a reply says yes.
-fn is_yes(reply: &Reply<'_>) -> bool
-    ensures yes { (texts : Bool) → result ≡ says_yes (reply_of texts reply.now) }
-{
-    match reply {
-        Reply::Nothing => false,
-        Reply::Truth(yes) => *yes,
-        Reply::First(_) => false,
-        Reply::All(_) => false,
-    }
-}
-
 /// Whether a reply says yes, which is all that is wanted of it.
 pub fn says_yes(reply: Reply<'_>) -> bool
     ensures yes { (texts : Bool) → result ≡ says_yes (reply_of texts reply.entry) }
 {
-    is_yes(&reply)
+    match reply {
+        Reply::Nothing => false,
+        Reply::Truth(yes) => yes,
+        Reply::First(_) => false,
+        Reply::All(_) => false,
+    }
 }
 
 /// Takes what a child answered.

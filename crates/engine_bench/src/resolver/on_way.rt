@@ -45,6 +45,7 @@ fn leads_to_member(value: &Value, step: &SchemaStep) -> bool
     let Some(members) = value.as_object() else {
         return false;
     };
+    // (the call says that the names stand in order, so that a name stands once)
     let _count = members.len();
     match step {
         SchemaStep::Member(name) => is_schema_there(value.get(name.as_str())),

@@ -10,8 +10,7 @@ ghost use Rattle.schema_reports.specs.ReportViews.{error_of, BorrowsItsPlace};
 ghost use Rattle.schema_node.specs.AnswerModes.{mode_in};
 ghost use Rattle.schema_node.specs.FaultViews.{answer_reply, errors_in, faults_in, FaultsLieInside, LiesInside};
 ghost use Rattle.schema_node.specs.KeywordViews.{answer_of, fault_of, fresh, mode_of, own_of, reply_of};
-ghost use Rattle.schema_reports.specs.Keywords.{for_all, for_first, own, truth};
-ghost use Rattle.schema_reports.specs.Keywords as spec;
+ghost use Rattle.schema_reports.specs.Keywords.{own};
 ghost use Rattle.schema_node.specs.EvaluationPaths.{path_of};
 ghost use Rattle.schema_node.specs.EvaluationPlaces.{steps_to};
 ghost use Rattle.schema_node.specs.NodeRuns.{entry_where};
@@ -277,66 +276,6 @@ fn first_fault<'i>(answer: Answer<'i>) -> Option<Fault<'i>>
     }
 }
 
-// The verdict of an answer, as a reply.
-fn verdict_reply<'i>(answer: Answer<'i>) -> Reply<'i>
-    ensures verdict { (texts : Bool) → reply_of texts result ≡ truth (answer_of texts answer.entry).verdict }
-    ensures no_errors { errors_in result ≡ [] }
-{
-    Reply::Truth(is_accepting(&answer))
-}
-
-// No reply, whatever the answer.
-fn no_reply<'i>(_answer: Answer<'i>) -> Reply<'i>
-    ensures nothing { (texts : Bool) → reply_of texts result ≡ spec.no_reply }
-    ensures no_errors { errors_in result ≡ [] }
-{
-    Reply::Nothing
-}
-
-// The first fault of an answer, as a reply.
-fn first_reply<'i, K>(
-    alloc: Global,
-    node: &Node<K>,
-    name: &String,
-    instance: Instance<'i>,
-    place: &EvaluationPlace<'_, 'i>,
-    path: &EvaluationPath<'_>,
-    answer: Answer<'i>,
-) -> Result<Reply<'i>, OutOfMemory>
-    ensures reply { IfOk result (λ r. (texts : Bool) → reply_of texts r
-        ≡ answer_reply for_first (entry_where (node_of node.now) (path_of path.now) (steps_to place.now)) (string_bytes name.now) (answer_of texts answer.entry)) }
-    ensures borrows { IfOk result (λ r. (root : Data) → subject_at root (steps_to place.now) ≡ Some (subject_of instance.entry)
-        → FaultsLieInside for_first root (subject_of instance.entry) answer.entry → All (BorrowsItsPlace root) (errors_in r)) }
-{
-    match first_fault(answer) {
-        None => Ok(Reply::First(None)),
-        Some(fault) => {
-            let error = error_by(alloc, node, name, instance, place, path, fault)?;
-            Ok(Reply::First(Some(error)))
-        }
-    }
-}
-
-// The faults of an answer, as a reply.
-fn all_reply<'i, K>(
-    alloc: Global,
-    node: &Node<K>,
-    name: &String,
-    instance: Instance<'i>,
-    place: &EvaluationPlace<'_, 'i>,
-    path: &EvaluationPath<'_>,
-    answer: Answer<'i>,
-) -> Result<Reply<'i>, OutOfMemory>
-    ensures reply { IfOk result (λ r. (texts : Bool) → reply_of texts r
-        ≡ answer_reply for_all (entry_where (node_of node.now) (path_of path.now) (steps_to place.now)) (string_bytes name.now) (answer_of texts answer.entry)) }
-    ensures borrows { IfOk result (λ r. (root : Data) → subject_at root (steps_to place.now) ≡ Some (subject_of instance.entry)
-        → FaultsLieInside for_all root (subject_of instance.entry) answer.entry → All (BorrowsItsPlace root) (errors_in r)) }
-{
-    let faults = all_faults(alloc, answer)?;
-    let errors = errors_by(alloc, node, name, instance, place, path, faults)?;
-    Ok(Reply::All(errors))
-}
-
 /// What an answer says in a mode, as a reply.
 pub fn finished<'i, K>(
     alloc: Global,
@@ -354,9 +293,19 @@ pub fn finished<'i, K>(
         → FaultsLieInside (mode_of mode) root (subject_of instance.entry) answer.entry → All (BorrowsItsPlace root) (errors_in r)) }
 {
     match mode {
-        Mode::Verdict => Ok(verdict_reply(answer)),
-        Mode::First => first_reply(alloc, node, name, instance, place, path, answer),
-        Mode::All => all_reply(alloc, node, name, instance, place, path, answer),
-        Mode::Evaluate => Ok(no_reply(answer)),
+        Mode::Verdict => Ok(Reply::Truth(is_accepting(&answer))),
+        Mode::First => match first_fault(answer) {
+            None => Ok(Reply::First(None)),
+            Some(fault) => {
+                let error = error_by(alloc, node, name, instance, place, path, fault)?;
+                Ok(Reply::First(Some(error)))
+            }
+        },
+        Mode::All => {
+            let faults = all_faults(alloc, answer)?;
+            let errors = errors_by(alloc, node, name, instance, place, path, faults)?;
+            Ok(Reply::All(errors))
+        }
+        Mode::Evaluate => Ok(Reply::Nothing),
     }
 }
