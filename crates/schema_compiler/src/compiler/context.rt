@@ -1,12 +1,13 @@
 //! What a schema is compiled under: its draft, its vocabularies, and the options.
 ghost use Rattle.std.specs.Prelude.{◌≡◌, ◌||◌, not, unwrap_or};
-ghost use Rattle.schema_reports.specs.Drafts.{has_vocabulary, ref_stands_alone};
+ghost use Rattle.schema_reports.specs.Drafts.{ref_stands_alone};
+ghost use Rattle.schema_reports.specs.KeywordTable.{is_in_force};
 ghost use Rattle.schema_reports.specs.KeywordViews.{draft_of, vocabulary_of};
 ghost use Rattle.schema_compiler.specs.Dialects.{asserts_formats, integer_valued_numbers};
 
 use crate::compiler::key::SchemaKey;
 use crate::compiler::table::{CompileOptions, checks_formats, stands_alone};
-use schema_reports::keywords::{Draft, Vocabulary};
+use schema_reports::keywords::{Draft, Vocabulary, has_vocabulary};
 use schema_reports::location::Location;
 
 /// The schema of a key, compiled with these options. No call of a context takes memory.
@@ -31,11 +32,11 @@ impl<'c, S> Context<'c, S> {
         &self.key.location
     }
 
-    /// Whether a vocabulary is in force.
+    /// Whether a vocabulary is in force: always before 2019-09, always where it is the core, and else where it is in the set.
     pub fn has_vocabulary(&self, vocabulary: &Vocabulary) -> bool
-        ensures member { result ≡ has_vocabulary self.now.key.now.vocabularies (vocabulary_of vocabulary.now) }
+        ensures in_force { result ≡ is_in_force (draft_of self.now.key.now.draft) self.now.key.now.vocabularies (vocabulary_of vocabulary.now) }
     {
-        self.key.vocabularies.contains(vocabulary)
+        has_vocabulary(self.key.draft, &self.key.vocabularies, vocabulary)
     }
 
     /// Whether keywords count beside a `$ref`: from 2019-09 on.
@@ -59,8 +60,9 @@ impl<'c, S> Context<'c, S> {
     pub fn asserts_formats_by_dialect(&self) -> bool
         ensures asserts { result ≡ asserts_formats self.now.key.now.vocabularies }
     {
-        self.has_vocabulary(&Vocabulary::FormatAssertion)
-            || self.has_vocabulary(&Vocabulary::Format)
+        let vocabularies = &self.key.vocabularies;
+        vocabularies.contains(&Vocabulary::FormatAssertion)
+            || vocabularies.contains(&Vocabulary::Format)
     }
 
     /// Whether formats are checked: by the option, or else by the vocabularies, or in drafts 4 to 7.
