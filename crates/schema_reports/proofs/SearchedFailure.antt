@@ -102,4 +102,5 @@ module _ (v : Sense) (call : Call) (u : Failure) where
     schema = h.schema;
     located = ap₂ (λ l s. unwrap_or l (s, [])) h.located h.schema;
     nowhere = refl;
+    named = refl;
   })

@@ -30,7 +30,7 @@ abbrev pub shown_pattern : Site → Met → Text
 shown_pattern site first = unwrap_or site.pattern (unwrap_or first.site.pattern first.pair.pattern)
 
 module _ (v : Sense) where
-  -- one error for the first unfinished match of the call's first run, at a site that one of its runs gives for that match
+  -- one error for the first unfinished match of the call's first run, at a site that one of its runs gives for that match; its keyword is `pattern`
   pub record IsFailure (call : Call) (e : Error) : Type 0 where
     pub first : Met
     pub is_first : branch_at v call [] ≡ Some first
@@ -43,6 +43,7 @@ module _ (v : Sense) where
     pub schema : e.schema_path ≡ met.site.schema_path
     pub located : (e.evaluation_path, e.place) ≡ unwrap_or met.site.located (met.site.schema_path, [])
     pub nowhere : e.absolute ≡ None
+    pub named : e.name ≡ codes "pattern"
 
   -- the shared errors, or one failure where none is shared and some completion refuses
   abbrev pub IsListed : Call → List Error → List Error → Type 0
