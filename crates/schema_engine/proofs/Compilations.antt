@@ -19,7 +19,7 @@ use Rattle.schema_compiler.specs.Builtins.{builtin}
 use Rattle.schema_compiler.specs.Compilation.{IsCompilation, RefusesRoot, all_parts}
 use Rattle.schema_compiler.specs.declared.compiler.error.BuildError.{BuildError}
 use Rattle.schema_engine.specs.Handed.{Options, parts_of, table_of}
-use Rattle.schema_engine.specs.Compiled.{IsCompiled}
+use Rattle.schema_engine.specs.Compiled.{IsCompiled, IsWhole}
 use Rattle.schema_engine.proofs.Reaches.{reach_of}
 use Rattle.schema_engine.proofs.OtherParts.{reached_too, stands_too, numbered_too}
 
@@ -47,6 +47,10 @@ compiled_nodes w shape limit root keys nodes c = record {
   compiles = c.compiles;
 }
 
+whole_nodes : {S K R C : Type 0} (w : Parts S K R) (shape : C → K) (limit : ℕ) (root : Key S) (keys : List (Key S)) (nodes : List (NodeEntry C)) → IsCompilation w shape limit root keys nodes → IsWhole w shape root nodes 0
+unfolding compiled_nodes
+whole_nodes w shape limit root keys nodes c = record { compiled = compiled_nodes w shape limit root keys nodes c; filled = c.filled; whole = c.whole }
+
 module _ {S K R R' : Type 0} (resolver : Resolver S) (table : Table K) (matcher matcher' : Matcher) (keywords : Keywords K R) (keywords' : Keywords K R') (options : Options) where
   abbrev w : Parts S K R
   w = parts_of resolver table matcher keywords options
@@ -65,6 +69,14 @@ module _ {S K R R' : Type 0} (resolver : Resolver S) (table : Table K) (matcher 
     compiles = λ cause stands. c.compiles cause (stands_too resolver table matcher' matcher keywords' keywords options stands);
   }
 
+  pub whole_too : {C : Type 0} (shape : C → K) (root : Key S) (nodes : List (NodeEntry C)) (number : ℕ) → IsWhole w shape root nodes number → IsWhole w' shape root nodes number
+  unfolding compiled_too
+  whole_too shape root nodes number c = record {
+    compiled = compiled_too shape root nodes number c.compiled;
+    filled = c.filled;
+    whole = λ k r. c.whole k (reached_too resolver table matcher' matcher keywords' keywords options r);
+  }
+
 -- what is said of the compiler's table is said of the standard's
 module _ {S K R : Type 0} (resolver : Resolver S) (owns : Text → Bool) (script : Bool → Text → Members → Draft → Vocabularies → Bool → Script K) (matcher : Matcher) (keywords : Keywords K R) (options : Options) where
   abbrev over : (Draft → Vocabularies → Text → Option Builtin) → Parts S K R
@@ -75,6 +87,9 @@ module _ {S K R : Type 0} (resolver : Resolver S) (owns : Text → Bool) (script
 
   pub compiled_in : {C : Type 0} (shape : C → K) (limit : ℕ) (root : Key S) (keys : List (Key S)) (nodes : List (NodeEntry C)) → IsCompilation given shape limit root keys nodes → IsCompiled (over builtin_in) shape root nodes 0
   compiled_in shape limit root keys nodes c = subst (λ row. IsCompiled (over row) shape root nodes 0) builtin_is (compiled_nodes (over builtin) shape limit root keys nodes c)
+
+  pub whole_in : {C : Type 0} (shape : C → K) (limit : ℕ) (root : Key S) (keys : List (Key S)) (nodes : List (NodeEntry C)) → IsCompilation given shape limit root keys nodes → IsWhole (over builtin_in) shape root nodes 0
+  whole_in shape limit root keys nodes c = subst (λ row. IsWhole (over row) shape root nodes 0) builtin_is (whole_nodes (over builtin) shape limit root keys nodes c)
 
   -- the keys are those that the root reaches, and no more than the limit
   pub reach_in : ((a b : S) → Decides (resolver.same_state a b) (a ≡ b)) → {C : Type 0} (shape : C → K) (limit : ℕ) (root : Key S) (keys : List (Key S)) (nodes : List (NodeEntry C)) → IsCompilation given shape limit root keys nodes → IsReach (over builtin_in) root keys

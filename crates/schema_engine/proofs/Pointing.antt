@@ -50,9 +50,9 @@ module _ {S K R C M : Type 0} (resolver : Resolver S) (table : Table K) (matcher
 
     leads : program.root ≡ root → (n : ℕ) → EachLeads w root instance (sense_at (matching p.matcher) n)
     leads same n = subst (λ m. EachLeads w root instance (sense_at m n)) (sym program.matcher_is) (λ c.
-        node_errors_lead w absorbed (map Some program.compiled.keys) (numbered shape p.nodes) (each texts) (makers absorbed is_whole table scripts)
-        (numbered_too resolver table no_matcher matcher no_keywords (words texts) options (map Some program.compiled.keys) (numbered shape p.nodes) program.compiled.numbers)
-        instance c n p.root root (in_map program.compiled.keys p.root root (program.compiled.is_root ∙ ap Some same)))
+        node_errors_lead w absorbed (map Some program.compiled.compiled.keys) (numbered shape p.nodes) (each texts) (makers absorbed is_whole table scripts)
+        (numbered_too resolver table no_matcher matcher no_keywords (words texts) options (map Some program.compiled.compiled.keys) (numbered shape p.nodes) program.compiled.compiled.numbers)
+        instance c n p.root root (in_map program.compiled.compiled.keys p.root root (program.compiled.compiled.is_root ∙ ap Some same)))
 
   -- an error that a completion gives points at keyword and value
   given_points : (texts : Bool) (root : Key S) (v : Sense) → EachLeads (w texts root) root instance v → (e : ValidationError) → IsGiven v texts e → PointsAt (w texts root) root instance (error_of texts e)

@@ -4,6 +4,7 @@ use Rattle.schema_reports.specs.Parts.{Parts}
 use Rattle.schema_reports.specs.Plan.{Key}
 use Rattle.schema_reports.specs.Reach.{Reached}
 use Rattle.schema_reports.specs.Refusals.{Compiles}
+use Rattle.schema_reports.specs.Guarded.{NodePlan}
 use Rattle.schema_reports.specs.Numbered.{AreNumbered, Ranked}
 use Rattle.schema_node.specs.NodeTable.{NodeEntry, numbered}
 
@@ -15,3 +16,9 @@ pub record IsCompiled {S K R C : Type 0} (w : Parts S K R) (shape : C → K) (ro
   pub is_root : slice_get keys number ≡ Some root
   pub reached : (i : ℕ) (k : Key S) → slice_get keys i ≡ Some k → Reached w root k
   pub compiles : Compiles w root
+
+-- and numbers and keys correspond one to one: every number has its form, and every key that the root reaches has a number
+pub record IsWhole {S K R C : Type 0} (w : Parts S K R) (shape : C → K) (root : Key S) (nodes : List (NodeEntry C)) (number : ℕ) : Type 0 where
+  pub compiled : IsCompiled w shape root nodes number
+  pub filled : (i : ℕ) (n : NodeEntry C) → slice_get nodes i ≡ Some n → (p : NodePlan C) × (n.plan ≡ Some p)
+  pub whole : (k : Key S) → Reached w root k → (i : ℕ) × (slice_get compiled.keys i ≡ Some k)

@@ -9,9 +9,9 @@ use Rattle.schema_compiler.specs.Builtins.{builtin}
 use Rattle.schema_compiler.specs.Compiling.{no_table}
 use Rattle.schema_compiler.specs.KeyViews.{key_of}
 use Rattle.schema_compiler.specs.Compilation.{IsCompilation, RefusesRoot, all_parts}
-use Rattle.schema_engine.specs.Compiled.{IsCompiled}
+use Rattle.schema_engine.specs.Compiled.{IsCompiled, IsWhole}
 use Rattle.schema_engine.specs.Handed.{Options, no_keywords, no_matcher, parts_of, table_of}
-use Rattle.schema_engine.proofs.Compilations.{compiled_in, compiled_too, reach_in, refuses_in}
+use Rattle.schema_engine.proofs.Compilations.{compiled_in, compiled_too, reach_in, refuses_in, whole_in, whole_too}
 use Rattle.schema_engine.proofs.RootKeys.{one_root_key, root_key_of, root_key_too}
 use Rattle.schema_engine.proofs.options.ValidationOptions.build.Goals as goal
 
@@ -84,13 +84,13 @@ returns-clause-program g c =
     let nodes = c.in_ok-compiled.compiled.nodes in
     let done = subst (λ (o : Options). IsCompilation (all_parts r (record { owns = owns; builtin = builtin; script = script }) o.formats o.declared m words o.draft o.base) shape o.limit key keys nodes) c.self.view_is
     (c.in_ok-compiled.ensures.compiled m words (option_map draft_of inside.draft) (option_map string_bytes inside.base)) in
-    let compiled = compiled_too r table m no_matcher words no_keywords options shape key nodes 0 (compiled_in r owns script m words options shape options.limit key keys nodes done) in
+    let compiled = whole_too r table m no_matcher words no_keywords options shape key nodes 0 (whole_in r owns script m words options shape options.limit key keys nodes done) in
     let made = c.in_ok-validator.ensures.made in
     record {
       root = key;
       is_root = root_key_too r no_table table no_matcher no_matcher no_keywords no_keywords options schema key c.in_ok-root.ensures.key;
-      compiled = subst (λ number. IsCompiled (parts_of r table no_matcher no_keywords options) shape key c.in_ok-validator.validator.nodes number) (sym made.1)
-          (subst (λ ns. IsCompiled (parts_of r table no_matcher no_keywords options) shape key ns 0) (sym made.0) compiled);
+      compiled = subst (λ number. IsWhole (parts_of r table no_matcher no_keywords options) shape key c.in_ok-validator.validator.nodes number) (sym made.1)
+          (subst (λ ns. IsWhole (parts_of r table no_matcher no_keywords options) shape key ns 0) (sym made.0) compiled);
       drafted = c.in_ok-root.ensures.drafted ∙ ap Ok (sym made.2);
       matcher_is = c.in_ok-validator.ensures.matcher;
     }
