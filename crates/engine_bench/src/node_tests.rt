@@ -3,7 +3,7 @@ ghost use Rattle.std.specs.Prelude.{◌≡◌, []};
 
 use schema_node::context::schema_place::{SchemaPath, SchemaPlace, SchemaStep};
 use schema_node::context::validation::ValidationContext;
-use schema_node::node::{NodeForm, Nodes, SchemaNode};
+use schema_node::node::{Entry, EntryForm, NodeForm, Nodes, SchemaNode};
 use schema_reports::instance::{InstanceStep, Place};
 use schema_reports::location::{Location, LocationSegment, OutOfMemory};
 use std::alloc::Global;
@@ -196,5 +196,57 @@ fn validators_of_nodes(rt: HostRuntime) -> Result<(), OutOfMemory> {
     let show = nodes_show(&mut nodes, here, below);
     drop(nodes);
     assert!(rt; show?);
+    Ok(())
+}
+
+/// Whether a node that accepts, or one that refuses, has so many validators.
+fn boolean_has(
+    nodes: &mut Nodes<usize>,
+    here: Location,
+    accepts: bool,
+    count: usize,
+) -> Result<bool, OutOfMemory> {
+    let node = nodes.from_boolean(here, None, 0, accepts)?;
+    Ok(nodes.validators(node).len() == count)
+}
+
+/// Whether a node of no entry has no validators, and so accepts.
+fn no_entry_accepts(
+    alloc: Global,
+    nodes: &mut Nodes<usize>,
+    here: Location,
+) -> Result<bool, OutOfMemory> {
+    let node = nodes.from_array(here, None, 0, Vec::new(alloc))?;
+    Ok(nodes.validators(node).len() == 0 && nodes.single_validator(node).is_none())
+}
+
+/// Whether a node of one keyword shows it.
+fn one_keyword_shows(
+    alloc: Global,
+    nodes: &mut Nodes<usize>,
+    here: Location,
+) -> Result<bool, OutOfMemory> {
+    let name = String::from_str(alloc, "type")?;
+    let mut entries = Vec::new(alloc);
+    entries.push(Entry {
+        name,
+        priority: 1,
+        is_leaf: true,
+        form: EntryForm::Keyword(7, Vec::new(alloc)),
+    })?;
+    let node = nodes.from_keywords(here, None, 0, entries, None)?;
+    Ok(nodes.validators(node).len() == 1 && nodes.single_validator(node).is_some())
+}
+
+#[test]
+fn nodes_that_are_made_at_once(rt: HostRuntime) -> Result<(), OutOfMemory> {
+    let alloc = rt.alloc();
+    let mut nodes: Nodes<usize> = Nodes::new(alloc);
+    let accepts = boolean_has(&mut nodes, copied_root(alloc)?, true, 0);
+    let refuses = boolean_has(&mut nodes, copied_root(alloc)?, false, 1);
+    let empty = no_entry_accepts(alloc, &mut nodes, copied_root(alloc)?);
+    let one = one_keyword_shows(alloc, &mut nodes, member_of_root(alloc)?);
+    drop(nodes);
+    assert!(rt; accepts? && refuses? && empty? && one?);
     Ok(())
 }

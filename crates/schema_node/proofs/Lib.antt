@@ -10,6 +10,7 @@ pub mod KeywordTurns
 pub mod NodeOutcomes
 pub mod NodeRanks
 pub mod NodesFilled
+pub mod NodesAdded
 pub mod RankedTable
 pub mod PartLaws
 pub mod SchemaPaths

@@ -89,6 +89,10 @@ pub record LeadsToFilled {K : Type 0} (ns : List (NodeEntry K)) (e : NodeEdge) :
 abbrev pub AreFilled : {K : Type 0} → List (NodeEntry K) → NodePlan K → Type 0
 AreFilled ns plan = All (LeadsToFilled ns) (node_edges plan)
 
+-- a node that has its form has come at the end
+abbrev pub Adds : {K : Type 0} → List (NodeEntry K) → NodeEntry K → Option Value → NodePlan K → List (NodeEntry K) → Type 0
+Adds old n annotations plan new = (rank : ℕ) × (new ≡ old ++ filled n rank annotations plan ∷ [])
+
 -- a reserved number has got its form, and nothing else has changed
 abbrev pub Fills : {K : Type 0} → List (NodeEntry K) → ℕ → Option Value → NodePlan K → List (NodeEntry K) → Type 0
 Fills {K} old i annotations plan new = (n : NodeEntry K) × (rank : ℕ) × (slice_get old i ≡ Some n) × (new ≡ slice_set old i (filled n rank annotations plan))

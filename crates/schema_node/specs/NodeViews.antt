@@ -1,5 +1,5 @@
 -- The code's nodes as data.
-use Rattle.std.specs.Prelude.{ℕ, Option, None, string_bytes, map, option_map}
+use Rattle.std.specs.Prelude.{Bool, ℕ, Option, None, false, string_bytes, map, option_map, true}
 use Rattle.schema_reports.specs.Instance.{Text}
 use Rattle.schema_reports.specs.Guarded as spec
 use Rattle.schema_node.specs.NodeTable.{NodeEntry}
@@ -28,6 +28,11 @@ plan_of (Keywords xs) = spec.node_these (map entry_of xs.items)
 
 abbrev pub node_of : {K : Type 0} → Node K → NodeEntry K
 node_of n = record { location = n.location; base = option_map string_bytes n.base; start = n.start; rank = n.rank; annotations = n.annotations; plan = option_map plan_of n.form }
+
+-- the plan of a boolean
+abbrev pub boolean_plan : {K : Type 0} → Bool → spec.NodePlan K
+boolean_plan true = spec.node_always
+boolean_plan false = spec.node_never
 
 -- a node whose number is reserved
 abbrev pub reserved_node : {K : Type 0} → Text → Option Text → ℕ → NodeEntry K

@@ -1,7 +1,8 @@
 //! Numbered nodes: what a schema is once it is compiled.
-ghost use Rattle.std.specs.Prelude.{◌≡◌, ◌++◌, [], ◌∷◌, length, OnOk, OnErr, IfOk, option_map, string_bytes, Some, slice_get, slice_set, ◌<◌, ℕ, true, false};
-ghost use Rattle.schema_node.specs.NodeViews.{plan_of, reserved_node, node_of};
-ghost use Rattle.schema_node.specs.NodeTable.{NodeEntry, IsReserved, IsFilled, AreFilled, Fills, IsRanked};
+ghost use Rattle.std.specs.Prelude.{◌≡◌, ◌++◌, [], ◌∷◌, length, OnOk, OnErr, IfOk, map, option_map, string_bytes, Some, slice_get, ◌<◌, ℕ, true, false};
+ghost use Rattle.schema_node.specs.NodeViews.{boolean_plan, entry_of, plan_of, reserved_node, node_of};
+ghost use Rattle.schema_reports.specs.Guarded.{node_these};
+ghost use Rattle.schema_node.specs.NodeTable.{NodeEntry, IsReserved, IsFilled, AreFilled, Adds, Fills, IsRanked};
 
 mod absolute;
 mod evaluation_path;
@@ -22,7 +23,8 @@ use std::marker::Model;
 #[derive(Clone, Copy, PartialEq, Eq)]
 pub struct SchemaNode(pub usize);
 
-/// An edge to a node: what the use adds to the evaluation path, and whether it leads to a node in progress.
+/// An edge to a node: what the use adds to the evaluation path, and whether it is guarded, as one is that was made while its
+/// target was only reserved.
 #[derive(Drop)]
 pub struct Edge {
     pub node: SchemaNode,
@@ -58,9 +60,10 @@ pub enum NodeForm<K> {
 #[derive(Drop)]
 pub struct Node<K> {
     pub location: Location,
-    /// The URI of its resource, where absolute locations are shown, and how much of the location lies outside it.
+    /// The URI of its resource, where absolute locations are shown, and how many bytes of the location lie outside it.
     pub base: Option<String>,
     pub start: usize,
+    /// How many nodes had their form before it.
     pub rank: usize,
     /// The members that no keyword knows, as an object, where there are any.
     pub annotations: Option<Value>,
@@ -149,6 +152,7 @@ impl<K: Drop> Nodes<K> {
         requires ready { AreFilled self.old (plan_of form) }
         ensures filled { Fills self.old node.0 annotations (plan_of form) self.new }
     {
+        // (the call says that a count of nodes fits the type)
         let count = self.nodes.len();
         let _within = count;
         let rank = self.finished;
@@ -157,6 +161,96 @@ impl<K: Drop> Nodes<K> {
         place.rank = rank;
         place.annotations = annotations;
         place.form = Some(form);
+    }
+
+    // A node with its form, at the next number.
+    fn add(
+        &mut self,
+        location: Location,
+        base: Option<String>,
+        start: usize,
+        form: NodeForm<K>,
+        annotations: Option<Value>,
+    ) -> Result<SchemaNode, OutOfMemory>
+        requires ready { AreFilled self.old (plan_of form) }
+        ensures number { IfOk result (λ i. i.0 ≡ length self.old) }
+        ensures added { OnOk result (Adds self.old (reserved_node location (option_map string_bytes base) start) annotations (plan_of form) self.new) }
+        ensures unchanged { OnErr result (self.new ≡ self.old) }
+    {
+        let node = self.reserve(location, base, start)?;
+        self.fill(node, form, annotations);
+        Ok(node)
+    }
+
+    /// Adds a node that accepts everything, or nothing.
+    ///
+    /// # Errors
+    ///
+    /// Want of memory.
+    pub fn from_boolean(
+        &mut self,
+        location: Location,
+        base: Option<String>,
+        start: usize,
+        accepts: bool,
+    ) -> Result<SchemaNode, OutOfMemory>
+        ensures number { IfOk result (λ i. i.0 ≡ length self.old) }
+        ensures added { OnOk result (Adds self.old (reserved_node location (option_map string_bytes base) start) None (boolean_plan accepts) self.new) }
+        ensures unchanged { OnErr result (self.new ≡ self.old) }
+    {
+        let form = if accepts {
+            NodeForm::Always
+        } else {
+            NodeForm::Never
+        };
+        self.add(location, base, start, form, None)
+    }
+
+    /// Adds a node of these keywords, in their order, with its annotations.
+    ///
+    /// # Errors
+    ///
+    /// Want of memory.
+    pub fn from_keywords(
+        &mut self,
+        location: Location,
+        base: Option<String>,
+        start: usize,
+        entries: Vec<Entry<K>>,
+        annotations: Option<Value>,
+    ) -> Result<SchemaNode, OutOfMemory>
+        requires ready { AreFilled self.old (node_these (map entry_of entries.items)) }
+        ensures number { IfOk result (λ i. i.0 ≡ length self.old) }
+        ensures added { OnOk result (Adds self.old (reserved_node location (option_map string_bytes base) start) annotations (node_these (map entry_of entries.items)) self.new) }
+        ensures unchanged { OnErr result (self.new ≡ self.old) }
+    {
+        self.add(
+            location,
+            base,
+            start,
+            NodeForm::Keywords(entries),
+            annotations,
+        )
+    }
+
+    /// Adds a node of these entries, in their order, without annotations; of none, one that accepts everything.
+    ///
+    /// # Errors
+    ///
+    /// Want of memory.
+    pub fn from_array(
+        &mut self,
+        location: Location,
+        base: Option<String>,
+        start: usize,
+        entries: Vec<Entry<K>>,
+    ) -> Result<SchemaNode, OutOfMemory>
+        requires ready { AreFilled self.old (node_these (map entry_of entries.items)) }
+        ensures number { IfOk result (λ i. i.0 ≡ length self.old) }
+        ensures added { OnOk result (Adds self.old (reserved_node location (option_map string_bytes base) start) None (node_these (map entry_of entries.items)) self.new) }
+        ensures unchanged { OnErr result (self.new ≡ self.old) }
+    {
+        self.from_keywords(location, base, start, entries, None)
     }
 
     /// Whether a number has its form; one that has none is reserved.
