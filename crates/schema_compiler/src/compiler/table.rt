@@ -4,10 +4,9 @@ ghost use Rattle.serde_json.specs.View.{view, members_view};
 ghost use Rattle.schema_reports.specs.Instance.{Text, member_of};
 ghost use Rattle.schema_reports.specs.Pointer.{joined};
 ghost use Rattle.schema_reports.specs.Drafts.{custom_vocabulary, ref_stands_alone, has_vocabulary, format_assertion_vocabulary, format_vocabulary};
-ghost use Rattle.schema_reports.specs.KeywordViews.{vocabulary_of};
 ghost use Rattle.std.specs.List.{list_any};
 ghost use Rattle.std.specs.Prelude.{◌||◌, unwrap_or, bytes_eq};
-ghost use Rattle.schema_reports.specs.Refusals.{unsupported_vocabulary, not_a_schema};
+ghost use Rattle.schema_reports.specs.Refusals.{not_a_schema};
 ghost use Rattle.schema_reports.specs.Plan.{Key, found, is_self, reference_edge};
 ghost use Rattle.schema_reports.specs.Refusals.{lookup_causes, undeclared};
 ghost use Rattle.schema_reports.specs.Units.{annotations_of};
@@ -162,6 +161,7 @@ pub(crate) fn edge_at<R: Resolver, K: Validate, T: KeywordTable<K>>(
     ensures node { result.node.0 ≡ number }
     ensures path { result.path ≡ path }
     ensures leads { LeadsToFilled compiled.now.nodes (edge_of result) }
+    ensures guarded { result.guarded ≡ true → IsReserved compiled.now.nodes number }
 {
     let node = SchemaNode(number);
     let guarded = !compiled.nodes.is_filled(node);

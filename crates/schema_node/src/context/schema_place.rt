@@ -1,5 +1,5 @@
 //! Places in schemas.
-ghost use Rattle.std.specs.Prelude.{◌≡◌, ℕ, List, [], ◌∷◌, ◌++◌, OnOk, IfOk, length, take, drop, map, IsTrue, ◌↔◌};
+ghost use Rattle.std.specs.Prelude.{◌≡◌, List, [], ◌∷◌, ◌++◌, OnErr, OnOk, IfOk, length, take, drop, map};
 ghost use Rattle.schema_reports.specs.Instance.{same_place, same_step};
 ghost use Rattle.schema_reports.specs.Pointer.{pointer_to, step_text};
 ghost use Rattle.schema_reports.specs.Drafts.{same_schema_place, at_path};
@@ -144,6 +144,7 @@ impl SchemaPath {
     /// Adds a step at the end.
     pub fn push(&mut self, step: SchemaStep) -> Result<(), OutOfMemory>
         ensures pushed { OnOk result (self.new ≡ self.old ++ schema_step_of step ∷ []) }
+        ensures unchanged { OnErr result (self.new ≡ self.old) }
     {
         self.steps.push(step)?;
         Ok(())
