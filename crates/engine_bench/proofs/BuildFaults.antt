@@ -1,18 +1,18 @@
--- The fault of a schema that is refused stands, where the words hold a request.
-use Rattle.std.proofs.Common.{List, lit≤}
+-- The fault of a schema that is refused stands, where a cause of it stands.
+use Rattle.std.proofs.Common.{List, refl}
 use Rattle.schema_reports.specs.Instance.{Text}
 use Rattle.schema_compiler.specs.declared.compiler.error.BuildError.{BuildError}
 use Rattle.schema_compiler.specs.declared.compiler.error.BuildError.TheVariants.{KeywordRefused, Lookup, MetaSchema, MissingRoot, NodeLimit, NotASchema, OutOfMemory, ReferenceNotText, UnsupportedVocabulary}
 use Rattle.engine_bench.specs.ProgramFaults.{FaultStands, fault_of}
-use Rattle.engine_bench.specs.ProgramWords.{AreWords}
+use Rattle.engine_bench.specs.ProgramMeaning.{Asked, IsRefused}
 
-pub build_fault : (ts : List Text) (e : BuildError) → AreWords ts → FaultStands ts (fault_of e)
-build_fault ts (NotASchema location) words = (words, lit≤ tt, lit≤ tt)
-build_fault ts (ReferenceNotText location) words = (words, lit≤ tt, lit≤ tt)
-build_fault ts (Lookup text) words = (words, lit≤ tt, lit≤ tt)
-build_fault ts (KeywordRefused error) words = (words, lit≤ tt, lit≤ tt)
-build_fault ts (UnsupportedVocabulary uri) words = (words, lit≤ tt, lit≤ tt)
-build_fault ts (MetaSchema error) words = (words, lit≤ tt, lit≤ tt)
-build_fault ts (MissingRoot uri) words = (words, lit≤ tt, lit≤ tt)
-build_fault ts (NodeLimit limit) words = (words, lit≤ tt, lit≤ tt)
-build_fault ts OutOfMemory words = tt
+pub build_fault : (ts : List Text) (asked : Asked ts) (e : BuildError) → IsRefused asked e → FaultStands ts (fault_of e)
+build_fault ts asked (NotASchema location) stands = (asked, NotASchema location, refl, stands)
+build_fault ts asked (ReferenceNotText location) stands = (asked, ReferenceNotText location, refl, stands)
+build_fault ts asked (Lookup text) stands = (asked, Lookup text, refl, stands)
+build_fault ts asked (KeywordRefused error) stands = (asked, KeywordRefused error, refl, stands)
+build_fault ts asked (UnsupportedVocabulary uri) stands = (asked, UnsupportedVocabulary uri, refl, stands)
+build_fault ts asked (MetaSchema error) stands = (asked, MetaSchema error, refl, stands)
+build_fault ts asked (MissingRoot uri) stands = (asked, MissingRoot uri, refl, stands)
+build_fault ts asked (NodeLimit limit) stands = (asked, NodeLimit limit, refl, stands)
+build_fault ts asked OutOfMemory stands = tt

@@ -1,6 +1,6 @@
 -- Why the program answers nothing: a fault in the words, in the order in which faults are found, a refused schema, or want
 -- of memory; and what is printed of it.
-use Rattle.std.specs.Prelude.{List, None, Some, [], codes, decimal, ◌++◌, ◌∷◌, ◌≡◌, ◌≤◌, ◌⊎◌}
+use Rattle.std.specs.Prelude.{List, None, Some, [], codes, decimal, ◌++◌, ◌∷◌, ◌≡◌, ◌⊎◌}
 use Rattle.schema_reports.specs.Instance.{Text}
 use Rattle.schema_compiler.specs.Refusing.{number_of}
 use Rattle.schema_compiler.specs.declared.compiler.error.BuildError.{BuildError}
@@ -9,7 +9,8 @@ use Rattle.engine_bench.specs.declared.program.faults.Fault.{Fault}
 use Rattle.engine_bench.specs.declared.program.faults.Fault.TheVariants.{BuildRefused, NotJson, OutOfMemory, Usage}
 use Rattle.engine_bench.specs.declared.program.faults.Word.{Word}
 use Rattle.engine_bench.specs.declared.program.faults.Word.TheVariants.{Instance, Schema, Unfinished}
-use Rattle.engine_bench.specs.ProgramWords.{AreWords, FourWords, IsJson, IsList, call_in, words_in}
+use Rattle.engine_bench.specs.ProgramMeaning.{Asked, IsRefused}
+use Rattle.engine_bench.specs.ProgramWords.{FourWords, IsJson, IsList, call_in, words_in}
 
 abbrev pub word_name : Word → Text
 word_name Schema = codes "SCHEMA"
@@ -35,13 +36,13 @@ fault_of e = BuildRefused (number_of e)
 abbrev pub InWords : List Text → (FourWords → Type 0) → Type 0
 InWords ts P = (w : FourWords) × (words_in ts ≡ Some w) × P w
 
--- the words have this fault, and none that is found before it
+-- the words have this fault, and none that is found before it; a schema is refused by a cause that stands, of this number
 abbrev pub FaultStands : List Text → Fault → Type 0
 FaultStands ts Usage = call_in ts ≡ None
 FaultStands ts (NotJson Schema) = ¬ (call_in ts ≡ None) × InWords ts (λ w. ¬ IsJson w.schema)
 FaultStands ts (NotJson Instance) = ¬ (call_in ts ≡ None) × InWords ts (λ w. IsJson w.schema × ¬ IsJson w.instance)
 FaultStands ts (NotJson Unfinished) = ¬ (call_in ts ≡ None) × InWords ts (λ w. IsJson w.schema × IsJson w.instance × ¬ IsList w.unfinished)
-FaultStands ts (BuildRefused number) = AreWords ts × (1 ≤ number) × (number ≤ 8)
+FaultStands ts (BuildRefused number) = (asked : Asked ts) × (error : BuildError) × (fault_of error ≡ BuildRefused number) × IsRefused asked error
 FaultStands ts OutOfMemory = Unit {0}
 
 -- why a word gives no value: it is not JSON, or want of memory

@@ -10,9 +10,12 @@ use Rattle.schema_reports.specs.Headline.{Plainly}
 use Rattle.schema_reports.specs.Making.{Table}
 use Rattle.schema_reports.specs.Matching.{Matcher}
 use Rattle.schema_reports.specs.Resolving.{Resolver}
-use Rattle.schema_engine.specs.Handed.{Options, default_options, table_of}
-use Rattle.schema_engine.specs.Program.{Program}
+use Rattle.schema_compiler.specs.declared.compiler.error.BuildError.{BuildError}
+use Rattle.schema_engine.specs.Handed.{Options, default_options, parts_of, table_of}
+use Rattle.schema_engine.specs.Program.{FromSomeDepth, Program}
+use Rattle.schema_engine.specs.ProgramOf.{IsProgramOf}
 use Rattle.schema_engine.specs.Promised.{MeansSchema, OfSchema}
+use Rattle.schema_engine.specs.Roots.{Builds, RefusesBuild}
 use Rattle.engine_bench.specs.BenchAnswers.{bench_resolving}
 use Rattle.engine_bench.specs.BenchDocuments.{BenchDocument, HasCustom, HasDrafts}
 use Rattle.engine_bench.specs.BenchMatching.{bench_matcher}
@@ -48,8 +51,8 @@ pub record Resolves (schema : Data) (r : BenchDocument) : Type 0 where
   pub drafts : HasDrafts [] r.vocabularies
   pub custom : HasCustom [] r.vocabularies
 
--- what the words ask for, answered by the plain meaning of their schema with the bench's parts and default options
-pub record AnswersWords (ts : List Text) (accepted : Bool) (text : Text) : Type 0 where
+-- what the words hold: a call, its schema and instance, the patterns that stay unfinished, and a resolver of the schema
+pub record Asked (ts : List Text) : Type 0 where
   pub call : Call
   pub schema : Data
   pub instance : Data
@@ -57,4 +60,26 @@ pub record AnswersWords (ts : List Text) (accepted : Bool) (text : Text) : Type 
   pub holds : Holds ts call schema instance unfinished
   pub resolver : BenchDocument
   pub resolves : Resolves schema resolver
-  pub answers : AnswersPlainly (bench_resolving resolver) bench_table (bench_matcher unfinished) default_options schema instance call accepted text
+
+module _ {ts : List Text} (a : Asked ts) where
+  -- the schema builds with the bench's parts and default options
+  abbrev pub IsBuilt : Type 0
+  IsBuilt = (texts : Bool) → Builds (parts_of (bench_resolving a.resolver) bench_table (bench_matcher a.unfinished) (words texts) default_options) a.schema default_options.limit
+
+  -- it is refused, by a cause that stands
+  abbrev pub IsRefused : BuildError → Type 0
+  IsRefused e = (texts : Bool) → RefusesBuild (parts_of (bench_resolving a.resolver) bench_table (bench_matcher a.unfinished) (words texts) default_options) a.schema default_options.limit e
+
+  -- a validator is compiled from it
+  abbrev pub IsCompiledFrom : Program BenchKeyword (List Text) → Type 0
+  IsCompiledFrom p = IsProgramOf (bench_resolving a.resolver) bench_table (bench_matcher a.unfinished) default_options a.schema shape_of bench_matcher p
+
+-- what the words ask for, of a schema that builds: answered by the plain meaning of their schema with the bench's parts and
+-- default options, and, where chains of references return, by what the nodes compiled from it say from some depth on
+pub record AnswersWords (ts : List Text) (accepted : Bool) (text : Text) : Type 0 where
+  pub asked : Asked ts
+  pub builds : IsBuilt asked
+  pub plain : AnswersPlainly (bench_resolving asked.resolver) bench_table (bench_matcher asked.unfinished) default_options asked.schema asked.instance asked.call accepted text
+  pub program : Program BenchKeyword (List Text)
+  pub compiled : IsCompiledFrom asked program
+  pub guarded : Answers (FromSomeDepth shape_of words is_whole bench_matcher program asked.instance) asked.call accepted text

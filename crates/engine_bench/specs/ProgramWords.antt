@@ -55,7 +55,3 @@ pub record Holds (ts : List Text) (call : Call) (schema instance : Data) (unfini
   pub reads_schema : IsTextOf schema words.schema
   pub reads_instance : IsTextOf instance words.instance
   pub lists_unfinished : IsListOf unfinished words.unfinished
-
--- the words hold some request
-abbrev pub AreWords : List Text → Type 0
-AreWords ts = (call : Call) × (schema : Data) × (instance : Data) × (unfinished : List Text) × Holds ts call schema instance unfinished

@@ -6,7 +6,7 @@ use Rattle.std.proofs.lemmas.Bool.{leb-true}
 use Rattle.schema_reports.specs.Instance.{Text}
 use Rattle.schema_reports.specs.Reports.{Unit_, Error, report_of}
 use Rattle.schema_reports.specs.Matching.{Matching, Pair}
-use Rattle.schema_reports.specs.Keywords.{Answer, Answers, Fault, Gives, MatchPoint, Question, Reply, Turn, all_of_it, ask, done, first_of_it, for_all, for_first, for_units, for_verdict, match_text, no_reply, own, passed, truth, unit_of_it}
+use Rattle.schema_reports.specs.Keywords.{Answer, Answers, Fault, MatchPoint, Question, Reply, Turn, all_of_it, ask, done, first_of_it, for_all, for_first, for_units, for_verdict, match_text, own, passed, truth, unit_of_it}
 use Rattle.schema_reports.specs.Keywords as spec
 use Rattle.schema_reports.specs.Laws.{first_fault}
 use Rattle.schema_reports.specs.Runs.{first_error}

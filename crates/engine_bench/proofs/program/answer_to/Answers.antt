@@ -2,18 +2,38 @@ use Rattle.std.proofs.Common.{List, ap, map, string_bytes, subst}
 use Rattle.schema_reports.specs.Instance.{Text}
 use Rattle.std.proofs.lemmas.Result.{err_from_is_err_and}
 use Rattle.serde_json.specs.View.{view}
-use Rattle.schema_engine.specs.Handed.{default_options}
+use Rattle.schema_engine.specs.Handed.{default_options, parts_of}
+use Rattle.schema_engine.specs.ProgramOf.{IsProgramOf}
+use Rattle.schema_engine.specs.Roots.{Builds, RefusesBuild}
 use Rattle.engine_bench.specs.BenchAnswers.{bench_resolving}
 use Rattle.engine_bench.specs.BenchMatching.{bench_matcher}
-use Rattle.engine_bench.specs.ProgramMeaning.{BenchMeans, bench_table}
+use Rattle.engine_bench.specs.ProgramMeaning.{Asked, BenchMeans, bench_table}
 use Rattle.engine_bench.specs.ProgramViews.{texts}
+use Rattle.engine_bench.specs.Shapes.{shape_of}
+use Rattle.engine_bench.specs.Words.{words}
 use Rattle.engine_bench.proofs.BuildFaults.{build_fault}
 use Rattle.engine_bench.proofs.program.answer_to.Goals as goal
 
 pub returns-in_err-validator-clause-fault : goal.returns-in_err-validator-clause-fault
 returns-in_err-validator-clause-fault c =
     let p = err_from_is_err_and c.from_residual-in_err-validator.result c.from_residual-in_err-validator.ensures.1 in
-    rw (p.1, p.2) (build_fault (texts c.args.words.now) c.in_err-validator.field-0.0 (_, _, _, _, c.in_ok-call.ensures.holds))
+    let r = c.in_ok-resolver.resolver in
+    let given = c.in_ok-resolver.ensures in
+    let request = c.in_ok-call.field-0 in
+    let schema = view request.schema in
+    let e = c.in_err-validator.field-0.0 in
+    let asked : Asked (texts c.args.words.now) = record {
+      call = request.call;
+      schema = schema;
+      instance = view request.instance;
+      unfinished = map string_bytes request.unfinished.items;
+      holds = c.in_ok-call.ensures.holds;
+      resolver = r;
+      resolves = record { document = ap view given.document; draft = given.draft; drafts = rw c.new.ensures.empty at given.drafts; custom = rw c.new.ensures.empty at given.custom };
+    } in
+    rw (p.1, p.2) (build_fault (texts c.args.words.now) asked e (λ spoken.
+    subst (λ (ps : List Text). RefusesBuild (parts_of (bench_resolving r) bench_table (bench_matcher ps) (words spoken) default_options) schema default_options.limit e)
+    c.new-matcher.ensures.patterns (c.in_err-validator.ensures.refused spoken)))
 
 pub returns-clause-answer : goal.returns-clause-answer
 returns-clause-answer c =
@@ -22,14 +42,22 @@ returns-clause-answer c =
     let request = c.in_ok-call.field-0 in
     let unfinished = map string_bytes request.unfinished.items in
     let schema = view request.schema in
+    let validator = c.in_ok-validator.validator in
+    let same = c.new-matcher.ensures.patterns in
     record {
-      call = request.call;
-      schema = schema;
-      instance = view request.instance;
-      unfinished = unfinished;
-      holds = c.in_ok-call.ensures.holds;
-      resolver = r;
-      resolves = record { document = ap view given.document; draft = given.draft; drafts = rw c.new.ensures.empty at given.drafts; custom = rw c.new.ensures.empty at given.custom };
-      answers = c.in_ok-ask.ensures.means (bench_resolving r) bench_table (bench_matcher unfinished) default_options schema
-          (subst (λ (ps : List Text). BenchMeans (bench_resolving r) bench_table (bench_matcher ps) default_options schema c.in_ok-validator.validator) c.new-matcher.ensures.patterns c.in_ok-validator.ensures.means);
+      asked = record {
+        call = request.call;
+        schema = schema;
+        instance = view request.instance;
+        unfinished = unfinished;
+        holds = c.in_ok-call.ensures.holds;
+        resolver = r;
+        resolves = record { document = ap view given.document; draft = given.draft; drafts = rw c.new.ensures.empty at given.drafts; custom = rw c.new.ensures.empty at given.custom };
+      };
+      builds = λ spoken. subst (λ (ps : List Text). Builds (parts_of (bench_resolving r) bench_table (bench_matcher ps) (words spoken) default_options) schema default_options.limit) same (c.in_ok-validator.ensures.built spoken);
+      plain = c.in_ok-ask.ensures.means (bench_resolving r) bench_table (bench_matcher unfinished) default_options schema
+          (subst (λ (ps : List Text). BenchMeans (bench_resolving r) bench_table (bench_matcher ps) default_options schema validator) same c.in_ok-validator.ensures.means);
+      program = validator;
+      compiled = subst (λ (ps : List Text). IsProgramOf (bench_resolving r) bench_table (bench_matcher ps) default_options schema shape_of bench_matcher validator) same c.in_ok-validator.ensures.program;
+      guarded = c.in_ok-ask.ensures.depth;
     }
