@@ -8,3 +8,6 @@ pub mod options;
 pub mod validator;
 
 pub use crate::calls::{is_valid, iter_errors, validate};
+pub use schema_compiler::compiler;
+pub use schema_node::{context, node};
+pub use schema_reports::{instance, keywords, location, reports, text, unfinished_matches};
