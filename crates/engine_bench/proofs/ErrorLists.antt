@@ -1,5 +1,5 @@
 -- Errors that are printed one after the other, until none is left.
-use Rattle.std.proofs.Common.{Bool, List, [], ap, append-nil, false, map, refl, sym, true, ◌&&◌, ◌++◌, ◌∙◌, ◌∷◌, ◌≡◌}
+use Rattle.std.proofs.Common.{Bool, List, [], ap, append-nil, false, map, refl, sym, true, ◌&&◌, ◌++◌, ◌∙◌, ◌≡◌}
 use Rattle.schema_reports.specs.Instance.{Text}
 use Rattle.schema_reports.specs.ReportViews.{error_of}
 use Rattle.schema_reports.specs.declared.reports.ValidationError.{ValidationError}
@@ -20,7 +20,3 @@ all_counted all left accepted kept none = sym (kept ∙ (ap (λ es. accepted && 
 and_false : (b : Bool) → b && false ≡ false
 and_false true = refl
 and_false false = refl
-
--- one that is printed was among those that were left
-pub one_counted : (all left rest : List ValidationError) (e : ValidationError) (accepted : Bool) → is_nil all ≡ (accepted && is_nil left) → left ≡ e ∷ rest → is_nil all ≡ (false && is_nil rest)
-one_counted all left rest e accepted kept one = kept ∙ (ap (λ es. accepted && is_nil es) one ∙ and_false accepted)

@@ -1,5 +1,5 @@
 //! The meta validators.
-ghost use Rattle.std.specs.Prelude.{◌≡◌, ◌++◌, IfOk, false, option_map, string_bytes};
+ghost use Rattle.std.specs.Prelude.{◌≡◌, IfOk, false, option_map};
 ghost use Rattle.serde_json.specs.View.{items_view, members_view, view};
 ghost use Rattle.schema_reports.specs.KeywordViews.{draft_of};
 ghost use Rattle.schema_reports.specs.ReportViews.{error_of};

@@ -104,7 +104,8 @@ impl<'a> BenchResolver<'a> {
         BenchResolver::with_draft(alloc, Draft::Draft202012, document, vocabularies)
     }
 
-    /// The same in another default draft, which a document without `$schema` has.
+    /// The same in another default draft: the one that the document and the way to a target are read by, where no `$schema` says
+    /// otherwise. A build takes the root's draft from its own option, or else 2020-12.
     ///
     /// # Errors
     ///

@@ -1,4 +1,4 @@
-//! Texts of errors, made and run through the traits' bounds, and each public call once.
+//! Texts of errors, made and run through the traits' bounds.
 use crate::keywords::BenchKeyword;
 use crate::matcher::BenchMatcher;
 use crate::rows::{column, list_at, text_at, wrong_row};

@@ -33,13 +33,6 @@ passed_over hashes x h (Some m) other l = (
 new_last : (hashes : List ℕ) (h : ℕ) → IsLastBelow (hashes ++ h ∷ []) h (suc (length hashes)) (Some (length hashes))
 new_last hashes h = (omega arith, get-end hashes h, λ j above below at. absurd (omega arith))
 
-pub chained_none : (last : ℕ → Option ℕ) → ((h : ℕ) → last h ≡ None) → IsChained [] [] last
-chained_none last none = record {
-  lengths = refl;
-  ends = λ h. subst (IsLastBelow [] h 0) (sym (none h)) (λ j below at. absurd (omega arith));
-  links = λ i h o at at'. absurd (let g : ⊥ = cc in g);
-}
-
 module _ (hashes : List ℕ) (earlier : List (Option ℕ)) (last last' : ℕ → Option ℕ) (x : ℕ) (c : IsChained hashes earlier last)
     (updates : (q : ℕ) → last' q ≡ cond (nat_eq x q) (Some (length hashes)) (last q)) where
   new_end : (h : ℕ) (b : Bool) → nat_eq x h ≡ b → IsLastBelow (hashes ++ x ∷ []) h (suc (length hashes)) (cond b (Some (length hashes)) (last h))
@@ -80,13 +73,6 @@ module _ {S P : Type 0} (point : S → P) (ks : List (SchemaKey S)) (k : SchemaK
     pub bound : ℕ
     pub last : IsLastBelow (map hash_of ks) (hash_of k) bound next
     pub below : (j : ℕ) → slice_get (map (key_of point) ks) j ≡ Some (key_of point k) → j < bound
-
-  pub seeks_first : (earlier : List (Option ℕ)) (last : ℕ → Option ℕ) → IsChained (map hash_of ks) earlier last → Seeks (last (hash_of k))
-  seeks_first earlier last c = record {
-    bound = length (map hash_of ks);
-    last = c.ends (hash_of k);
-    below = λ j e. slice_get_within (map hash_of ks) j (hash_of k) (hash_at j e);
-  }
 
   pub seeks_within : (m : ℕ) → Seeks (Some m) → m < length ks
   seeks_within m s = let w = slice_get_within (map hash_of ks) m (hash_of k) s.last.1 in let l = length-map ks (λ (a : SchemaKey S). hash_of a) in omega arith

@@ -1,16 +1,13 @@
 -- Equality of the parts of a key, by their tests.
-use Rattle.std.proofs.Common.{◌≡◌, ℕ, ◌&&◌, ◌==◌, Bool, true, false, List, [], ◌∷◌, refl, sym, ap, true≢false, ◌∙◌, ◌<◌, ◌≤◌, arith, length, map, get_or}
+use Rattle.std.proofs.Common.{◌≡◌, ℕ, ◌&&◌, ◌==◌, Bool, true, false, List, [], ◌∷◌, refl, sym, ap, true≢false, ◌∙◌, ◌<◌, length, map, get_or}
 use Rattle.std.specs.Prelude.{Some, slice_get}
 use Rattle.std.proofs.lemmas.Bool.{eqb-true, eq-eqb}
 use Rattle.std.proofs.lemmas.Slice.Eq.{bytes_eq-Decides}
-use Rattle.std.proofs.lemmas.Option.{slice_get-map, slice_get_read, slice_get_within}
-use Rattle.std.proofs.lemmas.List.{length-map}
+use Rattle.std.proofs.lemmas.Option.{slice_get-map, slice_get_read}
 use Rattle.schema_reports.specs.Instance.{Place, Step, same_place, same_step, to_member, to_item, to_name}
 use Rattle.schema_reports.specs.Drafts as spec
 use Rattle.schema_reports.specs.Plan.{Key}
-use Rattle.schema_reports.specs.KeywordViews.{draft_of}
 use Rattle.schema_reports.specs.declared.keywords.Draft.{Draft}
-use Rattle.schema_reports.specs.declared.keywords.Draft.TheVariants.{Draft4, Draft6, Draft7, Draft201909, Draft202012, Unknown}
 
 pub and_parts : (a b : Bool) → (a && b) ≡ true → (a ≡ true) × (b ≡ true)
 and_parts true true h = (refl, refl)
@@ -80,16 +77,6 @@ draft_itself spec.draft_2019_09 = refl
 draft_itself spec.draft_2020_12 = refl
 draft_itself spec.draft_unknown = refl
 
--- two of the code's drafts are one where they are one in the definitions
-pub draft_of_one : (a b : Draft) → draft_of a ≡ draft_of b → a ≡ b
-draft_of_one Draft4 Draft4 h = refl
-draft_of_one Draft6 Draft6 h = refl
-draft_of_one Draft7 Draft7 h = refl
-draft_of_one Draft201909 Draft201909 h = refl
-draft_of_one Draft202012 Draft202012 h = refl
-draft_of_one Unknown Unknown h = refl
-draft_of_one _ _ h = cc
-
 vocabulary_true : (a b : spec.Vocabulary) → spec.same_vocabulary a b ≡ true → a ≡ b
 vocabulary_true spec.core_vocabulary spec.core_vocabulary h = refl
 vocabulary_true spec.applicator_vocabulary spec.applicator_vocabulary h = refl
@@ -154,9 +141,3 @@ not_at v xs n x b h is differs e =
     let same : Some (v x) ≡ Some b = rw (slice_get-map v xs n, at) at e in
     let same' : v x ≡ b = cc in
     differs same'
-
--- past the end there is nothing
-pub none_past : {A B : Type 0} (v : A → B) (xs : List A) (n : ℕ) (b : B) → ((i : ℕ) → i < n → slice_get (map v xs) i ≡ Some b → ⊥)
-    → length xs ≤ n → (i : ℕ) → slice_get (map v xs) i ≡ Some b → ⊥
-none_past v xs n b nowhere h i e =
-    nowhere i (let w = slice_get_within (map v xs) i b e in omega (arith, w, length-map xs v)) e

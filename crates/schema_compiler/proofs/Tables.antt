@@ -66,9 +66,6 @@ module _ {S K R C : Type 0} (w : Parts S K R) (shape : C → K) (limit : ℕ) wh
     none : fills.0.plan ≡ None
     none = ap (λ (x : NodeEntry C). x.plan) (some_is fills.0 reserved.0 (sym fills.2 ∙ reserved.1)) ∙ reserved.2
 
-    pub finishes : Finishes nodes i nodes'
-    finishes = (now, p, refl, fills.3)
-
     below : i < length nodes
     below = slice_get_within nodes i fills.0 fills.2
 

@@ -1,5 +1,5 @@
 -- How a maker's turns are followed, and what it has asked for so far.
-use Rattle.std.proofs.Common.{◌≡◌, ℕ, suc, max, Bool, cond, List, [], ◌∷◌, ◌++◌, length, map, refl, ap, sym, ◌∙◌, subst, append_assoc, inl}
+use Rattle.std.proofs.Common.{◌≡◌, ℕ, suc, max, Bool, cond, List, [], ◌∷◌, ◌++◌, length, map, refl, ap, sym, ◌∙◌, subst, append_assoc}
 use Rattle.std.specs.Prelude.{Option, Some, None, String, string_bytes, filter_map, flat_map, Vec}
 use Rattle.std.specs.declared.alloc.Global.{Global}
 use Rattle.std.proofs.lemmas.List.{append-nil}
@@ -9,10 +9,9 @@ use Rattle.schema_reports.specs.Making.{Made, Making, Request, Script, a_keyword
 use Rattle.schema_reports.specs.Plan.{Edge, Key, found, is_self, part_made, requested, subschema, to_ref}
 use Rattle.schema_reports.specs.Reach.{maker_edges}
 use Rattle.schema_compiler.specs.declared.compiler.error.BuildError.{BuildError}
-use Rattle.schema_compiler.specs.declared.compiler.error.BuildError.TheVariants.{KeywordRefused}
 use Rattle.schema_compiler.specs.Refusing.{Refused}
 use Rattle.schema_compiler.proofs.References.{asked_not_self, leads_none, leads_some, skipped_self}
-use Rattle.schema_reports.specs.Refusals.{Cause, end_causes, keyword_refused, lookup_causes, maker_causes, request_causes}
+use Rattle.schema_reports.specs.Refusals.{Cause, end_causes, lookup_causes, maker_causes, request_causes}
 use Rattle.schema_reports.specs.ReportViews.{owned_error_of}
 use Rattle.schema_reports.specs.declared.reports.OwnedError.{OwnedError}
 use Rattle.schema_reports.specs.Guarded.{Children, NodeEdge, node_keyword}
@@ -22,8 +21,8 @@ use Rattle.schema_node.specs.declared.context.table.MakerStep.{MakerStep}
 use Rattle.schema_node.specs.declared.context.table.MakerStep.TheVariants.{Compile, Refer, Keyword, Nothing, Refuse}
 use Rattle.schema_compiler.specs.Compiling.{Each, answers, option_one, reference_asked}
 use Rattle.schema_compiler.specs.Filling.{AreChildren, IsMadePart, IsStep, IsTable, LeadsTo}
-use Rattle.schema_compiler.proofs.Lists.{each_append, in_right, length-more}
-use Rattle.schema_compiler.proofs.Growing.{children_stay, edges_stay, grown_stays, names_refused, refused_first, refused_later, step_none, step_then}
+use Rattle.schema_compiler.proofs.Lists.{each_append, length-more}
+use Rattle.schema_compiler.proofs.Growing.{children_stay, edges_stay, grown_stays, refused_first, refused_later, step_none, step_then}
 
 abbrev pub resumed : {K : Type 0} → Waiting K → Told → Script K
 resumed (begun s) told = s
@@ -277,11 +276,3 @@ module _ {S K R C : Type 0} (w : Parts S K R) (shape : C → K) (limit : ℕ) (k
   refer_refused making waiting waiting' told es keys keys' nodes nodes' text e a takes h =
       let st = refer_step shape (length a.requests) (resumed waiting told) text waiting' (due_step shape waiting told (length a.requests) (Refer text) waiting' a.due takes) in
       ask_refused making waiting told es keys keys' nodes nodes' (refer (string_bytes text)) _ e a (ap (λ s. followed (is_self w k to_ref) s) st.2) h
-
-  pub maker_refused : (making : Making K) (waiting waiting' : Waiting K) (told : Told) (es : Children) (keys keys' : List (Key S)) (nodes nodes' : List (NodeEntry C)) (error : OwnedError)
-      → Asked making waiting told es keys keys' nodes nodes' → TakesTurn shape waiting told (Refuse error) waiting'
-      → Refused w limit (maker_edges w k name making) (maker_causes w k making) keys (KeywordRefused error)
-  maker_refused making waiting waiting' told es keys keys' nodes nodes' error a takes =
-      let e = refuse_step shape (length a.requests) (resumed waiting told) error waiting' (due_step shape waiting told (length a.requests) (Refuse error) waiting' a.due takes) in
-      subst (λ f. Refused w limit (maker_edges w k name f) (maker_causes w k f) keys (KeywordRefused error)) (sym (ended_by making waiting told es keys keys' nodes nodes' _ a e))
-      (names_refused w limit (edges_of a.requests) (causes_of a.requests ++ keyword_refused (owned_error_of error) ∷ []) keys (KeywordRefused error) (in_right (causes_of a.requests) (keyword_refused (owned_error_of error) ∷ []) _ (inl refl)))

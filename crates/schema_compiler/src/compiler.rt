@@ -59,6 +59,7 @@ pub fn compile<R: Resolver, K: Validate, T: KeywordTable<K>>(
     };
     let path = Location::new(alloc);
     edge_to(alloc, resolver, table, options, &mut compiled, root, path)?;
+    // (the call says that the table is ranked)
     let count = compiled.nodes.len();
     let _ranked = count;
     Ok(compiled)

@@ -1,5 +1,5 @@
 //! References: where they lead, and the keys of their targets.
-ghost use Rattle.std.specs.Prelude.{◌≡◌, ℕ, IfOk, IfErr, MatchOption, MatchResult, Some, None, Ok, true, false, option_map, [], if◌then◌else◌, ◌==◌};
+ghost use Rattle.std.specs.Prelude.{◌≡◌, IfOk, IfErr, MatchOption, MatchResult, Some, None, Ok, true, false, option_map, [], ◌==◌};
 ghost use Rattle.schema_reports.specs.Instance.{Text};
 ghost use Rattle.schema_reports.specs.Pointer.{joined};
 ghost use Rattle.schema_reports.specs.Plan.{found, location_by, start_by, referred, reference_edge, reference_named, is_self};

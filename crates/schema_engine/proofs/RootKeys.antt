@@ -10,10 +10,8 @@ use Rattle.schema_reports.specs.Keywords.{Keywords}
 use Rattle.schema_reports.specs.Parts.{Parts}
 use Rattle.schema_reports.specs.Plan.{Key}
 use Rattle.schema_reports.specs.Root.{IsRoot, base_of, key_at}
-use Rattle.schema_compiler.specs.declared.compiler.error.BuildError.{BuildError}
-use Rattle.schema_compiler.specs.declared.compiler.error.BuildError.TheVariants.{KeywordRefused, Lookup, MetaSchema, MissingRoot, NodeLimit, NotASchema, OutOfMemory, ReferenceNotText, UnsupportedVocabulary}
 use Rattle.schema_engine.specs.Handed.{Options, parts_of}
-use Rattle.schema_engine.specs.Roots.{IsRootKey, RefusesKey}
+use Rattle.schema_engine.specs.Roots.{IsRootKey}
 
 ok_is : {A E : Type 0} (r : Result A E) (a b : A) → r ≡ Ok a → r ≡ Ok b → a ≡ b
 ok_is r a b p q = cc
@@ -41,14 +39,3 @@ module _ {S K K' R R' : Type 0} (resolver : Resolver S) (table : Table K) (table
 
   pub root_key_too : (k : Key S) → IsRootKey w schema k → IsRootKey w' schema k
   root_key_too k r = record { draft = r.draft; entrance = r.entrance; drafted = r.drafted; entered = r.entered; is_key = r.is_key }
-
-  pub refuses_key_too : (e : BuildError) → RefusesKey w schema e → RefusesKey w' schema e
-  refuses_key_too (NotASchema location) h = h
-  refuses_key_too (ReferenceNotText location) h = h
-  refuses_key_too (Lookup text) h = h
-  refuses_key_too (KeywordRefused error) h = h
-  refuses_key_too (UnsupportedVocabulary uri) h = h
-  refuses_key_too (MetaSchema error) h = h
-  refuses_key_too (MissingRoot uri) h = record { draft = h.draft; drafted = h.drafted; is_base = h.is_base; missing = h.missing }
-  refuses_key_too (NodeLimit n) h = h
-  refuses_key_too OutOfMemory h = tt

@@ -1,5 +1,5 @@
 //! Validators of compiled nodes.
-ghost use Rattle.std.specs.Prelude.{◌≡◌, ◌<◌, Bool, IfOk, length};
+ghost use Rattle.std.specs.Prelude.{◌≡◌, ◌<◌, IfOk, length};
 ghost use Rattle.serde_json.specs.View.{view};
 ghost use Rattle.schema_reports.specs.KeywordTable.{builtin_in};
 ghost use Rattle.schema_reports.specs.KeywordViews.{draft_of};

@@ -1,5 +1,5 @@
 //! A validator: what it answers of instances.
-ghost use Rattle.std.specs.Prelude.{◌≡◌, [], false, ℕ, List, Bool, Option, IfOk, All, IfSome, length, slice_get, ◌<◌};
+ghost use Rattle.std.specs.Prelude.{◌≡◌, [], false, Bool, Option, IfOk, All, IfSome, length, slice_get, ◌<◌};
 ghost use Rattle.serde_json.specs.View.{view};
 ghost use Rattle.schema_reports.specs.Cover.{is_valid};
 ghost use Rattle.schema_reports.specs.Headline.{VerdictSays};
@@ -268,6 +268,10 @@ impl<K: Validate, M: Matcher> Validator<K, M> {
 
     /// Whether the instance is accepted. Where the first run meets a match that the matcher leaves unfinished, whether all
     /// outcomes of such matches accept it; no, where more runs are called for than a call makes.
+    ///
+    /// # Errors
+    ///
+    /// Want of memory.
     pub fn is_valid(&self, alloc: Global, instance: &Value) -> Result<bool, OutOfMemory>
         requires unmarked { (texts : Bool) → TakesNoMarks (K.words texts) }
         ensures depth { IfOk result (λ valid. FromSomeDepth K.shape K.words K.is_whole M.matching self.now (view instance.now) (λ texts v. VerdictSays v is_valid valid)) }
@@ -279,6 +283,10 @@ impl<K: Validate, M: Matcher> Validator<K, M> {
     /// The first error, or none where the instance is accepted. Where the first run meets a match that the matcher leaves
     /// unfinished, the first of the errors that all outcomes of such matches give, or one that tells of such a match, where they
     /// give none in common and some outcome refuses, or where more runs are called for than a call makes.
+    ///
+    /// # Errors
+    ///
+    /// Want of memory.
     pub fn validate<'i>(
         &self,
         alloc: Global,
@@ -295,6 +303,10 @@ impl<K: Validate, M: Matcher> Validator<K, M> {
     /// All errors, in order; none where the instance is accepted. Where the first run meets a match that the matcher leaves
     /// unfinished, the errors that all outcomes of such matches give, or one that tells of such a match, where they give none in
     /// common and some outcome refuses, or where more runs are called for than a call makes.
+    ///
+    /// # Errors
+    ///
+    /// Want of memory.
     pub fn iter_errors<'i>(
         &self,
         alloc: Global,

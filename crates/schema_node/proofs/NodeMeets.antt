@@ -21,7 +21,7 @@ use Rattle.schema_node.specs.declared.context.keyword.Reply as code
 use Rattle.schema_node.specs.NodeRuns.{Joins, Reads, Replies, accepts, child_says, edge_needs, edge_says, form_says, refuses, reply_by}
 use Rattle.schema_node.proofs.Matches.{meets_append, meets_same}
 use Rattle.schema_node.proofs.NodeOutcomes.{across_is, outcome_is}
-use Rattle.schema_node.proofs.NodeRuns.{busy_case, entered_case, free_case, none_case, some_case}
+use Rattle.schema_node.proofs.NodeRuns.{busy_case, entered_case, free_case, some_case}
 
 module _ {K R : Type 0} (words : Bool → Keywords K R) (is_whole : K → Bool) (nodes : Nodes K) (count : ℕ) (w : Settling) where
   -- ---- edges
@@ -32,12 +32,6 @@ module _ {K R : Type 0} (words : Bool → Keywords K R) (is_whole : K → Bool) 
 
     needs_of_entered : e.guarded ≡ true → list_any (λ i. i == e.node) busy ≡ false → edge_needs nodes count e s busy ≡ suc (left nodes count e.node s (e.node ∷ busy))
     needs_of_entered g t = entered_case e.guarded (list_any (λ i. i == e.node) busy) (suc (left nodes count e.node s busy)) _ 0 g t
-
-    pub meets_free : e.guarded ≡ false → NodeMeets words is_whole nodes count w mode (path ++ e.path) p busy s old new e.node → EdgeMeets words is_whole nodes count w mode path p busy s old new e
-    meets_free g h texts root depth reads l =
-        let n = needs_of_free g in
-        let is = free_case e.guarded (list_any (λ i. i == e.node) busy) (deep_run words nodes w texts root depth e.node (path ++ e.path) p busy) (deep_run words nodes w texts root depth e.node (path ++ e.path) p (e.node ∷ busy)) no_run g in
-        meets_same w.matcher old new _ _ (ap (λ (r : Run). r.met mode) (sym is)) (h texts root depth reads (omega (arith, n, l)))
 
     pub meets_busy : e.guarded ≡ true → list_any (λ i. i == e.node) busy ≡ true → old ≡ new → EdgeMeets words is_whole nodes count w mode path p busy s old new e
     meets_busy g t same texts root depth reads l =
@@ -53,11 +47,6 @@ module _ {K R : Type 0} (words : Bool → Keywords K R) (is_whole : K → Bool) 
   -- ---- children
 
   module _ (mode : Mode) (path : Text) (p : Place) (busy : List ℕ) (s : Subject) (i : ℕ) (es : Children) (q : Question) (old new : Remembered) where
-    pub meets_none : node_child es q.child ≡ None → old ≡ new → ChildMeets words is_whole nodes count w mode path p busy s old new i es q
-    meets_none c same texts root depth reads l =
-        let is = none_case (node_child es q.child) no_run (λ e. edge_run words nodes w texts root depth path p busy e q.below) c in
-        meets_same w.matcher old new [] _ (ap (λ (r : Run). r.met mode) (sym is)) same
-
     pub meets_here : (e : NodeEdge) → node_child es q.child ≡ Some e → q.below ≡ here → edge_needs nodes count e s busy ≤ left nodes count i s busy
         → EdgeMeets words is_whole nodes count w mode path p busy s old new e → ChildMeets words is_whole nodes count w mode path p busy s old new i es q
     meets_here e c b f h texts root depth reads l =
@@ -96,9 +85,6 @@ module _ {K R : Type 0} (words : Bool → Keywords K R) (is_whole : K → Bool) 
         go : (d : ℕ) → left nodes count i s busy < d → Reads is_whole nodes count w p s (reading w texts root d) → MeetsEach w.matcher old ((deep_run words nodes w texts root d i path p busy).met mode) new
         go zero l reads = absurd (omega arith)
         go (suc d) l reads = (subst PlanMeets (sym e) h) texts root d (record { stands = reads.stands; tells = reads.tells; matcher = reads.matcher; completes = reads.completes }) (omega (arith, l))
-
-    pub meets_always : (plan : NodePlan K) → nodes.entries i ≡ plan → plan ≡ node_always → old ≡ new → NodeMeets words is_whole nodes count w mode path p busy s old new i
-    meets_always plan e f same = meets_by_plan node_always (e ∙ f) (λ texts root depth reads l. same)
 
     pub meets_never : nodes.entries i ≡ node_never → old ≡ new → NodeMeets words is_whole nodes count w mode path p busy s old new i
     meets_never e same = meets_by_plan node_never e (λ texts root depth reads l. same)

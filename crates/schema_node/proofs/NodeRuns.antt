@@ -103,11 +103,6 @@ module _ {K R : Type 0} (words : Bool → Keywords K R) (is_whole : K → Bool) 
     needs_of_entered g t = entered_case e.guarded (list_any (λ i. i == e.node) busy) (suc (left nodes count e.node s busy)) _ 0 g t
 
     module _ (mode : Mode) (path : Text) (p : Place) (r : code.Reply) where
-      pub edge_free : e.guarded ≡ false → NodeReplies words is_whole nodes count w mode (path ++ e.path) p busy s e.node r → EdgeReplies words is_whole nodes count w mode path p busy s e r
-      edge_free g h x reads l =
-          let n = needs_of_free g in
-          replies_same x mode r _ _ (sym (free_case e.guarded (list_any (λ i. i == e.node) busy) (deep words nodes x e.node (path ++ e.path) p busy) (deep words nodes x e.node (path ++ e.path) p (e.node ∷ busy)) accepted g)) (h x reads (omega arith))
-
       pub edge_busy : e.guarded ≡ true → list_any (λ i. i == e.node) busy ≡ true → ((texts : Bool) → reply_of texts r ≡ reply_by mode accepted) → errors_in r ≡ [] → EdgeReplies words is_whole nodes count w mode path p busy s e r
       edge_busy g t a n x reads l =
           replies_accepted x mode r _ a n (busy_case e.guarded (list_any (λ i. i == e.node) busy) (deep words nodes x e.node (path ++ e.path) p busy) (deep words nodes x e.node (path ++ e.path) p (e.node ∷ busy)) accepted g t)
@@ -144,9 +139,6 @@ module _ {K R : Type 0} (words : Bool → Keywords K R) (is_whole : K → Bool) 
   -- ---- children
 
   module _ (mode : Mode) (path : Text) (p : Place) (busy : List ℕ) (s : Subject) (i : ℕ) (es : Children) (q : Question) (r : code.Reply) where
-    pub child_none : node_child es q.child ≡ None → ((texts : Bool) → reply_of texts r ≡ reply_by mode accepted) → errors_in r ≡ [] → ChildReplies words is_whole nodes count w mode path p busy s i es q r
-    child_none c a n x reads l = replies_accepted x mode r _ a n (none_case (node_child es q.child) accepted (λ e. edge_says words nodes x path p busy e q.below) c)
-
     pub child_here : (e : NodeEdge) → node_child es q.child ≡ Some e → q.below ≡ here → edge_needs nodes count e s busy ≤ left nodes count i s busy
         → EdgeReplies words is_whole nodes count w mode path p busy s e r → ChildReplies words is_whole nodes count w mode path p busy s i es q r
     child_here e c b f h x reads l =
@@ -192,9 +184,6 @@ module _ {K R : Type 0} (words : Bool → Keywords K R) (is_whole : K → Bool) 
             let answer = (subst PlanReplies (sym e) h) (record x { depth = d }) (record { stands = reads.stands; tells = reads.tells; matcher = reads.matcher; completes = reads.completes }) (omega arith) in
             record { same = answer.same; borrows = answer.borrows }
 
-    pub node_accepts : (plan : NodePlan K) → nodes.entries i ≡ plan → plan ≡ node_always → ((texts : Bool) → reply_of texts r ≡ reply_by mode accepted) → errors_in r ≡ [] → NodeReplies words is_whole nodes count w mode path p busy s i r
-    node_accepts plan e f a n = node_by_plan node_always (e ∙ f) (λ x reads l. replies_accepted x mode r accepted a n refl)
-
   -- ---- entries
 
   module _ (mode : Mode) (x : Reading) where
@@ -212,9 +201,6 @@ module _ {K R : Type 0} (words : Bool → Keywords K R) (is_whole : K → Bool) 
     settled_entries r rest all t (o, f, e) =
         let stays = settled_stays mode o rest (ap refuses (sym f.same) ∙ t) in
         record { same = f.same ∙ sym stays ∙ ap (reply_by mode) e; borrows = f.borrows }
-
-    pub end_entries : (r : code.Reply) (rest all : Outcome) → rest ≡ accepted → (o : Outcome) × Replies x mode r o × (both o rest ≡ all) → Replies x mode r all
-    end_entries r rest all n (o, f, e) = replies_same x mode r o all (sym (both-accepted o) ∙ ap (both o) (sym n) ∙ e) f
 
 -- ---- the verdict is yes exactly where there is no error
 

@@ -120,10 +120,6 @@ found n p (e ∷ es) h =
     ] in
     both (same_place e.1 p) (e.0 == n) (among n (busy_at p es)) refl refl refl (sym (among-pair n p e es) ∙ h)
 
-or_left : (a b : Bool) → a ≡ true → (a || b) ≡ true
-or_left true b h = refl
-or_left false b h = absurd (true≢false (sym h))
-
 or_right : (a b : Bool) → b ≡ true → (a || b) ≡ true
 or_right true b h = refl
 or_right false b h = h

@@ -1,5 +1,5 @@
 -- What passes between the engine and a keyword, as the definitions have it.
-use Rattle.std.specs.Prelude.{◌≡◌, List, [], ◌∷◌, ◌++◌, Bool, true, false, Option, Some, None, string_bytes, map, option_map}
+use Rattle.std.specs.Prelude.{◌≡◌, List, [], ◌∷◌, Bool, true, false, Option, Some, None, string_bytes, map, option_map}
 use Rattle.schema_reports.specs.Instance.{Subject, to_member, to_item, to_name}
 use Rattle.schema_reports.specs.InstanceTexts.{subject_has_float}
 use Rattle.schema_reports.specs.InstanceViews.{step_of}
@@ -105,13 +105,6 @@ answer_of texts (answer.Evaluation b es) = record { verdict = b; errors = []; gi
 -- how an answer begins
 abbrev pub fresh : spec.Answer
 fresh = with_errors []
-
--- the answer in a mode, with one fault more
-abbrev pub added : spec.Mode → spec.Answer → spec.Fault → spec.Answer
-added spec.for_verdict a f = record a { verdict = false }
-added spec.for_first a f = elim a.errors [ [] ↦ with_errors (f ∷ []) | g ∷ gs ↦ a ]
-added spec.for_all a f = with_errors (a.errors ++ f ∷ [])
-added spec.for_units a f = a
 
 -- texts are spoken of only where neither the keyword nor the instance holds a fraction
 pub record Tells (texts is_whole : Bool) (s : Subject) : Type 0 where

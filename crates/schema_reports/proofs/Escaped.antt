@@ -32,12 +32,6 @@ escaped_wide c big =
     ] in
     escaped_high (encode c) high
 
-pub escaped_tilde : escaped (encode 126) ≡ 126 ∷ 48 ∷ []
-escaped_tilde = ap escaped (encode_ascii 126 (omega arith))
-
-pub escaped_slash : escaped (encode 47) ≡ 126 ∷ 49 ∷ []
-escaped_slash = ap escaped (encode_ascii 47 (omega arith))
-
 plain_small : (x : ℕ) → (x ≡ 126 → ⊥) → (x ≡ 47 → ⊥) → cond (eqb x 126) (126 ∷ 48 ∷ []) (cond (eqb x 47) (126 ∷ 49 ∷ []) (x ∷ [])) ++ [] ≡ x ∷ []
 plain_small x h k = grind (arith, nat_tests)
 

@@ -7,8 +7,8 @@ use Rattle.std.specs.Option.{option_and_then}
 use Rattle.std.proofs.lemmas.Slice.Eq.{bytes_eq-Decides}
 use Rattle.std.proofs.lemmas.Map.Text.{is_eq-slice_cmp}
 use Rattle.serde_json.specs.Data.{Data, null, boolean, number, string, array, object, Items, no_items, item, Members, no_members, member}
-use Rattle.serde_json.specs.Find.{get, get_member, get_item, at, as_object}
-use Rattle.schema_reports.specs.Instance.{Text, a_value, a_name, after_step, item_of, member_of, to_item, to_member, to_name}
+use Rattle.serde_json.specs.Find.{get, get_member, get_item, as_object}
+use Rattle.schema_reports.specs.Instance.{Text, a_value, a_name, after_step, item_of, member_of, to_member, to_name}
 
 by_order : (o : Ordering) (d : Data) (a b : Option Data) → a ≡ b → cond (is_eq o) (Some d) a ≡ match_ordering o b (Some d) b
 by_order Less d a b e = e
@@ -46,14 +46,6 @@ after_name k (string s) = refl
 after_name k (array ds) = refl
 after_name k (object ms) = mapped (λ e. a_name k) (member_of k ms) ∙ ap (option_map (λ e. a_name k)) (member_of-get_member k ms)
 
-pub after_item : (n : ℕ) (d : Data) → after_step (to_item n) (a_value d) ≡ option_map a_value (at n d)
-after_item n null = refl
-after_item n (boolean b) = refl
-after_item n (number m) = refl
-after_item n (string s) = refl
-after_item n (array ds) = mapped a_value (item_of n ds) ∙ ap (option_map a_value) (item_of-get_item n ds)
-after_item n (object ms) = refl
-
 -- ---- an object's members
 
 pub get-of-object : (k : Text) (d : Data) (ms : Members) → Some ms ≡ as_object d → get k d ≡ get_member k ms
@@ -63,14 +55,6 @@ get-of-object k (number n) ms h = cc
 get-of-object k (string s) ms h = cc
 get-of-object k (array ds) ms h = cc
 get-of-object k (object es) ms h = let e : ms ≡ es = cc in ap (get_member k) (sym e)
-
-pub get-of-none : (k : Text) (d : Data) → ◌≡◌ {A = Option Members} None (as_object d) → get k d ≡ None
-get-of-none k null h = refl
-get-of-none k (boolean b) h = refl
-get-of-none k (number n) h = refl
-get-of-none k (string s) h = refl
-get-of-none k (array ds) h = refl
-get-of-none k (object es) h = cc
 
 pub same-from-equal : (xs ys : List ℕ) → slice_cmp nat_cmp xs ys ≡ Equal → xs ≡ ys
 same-from-equal xs ys e =

@@ -31,7 +31,6 @@ mod Runs
 pub mod PlainSense
 pub mod GuardedSense
 pub mod CoverCounts
-mod OneKeyword
 pub mod SensesMeant
 mod PlanForms
 pub mod WholeNumbers
@@ -49,8 +48,6 @@ pub mod ClonedTexts
 pub mod Places
 pub mod Escaped
 pub mod Found
-pub mod Heights
-pub mod FloatFree
 mod Forest
 mod SearchCounts
 mod SharedLists
@@ -59,4 +56,3 @@ mod SearchedFailure
 mod SearchedSays
 mod SearchedErrors
 pub mod SitesInside
-pub mod Remembering

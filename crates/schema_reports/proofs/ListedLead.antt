@@ -9,7 +9,7 @@ use Rattle.schema_reports.specs.Parts.{Parts}
 use Rattle.schema_reports.specs.Plan.{Key}
 use Rattle.schema_reports.specs.Cover.{Call, Sense, iter_errors, validate}
 use Rattle.schema_reports.specs.Shared.{Kept, none, keep, leave}
-use Rattle.schema_reports.specs.Headline.{IsFailure, OneFailure, Lists, IsListed, FirstShared, here, later, IsFirst}
+use Rattle.schema_reports.specs.Headline.{IsFailure, OneFailure, Lists, FirstShared, here, later, IsFirst}
 use Rattle.schema_reports.specs.Headline as headline
 use Rattle.schema_reports.specs.ErrorsLead.{PointsAt, ListedLead, FirstLeads}
 

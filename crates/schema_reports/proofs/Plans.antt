@@ -84,14 +84,6 @@ module _ (as' : Assumptions) where
     ends : Along [] accepted accepted
     goes : {l : Looked} {ls : List Looked} {a b az bz : Outcome} → EntrySpeaks l a b → Along ls az bz → Along (l ∷ ls) (both a az) (both b bz)
 
-  pub along_agrees_a : {ls : List Looked} {a b : Outcome} → Along ls a b → Agrees a
-  along_agrees_a ends = (λ e. refl, λ e. refl)
-  along_agrees_a (goes {a = a} {az = az} s rest) = agrees_both a az s.agrees_a (along_agrees_a rest)
-
-  pub along_agrees_b : {ls : List Looked} {a b : Outcome} → Along ls a b → Agrees b
-  along_agrees_b ends = (λ e. refl, λ e. refl)
-  along_agrees_b (goes {b = b} {bz = bz} s rest) = agrees_both b bz s.agrees_b (along_agrees_b rest)
-
   module _ (l : Looked) (ls : List Looked) (a b az bz : Outcome) (s : EntrySpeaks l a b) where
     entry_verdict : AllAssumed as' (l.met for_verdict) → a.verdict ≡ b.verdict
     entry_verdict e = s.in_mode for_verdict e

@@ -167,13 +167,3 @@ module _ {S K R : Type 0} (w : Parts S K R) (instance : Data) (as' : Assumptions
   pub run_outcome : (n : ℕ) (k : Key S) (path : Text) (p : Place) → (run w instance as' n k path p).outcome tt ≡ unfold_ w instance (completion_of as') n k path p
   run_outcome zero k path p = within_outcome (λ k' path' p'. no_run) (λ k' path' p'. accepted) (λ k' path' p'. refl) (height w k) k path p
   run_outcome (suc n) k path p = within_outcome (run w instance as' n) (unfold_ w instance (completion_of as') n) (run_outcome n) (height w k) k path p
-
-  within_units : (a : Key S → Text → Place → Run) (b : Key S → Text → Place → Unit_) → ((k : Key S) (path : Text) (p : Place) → (a k path p).units tt ≡ b k path p)
-      → (h : ℕ) (k : Key S) (path : Text) (p : Place) → (within w instance no_run (run_node w instance as') a h k path p).units tt ≡ within w instance no_unit (unit_of w instance (completion_of as')) b h k path p
-  within_units a b s zero k path p = refl
-  within_units a b s (suc h) k path p = ap (unit_of w instance (completion_of as') k path p)
-      (λ i edge q. by_kind (λ r. r.units tt) edge.is_reference (a edge.key (path ++ edge.path) q) (within w instance no_run (run_node w instance as') a h edge.key (path ++ edge.path) q) _ _ (s edge.key (path ++ edge.path) q) (within_units a b s h edge.key (path ++ edge.path) q) i)
-
-  pub run_units : (n : ℕ) (k : Key S) (path : Text) (p : Place) → (run w instance as' n k path p).units tt ≡ plain_units w instance (completion_of as') n k path p
-  run_units zero k path p = within_units (λ k' path' p'. no_run) (λ k' path' p'. no_unit) (λ k' path' p'. refl) (height w k) k path p
-  run_units (suc n) k path p = within_units (run w instance as' n) (plain_units w instance (completion_of as') n) (run_units n) (height w k) k path p

@@ -3,15 +3,15 @@ use Rattle.std.proofs.Common.{◌≡◌, ℕ, zero, suc, List, [], ◌∷◌, �
 use Rattle.std.specs.Prelude.{Contains, None, map}
 use Rattle.std.specs.List.{list_any}
 use Rattle.schema_reports.specs.Instance.{Text, Subject}
-use Rattle.schema_reports.specs.Reports.{Outcome, Unit_, report_of}
+use Rattle.schema_reports.specs.Reports.{Unit_, report_of}
 use Rattle.schema_reports.specs.Matching.{Assumptions, Match, Matcher, Matching, completed, completion_of, finished, unfinished}
 use Rattle.schema_reports.specs.Keywords.{Gives, Keywords, Marked, Mode, Question, Reply, Turn, ask, done, ecma, mark, match_text, no_reply, truth, unmark}
-use Rattle.schema_reports.specs.Meaning.{Where, fault_error, keyword_outcome}
+use Rattle.schema_reports.specs.Meaning.{Where}
 use Rattle.schema_reports.specs.Units.{PartUnits, keyword_unit, keyword_units}
 use Rattle.schema_reports.specs.Runs.{Met, Run, keyword_met, reply_in, site_at, turns}
 use Rattle.schema_reports.specs.Laws.{AlwaysAsksRightly, AsksRightly}
 use Rattle.schema_reports.proofs.Reading.{Reads}
-use Rattle.schema_reports.proofs.Local.{each_asked, same_outcome}
+use Rattle.schema_reports.proofs.Local.{each_asked}
 
 -- ---- what the turns of a keyword meet
 
@@ -52,11 +52,6 @@ module _ {K R : Type 0} (keywords : Keywords K R) (matcher : Matcher) (as' : Ass
 -- ---- a keyword
 
 module _ {K R : Type 0} (keywords : Keywords K R) (reads : Reads keywords) (x : Where) (name : Text) (m : K) (s : Subject) where
-  pub outcome_reads : (matches : Matching) (f g : Question → Outcome) → ((q : Question) → Contains (keywords.may_ask m s) q → f q ≡ g q) → keyword_outcome keywords x name m s matches f ≡ keyword_outcome keywords x name m s matches g
-  outcome_reads matches f g h = let qs : List Question = keywords.may_ask m s in same_outcome
-      (reads.holds_reads m s matches _ _ (each_asked _ qs (λ q is. ap (λ o. o.verdict) (h q is))))
-      (ap (map (fault_error x name)) (reads.faults_read m s matches _ _ (each_asked _ qs h)))
-
   units_same : (a b : Gives) (u v : Bool) → a ≡ b → u ≡ v
       → ◌≡◌ {A = PartUnits} (keyword_unit x name u a, map (λ z. (z.0, keyword_unit x z.0 u (record { children = z.1; annotations = None; errors = []; absorbed = [] }))) a.absorbed)
       (keyword_unit x name v b, map (λ z. (z.0, keyword_unit x z.0 v (record { children = z.1; annotations = None; errors = []; absorbed = [] }))) b.absorbed)

@@ -51,14 +51,6 @@ place_is (s ∷ p) (t ∷ q) e = ap₂ (λ x xs. x ∷ xs) (step_is s t (both_le
 place_is [] (t ∷ q) e = absurd (true≢false (sym e))
 place_is (s ∷ p) [] e = absurd (true≢false (sym e))
 
-draft_number : Draft → ℕ
-draft_number draft_4 = 0
-draft_number draft_6 = 1
-draft_number draft_7 = 2
-draft_number draft_2019_09 = 3
-draft_number draft_2020_12 = 4
-draft_number draft_unknown = 5
-
 abbrev DraftIs : Draft → Draft → Type 0
 DraftIs a b = same_draft a b ≡ true → a ≡ b
 

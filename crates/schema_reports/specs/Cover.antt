@@ -1,6 +1,6 @@
 -- The cover of a call takes the outcomes apart of those unfinished matches that its runs meet; each member assumes enough
 -- of them for a run that meets no other. A call decides where its cover has at most 32 members.
-use Rattle.std.specs.Prelude.{Bool, List, None, Option, Some, [], false, find, is_some, length, not, suc, true, zero, ℕ, ◌++◌, ◌∷◌, ◌≡◌, ◌≤◌}
+use Rattle.std.specs.Prelude.{Bool, List, None, Option, Some, [], false, find, is_some, length, not, true, ℕ, ◌++◌, ◌∷◌, ◌≡◌, ◌≤◌}
 use Rattle.serde_json.specs.Data.{Data}
 use Rattle.schema_reports.specs.Instance.{Text}
 use Rattle.schema_reports.specs.Reports.{Outcome}
@@ -54,11 +54,3 @@ module _ (v : Sense) where
   -- a call decides where its cover has at most 32 members
   abbrev pub Decides : Call → Type 0
   Decides call = (members : List Assumptions) × Cover call [] members × (length members ≤ 32)
-
-  -- the same, computed: none where branches go more than `most` deep
-  abbrev pub grown : ℕ → Call → Assumptions → Option (List Assumptions)
-  grown zero call as' = elim (branch_at call as') [ None ↦ Some (as' ∷ []) | Some m ↦ None ]
-  grown (suc most) call as' = elim (branch_at call as') [
-    | None ↦ Some (as' ∷ [])
-    | Some m ↦ elim (grown most call (assuming m false as')) [ None ↦ None | Some if_no ↦ elim (grown most call (assuming m true as')) [ None ↦ None | Some if_yes ↦ Some (if_no ++ if_yes) ] ]
-  ]

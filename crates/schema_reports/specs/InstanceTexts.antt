@@ -1,4 +1,4 @@
--- Whether the text of an instance is spoken of: a float's text is not.
+-- Whether an instance holds a fraction, so that its text is not spoken of.
 use Rattle.std.specs.Prelude.{Bool, false}
 use Rattle.serde_json.specs.Written.{has_float}
 use Rattle.schema_reports.specs.Instance.{Subject, a_name, a_value}

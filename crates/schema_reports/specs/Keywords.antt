@@ -29,7 +29,7 @@ pub record Own : Type 0 where
   pub name : Text
   pub text : Text
 
--- an error of its own, or one of a child, which passes unchanged
+-- an error of its own, or one of a child, which keeps paths, place and text
 pub data Fault : Type 0 where
   own : Own → Fault
   passed : Error → Fault

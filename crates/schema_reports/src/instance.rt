@@ -1,5 +1,5 @@
 //! Instances and their places.
-ghost use Rattle.std.specs.Prelude.{◌≡◌, ℕ, List, [], ◌∷◌, ◌++◌, IfOk, option_map, Option, Some, None, map, IfSome, false, string_bytes};
+ghost use Rattle.std.specs.Prelude.{◌≡◌, List, [], ◌∷◌, ◌++◌, IfOk, option_map, Option, Some, None, map, IfSome, false, string_bytes};
 ghost use Rattle.schema_reports.specs.Instance.{same_place, same_step, after_step, to_member, to_item, to_name};
 ghost use Rattle.schema_reports.specs.Pointer.{pointer_to, step_text};
 ghost use Rattle.schema_reports.specs.InstanceTexts.{subject_has_float};

@@ -1,5 +1,5 @@
 //! Pointer texts (RFC 6901).
-ghost use Rattle.std.specs.Prelude.{◌≡◌, ℕ, List, [], ◌∷◌, ◌++◌, IfOk, string_bytes, decimal};
+ghost use Rattle.std.specs.Prelude.{◌≡◌, ℕ, List, [], ◌++◌, IfOk, string_bytes, decimal};
 ghost use Rattle.std.specs.Char.{encode_utf8};
 ghost use Rattle.schema_reports.specs.Pointer.{escaped};
 ghost use Rattle.schema_reports.specs.LocationViews.{segment_text, segment_of};

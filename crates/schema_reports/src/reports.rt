@@ -1,5 +1,5 @@
 //! Errors: where the instance and the schema disagree.
-ghost use Rattle.std.specs.Prelude.{◌≡◌, List, Bool, true, false, IfOk, option_map, Some, map, drop, string_bytes};
+ghost use Rattle.std.specs.Prelude.{◌≡◌, List, Bool, true, false, IfOk, option_map, Some, string_bytes};
 ghost use Rattle.std.specs.Iterator.{YieldsFirst, item_count};
 ghost use Rattle.schema_reports.specs.Pointer.{pointer_to};
 ghost use Rattle.schema_reports.specs.Meaning.{false_error, false_text};
@@ -15,7 +15,9 @@ use std::fmt;
 use std::marker::Model;
 use std::vec::IntoIter;
 
-/// An error. The instance is borrowed, and stands at the place.
+/// An error. The instance is borrowed, and stands at the place. The schema path is where the keyword stands, the evaluation
+/// path the way that led to it, by references too; both are pointers. The absolute location is a URI, none where the resource
+/// has no identifier to show.
 #[derive(Drop)]
 pub struct ValidationError<'i> {
     pub instance: Instance<'i>,
@@ -27,7 +29,7 @@ pub struct ValidationError<'i> {
     pub text: String,
 }
 
-/// An error that holds its instance, apart from any run.
+/// An error that holds its instance, apart from any run. Its paths are pointers.
 #[derive(Drop)]
 pub struct OwnedError {
     pub instance: serde_json::Value,

@@ -1,7 +1,6 @@
 //! Keywords that ask about one number after the other: `allOf`, `prefixItems`, `items`.
-ghost use Rattle.std.specs.Prelude.{All, ◌≡◌, ◌+◌, ◌-◌, ◌≤◌, ◌^◌, ◌<◌, ℕ, Bool, min, option_map, IfOk};
+ghost use Rattle.std.specs.Prelude.{All, ◌≡◌, ◌+◌, ◌-◌, ◌^◌, ◌<◌, ℕ, Bool, min, option_map, IfOk};
 ghost use Rattle.serde_json.specs.Data.{Data};
-ghost use Rattle.serde_json.specs.View.{view};
 ghost use Rattle.schema_reports.specs.ReportViews.{BorrowsItsPlace};
 ghost use Rattle.schema_reports.specs.InstanceViews.{subject_of};
 ghost use Rattle.schema_reports.specs.Keywords.{Question};
@@ -117,7 +116,7 @@ pub fn turn_prefix_items<'s, 'i>(
     Ok(ask_child_at_item(number, mode))
 }
 
-/// `items`: asks its child at each item after the first.
+/// `items`: asks its child at each item after the first `before`.
 pub fn turn_items<'s, 'i>(
     alloc: Global,
     before: usize,
@@ -137,7 +136,7 @@ pub fn turn_items<'s, 'i>(
     Ok(ask_first_at_item(number, mode))
 }
 
-/// How many items come after the first.
+/// How many items come after the first `before`, if any.
 fn items_after(before: usize, instance: Instance<'_>) -> usize
     ensures count { result ≡ item_count (subject_of instance.entry) - before }
     ensures fits { before + result < 2 ^ 64 }

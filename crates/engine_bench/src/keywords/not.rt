@@ -1,5 +1,5 @@
 //! `not`.
-ghost use Rattle.std.specs.Prelude.{All, ◌≡◌, ◌++◌, Bool, codes, false, not, string_bytes, IfOk};
+ghost use Rattle.std.specs.Prelude.{All, ◌≡◌, Bool, codes, false, not, string_bytes, IfOk};
 ghost use Rattle.serde_json.specs.Data.{Data};
 ghost use Rattle.serde_json.specs.View.{view};
 ghost use Rattle.serde_json.specs.Written.{compact_text, has_float};

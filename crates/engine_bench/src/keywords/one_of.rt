@@ -1,5 +1,5 @@
 //! `oneOf`.
-ghost use Rattle.std.specs.Prelude.{All, ◌≡◌, Bool, codes, true, IfOk, ◌++◌, false, string_bytes};
+ghost use Rattle.std.specs.Prelude.{All, ◌≡◌, Bool, codes, true, IfOk, false, string_bytes};
 ghost use Rattle.serde_json.specs.Data.{Data};
 ghost use Rattle.schema_reports.specs.InstanceViews.{subject_of};
 ghost use Rattle.schema_reports.specs.ReportViews.{BorrowsItsPlace, spoken};

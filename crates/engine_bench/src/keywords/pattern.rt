@@ -1,9 +1,8 @@
 //! `pattern`.
-ghost use Rattle.std.specs.Prelude.{All, ◌≡◌, ◌++◌, Bool, codes, false, option_map, string_bytes, true, IfOk};
+ghost use Rattle.std.specs.Prelude.{All, ◌≡◌, Bool, codes, false, string_bytes, true, IfOk};
 ghost use Rattle.serde_json.specs.Data.{Data};
 ghost use Rattle.schema_reports.specs.InstanceViews.{subject_of};
 ghost use Rattle.schema_reports.specs.InstanceTexts.{subject_has_float};
-ghost use Rattle.schema_reports.specs.Matching.{Pair};
 ghost use Rattle.schema_reports.specs.ReportViews.{BorrowsItsPlace, spoken};
 ghost use Rattle.schema_node.specs.FaultViews.{errors_in, faults_in, PassesBorrowed};
 ghost use Rattle.schema_node.specs.KeywordViews.{answer_of, point_of, reply_of, turn_of, Tells};

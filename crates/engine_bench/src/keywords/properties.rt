@@ -1,5 +1,5 @@
 //! `properties`.
-ghost use Rattle.std.specs.Prelude.{All, ◌≡◌, ℕ, Bool, map, option_map, string_bytes, IfOk};
+ghost use Rattle.std.specs.Prelude.{All, ◌≡◌, Bool, map, option_map, string_bytes, IfOk};
 ghost use Rattle.serde_json.specs.Data.{Data};
 ghost use Rattle.schema_reports.specs.ReportViews.{BorrowsItsPlace};
 ghost use Rattle.schema_reports.specs.InstanceViews.{subject_of};

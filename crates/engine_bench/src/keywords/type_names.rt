@@ -1,5 +1,5 @@
 //! The types that a value may have.
-ghost use Rattle.std.specs.Prelude.{◌≡◌, Bool};
+ghost use Rattle.std.specs.Prelude.{◌≡◌};
 ghost use Rattle.schema_reports.specs.InstanceViews.{subject_of};
 ghost use Rattle.engine_bench.specs.TypeNames.{type_name, fits};
 

@@ -1,6 +1,6 @@
 //! What the words ask for.
 ghost use Rattle.std.specs.Prelude.{◌≡◌, IfOk, IfErr, map, option_map, string_bytes};
-ghost use Rattle.serde_json.specs.View.{items_view, view};
+ghost use Rattle.serde_json.specs.View.{view};
 ghost use Rattle.engine_bench.specs.Makers.{texts_of};
 ghost use Rattle.engine_bench.specs.ProgramFaults.{FaultStands, Unlisted, Unread};
 ghost use Rattle.engine_bench.specs.ProgramViews.{texts, words_of};

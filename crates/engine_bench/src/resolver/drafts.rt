@@ -1,5 +1,5 @@
 //! The drafts that values name.
-ghost use Rattle.std.specs.Prelude.{◌≡◌, ◌||◌, bytes_eq, codes, option_map};
+ghost use Rattle.std.specs.Prelude.{◌≡◌, ◌||◌, bytes_eq, option_map};
 ghost use Rattle.serde_json.specs.View.{view};
 ghost use Rattle.schema_reports.specs.KeywordViews.{draft_of};
 ghost use Rattle.engine_bench.specs.BenchResolving.{detected, draft_of_uri, text_member};

@@ -7,7 +7,7 @@ ghost use Rattle.schema_reports.specs.Instance.{same_place, same_step, to_member
 ghost use Rattle.schema_reports.specs.Drafts.{at_path};
 ghost use Rattle.schema_node.specs.SchemaViews.{schema_step_of};
 ghost use Rattle.schema_node.specs.ResolverViews.{place_of};
-ghost use Rattle.engine_bench.specs.BenchResolving.{below_list, below_object, below_value, names_of_lists, names_of_objects, names_of_values, subschemas, subschemas_of, value_at};
+ghost use Rattle.engine_bench.specs.BenchResolving.{below_list, below_object, below_value, names_of_lists, names_of_objects, subschemas, subschemas_of, value_at};
 ghost use Rattle.engine_bench.specs.BenchAnswers.{is_subschema};
 ghost use Rattle.engine_bench.specs.OnWay.{leads_to_item, leads_to_member, on_way, pairs_below, schema_found, singles_below};
 

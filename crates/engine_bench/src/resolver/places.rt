@@ -4,7 +4,7 @@ ghost use Rattle.serde_json.specs.View.{view};
 ghost use Rattle.schema_reports.specs.Instance.{after_step, a_value, subject_from};
 ghost use Rattle.schema_node.specs.SchemaViews.{schema_step_of};
 ghost use Rattle.schema_node.specs.ResolverViews.{place_of};
-ghost use Rattle.engine_bench.specs.BenchResolving.{data_of, root_place, value_at};
+ghost use Rattle.engine_bench.specs.BenchResolving.{root_place, value_at};
 ghost use Rattle.engine_bench.specs.BenchAnswers.{RefusesWith};
 
 use schema_node::context::resolver::LookupError;

@@ -1,6 +1,5 @@
 //! The makers.
-ghost use Rattle.std.specs.Prelude.{◌≡◌, Some, IfOk, OnOk, option_map};
-ghost use Rattle.schema_reports.specs.Making as spec;
+ghost use Rattle.std.specs.Prelude.{◌≡◌, Some, IfOk};
 ghost use Rattle.schema_node.specs.MakerViews.{maker_reply_of, TakesTurn};
 ghost use Rattle.engine_bench.specs.Shapes.{shape_of};
 ghost use Rattle.engine_bench.specs.MakerViews.{list_shape, waiting_of};

@@ -1,5 +1,5 @@
 //! Keys: what a node is compiled for. Comparison, copies, and the key of a subschema.
-ghost use Rattle.std.specs.Prelude.{◌≡◌, ◌≢◌, ℕ, ◌++◌, ◌↔◌, true, IfOk, MatchOption, MatchResult, IsTrue, map, Some, slice_get, option_map, string_bytes};
+ghost use Rattle.std.specs.Prelude.{◌≡◌, ◌++◌, ◌↔◌, true, IfOk, IsTrue, Some, option_map, string_bytes};
 ghost use Rattle.schema_reports.specs.Pointer.{pointer_to};
 ghost use Rattle.schema_reports.specs.Making.{compile};
 ghost use Rattle.schema_reports.specs.Plan.{subschema, inside};

@@ -1,5 +1,5 @@
 //! Building a validator.
-ghost use Rattle.std.specs.Prelude.{◌≡◌, Bool, IfOk, IfErr};
+ghost use Rattle.std.specs.Prelude.{Bool, IfOk, IfErr};
 ghost use Rattle.serde_json.specs.View.{view};
 ghost use Rattle.schema_reports.specs.KeywordTable.{builtin_in};
 ghost use Rattle.schema_engine.specs.Handed.{parts_of, table_of};

@@ -1,5 +1,5 @@
 //! The keyword type, which puts questions to the engine by turns.
-ghost use Rattle.std.specs.Prelude.{◌≡◌, ℕ, All, Bool, List, [], ◌∷◌, ◌++◌, true, false, IfOk};
+ghost use Rattle.std.specs.Prelude.{◌≡◌, ℕ, All, Bool, List, IfOk};
 ghost use Rattle.serde_json.specs.Data.{Data};
 ghost use Rattle.schema_reports.specs.Instance.{Text, Subject};
 ghost use Rattle.schema_reports.specs.InstanceViews.{subject_of};
@@ -7,7 +7,7 @@ ghost use Rattle.schema_reports.specs.Keywords as spec;
 ghost use Rattle.schema_reports.specs.Turns.{Standing, TurnLaws, FunctionLaws};
 ghost use Rattle.schema_reports.specs.ReportViews.{BorrowsItsPlace};
 ghost use Rattle.schema_node.specs.FaultViews.{errors_in, faults_in, PassesBorrowed};
-ghost use Rattle.schema_node.specs.KeywordViews.{mode_of, reply_of, answer_of, fresh, turn_of, fault_of, added, Tells};
+ghost use Rattle.schema_node.specs.KeywordViews.{mode_of, reply_of, answer_of, fresh, turn_of, Tells};
 
 use schema_reports::instance::{Instance, InstanceStep};
 use schema_reports::location::OutOfMemory;
@@ -92,7 +92,7 @@ pub struct OwnError<'i> {
     pub text: String,
 }
 
-/// An error of the keyword's own, or one of a child, which passes unchanged.
+/// An error of the keyword's own, or one of a child, which keeps its paths, its instance and its text.
 #[derive(Drop)]
 pub enum Fault<'i> {
     Own(OwnError<'i>),

@@ -1,10 +1,8 @@
 //! The resolver, which answers what references and identifiers lead to.
-ghost use Rattle.std.specs.Prelude.{◌≡◌, ◌↔◌, ℕ, true, Bool, Some, None, Ok, IfOk, IfErr, MatchResult, option_map, is_some, map, find, take, length};
-ghost use Rattle.serde_json.specs.Data.{Data};
+ghost use Rattle.std.specs.Prelude.{◌≡◌, ◌↔◌, true, Some, None, Ok, IfOk, MatchResult, option_map, is_some, map, find, take, length};
 ghost use Rattle.serde_json.specs.View.{view};
 ghost use Rattle.schema_reports.specs.Resolving as spec;
-ghost use Rattle.schema_reports.specs.Drafts as drafts;
-ghost use Rattle.schema_reports.specs.Instance.{Text, Place, same_place, subject_at, a_value};
+ghost use Rattle.schema_reports.specs.Instance.{same_place};
 ghost use Rattle.schema_reports.specs.KeywordViews.{draft_of};
 ghost use Rattle.schema_node.specs.ResolverViews.{place_of, entrance_of, found_of, Refuses, IsInside};
 

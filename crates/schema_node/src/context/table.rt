@@ -1,12 +1,12 @@
 //! The keyword table, which makes keywords by turns.
-ghost use Rattle.std.specs.Prelude.{◌≡◌, ℕ, ◌<◌, ◌⊎◌, Bool, List, true, IfOk, All};
+ghost use Rattle.std.specs.Prelude.{◌≡◌, ◌<◌, Bool, IfOk};
 ghost use Rattle.serde_json.specs.View.{members_view};
 ghost use Rattle.serde_json.specs.Data.{Members};
 ghost use Rattle.schema_reports.specs.Instance.{Text};
 ghost use Rattle.schema_reports.specs.Drafts as drafts;
 ghost use Rattle.schema_reports.specs.Making as spec;
 ghost use Rattle.schema_reports.specs.KeywordViews.{draft_of};
-ghost use Rattle.schema_node.specs.MakerViews.{Waiting, begun, is_own, name_of, maker_reply_of, TakesTurn, IsMade, MakesRightly};
+ghost use Rattle.schema_node.specs.MakerViews.{Waiting, begun, is_own, name_of, maker_reply_of, TakesTurn, MakesRightly};
 
 use crate::context::keyword::Validate;
 use crate::context::schema_place::SchemaPath;

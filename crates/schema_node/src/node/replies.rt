@@ -1,10 +1,10 @@
 //! Replies of runs, by the mode.
 ghost use Rattle.std.specs.Prelude.{◌≡◌, IfOk, Bool, true, false, All, [], Some};
 ghost use Rattle.serde_json.specs.Data.{Data};
-ghost use Rattle.schema_reports.specs.Reports.{Outcome, accepted};
+ghost use Rattle.schema_reports.specs.Reports.{accepted};
 ghost use Rattle.schema_reports.specs.Pointer.{joined};
 ghost use Rattle.schema_reports.specs.Meaning.{both};
-ghost use Rattle.schema_reports.specs.Instance.{Place, Text, subject_at};
+ghost use Rattle.schema_reports.specs.Instance.{subject_at};
 ghost use Rattle.schema_reports.specs.InstanceTexts.{subject_has_float};
 ghost use Rattle.schema_reports.specs.InstanceViews.{subject_of};
 ghost use Rattle.schema_reports.specs.ReportViews.{error_of, BorrowsItsPlace};

@@ -1,5 +1,5 @@
 //! Runs of nodes over instances.
-ghost use Rattle.std.specs.Prelude.{◌≡◌, ◌<◌, ◌≤◌, [], ℕ, All, Bool, IfOk, true, false, Some, MatchOption, length, map, option_map, slice_get, string_bytes};
+ghost use Rattle.std.specs.Prelude.{◌≡◌, ◌<◌, ◌≤◌, [], ℕ, All, Bool, IfOk, true, false, Some, MatchOption, length, map, option_map, string_bytes};
 ghost use Rattle.serde_json.specs.Data.{Data};
 ghost use Rattle.schema_reports.specs.Instance.{after_step, subject_at};
 ghost use Rattle.schema_reports.specs.InstanceViews.{subject_of, step_of};
@@ -13,8 +13,8 @@ ghost use Rattle.schema_reports.specs.Runs.{no_run, reply_in};
 ghost use Rattle.schema_node.specs.FaultViews.{errors_in, faults_in, PassesBorrowed};
 ghost use Rattle.schema_reports.specs.Guarded.{guarded_node, guarded_within, node_child, node_keyword};
 ghost use Rattle.schema_node.specs.KeywordViews.{answer_of, below_of, mode_of, reply_of};
-ghost use Rattle.schema_node.specs.NodeTable.{numbered, shaped_form, shaped_part, IsRanked};
-ghost use Rattle.schema_node.specs.NodeViews.{edge_of, entry_of, form_of, node_of};
+ghost use Rattle.schema_node.specs.NodeTable.{numbered, shaped_form, shaped_part};
+ghost use Rattle.schema_node.specs.NodeViews.{edge_of, entry_of, form_of};
 ghost use Rattle.schema_node.specs.EvaluationPaths.{path_of};
 ghost use Rattle.schema_node.specs.EvaluationPlaces.{steps_to};
 ghost use Rattle.schema_node.specs.NodeRuns.{Reading, Reads, Ready, TellsAll, HasForm, HasParts, NodeReplies, EdgeReplies, ChildReplies, FormReplies, HasChildren, PartsReply, child_says, reply_by};
@@ -522,6 +522,7 @@ impl<K: Validate> Nodes<K> {
         ensures speaks { IfOk result (λ r. (root : Data) → subject_at root place.now ≡ Some (subject_of instance.entry) → (o : Outcome) × (reply_of false r ≡ reply_by (mode_of mode) o)) }
         ensures borrows { IfOk result (λ r. (root : Data) → subject_at root place.now ≡ Some (subject_of instance.entry) → All (BorrowsItsPlace root) (errors_in r)) }
     {
+        // (the use says that the table is ranked)
         let _ = &self.nodes;
         let place = EvaluationPlace::given(place);
         let path = EvaluationPath::given(path);

@@ -1,5 +1,5 @@
 //! Where a match is asked for.
-ghost use Rattle.std.specs.Prelude.{◌≡◌, ◌++◌, IfOk, Some, is_some, map, option_map, string_bytes, true, unwrap_or};
+ghost use Rattle.std.specs.Prelude.{◌≡◌, ◌++◌, IfOk, Some, is_some, map, string_bytes, true};
 ghost use Rattle.schema_reports.specs.Instance.{after_step};
 ghost use Rattle.schema_reports.specs.InstanceViews.{step_of, subject_of};
 ghost use Rattle.schema_reports.specs.Laws.{IsPresent};

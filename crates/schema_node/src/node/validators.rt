@@ -2,7 +2,7 @@
 ghost use Rattle.std.specs.Prelude.{◌≡◌, ◌<◌, length, option_map, slice_get, Some};
 ghost use Rattle.std.specs.Iterator.{YieldsFirstBy, item_count};
 ghost use Rattle.schema_node.specs.NodeTable.{plan_in};
-ghost use Rattle.schema_node.specs.NodeViews.{entry_of, form_of};
+ghost use Rattle.schema_node.specs.NodeViews.{form_of};
 ghost use Rattle.schema_node.specs.ValidatorViews.{form_asked, left_asked, plan_asked, single_asked, validator_of};
 
 use crate::node::{Entry, EntryForm, NodeForm, Nodes, SchemaNode};

@@ -2,7 +2,6 @@
 ghost use Rattle.std.specs.Prelude.{[], IfOk, IsSome, None, Ok, Some, false, true, ◌++◌, ◌∷◌, ◌≡◌, ◌≤◌};
 ghost use Rattle.schema_reports.specs.Cover.{assuming};
 ghost use Rattle.schema_reports.specs.Unfinished.{Failure, located_by, starting};
-ghost use Rattle.schema_reports.specs.Matching.{Assumptions};
 ghost use Rattle.schema_reports.specs.Outcomes.{AreOutcomes};
 
 use super::assumptions::{AssumedOutcomes, MatchAssumptions};
