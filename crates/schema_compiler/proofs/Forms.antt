@@ -9,9 +9,10 @@ use Rattle.schema_reports.specs.Refusals.{Cause, causes, not_a_schema, schema_ca
 use Rattle.schema_reports.specs.Units.{annotations_of, object_annotations}
 use Rattle.schema_reports.specs.Guarded.{NodePlan}
 use Rattle.schema_node.specs.NodeTable.{NodeEntry}
+use Rattle.schema_node.specs.NodeViews.{boolean_plan}
 use Rattle.schema_compiler.specs.Compiling.{object_edges}
 use Rattle.schema_compiler.specs.Refusing.{Names, Refused}
-use Rattle.schema_compiler.specs.Filling.{IsPlan, IsTable, boolean_plan}
+use Rattle.schema_compiler.specs.Filling.{IsPlan, IsTable}
 use Rattle.schema_compiler.specs.Steps.{MakesPlan}
 use Rattle.schema_compiler.specs.declared.compiler.error.BuildError.{BuildError}
 use Rattle.schema_compiler.proofs.Growing.{names_refused, step_none}

@@ -1,6 +1,6 @@
 -- The table of keys and nodes while it is filled: what a number's node says of its key, and how the table grows.
 use Rattle.std.specs.List.{starts_with}
-use Rattle.std.specs.Prelude.{Bool, true, false, List, None, Option, Some, [], codes, if◌then◌else◌, length, option_map, slice_get, slice_set, ℕ, ◌++◌, ◌==◌, ◌∷◌, ◌≡◌, ◌≤◌}
+use Rattle.std.specs.Prelude.{List, None, Option, Some, [], codes, if◌then◌else◌, length, option_map, slice_get, slice_set, ℕ, ◌++◌, ◌==◌, ◌∷◌, ◌≡◌, ◌≤◌}
 use Rattle.schema_reports.specs.Instance.{Text}
 use Rattle.schema_reports.specs.Parts.{Parts}
 use Rattle.schema_reports.specs.Plan.{Edge, Form, Key, Part, Plan, always, keyword, never, plan, reference, reference_edge, these, without_fragment, requested}
@@ -104,8 +104,3 @@ pub record IsStep {S K R C : Type 0} (w : Parts S K R) (shape : C → K) (limit 
 -- a number has got a form, and nothing else has changed
 abbrev pub Finishes : {C : Type 0} → List (NodeEntry C) → ℕ → List (NodeEntry C) → Type 0
 Finishes {C} old i new = (n : NodeEntry C) × (p : NodePlan C) × (n.plan ≡ Some p) × (new ≡ slice_set old i n)
-
--- the plan of a boolean
-abbrev pub boolean_plan : {C : Type 0} → Bool → NodePlan C
-boolean_plan true = node_always
-boolean_plan false = node_never

@@ -6,11 +6,10 @@ ghost use Rattle.serde_json.specs.View.{view, members_view};
 ghost use Rattle.schema_reports.specs.Pointer.{joined};
 ghost use Rattle.schema_reports.specs.Plan.{schema_of};
 ghost use Rattle.schema_reports.specs.Refusals.{not_a_schema, reference_not_text};
-ghost use Rattle.schema_node.specs.NodeViews.{plan_of};
+ghost use Rattle.schema_node.specs.NodeViews.{boolean_plan, plan_of};
 ghost use Rattle.schema_compiler.specs.KeyViews.{key_of};
 ghost use Rattle.schema_compiler.specs.Compiling.{resolving_parts};
 ghost use Rattle.schema_compiler.specs.Refusing.{Names};
-ghost use Rattle.schema_compiler.specs.Filling.{boolean_plan};
 
 use crate::compiler::error::BuildError;
 use crate::compiler::key::SchemaKey;
