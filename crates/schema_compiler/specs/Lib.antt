@@ -6,6 +6,7 @@ pub mod Refusing
 pub mod Filling
 pub mod Steps
 pub mod Options
+pub mod Carried
 pub mod Compilation
 pub mod Builtins
 pub mod Dialects

@@ -11,8 +11,7 @@ ghost use Rattle.schema_compiler.specs.Compilation.{IsCompilation, RefusesRoot, 
 use crate::compiler::error::BuildError;
 use crate::compiler::key::SchemaKey;
 use crate::compiler::keys::Keys;
-use crate::compiler::nodes_of::edge_to;
-use crate::compiler::table::{CompileOptions, Compiled, check_declared};
+use crate::compiler::table::{CompileOptions, Compiled, Given, check_declared};
 use schema_node::context::keyword::Validate;
 use schema_node::context::resolver::Resolver;
 use schema_node::context::table::KeywordTable;
@@ -52,13 +51,19 @@ pub fn compile<R: Resolver, K: Validate, T: KeywordTable<K>>(
     ensures refused { IfErr result (λ e. (matcher : matching.Matcher) (keywords : words.Keywords K.Shape (K.Run × words.Answer)) (draft : Option drafts.Draft) (base : Option Text)
         → RefusesRoot (all_parts (R.resolving resolver.now) (record { owns = T.owned table.now; builtin = builtin; script = T.script table.now }) options.now.formats (map string_bytes options.now.declared.items) matcher keywords draft base) options.now.node_limit (key_of R.point root) e) }
 {
-    check_declared(alloc, resolver, table, options, &root.vocabularies)?;
+    let given = Given {
+        alloc,
+        resolver,
+        table,
+        options,
+    };
+    check_declared(&given, &root.vocabularies)?;
     let mut compiled = Compiled {
         keys: Keys::new(alloc),
         nodes: Nodes::new(alloc),
     };
     let path = Location::new(alloc);
-    edge_to(alloc, resolver, table, options, &mut compiled, root, path)?;
+    given.edge_to(&mut compiled, root, path)?;
     // (the call says that the table is ranked)
     let count = compiled.nodes.len();
     let _ranked = count;

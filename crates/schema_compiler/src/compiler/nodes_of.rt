@@ -1,19 +1,9 @@
 //! One node for each key: what a key asks for is compiled before its own node is filled.
-ghost use Rattle.std.specs.Prelude.{IfOk, IfErr, map, option_map, Some, string_bytes};
+ghost use Rattle.std.specs.Prelude.{IfOk, IfErr, map, option_map, string_bytes};
 ghost use Rattle.serde_json.specs.View.{view, members_view};
-ghost use Rattle.serde_json.specs.Data.{object};
-ghost use Rattle.schema_reports.specs.Making.{compile};
-ghost use Rattle.schema_reports.specs.Plan.{plan, plan_of as plan_of_schema, sorted, parts, part, part_made, making, reference_part, subschema, found};
-ghost use Rattle.schema_reports.specs.Reach.{Reached, asked_edges, members_edges, maker_edges, reference_edges};
-ghost use Rattle.schema_reports.specs.Refusals.{causes, schema_causes, members_causes, maker_causes, reference_causes, request_causes, lookup_causes};
-ghost use Rattle.schema_reports.specs.Units.{annotations_of, object_annotations, unknown};
 ghost use Rattle.schema_node.specs.NodeViews.{edge_of, entry_of as entry_view, plan_of};
 ghost use Rattle.schema_compiler.specs.KeyViews.{key_of, kind_of};
-ghost use Rattle.schema_compiler.specs.Compiling.{StandsBelow, member_edges, member_causes, object_edges, reference_asked, option_one};
-ghost use Rattle.schema_compiler.specs.Options.{given_parts};
-ghost use Rattle.schema_compiler.specs.Refusing.{IsRefusal, Refused};
-ghost use Rattle.schema_compiler.specs.Filling.{IsTable};
-ghost use Rattle.schema_compiler.specs.Steps.{IsEdgeTo, IsNumbered, IsAnswered, MakesPart, MakesParts, MakesPlan};
+ghost use Rattle.schema_compiler.specs.Carried.{AnswersChild, AnswersReference, IsWell, LeadsToKey, MakesKeyword, MakesMember, MakesMembers, MakesReference, Numbers, PlansNode, PlansObject, RefusesChild, RefusesEdge, RefusesKey, RefusesMaker, RefusesMember, RefusesMembers, RefusesNode, RefusesObject, RefusesReference, filled, task};
 
 use crate::compiler::annotations::{keep_unknown, object_of};
 use crate::compiler::builtin::builtin_row;
@@ -23,8 +13,7 @@ use crate::compiler::key::{SchemaKey, subschema_key};
 use crate::compiler::keys::find;
 use crate::compiler::makers::{keep_edge, maker_of};
 use crate::compiler::table::{
-    CompileOptions, Compiled, PlannedNode, edge_at, finish, lone_reference, reserve_within,
-    target_of,
+    Compiled, Given, PlannedNode, edge_at, finish, lone_reference, reserve_within, target_of,
 };
 use crate::compiler::values::{form_at, object_at, text_of};
 use crate::ref_::{ReferenceKind, reference_kind};
@@ -44,323 +33,345 @@ struct ObjectKeywords<K> {
     unknown: Map<String, Value>,
 }
 
-/// The edge to the node of a key, which is compiled first where it has no number. The edge is guarded where the node is
-/// still being compiled.
-#[cycle(compile)]
-pub(crate) fn edge_to<R: Resolver, K: Validate, T: KeywordTable<K>>(
-    alloc: Global,
-    resolver: &R,
-    table: &T,
-    options: &CompileOptions,
-    compiled: &mut Compiled<R::State, K>,
-    key: SchemaKey<R::State>,
-    path: Location,
-) -> Result<Edge, BuildError>
-    requires table { IsTable (given_parts (R.resolving resolver.now) (T.owned table.now) (T.script table.now) options.now) K.shape options.now.node_limit (map (key_of R.point) compiled.old.keys) compiled.old.nodes }
-    ensures edge { IfOk result (λ e. IsEdgeTo (given_parts (R.resolving resolver.now) (T.owned table.now) (T.script table.now) options.now) K.shape options.now.node_limit (map (key_of R.point) compiled.old.keys) (map (key_of R.point) compiled.new.keys) compiled.old.nodes compiled.new.nodes (key_of R.point key) path (edge_of e)) }
-    ensures refused { IfErr result (IsRefusal options.now.node_limit (map (key_of R.point) compiled.old.keys) (Reached (given_parts (R.resolving resolver.now) (T.owned table.now) (T.script table.now) options.now) (key_of R.point key)) (StandsBelow (given_parts (R.resolving resolver.now) (T.owned table.now) (T.script table.now) options.now) (key_of R.point key))) }
-{
-    let number = number_of(alloc, resolver, table, options, compiled, &key);
-    drop(key);
-    Ok(edge_at(resolver, table, options, compiled, number?, path))
-}
-
-// The number of a key, which is compiled first where it has none.
-#[cycle(compile)]
-fn number_of<R: Resolver, K: Validate, T: KeywordTable<K>>(
-    alloc: Global,
-    resolver: &R,
-    table: &T,
-    options: &CompileOptions,
-    compiled: &mut Compiled<R::State, K>,
-    key: &SchemaKey<R::State>,
-) -> Result<usize, BuildError>
-    requires table { IsTable (given_parts (R.resolving resolver.now) (T.owned table.now) (T.script table.now) options.now) K.shape options.now.node_limit (map (key_of R.point) compiled.old.keys) compiled.old.nodes }
-    ensures numbered { IfOk result (IsNumbered (given_parts (R.resolving resolver.now) (T.owned table.now) (T.script table.now) options.now) K.shape options.now.node_limit (map (key_of R.point) compiled.old.keys) (map (key_of R.point) compiled.new.keys) compiled.old.nodes compiled.new.nodes (key_of R.point key.now)) }
-    ensures refused { IfErr result (IsRefusal options.now.node_limit (map (key_of R.point) compiled.old.keys) (Reached (given_parts (R.resolving resolver.now) (T.owned table.now) (T.script table.now) options.now) (key_of R.point key.now)) (StandsBelow (given_parts (R.resolving resolver.now) (T.owned table.now) (T.script table.now) options.now) (key_of R.point key.now))) }
-{
-    if let Some(number) = find::<R>(&compiled.keys, key) {
-        return Ok(number);
+impl<'p, R: Resolver, T> Given<'p, R, T> {
+    /// The edge to the node of a key, which is compiled first where it has no number. The edge is guarded where the node is
+    /// still being compiled.
+    #[cycle(compile)]
+    pub(crate) fn edge_to<K: Validate>(
+        &self,
+        compiled: &mut Compiled<R::State, K>,
+        key: SchemaKey<R::State>,
+        path: Location,
+    ) -> Result<Edge, BuildError>
+    where
+        T: KeywordTable<K>,
+        requires table { IsWell (task R.resolving T.owned T.script K.shape self.now)
+            (filled R.point compiled.old) }
+        ensures edge { IfOk result (λ e. LeadsToKey
+            (task R.resolving T.owned T.script K.shape self.now) (filled R.point compiled.old)
+            (filled R.point compiled.new) (key_of R.point key) path (edge_of e)) }
+        ensures refused { IfErr result
+            (RefusesKey (task R.resolving T.owned T.script K.shape self.now)
+            (filled R.point compiled.old) (key_of R.point key)) }
+    {
+        let number = self.number_of(compiled, &key);
+        drop(key);
+        Ok(edge_at(self, compiled, number?, path))
     }
-    let number = reserve_within(alloc, resolver, table, options, compiled, key)?;
-    let planned = planned_node(alloc, resolver, table, options, compiled, key)?;
-    finish(resolver, table, options, compiled, number, planned, key);
-    Ok(number.0)
-}
 
-// What a key's node asks of an instance, and its annotations.
-#[cycle(compile)]
-fn planned_node<R: Resolver, K: Validate, T: KeywordTable<K>>(
-    alloc: Global,
-    resolver: &R,
-    table: &T,
-    options: &CompileOptions,
-    compiled: &mut Compiled<R::State, K>,
-    key: &SchemaKey<R::State>,
-) -> Result<PlannedNode<K>, BuildError>
-    requires table { IsTable (given_parts (R.resolving resolver.now) (T.owned table.now) (T.script table.now) options.now) K.shape options.now.node_limit (map (key_of R.point) compiled.old.keys) compiled.old.nodes }
-    ensures planned { IfOk result (λ n. MakesPlan (given_parts (R.resolving resolver.now) (T.owned table.now) (T.script table.now) options.now) K.shape options.now.node_limit (map (key_of R.point) compiled.old.keys) (map (key_of R.point) compiled.new.keys) compiled.old.nodes compiled.new.nodes (asked_edges (given_parts (R.resolving resolver.now) (T.owned table.now) (T.script table.now) options.now) (key_of R.point key.now)) (causes (given_parts (R.resolving resolver.now) (T.owned table.now) (T.script table.now) options.now) (key_of R.point key.now)) (key_of R.point key.now) (plan_of n.form) (plan (given_parts (R.resolving resolver.now) (T.owned table.now) (T.script table.now) options.now) (key_of R.point key.now)) (option_map view n.annotations) (annotations_of (given_parts (R.resolving resolver.now) (T.owned table.now) (T.script table.now) options.now) (key_of R.point key.now))) }
-    ensures refused { IfErr result (Refused (given_parts (R.resolving resolver.now) (T.owned table.now) (T.script table.now) options.now) options.now.node_limit (asked_edges (given_parts (R.resolving resolver.now) (T.owned table.now) (T.script table.now) options.now) (key_of R.point key.now)) (causes (given_parts (R.resolving resolver.now) (T.owned table.now) (T.script table.now) options.now) (key_of R.point key.now)) (map (key_of R.point) compiled.old.keys)) }
-{
-    match object_at(resolver, key) {
-        Some(members) => planned_object(alloc, resolver, table, options, compiled, key, members),
-        None => Ok(PlannedNode {
-            form: form_at(resolver, key)?,
-            annotations: None,
-        }),
-    }
-}
-
-// What the node of an object asks of an instance; a `$ref` that stands alone is all of it.
-#[cycle(compile)]
-fn planned_object<R: Resolver, K: Validate, T: KeywordTable<K>>(
-    alloc: Global,
-    resolver: &R,
-    table: &T,
-    options: &CompileOptions,
-    compiled: &mut Compiled<R::State, K>,
-    key: &SchemaKey<R::State>,
-    members: &Map<String, Value>,
-) -> Result<PlannedNode<K>, BuildError>
-    requires table { IsTable (given_parts (R.resolving resolver.now) (T.owned table.now) (T.script table.now) options.now) K.shape options.now.node_limit (map (key_of R.point) compiled.old.keys) compiled.old.nodes }
-    ensures planned { IfOk result (λ n. MakesPlan (given_parts (R.resolving resolver.now) (T.owned table.now) (T.script table.now) options.now) K.shape options.now.node_limit (map (key_of R.point) compiled.old.keys) (map (key_of R.point) compiled.new.keys) compiled.old.nodes compiled.new.nodes (object_edges (given_parts (R.resolving resolver.now) (T.owned table.now) (T.script table.now) options.now) (key_of R.point key.now) (members_view members.now.entries)) (schema_causes (given_parts (R.resolving resolver.now) (T.owned table.now) (T.script table.now) options.now) (key_of R.point key.now) (object (members_view members.now.entries))) (key_of R.point key.now) (plan_of n.form) (plan_of_schema (given_parts (R.resolving resolver.now) (T.owned table.now) (T.script table.now) options.now) (key_of R.point key.now) (object (members_view members.now.entries))) (option_map view n.annotations) (object_annotations (given_parts (R.resolving resolver.now) (T.owned table.now) (T.script table.now) options.now) (key_of R.point key.now) (members_view members.now.entries))) }
-    ensures refused { IfErr result (Refused (given_parts (R.resolving resolver.now) (T.owned table.now) (T.script table.now) options.now) options.now.node_limit (object_edges (given_parts (R.resolving resolver.now) (T.owned table.now) (T.script table.now) options.now) (key_of R.point key.now) (members_view members.now.entries)) (schema_causes (given_parts (R.resolving resolver.now) (T.owned table.now) (T.script table.now) options.now) (key_of R.point key.now) (object (members_view members.now.entries))) (map (key_of R.point) compiled.old.keys)) }
-{
-    match lone_reference(key.draft, members) {
-        Some(value) => {
-            let name = String::from_str(alloc, "$ref")?;
-            let entry = reference_entry(
-                alloc,
-                resolver,
-                table,
-                options,
-                compiled,
-                key,
-                &name,
-                70,
-                ReferenceKind::Ref,
-                value,
-            )?;
-            Ok(node_alone(alloc, entry)?)
+    // The number of a key, which is compiled first where it has none.
+    #[cycle(compile)]
+    fn number_of<K: Validate>(
+        &self,
+        compiled: &mut Compiled<R::State, K>,
+        key: &SchemaKey<R::State>,
+    ) -> Result<usize, BuildError>
+    where
+        T: KeywordTable<K>,
+        requires table { IsWell (task R.resolving T.owned T.script K.shape self.now)
+            (filled R.point compiled.old) }
+        ensures numbered { IfOk result (Numbers (task R.resolving T.owned T.script K.shape self.now)
+            (filled R.point compiled.old) (filled R.point compiled.new) (key_of R.point key.now)) }
+        ensures refused { IfErr result
+            (RefusesKey (task R.resolving T.owned T.script K.shape self.now)
+            (filled R.point compiled.old) (key_of R.point key.now)) }
+    {
+        if let Some(number) = find::<R>(&compiled.keys, key) {
+            return Ok(number);
         }
-        None => {
-            let keywords = keywords_of(alloc, resolver, table, options, compiled, key, members)?;
-            Ok(PlannedNode {
-                form: NodeForm::Keywords(keywords.entries),
-                annotations: object_of(keywords.unknown),
-            })
+        let number = reserve_within(self, compiled, key)?;
+        let planned = self.planned_node(compiled, key)?;
+        finish(self, compiled, number, planned, key);
+        Ok(number.0)
+    }
+
+    // What a key's node asks of an instance, and its annotations.
+    #[cycle(compile)]
+    fn planned_node<K: Validate>(
+        &self,
+        compiled: &mut Compiled<R::State, K>,
+        key: &SchemaKey<R::State>,
+    ) -> Result<PlannedNode<K>, BuildError>
+    where
+        T: KeywordTable<K>,
+        requires table { IsWell (task R.resolving T.owned T.script K.shape self.now)
+            (filled R.point compiled.old) }
+        ensures planned { IfOk result (λ n. PlansNode
+            (task R.resolving T.owned T.script K.shape self.now) (filled R.point compiled.old)
+            (filled R.point compiled.new) (key_of R.point key.now) (plan_of n.form)
+            (option_map view n.annotations)) }
+        ensures refused { IfErr result (RefusesNode
+            (task R.resolving T.owned T.script K.shape self.now) (filled R.point compiled.old)
+            (key_of R.point key.now)) }
+    {
+        match object_at(self.resolver, key) {
+            Some(members) => self.planned_object(compiled, key, members),
+            None => Ok(PlannedNode {
+                form: form_at(self.resolver, key)?,
+                annotations: None,
+            }),
         }
     }
-}
 
-// The keywords of an object, by their priorities, and the members that no keyword is made of.
-#[cycle(compile)]
-fn keywords_of<R: Resolver, K: Validate, T: KeywordTable<K>>(
-    alloc: Global,
-    resolver: &R,
-    table: &T,
-    options: &CompileOptions,
-    compiled: &mut Compiled<R::State, K>,
-    key: &SchemaKey<R::State>,
-    members: &Map<String, Value>,
-) -> Result<ObjectKeywords<K>, BuildError>
-    requires table { IsTable (given_parts (R.resolving resolver.now) (T.owned table.now) (T.script table.now) options.now) K.shape options.now.node_limit (map (key_of R.point) compiled.old.keys) compiled.old.nodes }
-    ensures parts { IfOk result (λ o. MakesParts (given_parts (R.resolving resolver.now) (T.owned table.now) (T.script table.now) options.now) K.shape options.now.node_limit (map (key_of R.point) compiled.old.keys) (map (key_of R.point) compiled.new.keys) compiled.old.nodes compiled.new.nodes (members_edges (given_parts (R.resolving resolver.now) (T.owned table.now) (T.script table.now) options.now) (key_of R.point key.now) (members_view members.now.entries) (members_view members.now.entries)) (members_causes (given_parts (R.resolving resolver.now) (T.owned table.now) (T.script table.now) options.now) (key_of R.point key.now) (members_view members.now.entries) (members_view members.now.entries)) (key_of R.point key.now) (map entry_view o.entries.items) (sorted (parts (given_parts (R.resolving resolver.now) (T.owned table.now) (T.script table.now) options.now) (key_of R.point key.now) (members_view members.now.entries) (members_view members.now.entries))) (members_view o.unknown.entries) (unknown (given_parts (R.resolving resolver.now) (T.owned table.now) (T.script table.now) options.now) (key_of R.point key.now) (members_view members.now.entries) (members_view members.now.entries))) }
-    ensures refused { IfErr result (Refused (given_parts (R.resolving resolver.now) (T.owned table.now) (T.script table.now) options.now) options.now.node_limit (members_edges (given_parts (R.resolving resolver.now) (T.owned table.now) (T.script table.now) options.now) (key_of R.point key.now) (members_view members.now.entries) (members_view members.now.entries)) (members_causes (given_parts (R.resolving resolver.now) (T.owned table.now) (T.script table.now) options.now) (key_of R.point key.now) (members_view members.now.entries) (members_view members.now.entries)) (map (key_of R.point) compiled.old.keys)) }
-{
-    let mut entries = Vec::new(alloc);
-    let mut unknown = Map::new(alloc);
-    for (name, value) in members.iter() {
-        match entry_of(
-            alloc, resolver, table, options, compiled, key, members, name, value,
-        )? {
-            Some(entry) => insert_by_priority(&mut entries, entry)?,
-            None => keep_unknown(resolver, key, &mut unknown, name, value)?,
-        }
-    }
-    Ok(ObjectKeywords { entries, unknown })
-}
-
-// The keyword of a member, if it is one: the table's own, or else a built-in one; references are the engine's.
-#[cycle(compile)]
-fn entry_of<R: Resolver, K: Validate, T: KeywordTable<K>>(
-    alloc: Global,
-    resolver: &R,
-    table: &T,
-    options: &CompileOptions,
-    compiled: &mut Compiled<R::State, K>,
-    key: &SchemaKey<R::State>,
-    members: &Map<String, Value>,
-    name: &String,
-    value: &Value,
-) -> Result<Option<Entry<K>>, BuildError>
-    requires table { IsTable (given_parts (R.resolving resolver.now) (T.owned table.now) (T.script table.now) options.now) K.shape options.now.node_limit (map (key_of R.point) compiled.old.keys) compiled.old.nodes }
-    ensures part { IfOk result (λ o. MakesPart (given_parts (R.resolving resolver.now) (T.owned table.now) (T.script table.now) options.now) K.shape options.now.node_limit (map (key_of R.point) compiled.old.keys) (map (key_of R.point) compiled.new.keys) compiled.old.nodes compiled.new.nodes (member_edges (given_parts (R.resolving resolver.now) (T.owned table.now) (T.script table.now) options.now) (key_of R.point key.now) (members_view members.now.entries) (string_bytes name.now) (view value.now)) (member_causes (given_parts (R.resolving resolver.now) (T.owned table.now) (T.script table.now) options.now) (key_of R.point key.now) (members_view members.now.entries) (string_bytes name.now) (view value.now)) (key_of R.point key.now) (option_map entry_view o) (part (given_parts (R.resolving resolver.now) (T.owned table.now) (T.script table.now) options.now) (key_of R.point key.now) (members_view members.now.entries) (string_bytes name.now) (view value.now))) }
-    ensures refused { IfErr result (Refused (given_parts (R.resolving resolver.now) (T.owned table.now) (T.script table.now) options.now) options.now.node_limit (member_edges (given_parts (R.resolving resolver.now) (T.owned table.now) (T.script table.now) options.now) (key_of R.point key.now) (members_view members.now.entries) (string_bytes name.now) (view value.now)) (member_causes (given_parts (R.resolving resolver.now) (T.owned table.now) (T.script table.now) options.now) (key_of R.point key.now) (members_view members.now.entries) (string_bytes name.now) (view value.now)) (map (key_of R.point) compiled.old.keys)) }
-{
-    let text = name.as_str();
-    if table.owns(text) {
-        return made_entry(
-            alloc, resolver, table, options, compiled, key, members, true, name, 80, false,
-        );
-    }
-    match builtin_row(key.draft, &key.vocabularies, text) {
-        None => Ok(None),
-        Some(row) => match reference_kind(text) {
-            Some(kind) => reference_entry(
-                alloc,
-                resolver,
-                table,
-                options,
-                compiled,
-                key,
-                name,
-                row.priority,
-                kind,
-                value,
-            ),
-            None => made_entry(
-                alloc,
-                resolver,
-                table,
-                options,
-                compiled,
-                key,
-                members,
-                false,
-                name,
-                row.priority,
-                row.is_leaf,
-            ),
-        },
-    }
-}
-
-// The keyword that a maker makes.
-#[cycle(compile)]
-fn made_entry<R: Resolver, K: Validate, T: KeywordTable<K>>(
-    alloc: Global,
-    resolver: &R,
-    table: &T,
-    options: &CompileOptions,
-    compiled: &mut Compiled<R::State, K>,
-    key: &SchemaKey<R::State>,
-    members: &Map<String, Value>,
-    own: bool,
-    name: &String,
-    priority: u8,
-    is_leaf: bool,
-) -> Result<Option<Entry<K>>, BuildError>
-    requires table { IsTable (given_parts (R.resolving resolver.now) (T.owned table.now) (T.script table.now) options.now) K.shape options.now.node_limit (map (key_of R.point) compiled.old.keys) compiled.old.nodes }
-    ensures part { IfOk result (λ o. MakesPart (given_parts (R.resolving resolver.now) (T.owned table.now) (T.script table.now) options.now) K.shape options.now.node_limit (map (key_of R.point) compiled.old.keys) (map (key_of R.point) compiled.new.keys) compiled.old.nodes compiled.new.nodes (maker_edges (given_parts (R.resolving resolver.now) (T.owned table.now) (T.script table.now) options.now) (key_of R.point key.now) (string_bytes name.now) (making (given_parts (R.resolving resolver.now) (T.owned table.now) (T.script table.now) options.now) (key_of R.point key.now) (members_view members.now.entries) own (string_bytes name.now))) (maker_causes (given_parts (R.resolving resolver.now) (T.owned table.now) (T.script table.now) options.now) (key_of R.point key.now) (making (given_parts (R.resolving resolver.now) (T.owned table.now) (T.script table.now) options.now) (key_of R.point key.now) (members_view members.now.entries) own (string_bytes name.now))) (key_of R.point key.now) (option_map entry_view o) (part_made (given_parts (R.resolving resolver.now) (T.owned table.now) (T.script table.now) options.now) (string_bytes name.now) priority is_leaf (making (given_parts (R.resolving resolver.now) (T.owned table.now) (T.script table.now) options.now) (key_of R.point key.now) (members_view members.now.entries) own (string_bytes name.now)))) }
-    ensures refused { IfErr result (Refused (given_parts (R.resolving resolver.now) (T.owned table.now) (T.script table.now) options.now) options.now.node_limit (maker_edges (given_parts (R.resolving resolver.now) (T.owned table.now) (T.script table.now) options.now) (key_of R.point key.now) (string_bytes name.now) (making (given_parts (R.resolving resolver.now) (T.owned table.now) (T.script table.now) options.now) (key_of R.point key.now) (members_view members.now.entries) own (string_bytes name.now))) (maker_causes (given_parts (R.resolving resolver.now) (T.owned table.now) (T.script table.now) options.now) (key_of R.point key.now) (making (given_parts (R.resolving resolver.now) (T.owned table.now) (T.script table.now) options.now) (key_of R.point key.now) (members_view members.now.entries) own (string_bytes name.now))) (map (key_of R.point) compiled.old.keys)) }
-{
-    let mut maker = maker_of(alloc, table, options, key, members, own, name)?;
-    let mut children = Vec::new(alloc);
-    let mut reply = MakerReply::Begun;
-    loop {
-        match table.turn(alloc, &mut maker, reply)? {
-            MakerStep::Compile(path) => {
-                let edge = child_edge(alloc, resolver, table, options, compiled, key, &path)?;
-                reply = keep_edge(&mut children, Some(edge))?;
-            }
-            MakerStep::Refer(text) => {
-                let edge = reference_edge(
-                    alloc,
-                    resolver,
-                    table,
-                    options,
+    // What the node of an object asks of an instance; a `$ref` that stands alone is all of it.
+    #[cycle(compile)]
+    fn planned_object<K: Validate>(
+        &self,
+        compiled: &mut Compiled<R::State, K>,
+        key: &SchemaKey<R::State>,
+        members: &Map<String, Value>,
+    ) -> Result<PlannedNode<K>, BuildError>
+    where
+        T: KeywordTable<K>,
+        requires table { IsWell (task R.resolving T.owned T.script K.shape self.now)
+            (filled R.point compiled.old) }
+        ensures planned { IfOk result (λ n. PlansObject
+            (task R.resolving T.owned T.script K.shape self.now) (filled R.point compiled.old)
+            (filled R.point compiled.new) (key_of R.point key.now) (members_view members.now.entries)
+            (plan_of n.form) (option_map view n.annotations)) }
+        ensures refused { IfErr result (RefusesObject
+            (task R.resolving T.owned T.script K.shape self.now) (filled R.point compiled.old)
+            (key_of R.point key.now) (members_view members.now.entries)) }
+    {
+        match lone_reference(key.draft, members) {
+            Some(value) => {
+                let name = String::from_str(self.alloc, "$ref")?;
+                let entry = self.reference_entry(
                     compiled,
                     key,
-                    name,
+                    &name,
+                    70,
                     ReferenceKind::Ref,
-                    &text,
+                    value,
                 )?;
-                reply = keep_edge(&mut children, edge)?;
+                Ok(node_alone(self.alloc, entry)?)
             }
-            MakerStep::Keyword(keyword, _) => {
-                let form = EntryForm::Keyword(keyword, children);
-                return Ok(Some(entry_named(name, priority, is_leaf, form)?));
+            None => {
+                let keywords = self.keywords_of(compiled, key, members)?;
+                Ok(PlannedNode {
+                    form: NodeForm::Keywords(keywords.entries),
+                    annotations: object_of(keywords.unknown),
+                })
             }
-            MakerStep::Nothing => return Ok(None),
-            MakerStep::Refuse(error) => return Err(BuildError::KeywordRefused(error)),
         }
     }
-}
 
-// The edge to the subschema at a path below.
-#[cycle(compile)]
-fn child_edge<R: Resolver, K: Validate, T: KeywordTable<K>>(
-    alloc: Global,
-    resolver: &R,
-    table: &T,
-    options: &CompileOptions,
-    compiled: &mut Compiled<R::State, K>,
-    key: &SchemaKey<R::State>,
-    path: &SchemaPath,
-) -> Result<Edge, BuildError>
-    requires table { IsTable (given_parts (R.resolving resolver.now) (T.owned table.now) (T.script table.now) options.now) K.shape options.now.node_limit (map (key_of R.point) compiled.old.keys) compiled.old.nodes }
-    ensures answered { IfOk result (λ e. IsAnswered (given_parts (R.resolving resolver.now) (T.owned table.now) (T.script table.now) options.now) K.shape options.now.node_limit (map (key_of R.point) compiled.old.keys) (map (key_of R.point) compiled.new.keys) compiled.old.nodes compiled.new.nodes (subschema (given_parts (R.resolving resolver.now) (T.owned table.now) (T.script table.now) options.now) (key_of R.point key.now) path.now) (request_causes (given_parts (R.resolving resolver.now) (T.owned table.now) (T.script table.now) options.now) (key_of R.point key.now) (compile path.now)) (Some (edge_of e))) }
-    ensures refused { IfErr result (Refused (given_parts (R.resolving resolver.now) (T.owned table.now) (T.script table.now) options.now) options.now.node_limit (option_one (subschema (given_parts (R.resolving resolver.now) (T.owned table.now) (T.script table.now) options.now) (key_of R.point key.now) path.now)) (request_causes (given_parts (R.resolving resolver.now) (T.owned table.now) (T.script table.now) options.now) (key_of R.point key.now) (compile path.now)) (map (key_of R.point) compiled.old.keys)) }
-{
-    let location = path.pointer(alloc)?;
-    let below = subschema_key(alloc, resolver, key, path)?;
-    Ok(edge_to(alloc, resolver, table, options, compiled, below, location)?)
-}
+    // The keywords of an object, by their priorities, and the members that no keyword is made of.
+    #[cycle(compile)]
+    fn keywords_of<K: Validate>(
+        &self,
+        compiled: &mut Compiled<R::State, K>,
+        key: &SchemaKey<R::State>,
+        members: &Map<String, Value>,
+    ) -> Result<ObjectKeywords<K>, BuildError>
+    where
+        T: KeywordTable<K>,
+        requires table { IsWell (task R.resolving T.owned T.script K.shape self.now)
+            (filled R.point compiled.old) }
+        ensures parts { IfOk result (λ o. MakesMembers
+            (task R.resolving T.owned T.script K.shape self.now) (filled R.point compiled.old)
+            (filled R.point compiled.new) (key_of R.point key.now) (members_view members.now.entries)
+            (map entry_view o.entries.items) (members_view o.unknown.entries)) }
+        ensures refused { IfErr result (RefusesMembers
+            (task R.resolving T.owned T.script K.shape self.now) (filled R.point compiled.old)
+            (key_of R.point key.now) (members_view members.now.entries)) }
+    {
+        let mut entries = Vec::new(self.alloc);
+        let mut unknown = Map::new(self.alloc);
+        for (name, value) in members.iter() {
+            match self.entry_of(compiled, key, members, name, value)? {
+                Some(entry) => insert_by_priority(&mut entries, entry)?,
+                None => keep_unknown(self.resolver, key, &mut unknown, name, value)?,
+            }
+        }
+        Ok(ObjectKeywords { entries, unknown })
+    }
 
-// The edge to a reference's target; none where the reference is skipped.
-#[cycle(compile)]
-fn reference_edge<R: Resolver, K: Validate, T: KeywordTable<K>>(
-    alloc: Global,
-    resolver: &R,
-    table: &T,
-    options: &CompileOptions,
-    compiled: &mut Compiled<R::State, K>,
-    key: &SchemaKey<R::State>,
-    name: &String,
-    kind: ReferenceKind,
-    text: &String,
-) -> Result<Option<Edge>, BuildError>
-    requires table { IsTable (given_parts (R.resolving resolver.now) (T.owned table.now) (T.script table.now) options.now) K.shape options.now.node_limit (map (key_of R.point) compiled.old.keys) compiled.old.nodes }
-    ensures answered { IfOk result (λ o. IsAnswered (given_parts (R.resolving resolver.now) (T.owned table.now) (T.script table.now) options.now) K.shape options.now.node_limit (map (key_of R.point) compiled.old.keys) (map (key_of R.point) compiled.new.keys) compiled.old.nodes compiled.new.nodes (reference_asked (given_parts (R.resolving resolver.now) (T.owned table.now) (T.script table.now) options.now) (key_of R.point key.now) (string_bytes name.now) (kind_of kind) (string_bytes text.now)) (lookup_causes (given_parts (R.resolving resolver.now) (T.owned table.now) (T.script table.now) options.now) (found (given_parts (R.resolving resolver.now) (T.owned table.now) (T.script table.now) options.now) (key_of R.point key.now) (kind_of kind) (string_bytes text.now))) (option_map edge_of o)) }
-    ensures refused { IfErr result (Refused (given_parts (R.resolving resolver.now) (T.owned table.now) (T.script table.now) options.now) options.now.node_limit (option_one (reference_asked (given_parts (R.resolving resolver.now) (T.owned table.now) (T.script table.now) options.now) (key_of R.point key.now) (string_bytes name.now) (kind_of kind) (string_bytes text.now))) (lookup_causes (given_parts (R.resolving resolver.now) (T.owned table.now) (T.script table.now) options.now) (found (given_parts (R.resolving resolver.now) (T.owned table.now) (T.script table.now) options.now) (key_of R.point key.now) (kind_of kind) (string_bytes text.now))) (map (key_of R.point) compiled.old.keys)) }
-{
-    let path = Location::new(alloc).join(LocationSegment::Property(name.as_str()))?;
-    match target_of(alloc, resolver, table, options, key, kind, text.as_str())? {
-        None => Ok(None),
-        Some(target) => {
-            let edge = edge_to(alloc, resolver, table, options, compiled, target, path)?;
-            Ok(Some(edge))
+    // The keyword of a member, if it is one: the table's own, or else a built-in one; references are the engine's.
+    #[cycle(compile)]
+    fn entry_of<K: Validate>(
+        &self,
+        compiled: &mut Compiled<R::State, K>,
+        key: &SchemaKey<R::State>,
+        members: &Map<String, Value>,
+        name: &String,
+        value: &Value,
+    ) -> Result<Option<Entry<K>>, BuildError>
+    where
+        T: KeywordTable<K>,
+        requires table { IsWell (task R.resolving T.owned T.script K.shape self.now)
+            (filled R.point compiled.old) }
+        ensures part { IfOk result (λ o. MakesMember
+            (task R.resolving T.owned T.script K.shape self.now) (filled R.point compiled.old)
+            (filled R.point compiled.new) (key_of R.point key.now) (members_view members.now.entries)
+            (string_bytes name.now) (view value.now) (option_map entry_view o)) }
+        ensures refused { IfErr result (RefusesMember
+            (task R.resolving T.owned T.script K.shape self.now) (filled R.point compiled.old)
+            (key_of R.point key.now) (members_view members.now.entries) (string_bytes name.now)
+            (view value.now)) }
+    {
+        let text = name.as_str();
+        if self.table.owns(text) {
+            return self.made_entry(compiled, key, members, true, name, 80, false);
+        }
+        match builtin_row(key.draft, &key.vocabularies, text) {
+            None => Ok(None),
+            Some(row) => match reference_kind(text) {
+                Some(kind) => self.reference_entry(compiled, key, name, row.priority, kind, value),
+                None => self.made_entry(
+                    compiled,
+                    key,
+                    members,
+                    false,
+                    name,
+                    row.priority,
+                    row.is_leaf,
+                ),
+            },
         }
     }
-}
 
-// The reference under a keyword of this name; none where it is skipped.
-#[cycle(compile)]
-fn reference_entry<R: Resolver, K: Validate, T: KeywordTable<K>>(
-    alloc: Global,
-    resolver: &R,
-    table: &T,
-    options: &CompileOptions,
-    compiled: &mut Compiled<R::State, K>,
-    key: &SchemaKey<R::State>,
-    name: &String,
-    priority: u8,
-    kind: ReferenceKind,
-    value: &Value,
-) -> Result<Option<Entry<K>>, BuildError>
-    requires table { IsTable (given_parts (R.resolving resolver.now) (T.owned table.now) (T.script table.now) options.now) K.shape options.now.node_limit (map (key_of R.point) compiled.old.keys) compiled.old.nodes }
-    ensures part { IfOk result (λ o. MakesPart (given_parts (R.resolving resolver.now) (T.owned table.now) (T.script table.now) options.now) K.shape options.now.node_limit (map (key_of R.point) compiled.old.keys) (map (key_of R.point) compiled.new.keys) compiled.old.nodes compiled.new.nodes (reference_edges (given_parts (R.resolving resolver.now) (T.owned table.now) (T.script table.now) options.now) (key_of R.point key.now) (string_bytes name.now) (kind_of kind) (view value.now)) (reference_causes (given_parts (R.resolving resolver.now) (T.owned table.now) (T.script table.now) options.now) (key_of R.point key.now) (string_bytes name.now) (kind_of kind) (view value.now)) (key_of R.point key.now) (option_map entry_view o) (reference_part (given_parts (R.resolving resolver.now) (T.owned table.now) (T.script table.now) options.now) (key_of R.point key.now) (string_bytes name.now) priority (kind_of kind) (view value.now))) }
-    ensures refused { IfErr result (Refused (given_parts (R.resolving resolver.now) (T.owned table.now) (T.script table.now) options.now) options.now.node_limit (reference_edges (given_parts (R.resolving resolver.now) (T.owned table.now) (T.script table.now) options.now) (key_of R.point key.now) (string_bytes name.now) (kind_of kind) (view value.now)) (reference_causes (given_parts (R.resolving resolver.now) (T.owned table.now) (T.script table.now) options.now) (key_of R.point key.now) (string_bytes name.now) (kind_of kind) (view value.now)) (map (key_of R.point) compiled.old.keys)) }
-{
-    let text = text_of(key, name, value)?;
-    match reference_edge(
-        alloc, resolver, table, options, compiled, key, name, kind, text,
-    )? {
-        None => Ok(None),
-        Some(edge) => {
-            let form = EntryForm::Reference(edge);
-            Ok(Some(entry_named(name, priority, false, form)?))
+    // The keyword that a maker makes.
+    #[cycle(compile)]
+    fn made_entry<K: Validate>(
+        &self,
+        compiled: &mut Compiled<R::State, K>,
+        key: &SchemaKey<R::State>,
+        members: &Map<String, Value>,
+        own: bool,
+        name: &String,
+        priority: u8,
+        is_leaf: bool,
+    ) -> Result<Option<Entry<K>>, BuildError>
+    where
+        T: KeywordTable<K>,
+        requires table { IsWell (task R.resolving T.owned T.script K.shape self.now)
+            (filled R.point compiled.old) }
+        ensures part { IfOk result (λ o. MakesKeyword
+            (task R.resolving T.owned T.script K.shape self.now) (filled R.point compiled.old)
+            (filled R.point compiled.new) (key_of R.point key.now) (members_view members.now.entries)
+            own (string_bytes name.now) priority is_leaf (option_map entry_view o)) }
+        ensures refused { IfErr result (RefusesMaker
+            (task R.resolving T.owned T.script K.shape self.now) (filled R.point compiled.old)
+            (key_of R.point key.now) (members_view members.now.entries) own (string_bytes name.now)) }
+    {
+        let mut maker = maker_of(
+            self.alloc,
+            self.table,
+            self.options,
+            key,
+            members,
+            own,
+            name,
+        )?;
+        let mut children = Vec::new(self.alloc);
+        let mut reply = MakerReply::Begun;
+        loop {
+            match self.table.turn(self.alloc, &mut maker, reply)? {
+                MakerStep::Compile(path) => {
+                    let edge = self.child_edge(compiled, key, &path)?;
+                    reply = keep_edge(&mut children, Some(edge))?;
+                }
+                MakerStep::Refer(text) => {
+                    let edge = self.reference_edge(compiled, key, name, ReferenceKind::Ref, &text)?;
+                    reply = keep_edge(&mut children, edge)?;
+                }
+                MakerStep::Keyword(keyword, _) => {
+                    let form = EntryForm::Keyword(keyword, children);
+                    return Ok(Some(entry_named(name, priority, is_leaf, form)?));
+                }
+                MakerStep::Nothing => return Ok(None),
+                MakerStep::Refuse(error) => return Err(BuildError::KeywordRefused(error)),
+            }
+        }
+    }
+
+    // The edge to the subschema at a path below.
+    #[cycle(compile)]
+    fn child_edge<K: Validate>(
+        &self,
+        compiled: &mut Compiled<R::State, K>,
+        key: &SchemaKey<R::State>,
+        path: &SchemaPath,
+    ) -> Result<Edge, BuildError>
+    where
+        T: KeywordTable<K>,
+        requires table { IsWell (task R.resolving T.owned T.script K.shape self.now)
+            (filled R.point compiled.old) }
+        ensures answered { IfOk result (λ e. AnswersChild
+            (task R.resolving T.owned T.script K.shape self.now) (filled R.point compiled.old)
+            (filled R.point compiled.new) (key_of R.point key.now) path.now (edge_of e)) }
+        ensures refused { IfErr result (RefusesChild
+            (task R.resolving T.owned T.script K.shape self.now) (filled R.point compiled.old)
+            (key_of R.point key.now) path.now) }
+    {
+        let location = path.pointer(self.alloc)?;
+        let below = subschema_key(self.alloc, self.resolver, key, path)?;
+        Ok(self.edge_to(compiled, below, location)?)
+    }
+
+    // The edge to a reference's target; none where the reference is skipped.
+    #[cycle(compile)]
+    fn reference_edge<K: Validate>(
+        &self,
+        compiled: &mut Compiled<R::State, K>,
+        key: &SchemaKey<R::State>,
+        name: &String,
+        kind: ReferenceKind,
+        text: &String,
+    ) -> Result<Option<Edge>, BuildError>
+    where
+        T: KeywordTable<K>,
+        requires table { IsWell (task R.resolving T.owned T.script K.shape self.now)
+            (filled R.point compiled.old) }
+        ensures answered { IfOk result (λ o. AnswersReference
+            (task R.resolving T.owned T.script K.shape self.now) (filled R.point compiled.old)
+            (filled R.point compiled.new) (key_of R.point key.now) (string_bytes name.now)
+            (kind_of kind) (string_bytes text.now) (option_map edge_of o)) }
+        ensures refused { IfErr result (RefusesEdge
+            (task R.resolving T.owned T.script K.shape self.now) (filled R.point compiled.old)
+            (key_of R.point key.now) (string_bytes name.now) (kind_of kind) (string_bytes text.now)) }
+    {
+        let path = Location::new(self.alloc).join(LocationSegment::Property(name.as_str()))?;
+        match target_of(self, key, kind, text.as_str())? {
+            None => Ok(None),
+            Some(target) => {
+                let edge = self.edge_to(compiled, target, path)?;
+                Ok(Some(edge))
+            }
+        }
+    }
+
+    // The reference under a keyword of this name; none where it is skipped.
+    #[cycle(compile)]
+    fn reference_entry<K: Validate>(
+        &self,
+        compiled: &mut Compiled<R::State, K>,
+        key: &SchemaKey<R::State>,
+        name: &String,
+        priority: u8,
+        kind: ReferenceKind,
+        value: &Value,
+    ) -> Result<Option<Entry<K>>, BuildError>
+    where
+        T: KeywordTable<K>,
+        requires table { IsWell (task R.resolving T.owned T.script K.shape self.now)
+            (filled R.point compiled.old) }
+        ensures part { IfOk result (λ o. MakesReference
+            (task R.resolving T.owned T.script K.shape self.now) (filled R.point compiled.old)
+            (filled R.point compiled.new) (key_of R.point key.now) (string_bytes name.now) priority
+            (kind_of kind) (view value.now) (option_map entry_view o)) }
+        ensures refused { IfErr result (RefusesReference
+            (task R.resolving T.owned T.script K.shape self.now) (filled R.point compiled.old)
+            (key_of R.point key.now) (string_bytes name.now) (kind_of kind) (view value.now)) }
+    {
+        let text = text_of(key, name, value)?;
+        match self.reference_edge(compiled, key, name, kind, text)? {
+            None => Ok(None),
+            Some(edge) => {
+                let form = EntryForm::Reference(edge);
+                Ok(Some(entry_named(name, priority, false, form)?))
+            }
         }
     }
 }

@@ -1,24 +1,22 @@
 //! The table of keys and nodes while it is filled, and what a key is compiled by.
-ghost use Rattle.std.specs.Prelude.{◌≡◌, ◌≢◌, ℕ, ◌<◌, ◌++◌, ◌∷◌, [], Bool, true, false, IfOk, IfErr, IfSome, OnOk, MatchOption, map, option_map, Some, None, slice_get, length, List, string_bytes, codes, flat_map, if◌then◌else◌};
+ghost use Rattle.std.specs.Prelude.{◌≡◌, ◌≢◌, ℕ, ◌<◌, ◌++◌, ◌∷◌, [], Bool, true, false, IfOk, IfErr, IfSome, OnOk, MatchOption, map, option_map, Some, None, slice_get, length, string_bytes, codes, if◌then◌else◌};
 ghost use Rattle.serde_json.specs.View.{view, members_view};
-ghost use Rattle.schema_reports.specs.Instance.{Text, member_of};
+ghost use Rattle.schema_reports.specs.Instance.{member_of};
 ghost use Rattle.schema_reports.specs.Pointer.{joined};
 ghost use Rattle.schema_reports.specs.Drafts.{custom_vocabulary, ref_stands_alone, has_vocabulary, format_assertion_vocabulary, format_vocabulary};
 ghost use Rattle.std.specs.List.{list_any};
 ghost use Rattle.std.specs.Prelude.{◌||◌, unwrap_or, bytes_eq};
 ghost use Rattle.schema_reports.specs.Refusals.{not_a_schema};
-ghost use Rattle.schema_reports.specs.Plan.{Key, found, is_self, reference_edge};
-ghost use Rattle.schema_reports.specs.Refusals.{lookup_causes, undeclared};
+ghost use Rattle.schema_reports.specs.Plan.{Key};
 ghost use Rattle.schema_reports.specs.Units.{annotations_of};
 ghost use Rattle.schema_reports.specs.KeywordViews.{draft_of};
 ghost use Rattle.schema_node.specs.NodeTable.{NodeEntry, LeadsToFilled, IsReserved};
 ghost use Rattle.schema_node.specs.NodeViews.{boolean_plan, edge_of, plan_of, reserved_node};
 ghost use Rattle.schema_compiler.specs.KeyViews.{key_of, kind_of};
-ghost use Rattle.schema_compiler.specs.Compiling.{StandsBelow, answers, option_one, reference_asked, resolving_parts};
-ghost use Rattle.schema_reports.specs.Reach.{Reached};
-ghost use Rattle.schema_compiler.specs.Options.{given_parts};
-ghost use Rattle.schema_compiler.specs.Refusing.{IsRefusal, Names, Refused};
-ghost use Rattle.schema_compiler.specs.Filling.{IsTable, IsPlanned, Finishes, shown_base};
+ghost use Rattle.schema_compiler.specs.Compiling.{answers, resolving_parts};
+ghost use Rattle.schema_compiler.specs.Carried.{IsWell, PlannedAs, RefusesKey, RefusesTarget, Targets, filled, lacking, task};
+ghost use Rattle.schema_compiler.specs.Refusing.{Names};
+ghost use Rattle.schema_compiler.specs.Filling.{Finishes, shown_base};
 ghost use Rattle.schema_node.specs.MakerViews.{is_own, name_of, maker_reply_of};
 ghost use Rattle.serde_json.specs.Find.{as_bool};
 ghost use Rattle.schema_compiler.specs.declared.compiler.error.BuildError.TheVariants as build;
@@ -47,6 +45,15 @@ pub struct CompileOptions {
     pub node_limit: usize,
 }
 
+/// What a compilation is given, and does not change.
+#[derive_where(Clone, Copy)]
+pub(crate) struct Given<'p, R, T> {
+    pub alloc: Global,
+    pub resolver: &'p R,
+    pub table: &'p T,
+    pub options: &'p CompileOptions,
+}
+
 /// The keys that were reached, and the node of each, at the same number.
 #[derive(Drop)]
 pub struct Compiled<S, K> {
@@ -68,7 +75,8 @@ fn reserve_node<R: Resolver, K: Validate>(
     nodes: &mut Nodes<K>,
     key: &SchemaKey<R::State>,
 ) -> Result<SchemaNode, OutOfMemory>
-    ensures added { OnOk result (nodes.new ≡ nodes.old ++ reserved_node key.now.location (shown_base (resolving_parts (R.resolving resolver.now)) (key_of R.point key.now)) key.now.start ∷ []) }
+    ensures added { OnOk result (nodes.new ≡ nodes.old ++ reserved_node key.now.location (shown_base
+        (resolving_parts (R.resolving resolver.now)) (key_of R.point key.now)) key.now.start ∷ []) }
     ensures number { IfOk result (λ n. n.0 ≡ length nodes.old) }
 {
     let location = key.location.copy()?;
@@ -78,68 +86,77 @@ fn reserve_node<R: Resolver, K: Validate>(
 
 /// Gives a key the next number, with a node that is reserved.
 pub(crate) fn reserve<R: Resolver, K: Validate, T: KeywordTable<K>>(
-    alloc: Global,
-    resolver: &R,
-    _table: &T,
-    options: &CompileOptions,
+    given: &Given<'_, R, T>,
     compiled: &mut Compiled<R::State, K>,
     key: &SchemaKey<R::State>,
 ) -> Result<SchemaNode, BuildError>
-    requires table { IsTable (given_parts (R.resolving resolver.now) (T.owned _table.now) (T.script _table.now) options.now) K.shape options.now.node_limit (map (key_of R.point) compiled.old.keys) compiled.old.nodes }
-    requires absent { (i : ℕ) → slice_get (map (key_of R.point) compiled.old.keys) i ≢ Some (key_of R.point key.now) }
-    requires room { length compiled.old.keys < options.now.node_limit }
-    ensures table { OnOk result (IsTable (given_parts (R.resolving resolver.now) (T.owned _table.now) (T.script _table.now) options.now) K.shape options.now.node_limit (map (key_of R.point) compiled.new.keys) compiled.new.nodes) }
-    ensures keys { OnOk result ((map (key_of R.point) compiled.new.keys) ≡ (map (key_of R.point) compiled.old.keys) ++ (key_of R.point key.now) ∷ []) }
-    ensures nodes { OnOk result ((n : NodeEntry K) × (compiled.new.nodes ≡ compiled.old.nodes ++ n ∷ []) × (n.plan ≡ None)) }
+    requires table { IsWell (task R.resolving T.owned T.script K.shape given.now)
+        (filled R.point compiled.old) }
+    requires absent { (i : ℕ) → slice_get (map (key_of R.point) compiled.old.keys) i ≢ Some
+        (key_of R.point key.now) }
+    requires room { length compiled.old.keys < given.now.options.now.node_limit }
+    ensures table { OnOk result (IsWell (task R.resolving T.owned T.script K.shape given.now)
+        (filled R.point compiled.new)) }
+    ensures keys { OnOk result ((map (key_of R.point) compiled.new.keys) ≡
+        (map (key_of R.point) compiled.old.keys) ++ (key_of R.point key.now) ∷ []) }
+    ensures nodes { OnOk result ((n : NodeEntry K) ×
+        (compiled.new.nodes ≡ compiled.old.nodes ++ n ∷ []) × (n.plan ≡ None)) }
     ensures number { IfOk result (λ n. n.0 ≡ length compiled.old.nodes) }
     ensures memory { IfErr result (λ e. e ≡ build.OutOfMemory) }
 {
-    let number = reserve_node(alloc, resolver, &mut compiled.nodes, key)?;
-    let own = copy_of::<R>(alloc, key)?;
+    let number = reserve_node(given.alloc, given.resolver, &mut compiled.nodes, key)?;
+    let own = copy_of::<R>(given.alloc, key)?;
     compiled.keys.push(own)?;
     Ok(number)
 }
 
 /// Gives a key the next number, with a node that is reserved, unless the limit is reached.
 pub(crate) fn reserve_within<R: Resolver, K: Validate, T: KeywordTable<K>>(
-    alloc: Global,
-    resolver: &R,
-    table: &T,
-    options: &CompileOptions,
+    given: &Given<'_, R, T>,
     compiled: &mut Compiled<R::State, K>,
     key: &SchemaKey<R::State>,
 ) -> Result<SchemaNode, BuildError>
-    requires table { IsTable (given_parts (R.resolving resolver.now) (T.owned table.now) (T.script table.now) options.now) K.shape options.now.node_limit (map (key_of R.point) compiled.old.keys) compiled.old.nodes }
-    requires absent { (i : ℕ) → slice_get (map (key_of R.point) compiled.old.keys) i ≢ Some (key_of R.point key.now) }
-    ensures table { OnOk result (IsTable (given_parts (R.resolving resolver.now) (T.owned table.now) (T.script table.now) options.now) K.shape options.now.node_limit (map (key_of R.point) compiled.new.keys) compiled.new.nodes) }
-    ensures keys { OnOk result ((map (key_of R.point) compiled.new.keys) ≡ (map (key_of R.point) compiled.old.keys) ++ (key_of R.point key.now) ∷ []) }
-    ensures nodes { OnOk result ((n : NodeEntry K) × (compiled.new.nodes ≡ compiled.old.nodes ++ n ∷ []) × (n.plan ≡ None)) }
+    requires table { IsWell (task R.resolving T.owned T.script K.shape given.now)
+        (filled R.point compiled.old) }
+    requires absent { (i : ℕ) → slice_get (map (key_of R.point) compiled.old.keys) i ≢ Some
+        (key_of R.point key.now) }
+    ensures table { OnOk result (IsWell (task R.resolving T.owned T.script K.shape given.now)
+        (filled R.point compiled.new)) }
+    ensures keys { OnOk result ((map (key_of R.point) compiled.new.keys) ≡
+        (map (key_of R.point) compiled.old.keys) ++ (key_of R.point key.now) ∷ []) }
+    ensures nodes { OnOk result ((n : NodeEntry K) ×
+        (compiled.new.nodes ≡ compiled.old.nodes ++ n ∷ []) × (n.plan ≡ None)) }
     ensures number { IfOk result (λ n. n.0 ≡ length compiled.old.nodes) }
-    ensures refused { IfErr result (IsRefusal options.now.node_limit (map (key_of R.point) compiled.old.keys) (Reached (given_parts (R.resolving resolver.now) (T.owned table.now) (T.script table.now) options.now) (key_of R.point key.now)) (StandsBelow (given_parts (R.resolving resolver.now) (T.owned table.now) (T.script table.now) options.now) (key_of R.point key.now))) }
+    ensures refused { IfErr result (RefusesKey (task R.resolving T.owned T.script K.shape given.now)
+        (filled R.point compiled.old) (key_of R.point key.now)) }
 {
-    if compiled.keys.len() >= options.node_limit {
-        return Err(BuildError::NodeLimit(options.node_limit));
+    if compiled.keys.len() >= given.options.node_limit {
+        return Err(BuildError::NodeLimit(given.options.node_limit));
     }
-    Ok(reserve(alloc, resolver, table, options, compiled, key)?)
+    Ok(reserve(given, compiled, key)?)
 }
 
 /// Fills the node of a reserved number.
 pub(crate) fn finish<R: Resolver, K: Validate, T: KeywordTable<K>>(
-    _resolver: &R,
-    _table: &T,
-    options: &CompileOptions,
+    given: &Given<'_, R, T>,
     compiled: &mut Compiled<R::State, K>,
     number: SchemaNode,
     planned: PlannedNode<K>,
     _key: &SchemaKey<R::State>,
 )
-    requires table { IsTable (given_parts (R.resolving _resolver.now) (T.owned _table.now) (T.script _table.now) options.now) K.shape options.now.node_limit (map (key_of R.point) compiled.old.keys) compiled.old.nodes }
-    requires numbered { slice_get (map (key_of R.point) compiled.old.keys) number.0 ≡ Some (key_of R.point _key.now) }
+    requires table { IsWell (task R.resolving T.owned T.script K.shape given.now)
+        (filled R.point compiled.old) }
+    requires numbered { slice_get (map (key_of R.point) compiled.old.keys) number.0 ≡ Some
+        (key_of R.point _key.now) }
     requires reserved { IsReserved compiled.old.nodes number.0 }
-    requires planned { IsPlanned (given_parts (R.resolving _resolver.now) (T.owned _table.now) (T.script _table.now) options.now) K.shape (map (key_of R.point) compiled.old.keys) compiled.old.nodes (key_of R.point _key.now) (plan_of planned.form) }
-    requires annotated { option_map view planned.annotations ≡ annotations_of (given_parts (R.resolving _resolver.now) (T.owned _table.now) (T.script _table.now) options.now) (key_of R.point _key.now) }
-    ensures table { IsTable (given_parts (R.resolving _resolver.now) (T.owned _table.now) (T.script _table.now) options.now) K.shape options.now.node_limit (map (key_of R.point) compiled.new.keys) compiled.new.nodes }
-    ensures keys { (map (key_of R.point) compiled.new.keys) ≡ (map (key_of R.point) compiled.old.keys) }
+    requires planned { PlannedAs (task R.resolving T.owned T.script K.shape given.now)
+        (filled R.point compiled.old) (key_of R.point _key.now) (plan_of planned.form) }
+    requires annotated { option_map view planned.annotations ≡ annotations_of
+        (task R.resolving T.owned T.script K.shape given.now).parts (key_of R.point _key.now) }
+    ensures table { IsWell (task R.resolving T.owned T.script K.shape given.now)
+        (filled R.point compiled.new) }
+    ensures keys { (map (key_of R.point) compiled.new.keys) ≡
+        (map (key_of R.point) compiled.old.keys) }
     ensures filled { Finishes compiled.old.nodes number.0 compiled.new.nodes }
 {
     compiled
@@ -149,15 +166,15 @@ pub(crate) fn finish<R: Resolver, K: Validate, T: KeywordTable<K>>(
 
 /// The edge to a number that is there, which is guarded where the number is only reserved.
 pub(crate) fn edge_at<R: Resolver, K: Validate, T: KeywordTable<K>>(
-    _resolver: &R,
-    _table: &T,
-    _options: &CompileOptions,
+    given: &Given<'_, R, T>,
     compiled: &Compiled<R::State, K>,
     number: usize,
     path: Location,
 ) -> Edge
-    requires table { IsTable (given_parts (R.resolving _resolver.now) (T.owned _table.now) (T.script _table.now) _options.now) K.shape _options.now.node_limit (map (key_of R.point) compiled.now.keys) compiled.now.nodes }
-    requires numbered { (k : Key R.Point) × (slice_get (map (key_of R.point) compiled.now.keys) number ≡ Some k) }
+    requires table { IsWell (task R.resolving T.owned T.script K.shape given.now)
+        (filled R.point compiled.now) }
+    requires numbered { (k : Key R.Point) ×
+        (slice_get (map (key_of R.point) compiled.now.keys) number ≡ Some k) }
     ensures node { result.node.0 ≡ number }
     ensures path { result.path ≡ path }
     ensures leads { LeadsToFilled compiled.now.nodes (edge_of result) }
@@ -174,7 +191,9 @@ pub(crate) fn edge_at<R: Resolver, K: Validate, T: KeywordTable<K>>(
 
 /// Whether formats are checked for a key: by the option, or else by its draft and vocabularies.
 pub(crate) fn checks_formats<S>(options: &CompileOptions, key: &SchemaKey<S>) -> bool
-    ensures formats { result ≡ unwrap_or options.now.formats (ref_stands_alone (draft_of key.now.draft) || has_vocabulary key.now.vocabularies format_assertion_vocabulary || has_vocabulary key.now.vocabularies format_vocabulary) }
+    ensures formats { result ≡ unwrap_or options.now.formats (ref_stands_alone
+        (draft_of key.now.draft) || has_vocabulary key.now.vocabularies format_assertion_vocabulary
+        || has_vocabulary key.now.vocabularies format_vocabulary) }
 {
     match options.formats {
         Some(checked) => checked,
@@ -202,7 +221,8 @@ pub(crate) fn stands_alone(draft: Draft) -> bool
 
 /// The value of the `$ref` that stands alone in an object.
 pub(crate) fn lone_reference(draft: Draft, members: &Map<String, Value>) -> Option<&Value>
-    ensures alone { option_map (λ v. view v.now) result ≡ (if ref_stands_alone (draft_of draft) then member_of (codes "$ref") (members_view members.now.entries) else None) }
+    ensures alone { option_map (λ v. view v.now) result ≡ (if ref_stands_alone (draft_of draft) then
+        member_of (codes "$ref") (members_view members.now.entries) else None) }
 {
     if stands_alone(draft) {
         members.get("$ref")
@@ -235,17 +255,18 @@ fn is_declared(declared: &[String], uri: &str) -> bool
 
 // Refuses a vocabulary of one of these URIs that is not declared.
 fn check_each<R: Resolver, K: Validate, T: KeywordTable<K>>(
-    alloc: Global,
-    _resolver: &R,
-    _table: &T,
-    options: &CompileOptions,
+    given: &Given<'_, R, T>,
     uris: &[String],
 ) -> Result<(), BuildError>
-    ensures declared { IfOk result (λ _. flat_map (undeclared (given_parts (R.resolving _resolver.now) (T.owned _table.now) (T.script _table.now) options.now)) (map custom_vocabulary (map string_bytes uris.now)) ≡ []) }
-    ensures refused { IfErr result (Names (flat_map (undeclared (given_parts (R.resolving _resolver.now) (T.owned _table.now) (T.script _table.now) options.now)) (map custom_vocabulary (map string_bytes uris.now)))) }
+    ensures declared { IfOk result (λ _. lacking
+        (task R.resolving T.owned T.script K.shape given.now)
+        (map custom_vocabulary (map string_bytes uris.now)) ≡ []) }
+    ensures refused { IfErr result (Names (lacking
+        (task R.resolving T.owned T.script K.shape given.now)
+        (map custom_vocabulary (map string_bytes uris.now)))) }
 {
     for uri in uris {
-        if !is_declared(options.declared.as_slice(), uri.as_str()) {
+        if !is_declared(given.options.declared.as_slice(), uri.as_str()) {
             return Err(BuildError::UnsupportedVocabulary(uri.clone()?));
         }
     }
@@ -254,53 +275,48 @@ fn check_each<R: Resolver, K: Validate, T: KeywordTable<K>>(
 
 /// Refuses a custom vocabulary that is not declared.
 pub(crate) fn check_declared<R: Resolver, K: Validate, T: KeywordTable<K>>(
-    alloc: Global,
-    resolver: &R,
-    table: &T,
-    options: &CompileOptions,
+    given: &Given<'_, R, T>,
     vocabularies: &VocabularySet,
 ) -> Result<(), BuildError>
-    ensures declared { IfOk result (λ _. flat_map (undeclared (given_parts (R.resolving resolver.now) (T.owned table.now) (T.script table.now) options.now)) vocabularies.now ≡ []) }
-    ensures refused { IfErr result (Names (flat_map (undeclared (given_parts (R.resolving resolver.now) (T.owned table.now) (T.script table.now) options.now)) vocabularies.now)) }
+    ensures declared { IfOk result (λ _. lacking
+        (task R.resolving T.owned T.script K.shape given.now) vocabularies.now ≡ []) }
+    ensures refused { IfErr result (Names (lacking
+        (task R.resolving T.owned T.script K.shape given.now) vocabularies.now)) }
 {
-    check_each(alloc, resolver, table, options, vocabularies.custom())
+    check_each(given, vocabularies.custom())
 }
 
 /// The key that a reference leads to, where it requires no vocabulary that is not declared; none where it is skipped.
 pub(crate) fn target_of<R: Resolver, K: Validate, T: KeywordTable<K>>(
-    alloc: Global,
-    resolver: &R,
-    table: &T,
-    options: &CompileOptions,
+    given: &Given<'_, R, T>,
     key: &SchemaKey<R::State>,
     kind: ReferenceKind,
     text: &str,
 ) -> Result<Option<SchemaKey<R::State>>, BuildError>
-    ensures target { IfOk result (λ o. MatchOption o (is_self (given_parts (R.resolving resolver.now) (T.owned table.now) (T.script table.now) options.now) (key_of R.point key.now) (kind_of kind) text.now ≡ true)
-        (λ t. (is_self (given_parts (R.resolving resolver.now) (T.owned table.now) (T.script table.now) options.now) (key_of R.point key.now) (kind_of kind) text.now ≡ false)
-        × ((name : Text) → reference_edge (given_parts (R.resolving resolver.now) (T.owned table.now) (T.script table.now) options.now) (key_of R.point key.now) name (kind_of kind) text.now ≡ Some (record { key = key_of R.point t; path = joined [] name; is_reference = true }))
-        × (flat_map (undeclared (given_parts (R.resolving resolver.now) (T.owned table.now) (T.script table.now) options.now)) t.vocabularies ≡ []))) }
-    ensures refused { IfErr result (λ e. (name : Text) (keys : List (Key R.Point)) → Refused (given_parts (R.resolving resolver.now) (T.owned table.now) (T.script table.now) options.now) options.now.node_limit (option_one (reference_asked (given_parts (R.resolving resolver.now) (T.owned table.now) (T.script table.now) options.now) (key_of R.point key.now) name (kind_of kind) text.now)) (lookup_causes (given_parts (R.resolving resolver.now) (T.owned table.now) (T.script table.now) options.now) (found (given_parts (R.resolving resolver.now) (T.owned table.now) (T.script table.now) options.now) (key_of R.point key.now) (kind_of kind) text.now)) keys e) }
+    ensures target { IfOk result (Targets (task R.resolving T.owned T.script K.shape given.now)
+        R.point (key_of R.point key.now) (kind_of kind) text.now) }
+    ensures refused { IfErr result (RefusesTarget
+        (task R.resolving T.owned T.script K.shape given.now) (key_of R.point key.now)
+        (kind_of kind) text.now) }
 {
-    let target = target_key(alloc, resolver, key, kind, text)?;
-    check_target(alloc, resolver, table, options, &target)?;
+    let target = target_key(given.alloc, given.resolver, key, kind, text)?;
+    check_target(given, &target)?;
     Ok(target)
 }
 
 // Refuses a custom vocabulary that is not declared, where a reference's target requires it.
 fn check_target<R: Resolver, K: Validate, T: KeywordTable<K>>(
-    alloc: Global,
-    resolver: &R,
-    table: &T,
-    options: &CompileOptions,
+    given: &Given<'_, R, T>,
     target: &Option<SchemaKey<R::State>>,
 ) -> Result<(), BuildError>
-    ensures declared { IfOk result (λ _. IfSome target.now (λ t. flat_map (undeclared (given_parts (R.resolving resolver.now) (T.owned table.now) (T.script table.now) options.now)) t.vocabularies ≡ [])) }
-    ensures refused { IfErr result (λ e. MatchOption target.now ⊥ (λ t. Names (flat_map (undeclared (given_parts (R.resolving resolver.now) (T.owned table.now) (T.script table.now) options.now)) t.vocabularies) e)) }
+    ensures declared { IfOk result (λ _. IfSome target.now (λ t. lacking
+        (task R.resolving T.owned T.script K.shape given.now) t.vocabularies ≡ [])) }
+    ensures refused { IfErr result (λ e. MatchOption target.now ⊥ (λ t. Names (lacking
+        (task R.resolving T.owned T.script K.shape given.now) t.vocabularies) e)) }
 {
     match target {
         None => Ok(()),
-        Some(target) => check_declared(alloc, resolver, table, options, &target.vocabularies),
+        Some(target) => check_declared(given, &target.vocabularies),
     }
 }
 
@@ -331,7 +347,8 @@ pub(crate) fn plain_form<S, K: Drop>(
     key: &SchemaKey<S>,
     value: &Value,
 ) -> Result<NodeForm<K>, BuildError>
-    ensures form { IfOk result (λ form. (b : Bool) × (as_bool (view value.now) ≡ Some b) × (plan_of form ≡ boolean_plan b)) }
+    ensures form { IfOk result (λ form. (b : Bool) × (as_bool (view value.now) ≡ Some b) ×
+        (plan_of form ≡ boolean_plan b)) }
     ensures refused { IfErr result (Names (not_a_schema key.now.location ∷ [])) }
     ensures other { IfErr result (λ _. as_bool (view value.now) ≡ None) }
 {

@@ -82,46 +82,60 @@ fn asks_verdict_first<K>(entry: &Entry<K>, mode: Mode) -> bool
     }
 }
 
+/// What a run is made with, and does not change.
+#[derive_where(Clone, Copy)]
+struct Engine<'r, K, M> {
+    nodes: &'r Nodes<K>,
+    alloc: Global,
+    matcher: &'r M,
+}
+
+/// What is asked, where, and how it was reached.
+#[derive(Clone, Copy)]
+struct Question<'q, 'i> {
+    instance: Instance<'i>,
+    place: &'q EvaluationPlace<'q, 'i>,
+    path: &'q EvaluationPath<'q>,
+    mode: Mode,
+}
+
 // The reply of a node at a place.
 #[cycle(run)]
 fn run_node<'i, K: Validate, M: Matcher>(
-    nodes: &Nodes<K>,
-    alloc: Global,
-    matcher: &M,
+    engine: &Engine<'_, K, M>,
     node: SchemaNode,
-    instance: Instance<'i>,
-    place: &EvaluationPlace<'_, 'i>,
-    path: &EvaluationPath<'_>,
-    mode: Mode,
+    question: &Question<'_, 'i>,
     context: &mut ValidationContext<'i>,
 ) -> Result<Reply<'i>, OutOfMemory>
-    requires known { node.0 < length nodes.now }
-    requires ready { Ready K.words (numbered K.shape nodes.now) (length nodes.now) }
-    requires above { NoDeeper (steps_to place.now) context.old.in_progress }
-    requires wanted { ¬ (mode_of mode ≡ for_units) }
+    requires known { node.0 < length engine.now.nodes.now }
+    requires ready { Ready K.words (numbered K.shape engine.now.nodes.now) (length engine.now.nodes.now) }
+    requires above { NoDeeper (steps_to question.now.place.now) context.old.in_progress }
+    requires wanted { ¬ (mode_of question.now.mode ≡ for_units) }
     ensures kept { IfOk result (λ _. context.new.in_progress ≡ context.old.in_progress) }
     ensures assumes { IfOk result (λ _. context.new.remembered.assumptions ≡ context.old.remembered.assumptions) }
-    ensures says { IfOk result (λ r. NodeReplies K.words K.is_whole (numbered K.shape nodes.now) (length nodes.now) (settling (M.matching matcher.now) context.old.remembered.assumptions)
-        (mode_of mode) (path_of path.now) (steps_to place.now) (busy_at (steps_to place.now) context.old.in_progress) (subject_of instance.entry) node.0 r) }
-    ensures meets { IfOk result (λ _. NodeMeets K.words K.is_whole (numbered K.shape nodes.now) (length nodes.now) (settling (M.matching matcher.now) context.old.remembered.assumptions)
-        (mode_of mode) (path_of path.now) (steps_to place.now) (busy_at (steps_to place.now) context.old.in_progress) (subject_of instance.entry) context.old.remembered context.new.remembered node.0) }
+    ensures says { IfOk result (λ r. NodeReplies K.words K.is_whole (numbered K.shape engine.now.nodes.now) (length engine.now.nodes.now) (settling (M.matching engine.now.matcher.now) context.old.remembered.assumptions)
+        (mode_of question.now.mode) (path_of question.now.path.now) (steps_to question.now.place.now) (busy_at (steps_to question.now.place.now) context.old.in_progress) (subject_of question.now.instance) node.0 r) }
+    ensures meets { IfOk result (λ _. NodeMeets K.words K.is_whole (numbered K.shape engine.now.nodes.now) (length engine.now.nodes.now) (settling (M.matching engine.now.matcher.now) context.old.remembered.assumptions)
+        (mode_of question.now.mode) (path_of question.now.path.now) (steps_to question.now.place.now) (busy_at (steps_to question.now.place.now) context.old.in_progress) (subject_of question.now.instance) context.old.remembered context.new.remembered node.0) }
 {
-    let found = nodes.node(node);
+    let found = engine.nodes.node(node);
     match &found.form {
-        None => Ok(accepted(alloc, mode)),
+        None => Ok(accepted(engine.alloc, question.mode)),
         Some(form) => match form {
-            NodeForm::Always => Ok(accepted(alloc, mode)),
-            NodeForm::Never => refused(alloc, found, instance, place, path, mode),
+            NodeForm::Always => Ok(accepted(engine.alloc, question.mode)),
+            NodeForm::Never => refused(
+                engine.alloc,
+                found,
+                question.instance,
+                question.place,
+                question.path,
+                question.mode,
+            ),
             NodeForm::Keywords(entries) => run_entries(
-                nodes,
-                alloc,
-                matcher,
+                engine,
                 node,
                 entries.as_slice(),
-                instance,
-                place,
-                path,
-                mode,
+                question,
                 context,
             ),
         },
@@ -131,34 +145,27 @@ fn run_node<'i, K: Validate, M: Matcher>(
 // The reply of the entries, in their order; no more of them are asked once a no is all that is wanted.
 #[cycle(run)]
 fn run_entries<'i, K: Validate, M: Matcher>(
-    nodes: &Nodes<K>,
-    alloc: Global,
-    matcher: &M,
+    engine: &Engine<'_, K, M>,
     node: SchemaNode,
     entries: &[Entry<K>],
-    instance: Instance<'i>,
-    place: &EvaluationPlace<'_, 'i>,
-    path: &EvaluationPath<'_>,
-    mode: Mode,
+    question: &Question<'_, 'i>,
     context: &mut ValidationContext<'i>,
 ) -> Result<Reply<'i>, OutOfMemory>
-    requires known { node.0 < length nodes.now }
-    requires parts { HasParts (numbered K.shape nodes.now) node.0 (map (shaped_part K.shape) (map entry_of entries.now)) }
-    requires ready { Ready K.words (numbered K.shape nodes.now) (length nodes.now) }
-    requires above { NoDeeper (steps_to place.now) context.old.in_progress }
-    requires wanted { ¬ (mode_of mode ≡ for_units) }
+    requires known { node.0 < length engine.now.nodes.now }
+    requires parts { HasParts (numbered K.shape engine.now.nodes.now) node.0 (map (shaped_part K.shape) (map entry_of entries.now)) }
+    requires ready { Ready K.words (numbered K.shape engine.now.nodes.now) (length engine.now.nodes.now) }
+    requires above { NoDeeper (steps_to question.now.place.now) context.old.in_progress }
+    requires wanted { ¬ (mode_of question.now.mode ≡ for_units) }
     ensures kept { IfOk result (λ _. context.new.in_progress ≡ context.old.in_progress) }
     ensures assumes { IfOk result (λ _. context.new.remembered.assumptions ≡ context.old.remembered.assumptions) }
-    ensures says { IfOk result (λ r. PartsReply K.words K.is_whole (numbered K.shape nodes.now) (length nodes.now) (settling (M.matching matcher.now) context.old.remembered.assumptions)
-        (mode_of mode) (path_of path.now) (steps_to place.now) (busy_at (steps_to place.now) context.old.in_progress) (subject_of instance.entry) node.0 (map (shaped_part K.shape) (map entry_of entries.now)) r) }
-    ensures meets { IfOk result (λ _. PartsMeet K.words K.is_whole (numbered K.shape nodes.now) (length nodes.now) (settling (M.matching matcher.now) context.old.remembered.assumptions)
-        (mode_of mode) (path_of path.now) (steps_to place.now) (busy_at (steps_to place.now) context.old.in_progress) (subject_of instance.entry) context.old.remembered context.new.remembered node.0 (map (shaped_part K.shape) (map entry_of entries.now))) }
+    ensures says { IfOk result (λ r. PartsReply K.words K.is_whole (numbered K.shape engine.now.nodes.now) (length engine.now.nodes.now) (settling (M.matching engine.now.matcher.now) context.old.remembered.assumptions)
+        (mode_of question.now.mode) (path_of question.now.path.now) (steps_to question.now.place.now) (busy_at (steps_to question.now.place.now) context.old.in_progress) (subject_of question.now.instance) node.0 (map (shaped_part K.shape) (map entry_of entries.now)) r) }
+    ensures meets { IfOk result (λ _. PartsMeet K.words K.is_whole (numbered K.shape engine.now.nodes.now) (length engine.now.nodes.now) (settling (M.matching engine.now.matcher.now) context.old.remembered.assumptions)
+        (mode_of question.now.mode) (path_of question.now.path.now) (steps_to question.now.place.now) (busy_at (steps_to question.now.place.now) context.old.in_progress) (subject_of question.now.instance) context.old.remembered context.new.remembered node.0 (map (shaped_part K.shape) (map entry_of entries.now))) }
 {
-    let mut found = accepted(alloc, mode);
+    let mut found = accepted(engine.alloc, question.mode);
     for entry in entries {
-        let more = run_entry(
-            nodes, alloc, matcher, node, entry, instance, place, path, mode, context,
-        )?;
+        let more = run_entry(engine, node, entry, question, context)?;
         found = joined(found, more)?;
         if is_settled(&found) {
             return Ok(found);
@@ -170,100 +177,74 @@ fn run_entries<'i, K: Validate, M: Matcher>(
 // The reply of an entry. A leaf is asked for its verdict first, and for errors only where that is a no.
 #[cycle(run)]
 fn run_entry<'i, K: Validate, M: Matcher>(
-    nodes: &Nodes<K>,
-    alloc: Global,
-    matcher: &M,
+    engine: &Engine<'_, K, M>,
     node: SchemaNode,
     entry: &Entry<K>,
-    instance: Instance<'i>,
-    place: &EvaluationPlace<'_, 'i>,
-    path: &EvaluationPath<'_>,
-    mode: Mode,
+    question: &Question<'_, 'i>,
     context: &mut ValidationContext<'i>,
 ) -> Result<Reply<'i>, OutOfMemory>
-    requires known { node.0 < length nodes.now }
-    requires form { HasForm (numbered K.shape nodes.now) node.0 (shaped_form K.shape (form_of entry.now.form)) }
-    requires ready { Ready K.words (numbered K.shape nodes.now) (length nodes.now) }
-    requires above { NoDeeper (steps_to place.now) context.old.in_progress }
-    requires wanted { ¬ (mode_of mode ≡ for_units) }
+    requires known { node.0 < length engine.now.nodes.now }
+    requires form { HasForm (numbered K.shape engine.now.nodes.now) node.0 (shaped_form K.shape (form_of entry.now.form)) }
+    requires ready { Ready K.words (numbered K.shape engine.now.nodes.now) (length engine.now.nodes.now) }
+    requires above { NoDeeper (steps_to question.now.place.now) context.old.in_progress }
+    requires wanted { ¬ (mode_of question.now.mode ≡ for_units) }
     ensures kept { IfOk result (λ _. context.new.in_progress ≡ context.old.in_progress) }
     ensures assumes { IfOk result (λ _. context.new.remembered.assumptions ≡ context.old.remembered.assumptions) }
-    ensures says { IfOk result (λ r. FormReplies K.words K.is_whole (numbered K.shape nodes.now) (length nodes.now) (settling (M.matching matcher.now) context.old.remembered.assumptions)
-        (mode_of mode) (path_of path.now) (steps_to place.now) (busy_at (steps_to place.now) context.old.in_progress) (subject_of instance.entry) node.0 (string_bytes entry.now.name) (shaped_form K.shape (form_of entry.now.form)) r) }
-    ensures meets { IfOk result (λ _. EntryMeets K.words K.is_whole (numbered K.shape nodes.now) (length nodes.now) (settling (M.matching matcher.now) context.old.remembered.assumptions)
-        (mode_of mode) (path_of path.now) (steps_to place.now) (busy_at (steps_to place.now) context.old.in_progress) (subject_of instance.entry) context.old.remembered context.new.remembered node.0 (shaped_part K.shape (entry_of entry.now))) }
+    ensures says { IfOk result (λ r. FormReplies K.words K.is_whole (numbered K.shape engine.now.nodes.now) (length engine.now.nodes.now) (settling (M.matching engine.now.matcher.now) context.old.remembered.assumptions)
+        (mode_of question.now.mode) (path_of question.now.path.now) (steps_to question.now.place.now) (busy_at (steps_to question.now.place.now) context.old.in_progress) (subject_of question.now.instance) node.0 (string_bytes entry.now.name) (shaped_form K.shape (form_of entry.now.form)) r) }
+    ensures meets { IfOk result (λ _. EntryMeets K.words K.is_whole (numbered K.shape engine.now.nodes.now) (length engine.now.nodes.now) (settling (M.matching engine.now.matcher.now) context.old.remembered.assumptions)
+        (mode_of question.now.mode) (path_of question.now.path.now) (steps_to question.now.place.now) (busy_at (steps_to question.now.place.now) context.old.in_progress) (subject_of question.now.instance) context.old.remembered context.new.remembered node.0 (shaped_part K.shape (entry_of entry.now))) }
 {
-    if asks_verdict_first(entry, mode) {
-        let verdict = run_form(
-            nodes,
-            alloc,
-            matcher,
-            node,
-            entry,
-            instance,
-            place,
-            path,
-            Mode::Verdict,
-            context,
-        )?;
+    if asks_verdict_first(entry, question.mode) {
+        let asked = Question {
+            instance: question.instance,
+            place: question.place,
+            path: question.path,
+            mode: Mode::Verdict,
+        };
+        let verdict = run_form(engine, node, entry, &asked, context)?;
         if is_yes(verdict) {
-            return Ok(accepted(alloc, mode));
+            return Ok(accepted(engine.alloc, question.mode));
         }
-        return run_form(
-            nodes, alloc, matcher, node, entry, instance, place, path, mode, context,
-        );
+        return run_form(engine, node, entry, question, context);
     }
-    run_form(
-        nodes, alloc, matcher, node, entry, instance, place, path, mode, context,
-    )
+    run_form(engine, node, entry, question, context)
 }
 
 // The reply of an entry's keyword, or of the node that its reference leads to.
 #[cycle(run)]
 fn run_form<'i, K: Validate, M: Matcher>(
-    nodes: &Nodes<K>,
-    alloc: Global,
-    matcher: &M,
+    engine: &Engine<'_, K, M>,
     node: SchemaNode,
     entry: &Entry<K>,
-    instance: Instance<'i>,
-    place: &EvaluationPlace<'_, 'i>,
-    path: &EvaluationPath<'_>,
-    mode: Mode,
+    question: &Question<'_, 'i>,
     context: &mut ValidationContext<'i>,
 ) -> Result<Reply<'i>, OutOfMemory>
-    requires known { node.0 < length nodes.now }
-    requires form { HasForm (numbered K.shape nodes.now) node.0 (shaped_form K.shape (form_of entry.now.form)) }
-    requires ready { Ready K.words (numbered K.shape nodes.now) (length nodes.now) }
-    requires above { NoDeeper (steps_to place.now) context.old.in_progress }
-    requires wanted { ¬ (mode_of mode ≡ for_units) }
+    requires known { node.0 < length engine.now.nodes.now }
+    requires form { HasForm (numbered K.shape engine.now.nodes.now) node.0 (shaped_form K.shape (form_of entry.now.form)) }
+    requires ready { Ready K.words (numbered K.shape engine.now.nodes.now) (length engine.now.nodes.now) }
+    requires above { NoDeeper (steps_to question.now.place.now) context.old.in_progress }
+    requires wanted { ¬ (mode_of question.now.mode ≡ for_units) }
     ensures kept { IfOk result (λ _. context.new.in_progress ≡ context.old.in_progress) }
     ensures assumes { IfOk result (λ _. context.new.remembered.assumptions ≡ context.old.remembered.assumptions) }
-    ensures says { IfOk result (λ r. FormReplies K.words K.is_whole (numbered K.shape nodes.now) (length nodes.now) (settling (M.matching matcher.now) context.old.remembered.assumptions)
-        (mode_of mode) (path_of path.now) (steps_to place.now) (busy_at (steps_to place.now) context.old.in_progress) (subject_of instance.entry) node.0 (string_bytes entry.now.name) (shaped_form K.shape (form_of entry.now.form)) r) }
-    ensures meets { IfOk result (λ _. FormMeets K.words K.is_whole (numbered K.shape nodes.now) (length nodes.now) (settling (M.matching matcher.now) context.old.remembered.assumptions)
-        (mode_of mode) (path_of path.now) (steps_to place.now) (busy_at (steps_to place.now) context.old.in_progress) (subject_of instance.entry) context.old.remembered context.new.remembered node.0 (string_bytes entry.now.name) (shaped_form K.shape (form_of entry.now.form))) }
+    ensures says { IfOk result (λ r. FormReplies K.words K.is_whole (numbered K.shape engine.now.nodes.now) (length engine.now.nodes.now) (settling (M.matching engine.now.matcher.now) context.old.remembered.assumptions)
+        (mode_of question.now.mode) (path_of question.now.path.now) (steps_to question.now.place.now) (busy_at (steps_to question.now.place.now) context.old.in_progress) (subject_of question.now.instance) node.0 (string_bytes entry.now.name) (shaped_form K.shape (form_of entry.now.form)) r) }
+    ensures meets { IfOk result (λ _. FormMeets K.words K.is_whole (numbered K.shape engine.now.nodes.now) (length engine.now.nodes.now) (settling (M.matching engine.now.matcher.now) context.old.remembered.assumptions)
+        (mode_of question.now.mode) (path_of question.now.path.now) (steps_to question.now.place.now) (busy_at (steps_to question.now.place.now) context.old.in_progress) (subject_of question.now.instance) context.old.remembered context.new.remembered node.0 (string_bytes entry.now.name) (shaped_form K.shape (form_of entry.now.form))) }
 {
     match &entry.form {
         EntryForm::Keyword(keyword, children) => run_keyword(
-            nodes,
-            alloc,
-            matcher,
+            engine,
             node,
             &entry.name,
             keyword,
             children.as_slice(),
-            instance,
-            place,
-            path,
-            mode,
+            question,
             context,
         ),
         EntryForm::Reference(edge) => {
-            let reply = run_edge(
-                nodes, alloc, matcher, edge, instance, place, path, mode, context,
-            )?;
-            stamped_reply(alloc, nodes.node(node), &entry.name, reply)
+            let reply = run_edge(engine, edge, question, context)?;
+            stamped_reply(engine.alloc, engine.nodes.node(node), &entry.name, reply)
         }
     }
 }
@@ -271,57 +252,47 @@ fn run_form<'i, K: Validate, M: Matcher>(
 // The reply of a keyword.
 #[cycle(run)]
 fn run_keyword<'i, K: Validate, M: Matcher>(
-    nodes: &Nodes<K>,
-    alloc: Global,
-    matcher: &M,
+    engine: &Engine<'_, K, M>,
     node: SchemaNode,
     name: &String,
     keyword: &K,
     children: &[Option<Edge>],
-    instance: Instance<'i>,
-    place: &EvaluationPlace<'_, 'i>,
-    path: &EvaluationPath<'_>,
-    mode: Mode,
+    question: &Question<'_, 'i>,
     context: &mut ValidationContext<'i>,
 ) -> Result<Reply<'i>, OutOfMemory>
-    requires known { node.0 < length nodes.now }
-    requires form { HasForm (numbered K.shape nodes.now) node.0 (node_keyword (K.shape keyword.now) (map (option_map edge_of) children.now)) }
-    requires ready { Ready K.words (numbered K.shape nodes.now) (length nodes.now) }
-    requires above { NoDeeper (steps_to place.now) context.old.in_progress }
-    requires wanted { ¬ (mode_of mode ≡ for_units) }
+    requires known { node.0 < length engine.now.nodes.now }
+    requires form { HasForm (numbered K.shape engine.now.nodes.now) node.0 (node_keyword (K.shape keyword.now) (map (option_map edge_of) children.now)) }
+    requires ready { Ready K.words (numbered K.shape engine.now.nodes.now) (length engine.now.nodes.now) }
+    requires above { NoDeeper (steps_to question.now.place.now) context.old.in_progress }
+    requires wanted { ¬ (mode_of question.now.mode ≡ for_units) }
     ensures kept { IfOk result (λ _. context.new.in_progress ≡ context.old.in_progress) }
     ensures assumes { IfOk result (λ _. context.new.remembered.assumptions ≡ context.old.remembered.assumptions) }
-    ensures says { IfOk result (λ r. FormReplies K.words K.is_whole (numbered K.shape nodes.now) (length nodes.now) (settling (M.matching matcher.now) context.old.remembered.assumptions)
-        (mode_of mode) (path_of path.now) (steps_to place.now) (busy_at (steps_to place.now) context.old.in_progress) (subject_of instance.entry) node.0 (string_bytes name.now) (node_keyword (K.shape keyword.now) (map (option_map edge_of) children.now)) r) }
-    ensures meets { IfOk result (λ _. FormMeets K.words K.is_whole (numbered K.shape nodes.now) (length nodes.now) (settling (M.matching matcher.now) context.old.remembered.assumptions)
-        (mode_of mode) (path_of path.now) (steps_to place.now) (busy_at (steps_to place.now) context.old.in_progress) (subject_of instance.entry) context.old.remembered context.new.remembered node.0 (string_bytes name.now) (node_keyword (K.shape keyword.now) (map (option_map edge_of) children.now))) }
+    ensures says { IfOk result (λ r. FormReplies K.words K.is_whole (numbered K.shape engine.now.nodes.now) (length engine.now.nodes.now) (settling (M.matching engine.now.matcher.now) context.old.remembered.assumptions)
+        (mode_of question.now.mode) (path_of question.now.path.now) (steps_to question.now.place.now) (busy_at (steps_to question.now.place.now) context.old.in_progress) (subject_of question.now.instance) node.0 (string_bytes name.now) (node_keyword (K.shape keyword.now) (map (option_map edge_of) children.now)) r) }
+    ensures meets { IfOk result (λ _. FormMeets K.words K.is_whole (numbered K.shape engine.now.nodes.now) (length engine.now.nodes.now) (settling (M.matching engine.now.matcher.now) context.old.remembered.assumptions)
+        (mode_of question.now.mode) (path_of question.now.path.now) (steps_to question.now.place.now) (busy_at (steps_to question.now.place.now) context.old.in_progress) (subject_of question.now.instance) context.old.remembered context.new.remembered node.0 (string_bytes name.now) (node_keyword (K.shape keyword.now) (map (option_map edge_of) children.now))) }
 {
-    let mut run = keyword.begin(alloc, instance, mode)?;
-    let mut answer = begun(alloc, mode);
+    let mut run = keyword.begin(engine.alloc, question.instance, question.mode)?;
+    let mut answer = begun(engine.alloc, question.mode);
     run_turns(
-        nodes,
-        alloc,
-        matcher,
+        engine,
         node,
         name,
         keyword,
         children,
-        instance,
-        place,
-        path,
-        mode,
+        question,
         &mut run,
         &mut answer,
         context,
     )?;
     finished(
-        alloc,
-        nodes.node(node),
+        engine.alloc,
+        engine.nodes.node(node),
         name,
-        instance,
-        place,
-        path,
-        mode,
+        question.instance,
+        question.place,
+        question.path,
+        question.mode,
         answer,
     )
 }
@@ -329,57 +300,55 @@ fn run_keyword<'i, K: Validate, M: Matcher>(
 // The turns of a keyword's run that has begun, and its answer once they are done.
 #[cycle(run)]
 fn run_turns<'i, K: Validate, M: Matcher>(
-    nodes: &Nodes<K>,
-    alloc: Global,
-    matcher: &M,
+    engine: &Engine<'_, K, M>,
     node: SchemaNode,
     name: &String,
     keyword: &K,
     children: &[Option<Edge>],
-    instance: Instance<'i>,
-    place: &EvaluationPlace<'_, 'i>,
-    path: &EvaluationPath<'_>,
-    mode: Mode,
+    question: &Question<'_, 'i>,
     run: &mut K::Run,
     answer: &mut Answer<'i>,
     context: &mut ValidationContext<'i>,
 ) -> Result<(), OutOfMemory>
-    requires known { node.0 < length nodes.now }
-    requires form { HasForm (numbered K.shape nodes.now) node.0 (node_keyword (K.shape keyword.now) (map (option_map edge_of) children.now)) }
-    requires ready { Ready K.words (numbered K.shape nodes.now) (length nodes.now) }
-    requires above { NoDeeper (steps_to place.now) context.old.in_progress }
-    requires wanted { ¬ (mode_of mode ≡ for_units) }
-    requires begun { (texts : Bool) → (K.words texts).begin (K.shape keyword.now) (subject_of instance) (mode_of mode) ≡ (run.old, answer_of texts answer.old) }
+    requires known { node.0 < length engine.now.nodes.now }
+    requires form { HasForm (numbered K.shape engine.now.nodes.now) node.0 (node_keyword (K.shape keyword.now) (map (option_map edge_of) children.now)) }
+    requires ready { Ready K.words (numbered K.shape engine.now.nodes.now) (length engine.now.nodes.now) }
+    requires above { NoDeeper (steps_to question.now.place.now) context.old.in_progress }
+    requires wanted { ¬ (mode_of question.now.mode ≡ for_units) }
+    requires begun { (texts : Bool) → (K.words texts).begin (K.shape keyword.now) (subject_of question.now.instance) (mode_of question.now.mode) ≡ (run.old, answer_of texts answer.old) }
     requires no_faults { faults_in answer.old ≡ [] }
     ensures kept { IfOk result (λ _. context.new.in_progress ≡ context.old.in_progress) }
     ensures assumes { IfOk result (λ _. context.new.remembered.assumptions ≡ context.old.remembered.assumptions) }
-    ensures right { IfOk result (λ _. (x : Reading) → Reads K.is_whole (numbered K.shape nodes.now) (length nodes.now) (settling (M.matching matcher.now) context.old.remembered.assumptions) (steps_to place.now) (subject_of instance.entry) x
-        → left (numbered K.shape nodes.now) (length nodes.now) node.0 (subject_of instance.entry) (busy_at (steps_to place.now) context.old.in_progress) ≤ x.depth
-        → (let answers = child_says K.words (numbered K.shape nodes.now) x (path_of path.now) (steps_to place.now) (busy_at (steps_to place.now) context.old.in_progress) (map (option_map edge_of) children.now) in
-        IsRight (K.words x.texts) (K.shape keyword.now) (subject_of instance.entry) (matching x.matcher x.completion) answers (λ q. unit_with (answers q)) (λ a b. false) (mode_of mode) (answer_of x.texts answer.new))) }
-    ensures passes { IfOk result (λ _. (root : Data) → subject_at root (steps_to place.now) ≡ Some (subject_of instance.entry) → All (PassesBorrowed root) (faults_in answer.new)) }
-    ensures meets { IfOk result (λ _. FormMeets K.words K.is_whole (numbered K.shape nodes.now) (length nodes.now) (settling (M.matching matcher.now) context.old.remembered.assumptions)
-        (mode_of mode) (path_of path.now) (steps_to place.now) (busy_at (steps_to place.now) context.old.in_progress) (subject_of instance.entry) context.old.remembered context.new.remembered node.0 (string_bytes name.now) (node_keyword (K.shape keyword.now) (map (option_map edge_of) children.now))) }
+    ensures right { IfOk result (λ _. (x : Reading) → Reads K.is_whole (numbered K.shape engine.now.nodes.now) (length engine.now.nodes.now) (settling (M.matching engine.now.matcher.now) context.old.remembered.assumptions) (steps_to question.now.place.now) (subject_of question.now.instance) x
+        → left (numbered K.shape engine.now.nodes.now) (length engine.now.nodes.now) node.0 (subject_of question.now.instance) (busy_at (steps_to question.now.place.now) context.old.in_progress) ≤ x.depth
+        → (let answers = child_says K.words (numbered K.shape engine.now.nodes.now) x (path_of question.now.path.now) (steps_to question.now.place.now) (busy_at (steps_to question.now.place.now) context.old.in_progress) (map (option_map edge_of) children.now) in
+        IsRight (K.words x.texts) (K.shape keyword.now) (subject_of question.now.instance) (matching x.matcher x.completion) answers (λ q. unit_with (answers q)) (λ a b. false) (mode_of question.now.mode) (answer_of x.texts answer.new))) }
+    ensures passes { IfOk result (λ _. (root : Data) → subject_at root (steps_to question.now.place.now) ≡ Some (subject_of question.now.instance) → All (PassesBorrowed root) (faults_in answer.new)) }
+    ensures meets { IfOk result (λ _. FormMeets K.words K.is_whole (numbered K.shape engine.now.nodes.now) (length engine.now.nodes.now) (settling (M.matching engine.now.matcher.now) context.old.remembered.assumptions)
+        (mode_of question.now.mode) (path_of question.now.path.now) (steps_to question.now.place.now) (busy_at (steps_to question.now.place.now) context.old.in_progress) (subject_of question.now.instance) context.old.remembered context.new.remembered node.0 (string_bytes name.now) (node_keyword (K.shape keyword.now) (map (option_map edge_of) children.now))) }
 {
     let mut reply = Reply::Nothing;
     'turns: loop {
-        match keyword.turn(alloc, run, instance, reply, answer)? {
+        match keyword.turn(engine.alloc, run, question.instance, reply, answer)? {
             Step::Ask(child, below, wanted) => {
-                reply = run_child(
-                    nodes, alloc, matcher, node, children, child, below, instance, place, path,
-                    wanted, context,
-                )?;
+                let asked = Question {
+                    instance: question.instance,
+                    place: question.place,
+                    path: question.path,
+                    mode: wanted,
+                };
+                reply = run_child(engine, node, children, child, below, &asked, context)?;
             }
             Step::Done => return Ok(()),
             Step::Match(pattern, subject, point) => {
                 let matches = asked_match(
-                    alloc,
-                    matcher,
-                    nodes.node(node),
+                    engine.alloc,
+                    engine.matcher,
+                    engine.nodes.node(node),
                     name,
-                    instance,
-                    place,
-                    path,
+                    question.instance,
+                    question.place,
+                    question.path,
                     pattern,
                     subject,
                     point,
@@ -388,7 +357,7 @@ fn run_turns<'i, K: Validate, M: Matcher>(
                 reply = Reply::Truth(matches);
             }
             Step::Ecma(text) => {
-                let valid = context.is_valid_ecma_regex(alloc, matcher, text)?;
+                let valid = context.is_valid_ecma_regex(engine.alloc, engine.matcher, text)?;
                 reply = Reply::Truth(valid);
             }
             Step::Mark(_) => unreachable!(),
@@ -400,43 +369,40 @@ fn run_turns<'i, K: Validate, M: Matcher>(
 // The reply of a keyword's child, here or one step below; yes where its request got none.
 #[cycle(run)]
 fn run_child<'i, K: Validate, M: Matcher>(
-    nodes: &Nodes<K>,
-    alloc: Global,
-    matcher: &M,
+    engine: &Engine<'_, K, M>,
     node: SchemaNode,
     children: &[Option<Edge>],
     child: usize,
     below: Below<'_>,
-    instance: Instance<'i>,
-    place: &EvaluationPlace<'_, 'i>,
-    path: &EvaluationPath<'_>,
-    mode: Mode,
+    question: &Question<'_, 'i>,
     context: &mut ValidationContext<'i>,
 ) -> Result<Reply<'i>, OutOfMemory>
-    requires known { node.0 < length nodes.now }
-    requires children { HasChildren (numbered K.shape nodes.now) node.0 (map (option_map edge_of) children.now) }
-    requires present { IsPresent (subject_of instance) (steps_below (below_of below)) }
-    requires ready { Ready K.words (numbered K.shape nodes.now) (length nodes.now) }
-    requires above { NoDeeper (steps_to place.now) context.old.in_progress }
-    requires wanted { ¬ (mode_of mode ≡ for_units) }
+    requires known { node.0 < length engine.now.nodes.now }
+    requires children { HasChildren (numbered K.shape engine.now.nodes.now) node.0 (map (option_map edge_of) children.now) }
+    requires present { IsPresent (subject_of question.now.instance) (steps_below (below_of below)) }
+    requires ready { Ready K.words (numbered K.shape engine.now.nodes.now) (length engine.now.nodes.now) }
+    requires above { NoDeeper (steps_to question.now.place.now) context.old.in_progress }
+    requires wanted { ¬ (mode_of question.now.mode ≡ for_units) }
     ensures kept { IfOk result (λ _. context.new.in_progress ≡ context.old.in_progress) }
     ensures assumes { IfOk result (λ _. context.new.remembered.assumptions ≡ context.old.remembered.assumptions) }
-    ensures says { IfOk result (λ r. ChildReplies K.words K.is_whole (numbered K.shape nodes.now) (length nodes.now) (settling (M.matching matcher.now) context.old.remembered.assumptions)
-        (mode_of mode) (path_of path.now) (steps_to place.now) (busy_at (steps_to place.now) context.old.in_progress) (subject_of instance.entry) node.0 (map (option_map edge_of) children.now) (record { child = child; below = below_of below.entry }) r) }
-    ensures meets { IfOk result (λ _. ChildMeets K.words K.is_whole (numbered K.shape nodes.now) (length nodes.now) (settling (M.matching matcher.now) context.old.remembered.assumptions)
-        (mode_of mode) (path_of path.now) (steps_to place.now) (busy_at (steps_to place.now) context.old.in_progress) (subject_of instance.entry) context.old.remembered context.new.remembered node.0 (map (option_map edge_of) children.now) (record { child = child; below = below_of below.entry })) }
+    ensures says { IfOk result (λ r. ChildReplies K.words K.is_whole (numbered K.shape engine.now.nodes.now) (length engine.now.nodes.now) (settling (M.matching engine.now.matcher.now) context.old.remembered.assumptions)
+        (mode_of question.now.mode) (path_of question.now.path.now) (steps_to question.now.place.now) (busy_at (steps_to question.now.place.now) context.old.in_progress) (subject_of question.now.instance) node.0 (map (option_map edge_of) children.now) (record { child = child; below = below_of below.entry }) r) }
+    ensures meets { IfOk result (λ _. ChildMeets K.words K.is_whole (numbered K.shape engine.now.nodes.now) (length engine.now.nodes.now) (settling (M.matching engine.now.matcher.now) context.old.remembered.assumptions)
+        (mode_of question.now.mode) (path_of question.now.path.now) (steps_to question.now.place.now) (busy_at (steps_to question.now.place.now) context.old.in_progress) (subject_of question.now.instance) context.old.remembered context.new.remembered node.0 (map (option_map edge_of) children.now) (record { child = child; below = below_of below.entry })) }
 {
     match child_edge(children, child) {
-        None => Ok(accepted(alloc, mode)),
-        Some(edge) => match one_below(instance, below) {
-            None => run_edge(
-                nodes, alloc, matcher, edge, instance, place, path, mode, context,
-            ),
+        None => Ok(accepted(engine.alloc, question.mode)),
+        Some(edge) => match one_below(question.instance, below) {
+            None => run_edge(engine, edge, question, context),
             Some((inner, step)) => {
-                let lower = place.below(step, mode)?;
-                Ok(run_edge(
-                    nodes, alloc, matcher, edge, inner, &lower, path, mode, context,
-                )?)
+                let lower = question.place.below(step, question.mode)?;
+                let asked = Question {
+                    instance: inner,
+                    place: &lower,
+                    path: question.path,
+                    mode: question.mode,
+                };
+                Ok(run_edge(engine, edge, &asked, context)?)
             }
         },
     }
@@ -445,41 +411,44 @@ fn run_child<'i, K: Validate, M: Matcher>(
 // The reply of the node that an edge leads to; yes where the edge is guarded and the pair is in progress.
 #[cycle(run)]
 fn run_edge<'i, K: Validate, M: Matcher>(
-    nodes: &Nodes<K>,
-    alloc: Global,
-    matcher: &M,
+    engine: &Engine<'_, K, M>,
     edge: &Edge,
-    instance: Instance<'i>,
-    place: &EvaluationPlace<'_, 'i>,
-    path: &EvaluationPath<'_>,
-    mode: Mode,
+    question: &Question<'_, 'i>,
     context: &mut ValidationContext<'i>,
 ) -> Result<Reply<'i>, OutOfMemory>
-    requires known { edge.now.node.0 < length nodes.now }
-    requires ready { Ready K.words (numbered K.shape nodes.now) (length nodes.now) }
-    requires above { NoDeeper (steps_to place.now) context.old.in_progress }
-    requires wanted { ¬ (mode_of mode ≡ for_units) }
+    requires known { edge.now.node.0 < length engine.now.nodes.now }
+    requires ready { Ready K.words (numbered K.shape engine.now.nodes.now) (length engine.now.nodes.now) }
+    requires above { NoDeeper (steps_to question.now.place.now) context.old.in_progress }
+    requires wanted { ¬ (mode_of question.now.mode ≡ for_units) }
     ensures kept { IfOk result (λ _. context.new.in_progress ≡ context.old.in_progress) }
     ensures assumes { IfOk result (λ _. context.new.remembered.assumptions ≡ context.old.remembered.assumptions) }
-    ensures says { IfOk result (λ r. EdgeReplies K.words K.is_whole (numbered K.shape nodes.now) (length nodes.now) (settling (M.matching matcher.now) context.old.remembered.assumptions)
-        (mode_of mode) (path_of path.now) (steps_to place.now) (busy_at (steps_to place.now) context.old.in_progress) (subject_of instance.entry) (edge_of edge.now) r) }
-    ensures meets { IfOk result (λ _. EdgeMeets K.words K.is_whole (numbered K.shape nodes.now) (length nodes.now) (settling (M.matching matcher.now) context.old.remembered.assumptions)
-        (mode_of mode) (path_of path.now) (steps_to place.now) (busy_at (steps_to place.now) context.old.in_progress) (subject_of instance.entry) context.old.remembered context.new.remembered (edge_of edge.now)) }
+    ensures says { IfOk result (λ r. EdgeReplies K.words K.is_whole (numbered K.shape engine.now.nodes.now) (length engine.now.nodes.now) (settling (M.matching engine.now.matcher.now) context.old.remembered.assumptions)
+        (mode_of question.now.mode) (path_of question.now.path.now) (steps_to question.now.place.now) (busy_at (steps_to question.now.place.now) context.old.in_progress) (subject_of question.now.instance) (edge_of edge.now) r) }
+    ensures meets { IfOk result (λ _. EdgeMeets K.words K.is_whole (numbered K.shape engine.now.nodes.now) (length engine.now.nodes.now) (settling (M.matching engine.now.matcher.now) context.old.remembered.assumptions)
+        (mode_of question.now.mode) (path_of question.now.path.now) (steps_to question.now.place.now) (busy_at (steps_to question.now.place.now) context.old.in_progress) (subject_of question.now.instance) context.old.remembered context.new.remembered (edge_of edge.now)) }
 {
-    let whole = path.across(&edge.path);
+    let whole = question.path.across(&edge.path);
     if !edge.guarded {
-        return Ok(run_node(
-            nodes, alloc, matcher, edge.node, instance, place, &whole, mode, context,
-        )?);
+        let asked = Question {
+            instance: question.instance,
+            place: question.place,
+            path: &whole,
+            mode: question.mode,
+        };
+        return Ok(run_node(engine, edge.node, &asked, context)?);
     }
-    let here = place.made()?;
+    let here = question.place.made()?;
     if context.enter(edge.node, &here)? {
-        return Ok(accepted(alloc, mode));
+        return Ok(accepted(engine.alloc, question.mode));
     }
     let place = EvaluationPlace::given(&here);
-    let reply = run_node(
-        nodes, alloc, matcher, edge.node, instance, &place, &whole, mode, context,
-    )?;
+    let asked = Question {
+        instance: question.instance,
+        place: &place,
+        path: &whole,
+        mode: question.mode,
+    };
+    let reply = run_node(engine, edge.node, &asked, context)?;
     context.exit(edge.node, &here);
     Ok(reply)
 }
@@ -526,8 +495,17 @@ impl<K: Validate> Nodes<K> {
         let _ = &self.nodes;
         let place = EvaluationPlace::given(place);
         let path = EvaluationPath::given(path);
-        run_node(
-            self, alloc, matcher, node, instance, &place, &path, mode, context,
-        )
+        let engine = Engine {
+            nodes: self,
+            alloc,
+            matcher,
+        };
+        let question = Question {
+            instance,
+            place: &place,
+            path: &path,
+            mode,
+        };
+        run_node(&engine, node, &question, context)
     }
 }

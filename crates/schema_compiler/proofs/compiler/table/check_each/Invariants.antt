@@ -7,5 +7,5 @@ use Rattle.schema_compiler.proofs.compiler.table.check_each.Given as goal
 
 abbrev pub invariant-loop-uri : goal.invariant-loop-uri
 invariant-loop-uri g l =
-    let w = given_parts (g.R.Resolver.resolving l._resolver) (g.T.KeywordTable.owned l._table) (g.T.KeywordTable.script l._table) l.options in
+    let w = given_parts (g.R.Resolver.resolving l.given.resolver.now) (g.T.KeywordTable.owned l.given.table.now) (g.T.KeywordTable.script l.given.table.now) l.given.options.now in
     flat_map (undeclared w) (map custom_vocabulary (map string_bytes l.uris)) ≡ flat_map (undeclared w) (map custom_vocabulary (map string_bytes (drop l.uri-index l.uris)))

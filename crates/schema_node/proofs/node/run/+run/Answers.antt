@@ -60,92 +60,92 @@ ecma_goes_on text e = cc
 
 pub run_child-run_edge-requires : goal.run_child-run_edge-requires
 run_child-run_edge-requires g t c =
-    let ns = numbered g.K.Validate.shape c.args.nodes.now in
+    let ns = numbered g.K.Validate.shape c.args.engine.now.nodes.now in
     let e = edge_of c.in-Some.edge.now in
     let k = c.requires.children c.args.child e (sym c.in-Some.ensures.edge) in
-    let l = falls_here g.K.Validate.words g.K.Validate.is_whole ns (length c.args.nodes.now) (settling (g.M.Matcher.matching c.args.matcher.now) c.args.context.now.remembered.assumptions) c.requires.ready.ranked c.args.node.0 (subject_of c.args.instance) (busy_at (steps_to c.args.place.now) c.args.context.now.in_progress) e c.requires.known k in
+    let l = falls_here g.K.Validate.words g.K.Validate.is_whole ns (length c.args.engine.now.nodes.now) (settling (g.M.Matcher.matching c.args.engine.now.matcher.now) c.args.context.now.remembered.assumptions) c.requires.ready.ranked c.args.node.0 (subject_of c.args.question.now.instance) (busy_at (steps_to c.args.question.now.place.now) c.args.context.now.in_progress) e c.requires.known k in
     λ κs h. (lower_edge _ _ _ t 0 refl l c.decreases, (h.0, (h.1.0, (h.1.1.0, (h.1.1.1, ((c.requires.ready.ranked c.args.node.0 c.requires.known e k).0, (c.requires.ready, (c.requires.above, c.requires.wanted))))))))
 
 pub run_child-run_edge-requires-in-Some-one_below : goal.run_child-run_edge-requires-in-Some-one_below
 run_child-run_edge-requires-in-Some-one_below g t c =
-    let ns = numbered g.K.Validate.shape c.args.nodes.now in
+    let ns = numbered g.K.Validate.shape c.args.engine.now.nodes.now in
     let e = edge_of c.in-Some.edge.now in
     let k = c.requires.children c.args.child e (sym c.in-Some.ensures.edge) in
-    let p = steps_to c.args.place.now in
+    let p = steps_to c.args.question.now.place.now in
     let step = step_of c.in-Some-one_below.step in
     let es = c.args.context.now.in_progress in
     let none : busy_at (steps_to c.in_ok-lower-in-Some-one_below.lower) es ≡ [] = ap (λ q. busy_at q es) c.in_ok-lower-in-Some-one_below.ensures.below ∙ busy-below p step es c.requires.above in
     let deeper = subst (λ q. NoDeeper q es) (sym c.in_ok-lower-in-Some-one_below.ensures.below) (deeper-below p step es c.requires.above) in
-    let l = falls_below g.K.Validate.words g.K.Validate.is_whole ns (length c.args.nodes.now) (settling (g.M.Matcher.matching c.args.matcher.now) c.args.context.now.remembered.assumptions) c.requires.ready.ranked c.args.node.0 (subject_of c.args.instance) (subject_of c.in-Some-one_below.inner) step (busy_at p es) e c.requires.known k c.in-Some-one_below.ensures.below.1 in
-    let n = ap (edge_needs ns (length c.args.nodes.now) e (subject_of c.in-Some-one_below.inner)) none in
+    let l = falls_below g.K.Validate.words g.K.Validate.is_whole ns (length c.args.engine.now.nodes.now) (settling (g.M.Matcher.matching c.args.engine.now.matcher.now) c.args.context.now.remembered.assumptions) c.requires.ready.ranked c.args.node.0 (subject_of c.args.question.now.instance) (subject_of c.in-Some-one_below.inner) step (busy_at p es) e c.requires.known k c.in-Some-one_below.ensures.below.1 in
+    let n = ap (edge_needs ns (length c.args.engine.now.nodes.now) e (subject_of c.in-Some-one_below.inner)) none in
     λ κs h. (lower_edge _ _ _ t 0 n l c.decreases, (h.0, (h.1.0, (h.1.1.0, (h.1.1.1, ((c.requires.ready.ranked c.args.node.0 c.requires.known e k).0, (c.requires.ready, (deeper, c.requires.wanted))))))))
 
 pub run_child-returns-in-None-one_below-clause-says : goal.run_child-returns-in-None-one_below-clause-says
 run_child-returns-in-None-one_below-clause-says g t c =
-    let ns = numbered g.K.Validate.shape c.args.nodes.now in
+    let ns = numbered g.K.Validate.shape c.args.engine.now.nodes.now in
     let e = edge_of c.in-Some.edge.now in
     let k = c.requires.children c.args.child e (sym c.in-Some.ensures.edge) in
-    let l = falls_here g.K.Validate.words g.K.Validate.is_whole ns (length c.args.nodes.now) (settling (g.M.Matcher.matching c.args.matcher.now) c.args.context.now.remembered.assumptions) c.requires.ready.ranked c.args.node.0 (subject_of c.args.instance) (busy_at (steps_to c.args.place.now) c.args.context.now.in_progress) e c.requires.known k in
-    if_ok_mono c.run_edge.result _ _ (λ r says. child_here g.K.Validate.words g.K.Validate.is_whole ns (length c.args.nodes.now) (settling (g.M.Matcher.matching c.args.matcher.now) c.args.context.now.remembered.assumptions) (mode_of c.args.mode) (path_of c.args.path.now) (steps_to c.args.place.now) (busy_at (steps_to c.args.place.now) c.args.context.now.in_progress) (subject_of c.args.instance) c.args.node.0 _
+    let l = falls_here g.K.Validate.words g.K.Validate.is_whole ns (length c.args.engine.now.nodes.now) (settling (g.M.Matcher.matching c.args.engine.now.matcher.now) c.args.context.now.remembered.assumptions) c.requires.ready.ranked c.args.node.0 (subject_of c.args.question.now.instance) (busy_at (steps_to c.args.question.now.place.now) c.args.context.now.in_progress) e c.requires.known k in
+    if_ok_mono c.run_edge.result _ _ (λ r says. child_here g.K.Validate.words g.K.Validate.is_whole ns (length c.args.engine.now.nodes.now) (settling (g.M.Matcher.matching c.args.engine.now.matcher.now) c.args.context.now.remembered.assumptions) (mode_of c.args.question.now.mode) (path_of c.args.question.now.path.now) (steps_to c.args.question.now.place.now) (busy_at (steps_to c.args.question.now.place.now) c.args.context.now.in_progress) (subject_of c.args.question.now.instance) c.args.node.0 _
     (record { child = c.args.child; below = below_of c.args.below }) r e (sym c.in-Some.ensures.edge) c.in-None-one_below.ensures.below l says) c.run_edge.ensures.says
 
 pub run_child-returns-in_ok-run_edge-in-Some-one_below-clause-says : goal.run_child-returns-in_ok-run_edge-in-Some-one_below-clause-says
 run_child-returns-in_ok-run_edge-in-Some-one_below-clause-says g t c =
-    let ns = numbered g.K.Validate.shape c.args.nodes.now in
+    let ns = numbered g.K.Validate.shape c.args.engine.now.nodes.now in
     let e = edge_of c.in-Some.edge.now in
     let k = c.requires.children c.args.child e (sym c.in-Some.ensures.edge) in
-    let p = steps_to c.args.place.now in
+    let p = steps_to c.args.question.now.place.now in
     let step = step_of c.in-Some-one_below.step in
     let es = c.args.context.now.in_progress in
-    let s = subject_of c.args.instance in
+    let s = subject_of c.args.question.now.instance in
     let inner = subject_of c.in-Some-one_below.inner in
     let none : busy_at (steps_to c.in_ok-lower-in-Some-one_below.lower) es ≡ [] = ap (λ q. busy_at q es) c.in_ok-lower-in-Some-one_below.ensures.below ∙ busy-below p step es c.requires.above in
-    let l = falls_below g.K.Validate.words g.K.Validate.is_whole ns (length c.args.nodes.now) (settling (g.M.Matcher.matching c.args.matcher.now) c.args.context.now.remembered.assumptions) c.requires.ready.ranked c.args.node.0 s inner step (busy_at p es) e c.requires.known k c.in-Some-one_below.ensures.below.1 in
-    let answer = subst (λ busy. EdgeReplies g.K.Validate.words g.K.Validate.is_whole ns (length c.args.nodes.now) (settling (g.M.Matcher.matching c.args.matcher.now) c.args.context.now.remembered.assumptions) (mode_of c.args.mode) (path_of c.args.path.now) (steps_to c.in_ok-lower-in-Some-one_below.lower) busy inner e c.in_ok-run_edge-in-Some-one_below.field-0) none c.in_ok-run_edge-in-Some-one_below.ensures.says in
-    child_below g.K.Validate.words g.K.Validate.is_whole ns (length c.args.nodes.now) (settling (g.M.Matcher.matching c.args.matcher.now) c.args.context.now.remembered.assumptions) (mode_of c.args.mode) (path_of c.args.path.now) p (busy_at p es) s c.args.node.0 _
+    let l = falls_below g.K.Validate.words g.K.Validate.is_whole ns (length c.args.engine.now.nodes.now) (settling (g.M.Matcher.matching c.args.engine.now.matcher.now) c.args.context.now.remembered.assumptions) c.requires.ready.ranked c.args.node.0 s inner step (busy_at p es) e c.requires.known k c.in-Some-one_below.ensures.below.1 in
+    let answer = subst (λ busy. EdgeReplies g.K.Validate.words g.K.Validate.is_whole ns (length c.args.engine.now.nodes.now) (settling (g.M.Matcher.matching c.args.engine.now.matcher.now) c.args.context.now.remembered.assumptions) (mode_of c.args.question.now.mode) (path_of c.args.question.now.path.now) (steps_to c.in_ok-lower-in-Some-one_below.lower) busy inner e c.in_ok-run_edge-in-Some-one_below.field-0) none c.in_ok-run_edge-in-Some-one_below.ensures.says in
+    child_below g.K.Validate.words g.K.Validate.is_whole ns (length c.args.engine.now.nodes.now) (settling (g.M.Matcher.matching c.args.engine.now.matcher.now) c.args.context.now.remembered.assumptions) (mode_of c.args.question.now.mode) (path_of c.args.question.now.path.now) p (busy_at p es) s c.args.node.0 _
     (record { child = c.args.child; below = below_of c.args.below }) c.in_ok-run_edge-in-Some-one_below.field-0 e step (steps_to c.in_ok-lower-in-Some-one_below.lower) inner (sym c.in-Some.ensures.edge) c.in-Some-one_below.ensures.below.0
     c.in_ok-lower-in-Some-one_below.ensures.below c.in-Some-one_below.ensures.below.1 l answer
 
 pub run_edge-returns-then-branch-clause-says : goal.run_edge-returns-then-branch-clause-says
 run_edge-returns-then-branch-clause-says g t c =
-    let p = steps_to c.args.place.now in
+    let p = steps_to c.args.question.now.place.now in
     let e = edge_of c.args.edge.now in
     let old = entered_old e.node p c.args.context.now.in_progress c.in_ok-enter.field-0 c.enter.new.self.in_progress (rw c.in_ok-here.ensures.same at c.in_ok-enter.ensures.enters) c.if-branch.true in
-    edge_busy g.K.Validate.words g.K.Validate.is_whole (numbered g.K.Validate.shape c.args.nodes.now) (length c.args.nodes.now) (settling (g.M.Matcher.matching c.args.matcher.now) c.args.context.now.remembered.assumptions) (subject_of c.args.instance) (busy_at p c.args.context.now.in_progress) e (mode_of c.args.mode) (path_of c.args.path.now) p c.accepted.result
+    edge_busy g.K.Validate.words g.K.Validate.is_whole (numbered g.K.Validate.shape c.args.engine.now.nodes.now) (length c.args.engine.now.nodes.now) (settling (g.M.Matcher.matching c.args.engine.now.matcher.now) c.args.context.now.remembered.assumptions) (subject_of c.args.question.now.instance) (busy_at p c.args.context.now.in_progress) e (mode_of c.args.question.now.mode) (path_of c.args.question.now.path.now) p c.accepted.result
     c.if-not-edge.false old.0 c.accepted.ensures.accepts c.accepted.ensures.no_errors
 
 pub run_edge-run_node-requires-2 : goal.run_edge-run_node-requires-2
 run_edge-run_node-requires-2 g t c =
-    let ns = numbered g.K.Validate.shape c.args.nodes.now in
-    let p = steps_to c.args.place.now in
+    let ns = numbered g.K.Validate.shape c.args.engine.now.nodes.now in
+    let p = steps_to c.args.question.now.place.now in
     let e = edge_of c.args.edge.now in
-    let s = subject_of c.args.instance in
+    let s = subject_of c.args.question.now.instance in
     let new = entered_new e.node p c.args.context.now.in_progress c.in_ok-enter.field-0 c.enter.new.self.in_progress (rw c.in_ok-here.ensures.same at c.in_ok-enter.ensures.enters) c.if-branch.false in
     let busy : busy_at p c.enter.new.self.in_progress ≡ e.node ∷ busy_at p c.args.context.now.in_progress = ap (busy_at p) new.1 ∙ busy-pushed p e.node c.args.context.now.in_progress in
-    let needs = needs_of_entered g.K.Validate.words g.K.Validate.is_whole ns (length c.args.nodes.now) (settling (g.M.Matcher.matching c.args.matcher.now) c.args.context.now.remembered.assumptions) s (busy_at p c.args.context.now.in_progress) e c.if-not-edge.false new.0 in
+    let needs = needs_of_entered g.K.Validate.words g.K.Validate.is_whole ns (length c.args.engine.now.nodes.now) (settling (g.M.Matcher.matching c.args.engine.now.matcher.now) c.args.context.now.remembered.assumptions) s (busy_at p c.args.context.now.in_progress) e c.if-not-edge.false new.0 in
     let there : steps_to c.given-place.result ≡ p = c.given-place.ensures.same ∙ c.in_ok-here.ensures.same in
-    let l = ap (λ q. left ns (length c.args.nodes.now) e.node s (busy_at q c.enter.new.self.in_progress)) there ∙ ap (left ns (length c.args.nodes.now) e.node s) busy in
+    let l = ap (λ q. left ns (length c.args.engine.now.nodes.now) e.node s (busy_at q c.enter.new.self.in_progress)) there ∙ ap (left ns (length c.args.engine.now.nodes.now) e.node s) busy in
     let deeper = subst (λ q. NoDeeper q c.enter.new.self.in_progress) (sym there) (subst (NoDeeper p) (sym new.1) (deeper-pushed p e.node c.args.context.now.in_progress c.requires.above)) in
     λ κs h. (lower_entered _ _ _ t l needs c.decreases, (h.0, (h.1.0, (h.1.1.0, (h.1.1.1, (c.requires.known, (c.requires.ready, (deeper, c.requires.wanted))))))))
 
 pub run_edge-returns-clause-says : goal.run_edge-returns-clause-says
 run_edge-returns-clause-says g t c =
-    let ns = numbered g.K.Validate.shape c.args.nodes.now in
-    let p = steps_to c.args.place.now in
+    let ns = numbered g.K.Validate.shape c.args.engine.now.nodes.now in
+    let p = steps_to c.args.question.now.place.now in
     let e = edge_of c.args.edge.now in
-    let s = subject_of c.args.instance in
+    let s = subject_of c.args.question.now.instance in
     let new = entered_new e.node p c.args.context.now.in_progress c.in_ok-enter.field-0 c.enter.new.self.in_progress (rw c.in_ok-here.ensures.same at c.in_ok-enter.ensures.enters) c.if-branch.false in
     let busy : busy_at p c.enter.new.self.in_progress ≡ e.node ∷ busy_at p c.args.context.now.in_progress = ap (busy_at p) new.1 ∙ busy-pushed p e.node c.args.context.now.in_progress in
-    let answer = subst (λ path. NodeReplies g.K.Validate.words g.K.Validate.is_whole ns (length c.args.nodes.now) (settling (g.M.Matcher.matching c.args.matcher.now) c.args.context.now.remembered.assumptions) (mode_of c.args.mode) path p (busy_at p c.enter.new.self.in_progress) s e.node c.in_ok-reply.reply) c.across-whole.ensures.appended (rw (c.given-place.ensures.same, c.in_ok-here.ensures.same, c.enter.ensures.remembered) at c.in_ok-reply.ensures.says) in
-    let answer' = subst (λ busy. NodeReplies g.K.Validate.words g.K.Validate.is_whole ns (length c.args.nodes.now) (settling (g.M.Matcher.matching c.args.matcher.now) c.args.context.now.remembered.assumptions) (mode_of c.args.mode) (path_of c.args.path.now ++ e.path) p busy s e.node c.in_ok-reply.reply) busy answer in
-    edge_entered g.K.Validate.words g.K.Validate.is_whole ns (length c.args.nodes.now) (settling (g.M.Matcher.matching c.args.matcher.now) c.args.context.now.remembered.assumptions) s (busy_at p c.args.context.now.in_progress) e (mode_of c.args.mode) (path_of c.args.path.now) p c.in_ok-reply.reply c.if-not-edge.false new.0 answer'
+    let answer = subst (λ path. NodeReplies g.K.Validate.words g.K.Validate.is_whole ns (length c.args.engine.now.nodes.now) (settling (g.M.Matcher.matching c.args.engine.now.matcher.now) c.args.context.now.remembered.assumptions) (mode_of c.args.question.now.mode) path p (busy_at p c.enter.new.self.in_progress) s e.node c.in_ok-reply.reply) c.across-whole.ensures.appended (rw (c.given-place.ensures.same, c.in_ok-here.ensures.same, c.enter.ensures.remembered) at c.in_ok-reply.ensures.says) in
+    let answer' = subst (λ busy. NodeReplies g.K.Validate.words g.K.Validate.is_whole ns (length c.args.engine.now.nodes.now) (settling (g.M.Matcher.matching c.args.engine.now.matcher.now) c.args.context.now.remembered.assumptions) (mode_of c.args.question.now.mode) (path_of c.args.question.now.path.now ++ e.path) p busy s e.node c.in_ok-reply.reply) busy answer in
+    edge_entered g.K.Validate.words g.K.Validate.is_whole ns (length c.args.engine.now.nodes.now) (settling (g.M.Matcher.matching c.args.engine.now.matcher.now) c.args.context.now.remembered.assumptions) s (busy_at p c.args.context.now.in_progress) e (mode_of c.args.question.now.mode) (path_of c.args.question.now.path.now) p c.in_ok-reply.reply c.if-not-edge.false new.0 answer'
 
 pub run_form-run_edge-requires : goal.run_form-run_edge-requires
 run_form-run_edge-requires g t c =
-    let ns = numbered g.K.Validate.shape c.args.nodes.now in
+    let ns = numbered g.K.Validate.shape c.args.engine.now.nodes.now in
     let e = edge_of c.in-Reference.edge in
     let k = reference_edge ns c.args.node.0 e (rw c.in-Reference.is at c.requires.form) in
-    let l = falls_here g.K.Validate.words g.K.Validate.is_whole ns (length c.args.nodes.now) (settling (g.M.Matcher.matching c.args.matcher.now) c.args.context.now.remembered.assumptions) c.requires.ready.ranked c.args.node.0 (subject_of c.args.instance) (busy_at (steps_to c.args.place.now) c.args.context.now.in_progress) e c.requires.known k in
+    let l = falls_here g.K.Validate.words g.K.Validate.is_whole ns (length c.args.engine.now.nodes.now) (settling (g.M.Matcher.matching c.args.engine.now.matcher.now) c.args.context.now.remembered.assumptions) c.requires.ready.ranked c.args.node.0 (subject_of c.args.question.now.instance) (busy_at (steps_to c.args.question.now.place.now) c.args.context.now.in_progress) e c.requires.known k in
     λ κs h. (lower_edge _ _ _ t 3 refl l c.decreases, (h.0, (h.1.0, (h.1.1.0, (h.1.1.1, ((c.requires.ready.ranked c.args.node.0 c.requires.known e k).0, (c.requires.ready, (c.requires.above, c.requires.wanted))))))))
 
 pub run_form-returns-in-Keyword-clause-says : goal.run_form-returns-in-Keyword-clause-says
@@ -153,53 +153,53 @@ run_form-returns-in-Keyword-clause-says g t c = rw (c.in-Keyword.is, ← c.as_sl
 
 pub run_form-returns-in_ok-reply-in-Reference-clause-says : goal.run_form-returns-in_ok-reply-in-Reference-clause-says
 run_form-returns-in_ok-reply-in-Reference-clause-says g t c =
-    let ns = numbered g.K.Validate.shape c.args.nodes.now in
+    let ns = numbered g.K.Validate.shape c.args.engine.now.nodes.now in
     let e = edge_of c.in-Reference.edge in
     let k = reference_edge ns c.args.node.0 e (rw c.in-Reference.is at c.requires.form) in
-    let l = falls_here g.K.Validate.words g.K.Validate.is_whole ns (length c.args.nodes.now) (settling (g.M.Matcher.matching c.args.matcher.now) c.args.context.now.remembered.assumptions) c.requires.ready.ranked c.args.node.0 (subject_of c.args.instance) (busy_at (steps_to c.args.place.now) c.args.context.now.in_progress) e c.requires.known k in
-    let at_node = absolute_is g.K.Validate.shape c.args.nodes.now c.args.node.0 (node_of c.node.result.now) (string_bytes c.args.entry.now.name) c.node.ensures.found in
-    rw c.in-Reference.is (if_ok_both c.stamped_reply.result _ _ _ (λ r stamped borrows. form_reference g.K.Validate.words g.K.Validate.is_whole ns (length c.args.nodes.now) (settling (g.M.Matcher.matching c.args.matcher.now) c.args.context.now.remembered.assumptions) (mode_of c.args.mode) (path_of c.args.path.now) (steps_to c.args.place.now) (busy_at (steps_to c.args.place.now) c.args.context.now.in_progress) (subject_of c.args.instance) c.args.node.0 (string_bytes c.args.entry.now.name) e
+    let l = falls_here g.K.Validate.words g.K.Validate.is_whole ns (length c.args.engine.now.nodes.now) (settling (g.M.Matcher.matching c.args.engine.now.matcher.now) c.args.context.now.remembered.assumptions) c.requires.ready.ranked c.args.node.0 (subject_of c.args.question.now.instance) (busy_at (steps_to c.args.question.now.place.now) c.args.context.now.in_progress) e c.requires.known k in
+    let at_node = absolute_is g.K.Validate.shape c.args.engine.now.nodes.now c.args.node.0 (node_of c.node.result.now) (string_bytes c.args.entry.now.name) c.node.ensures.found in
+    rw c.in-Reference.is (if_ok_both c.stamped_reply.result _ _ _ (λ r stamped borrows. form_reference g.K.Validate.words g.K.Validate.is_whole ns (length c.args.engine.now.nodes.now) (settling (g.M.Matcher.matching c.args.engine.now.matcher.now) c.args.context.now.remembered.assumptions) (mode_of c.args.question.now.mode) (path_of c.args.question.now.path.now) (steps_to c.args.question.now.place.now) (busy_at (steps_to c.args.question.now.place.now) c.args.context.now.in_progress) (subject_of c.args.question.now.instance) c.args.node.0 (string_bytes c.args.entry.now.name) e
     c.in_ok-reply-in-Reference.reply r _ at_node l stamped borrows c.in_ok-reply-in-Reference.ensures.says) c.stamped_reply.ensures.stamped c.stamped_reply.ensures.borrows)
 
 pub run_node-run_entries-requires : goal.run_node-run_entries-requires
 run_node-run_entries-requires g t c =
-    let plan = plan_is g.K.Validate.shape c.args.nodes.now c.args.node.0 (node_of c.node-found.result.now) _ c.node-found.ensures.found (ap (option_map plan_of) c.in-Some.is ∙ ap (λ f. Some (plan_of f)) c.in-Keywords.is) in
+    let plan = plan_is g.K.Validate.shape c.args.engine.now.nodes.now c.args.node.0 (node_of c.node-found.result.now) _ c.node-found.ensures.found (ap (option_map plan_of) c.in-Some.is ∙ ap (λ f. Some (plan_of f)) c.in-Keywords.is) in
     λ κs h. (lower_same _ _ t 6 0 refl c.decreases, (h.0, (h.1.0, (h.1.1.0, (h.1.1.1, (c.requires.known, (rw c.as_slice.ensures.value (_, plan, λ y k. k), (c.requires.ready, (c.requires.above, c.requires.wanted)))))))))
 
 pub run_node-returns-in-Never-clause-says : goal.run_node-returns-in-Never-clause-says
 run_node-returns-in-Never-clause-says g t c =
-    let ns = numbered g.K.Validate.shape c.args.nodes.now in
+    let ns = numbered g.K.Validate.shape c.args.engine.now.nodes.now in
     let n = node_of c.node-found.result.now in
-    let p = steps_to c.args.place.now in
-    let s = subject_of c.args.instance in
-    let plan = plan_is g.K.Validate.shape c.args.nodes.now c.args.node.0 n _ c.node-found.ensures.found (ap (option_map plan_of) c.in-Some.is ∙ ap (λ f. Some (plan_of f)) c.in-Never.is) in
-    if_ok_both c.refused.result _ _ _ (λ r refuses borrows. node_by_plan g.K.Validate.words g.K.Validate.is_whole ns (length c.args.nodes.now) (settling (g.M.Matcher.matching c.args.matcher.now) c.args.context.now.remembered.assumptions) (mode_of c.args.mode) (path_of c.args.path.now) p (busy_at p c.args.context.now.in_progress) s c.args.node.0 r node_never plan
-    (λ x reads l. replies_refused g.K.Validate.shape c.args.nodes.now g.K.Validate.words x (mode_of c.args.mode) (path_of c.args.path.now) p s c.args.node.0 n r c.node-found.ensures.found (g.met.K.Validate.speaks x.texts) reads.stands
-    (refuses x.texts (plain_there g.K.Validate.is_whole ns (length c.args.nodes.now) (settling (g.M.Matcher.matching c.args.matcher.now) c.args.context.now.remembered.assumptions) p s x reads)) (borrows x.root reads.stands))) c.refused.ensures.refuses c.refused.ensures.borrows
+    let p = steps_to c.args.question.now.place.now in
+    let s = subject_of c.args.question.now.instance in
+    let plan = plan_is g.K.Validate.shape c.args.engine.now.nodes.now c.args.node.0 n _ c.node-found.ensures.found (ap (option_map plan_of) c.in-Some.is ∙ ap (λ f. Some (plan_of f)) c.in-Never.is) in
+    if_ok_both c.refused.result _ _ _ (λ r refuses borrows. node_by_plan g.K.Validate.words g.K.Validate.is_whole ns (length c.args.engine.now.nodes.now) (settling (g.M.Matcher.matching c.args.engine.now.matcher.now) c.args.context.now.remembered.assumptions) (mode_of c.args.question.now.mode) (path_of c.args.question.now.path.now) p (busy_at p c.args.context.now.in_progress) s c.args.node.0 r node_never plan
+    (λ x reads l. replies_refused g.K.Validate.shape c.args.engine.now.nodes.now g.K.Validate.words x (mode_of c.args.question.now.mode) (path_of c.args.question.now.path.now) p s c.args.node.0 n r c.node-found.ensures.found (g.met.K.Validate.speaks x.texts) reads.stands
+    (refuses x.texts (plain_there g.K.Validate.is_whole ns (length c.args.engine.now.nodes.now) (settling (g.M.Matcher.matching c.args.engine.now.matcher.now) c.args.context.now.remembered.assumptions) p s x reads)) (borrows x.root reads.stands))) c.refused.ensures.refuses c.refused.ensures.borrows
 
 pub run_node-returns-in-Keywords-clause-says : goal.run_node-returns-in-Keywords-clause-says
 run_node-returns-in-Keywords-clause-says g t c =
-    let ns = numbered g.K.Validate.shape c.args.nodes.now in
-    let p = steps_to c.args.place.now in
-    let plan = plan_is g.K.Validate.shape c.args.nodes.now c.args.node.0 (node_of c.node-found.result.now) _ c.node-found.ensures.found (ap (option_map plan_of) c.in-Some.is ∙ ap (λ f. Some (plan_of f)) c.in-Keywords.is) in
-    if_ok_mono c.run_entries.result _ _ (λ r says. node_by_plan g.K.Validate.words g.K.Validate.is_whole ns (length c.args.nodes.now) (settling (g.M.Matcher.matching c.args.matcher.now) c.args.context.now.remembered.assumptions) (mode_of c.args.mode) (path_of c.args.path.now) p (busy_at p c.args.context.now.in_progress) (subject_of c.args.instance) c.args.node.0 r _ plan says)
+    let ns = numbered g.K.Validate.shape c.args.engine.now.nodes.now in
+    let p = steps_to c.args.question.now.place.now in
+    let plan = plan_is g.K.Validate.shape c.args.engine.now.nodes.now c.args.node.0 (node_of c.node-found.result.now) _ c.node-found.ensures.found (ap (option_map plan_of) c.in-Some.is ∙ ap (λ f. Some (plan_of f)) c.in-Keywords.is) in
+    if_ok_mono c.run_entries.result _ _ (λ r says. node_by_plan g.K.Validate.words g.K.Validate.is_whole ns (length c.args.engine.now.nodes.now) (settling (g.M.Matcher.matching c.args.engine.now.matcher.now) c.args.context.now.remembered.assumptions) (mode_of c.args.question.now.mode) (path_of c.args.question.now.path.now) p (busy_at p c.args.context.now.in_progress) (subject_of c.args.question.now.instance) c.args.node.0 r _ plan says)
     (rw c.as_slice.ensures.value at c.run_entries.ensures.says)
 
 pub run_entries-loop-entry-init : goal.run_entries-loop-entry-init
 run_entries-loop-entry-init g t c = record {
   kept = refl;
   assumes = refl;
-  unsettled = λ texts. ap refuses (c.accepted-found.ensures.accepts texts) ∙ nothing_refused (mode_of c.args.mode);
+  unsettled = λ texts. ap refuses (c.accepted-found.ensures.accepts texts) ∙ nothing_refused (mode_of c.args.question.now.mode);
   met = λ texts root depth reads l. ([], refl, refl);
-  so_far = λ x reads l. start_entries g.K.Validate.words g.K.Validate.is_whole (numbered g.K.Validate.shape c.args.nodes.now) (length c.args.nodes.now) (settling (g.M.Matcher.matching c.args.matcher.now) c.args.context.now.remembered.assumptions) (mode_of c.args.mode) x c.accepted-found.result _ c.accepted-found.ensures.accepts c.accepted-found.ensures.no_errors;
+  so_far = λ x reads l. start_entries g.K.Validate.words g.K.Validate.is_whole (numbered g.K.Validate.shape c.args.engine.now.nodes.now) (length c.args.engine.now.nodes.now) (settling (g.M.Matcher.matching c.args.engine.now.matcher.now) c.args.context.now.remembered.assumptions) (mode_of c.args.question.now.mode) x c.accepted-found.result _ c.accepted-found.ensures.accepts c.accepted-found.ensures.no_errors;
 }
 
 pub run_entries-run_entry-requires : goal.run_entries-run_entry-requires
 run_entries-run_entry-requires g t c =
-    let ns = numbered g.K.Validate.shape c.args.nodes.now in
-    let p = steps_to c.args.place.now in
+    let ns = numbered g.K.Validate.shape c.args.engine.now.nodes.now in
+    let p = steps_to c.args.question.now.place.now in
     let kept = c.loop-entry.invariant.kept in
-    let l = ap (λ es. left ns (length c.args.nodes.now) c.args.node.0 (subject_of c.args.instance) (busy_at p es)) kept in
+    let l = ap (λ es. left ns (length c.args.engine.now.nodes.now) c.args.node.0 (subject_of c.args.question.now.instance) (busy_at p es)) kept in
     let here = part_at entry_of (shaped_part g.K.Validate.shape) c.args.entries.now c.loop-entry.entry-index c.entry-item.result c.loop-entry-test.true c.entry-item.is in
     λ κs h. (lower_same _ _ t 5 0 l c.decreases, (h.0, (h.1.0, (h.1.1.0, (h.1.1.1, (c.requires.known, ((c.requires.parts.0, c.requires.parts.1, shaped_part g.K.Validate.shape (entry_of c.entry-item.result), c.requires.parts.2 _ here, refl), (c.requires.ready, (subst (NoDeeper p) (sym kept) c.requires.above, c.requires.wanted)))))))))
 
@@ -209,77 +209,77 @@ run_entries-loop-entry-preserved g t c = record {
   assumes = c.in_ok-more.ensures.assumes ∙ c.loop-entry.invariant.assumes;
   unsettled = λ texts. sym (c.is_settled.ensures.settled texts) ∙ c.if-is_settled.false;
   met = λ texts root depth reads l.
-      let ns = numbered g.K.Validate.shape c.args.nodes.now in
-      let w = settling (g.M.Matcher.matching c.args.matcher.now) c.args.context.now.remembered.assumptions in
-      let p = steps_to c.args.place.now in
+      let ns = numbered g.K.Validate.shape c.args.engine.now.nodes.now in
+      let w = settling (g.M.Matcher.matching c.args.engine.now.matcher.now) c.args.context.now.remembered.assumptions in
+      let p = steps_to c.args.question.now.place.now in
       let busy = busy_at p c.args.context.now.in_progress in
-      let mode = mode_of c.args.mode in
+      let mode = mode_of c.args.question.now.mode in
       let part = shaped_part g.K.Validate.shape (entry_of c.entry-item.result) in
-      let looked = λ (es : List (Entry g.row.K.Denot)). parts_looked g.K.Validate.words ns w texts root depth c.args.node.0 (path_of c.args.path.now) p busy (map (shaped_part g.K.Validate.shape) (map entry_of es)) in
-      let here = moved (λ es as'. EntryMeets g.K.Validate.words g.K.Validate.is_whole ns (length c.args.nodes.now) (settling (g.M.Matcher.matching c.args.matcher.now) as') mode (path_of c.args.path.now) p (busy_at p es) (subject_of c.args.instance) c.loop-entry.context.remembered c.run_entry.new.context.remembered c.args.node.0 part) c.loop-entry.invariant.kept c.loop-entry.invariant.assumes c.in_ok-more.ensures.meets texts root depth reads l in
+      let looked = λ (es : List (Entry g.row.K.Denot)). parts_looked g.K.Validate.words ns w texts root depth c.args.node.0 (path_of c.args.question.now.path.now) p busy (map (shaped_part g.K.Validate.shape) (map entry_of es)) in
+      let here = moved (λ es as'. EntryMeets g.K.Validate.words g.K.Validate.is_whole ns (length c.args.engine.now.nodes.now) (settling (g.M.Matcher.matching c.args.engine.now.matcher.now) as') mode (path_of c.args.question.now.path.now) p (busy_at p es) (subject_of c.args.question.now.instance) c.loop-entry.context.remembered c.run_entry.new.context.remembered c.args.node.0 part) c.loop-entry.invariant.kept c.loop-entry.invariant.assumes c.in_ok-more.ensures.meets texts root depth reads l in
       let says = (rw (c.loop-entry.invariant.kept, c.loop-entry.invariant.assumes) at c.in_ok-more.ensures.says) (reading w texts root depth) reads l in
       let so_far = c.loop-entry.invariant.so_far (reading w texts root depth) reads l in
       let met = c.loop-entry.invariant.met texts root depth reads l in
       let split = ap (λ es. plan_met mode (looked es)) (drop_at c.args.entries.now c.loop-entry.entry-index c.entry-item.result c.loop-entry-test.true c.entry-item.is) in
-      let agrees = agrees_says g.K.Validate.words ns (λ texts m s completion matcher a h. (g.met.K.Validate.function_laws texts m).agree s (matching matcher completion) a h) (reading w texts root depth) c.args.node.0 (path_of c.args.path.now) p busy part.name part.form in
-      let last = stops_at g.K.Validate.words ns w texts root depth mode c.args.node.0 (path_of c.args.path.now) p busy part c.loop-entry.found c.in_ok-more.more c.in_ok-found.found so_far.0 _ agrees so_far.1 says c.in_ok-found.ensures.both (c.loop-entry.invariant.unsettled texts) (sym (c.is_settled.ensures.settled texts) ∙ c.if-is_settled.false) in
-      next_met w.matcher mode (part_looked g.K.Validate.words ns w texts root depth c.args.node.0 (path_of c.args.path.now) p busy part) (looked (drop (c.loop-entry.entry-index + 1) c.args.entries.now)) _ _ met.0 _ _ _ met.1 here met.2 split last;
+      let agrees = agrees_says g.K.Validate.words ns (λ texts m s completion matcher a h. (g.met.K.Validate.function_laws texts m).agree s (matching matcher completion) a h) (reading w texts root depth) c.args.node.0 (path_of c.args.question.now.path.now) p busy part.name part.form in
+      let last = stops_at g.K.Validate.words ns w texts root depth mode c.args.node.0 (path_of c.args.question.now.path.now) p busy part c.loop-entry.found c.in_ok-more.more c.in_ok-found.found so_far.0 _ agrees so_far.1 says c.in_ok-found.ensures.both (c.loop-entry.invariant.unsettled texts) (sym (c.is_settled.ensures.settled texts) ∙ c.if-is_settled.false) in
+      next_met w.matcher mode (part_looked g.K.Validate.words ns w texts root depth c.args.node.0 (path_of c.args.question.now.path.now) p busy part) (looked (drop (c.loop-entry.entry-index + 1) c.args.entries.now)) _ _ met.0 _ _ _ met.1 here met.2 split last;
   so_far = λ x reads l.
-      let ns = numbered g.K.Validate.shape c.args.nodes.now in
-      let p = steps_to c.args.place.now in
-      let parts = λ (es : List (Entry g.row.K.Denot)). parts_say g.K.Validate.words ns x c.args.node.0 (path_of c.args.path.now) p (busy_at p c.args.context.now.in_progress) (map (shaped_part g.K.Validate.shape) (map entry_of es)) in
+      let ns = numbered g.K.Validate.shape c.args.engine.now.nodes.now in
+      let p = steps_to c.args.question.now.place.now in
+      let parts = λ (es : List (Entry g.row.K.Denot)). parts_say g.K.Validate.words ns x c.args.node.0 (path_of c.args.question.now.path.now) p (busy_at p c.args.context.now.in_progress) (map (shaped_part g.K.Validate.shape) (map entry_of es)) in
       let says = (rw (c.loop-entry.invariant.kept, c.loop-entry.invariant.assumes) at c.in_ok-more.ensures.says) x reads l in
       let split = ap parts (drop_at c.args.entries.now c.loop-entry.entry-index c.entry-item.result c.loop-entry-test.true c.entry-item.is) in
-      one_entry g.K.Validate.words g.K.Validate.is_whole ns (length c.args.nodes.now) (settling (g.M.Matcher.matching c.args.matcher.now) c.args.context.now.remembered.assumptions) (mode_of c.args.mode) x c.loop-entry.found c.in_ok-more.more c.in_ok-found.found _ _ (parts (drop (c.loop-entry.entry-index + 1) c.args.entries.now)) _ split
+      one_entry g.K.Validate.words g.K.Validate.is_whole ns (length c.args.engine.now.nodes.now) (settling (g.M.Matcher.matching c.args.engine.now.matcher.now) c.args.context.now.remembered.assumptions) (mode_of c.args.question.now.mode) x c.loop-entry.found c.in_ok-more.more c.in_ok-found.found _ _ (parts (drop (c.loop-entry.entry-index + 1) c.args.entries.now)) _ split
       c.in_ok-found.ensures.both c.in_ok-found.ensures.borrows says (c.loop-entry.invariant.so_far x reads l);
 }
 
 pub run_entries-returns-then-is_settled-clause-says : goal.run_entries-returns-then-is_settled-clause-says
 run_entries-returns-then-is_settled-clause-says g t c = λ x reads l.
-    let ns = numbered g.K.Validate.shape c.args.nodes.now in
-    let p = steps_to c.args.place.now in
-    let parts = λ (es : List (Entry g.row.K.Denot)). parts_say g.K.Validate.words ns x c.args.node.0 (path_of c.args.path.now) p (busy_at p c.args.context.now.in_progress) (map (shaped_part g.K.Validate.shape) (map entry_of es)) in
+    let ns = numbered g.K.Validate.shape c.args.engine.now.nodes.now in
+    let p = steps_to c.args.question.now.place.now in
+    let parts = λ (es : List (Entry g.row.K.Denot)). parts_say g.K.Validate.words ns x c.args.node.0 (path_of c.args.question.now.path.now) p (busy_at p c.args.context.now.in_progress) (map (shaped_part g.K.Validate.shape) (map entry_of es)) in
     let says = (rw (c.loop-entry.invariant.kept, c.loop-entry.invariant.assumes) at c.in_ok-more.ensures.says) x reads l in
     let split = ap parts (drop_at c.args.entries.now c.loop-entry.entry-index c.entry-item.result c.loop-entry-test.true c.entry-item.is) in
-    let next = one_entry g.K.Validate.words g.K.Validate.is_whole ns (length c.args.nodes.now) (settling (g.M.Matcher.matching c.args.matcher.now) c.args.context.now.remembered.assumptions) (mode_of c.args.mode) x c.loop-entry.found c.in_ok-more.more c.in_ok-found.found _ _ (parts (drop (c.loop-entry.entry-index + 1) c.args.entries.now)) _ split
+    let next = one_entry g.K.Validate.words g.K.Validate.is_whole ns (length c.args.engine.now.nodes.now) (settling (g.M.Matcher.matching c.args.engine.now.matcher.now) c.args.context.now.remembered.assumptions) (mode_of c.args.question.now.mode) x c.loop-entry.found c.in_ok-more.more c.in_ok-found.found _ _ (parts (drop (c.loop-entry.entry-index + 1) c.args.entries.now)) _ split
     c.in_ok-found.ensures.both c.in_ok-found.ensures.borrows says (c.loop-entry.invariant.so_far x reads l) in
-    settled_entries g.K.Validate.words g.K.Validate.is_whole ns (length c.args.nodes.now) (settling (g.M.Matcher.matching c.args.matcher.now) c.args.context.now.remembered.assumptions) (mode_of c.args.mode) x c.in_ok-found.found _ _ (sym (c.is_settled.ensures.settled x.texts) ∙ c.if-is_settled.true) next
+    settled_entries g.K.Validate.words g.K.Validate.is_whole ns (length c.args.engine.now.nodes.now) (settling (g.M.Matcher.matching c.args.engine.now.matcher.now) c.args.context.now.remembered.assumptions) (mode_of c.args.question.now.mode) x c.in_ok-found.found _ _ (sym (c.is_settled.ensures.settled x.texts) ∙ c.if-is_settled.true) next
 
 pub run_entry-returns-then-is_yes-clause-says : goal.run_entry-returns-then-is_yes-clause-says
 run_entry-returns-then-is_yes-clause-says g t c = λ x reads l.
-    leaf_accepts g.K.Validate.words (numbered g.K.Validate.shape c.args.nodes.now) (λ texts m s completion matcher a h. (g.met.K.Validate.function_laws texts m).agree s (matching matcher completion) a h) x (mode_of c.args.mode) c.args.node.0 (path_of c.args.path.now) (steps_to c.args.place.now)
-    (busy_at (steps_to c.args.place.now) c.args.context.now.in_progress) (string_bytes c.args.entry.now.name) _ c.in_ok-verdict.verdict c.accepted.result (sym (c.is_yes.ensures.yes x.texts) ∙ c.if-is_yes.true) (c.in_ok-verdict.ensures.says x reads l) c.accepted.ensures.accepts c.accepted.ensures.no_errors
+    leaf_accepts g.K.Validate.words (numbered g.K.Validate.shape c.args.engine.now.nodes.now) (λ texts m s completion matcher a h. (g.met.K.Validate.function_laws texts m).agree s (matching matcher completion) a h) x (mode_of c.args.question.now.mode) c.args.node.0 (path_of c.args.question.now.path.now) (steps_to c.args.question.now.place.now)
+    (busy_at (steps_to c.args.question.now.place.now) c.args.context.now.in_progress) (string_bytes c.args.entry.now.name) _ c.in_ok-verdict.verdict c.accepted.result (sym (c.is_yes.ensures.yes x.texts) ∙ c.if-is_yes.true) (c.in_ok-verdict.ensures.says x reads l) c.accepted.ensures.accepts c.accepted.ensures.no_errors
 
 pub run_entry-returns-then-asks_verdict_first-clause-says : goal.run_entry-returns-then-asks_verdict_first-clause-says
 run_entry-returns-then-asks_verdict_first-clause-says g t c = rw (c.in_ok-verdict.ensures.kept, c.in_ok-verdict.ensures.assumes) at c.run_form-then-asks_verdict_first.ensures.says
 
 pub run_turns-turns-init : goal.run_turns-turns-init
 run_turns-turns-init g t c =
-    let w = settling (g.M.Matcher.matching c.args.matcher.now) c.args.context.now.remembered.assumptions in
+    let w = settling (g.M.Matcher.matching c.args.engine.now.matcher.now) c.args.context.now.remembered.assumptions in
     let name = string_bytes c.args.name.now in
-    let ns = numbered g.K.Validate.shape c.args.nodes.now in
-    let p = steps_to c.args.place.now in
-    let s = subject_of c.args.instance in
+    let ns = numbered g.K.Validate.shape c.args.engine.now.nodes.now in
+    let p = steps_to c.args.question.now.place.now in
+    let s = subject_of c.args.question.now.instance in
     let m = g.K.Validate.shape c.args.keyword.now in
     let es = map (option_map edge_of) c.args.children.now in
     let busy = busy_at p c.args.context.now.in_progress in
     record {
       kept = refl;
       assumes = refl;
-      unmarked = unmarked_first (g.K.Validate.words false) (g.K.Validate.shape c.args.keyword.now) (g.K.Validate.absorbed (g.K.Validate.shape c.args.keyword.now)) (g.K.Validate.remaining (g.K.Validate.shape c.args.keyword.now)) (g.K.Validate.ends false (g.K.Validate.shape c.args.keyword.now)) (g.K.Validate.fits false (g.K.Validate.shape c.args.keyword.now)) (g.met.K.Validate.turn_laws false (g.K.Validate.shape c.args.keyword.now)) s (mode_of c.args.mode) (c.args.run.now, answer_of false c.args.answer.now) (c.requires.ready.unmarked false m s (mode_of c.args.mode) c.requires.wanted)
+      unmarked = unmarked_first (g.K.Validate.words false) (g.K.Validate.shape c.args.keyword.now) (g.K.Validate.absorbed (g.K.Validate.shape c.args.keyword.now)) (g.K.Validate.remaining (g.K.Validate.shape c.args.keyword.now)) (g.K.Validate.ends false (g.K.Validate.shape c.args.keyword.now)) (g.K.Validate.fits false (g.K.Validate.shape c.args.keyword.now)) (g.met.K.Validate.turn_laws false (g.K.Validate.shape c.args.keyword.now)) s (mode_of c.args.question.now.mode) (c.args.run.now, answer_of false c.args.answer.now) (c.requires.ready.unmarked false m s (mode_of c.args.question.now.mode) c.requires.wanted)
           (c.requires.begun false);
       borrows = λ root at_place. (All-nil (BorrowsItsPlace root), subst (All (PassesBorrowed root)) (sym c.requires.no_faults) (All-nil (PassesBorrowed root)));
-      leads = λ x reads l. begins (g.K.Validate.words x.texts) (g.K.Validate.shape c.args.keyword.now) (g.K.Validate.absorbed (g.K.Validate.shape c.args.keyword.now)) (g.K.Validate.remaining (g.K.Validate.shape c.args.keyword.now)) (g.K.Validate.ends x.texts (g.K.Validate.shape c.args.keyword.now)) (g.K.Validate.fits x.texts (g.K.Validate.shape c.args.keyword.now)) (g.met.K.Validate.turn_laws x.texts (g.K.Validate.shape c.args.keyword.now)) s x (mode_of c.args.mode) (child_says g.K.Validate.words ns x (path_of c.args.path.now) p busy es) (c.args.run.now, answer_of x.texts c.args.answer.now)
-          (agrees_answers g.K.Validate.words ns (λ texts m s completion matcher a h. (g.met.K.Validate.function_laws texts m).agree s (matching matcher completion) a h) x (path_of c.args.path.now) p busy es)
+      leads = λ x reads l. begins (g.K.Validate.words x.texts) (g.K.Validate.shape c.args.keyword.now) (g.K.Validate.absorbed (g.K.Validate.shape c.args.keyword.now)) (g.K.Validate.remaining (g.K.Validate.shape c.args.keyword.now)) (g.K.Validate.ends x.texts (g.K.Validate.shape c.args.keyword.now)) (g.K.Validate.fits x.texts (g.K.Validate.shape c.args.keyword.now)) (g.met.K.Validate.turn_laws x.texts (g.K.Validate.shape c.args.keyword.now)) s x (mode_of c.args.question.now.mode) (child_says g.K.Validate.words ns x (path_of c.args.question.now.path.now) p busy es) (c.args.run.now, answer_of x.texts c.args.answer.now)
+          (agrees_answers g.K.Validate.words ns (λ texts m s completion matcher a h. (g.met.K.Validate.function_laws texts m).agree s (matching matcher completion) a h) x (path_of c.args.question.now.path.now) p busy es)
           (c.requires.begun x.texts);
-      met = λ texts root depth reads l. meets_begun (g.K.Validate.words texts) w.matcher w.assumptions (node_at (g.K.Validate.words texts) w.matcher ns (subject_in root) c.args.node.0 (path_of c.args.path.now) p) s (child_run g.K.Validate.words ns w texts root depth (path_of c.args.path.now) p busy es) (same_edge es) name m (g.K.Validate.remaining m s) _ (mode_of c.args.mode) (c.args.run.now, answer_of texts c.args.answer.now) (c.requires.begun texts) ((g.met.K.Validate.turn_laws texts m).bounded s (mode_of c.args.mode));
+      met = λ texts root depth reads l. meets_begun (g.K.Validate.words texts) w.matcher w.assumptions (node_at (g.K.Validate.words texts) w.matcher ns (subject_in root) c.args.node.0 (path_of c.args.question.now.path.now) p) s (child_run g.K.Validate.words ns w texts root depth (path_of c.args.question.now.path.now) p busy es) (same_edge es) name m (g.K.Validate.remaining m s) _ (mode_of c.args.question.now.mode) (c.args.run.now, answer_of texts c.args.answer.now) (c.requires.begun texts) ((g.met.K.Validate.turn_laws texts m).bounded s (mode_of c.args.question.now.mode));
     }
 
 pub run_turns-run_child-requires : goal.run_turns-run_child-requires
 run_turns-run_child-requires g t c =
-    let ns = numbered g.K.Validate.shape c.args.nodes.now in
-    let p = steps_to c.args.place.now in
-    let s = subject_of c.args.instance in
+    let ns = numbered g.K.Validate.shape c.args.engine.now.nodes.now in
+    let p = steps_to c.args.question.now.place.now in
+    let s = subject_of c.args.question.now.instance in
     let m = g.K.Validate.shape c.args.keyword.now in
     let es = map (option_map edge_of) c.args.children.now in
     let busy = busy_at p c.args.context.now.in_progress in
@@ -287,7 +287,7 @@ run_turns-run_child-requires g t c =
     let turn = c.in_ok-child.ensures.turns false (tells_nothing (g.K.Validate.is_whole m) s) in
     let step = rw c.in-Ask.is at (c.in_ok-child.ensures.steps false (tells_nothing (g.K.Validate.is_whole m) s)) in
     let kept = c.turns.invariant.kept in
-    let l = ap (λ es. left ns (length c.args.nodes.now) c.args.node.0 s (busy_at p es)) kept in
+    let l = ap (λ es. left ns (length c.args.engine.now.nodes.now) c.args.node.0 s (busy_at p es)) kept in
     let q : Question = record { child = c.in-Ask.child; below = below_of c.in-Ask.below } in
     let there = asks_present (g.K.Validate.words false) (g.K.Validate.shape c.args.keyword.now) (g.K.Validate.absorbed (g.K.Validate.shape c.args.keyword.now)) (g.K.Validate.remaining (g.K.Validate.shape c.args.keyword.now)) (g.K.Validate.ends false (g.K.Validate.shape c.args.keyword.now)) (g.K.Validate.fits false (g.K.Validate.shape c.args.keyword.now)) (g.met.K.Validate.turn_laws false (g.K.Validate.shape c.args.keyword.now)) s (c.turns.run, answer_of false c.turns.answer) told q (mode_of c.in-Ask.wanted) ((g.met.K.Validate.function_laws false m).present s) step in
     let less = asks_less (g.K.Validate.words false) (g.K.Validate.shape c.args.keyword.now) (g.K.Validate.absorbed (g.K.Validate.shape c.args.keyword.now)) (g.K.Validate.remaining (g.K.Validate.shape c.args.keyword.now)) (g.K.Validate.ends false (g.K.Validate.shape c.args.keyword.now)) (g.K.Validate.fits false (g.K.Validate.shape c.args.keyword.now)) (g.met.K.Validate.turn_laws false (g.K.Validate.shape c.args.keyword.now)) s (c.turns.run, answer_of false c.turns.answer) told q (mode_of c.in-Ask.wanted) c.turns.invariant.unmarked step in
@@ -295,15 +295,15 @@ run_turns-run_child-requires g t c =
 
 pub run_turns-returns-in-Done-clause-right : goal.run_turns-returns-in-Done-clause-right
 run_turns-returns-in-Done-clause-right g t c = λ x reads l.
-    let ns = numbered g.K.Validate.shape c.args.nodes.now in
-    let p = steps_to c.args.place.now in
-    let s = subject_of c.args.instance in
+    let ns = numbered g.K.Validate.shape c.args.engine.now.nodes.now in
+    let p = steps_to c.args.question.now.place.now in
+    let s = subject_of c.args.question.now.instance in
     let m = g.K.Validate.shape c.args.keyword.now in
     let es = map (option_map edge_of) c.args.children.now in
     let busy = busy_at p c.args.context.now.in_progress in
-    let tells = tells_keyword g.K.Validate.is_whole ns (length c.args.nodes.now) (settling (g.M.Matcher.matching c.args.matcher.now) c.args.context.now.remembered.assumptions) p s x c.args.node.0 m es c.requires.known reads c.requires.form in
-    let answers = child_says g.K.Validate.words ns x (path_of c.args.path.now) p busy es in
-    ended_right (g.K.Validate.words x.texts) (g.K.Validate.shape c.args.keyword.now) (g.K.Validate.absorbed (g.K.Validate.shape c.args.keyword.now)) (g.K.Validate.remaining (g.K.Validate.shape c.args.keyword.now)) (g.K.Validate.ends x.texts (g.K.Validate.shape c.args.keyword.now)) (g.K.Validate.fits x.texts (g.K.Validate.shape c.args.keyword.now)) (g.met.K.Validate.turn_laws x.texts (g.K.Validate.shape c.args.keyword.now)) s x (mode_of c.args.mode) answers (c.turns.run, answer_of x.texts c.turns.answer) (c.turn.new.run, answer_of x.texts c.turn.new.answer) (reply_of x.texts c.turns.reply) (answer_of x.texts c.turn.new.answer) (c.turns.invariant.leads x reads l) (c.in_ok-child.ensures.turns x.texts tells) (g.met.K.Validate.answers x.texts c.turn.new.run (answer_of x.texts c.turn.new.answer)) (rw c.in-Done.is at (c.in_ok-child.ensures.steps x.texts tells))
+    let tells = tells_keyword g.K.Validate.is_whole ns (length c.args.engine.now.nodes.now) (settling (g.M.Matcher.matching c.args.engine.now.matcher.now) c.args.context.now.remembered.assumptions) p s x c.args.node.0 m es c.requires.known reads c.requires.form in
+    let answers = child_says g.K.Validate.words ns x (path_of c.args.question.now.path.now) p busy es in
+    ended_right (g.K.Validate.words x.texts) (g.K.Validate.shape c.args.keyword.now) (g.K.Validate.absorbed (g.K.Validate.shape c.args.keyword.now)) (g.K.Validate.remaining (g.K.Validate.shape c.args.keyword.now)) (g.K.Validate.ends x.texts (g.K.Validate.shape c.args.keyword.now)) (g.K.Validate.fits x.texts (g.K.Validate.shape c.args.keyword.now)) (g.met.K.Validate.turn_laws x.texts (g.K.Validate.shape c.args.keyword.now)) s x (mode_of c.args.question.now.mode) answers (c.turns.run, answer_of x.texts c.turns.answer) (c.turn.new.run, answer_of x.texts c.turn.new.answer) (reply_of x.texts c.turns.reply) (answer_of x.texts c.turn.new.answer) (c.turns.invariant.leads x reads l) (c.in_ok-child.ensures.turns x.texts tells) (g.met.K.Validate.answers x.texts c.turn.new.run (answer_of x.texts c.turn.new.answer)) (rw c.in-Done.is at (c.in_ok-child.ensures.steps x.texts tells))
 
 pub run_turns-returns-in-Done-clause-passes : goal.run_turns-returns-in-Done-clause-passes
 run_turns-returns-in-Done-clause-passes g t c = λ root at_place.
@@ -317,22 +317,22 @@ run_keyword-run_turns-requires g t c =
 
 pub run_keyword-returns-clause-says : goal.run_keyword-returns-clause-says
 run_keyword-returns-clause-says g t c =
-    let ns = numbered g.K.Validate.shape c.args.nodes.now in
-    let p = steps_to c.args.place.now in
-    let s = subject_of c.args.instance in
+    let ns = numbered g.K.Validate.shape c.args.engine.now.nodes.now in
+    let p = steps_to c.args.question.now.place.now in
+    let s = subject_of c.args.question.now.instance in
     let m = g.K.Validate.shape c.args.keyword.now in
     let es = map (option_map edge_of) c.args.children.now in
     let busy = busy_at p c.args.context.now.in_progress in
     let n = node_of c.node.result.now in
     let name = string_bytes c.args.name.now in
     if_ok_both c.finished.result _ _ _ (λ r reply borrows x reads l.
-    let answers = child_says g.K.Validate.words ns x (path_of c.args.path.now) p busy es in
+    let answers = child_says g.K.Validate.words ns x (path_of c.args.question.now.path.now) p busy es in
     let right = c.in_ok-run_turns.ensures.right x reads l in
-    let says = right_reply (g.K.Validate.words x.texts) m s x answers (entry_where n (path_of c.args.path.now) p) name (mode_of c.args.mode) (answer_of x.texts c.run_turns.new.answer) c.requires.wanted right in
-    let whole = keyword_says g.K.Validate.shape c.args.nodes.now g.K.Validate.words x (path_of c.args.path.now) p s c.args.node.0 n name m answers c.node.ensures.found reads.stands in
-    let lie = faults_lie x.texts x.root s (g.K.Validate.absorbed m) (g.K.Validate.words x.texts) m x answers (mode_of c.args.mode) c.run_turns.new.answer ((g.met.K.Validate.function_laws x.texts m).stands s (matching x.matcher x.completion) answers) right
+    let says = right_reply (g.K.Validate.words x.texts) m s x answers (entry_where n (path_of c.args.question.now.path.now) p) name (mode_of c.args.question.now.mode) (answer_of x.texts c.run_turns.new.answer) c.requires.wanted right in
+    let whole = keyword_says g.K.Validate.shape c.args.engine.now.nodes.now g.K.Validate.words x (path_of c.args.question.now.path.now) p s c.args.node.0 n name m answers c.node.ensures.found reads.stands in
+    let lie = faults_lie x.texts x.root s (g.K.Validate.absorbed m) (g.K.Validate.words x.texts) m x answers (mode_of c.args.question.now.mode) c.run_turns.new.answer ((g.met.K.Validate.function_laws x.texts m).stands s (matching x.matcher x.completion) answers) right
     (c.in_ok-run_turns.ensures.passes x.root reads.stands) in
-    record { same = reply x.texts ∙ says ∙ ap (reply_by (mode_of c.args.mode)) whole; borrows = borrows x.root reads.stands lie })
+    record { same = reply x.texts ∙ says ∙ ap (reply_by (mode_of c.args.question.now.mode)) whole; borrows = borrows x.root reads.stands lie })
     c.finished.ensures.reply c.finished.ensures.borrows
 
 pub run_keyword-returns-clause-meets : goal.run_keyword-returns-clause-meets
@@ -340,96 +340,96 @@ run_keyword-returns-clause-meets g t c = if_ok_always c.finished.result _ c.in_o
 
 pub run_turns-unreachable-requires-in-Unmark : goal.run_turns-unreachable-requires-in-Unmark
 run_turns-unreachable-requires-in-Unmark g t c =
-    let s = subject_of c.args.instance in
+    let s = subject_of c.args.question.now.instance in
     let m = g.K.Validate.shape c.args.keyword.now in
     let step = rw c.in-Unmark.is at (c.in_ok-child.ensures.steps false (tells_nothing (g.K.Validate.is_whole m) s)) in
     subst IsUnmarked step (is_unmarked (g.K.Validate.words false) (g.K.Validate.shape c.args.keyword.now) (g.K.Validate.absorbed (g.K.Validate.shape c.args.keyword.now)) (g.K.Validate.remaining (g.K.Validate.shape c.args.keyword.now)) (g.K.Validate.ends false (g.K.Validate.shape c.args.keyword.now)) (g.K.Validate.fits false (g.K.Validate.shape c.args.keyword.now)) (g.met.K.Validate.turn_laws false (g.K.Validate.shape c.args.keyword.now)) s (c.turns.run, answer_of false c.turns.answer) (reply_of false c.turns.reply) c.turns.invariant.unmarked)
 
 pub run_edge-returns-then-branch-clause-meets : goal.run_edge-returns-then-branch-clause-meets
 run_edge-returns-then-branch-clause-meets g t c =
-    let ns = numbered g.K.Validate.shape c.args.nodes.now in
-    let w = settling (g.M.Matcher.matching c.args.matcher.now) c.args.context.now.remembered.assumptions in
-    let p = steps_to c.args.place.now in
-    let s = subject_of c.args.instance in
+    let ns = numbered g.K.Validate.shape c.args.engine.now.nodes.now in
+    let w = settling (g.M.Matcher.matching c.args.engine.now.matcher.now) c.args.context.now.remembered.assumptions in
+    let p = steps_to c.args.question.now.place.now in
+    let s = subject_of c.args.question.now.instance in
     let busy = busy_at p c.args.context.now.in_progress in
     let e = edge_of c.args.edge.now in
     let old = entered_old e.node p c.args.context.now.in_progress c.in_ok-enter.field-0 c.enter.new.self.in_progress (rw c.in_ok-here.ensures.same at c.in_ok-enter.ensures.enters) c.if-branch.true in
-    meets_busy g.K.Validate.words g.K.Validate.is_whole ns (length c.args.nodes.now) w s busy e (mode_of c.args.mode) (path_of c.args.path.now) p _ _ c.if-not-edge.false old.0 (sym c.enter.ensures.remembered)
+    meets_busy g.K.Validate.words g.K.Validate.is_whole ns (length c.args.engine.now.nodes.now) w s busy e (mode_of c.args.question.now.mode) (path_of c.args.question.now.path.now) p _ _ c.if-not-edge.false old.0 (sym c.enter.ensures.remembered)
 
 pub run_edge-returns-clause-meets : goal.run_edge-returns-clause-meets
 run_edge-returns-clause-meets g t c =
-    let ns = numbered g.K.Validate.shape c.args.nodes.now in
-    let w = settling (g.M.Matcher.matching c.args.matcher.now) c.args.context.now.remembered.assumptions in
-    let p = steps_to c.args.place.now in
-    let s = subject_of c.args.instance in
+    let ns = numbered g.K.Validate.shape c.args.engine.now.nodes.now in
+    let w = settling (g.M.Matcher.matching c.args.engine.now.matcher.now) c.args.context.now.remembered.assumptions in
+    let p = steps_to c.args.question.now.place.now in
+    let s = subject_of c.args.question.now.instance in
     let busy = busy_at p c.args.context.now.in_progress in
     let e = edge_of c.args.edge.now in
     let new = entered_new e.node p c.args.context.now.in_progress c.in_ok-enter.field-0 c.enter.new.self.in_progress (rw c.in_ok-here.ensures.same at c.in_ok-enter.ensures.enters) c.if-branch.false in
     let busy' : busy_at p c.enter.new.self.in_progress ≡ e.node ∷ busy = ap (busy_at p) new.1 ∙ busy-pushed p e.node c.args.context.now.in_progress in
     let met = rw (c.across-whole.ensures.appended, c.given-place.ensures.same, c.in_ok-here.ensures.same, busy', c.enter.ensures.remembered) at c.in_ok-reply.ensures.meets in
-    rw c.exit.ensures.remembered (meets_entered g.K.Validate.words g.K.Validate.is_whole ns (length c.args.nodes.now) w s busy e (mode_of c.args.mode) (path_of c.args.path.now) p _ _ c.if-not-edge.false new.0 met)
+    rw c.exit.ensures.remembered (meets_entered g.K.Validate.words g.K.Validate.is_whole ns (length c.args.engine.now.nodes.now) w s busy e (mode_of c.args.question.now.mode) (path_of c.args.question.now.path.now) p _ _ c.if-not-edge.false new.0 met)
 
 pub run_entries-returns-then-is_settled-clause-meets : goal.run_entries-returns-then-is_settled-clause-meets
 run_entries-returns-then-is_settled-clause-meets g t c = λ texts root depth reads l.
-    let ns = numbered g.K.Validate.shape c.args.nodes.now in
-    let w = settling (g.M.Matcher.matching c.args.matcher.now) c.args.context.now.remembered.assumptions in
-    let p = steps_to c.args.place.now in
+    let ns = numbered g.K.Validate.shape c.args.engine.now.nodes.now in
+    let w = settling (g.M.Matcher.matching c.args.engine.now.matcher.now) c.args.context.now.remembered.assumptions in
+    let p = steps_to c.args.question.now.place.now in
     let busy = busy_at p c.args.context.now.in_progress in
-    let mode = mode_of c.args.mode in
+    let mode = mode_of c.args.question.now.mode in
     let part = shaped_part g.K.Validate.shape (entry_of c.entry-item.result) in
-    let looked = λ (es : List (Entry g.row.K.Denot)). parts_looked g.K.Validate.words ns w texts root depth c.args.node.0 (path_of c.args.path.now) p busy (map (shaped_part g.K.Validate.shape) (map entry_of es)) in
-    let here = moved (λ es as'. EntryMeets g.K.Validate.words g.K.Validate.is_whole ns (length c.args.nodes.now) (settling (g.M.Matcher.matching c.args.matcher.now) as') mode (path_of c.args.path.now) p (busy_at p es) (subject_of c.args.instance) c.loop-entry.context.remembered c.run_entry.new.context.remembered c.args.node.0 part) c.loop-entry.invariant.kept c.loop-entry.invariant.assumes c.in_ok-more.ensures.meets texts root depth reads l in
+    let looked = λ (es : List (Entry g.row.K.Denot)). parts_looked g.K.Validate.words ns w texts root depth c.args.node.0 (path_of c.args.question.now.path.now) p busy (map (shaped_part g.K.Validate.shape) (map entry_of es)) in
+    let here = moved (λ es as'. EntryMeets g.K.Validate.words g.K.Validate.is_whole ns (length c.args.engine.now.nodes.now) (settling (g.M.Matcher.matching c.args.engine.now.matcher.now) as') mode (path_of c.args.question.now.path.now) p (busy_at p es) (subject_of c.args.question.now.instance) c.loop-entry.context.remembered c.run_entry.new.context.remembered c.args.node.0 part) c.loop-entry.invariant.kept c.loop-entry.invariant.assumes c.in_ok-more.ensures.meets texts root depth reads l in
     let says = (rw (c.loop-entry.invariant.kept, c.loop-entry.invariant.assumes) at c.in_ok-more.ensures.says) (reading w texts root depth) reads l in
     let so_far = c.loop-entry.invariant.so_far (reading w texts root depth) reads l in
     let met = c.loop-entry.invariant.met texts root depth reads l in
     let split = ap (λ es. plan_met mode (looked es)) (drop_at c.args.entries.now c.loop-entry.entry-index c.entry-item.result c.loop-entry-test.true c.entry-item.is) in
-    let agrees = agrees_says g.K.Validate.words ns (λ texts m s completion matcher a h. (g.met.K.Validate.function_laws texts m).agree s (matching matcher completion) a h) (reading w texts root depth) c.args.node.0 (path_of c.args.path.now) p busy part.name part.form in
-    let last = stops_at g.K.Validate.words ns w texts root depth mode c.args.node.0 (path_of c.args.path.now) p busy part c.loop-entry.found c.in_ok-more.more c.in_ok-found.found so_far.0 _ agrees so_far.1 says c.in_ok-found.ensures.both (c.loop-entry.invariant.unsettled texts) (sym (c.is_settled.ensures.settled texts) ∙ c.if-is_settled.true) in
-    last_met w.matcher mode (part_looked g.K.Validate.words ns w texts root depth c.args.node.0 (path_of c.args.path.now) p busy part) (looked (drop (c.loop-entry.entry-index + 1) c.args.entries.now)) _ _ met.0 _ _ _ met.1 here met.2 split last
+    let agrees = agrees_says g.K.Validate.words ns (λ texts m s completion matcher a h. (g.met.K.Validate.function_laws texts m).agree s (matching matcher completion) a h) (reading w texts root depth) c.args.node.0 (path_of c.args.question.now.path.now) p busy part.name part.form in
+    let last = stops_at g.K.Validate.words ns w texts root depth mode c.args.node.0 (path_of c.args.question.now.path.now) p busy part c.loop-entry.found c.in_ok-more.more c.in_ok-found.found so_far.0 _ agrees so_far.1 says c.in_ok-found.ensures.both (c.loop-entry.invariant.unsettled texts) (sym (c.is_settled.ensures.settled texts) ∙ c.if-is_settled.true) in
+    last_met w.matcher mode (part_looked g.K.Validate.words ns w texts root depth c.args.node.0 (path_of c.args.question.now.path.now) p busy part) (looked (drop (c.loop-entry.entry-index + 1) c.args.entries.now)) _ _ met.0 _ _ _ met.1 here met.2 split last
 
 pub run_entry-returns-then-is_yes-clause-meets : goal.run_entry-returns-then-is_yes-clause-meets
 run_entry-returns-then-is_yes-clause-meets g t c = λ texts root depth reads l.
-    let ns = numbered g.K.Validate.shape c.args.nodes.now in
-    let w = settling (g.M.Matcher.matching c.args.matcher.now) c.args.context.now.remembered.assumptions in
-    let p = steps_to c.args.place.now in
-    let s = subject_of c.args.instance in
+    let ns = numbered g.K.Validate.shape c.args.engine.now.nodes.now in
+    let w = settling (g.M.Matcher.matching c.args.engine.now.matcher.now) c.args.context.now.remembered.assumptions in
+    let p = steps_to c.args.question.now.place.now in
+    let s = subject_of c.args.question.now.instance in
     let busy = busy_at p c.args.context.now.in_progress in
     let part = shaped_part g.K.Validate.shape (entry_of c.args.entry.now) in
-    let looked = part_looked g.K.Validate.words ns w texts root depth c.args.node.0 (path_of c.args.path.now) p busy part in
-    let holds = leaf_holds g.K.Validate.words ns w texts root depth c.args.node.0 (path_of c.args.path.now) p busy part c.in_ok-verdict.verdict _ (c.in_ok-verdict.ensures.says (reading w texts root depth) reads l) (sym (c.is_yes.ensures.yes texts) ∙ c.if-is_yes.true) in
-    meets_same w.matcher _ _ _ _ (leaf_yes (mode_of c.args.mode) looked (c.asks_verdict_first.ensures.leaf c.if-asks_verdict_first.true) (c.asks_verdict_first.ensures.wants_more c.if-asks_verdict_first.true) c.requires.wanted holds) (c.in_ok-verdict.ensures.meets texts root depth reads l)
+    let looked = part_looked g.K.Validate.words ns w texts root depth c.args.node.0 (path_of c.args.question.now.path.now) p busy part in
+    let holds = leaf_holds g.K.Validate.words ns w texts root depth c.args.node.0 (path_of c.args.question.now.path.now) p busy part c.in_ok-verdict.verdict _ (c.in_ok-verdict.ensures.says (reading w texts root depth) reads l) (sym (c.is_yes.ensures.yes texts) ∙ c.if-is_yes.true) in
+    meets_same w.matcher _ _ _ _ (leaf_yes (mode_of c.args.question.now.mode) looked (c.asks_verdict_first.ensures.leaf c.if-asks_verdict_first.true) (c.asks_verdict_first.ensures.wants_more c.if-asks_verdict_first.true) c.requires.wanted holds) (c.in_ok-verdict.ensures.meets texts root depth reads l)
 
 pub run_entry-returns-then-asks_verdict_first-clause-meets : goal.run_entry-returns-then-asks_verdict_first-clause-meets
 run_entry-returns-then-asks_verdict_first-clause-meets g t c = if_ok_mono c.run_form-then-asks_verdict_first.result _ _ (λ r met texts root depth reads l.
-    let ns = numbered g.K.Validate.shape c.args.nodes.now in
-    let w = settling (g.M.Matcher.matching c.args.matcher.now) c.args.context.now.remembered.assumptions in
-    let p = steps_to c.args.place.now in
-    let s = subject_of c.args.instance in
+    let ns = numbered g.K.Validate.shape c.args.engine.now.nodes.now in
+    let w = settling (g.M.Matcher.matching c.args.engine.now.matcher.now) c.args.context.now.remembered.assumptions in
+    let p = steps_to c.args.question.now.place.now in
+    let s = subject_of c.args.question.now.instance in
     let busy = busy_at p c.args.context.now.in_progress in
     let part = shaped_part g.K.Validate.shape (entry_of c.args.entry.now) in
-    let looked = part_looked g.K.Validate.words ns w texts root depth c.args.node.0 (path_of c.args.path.now) p busy part in
-    let holds = leaf_holds g.K.Validate.words ns w texts root depth c.args.node.0 (path_of c.args.path.now) p busy part c.in_ok-verdict.verdict _ (c.in_ok-verdict.ensures.says (reading w texts root depth) reads l) (sym (c.is_yes.ensures.yes texts) ∙ c.if-is_yes.false) in
-    let more = moved (λ es as'. FormMeets g.K.Validate.words g.K.Validate.is_whole ns (length c.args.nodes.now) (settling (g.M.Matcher.matching c.args.matcher.now) as') (mode_of c.args.mode) (path_of c.args.path.now) p (busy_at p es) s c.run_form.new.context.remembered c.run_form-then-asks_verdict_first.new.context.remembered c.args.node.0 part.name part.form) c.in_ok-verdict.ensures.kept c.in_ok-verdict.ensures.assumes met texts root depth reads l in
-    meets_same w.matcher _ _ _ _ (leaf_no (mode_of c.args.mode) looked (c.asks_verdict_first.ensures.leaf c.if-asks_verdict_first.true) (c.asks_verdict_first.ensures.wants_more c.if-asks_verdict_first.true) c.requires.wanted holds) (meets_append w.matcher _ _ _ _ _ (c.in_ok-verdict.ensures.meets texts root depth reads l) more)) c.run_form-then-asks_verdict_first.ensures.meets
+    let looked = part_looked g.K.Validate.words ns w texts root depth c.args.node.0 (path_of c.args.question.now.path.now) p busy part in
+    let holds = leaf_holds g.K.Validate.words ns w texts root depth c.args.node.0 (path_of c.args.question.now.path.now) p busy part c.in_ok-verdict.verdict _ (c.in_ok-verdict.ensures.says (reading w texts root depth) reads l) (sym (c.is_yes.ensures.yes texts) ∙ c.if-is_yes.false) in
+    let more = moved (λ es as'. FormMeets g.K.Validate.words g.K.Validate.is_whole ns (length c.args.engine.now.nodes.now) (settling (g.M.Matcher.matching c.args.engine.now.matcher.now) as') (mode_of c.args.question.now.mode) (path_of c.args.question.now.path.now) p (busy_at p es) s c.run_form.new.context.remembered c.run_form-then-asks_verdict_first.new.context.remembered c.args.node.0 part.name part.form) c.in_ok-verdict.ensures.kept c.in_ok-verdict.ensures.assumes met texts root depth reads l in
+    meets_same w.matcher _ _ _ _ (leaf_no (mode_of c.args.question.now.mode) looked (c.asks_verdict_first.ensures.leaf c.if-asks_verdict_first.true) (c.asks_verdict_first.ensures.wants_more c.if-asks_verdict_first.true) c.requires.wanted holds) (meets_append w.matcher _ _ _ _ _ (c.in_ok-verdict.ensures.meets texts root depth reads l) more)) c.run_form-then-asks_verdict_first.ensures.meets
 
 pub run_child-returns-in-None-one_below-clause-meets : goal.run_child-returns-in-None-one_below-clause-meets
 run_child-returns-in-None-one_below-clause-meets g t c =
-    let ns = numbered g.K.Validate.shape c.args.nodes.now in
-    let w = settling (g.M.Matcher.matching c.args.matcher.now) c.args.context.now.remembered.assumptions in
-    let p = steps_to c.args.place.now in
-    let s = subject_of c.args.instance in
+    let ns = numbered g.K.Validate.shape c.args.engine.now.nodes.now in
+    let w = settling (g.M.Matcher.matching c.args.engine.now.matcher.now) c.args.context.now.remembered.assumptions in
+    let p = steps_to c.args.question.now.place.now in
+    let s = subject_of c.args.question.now.instance in
     let busy = busy_at p c.args.context.now.in_progress in
     let e = edge_of c.in-Some.edge.now in
     let k = c.requires.children c.args.child e (sym c.in-Some.ensures.edge) in
-    let l = falls_here g.K.Validate.words g.K.Validate.is_whole ns (length c.args.nodes.now) w c.requires.ready.ranked c.args.node.0 s busy e c.requires.known k in
-    if_ok_mono c.run_edge.result _ _ (λ r met. meets_here g.K.Validate.words g.K.Validate.is_whole ns (length c.args.nodes.now) w (mode_of c.args.mode) (path_of c.args.path.now) p busy s c.args.node.0 _ (record { child = c.args.child; below = below_of c.args.below }) _ _ e (sym c.in-Some.ensures.edge) c.in-None-one_below.ensures.below l met) c.run_edge.ensures.meets
+    let l = falls_here g.K.Validate.words g.K.Validate.is_whole ns (length c.args.engine.now.nodes.now) w c.requires.ready.ranked c.args.node.0 s busy e c.requires.known k in
+    if_ok_mono c.run_edge.result _ _ (λ r met. meets_here g.K.Validate.words g.K.Validate.is_whole ns (length c.args.engine.now.nodes.now) w (mode_of c.args.question.now.mode) (path_of c.args.question.now.path.now) p busy s c.args.node.0 _ (record { child = c.args.child; below = below_of c.args.below }) _ _ e (sym c.in-Some.ensures.edge) c.in-None-one_below.ensures.below l met) c.run_edge.ensures.meets
 
 pub run_child-returns-in_ok-run_edge-in-Some-one_below-clause-meets : goal.run_child-returns-in_ok-run_edge-in-Some-one_below-clause-meets
 run_child-returns-in_ok-run_edge-in-Some-one_below-clause-meets g t c =
-    let ns = numbered g.K.Validate.shape c.args.nodes.now in
-    let w = settling (g.M.Matcher.matching c.args.matcher.now) c.args.context.now.remembered.assumptions in
-    let p = steps_to c.args.place.now in
-    let s = subject_of c.args.instance in
+    let ns = numbered g.K.Validate.shape c.args.engine.now.nodes.now in
+    let w = settling (g.M.Matcher.matching c.args.engine.now.matcher.now) c.args.context.now.remembered.assumptions in
+    let p = steps_to c.args.question.now.place.now in
+    let s = subject_of c.args.question.now.instance in
     let busy = busy_at p c.args.context.now.in_progress in
     let e = edge_of c.in-Some.edge.now in
     let k = c.requires.children c.args.child e (sym c.in-Some.ensures.edge) in
@@ -437,9 +437,9 @@ run_child-returns-in_ok-run_edge-in-Some-one_below-clause-meets g t c =
     let es = c.args.context.now.in_progress in
     let inner = subject_of c.in-Some-one_below.inner in
     let none : busy_at (steps_to c.in_ok-lower-in-Some-one_below.lower) es ≡ [] = ap (λ q. busy_at q es) c.in_ok-lower-in-Some-one_below.ensures.below ∙ busy-below p step es c.requires.above in
-    let l = falls_below g.K.Validate.words g.K.Validate.is_whole ns (length c.args.nodes.now) w c.requires.ready.ranked c.args.node.0 s inner step busy e c.requires.known k c.in-Some-one_below.ensures.below.1 in
-    let met = subst (λ busy'. EdgeMeets g.K.Validate.words g.K.Validate.is_whole ns (length c.args.nodes.now) w (mode_of c.args.mode) (path_of c.args.path.now) (steps_to c.in_ok-lower-in-Some-one_below.lower) busy' inner c.args.context.now.remembered c.run_edge-in-Some-one_below.new.context.remembered e) none c.in_ok-run_edge-in-Some-one_below.ensures.meets in
-    meets_below g.K.Validate.words g.K.Validate.is_whole ns (length c.args.nodes.now) w (mode_of c.args.mode) (path_of c.args.path.now) p busy s c.args.node.0 _ (record { child = c.args.child; below = below_of c.args.below }) _ _ e step (steps_to c.in_ok-lower-in-Some-one_below.lower) inner (sym c.in-Some.ensures.edge) c.in-Some-one_below.ensures.below.0
+    let l = falls_below g.K.Validate.words g.K.Validate.is_whole ns (length c.args.engine.now.nodes.now) w c.requires.ready.ranked c.args.node.0 s inner step busy e c.requires.known k c.in-Some-one_below.ensures.below.1 in
+    let met = subst (λ busy'. EdgeMeets g.K.Validate.words g.K.Validate.is_whole ns (length c.args.engine.now.nodes.now) w (mode_of c.args.question.now.mode) (path_of c.args.question.now.path.now) (steps_to c.in_ok-lower-in-Some-one_below.lower) busy' inner c.args.context.now.remembered c.run_edge-in-Some-one_below.new.context.remembered e) none c.in_ok-run_edge-in-Some-one_below.ensures.meets in
+    meets_below g.K.Validate.words g.K.Validate.is_whole ns (length c.args.engine.now.nodes.now) w (mode_of c.args.question.now.mode) (path_of c.args.question.now.path.now) p busy s c.args.node.0 _ (record { child = c.args.child; below = below_of c.args.below }) _ _ e step (steps_to c.in_ok-lower-in-Some-one_below.lower) inner (sym c.in-Some.ensures.edge) c.in-Some-one_below.ensures.below.0
     c.in_ok-lower-in-Some-one_below.ensures.below c.in-Some-one_below.ensures.below.1 l met
 
 pub run_form-returns-in-Keyword-clause-meets : goal.run_form-returns-in-Keyword-clause-meets
@@ -447,41 +447,41 @@ run_form-returns-in-Keyword-clause-meets g t c = rw (c.in-Keyword.is, ← c.as_s
 
 pub run_form-returns-in_ok-reply-in-Reference-clause-meets : goal.run_form-returns-in_ok-reply-in-Reference-clause-meets
 run_form-returns-in_ok-reply-in-Reference-clause-meets g t c =
-    let ns = numbered g.K.Validate.shape c.args.nodes.now in
-    let w = settling (g.M.Matcher.matching c.args.matcher.now) c.args.context.now.remembered.assumptions in
-    let p = steps_to c.args.place.now in
-    let s = subject_of c.args.instance in
+    let ns = numbered g.K.Validate.shape c.args.engine.now.nodes.now in
+    let w = settling (g.M.Matcher.matching c.args.engine.now.matcher.now) c.args.context.now.remembered.assumptions in
+    let p = steps_to c.args.question.now.place.now in
+    let s = subject_of c.args.question.now.instance in
     let busy = busy_at p c.args.context.now.in_progress in
     let e = edge_of c.in-Reference.edge in
     let k = reference_edge ns c.args.node.0 e (rw c.in-Reference.is at c.requires.form) in
-    let l = falls_here g.K.Validate.words g.K.Validate.is_whole ns (length c.args.nodes.now) w c.requires.ready.ranked c.args.node.0 s busy e c.requires.known k in
-    rw c.in-Reference.is (if_ok_always c.stamped_reply.result _ (meets_reference g.K.Validate.words g.K.Validate.is_whole ns (length c.args.nodes.now) w (mode_of c.args.mode) (path_of c.args.path.now) p busy s c.args.node.0 (string_bytes c.args.entry.now.name) e _ _ l c.in_ok-reply-in-Reference.ensures.meets))
+    let l = falls_here g.K.Validate.words g.K.Validate.is_whole ns (length c.args.engine.now.nodes.now) w c.requires.ready.ranked c.args.node.0 s busy e c.requires.known k in
+    rw c.in-Reference.is (if_ok_always c.stamped_reply.result _ (meets_reference g.K.Validate.words g.K.Validate.is_whole ns (length c.args.engine.now.nodes.now) w (mode_of c.args.question.now.mode) (path_of c.args.question.now.path.now) p busy s c.args.node.0 (string_bytes c.args.entry.now.name) e _ _ l c.in_ok-reply-in-Reference.ensures.meets))
 
 pub run_node-returns-in-Never-clause-meets : goal.run_node-returns-in-Never-clause-meets
 run_node-returns-in-Never-clause-meets g t c =
-    let ns = numbered g.K.Validate.shape c.args.nodes.now in
-    let w = settling (g.M.Matcher.matching c.args.matcher.now) c.args.context.now.remembered.assumptions in
-    let p = steps_to c.args.place.now in
-    let s = subject_of c.args.instance in
+    let ns = numbered g.K.Validate.shape c.args.engine.now.nodes.now in
+    let w = settling (g.M.Matcher.matching c.args.engine.now.matcher.now) c.args.context.now.remembered.assumptions in
+    let p = steps_to c.args.question.now.place.now in
+    let s = subject_of c.args.question.now.instance in
     let busy = busy_at p c.args.context.now.in_progress in
-    let plan = plan_is g.K.Validate.shape c.args.nodes.now c.args.node.0 (node_of c.node-found.result.now) _ c.node-found.ensures.found (ap (option_map plan_of) c.in-Some.is ∙ ap (λ f. Some (plan_of f)) c.in-Never.is) in
-    if_ok_always c.refused.result _ (meets_never g.K.Validate.words g.K.Validate.is_whole ns (length c.args.nodes.now) w (mode_of c.args.mode) (path_of c.args.path.now) p busy s c.args.node.0 _ _ plan refl)
+    let plan = plan_is g.K.Validate.shape c.args.engine.now.nodes.now c.args.node.0 (node_of c.node-found.result.now) _ c.node-found.ensures.found (ap (option_map plan_of) c.in-Some.is ∙ ap (λ f. Some (plan_of f)) c.in-Never.is) in
+    if_ok_always c.refused.result _ (meets_never g.K.Validate.words g.K.Validate.is_whole ns (length c.args.engine.now.nodes.now) w (mode_of c.args.question.now.mode) (path_of c.args.question.now.path.now) p busy s c.args.node.0 _ _ plan refl)
 
 pub run_node-returns-in-Keywords-clause-meets : goal.run_node-returns-in-Keywords-clause-meets
 run_node-returns-in-Keywords-clause-meets g t c =
-    let ns = numbered g.K.Validate.shape c.args.nodes.now in
-    let w = settling (g.M.Matcher.matching c.args.matcher.now) c.args.context.now.remembered.assumptions in
-    let p = steps_to c.args.place.now in
-    let s = subject_of c.args.instance in
+    let ns = numbered g.K.Validate.shape c.args.engine.now.nodes.now in
+    let w = settling (g.M.Matcher.matching c.args.engine.now.matcher.now) c.args.context.now.remembered.assumptions in
+    let p = steps_to c.args.question.now.place.now in
+    let s = subject_of c.args.question.now.instance in
     let busy = busy_at p c.args.context.now.in_progress in
-    let plan = plan_is g.K.Validate.shape c.args.nodes.now c.args.node.0 (node_of c.node-found.result.now) _ c.node-found.ensures.found (ap (option_map plan_of) c.in-Some.is ∙ ap (λ f. Some (plan_of f)) c.in-Keywords.is) in
-    if_ok_mono c.run_entries.result _ _ (λ r met. meets_these g.K.Validate.words g.K.Validate.is_whole ns (length c.args.nodes.now) w (mode_of c.args.mode) (path_of c.args.path.now) p busy s c.args.node.0 _ _ _ plan met) (rw c.as_slice.ensures.value at c.run_entries.ensures.meets)
+    let plan = plan_is g.K.Validate.shape c.args.engine.now.nodes.now c.args.node.0 (node_of c.node-found.result.now) _ c.node-found.ensures.found (ap (option_map plan_of) c.in-Some.is ∙ ap (λ f. Some (plan_of f)) c.in-Keywords.is) in
+    if_ok_mono c.run_entries.result _ _ (λ r met. meets_these g.K.Validate.words g.K.Validate.is_whole ns (length c.args.engine.now.nodes.now) w (mode_of c.args.question.now.mode) (path_of c.args.question.now.path.now) p busy s c.args.node.0 _ _ _ plan met) (rw c.as_slice.ensures.value at c.run_entries.ensures.meets)
 
 pub run_turns-turns-smaller-in-Ask : goal.run_turns-turns-smaller-in-Ask
 run_turns-turns-smaller-in-Ask g t c =
-    let ns = numbered g.K.Validate.shape c.args.nodes.now in
-    let p = steps_to c.args.place.now in
-    let s = subject_of c.args.instance in
+    let ns = numbered g.K.Validate.shape c.args.engine.now.nodes.now in
+    let p = steps_to c.args.question.now.place.now in
+    let s = subject_of c.args.question.now.instance in
     let m = g.K.Validate.shape c.args.keyword.now in
     let es = map (option_map edge_of) c.args.children.now in
     let busy = busy_at p c.args.context.now.in_progress in
@@ -493,11 +493,11 @@ run_turns-turns-smaller-in-Ask g t c =
 
 pub run_turns-turns-preserved-in-Ask : goal.run_turns-turns-preserved-in-Ask
 run_turns-turns-preserved-in-Ask g t c =
-    let w = settling (g.M.Matcher.matching c.args.matcher.now) c.args.context.now.remembered.assumptions in
+    let w = settling (g.M.Matcher.matching c.args.engine.now.matcher.now) c.args.context.now.remembered.assumptions in
     let name = string_bytes c.args.name.now in
-    let ns = numbered g.K.Validate.shape c.args.nodes.now in
-    let p = steps_to c.args.place.now in
-    let s = subject_of c.args.instance in
+    let ns = numbered g.K.Validate.shape c.args.engine.now.nodes.now in
+    let p = steps_to c.args.question.now.place.now in
+    let s = subject_of c.args.question.now.instance in
     let m = g.K.Validate.shape c.args.keyword.now in
     let es = map (option_map edge_of) c.args.children.now in
     let busy = busy_at p c.args.context.now.in_progress in
@@ -506,35 +506,35 @@ run_turns-turns-preserved-in-Ask g t c =
     let step = rw c.in-Ask.is at (c.in_ok-child.ensures.steps false (tells_nothing (g.K.Validate.is_whole m) s)) in
     let q : Question = record { child = c.in-Ask.child; below = below_of c.in-Ask.below } in
     let less = asks_less (g.K.Validate.words false) (g.K.Validate.shape c.args.keyword.now) (g.K.Validate.absorbed (g.K.Validate.shape c.args.keyword.now)) (g.K.Validate.remaining (g.K.Validate.shape c.args.keyword.now)) (g.K.Validate.ends false (g.K.Validate.shape c.args.keyword.now)) (g.K.Validate.fits false (g.K.Validate.shape c.args.keyword.now)) (g.met.K.Validate.turn_laws false (g.K.Validate.shape c.args.keyword.now)) s (c.turns.run, answer_of false c.turns.answer) told q (mode_of c.in-Ask.wanted) c.turns.invariant.unmarked step in
-    let says = moved (λ es' as'. ChildReplies g.K.Validate.words g.K.Validate.is_whole ns (length c.args.nodes.now) (settling (g.M.Matcher.matching c.args.matcher.now) as') (mode_of c.in-Ask.wanted) (path_of c.args.path.now) p (busy_at p es') s c.args.node.0 es q c.in_ok-reply-in-Ask.reply) c.turns.invariant.kept c.turns.invariant.assumes c.in_ok-reply-in-Ask.ensures.says in
+    let says = moved (λ es' as'. ChildReplies g.K.Validate.words g.K.Validate.is_whole ns (length c.args.engine.now.nodes.now) (settling (g.M.Matcher.matching c.args.engine.now.matcher.now) as') (mode_of c.in-Ask.wanted) (path_of c.args.question.now.path.now) p (busy_at p es') s c.args.node.0 es q c.in_ok-reply-in-Ask.reply) c.turns.invariant.kept c.turns.invariant.assumes c.in_ok-reply-in-Ask.ensures.says in
     record {
       kept = c.in_ok-reply-in-Ask.ensures.kept ∙ c.turns.invariant.kept;
       assumes = c.in_ok-reply-in-Ask.ensures.assumes ∙ c.turns.invariant.assumes;
       unmarked = unmarked_after (g.K.Validate.words false) (g.K.Validate.shape c.args.keyword.now) (g.K.Validate.absorbed (g.K.Validate.shape c.args.keyword.now)) (g.K.Validate.remaining (g.K.Validate.shape c.args.keyword.now)) (g.K.Validate.ends false (g.K.Validate.shape c.args.keyword.now)) (g.K.Validate.fits false (g.K.Validate.shape c.args.keyword.now)) (g.met.K.Validate.turn_laws false (g.K.Validate.shape c.args.keyword.now)) s (c.turns.run, answer_of false c.turns.answer) (c.turn.new.run, answer_of false c.turn.new.answer) told (reply_of false c.in_ok-reply-in-Ask.reply) (ask q (mode_of c.in-Ask.wanted)) c.turns.invariant.unmarked turn step (ask_goes_on q (mode_of c.in-Ask.wanted));
       borrows = λ root at_place.
           let i = c.turns.invariant.borrows root at_place in
-          let d = left ns (length c.args.nodes.now) c.args.node.0 s busy in
-          ((says (silent (settling (g.M.Matcher.matching c.args.matcher.now) c.args.context.now.remembered.assumptions) root d) (silent_reads g.K.Validate.is_whole ns (length c.args.nodes.now) (settling (g.M.Matcher.matching c.args.matcher.now) c.args.context.now.remembered.assumptions) p s root d at_place) (no_deeper d)).borrows, c.in_ok-child.ensures.borrows root i.0 i.1);
+          let d = left ns (length c.args.engine.now.nodes.now) c.args.node.0 s busy in
+          ((says (silent (settling (g.M.Matcher.matching c.args.engine.now.matcher.now) c.args.context.now.remembered.assumptions) root d) (silent_reads g.K.Validate.is_whole ns (length c.args.engine.now.nodes.now) (settling (g.M.Matcher.matching c.args.engine.now.matcher.now) c.args.context.now.remembered.assumptions) p s root d at_place) (no_deeper d)).borrows, c.in_ok-child.ensures.borrows root i.0 i.1);
       leads = λ x reads l.
-          let tells = tells_keyword g.K.Validate.is_whole ns (length c.args.nodes.now) (settling (g.M.Matcher.matching c.args.matcher.now) c.args.context.now.remembered.assumptions) p s x c.args.node.0 m es c.requires.known reads c.requires.form in
-          asked (g.K.Validate.words x.texts) (g.K.Validate.shape c.args.keyword.now) (g.K.Validate.absorbed (g.K.Validate.shape c.args.keyword.now)) (g.K.Validate.remaining (g.K.Validate.shape c.args.keyword.now)) (g.K.Validate.ends x.texts (g.K.Validate.shape c.args.keyword.now)) (g.K.Validate.fits x.texts (g.K.Validate.shape c.args.keyword.now)) (g.met.K.Validate.turn_laws x.texts (g.K.Validate.shape c.args.keyword.now)) s x (mode_of c.args.mode) (child_says g.K.Validate.words ns x (path_of c.args.path.now) p busy es) (c.turns.run, answer_of x.texts c.turns.answer) (c.turn.new.run, answer_of x.texts c.turn.new.answer)
+          let tells = tells_keyword g.K.Validate.is_whole ns (length c.args.engine.now.nodes.now) (settling (g.M.Matcher.matching c.args.engine.now.matcher.now) c.args.context.now.remembered.assumptions) p s x c.args.node.0 m es c.requires.known reads c.requires.form in
+          asked (g.K.Validate.words x.texts) (g.K.Validate.shape c.args.keyword.now) (g.K.Validate.absorbed (g.K.Validate.shape c.args.keyword.now)) (g.K.Validate.remaining (g.K.Validate.shape c.args.keyword.now)) (g.K.Validate.ends x.texts (g.K.Validate.shape c.args.keyword.now)) (g.K.Validate.fits x.texts (g.K.Validate.shape c.args.keyword.now)) (g.met.K.Validate.turn_laws x.texts (g.K.Validate.shape c.args.keyword.now)) s x (mode_of c.args.question.now.mode) (child_says g.K.Validate.words ns x (path_of c.args.question.now.path.now) p busy es) (c.turns.run, answer_of x.texts c.turns.answer) (c.turn.new.run, answer_of x.texts c.turn.new.answer)
           (reply_of x.texts c.turns.reply) (reply_of x.texts c.in_ok-reply-in-Ask.reply) q (mode_of c.in-Ask.wanted) less (c.turns.invariant.leads x reads l) (c.in_ok-child.ensures.turns x.texts tells) (rw c.in-Ask.is at (c.in_ok-child.ensures.steps x.texts tells)) (says x reads l).same;
       met = λ texts root depth reads l.
-          let tells = tells_keyword g.K.Validate.is_whole ns (length c.args.nodes.now) w p s (reading w texts root depth) c.args.node.0 m es c.requires.known reads c.requires.form in
+          let tells = tells_keyword g.K.Validate.is_whole ns (length c.args.engine.now.nodes.now) w p s (reading w texts root depth) c.args.node.0 m es c.requires.known reads c.requires.form in
           let step' = rw c.in-Ask.is at (c.in_ok-child.ensures.steps texts tells) in
           let turn' = c.in_ok-child.ensures.turns texts tells in
           let falls = falls_turned (g.K.Validate.words texts) m (g.K.Validate.absorbed m) (g.K.Validate.remaining m) (g.K.Validate.ends texts m) (g.K.Validate.fits texts m) (g.met.K.Validate.turn_laws texts m) s (c.turns.run, answer_of texts c.turns.answer) (c.turn.new.run, answer_of texts c.turn.new.answer) (reply_of texts c.turns.reply) (ask q (mode_of c.in-Ask.wanted)) turn' step' (ask_goes_on q (mode_of c.in-Ask.wanted)) in
-          let replied = (says (reading w texts root depth) reads l).same ∙ child_replies g.K.Validate.words ns w texts root depth (mode_of c.in-Ask.wanted) less (path_of c.args.path.now) p busy es q in
-          let met = moved (λ es' as'. ChildMeets g.K.Validate.words g.K.Validate.is_whole ns (length c.args.nodes.now) (settling (g.M.Matcher.matching c.args.matcher.now) as') (mode_of c.in-Ask.wanted) (path_of c.args.path.now) p (busy_at p es') s c.turns.context.remembered c.run_child.new.context.remembered c.args.node.0 es q) c.turns.invariant.kept c.turns.invariant.assumes c.in_ok-reply-in-Ask.ensures.meets texts root depth reads l in
-          meets_asked (g.K.Validate.words texts) w.matcher w.assumptions (node_at (g.K.Validate.words texts) w.matcher ns (subject_in root) c.args.node.0 (path_of c.args.path.now) p) s (child_run g.K.Validate.words ns w texts root depth (path_of c.args.path.now) p busy es) (same_edge es) name m (g.K.Validate.remaining m s) _ _ _ _ _ _ _ _ q (mode_of c.in-Ask.wanted) turn' step' falls replied met (c.turns.invariant.met texts root depth reads l);
+          let replied = (says (reading w texts root depth) reads l).same ∙ child_replies g.K.Validate.words ns w texts root depth (mode_of c.in-Ask.wanted) less (path_of c.args.question.now.path.now) p busy es q in
+          let met = moved (λ es' as'. ChildMeets g.K.Validate.words g.K.Validate.is_whole ns (length c.args.engine.now.nodes.now) (settling (g.M.Matcher.matching c.args.engine.now.matcher.now) as') (mode_of c.in-Ask.wanted) (path_of c.args.question.now.path.now) p (busy_at p es') s c.turns.context.remembered c.run_child.new.context.remembered c.args.node.0 es q) c.turns.invariant.kept c.turns.invariant.assumes c.in_ok-reply-in-Ask.ensures.meets texts root depth reads l in
+          meets_asked (g.K.Validate.words texts) w.matcher w.assumptions (node_at (g.K.Validate.words texts) w.matcher ns (subject_in root) c.args.node.0 (path_of c.args.question.now.path.now) p) s (child_run g.K.Validate.words ns w texts root depth (path_of c.args.question.now.path.now) p busy es) (same_edge es) name m (g.K.Validate.remaining m s) _ _ _ _ _ _ _ _ q (mode_of c.in-Ask.wanted) turn' step' falls replied met (c.turns.invariant.met texts root depth reads l);
     }
 
 pub run_turns-turns-smaller-in-Match : goal.run_turns-turns-smaller-in-Match
 run_turns-turns-smaller-in-Match g t c =
-    let ns = numbered g.K.Validate.shape c.args.nodes.now in
-    let w = settling (g.M.Matcher.matching c.args.matcher.now) c.args.context.now.remembered.assumptions in
-    let p = steps_to c.args.place.now in
-    let s = subject_of c.args.instance in
+    let ns = numbered g.K.Validate.shape c.args.engine.now.nodes.now in
+    let w = settling (g.M.Matcher.matching c.args.engine.now.matcher.now) c.args.context.now.remembered.assumptions in
+    let p = steps_to c.args.question.now.place.now in
+    let s = subject_of c.args.question.now.instance in
     let m = g.K.Validate.shape c.args.keyword.now in
     let es = map (option_map edge_of) c.args.children.now in
     let busy = busy_at p c.args.context.now.in_progress in
@@ -548,10 +548,10 @@ run_turns-turns-smaller-in-Match g t c =
 
 pub run_turns-turns-smaller : goal.run_turns-turns-smaller
 run_turns-turns-smaller g t c =
-    let ns = numbered g.K.Validate.shape c.args.nodes.now in
-    let w = settling (g.M.Matcher.matching c.args.matcher.now) c.args.context.now.remembered.assumptions in
-    let p = steps_to c.args.place.now in
-    let s = subject_of c.args.instance in
+    let ns = numbered g.K.Validate.shape c.args.engine.now.nodes.now in
+    let w = settling (g.M.Matcher.matching c.args.engine.now.matcher.now) c.args.context.now.remembered.assumptions in
+    let p = steps_to c.args.question.now.place.now in
+    let s = subject_of c.args.question.now.instance in
     let m = g.K.Validate.shape c.args.keyword.now in
     let es = map (option_map edge_of) c.args.children.now in
     let busy = busy_at p c.args.context.now.in_progress in
@@ -563,10 +563,10 @@ run_turns-turns-smaller g t c =
 
 pub run_turns-asked_match-requires : goal.run_turns-asked_match-requires
 run_turns-asked_match-requires g t c =
-    let ns = numbered g.K.Validate.shape c.args.nodes.now in
-    let w = settling (g.M.Matcher.matching c.args.matcher.now) c.args.context.now.remembered.assumptions in
-    let p = steps_to c.args.place.now in
-    let s = subject_of c.args.instance in
+    let ns = numbered g.K.Validate.shape c.args.engine.now.nodes.now in
+    let w = settling (g.M.Matcher.matching c.args.engine.now.matcher.now) c.args.context.now.remembered.assumptions in
+    let p = steps_to c.args.question.now.place.now in
+    let s = subject_of c.args.question.now.instance in
     let m = g.K.Validate.shape c.args.keyword.now in
     let es = map (option_map edge_of) c.args.children.now in
     let busy = busy_at p c.args.context.now.in_progress in
@@ -580,10 +580,10 @@ run_turns-asked_match-requires g t c =
 
 pub run_turns-turns-preserved-in-Match : goal.run_turns-turns-preserved-in-Match
 run_turns-turns-preserved-in-Match g t c =
-    let ns = numbered g.K.Validate.shape c.args.nodes.now in
-    let w = settling (g.M.Matcher.matching c.args.matcher.now) c.args.context.now.remembered.assumptions in
-    let p = steps_to c.args.place.now in
-    let s = subject_of c.args.instance in
+    let ns = numbered g.K.Validate.shape c.args.engine.now.nodes.now in
+    let w = settling (g.M.Matcher.matching c.args.engine.now.matcher.now) c.args.context.now.remembered.assumptions in
+    let p = steps_to c.args.question.now.place.now in
+    let s = subject_of c.args.question.now.instance in
     let m = g.K.Validate.shape c.args.keyword.now in
     let es = map (option_map edge_of) c.args.children.now in
     let busy = busy_at p c.args.context.now.in_progress in
@@ -604,27 +604,27 @@ run_turns-turns-preserved-in-Match g t c =
           let i = c.turns.invariant.borrows root at_place in
           (All-nil (BorrowsItsPlace root), c.in_ok-child.ensures.borrows root i.0 i.1);
       leads = λ x reads l.
-          let tells = tells_keyword g.K.Validate.is_whole ns (length c.args.nodes.now) w p s x c.args.node.0 m es c.requires.known reads c.requires.form in
+          let tells = tells_keyword g.K.Validate.is_whole ns (length c.args.engine.now.nodes.now) w p s x c.args.node.0 m es c.requires.known reads c.requires.form in
           let is = ap truth (out ∙ ap (λ b. settled b answer) (sym (reads.completes a)) ∙ ap (λ (o : Matcher). settled (completed x.completion a) (o.is_match a.pattern a.subject)) (sym reads.matcher)) in
-          matched (g.K.Validate.words x.texts) m (g.K.Validate.absorbed m) (g.K.Validate.remaining m) (g.K.Validate.ends x.texts m) (g.K.Validate.fits x.texts m) (g.met.K.Validate.turn_laws x.texts m) s x (mode_of c.args.mode) (child_says g.K.Validate.words ns x (path_of c.args.path.now) p busy es) (c.turns.run, answer_of x.texts c.turns.answer) (c.turn.new.run, answer_of x.texts c.turn.new.answer)
+          matched (g.K.Validate.words x.texts) m (g.K.Validate.absorbed m) (g.K.Validate.remaining m) (g.K.Validate.ends x.texts m) (g.K.Validate.fits x.texts m) (g.met.K.Validate.turn_laws x.texts m) s x (mode_of c.args.question.now.mode) (child_says g.K.Validate.words ns x (path_of c.args.question.now.path.now) p busy es) (c.turns.run, answer_of x.texts c.turns.answer) (c.turn.new.run, answer_of x.texts c.turn.new.answer)
           (reply_of x.texts c.turns.reply) (truth c.in_ok-matches-in-Match.matches) a point (c.turns.invariant.leads x reads l) (c.in_ok-child.ensures.turns x.texts tells) (rw c.in-Match.is at (c.in_ok-child.ensures.steps x.texts tells)) is;
       met = λ texts root depth reads l.
-          let tells = tells_keyword g.K.Validate.is_whole ns (length c.args.nodes.now) w p s (reading w texts root depth) c.args.node.0 m es c.requires.known reads c.requires.form in
+          let tells = tells_keyword g.K.Validate.is_whole ns (length c.args.engine.now.nodes.now) w p s (reading w texts root depth) c.args.node.0 m es c.requires.known reads c.requires.form in
           let step' = rw c.in-Match.is at (c.in_ok-child.ensures.steps texts tells) in
           let turn' = c.in_ok-child.ensures.turns texts tells in
           let falls = falls_turned (g.K.Validate.words texts) m (g.K.Validate.absorbed m) (g.K.Validate.remaining m) (g.K.Validate.ends texts m) (g.K.Validate.fits texts m) (g.met.K.Validate.turn_laws texts m) s (c.turns.run, answer_of texts c.turns.answer) (c.turn.new.run, answer_of texts c.turn.new.answer) (reply_of texts c.turns.reply) (match_text a point) turn' step' (match_goes_on a point) in
           let is = ap truth (out ∙ ap (λ b. settled b answer) (sym (reads.completes a))) in
-          let there = where_is g.K.Validate.shape c.args.nodes.now (g.K.Validate.words texts) w.matcher (subject_in root) c.args.node.0 n (path_of c.args.path.now) p c.node.ensures.found in
+          let there = where_is g.K.Validate.shape c.args.engine.now.nodes.now (g.K.Validate.words texts) w.matcher (subject_in root) c.args.node.0 n (path_of c.args.question.now.path.now) p c.node.ensures.found in
           let new = c.in_ok-matches-in-Match.ensures.met ∙ ap (λ (v : Where). after_match c.turns.context.remembered (record { pair = a; site = site_at v name point }) answer) (sym there) in
-          meets_matched (g.K.Validate.words texts) w.matcher w.assumptions (node_at (g.K.Validate.words texts) w.matcher ns (subject_in root) c.args.node.0 (path_of c.args.path.now) p) s (child_run g.K.Validate.words ns w texts root depth (path_of c.args.path.now) p busy es) (same_edge es) name m (g.K.Validate.remaining m s) _ _ _ _ _ _ _ _ a point turn' step' falls is new (c.turns.invariant.met texts root depth reads l);
+          meets_matched (g.K.Validate.words texts) w.matcher w.assumptions (node_at (g.K.Validate.words texts) w.matcher ns (subject_in root) c.args.node.0 (path_of c.args.question.now.path.now) p) s (child_run g.K.Validate.words ns w texts root depth (path_of c.args.question.now.path.now) p busy es) (same_edge es) name m (g.K.Validate.remaining m s) _ _ _ _ _ _ _ _ a point turn' step' falls is new (c.turns.invariant.met texts root depth reads l);
     }
 
 pub run_turns-turns-preserved : goal.run_turns-turns-preserved
 run_turns-turns-preserved g t c =
-    let ns = numbered g.K.Validate.shape c.args.nodes.now in
-    let w = settling (g.M.Matcher.matching c.args.matcher.now) c.args.context.now.remembered.assumptions in
-    let p = steps_to c.args.place.now in
-    let s = subject_of c.args.instance in
+    let ns = numbered g.K.Validate.shape c.args.engine.now.nodes.now in
+    let w = settling (g.M.Matcher.matching c.args.engine.now.matcher.now) c.args.context.now.remembered.assumptions in
+    let p = steps_to c.args.question.now.place.now in
+    let s = subject_of c.args.question.now.instance in
     let m = g.K.Validate.shape c.args.keyword.now in
     let es = map (option_map edge_of) c.args.children.now in
     let busy = busy_at p c.args.context.now.in_progress in
@@ -641,55 +641,55 @@ run_turns-turns-preserved g t c =
           let i = c.turns.invariant.borrows root at_place in
           (All-nil (BorrowsItsPlace root), c.in_ok-child.ensures.borrows root i.0 i.1);
       leads = λ x reads l.
-          let tells = tells_keyword g.K.Validate.is_whole ns (length c.args.nodes.now) w p s x c.args.node.0 m es c.requires.known reads c.requires.form in
+          let tells = tells_keyword g.K.Validate.is_whole ns (length c.args.engine.now.nodes.now) w p s x c.args.node.0 m es c.requires.known reads c.requires.form in
           let is = ap truth (c.in_ok-valid-in-Ecma.ensures.valid ∙ ap (λ (o : Matcher). o.is_ecma text) (sym reads.matcher)) in
-          told_pattern (g.K.Validate.words x.texts) m (g.K.Validate.absorbed m) (g.K.Validate.remaining m) (g.K.Validate.ends x.texts m) (g.K.Validate.fits x.texts m) (g.met.K.Validate.turn_laws x.texts m) s x (mode_of c.args.mode) (child_says g.K.Validate.words ns x (path_of c.args.path.now) p busy es) (c.turns.run, answer_of x.texts c.turns.answer) (c.turn.new.run, answer_of x.texts c.turn.new.answer)
+          told_pattern (g.K.Validate.words x.texts) m (g.K.Validate.absorbed m) (g.K.Validate.remaining m) (g.K.Validate.ends x.texts m) (g.K.Validate.fits x.texts m) (g.met.K.Validate.turn_laws x.texts m) s x (mode_of c.args.question.now.mode) (child_says g.K.Validate.words ns x (path_of c.args.question.now.path.now) p busy es) (c.turns.run, answer_of x.texts c.turns.answer) (c.turn.new.run, answer_of x.texts c.turn.new.answer)
           (reply_of x.texts c.turns.reply) (truth c.in_ok-valid-in-Ecma.valid) text (c.turns.invariant.leads x reads l) (c.in_ok-child.ensures.turns x.texts tells) (rw c.in-Ecma.is at (c.in_ok-child.ensures.steps x.texts tells)) is;
       met = λ texts root depth reads l.
-          let tells = tells_keyword g.K.Validate.is_whole ns (length c.args.nodes.now) w p s (reading w texts root depth) c.args.node.0 m es c.requires.known reads c.requires.form in
+          let tells = tells_keyword g.K.Validate.is_whole ns (length c.args.engine.now.nodes.now) w p s (reading w texts root depth) c.args.node.0 m es c.requires.known reads c.requires.form in
           let step' = rw c.in-Ecma.is at (c.in_ok-child.ensures.steps texts tells) in
           let turn' = c.in_ok-child.ensures.turns texts tells in
           let falls = falls_turned (g.K.Validate.words texts) m (g.K.Validate.absorbed m) (g.K.Validate.remaining m) (g.K.Validate.ends texts m) (g.K.Validate.fits texts m) (g.met.K.Validate.turn_laws texts m) s (c.turns.run, answer_of texts c.turns.answer) (c.turn.new.run, answer_of texts c.turn.new.answer) (reply_of texts c.turns.reply) (ecma text) turn' step' (ecma_goes_on text) in
-          meets_nothing (g.K.Validate.words texts) w.matcher w.assumptions (node_at (g.K.Validate.words texts) w.matcher ns (subject_in root) c.args.node.0 (path_of c.args.path.now) p) s (child_run g.K.Validate.words ns w texts root depth (path_of c.args.path.now) p busy es) (same_edge es) name m (g.K.Validate.remaining m s) _ _ _ _ _ _ _ _ text turn' step' falls (ap truth c.in_ok-valid-in-Ecma.ensures.valid) refl (c.turns.invariant.met texts root depth reads l);
+          meets_nothing (g.K.Validate.words texts) w.matcher w.assumptions (node_at (g.K.Validate.words texts) w.matcher ns (subject_in root) c.args.node.0 (path_of c.args.question.now.path.now) p) s (child_run g.K.Validate.words ns w texts root depth (path_of c.args.question.now.path.now) p busy es) (same_edge es) name m (g.K.Validate.remaining m s) _ _ _ _ _ _ _ _ text turn' step' falls (ap truth c.in_ok-valid-in-Ecma.ensures.valid) refl (c.turns.invariant.met texts root depth reads l);
     }
 
 pub run_turns-returns-in-Done-clause-meets : goal.run_turns-returns-in-Done-clause-meets
 run_turns-returns-in-Done-clause-meets g t c = λ texts root depth reads l.
-    let ns = numbered g.K.Validate.shape c.args.nodes.now in
-    let w = settling (g.M.Matcher.matching c.args.matcher.now) c.args.context.now.remembered.assumptions in
-    let p = steps_to c.args.place.now in
-    let s = subject_of c.args.instance in
+    let ns = numbered g.K.Validate.shape c.args.engine.now.nodes.now in
+    let w = settling (g.M.Matcher.matching c.args.engine.now.matcher.now) c.args.context.now.remembered.assumptions in
+    let p = steps_to c.args.question.now.place.now in
+    let s = subject_of c.args.question.now.instance in
     let m = g.K.Validate.shape c.args.keyword.now in
     let es = map (option_map edge_of) c.args.children.now in
     let busy = busy_at p c.args.context.now.in_progress in
     let name = string_bytes c.args.name.now in
     let told = reply_of false c.turns.reply in
     let turn = c.in_ok-child.ensures.turns false (tells_nothing (g.K.Validate.is_whole m) s) in
-    let tells = tells_keyword g.K.Validate.is_whole ns (length c.args.nodes.now) w p s (reading w texts root depth) c.args.node.0 m es c.requires.known reads c.requires.form in
-    let all = meets_all (g.K.Validate.words texts) w.matcher w.assumptions (node_at (g.K.Validate.words texts) w.matcher ns (subject_in root) c.args.node.0 (path_of c.args.path.now) p) s (child_run g.K.Validate.words ns w texts root depth (path_of c.args.path.now) p busy es) (same_edge es) name m (g.K.Validate.remaining m s) _ _ c.turns.context.remembered (c.turns.run, answer_of texts c.turns.answer) (reply_of texts c.turns.reply) (rw c.in-Done.is at (c.in_ok-child.ensures.steps texts tells)) (c.turns.invariant.met texts root depth reads l) in
-    meets_same w.matcher _ _ _ _ (ap (λ v. keyword_met (g.K.Validate.words texts) w.matcher w.assumptions (node_at (g.K.Validate.words texts) w.matcher ns (subject_in root) c.args.node.0 (path_of c.args.path.now) p) v (child_run g.K.Validate.words ns w texts root depth (path_of c.args.path.now) p busy es) (same_edge es) name m (mode_of c.args.mode)) (sym (stands_in root p s reads.stands))) all
+    let tells = tells_keyword g.K.Validate.is_whole ns (length c.args.engine.now.nodes.now) w p s (reading w texts root depth) c.args.node.0 m es c.requires.known reads c.requires.form in
+    let all = meets_all (g.K.Validate.words texts) w.matcher w.assumptions (node_at (g.K.Validate.words texts) w.matcher ns (subject_in root) c.args.node.0 (path_of c.args.question.now.path.now) p) s (child_run g.K.Validate.words ns w texts root depth (path_of c.args.question.now.path.now) p busy es) (same_edge es) name m (g.K.Validate.remaining m s) _ _ c.turns.context.remembered (c.turns.run, answer_of texts c.turns.answer) (reply_of texts c.turns.reply) (rw c.in-Done.is at (c.in_ok-child.ensures.steps texts tells)) (c.turns.invariant.met texts root depth reads l) in
+    meets_same w.matcher _ _ _ _ (ap (λ v. keyword_met (g.K.Validate.words texts) w.matcher w.assumptions (node_at (g.K.Validate.words texts) w.matcher ns (subject_in root) c.args.node.0 (path_of c.args.question.now.path.now) p) v (child_run g.K.Validate.words ns w texts root depth (path_of c.args.question.now.path.now) p busy es) (same_edge es) name m (mode_of c.args.question.now.mode)) (sym (stands_in root p s reads.stands))) all
 
 pub run_turns-unreachable-requires : goal.run_turns-unreachable-requires
 run_turns-unreachable-requires g t c =
-    let s = subject_of c.args.instance in
+    let s = subject_of c.args.question.now.instance in
     let m = g.K.Validate.shape c.args.keyword.now in
     let step = rw c.in-Mark.is at (c.in_ok-child.ensures.steps false (tells_nothing (g.K.Validate.is_whole m) s)) in
     subst IsUnmarked step (is_unmarked (g.K.Validate.words false) (g.K.Validate.shape c.args.keyword.now) (g.K.Validate.absorbed (g.K.Validate.shape c.args.keyword.now)) (g.K.Validate.remaining (g.K.Validate.shape c.args.keyword.now)) (g.K.Validate.ends false (g.K.Validate.shape c.args.keyword.now)) (g.K.Validate.fits false (g.K.Validate.shape c.args.keyword.now)) (g.met.K.Validate.turn_laws false (g.K.Validate.shape c.args.keyword.now)) s (c.turns.run, answer_of false c.turns.answer) (reply_of false c.turns.reply) c.turns.invariant.unmarked)
 
 pub run_entry-returns-clause-meets : goal.run_entry-returns-clause-meets
 run_entry-returns-clause-meets g t c = if_ok_mono c.run_form-2.result _ _ (λ r met texts root depth reads l.
-    let ns = numbered g.K.Validate.shape c.args.nodes.now in
-    let w = settling (g.M.Matcher.matching c.args.matcher.now) c.args.context.now.remembered.assumptions in
-    let p = steps_to c.args.place.now in
+    let ns = numbered g.K.Validate.shape c.args.engine.now.nodes.now in
+    let w = settling (g.M.Matcher.matching c.args.engine.now.matcher.now) c.args.context.now.remembered.assumptions in
+    let p = steps_to c.args.question.now.place.now in
     let busy = busy_at p c.args.context.now.in_progress in
-    let looked = part_looked g.K.Validate.words ns w texts root depth c.args.node.0 (path_of c.args.path.now) p busy (shaped_part g.K.Validate.shape (entry_of c.args.entry.now)) in
-    meets_same w.matcher _ _ _ _ (other_entry (mode_of c.args.mode) looked (c.asks_verdict_first.ensures.other c.if-asks_verdict_first.false)) (met texts root depth reads l)) c.run_form-2.ensures.meets
+    let looked = part_looked g.K.Validate.words ns w texts root depth c.args.node.0 (path_of c.args.question.now.path.now) p busy (shaped_part g.K.Validate.shape (entry_of c.args.entry.now)) in
+    meets_same w.matcher _ _ _ _ (other_entry (mode_of c.args.question.now.mode) looked (c.asks_verdict_first.ensures.other c.if-asks_verdict_first.false)) (met texts root depth reads l)) c.run_form-2.ensures.meets
 
 pub run_entries-returns-clause-meets : goal.run_entries-returns-clause-meets
 run_entries-returns-clause-meets g t c = λ texts root depth reads l.
-    let ns = numbered g.K.Validate.shape c.args.nodes.now in
-    let w = settling (g.M.Matcher.matching c.args.matcher.now) c.args.context.now.remembered.assumptions in
-    let p = steps_to c.args.place.now in
-    let looked = λ (es : List (Entry g.row.K.Denot)). parts_looked g.K.Validate.words ns w texts root depth c.args.node.0 (path_of c.args.path.now) p (busy_at p c.args.context.now.in_progress) (map (shaped_part g.K.Validate.shape) (map entry_of es)) in
-    end_met w.matcher (mode_of c.args.mode) (looked (drop c.loop-entry.entry-index c.args.entries.now)) (plan_met (mode_of c.args.mode) (looked c.args.entries.now)) c.args.context.now.remembered c.loop-entry.context.remembered
+    let ns = numbered g.K.Validate.shape c.args.engine.now.nodes.now in
+    let w = settling (g.M.Matcher.matching c.args.engine.now.matcher.now) c.args.context.now.remembered.assumptions in
+    let p = steps_to c.args.question.now.place.now in
+    let looked = λ (es : List (Entry g.row.K.Denot)). parts_looked g.K.Validate.words ns w texts root depth c.args.node.0 (path_of c.args.question.now.path.now) p (busy_at p c.args.context.now.in_progress) (map (shaped_part g.K.Validate.shape) (map entry_of es)) in
+    end_met w.matcher (mode_of c.args.question.now.mode) (looked (drop c.loop-entry.entry-index c.args.entries.now)) (plan_met (mode_of c.args.question.now.mode) (looked c.args.entries.now)) c.args.context.now.remembered c.loop-entry.context.remembered
     (ap looked (drop_past c.args.entries.now c.loop-entry.entry-index c.loop-entry-test.false)) (c.loop-entry.invariant.met texts root depth reads l)

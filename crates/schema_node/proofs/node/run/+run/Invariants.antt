@@ -24,70 +24,70 @@ use Rattle.schema_node.specs.Turning.{OnItsWay, StaysUnmarked}
 use Rattle.schema_node.proofs.node.run.+run.Given as goal
 
 abbrev pub decreases-run_child : goal.decreases-run_child
-decreases-run_child g l = 8 * left (numbered g.K.Validate.shape l.nodes.now) (length l.nodes.now) l.node.0 (subject_of l.instance) (busy_at (steps_to l.place.now) l.context.now.in_progress) + 1
+decreases-run_child g l = 8 * left (numbered g.K.Validate.shape l.engine.now.nodes.now) (length l.engine.now.nodes.now) l.node.0 (subject_of l.question.now.instance) (busy_at (steps_to l.question.now.place.now) l.context.now.in_progress) + 1
 
 abbrev pub decreases-run_edge : goal.decreases-run_edge
-decreases-run_edge g l = 8 * edge_needs (numbered g.K.Validate.shape l.nodes.now) (length l.nodes.now) (edge_of l.edge.now) (subject_of l.instance) (busy_at (steps_to l.place.now) l.context.now.in_progress)
+decreases-run_edge g l = 8 * edge_needs (numbered g.K.Validate.shape l.engine.now.nodes.now) (length l.engine.now.nodes.now) (edge_of l.edge.now) (subject_of l.question.now.instance) (busy_at (steps_to l.question.now.place.now) l.context.now.in_progress)
 
 abbrev pub decreases-run_entries : goal.decreases-run_entries
-decreases-run_entries g l = 8 * left (numbered g.K.Validate.shape l.nodes.now) (length l.nodes.now) l.node.0 (subject_of l.instance) (busy_at (steps_to l.place.now) l.context.now.in_progress) + 6
+decreases-run_entries g l = 8 * left (numbered g.K.Validate.shape l.engine.now.nodes.now) (length l.engine.now.nodes.now) l.node.0 (subject_of l.question.now.instance) (busy_at (steps_to l.question.now.place.now) l.context.now.in_progress) + 6
 
 abbrev pub decreases-run_entry : goal.decreases-run_entry
-decreases-run_entry g l = 8 * left (numbered g.K.Validate.shape l.nodes.now) (length l.nodes.now) l.node.0 (subject_of l.instance) (busy_at (steps_to l.place.now) l.context.now.in_progress) + 5
+decreases-run_entry g l = 8 * left (numbered g.K.Validate.shape l.engine.now.nodes.now) (length l.engine.now.nodes.now) l.node.0 (subject_of l.question.now.instance) (busy_at (steps_to l.question.now.place.now) l.context.now.in_progress) + 5
 
 abbrev pub decreases-run_form : goal.decreases-run_form
-decreases-run_form g l = 8 * left (numbered g.K.Validate.shape l.nodes.now) (length l.nodes.now) l.node.0 (subject_of l.instance) (busy_at (steps_to l.place.now) l.context.now.in_progress) + 4
+decreases-run_form g l = 8 * left (numbered g.K.Validate.shape l.engine.now.nodes.now) (length l.engine.now.nodes.now) l.node.0 (subject_of l.question.now.instance) (busy_at (steps_to l.question.now.place.now) l.context.now.in_progress) + 4
 
 abbrev pub decreases-run_keyword : goal.decreases-run_keyword
-decreases-run_keyword g l = 8 * left (numbered g.K.Validate.shape l.nodes.now) (length l.nodes.now) l.node.0 (subject_of l.instance) (busy_at (steps_to l.place.now) l.context.now.in_progress) + 3
+decreases-run_keyword g l = 8 * left (numbered g.K.Validate.shape l.engine.now.nodes.now) (length l.engine.now.nodes.now) l.node.0 (subject_of l.question.now.instance) (busy_at (steps_to l.question.now.place.now) l.context.now.in_progress) + 3
 
 abbrev pub decreases-run_node : goal.decreases-run_node
-decreases-run_node g l = 8 * left (numbered g.K.Validate.shape l.nodes.now) (length l.nodes.now) l.node.0 (subject_of l.instance) (busy_at (steps_to l.place.now) l.context.now.in_progress) + 7
+decreases-run_node g l = 8 * left (numbered g.K.Validate.shape l.engine.now.nodes.now) (length l.engine.now.nodes.now) l.node.0 (subject_of l.question.now.instance) (busy_at (steps_to l.question.now.place.now) l.context.now.in_progress) + 7
 
 abbrev pub decreases-run_turns : goal.decreases-run_turns
-decreases-run_turns g l = 8 * left (numbered g.K.Validate.shape l.nodes.now) (length l.nodes.now) l.node.0 (subject_of l.instance) (busy_at (steps_to l.place.now) l.context.now.in_progress) + 2
+decreases-run_turns g l = 8 * left (numbered g.K.Validate.shape l.engine.now.nodes.now) (length l.engine.now.nodes.now) l.node.0 (subject_of l.question.now.instance) (busy_at (steps_to l.question.now.place.now) l.context.now.in_progress) + 2
 
 abbrev pub invariant-run_entries-loop-entry : goal.invariant-run_entries-loop-entry
 invariant-run_entries-loop-entry g l =
-    let ns = numbered g.K.Validate.shape l.nodes in
-    let busy = busy_at (steps_to l.place) l.initial.context.in_progress in
-    let s = subject_of l.instance in
-    let w = settling (g.M.Matcher.matching l.matcher) l.initial.context.remembered.assumptions in
+    let ns = numbered g.K.Validate.shape l.engine.nodes.now in
+    let busy = busy_at (steps_to l.question.place.now) l.initial.context.in_progress in
+    let s = subject_of l.question.instance in
+    let w = settling (g.M.Matcher.matching l.engine.matcher.now) l.initial.context.remembered.assumptions in
     record {
       kept : l.context.in_progress ≡ l.initial.context.in_progress;
       assumes : l.context.remembered.assumptions ≡ l.initial.context.remembered.assumptions;
-      so_far : (x : Reading) → Reads g.K.Validate.is_whole ns (length l.nodes) w (steps_to l.place) s x → left ns (length l.nodes) l.node.0 s busy ≤ x.depth
-          → (o : Outcome) × Replies x (mode_of l.mode) l.found o
-          × (both o (parts_say g.K.Validate.words ns x l.node.0 (path_of l.path) (steps_to l.place) busy (map (shaped_part g.K.Validate.shape) (map entry_of (drop l.entry-index l.entries))))
-          ≡ parts_say g.K.Validate.words ns x l.node.0 (path_of l.path) (steps_to l.place) busy (map (shaped_part g.K.Validate.shape) (map entry_of l.entries)));
+      so_far : (x : Reading) → Reads g.K.Validate.is_whole ns (length l.engine.nodes.now) w (steps_to l.question.place.now) s x → left ns (length l.engine.nodes.now) l.node.0 s busy ≤ x.depth
+          → (o : Outcome) × Replies x (mode_of l.question.mode) l.found o
+          × (both o (parts_say g.K.Validate.words ns x l.node.0 (path_of l.question.path.now) (steps_to l.question.place.now) busy (map (shaped_part g.K.Validate.shape) (map entry_of (drop l.entry-index l.entries))))
+          ≡ parts_say g.K.Validate.words ns x l.node.0 (path_of l.question.path.now) (steps_to l.question.place.now) busy (map (shaped_part g.K.Validate.shape) (map entry_of l.entries)));
       unsettled : (texts : Bool) → refuses (reply_of texts l.found) ≡ false;
-      met : (texts : Bool) (root : Data) (depth : ℕ) → Reads g.K.Validate.is_whole ns (length l.nodes) w (steps_to l.place) s (reading w texts root depth) → left ns (length l.nodes) l.node.0 s busy ≤ depth
+      met : (texts : Bool) (root : Data) (depth : ℕ) → Reads g.K.Validate.is_whole ns (length l.engine.nodes.now) w (steps_to l.question.place.now) s (reading w texts root depth) → left ns (length l.engine.nodes.now) l.node.0 s busy ≤ depth
           → (before : List Met) × MeetsEach w.matcher l.initial.context.remembered before l.context.remembered
-          × (before ++ plan_met (mode_of l.mode) (parts_looked g.K.Validate.words ns w texts root depth l.node.0 (path_of l.path) (steps_to l.place) busy (map (shaped_part g.K.Validate.shape) (map entry_of (drop l.entry-index l.entries))))
-          ≡ plan_met (mode_of l.mode) (parts_looked g.K.Validate.words ns w texts root depth l.node.0 (path_of l.path) (steps_to l.place) busy (map (shaped_part g.K.Validate.shape) (map entry_of l.entries))));
+          × (before ++ plan_met (mode_of l.question.mode) (parts_looked g.K.Validate.words ns w texts root depth l.node.0 (path_of l.question.path.now) (steps_to l.question.place.now) busy (map (shaped_part g.K.Validate.shape) (map entry_of (drop l.entry-index l.entries))))
+          ≡ plan_met (mode_of l.question.mode) (parts_looked g.K.Validate.words ns w texts root depth l.node.0 (path_of l.question.path.now) (steps_to l.question.place.now) busy (map (shaped_part g.K.Validate.shape) (map entry_of l.entries))));
     }
 
 abbrev pub invariant-run_turns-turns : goal.invariant-run_turns-turns
 invariant-run_turns-turns g l =
-    let ns = numbered g.K.Validate.shape l.nodes in
-    let busy = busy_at (steps_to l.place) l.initial.context.in_progress in
-    let s = subject_of l.instance in
+    let ns = numbered g.K.Validate.shape l.engine.nodes.now in
+    let busy = busy_at (steps_to l.question.place.now) l.initial.context.in_progress in
+    let s = subject_of l.question.instance in
     let m = g.K.Validate.shape l.keyword in
-    let w = settling (g.M.Matcher.matching l.matcher) l.initial.context.remembered.assumptions in
+    let w = settling (g.M.Matcher.matching l.engine.matcher.now) l.initial.context.remembered.assumptions in
     let es = map (option_map edge_of) l.children in
     record {
       kept : l.context.in_progress ≡ l.initial.context.in_progress;
       assumes : l.context.remembered.assumptions ≡ l.initial.context.remembered.assumptions;
       unmarked : StaysUnmarked (g.K.Validate.words false) m s (g.K.Validate.remaining m s) (l.run, answer_of false l.answer) (reply_of false l.reply);
-      borrows : (root : Data) → subject_at root (steps_to l.place) ≡ Some (subject_of l.instance) → All (BorrowsItsPlace root) (errors_in l.reply) × All (PassesBorrowed root) (faults_in l.answer);
-      leads : (x : Reading) → Reads g.K.Validate.is_whole ns (length l.nodes) w (steps_to l.place) s x → left ns (length l.nodes) l.node.0 s busy ≤ x.depth
-          → OnItsWay (g.K.Validate.words x.texts) m (g.K.Validate.ends x.texts m) (g.K.Validate.fits x.texts m) s x (mode_of l.fn.mode)
-          (child_says g.K.Validate.words ns x (path_of l.path) (steps_to l.place) busy (map (option_map edge_of) l.children)) (l.run, answer_of x.texts l.answer) (reply_of x.texts l.reply);
-      met : (texts : Bool) (root : Data) (depth : ℕ) → Reads g.K.Validate.is_whole ns (length l.nodes) w (steps_to l.place) s (reading w texts root depth) → left ns (length l.nodes) l.node.0 s busy ≤ depth
-          → MeetsSoFar (g.K.Validate.words texts) w.matcher w.assumptions (node_at (g.K.Validate.words texts) w.matcher ns (subject_in root) l.node.0 (path_of l.path) (steps_to l.place)) s (child_run g.K.Validate.words ns w texts root depth (path_of l.path) (steps_to l.place) busy es) (same_edge es) (string_bytes l.name) m (g.K.Validate.remaining m s) l.initial.context.remembered
-          (keyword_met (g.K.Validate.words texts) w.matcher w.assumptions (node_at (g.K.Validate.words texts) w.matcher ns (subject_in root) l.node.0 (path_of l.path) (steps_to l.place)) s (child_run g.K.Validate.words ns w texts root depth (path_of l.path) (steps_to l.place) busy es) (same_edge es) (string_bytes l.name) m (mode_of l.fn.mode))
+      borrows : (root : Data) → subject_at root (steps_to l.question.place.now) ≡ Some (subject_of l.question.instance) → All (BorrowsItsPlace root) (errors_in l.reply) × All (PassesBorrowed root) (faults_in l.answer);
+      leads : (x : Reading) → Reads g.K.Validate.is_whole ns (length l.engine.nodes.now) w (steps_to l.question.place.now) s x → left ns (length l.engine.nodes.now) l.node.0 s busy ≤ x.depth
+          → OnItsWay (g.K.Validate.words x.texts) m (g.K.Validate.ends x.texts m) (g.K.Validate.fits x.texts m) s x (mode_of l.fn.question.mode)
+          (child_says g.K.Validate.words ns x (path_of l.question.path.now) (steps_to l.question.place.now) busy (map (option_map edge_of) l.children)) (l.run, answer_of x.texts l.answer) (reply_of x.texts l.reply);
+      met : (texts : Bool) (root : Data) (depth : ℕ) → Reads g.K.Validate.is_whole ns (length l.engine.nodes.now) w (steps_to l.question.place.now) s (reading w texts root depth) → left ns (length l.engine.nodes.now) l.node.0 s busy ≤ depth
+          → MeetsSoFar (g.K.Validate.words texts) w.matcher w.assumptions (node_at (g.K.Validate.words texts) w.matcher ns (subject_in root) l.node.0 (path_of l.question.path.now) (steps_to l.question.place.now)) s (child_run g.K.Validate.words ns w texts root depth (path_of l.question.path.now) (steps_to l.question.place.now) busy es) (same_edge es) (string_bytes l.name) m (g.K.Validate.remaining m s) l.initial.context.remembered
+          (keyword_met (g.K.Validate.words texts) w.matcher w.assumptions (node_at (g.K.Validate.words texts) w.matcher ns (subject_in root) l.node.0 (path_of l.question.path.now) (steps_to l.question.place.now)) s (child_run g.K.Validate.words ns w texts root depth (path_of l.question.path.now) (steps_to l.question.place.now) busy es) (same_edge es) (string_bytes l.name) m (mode_of l.fn.question.mode))
           l.context.remembered (l.run, answer_of texts l.answer) (reply_of texts l.reply);
     }
 
 abbrev pub decreases-run_turns-turns : goal.decreases-run_turns-turns
-decreases-run_turns-turns g l = g.K.Validate.remaining (g.K.Validate.shape l.keyword) (subject_of l.instance) (l.run, answer_of false l.answer)
+decreases-run_turns-turns g l = g.K.Validate.remaining (g.K.Validate.shape l.keyword) (subject_of l.question.instance) (l.run, answer_of false l.answer)
