@@ -16,10 +16,10 @@ use Rattle.schema_engine.specs.Program.{FromSomeDepth, Program}
 use Rattle.schema_engine.specs.ProgramOf.{IsProgramOf}
 use Rattle.schema_engine.specs.Promised.{MeansSchema, OfSchema}
 use Rattle.schema_engine.specs.Roots.{Builds, RefusesBuild}
-use Rattle.engine_bench.specs.BenchAnswers.{bench_resolving}
-use Rattle.engine_bench.specs.BenchDocuments.{BenchDocument, HasCustom, HasDrafts}
-use Rattle.engine_bench.specs.BenchMatching.{bench_matcher}
-use Rattle.engine_bench.specs.Makers.{bench_script}
+use Rattle.bench_parts.specs.BenchAnswers.{bench_resolving}
+use Rattle.bench_parts.specs.BenchDocuments.{BenchDocument, HasCustom, HasDrafts}
+use Rattle.bench_parts.specs.BenchMatching.{bench_matcher}
+use Rattle.bench_parts.specs.Makers.{bench_script}
 use Rattle.engine_bench.specs.BenchShape.{BenchShape, is_whole}
 use Rattle.engine_bench.specs.ProgramAnswers.{Answers}
 use Rattle.engine_bench.specs.ProgramWords.{Holds}

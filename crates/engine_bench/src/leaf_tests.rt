@@ -7,7 +7,7 @@ ghost use Rattle.engine_bench.specs.Detours.{match_at, matches_before, pattern_a
 use crate::keywords::BenchKeyword;
 use crate::keywords::run::Progress;
 use crate::keywords::texts::text_of;
-use crate::matcher::BenchMatcher;
+use bench_parts::matcher::BenchMatcher;
 use schema_engine::validator::Validator;
 use schema_node::context::keyword::{Answer, MatchPoint, Mode, Reply, Spot, Step, Validate};
 use schema_node::node::{Entry, EntryForm, NodeForm, Nodes};

@@ -9,7 +9,7 @@ ghost use Rattle.schema_reports.specs.Resolving.{Resolver};
 ghost use Rattle.schema_reports.specs.ReportViews.{error_of};
 ghost use Rattle.schema_engine.specs.Handed.{Options};
 ghost use Rattle.schema_engine.specs.Program.{FromSomeDepth, OfEverySense};
-ghost use Rattle.engine_bench.specs.BenchMatching.{bench_matcher};
+ghost use Rattle.bench_parts.specs.BenchMatching.{bench_matcher};
 ghost use Rattle.engine_bench.specs.BenchShape.{BenchShape, is_whole};
 ghost use Rattle.engine_bench.specs.ProgramAnswers.{Answers};
 ghost use Rattle.engine_bench.specs.ProgramMeaning.{AnswersPlainly, BenchMeans};
@@ -20,7 +20,7 @@ ghost use Rattle.engine_bench.specs.Words.{words};
 ghost use Rattle.engine_bench.specs.declared.program.requests.Call.TheVariants.{IsValid, IterErrors, Validate};
 
 use crate::keywords::BenchKeyword;
-use crate::matcher::BenchMatcher;
+use bench_parts::matcher::BenchMatcher;
 use crate::program::Status;
 use crate::program::requests::Call;
 use schema_engine::validator::Validator;

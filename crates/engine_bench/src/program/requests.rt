@@ -1,13 +1,13 @@
 //! What the words ask for.
 ghost use Rattle.std.specs.Prelude.{◌≡◌, IfOk, IfErr, map, option_map, string_bytes};
 ghost use Rattle.serde_json.specs.View.{view};
-ghost use Rattle.engine_bench.specs.Makers.{texts_of};
+ghost use Rattle.bench_parts.specs.Makers.{texts_of};
 ghost use Rattle.engine_bench.specs.ProgramFaults.{FaultStands, Unlisted, Unread};
 ghost use Rattle.engine_bench.specs.ProgramViews.{texts, words_of};
 ghost use Rattle.engine_bench.specs.ProgramWords.{Holds, IsListOf, IsTextOf, call_in, call_named, listed, words_in};
 
 use crate::program::faults::{Fault, Word};
-use crate::table::keyword_values::texts_of;
+use bench_parts::table::keyword_values::texts_of;
 use schema_reports::location::OutOfMemory;
 use serde_json::{Category, Value};
 use std::alloc::Global;

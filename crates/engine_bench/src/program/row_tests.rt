@@ -3,7 +3,7 @@
 //! A row is `[schema, instance, unfinished patterns, lines of all errors]`, which each mode answers; or
 //! `[words, standard output, standard error, status]`, where a word that is not a text is written as JSON.
 use crate::program::run;
-use crate::rows::{column, list_at, text_at, wrong_row};
+use test_rows::{column, list_at, text_at, wrong_row};
 use schema_reports::location::OutOfMemory;
 use serde_json::Value;
 use std::alloc::Global;

@@ -1,0 +1,10 @@
+mod Pointers
+mod TextsWithin
+mod PlaceLists
+mod Unescaping
+mod MemberValues
+mod PathsNamed
+mod OnWay
+mod Indexes
+mod PointerTexts
+mod PointersLead
