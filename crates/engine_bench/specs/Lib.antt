@@ -1,18 +1,4 @@
-pub mod TypeNames
-pub mod Members
-pub mod Counts
-pub mod Items
-pub mod BenchShape
-pub mod Tallies
-pub mod Ways
-pub mod Asking
-pub mod Judging
-pub mod Words
-pub mod WayRuns
-pub mod WayReads
-pub mod Laws
 pub mod Detours
-pub mod Shapes
 pub mod Makers
 pub mod MakerViews
 pub mod MakerLaws
@@ -25,7 +11,6 @@ pub mod BenchAnswers
 pub mod OnWay
 pub mod BenchMeta
 pub mod ResolverLaws
-pub mod FaultLists
 pub mod ProgramWords
 pub mod ProgramFaults
 pub mod ProgramTexts

@@ -1,5 +1,5 @@
 //! A matcher whose engine fails.
-use crate::keywords::BenchKeyword;
+use bench_keywords::keyword::BenchKeyword;
 use crate::resolver::BenchResolver;
 use crate::table::BenchTable;
 use schema_engine::validate;

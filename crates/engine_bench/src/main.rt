@@ -6,7 +6,6 @@
 mod failing_matcher_tests;
 #[cfg(test)]
 mod keyword_table_tests;
-pub mod keywords;
 #[cfg(test)]
 mod leaf_tests;
 pub mod matcher;

@@ -1,5 +1,5 @@
 //! The worked rows of options: limits, vocabularies, drafts and bases; and the calls that build and ask in one.
-use crate::keywords::BenchKeyword;
+use bench_keywords::keyword::BenchKeyword;
 use crate::matcher::BenchMatcher;
 use crate::resolver::BenchResolver;
 use crate::table::BenchTable;

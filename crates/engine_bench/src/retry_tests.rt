@@ -1,5 +1,5 @@
 //! A call that was refused memory leaves the validator as it was: asked again, it gives the row's answer.
-use crate::keywords::BenchKeyword;
+use bench_keywords::keyword::BenchKeyword;
 use crate::matcher::BenchMatcher;
 use crate::resolver::BenchResolver;
 use crate::table::BenchTable;

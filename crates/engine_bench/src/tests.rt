@@ -1,5 +1,5 @@
 //! Texts of errors, made and run through the traits' bounds.
-use crate::keywords::BenchKeyword;
+use bench_keywords::keyword::BenchKeyword;
 use crate::matcher::BenchMatcher;
 use crate::rows::{column, list_at, text_at, wrong_row};
 use crate::table::BenchTable;
