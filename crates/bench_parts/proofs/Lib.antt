@@ -1,10 +1,9 @@
-mod Pointers
-mod TextsWithin
-mod PlaceLists
-mod Unescaping
-mod MemberValues
-mod PathsNamed
-mod OnWay
-mod Indexes
-mod PointerTexts
-mod PointersLead
+pub mod Pointers
+pub mod TextsWithin
+pub mod PlaceLists
+pub mod Unescaping
+pub mod PathsNamed
+pub mod OnWay
+pub mod Indexes
+pub mod PointerTexts
+pub mod PointersLead

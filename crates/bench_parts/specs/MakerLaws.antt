@@ -12,12 +12,12 @@ use Rattle.schema_reports.specs.Instance.{Text}
 use Rattle.schema_reports.specs.Drafts.{Draft, Vocabularies}
 use Rattle.schema_reports.specs.Making.{Script, a_keyword}
 use Rattle.schema_node.specs.MakerViews.{MakesRightly}
-use Rattle.engine_bench.specs.BenchShape.{BenchShape, has_all_of, has_any_of, has_count, has_one_of, has_prefix_items, has_properties, has_type, has_types, is_whole, requires}
-use Rattle.engine_bench.specs.Items.{items_count}
-use Rattle.engine_bench.specs.declared.keywords.counts.CountKind.{CountKind}
-use Rattle.engine_bench.specs.declared.keywords.type_names.TypeName.{TypeName}
-use Rattle.engine_bench.specs.declared.keywords.counts.CountKind.TheVariants.{MaxLength, MinLength, MinProperties}
-use Rattle.engine_bench.specs.Laws.{none_absorbed}
+use Rattle.bench_keywords.specs.BenchShape.{BenchShape, has_all_of, has_any_of, has_count, has_one_of, has_prefix_items, has_properties, has_type, has_types, is_whole, requires}
+use Rattle.keyword_ways.specs.Items.{items_count}
+use Rattle.bench_keywords.specs.declared.counts.CountKind.{CountKind}
+use Rattle.bench_keywords.specs.declared.type_names.TypeName.{TypeName}
+use Rattle.bench_keywords.specs.declared.counts.CountKind.TheVariants.{MaxLength, MinLength, MinProperties}
+use Rattle.bench_keywords.specs.Laws.{none_absorbed}
 use Rattle.bench_parts.specs.Makers.{asks_for, bench_script, count_shape, has_branch, if_script, is_older_list, items_from, items_script, list_script, makes_if, member_script, names_of, pattern_shape, properties_script, required_shape, schema_script, texts_of, type_named, type_shape, types_of, value_script, values_below}
 
 abbrev pub Rightly : Members → Script BenchShape → Type 0

@@ -9,12 +9,12 @@ use Rattle.schema_reports.specs.Reports.{OwnedError}
 use Rattle.schema_reports.specs.Drafts.{Draft, Vocabularies, draft_2020_12, draft_unknown}
 use Rattle.schema_reports.specs.Making.{Made, Script, a_keyword, nothing, refused, then_compile, then_end}
 use Rattle.schema_node.specs.MakerViews.{Waiting, begun, ended, waits}
-use Rattle.engine_bench.specs.declared.keywords.type_names.TypeName.{TypeName}
-use Rattle.engine_bench.specs.declared.keywords.type_names.TypeName.TheVariants as type
-use Rattle.engine_bench.specs.BenchShape.{BenchShape, has_all_of, has_any_of, has_count, has_if, has_items, has_not, has_one_of, has_pattern, has_prefix_items, has_properties, has_property_names, has_type, has_types, requires}
-use Rattle.engine_bench.specs.Items.{count_in, items_count}
-use Rattle.engine_bench.specs.declared.keywords.counts.CountKind.{CountKind}
-use Rattle.engine_bench.specs.declared.keywords.counts.CountKind.TheVariants.{MaxLength, MinLength, MinProperties}
+use Rattle.bench_keywords.specs.declared.type_names.TypeName.{TypeName}
+use Rattle.bench_keywords.specs.declared.type_names.TypeName.TheVariants as type
+use Rattle.bench_keywords.specs.BenchShape.{BenchShape, has_all_of, has_any_of, has_count, has_if, has_items, has_not, has_one_of, has_pattern, has_prefix_items, has_properties, has_property_names, has_type, has_types, requires}
+use Rattle.keyword_ways.specs.Items.{count_in, items_count}
+use Rattle.bench_keywords.specs.declared.counts.CountKind.{CountKind}
+use Rattle.bench_keywords.specs.declared.counts.CountKind.TheVariants.{MaxLength, MinLength, MinProperties}
 
 -- the children in order, and then the end
 abbrev pub asks_for : List Place → Made BenchShape → Script BenchShape

@@ -11,15 +11,15 @@ ghost use Rattle.schema_reports.specs.ReportViews.{owned_error_of};
 ghost use Rattle.schema_node.specs.MakerViews as makers;
 ghost use Rattle.bench_parts.specs.Makers.{has_branch, if_script, items_script, later_script, list_script, makes_if, malformed_error, malformed_text, member_script, only_child, properties_script, schema_script, value_script};
 ghost use Rattle.bench_parts.specs.MakerViews.{list_shape, made_of, waiting_of};
-ghost use Rattle.engine_bench.specs.BenchShape.{has_not};
-ghost use Rattle.engine_bench.specs.Shapes.{shape_of};
+ghost use Rattle.bench_keywords.specs.BenchShape.{has_not};
+ghost use Rattle.bench_keywords.specs.Shapes.{shape_of};
 
 pub mod keyword_values;
 pub mod maker;
 pub mod schema_values;
 
-use crate::keywords::BenchKeyword;
-use crate::keywords::counts::CountKind;
+use bench_keywords::keyword::BenchKeyword;
+use bench_keywords::counts::CountKind;
 use crate::table::keyword_values::{
     count_keyword, items_below, names_of, pattern_keyword, required_keyword, type_keyword,
     values_below,
@@ -122,7 +122,7 @@ fn properties_maker(alloc: Global, name: &str, value: &Value) -> Result<BenchMak
 }
 
 /// The maker of a keyword with a list of schemas.
-#[tactic(auto, using(crate::proofs::MemberCounts::items_count_length))]
+#[tactic(auto, using(keyword_ways::proofs::MemberCounts::items_count_length))]
 fn list_maker(
     alloc: Global,
     name: &str,

@@ -1,5 +1,5 @@
 //! A matcher whose engine fails.
-use crate::keywords::BenchKeyword;
+use bench_keywords::keyword::BenchKeyword;
 use bench_parts::resolver::BenchResolver;
 use bench_parts::table::BenchTable;
 use schema_engine::validate;

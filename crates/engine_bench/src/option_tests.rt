@@ -1,5 +1,5 @@
 //! The worked rows of options: limits, vocabularies, drafts and bases; and the calls that build and ask in one.
-use crate::keywords::BenchKeyword;
+use bench_keywords::keyword::BenchKeyword;
 use bench_parts::matcher::BenchMatcher;
 use bench_parts::resolver::BenchResolver;
 use bench_parts::table::BenchTable;

@@ -18,7 +18,7 @@ mod row_tests;
 #[cfg(test)]
 mod tests;
 
-use crate::keywords::BenchKeyword;
+use bench_keywords::keyword::BenchKeyword;
 use bench_parts::matcher::BenchMatcher;
 use crate::program::answers::{Answer, ask};
 use crate::program::faults::Fault;

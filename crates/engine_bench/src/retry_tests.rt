@@ -1,5 +1,5 @@
 //! A call that was refused memory leaves the validator as it was: asked again, it gives the row's answer.
-use crate::keywords::BenchKeyword;
+use bench_keywords::keyword::BenchKeyword;
 use bench_parts::matcher::BenchMatcher;
 use bench_parts::resolver::BenchResolver;
 use bench_parts::table::BenchTable;

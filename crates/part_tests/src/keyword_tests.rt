@@ -1,6 +1,5 @@
 //! Texts of errors, made and run through the traits' bounds.
-use crate::keywords::BenchKeyword;
-use test_rows::{column, list_at, text_at, wrong_row};
+use bench_keywords::keyword::BenchKeyword;
 use bench_parts::table::BenchTable;
 use schema_node::context::keyword::{Answer, ErrorDescription, Fault, Mode, Reply, Step, Validate};
 use schema_node::context::table::{KeywordOrigin, KeywordTable, MakerReply, MakerStep};
@@ -9,6 +8,7 @@ use schema_reports::keywords::{Draft, VocabularySet};
 use schema_reports::location::OutOfMemory;
 use serde_json::{Map, Value};
 use std::alloc::Global;
+use test_rows::{column, list_at, text_at, wrong_row};
 
 /// Whether a maker asks for a child, whose path is then added and a space; a refusal adds its text.
 fn asks_child<K>(

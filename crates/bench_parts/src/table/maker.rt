@@ -1,10 +1,10 @@
 //! The makers.
 ghost use Rattle.std.specs.Prelude.{◌≡◌, Some, IfOk};
 ghost use Rattle.schema_node.specs.MakerViews.{maker_reply_of, TakesTurn};
-ghost use Rattle.engine_bench.specs.Shapes.{shape_of};
+ghost use Rattle.bench_keywords.specs.Shapes.{shape_of};
 ghost use Rattle.bench_parts.specs.MakerViews.{list_shape, waiting_of};
 
-use crate::keywords::BenchKeyword;
+use bench_keywords::keyword::BenchKeyword;
 use schema_node::context::schema_place::SchemaPath;
 use schema_node::context::table::{MakerReply, MakerStep};
 use schema_reports::location::OutOfMemory;

@@ -4,7 +4,7 @@ ghost use Rattle.serde_json.specs.Find.{as_array, get_member};
 ghost use Rattle.serde_json.specs.View.{members_view, view};
 ghost use Rattle.schema_reports.specs.Instance.{to_member};
 ghost use Rattle.schema_reports.specs.KeywordViews.{draft_of};
-ghost use Rattle.engine_bench.specs.Items.{count_in};
+ghost use Rattle.keyword_ways.specs.Items.{count_in};
 ghost use Rattle.bench_parts.specs.Makers.{branch_child, branch_places, has_branch, has_prefix, is_older_list, items_before};
 
 use schema_node::context::schema_place::{SchemaPath, SchemaStep};
@@ -69,7 +69,7 @@ fn prefix_length(object: &Map<String, Value>) -> usize
 }
 
 /// How many items a value has, which is none where it is no list.
-#[tactic(auto, using(crate::proofs::MemberCounts::items_count_length))]
+#[tactic(auto, using(keyword_ways::proofs::MemberCounts::items_count_length))]
 fn list_length(value: &Value) -> usize
     ensures length { result ≡ count_in (as_array (view value.now)) }
 {

@@ -9,8 +9,8 @@ use Rattle.bench_parts.specs.BenchAnswers.{bench_resolving}
 use Rattle.bench_parts.specs.BenchMatching.{bench_matcher}
 use Rattle.engine_bench.specs.ProgramMeaning.{Asked, BenchMeans, bench_table}
 use Rattle.engine_bench.specs.ProgramViews.{texts}
-use Rattle.engine_bench.specs.Shapes.{shape_of}
-use Rattle.engine_bench.specs.Words.{words}
+use Rattle.bench_keywords.specs.Shapes.{shape_of}
+use Rattle.bench_keywords.specs.Words.{words}
 use Rattle.engine_bench.proofs.BuildFaults.{build_fault}
 use Rattle.engine_bench.proofs.program.answer_to.Goals as goal
 

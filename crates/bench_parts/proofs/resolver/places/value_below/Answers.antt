@@ -2,7 +2,7 @@ use Rattle.std.proofs.Common.{◌∙◌, sym, ap, option_map}
 use Rattle.serde_json.specs.View.{view}
 use Rattle.schema_reports.specs.Instance.{a_value, after_step, to_member}
 use Rattle.schema_node.specs.SchemaViews.{schema_step_of}
-use Rattle.bench_parts.proofs.MemberValues.{member-value, option_map-then}
+use Rattle.keyword_ways.proofs.MemberNames.{member-value, option_map-then}
 use Rattle.bench_parts.proofs.resolver.places.value_below.Goals as goal
 
 pub returns-in-Member : goal.returns-in-Member
