@@ -18,14 +18,14 @@ pub mod keyword_values;
 pub mod maker;
 pub mod schema_values;
 
-use bench_keywords::keyword::BenchKeyword;
-use bench_keywords::counts::CountKind;
 use crate::table::keyword_values::{
     count_keyword, items_below, names_of, pattern_keyword, required_keyword, type_keyword,
     values_below,
 };
 use crate::table::maker::{BenchMaker, Ending, ListKeyword};
 use crate::table::schema_values::{is_older_list, items_before, push_branch, value_in, value_of};
+use bench_keywords::counts::CountKind;
+use bench_keywords::keyword::BenchKeyword;
 use schema_node::context::table::{KeywordOrigin, KeywordTable, MakerReply, MakerStep};
 use schema_reports::keywords::{Draft, VocabularySet};
 use schema_reports::location::{Location, LocationSegment, OutOfMemory};

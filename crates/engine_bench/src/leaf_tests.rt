@@ -5,9 +5,9 @@ ghost use Rattle.schema_node.specs.KeywordViews.{mode_of, turn_of};
 ghost use Rattle.engine_bench.specs.Detours.{match_at, matches_before, pattern_at, text_in};
 
 use bench_keywords::keyword::BenchKeyword;
-use keyword_ways::run::Progress;
 use bench_keywords::texts::text_of;
 use bench_parts::matcher::BenchMatcher;
+use keyword_ways::run::Progress;
 use schema_engine::validator::Validator;
 use schema_node::context::keyword::{Answer, MatchPoint, Mode, Reply, Spot, Step, Validate};
 use schema_node::node::{Entry, EntryForm, NodeForm, Nodes};

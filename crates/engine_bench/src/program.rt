@@ -18,11 +18,11 @@ mod row_tests;
 #[cfg(test)]
 mod tests;
 
-use bench_keywords::keyword::BenchKeyword;
-use bench_parts::matcher::BenchMatcher;
 use crate::program::answers::{Answer, ask};
 use crate::program::faults::Fault;
 use crate::program::requests::{Request, request_in};
+use bench_keywords::keyword::BenchKeyword;
+use bench_parts::matcher::BenchMatcher;
 use bench_parts::resolver::BenchResolver;
 use bench_parts::table::BenchTable;
 use schema_engine::validator::Validator;

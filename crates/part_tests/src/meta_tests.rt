@@ -1,13 +1,13 @@
 //! The refusals, with their paths and texts, through the trait's bound.
-use bench_parts::meta::BenchMeta;
-use test_rows::{column, text_at, wrong_row};
 use crate::keyword_tests::draft_named;
+use bench_parts::meta::BenchMeta;
 use schema_node::context::meta::MetaValidators;
 use schema_reports::keywords::Draft;
 use schema_reports::location::OutOfMemory;
 use schema_reports::reports::ValidationError;
 use serde_json::Value;
 use std::alloc::Global;
+use test_rows::{column, text_at, wrong_row};
 
 /// Adds the instance path and the text of an error.
 fn push_error(

@@ -1,10 +1,10 @@
 //! The table of the standard's keywords, cell by cell, and what keywords and vocabularies say of themselves.
-use test_rows::{column, text_at, wrong_row};
 use schema_reports::keywords::*;
 use schema_reports::location::OutOfMemory;
 use serde_json::Value;
 use std::alloc::{AllocError, Global};
 use std::test::Fail;
+use test_rows::{column, text_at, wrong_row};
 
 /// What a draft says of a keyword, as the published table has it.
 #[derive(Clone, Copy, Debug, PartialEq, Eq)]

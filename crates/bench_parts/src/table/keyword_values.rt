@@ -5,8 +5,8 @@ ghost use Rattle.schema_reports.specs.Instance.{to_item, to_member};
 ghost use Rattle.bench_parts.specs.Makers.{count_shape, items_from, names_of, pattern_shape, required_shape, texts_of, type_named, type_of, type_shape, types_of, values_below};
 ghost use Rattle.bench_keywords.specs.Shapes.{shape_of};
 
-use bench_keywords::keyword::BenchKeyword;
 use bench_keywords::counts::CountKind;
+use bench_keywords::keyword::BenchKeyword;
 use bench_keywords::type_names::TypeName;
 use schema_node::context::schema_place::{SchemaPath, SchemaStep};
 use schema_reports::location::OutOfMemory;

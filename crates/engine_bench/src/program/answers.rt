@@ -19,10 +19,10 @@ ghost use Rattle.bench_keywords.specs.Shapes.{shape_of};
 ghost use Rattle.bench_keywords.specs.Words.{words};
 ghost use Rattle.engine_bench.specs.declared.program.requests.Call.TheVariants.{IsValid, IterErrors, Validate};
 
-use bench_keywords::keyword::BenchKeyword;
-use bench_parts::matcher::BenchMatcher;
 use crate::program::Status;
 use crate::program::requests::Call;
+use bench_keywords::keyword::BenchKeyword;
+use bench_parts::matcher::BenchMatcher;
 use schema_engine::validator::Validator;
 use schema_reports::location::OutOfMemory;
 use schema_reports::reports::ValidationError;
