@@ -93,7 +93,8 @@ impl Clone for BenchMatcher {
 
 /// Adds copies of texts.
 fn push_copies(texts: &[String], copies: &mut Vec<String>) -> Result<(), AllocError>
-    ensures pushed { IfOk result (λ _. map string_bytes copies.new.items ≡ map string_bytes copies.old.items ++ map string_bytes texts.now) }
+    ensures pushed { IfOk result (λ _. map string_bytes copies.new.items ≡ map string_bytes copies.old.items
+        ++ map string_bytes texts.now) }
 {
     for text in texts {
         copies.push(text.clone()?)?;

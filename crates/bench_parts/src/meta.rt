@@ -98,7 +98,8 @@ fn fault_in_items<'v>(
     place: &Place<'v>,
     items: &'v Vec<Value>,
 ) -> Result<Option<ValidationError<'v>>, OutOfMemory>
-    ensures fault { IfOk result (λ o. option_map (error_of false) o ≡ fault_in_items (draft_of draft) place.now 0 (items_view items.now.items)) }
+    ensures fault { IfOk result (λ o. option_map (error_of false) o
+        ≡ fault_in_items (draft_of draft) place.now 0 (items_view items.now.items)) }
 {
     for (index, item) in items.iter().enumerate() {
         let below = place.below(InstanceStep::Item(index))?;
@@ -117,7 +118,8 @@ fn fault_in_members<'v>(
     place: &Place<'v>,
     members: &'v Map<String, Value>,
 ) -> Result<Option<ValidationError<'v>>, OutOfMemory>
-    ensures fault { IfOk result (λ o. option_map (error_of false) o ≡ fault_in_members (draft_of draft) place.now (members_view members.now.entries)) }
+    ensures fault { IfOk result (λ o. option_map (error_of false) o
+        ≡ fault_in_members (draft_of draft) place.now (members_view members.now.entries)) }
 {
     for (name, member) in members {
         let below = place.below(InstanceStep::Member(name.as_str()))?;

@@ -9,7 +9,8 @@ ghost use Rattle.schema_reports.specs.Making.{then_end};
 ghost use Rattle.schema_reports.specs.KeywordViews.{draft_of};
 ghost use Rattle.schema_reports.specs.ReportViews.{owned_error_of};
 ghost use Rattle.schema_node.specs.MakerViews as makers;
-ghost use Rattle.bench_parts.specs.Makers.{has_branch, if_script, items_script, later_script, list_script, makes_if, malformed_error, malformed_text, member_script, only_child, properties_script, schema_script, value_script};
+ghost use Rattle.bench_parts.specs.Makers.{has_branch, if_script, items_script, later_script, list_script, makes_if, malformed_error};
+ghost use Rattle.bench_parts.specs.Makers.{malformed_text, member_script, only_child, properties_script, schema_script, value_script};
 ghost use Rattle.bench_parts.specs.MakerViews.{list_shape, made_of, waiting_of};
 ghost use Rattle.bench_keywords.specs.BenchShape.{has_not};
 ghost use Rattle.bench_keywords.specs.Shapes.{shape_of};
@@ -152,7 +153,8 @@ fn items_maker(
     object: &Map<String, Value>,
     draft: Draft,
 ) -> Result<BenchMaker, OutOfMemory>
-    ensures maker { IfOk result (λ m. waiting_of m ≡ makers.begun (items_script (draft_of draft) (members_view object.now.entries) name.now (view value.now))) }
+    ensures maker { IfOk result (λ m. waiting_of m
+        ≡ makers.begun (items_script (draft_of draft) (members_view object.now.entries) name.now (view value.now))) }
 {
     if is_older_list(draft, value) {
         return Ok(ends(alloc, Ending::Nothing));
@@ -163,7 +165,8 @@ fn items_maker(
 
 /// The maker of `not`.
 fn not_maker(alloc: Global, name: &str, value: &Value) -> Result<BenchMaker, OutOfMemory>
-    ensures maker { IfOk result (λ m. waiting_of m ≡ makers.begun (only_child name.now (has_not (compact_text (view value.now)) (has_float (view value.now))))) }
+    ensures maker { IfOk result (λ m. waiting_of m
+        ≡ makers.begun (only_child name.now (has_not (compact_text (view value.now)) (has_float (view value.now))))) }
 {
     let schema = value.clone()?;
     only_child(alloc, name, BenchKeyword::Not(schema))
@@ -175,7 +178,9 @@ fn if_maker(
     name: &str,
     object: &Map<String, Value>,
 ) -> Result<BenchMaker, OutOfMemory>
-    ensures maker { IfOk result (λ m. waiting_of m ≡ makers.begun (if_script name.now (has_branch (codes "then") (members_view object.now.entries)) (has_branch (codes "else") (members_view object.now.entries)))) }
+    ensures maker { IfOk result (λ m. waiting_of m
+        ≡ makers.begun (if_script name.now (has_branch (codes "then") (members_view object.now.entries))
+        (has_branch (codes "else") (members_view object.now.entries)))) }
 {
     let mut paths = Vec::new(alloc);
     paths.push(value_of(alloc, name)?)?;
@@ -210,7 +215,8 @@ fn value_maker(
     object: &Map<String, Value>,
     draft: Draft,
 ) -> Result<BenchMaker, OutOfMemory>
-    ensures maker { IfOk result (λ m. waiting_of m ≡ makers.begun (value_script (draft_of draft) (members_view object.now.entries) name.now (view value.now))) }
+    ensures maker { IfOk result (λ m. waiting_of m
+        ≡ makers.begun (value_script (draft_of draft) (members_view object.now.entries) name.now (view value.now))) }
 {
     if name == "type" {
         let keyword = type_keyword(alloc, value)?;
@@ -234,7 +240,8 @@ fn later_maker(
     object: &Map<String, Value>,
     draft: Draft,
 ) -> Result<BenchMaker, OutOfMemory>
-    ensures maker { IfOk result (λ m. waiting_of m ≡ makers.begun (later_script (draft_of draft) (members_view object.now.entries) name.now (view value.now))) }
+    ensures maker { IfOk result (λ m. waiting_of m
+        ≡ makers.begun (later_script (draft_of draft) (members_view object.now.entries) name.now (view value.now))) }
 {
     if name == "minLength" {
         return makes_if(
@@ -275,7 +282,8 @@ fn schema_maker(
     object: &Map<String, Value>,
     draft: Draft,
 ) -> Result<BenchMaker, OutOfMemory>
-    ensures maker { IfOk result (λ m. waiting_of m ≡ makers.begun (schema_script (draft_of draft) (members_view object.now.entries) name.now (view value.now))) }
+    ensures maker { IfOk result (λ m. waiting_of m
+        ≡ makers.begun (schema_script (draft_of draft) (members_view object.now.entries) name.now (view value.now))) }
 {
     if name == "allOf" {
         return list_maker(alloc, name, value, ListKeyword::AllOf);
@@ -311,7 +319,9 @@ fn member_maker(
     object: &Map<String, Value>,
     draft: Draft,
 ) -> Result<BenchMaker, OutOfMemory>
-    ensures maker { IfOk result (λ m. waiting_of m ≡ makers.begun (member_script (draft_of draft) (members_view object.now.entries) name.now (get_member name.now (members_view object.now.entries)))) }
+    ensures maker { IfOk result (λ m. waiting_of m
+        ≡ makers.begun (member_script (draft_of draft) (members_view object.now.entries) name.now
+        (get_member name.now (members_view object.now.entries)))) }
 {
     match value_in(object, name) {
         Some(value) => value_maker(alloc, name, value, object, draft),

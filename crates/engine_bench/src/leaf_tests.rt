@@ -95,7 +95,8 @@ impl Validate for DetourKeyword {
     ghost use Rattle.std.specs.Prelude.{map, refl, string_bytes};
     ghost use Rattle.bench_keywords.specs.BenchShape.{is_whole};
     ghost use Rattle.bench_keywords.specs.Shapes.{shape_of};
-    ghost use Rattle.engine_bench.specs.Detours.{detour_ends, detour_fits, detour_functions, detour_left, detour_turns, detour_words, nothing_absorbed};
+    ghost use Rattle.engine_bench.specs.Detours.{detour_ends, detour_fits, detour_functions, detour_left, detour_turns, detour_words};
+    ghost use Rattle.engine_bench.specs.Detours.{nothing_absorbed};
 
     type Run = (usize, Progress);
 

@@ -167,7 +167,9 @@ fn other_references_are_refused(rt: HostRuntime) -> Result<(), serde_json::Error
 #[test]
 fn drafts_are_taken_on_the_way(rt: HostRuntime) -> Result<(), serde_json::Error> {
     let document =
-        r#"{"$defs": {"a": {"$schema": "http://json-schema.org/draft-07/schema#", "not": {"allOf": [true]}}, "e": {"$id": "http://x/e", "not": true}}, "x": {"$schema": "http://json-schema.org/draft-07/schema#", "not": true}, "not": {"$schema": "http://x/meta"}}"#;
+        r#"{"$defs": {"a": {"$schema": "http://json-schema.org/draft-07/schema#", "not": {"allOf": [true]}},
+        "e": {"$id": "http://x/e", "not": true}}, "x": {"$schema": "http://json-schema.org/draft-07/schema#", "not": true},
+        "not": {"$schema": "http://x/meta"}}"#;
     let rows = [
         (
             "#/$defs/a/not/allOf/0",

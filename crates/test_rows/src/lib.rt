@@ -47,7 +47,8 @@ pub fn wrong_row<F: Fn(&Value) -> Result<bool, AllocError>>(
     holds: F,
 ) -> Result<Option<usize>, serde_json::Error>
     requires callable { F.IsAlwaysCallable holds }
-    ensures hold { result ≡ Ok None → (rows : List Value) × (read_text table.now ≡ Some (array (items_view rows))) × All (λ row. FnReturnsAt F.Fn holds row (Ok true)) rows }
+    ensures hold { result ≡ Ok None → (rows : List Value) × (read_text table.now ≡ Some (array (items_view rows)))
+        × All (λ row. FnReturnsAt F.Fn holds row (Ok true)) rows }
 {
     let table = Value::from_str(alloc, table)?;
     let Some(rows) = table.as_array() else {

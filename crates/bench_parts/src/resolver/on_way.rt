@@ -7,7 +7,8 @@ ghost use Rattle.schema_reports.specs.Instance.{same_place, same_step, to_member
 ghost use Rattle.schema_reports.specs.Drafts.{at_path};
 ghost use Rattle.schema_node.specs.SchemaViews.{schema_step_of};
 ghost use Rattle.schema_node.specs.ResolverViews.{place_of};
-ghost use Rattle.bench_parts.specs.BenchResolving.{below_list, below_object, below_value, names_of_lists, names_of_objects, subschemas, subschemas_of, value_at};
+ghost use Rattle.bench_parts.specs.BenchResolving.{below_list, below_object, below_value, names_of_lists, names_of_objects, subschemas};
+ghost use Rattle.bench_parts.specs.BenchResolving.{subschemas_of, value_at};
 ghost use Rattle.bench_parts.specs.BenchAnswers.{is_subschema};
 ghost use Rattle.bench_parts.specs.OnWay.{leads_to_item, leads_to_member, on_way, pairs_below, schema_found, singles_below};
 
@@ -65,7 +66,8 @@ fn leads_to_item(value: &Value, step: &SchemaStep) -> bool
 
 /// Whether two steps lead to a schema in the object under this name.
 fn in_object(schema: &Value, keyword: &str, first: &SchemaStep, second: &SchemaStep) -> bool
-    ensures among { result ≡ list_any (same_place (schema_step_of first.now ∷ schema_step_of second.now ∷ [])) (below_object keyword.now (get keyword.now (view schema.now))) }
+    ensures among { result ≡ list_any (same_place (schema_step_of first.now ∷ schema_step_of second.now ∷ []))
+        (below_object keyword.now (get keyword.now (view schema.now))) }
 {
     if !is_named(first, keyword) {
         return false;
@@ -78,7 +80,8 @@ fn in_object(schema: &Value, keyword: &str, first: &SchemaStep, second: &SchemaS
 
 /// Whether two steps lead to a schema in the list under this name.
 fn in_list(schema: &Value, keyword: &str, first: &SchemaStep, second: &SchemaStep) -> bool
-    ensures among { result ≡ list_any (same_place (schema_step_of first.now ∷ schema_step_of second.now ∷ [])) (below_list keyword.now (get keyword.now (view schema.now))) }
+    ensures among { result ≡ list_any (same_place (schema_step_of first.now ∷ schema_step_of second.now ∷ []))
+        (below_list keyword.now (get keyword.now (view schema.now))) }
 {
     if !is_named(first, keyword) {
         return false;
@@ -91,7 +94,8 @@ fn in_list(schema: &Value, keyword: &str, first: &SchemaStep, second: &SchemaSte
 
 /// Whether a step leads to the schema under this name.
 fn at_value(schema: &Value, keyword: &str, step: &SchemaStep) -> bool
-    ensures among { result ≡ list_any (same_place (schema_step_of step.now ∷ [])) (below_value keyword.now (get keyword.now (view schema.now))) }
+    ensures among { result ≡ list_any (same_place (schema_step_of step.now ∷ []))
+        (below_value keyword.now (get keyword.now (view schema.now))) }
 {
     if !is_named(step, keyword) {
         return false;
@@ -105,7 +109,8 @@ fn at_value(schema: &Value, keyword: &str, step: &SchemaStep) -> bool
 /// Whether two steps lead to a schema in one of the objects.
 #[tactic(auto, using(crate::proofs::OnWay::three))]
 fn in_objects(schema: &Value, first: &SchemaStep, second: &SchemaStep) -> bool
-    ensures among { result ≡ list_any (same_place (schema_step_of first.now ∷ schema_step_of second.now ∷ [])) (flat_map (λ k. below_object k (get k (view schema.now))) names_of_objects) }
+    ensures among { result ≡ list_any (same_place (schema_step_of first.now ∷ schema_step_of second.now ∷ []))
+        (flat_map (λ k. below_object k (get k (view schema.now))) names_of_objects) }
 {
     in_object(schema, "$defs", first, second)
         || in_object(schema, "definitions", first, second)
@@ -115,7 +120,8 @@ fn in_objects(schema: &Value, first: &SchemaStep, second: &SchemaStep) -> bool
 /// Whether two steps lead to a schema in one of the lists.
 #[tactic(auto, using(crate::proofs::OnWay::four))]
 fn in_lists(schema: &Value, first: &SchemaStep, second: &SchemaStep) -> bool
-    ensures among { result ≡ list_any (same_place (schema_step_of first.now ∷ schema_step_of second.now ∷ [])) (flat_map (λ k. below_list k (get k (view schema.now))) names_of_lists) }
+    ensures among { result ≡ list_any (same_place (schema_step_of first.now ∷ schema_step_of second.now ∷ []))
+        (flat_map (λ k. below_list k (get k (view schema.now))) names_of_lists) }
 {
     in_list(schema, "allOf", first, second)
         || in_list(schema, "anyOf", first, second)
@@ -125,7 +131,8 @@ fn in_lists(schema: &Value, first: &SchemaStep, second: &SchemaStep) -> bool
 
 /// Whether two steps lead to a schema in one of the objects and lists.
 fn is_pair(schema: &Value, first: &SchemaStep, second: &SchemaStep) -> bool
-    ensures among { result ≡ list_any (same_place (schema_step_of first.now ∷ schema_step_of second.now ∷ [])) (pairs_below (view schema.now)) }
+    ensures among { result ≡ list_any (same_place (schema_step_of first.now ∷ schema_step_of second.now ∷ []))
+        (pairs_below (view schema.now)) }
 {
     in_objects(schema, first, second) || in_lists(schema, first, second)
 }
@@ -180,7 +187,8 @@ fn begins_with_single(schema: &Value, steps: &[SchemaStep]) -> bool
 /// How many of the steps lead to the first subschema of a schema, in order, that lies on their way.
 #[tactic(auto, using(crate::proofs::OnWay::first_on_way))]
 fn steps_to_subschema(schema: &Value, steps: &[SchemaStep]) -> Option<usize>
-    ensures first { option_map (λ n. take n (map schema_step_of steps.now)) result ≡ find (on_way (map schema_step_of steps.now)) (subschemas (view schema.now)) }
+    ensures first { option_map (λ n. take n (map schema_step_of steps.now)) result
+        ≡ find (on_way (map schema_step_of steps.now)) (subschemas (view schema.now)) }
 {
     if begins_with_pair(schema, steps) {
         return Some(2);
@@ -202,7 +210,9 @@ pub fn subschema_on_way(
     place: &SchemaPlace,
     path: &SchemaPath,
 ) -> Result<Option<SchemaPlace>, OutOfMemory>
-    ensures first { IfOk result (λ o. option_map place_of o ≡ find (λ q. same_place q.path (take (length q.path) path.now)) (map (at_path (place_of place.now)) (subschemas_of (value_at (view document.now) (place_of place.now))))) }
+    ensures first { IfOk result (λ o. option_map place_of o
+        ≡ find (λ q. same_place q.path (take (length q.path) path.now))
+        (map (at_path (place_of place.now)) (subschemas_of (value_at (view document.now) (place_of place.now))))) }
 {
     if !place.path.is_prefix_of(path) {
         return Ok(None);

@@ -8,7 +8,8 @@ ghost use Rattle.serde_json.specs.Find.{unescape};
 ghost use Rattle.serde_json.specs.View.{view};
 ghost use Rattle.schema_node.specs.SchemaViews.{schema_step_of};
 ghost use Rattle.bench_parts.specs.BenchPointersLead.{PointersLead};
-ghost use Rattle.bench_parts.specs.BenchPointers.{index_named, is_index, path_named, path_of_pointer, pointer_of, pointer_of_fragment, step_named};
+ghost use Rattle.bench_parts.specs.BenchPointers.{index_named, is_index, path_named, path_of_pointer, pointer_of, pointer_of_fragment};
+ghost use Rattle.bench_parts.specs.BenchPointers.{step_named};
 
 use crate::resolver::places::value_below;
 use percent_encoding::percent_decode;

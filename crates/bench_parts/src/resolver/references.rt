@@ -65,7 +65,8 @@ pub fn looked_up(
     reference: &str,
 ) -> Result<Target<BenchState>, LookupError>
     ensures leads { MatchResult result
-        (λ t. looked_up (string_bytes base.now) (draft_of default_draft) (view document.now) reference.now ≡ Ok (found_of (λ s. string_bytes s.base) t))
+        (λ t. looked_up (string_bytes base.now) (draft_of default_draft) (view document.now) reference.now
+        ≡ Ok (found_of (λ s. string_bytes s.base) t))
         (Refuses (looked_up (string_bytes base.now) (draft_of default_draft) (view document.now) reference.now)) }
 {
     let Some(pointer) = pointer_of(alloc, reference)? else {

@@ -5,7 +5,8 @@ ghost use Rattle.serde_json.specs.View.{items_view, members_view, view};
 ghost use Rattle.schema_reports.specs.Instance.{to_item, to_member};
 ghost use Rattle.schema_reports.specs.Drafts.{at_path};
 ghost use Rattle.schema_node.specs.ResolverViews.{place_of};
-ghost use Rattle.bench_parts.specs.BenchResolving.{below_list, below_object, below_value, is_schema, items_below, members_below, names_of_lists, names_of_objects, names_of_values, subschemas};
+ghost use Rattle.bench_parts.specs.BenchResolving.{below_list, below_object, below_value, is_schema, items_below, members_below};
+ghost use Rattle.bench_parts.specs.BenchResolving.{names_of_lists, names_of_objects, names_of_values, subschemas};
 
 use schema_node::context::schema_place::{SchemaPath, SchemaPlace, SchemaStep};
 use schema_reports::location::OutOfMemory;
@@ -70,7 +71,8 @@ fn push_members(
     members: &Map<String, Value>,
     places: &mut Vec<SchemaPlace>,
 ) -> Result<(), OutOfMemory>
-    ensures pushed { IfOk result (λ _. map place_of places.new.items ≡ map place_of places.old.items ++ map (at_path (place_of place.now)) (members_below keyword.now (members_view members.now.entries))) }
+    ensures pushed { IfOk result (λ _. map place_of places.new.items ≡ map place_of places.old.items
+        ++ map (at_path (place_of place.now)) (members_below keyword.now (members_view members.now.entries))) }
 {
     for (name, member) in members {
         if is_schema(member) {
@@ -88,7 +90,8 @@ fn push_items(
     items: &[Value],
     places: &mut Vec<SchemaPlace>,
 ) -> Result<(), OutOfMemory>
-    ensures pushed { IfOk result (λ _. map place_of places.new.items ≡ map place_of places.old.items ++ map (at_path (place_of place.now)) (items_below keyword.now 0 (items_view items.now))) }
+    ensures pushed { IfOk result (λ _. map place_of places.new.items ≡ map place_of places.old.items
+        ++ map (at_path (place_of place.now)) (items_below keyword.now 0 (items_view items.now))) }
 {
     for (index, item) in items.iter().enumerate() {
         if is_schema(item) {
@@ -106,7 +109,8 @@ fn push_object(
     keyword: &str,
     places: &mut Vec<SchemaPlace>,
 ) -> Result<(), OutOfMemory>
-    ensures pushed { IfOk result (λ _. map place_of places.new.items ≡ map place_of places.old.items ++ map (at_path (place_of place.now)) (below_object keyword.now (get keyword.now (view schema.now)))) }
+    ensures pushed { IfOk result (λ _. map place_of places.new.items ≡ map place_of places.old.items
+        ++ map (at_path (place_of place.now)) (below_object keyword.now (get keyword.now (view schema.now)))) }
 {
     if let Some(value) = schema.get(keyword) {
         if let Some(members) = value.as_object() {
@@ -124,7 +128,8 @@ fn push_list(
     keyword: &str,
     places: &mut Vec<SchemaPlace>,
 ) -> Result<(), OutOfMemory>
-    ensures pushed { IfOk result (λ _. map place_of places.new.items ≡ map place_of places.old.items ++ map (at_path (place_of place.now)) (below_list keyword.now (get keyword.now (view schema.now)))) }
+    ensures pushed { IfOk result (λ _. map place_of places.new.items ≡ map place_of places.old.items
+        ++ map (at_path (place_of place.now)) (below_list keyword.now (get keyword.now (view schema.now)))) }
 {
     if let Some(value) = schema.get(keyword) {
         if let Some(items) = value.as_array() {
@@ -142,7 +147,8 @@ fn push_value(
     keyword: &str,
     places: &mut Vec<SchemaPlace>,
 ) -> Result<(), OutOfMemory>
-    ensures pushed { IfOk result (λ _. map place_of places.new.items ≡ map place_of places.old.items ++ map (at_path (place_of place.now)) (below_value keyword.now (get keyword.now (view schema.now)))) }
+    ensures pushed { IfOk result (λ _. map place_of places.new.items ≡ map place_of places.old.items
+        ++ map (at_path (place_of place.now)) (below_value keyword.now (get keyword.now (view schema.now)))) }
 {
     if let Some(value) = schema.get(keyword) {
         if is_schema(value) {
@@ -160,7 +166,8 @@ fn push_objects(
     schema: &Value,
     places: &mut Vec<SchemaPlace>,
 ) -> Result<(), OutOfMemory>
-    ensures pushed { IfOk result (λ _. map place_of places.new.items ≡ map place_of places.old.items ++ map (at_path (place_of place.now)) (flat_map (λ k. below_object k (get k (view schema.now))) names_of_objects)) }
+    ensures pushed { IfOk result (λ _. map place_of places.new.items ≡ map place_of places.old.items
+        ++ map (at_path (place_of place.now)) (flat_map (λ k. below_object k (get k (view schema.now))) names_of_objects)) }
 {
     push_object(alloc, place, schema, "$defs", places)?;
     push_object(alloc, place, schema, "definitions", places)?;
@@ -175,7 +182,8 @@ fn push_lists(
     schema: &Value,
     places: &mut Vec<SchemaPlace>,
 ) -> Result<(), OutOfMemory>
-    ensures pushed { IfOk result (λ _. map place_of places.new.items ≡ map place_of places.old.items ++ map (at_path (place_of place.now)) (flat_map (λ k. below_list k (get k (view schema.now))) names_of_lists)) }
+    ensures pushed { IfOk result (λ _. map place_of places.new.items ≡ map place_of places.old.items
+        ++ map (at_path (place_of place.now)) (flat_map (λ k. below_list k (get k (view schema.now))) names_of_lists)) }
 {
     push_list(alloc, place, schema, "allOf", places)?;
     push_list(alloc, place, schema, "anyOf", places)?;
@@ -191,7 +199,8 @@ fn push_values(
     schema: &Value,
     places: &mut Vec<SchemaPlace>,
 ) -> Result<(), OutOfMemory>
-    ensures pushed { IfOk result (λ _. map place_of places.new.items ≡ map place_of places.old.items ++ map (at_path (place_of place.now)) (flat_map (λ k. below_value k (get k (view schema.now))) names_of_values)) }
+    ensures pushed { IfOk result (λ _. map place_of places.new.items ≡ map place_of places.old.items
+        ++ map (at_path (place_of place.now)) (flat_map (λ k. below_value k (get k (view schema.now))) names_of_values)) }
 {
     push_value(alloc, place, schema, "not", places)?;
     push_value(alloc, place, schema, "if", places)?;

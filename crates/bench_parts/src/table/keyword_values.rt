@@ -2,7 +2,8 @@
 ghost use Rattle.std.specs.Prelude.{◌≡◌, ◌∷◌, [], IfOk, map, option_map, string_bytes};
 ghost use Rattle.serde_json.specs.View.{items_view, members_view, view};
 ghost use Rattle.schema_reports.specs.Instance.{to_item, to_member};
-ghost use Rattle.bench_parts.specs.Makers.{count_shape, items_from, names_of, pattern_shape, required_shape, texts_of, type_named, type_of, type_shape, types_of, values_below};
+ghost use Rattle.bench_parts.specs.Makers.{count_shape, items_from, names_of, pattern_shape, required_shape, texts_of, type_named, type_of};
+ghost use Rattle.bench_parts.specs.Makers.{type_shape, types_of, values_below};
 ghost use Rattle.bench_keywords.specs.Shapes.{shape_of};
 
 use bench_keywords::counts::CountKind;

@@ -87,7 +87,8 @@ pub fn push_branch(
     paths: &mut Vec<SchemaPath>,
     number: usize,
 ) -> Result<Option<usize>, OutOfMemory>
-    ensures paths { IfOk result (λ _. paths.new.items ≡ paths.old.items ++ branch_places (has_branch name.now (members_view object.now.entries)) name.now) }
+    ensures paths { IfOk result (λ _. paths.new.items ≡ paths.old.items
+        ++ branch_places (has_branch name.now (members_view object.now.entries)) name.now) }
     ensures child { IfOk result (λ child. child ≡ branch_child (has_branch name.now (members_view object.now.entries)) number) }
 {
     match value_in(object, name) {

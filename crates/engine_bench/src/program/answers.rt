@@ -70,8 +70,12 @@ fn verdict(
     validator: &Validator<BenchKeyword, BenchMatcher>,
     instance: &Value,
 ) -> Result<Answer, OutOfMemory>
-    ensures senses { IfOk result (λ a. Answers (OfEverySense shape_of words is_whole bench_matcher validator.now (view instance.now)) IsValid a.accepted (string_bytes a.text)) }
-    ensures depth { IfOk result (λ a. Answers (FromSomeDepth shape_of words is_whole bench_matcher validator.now (view instance.now)) IsValid a.accepted (string_bytes a.text)) }
+    ensures senses { IfOk result (λ a. Answers
+        (OfEverySense shape_of words is_whole bench_matcher validator.now (view instance.now))
+        IsValid a.accepted (string_bytes a.text)) }
+    ensures depth { IfOk result (λ a. Answers
+        (FromSomeDepth shape_of words is_whole bench_matcher validator.now (view instance.now))
+        IsValid a.accepted (string_bytes a.text)) }
 {
     let accepted = validator.is_valid(alloc, instance)?;
     let text = verdict_text(alloc, accepted)?;
@@ -95,8 +99,12 @@ fn first(
     validator: &Validator<BenchKeyword, BenchMatcher>,
     instance: &Value,
 ) -> Result<Answer, OutOfMemory>
-    ensures senses { IfOk result (λ a. Answers (OfEverySense shape_of words is_whole bench_matcher validator.now (view instance.now)) Validate a.accepted (string_bytes a.text)) }
-    ensures depth { IfOk result (λ a. Answers (FromSomeDepth shape_of words is_whole bench_matcher validator.now (view instance.now)) Validate a.accepted (string_bytes a.text)) }
+    ensures senses { IfOk result (λ a. Answers
+        (OfEverySense shape_of words is_whole bench_matcher validator.now (view instance.now))
+        Validate a.accepted (string_bytes a.text)) }
+    ensures depth { IfOk result (λ a. Answers
+        (FromSomeDepth shape_of words is_whole bench_matcher validator.now (view instance.now))
+        Validate a.accepted (string_bytes a.text)) }
 {
     match validator.validate(alloc, instance)? {
         Ok(()) => Ok(Answer {
@@ -120,8 +128,12 @@ fn errors(
     validator: &Validator<BenchKeyword, BenchMatcher>,
     instance: &Value,
 ) -> Result<Answer, OutOfMemory>
-    ensures senses { IfOk result (λ a. Answers (OfEverySense shape_of words is_whole bench_matcher validator.now (view instance.now)) IterErrors a.accepted (string_bytes a.text)) }
-    ensures depth { IfOk result (λ a. Answers (FromSomeDepth shape_of words is_whole bench_matcher validator.now (view instance.now)) IterErrors a.accepted (string_bytes a.text)) }
+    ensures senses { IfOk result (λ a. Answers
+        (OfEverySense shape_of words is_whole bench_matcher validator.now (view instance.now))
+        IterErrors a.accepted (string_bytes a.text)) }
+    ensures depth { IfOk result (λ a. Answers
+        (FromSomeDepth shape_of words is_whole bench_matcher validator.now (view instance.now))
+        IterErrors a.accepted (string_bytes a.text)) }
 {
     let mut accepted = true;
     let mut text = String::new(alloc);
@@ -144,10 +156,16 @@ pub fn ask(
     call: Call,
     instance: &Value,
 ) -> Result<Answer, OutOfMemory>
-    ensures senses { IfOk result (λ a. Answers (OfEverySense shape_of words is_whole bench_matcher validator.now (view instance.now)) call a.accepted (string_bytes a.text)) }
-    ensures means { IfOk result (λ a. (resolver : Resolver Text) (table : Table BenchShape) (matcher : Matcher) (options : Options) (schema : Data)
-        → BenchMeans resolver table matcher options schema validator.now → AnswersPlainly resolver table matcher options schema (view instance.now) call a.accepted (string_bytes a.text)) }
-    ensures depth { IfOk result (λ a. Answers (FromSomeDepth shape_of words is_whole bench_matcher validator.now (view instance.now)) call a.accepted (string_bytes a.text)) }
+    ensures senses { IfOk result (λ a. Answers
+        (OfEverySense shape_of words is_whole bench_matcher validator.now (view instance.now))
+        call a.accepted (string_bytes a.text)) }
+    ensures means { IfOk result
+        (λ a. (resolver : Resolver Text) (table : Table BenchShape) (matcher : Matcher) (options : Options) (schema : Data)
+        → BenchMeans resolver table matcher options schema validator.now
+        → AnswersPlainly resolver table matcher options schema (view instance.now) call a.accepted (string_bytes a.text)) }
+    ensures depth { IfOk result (λ a. Answers
+        (FromSomeDepth shape_of words is_whole bench_matcher validator.now (view instance.now))
+        call a.accepted (string_bytes a.text)) }
 {
     match call {
         Call::IsValid => verdict(alloc, validator, instance),

@@ -118,7 +118,8 @@ fn list_in(alloc: Global, text: &[u8]) -> Result<Vec<String>, Fault>
 /// The first of the faults in the words, or want of memory: a number of words other than three or four, or a MODE that is
 /// none; a SCHEMA, then an INSTANCE that is not JSON; an UNFINISHED that is no list of texts.
 pub fn request_in(alloc: Global, words: &[Vec<u8>]) -> Result<Request, Fault>
-    ensures holds { IfOk result (λ r. Holds (texts words.now) r.call (view r.schema) (view r.instance) (map string_bytes r.unfinished.items)) }
+    ensures holds { IfOk result
+        (λ r. Holds (texts words.now) r.call (view r.schema) (view r.instance) (map string_bytes r.unfinished.items)) }
     ensures fault { IfErr result (FaultStands (texts words.now)) }
     ensures usage { call_in (texts words.now) ≡ None → result ≡ Err Fault.Usage }
 {
