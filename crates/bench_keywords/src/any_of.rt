@@ -9,10 +9,10 @@ ghost use Rattle.keyword_ways.specs.Items.{child_here, each_from};
 ghost use Rattle.keyword_ways.specs.Ways.{judges, noted, way_step, way_turn};
 ghost use Rattle.bench_keywords.specs.Words.{any_of_tally, if_none, none_text};
 
+use crate::texts::none_text;
 use keyword_ways::answers::note;
 use keyword_ways::judging::{Judge, Judging, judge_on};
 use keyword_ways::run::Progress;
-use crate::texts::none_text;
 use schema_node::context::keyword::{Answer, Below, Mode, Reply, Step};
 use schema_reports::instance::Instance;
 use schema_reports::location::OutOfMemory;
@@ -27,8 +27,10 @@ fn tell_any_of<'i>(
     answer: &mut Answer<'i>,
 ) -> Result<(), OutOfMemory>
     ensures told { IfOk result (λ _. (texts : Bool) → Tells texts true (subject_of instance.entry) → answer_of texts answer.new
-        ≡ noted mode (codes "anyOf") (answer_of texts answer.old) (if_none (spoken texts (none_text (codes "anyOf") (subject_of instance.entry))) accepted)) }
-    ensures borrows { IfOk result (λ _. (root : Data) → All (PassesBorrowed root) (faults_in answer.old) → All (PassesBorrowed root) (faults_in answer.new)) }
+        ≡ noted mode (codes "anyOf") (answer_of texts answer.old)
+        (if_none (spoken texts (none_text (codes "anyOf") (subject_of instance.entry))) accepted)) }
+    ensures borrows { IfOk result (λ _. (root : Data) → All (PassesBorrowed root) (faults_in answer.old)
+        → All (PassesBorrowed root) (faults_in answer.new)) }
 {
     if accepted > 0 {
         return Ok(());
@@ -47,10 +49,13 @@ pub fn turn_any_of<'s, 'i>(
     answer: &mut Answer<'i>,
 ) -> Result<Step<'s>, OutOfMemory>
     ensures turns { IfOk result (λ _. (texts : Bool) → Tells texts true (subject_of instance.entry)
-        → way_turn (judges (any_of_tally texts (subject_of instance.entry)) (each_from child_here 0 count)) (run.old, answer_of texts answer.old) (reply_of texts reply.entry) ≡ (run.new, answer_of texts answer.new)) }
+        → way_turn (judges (any_of_tally texts (subject_of instance.entry)) (each_from child_here 0 count))
+        (run.old, answer_of texts answer.old) (reply_of texts reply.entry) ≡ (run.new, answer_of texts answer.new)) }
     ensures steps { IfOk result (λ step. (texts : Bool)
-        → way_step (judges (any_of_tally texts (subject_of instance.entry)) (each_from child_here 0 count)) (run.old, answer_of texts answer.old) (reply_of texts reply.entry) ≡ turn_of step) }
-    ensures borrows { IfOk result (λ _. (root : Data) → All (BorrowsItsPlace root) (errors_in reply.entry) → All (PassesBorrowed root) (faults_in answer.old) → All (PassesBorrowed root) (faults_in answer.new)) }
+        → way_step (judges (any_of_tally texts (subject_of instance.entry)) (each_from child_here 0 count))
+        (run.old, answer_of texts answer.old) (reply_of texts reply.entry) ≡ turn_of step) }
+    ensures borrows { IfOk result (λ _. (root : Data) → All (BorrowsItsPlace root) (errors_in reply.entry)
+        → All (PassesBorrowed root) (faults_in answer.old) → All (PassesBorrowed root) (faults_in answer.new)) }
 {
     let mode = run.mode;
     let judge = Judge {

@@ -1,5 +1,6 @@
 //! Keywords that count.
-ghost use Rattle.std.specs.Prelude.{All, ◌≡◌, ◌++◌, ◌==◌, Bool, decimal, false, length, option_map, if◌then◌else◌, map, string_bytes, true, IfOk};
+ghost use Rattle.std.specs.Prelude.{All, ◌≡◌, ◌++◌, ◌==◌, Bool, decimal, false, length, option_map, if◌then◌else◌, map};
+ghost use Rattle.std.specs.Prelude.{string_bytes, true, IfOk};
 ghost use Rattle.std.specs.Str.{chars};
 ghost use Rattle.serde_json.specs.Data.{Data};
 ghost use Rattle.serde_json.specs.View.{members_view};
@@ -8,11 +9,12 @@ ghost use Rattle.schema_reports.specs.ReportViews.{spoken};
 ghost use Rattle.schema_reports.specs.InstanceTexts.{subject_has_float};
 ghost use Rattle.schema_node.specs.FaultViews.{faults_in, PassesBorrowed};
 ghost use Rattle.schema_node.specs.KeywordViews.{answer_of, Tells};
-ghost use Rattle.bench_keywords.specs.Counts.{allows, count_fits, count_name, count_of, count_text, count_words, many_counted, member_count, one_counted, subject_members, subject_string};
+ghost use Rattle.bench_keywords.specs.Counts.{allows, count_fits, count_name, count_of, count_text, count_words, many_counted};
+ghost use Rattle.bench_keywords.specs.Counts.{member_count, one_counted, subject_members, subject_string};
 ghost use Rattle.keyword_ways.specs.Ways.{noted, unless};
 
-use keyword_ways::answers::note;
 use crate::texts::instance_text;
+use keyword_ways::answers::note;
 use schema_node::context::keyword::{Answer, Mode};
 use schema_reports::instance::Instance;
 use schema_reports::location::OutOfMemory;
@@ -150,7 +152,8 @@ fn count_text(
     limit: u64,
     instance: Instance<'_>,
 ) -> Result<String, OutOfMemory>
-    ensures text { IfOk result (λ text. subject_has_float (subject_of instance.entry) ≡ false → string_bytes text ≡ count_text kind limit (subject_of instance.entry)) }
+    ensures text { IfOk result (λ text. subject_has_float (subject_of instance.entry) ≡ false → string_bytes text
+        ≡ count_text kind limit (subject_of instance.entry)) }
 {
     let mut text = instance_text(alloc, instance)?;
     text.push_str(kind.words())?;
@@ -176,8 +179,11 @@ pub fn tell_count<'i>(
     answer: &mut Answer<'i>,
 ) -> Result<(), OutOfMemory>
     ensures told { IfOk result (λ _. (texts : Bool) → Tells texts true (subject_of instance.entry) → answer_of texts answer.new
-        ≡ noted mode (count_name kind) (answer_of texts answer.old) (map (spoken texts) (unless (count_fits kind limit (subject_of instance.entry)) (count_text kind limit (subject_of instance.entry))))) }
-    ensures borrows { IfOk result (λ _. (root : Data) → All (PassesBorrowed root) (faults_in answer.old) → All (PassesBorrowed root) (faults_in answer.new)) }
+        ≡ noted mode (count_name kind) (answer_of texts answer.old)
+        (map (spoken texts) (unless (count_fits kind limit (subject_of instance.entry))
+        (count_text kind limit (subject_of instance.entry))))) }
+    ensures borrows { IfOk result (λ _. (root : Data) → All (PassesBorrowed root) (faults_in answer.old)
+        → All (PassesBorrowed root) (faults_in answer.new)) }
 {
     if count_fits(kind, limit, instance) {
         return Ok(());

@@ -12,7 +12,6 @@ ghost use Rattle.bench_keywords.specs.Words.{way};
 ghost use Rattle.bench_keywords.specs.Shapes.{shape_of};
 
 use crate::any_of::turn_any_of;
-use keyword_ways::branching::turn_if;
 use crate::counts::{CountKind, tell_count};
 use crate::each::{turn_all_of, turn_items, turn_prefix_items};
 use crate::not::turn_not;
@@ -21,9 +20,11 @@ use crate::pattern::turn_pattern;
 use crate::properties::turn_properties;
 use crate::property_names::turn_property_names;
 use crate::required::tell_required;
-use keyword_ways::run::{Progress, Stage};
 use crate::type_names::TypeName;
 use crate::types::{tell_type, tell_types};
+use keyword_ways::branching::branch_on;
+use keyword_ways::run::Progress;
+use keyword_ways::telling::tell_on;
 use schema_node::context::keyword::{Answer, Mode, Reply, Step, Validate};
 use schema_reports::instance::Instance;
 use schema_reports::location::OutOfMemory;
@@ -85,7 +86,8 @@ fn tell<'i>(
 ) -> Result<(), OutOfMemory>
     ensures told { IfOk result (λ _. (texts : Bool) → Tells texts true (subject_of instance.entry) → answer_of texts answer.new
         ≡ told_at_once (way texts (shape_of keyword.now) (subject_of instance.entry)) mode (answer_of texts answer.old)) }
-    ensures borrows { IfOk result (λ _. (root : Data) → All (PassesBorrowed root) (faults_in answer.old) → All (PassesBorrowed root) (faults_in answer.new)) }
+    ensures borrows { IfOk result (λ _. (root : Data) → All (PassesBorrowed root) (faults_in answer.old)
+        → All (PassesBorrowed root) (faults_in answer.new)) }
 {
     match keyword {
         BenchKeyword::Type(name) => tell_type(alloc, *name, mode, instance, answer),
@@ -106,19 +108,21 @@ fn turn_telling<'s, 'i>(
     alloc: Global,
     run: &mut Progress,
     instance: Instance<'i>,
-    _reply: Reply<'i>,
+    reply: Reply<'i>,
     answer: &mut Answer<'i>,
 ) -> Result<Step<'s>, OutOfMemory>
     ensures stage { IfOk result (λ _. run.new ≡ record run.old { stage = Ended }) }
     ensures told { IfOk result (λ _. (texts : Bool) → Tells texts true (subject_of instance.entry) → answer_of texts answer.new
-        ≡ at_first run.old.stage (told_at_once (way texts (shape_of keyword.now) (subject_of instance.entry)) run.old.mode (answer_of texts answer.old)) (answer_of texts answer.old)) }
+        ≡ at_first run.old.stage (told_at_once (way texts (shape_of keyword.now) (subject_of instance.entry)) run.old.mode
+        (answer_of texts answer.old)) (answer_of texts answer.old)) }
     ensures step { IfOk result (λ step. turn_of step ≡ done) }
-    ensures borrows { IfOk result (λ _. (root : Data) → All (BorrowsItsPlace root) (errors_in _reply.entry) → All (PassesBorrowed root) (faults_in answer.old) → All (PassesBorrowed root) (faults_in answer.new)) }
+    ensures borrows { IfOk result (λ _. (root : Data) → All (BorrowsItsPlace root) (errors_in reply.entry)
+        → All (PassesBorrowed root) (faults_in answer.old) → All (PassesBorrowed root) (faults_in answer.new)) }
 {
-    if let Stage::Begun = run.stage {
+    drop(reply);
+    if tell_on(run) {
         tell(keyword, alloc, run.mode, instance, answer)?;
     }
-    run.stage = Stage::Ended;
     Ok(Step::Done)
 }
 
@@ -152,10 +156,7 @@ impl Validate for BenchKeyword {
         _instance: Instance,
         mode: Mode,
     ) -> Result<Progress, OutOfMemory> {
-        Ok(Progress {
-            mode,
-            stage: Stage::Begun,
-        })
+        Ok(Progress::begin(mode))
     }
 
     fn turn<'s, 'i: 's>(
@@ -185,7 +186,7 @@ impl Validate for BenchKeyword {
             BenchKeyword::AnyOf(count) => turn_any_of(alloc, *count, run, instance, reply, answer),
             BenchKeyword::OneOf(count) => turn_one_of(alloc, *count, run, instance, reply, answer),
             BenchKeyword::If(accepted, refused) => {
-                turn_if(alloc, *accepted, *refused, run, reply, answer)
+                branch_on(alloc, *accepted, *refused, run, reply, answer)
             }
             BenchKeyword::PropertyNames => turn_property_names(alloc, run, instance, reply, answer),
             BenchKeyword::Not(schema) => turn_not(alloc, schema, run, instance, reply, answer),

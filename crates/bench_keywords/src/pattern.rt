@@ -5,39 +5,24 @@ ghost use Rattle.schema_reports.specs.InstanceViews.{subject_of};
 ghost use Rattle.schema_reports.specs.InstanceTexts.{subject_has_float};
 ghost use Rattle.schema_reports.specs.ReportViews.{BorrowsItsPlace, spoken};
 ghost use Rattle.schema_node.specs.FaultViews.{errors_in, faults_in, PassesBorrowed};
-ghost use Rattle.schema_node.specs.KeywordViews.{answer_of, point_of, reply_of, turn_of, Tells};
+ghost use Rattle.schema_node.specs.KeywordViews.{answer_of, reply_of, turn_of, Tells};
 ghost use Rattle.bench_keywords.specs.Counts.{subject_string};
-ghost use Rattle.keyword_ways.specs.Ways.{asks_match, match_point, noted, unless, way_step, way_turn};
+ghost use Rattle.keyword_ways.specs.Ways.{asks_match, noted, unless, way_step, way_turn};
 ghost use Rattle.bench_keywords.specs.Words.{pattern_text, pattern_way};
 
-use keyword_ways::answers::{note, says_yes};
-use keyword_ways::run::{Progress, Stage};
 use crate::texts::{instance_text, text_of};
-use schema_node::context::keyword::{Answer, MatchPoint, Mode, Reply, Spot, Step};
+use keyword_ways::answers::note;
+use keyword_ways::matching::{MatchTurn, ask_match, match_on};
+use keyword_ways::run::{Progress, Stage};
+use schema_node::context::keyword::{Answer, Mode, Reply, Step};
 use schema_reports::instance::Instance;
 use schema_reports::location::OutOfMemory;
 use std::alloc::Global;
 
-/// Where a match is asked for in a run in this mode: at the keyword, and without evaluation path and place where a verdict
-/// alone is wanted.
-fn match_point(mode: Mode, pattern: &str) -> MatchPoint<'_>
-    ensures point { point_of result ≡ match_point mode pattern.now }
-{
-    let spot = Spot {
-        absorbed: None,
-        path: "",
-        below: &[],
-    };
-    MatchPoint {
-        spot,
-        located: mode != Mode::Verdict,
-        pattern: Some(pattern),
-    }
-}
-
 /// The error's text.
 fn pattern_text(alloc: Global, pattern: &str, instance: Instance<'_>) -> Result<String, OutOfMemory>
-    ensures text { IfOk result (λ text. subject_has_float (subject_of instance.entry) ≡ false → string_bytes text ≡ pattern_text pattern.now (subject_of instance.entry)) }
+    ensures text { IfOk result (λ text. subject_has_float (subject_of instance.entry) ≡ false → string_bytes text
+        ≡ pattern_text pattern.now (subject_of instance.entry)) }
 {
     let mut text = instance_text(alloc, instance)?;
     text.push_str(" does not match \"")?;
@@ -56,8 +41,10 @@ fn tell_pattern<'i>(
     answer: &mut Answer<'i>,
 ) -> Result<(), OutOfMemory>
     ensures told { IfOk result (λ _. (texts : Bool) → Tells texts true (subject_of instance.entry) → answer_of texts answer.new
-        ≡ noted mode (codes "pattern") (answer_of texts answer.old) (unless matches (spoken texts (pattern_text pattern.now (subject_of instance.entry))))) }
-    ensures borrows { IfOk result (λ _. (root : Data) → All (PassesBorrowed root) (faults_in answer.old) → All (PassesBorrowed root) (faults_in answer.new)) }
+        ≡ noted mode (codes "pattern") (answer_of texts answer.old)
+        (unless matches (spoken texts (pattern_text pattern.now (subject_of instance.entry))))) }
+    ensures borrows { IfOk result (λ _. (root : Data) → All (PassesBorrowed root) (faults_in answer.old)
+        → All (PassesBorrowed root) (faults_in answer.new)) }
 {
     if matches {
         return Ok(());
@@ -77,26 +64,24 @@ fn turn_of_text<'s, 'i>(
     answer: &mut Answer<'i>,
 ) -> Result<Step<'s>, OutOfMemory>
     ensures turns { IfOk result (λ _. (texts : Bool) → Tells texts true (subject_of instance.entry)
-        → way_turn (asks_match (codes "pattern") (record { pattern = pattern.now; subject = text.now }) (spoken texts (pattern_text pattern.now (subject_of instance.entry)))) (run.old, answer_of texts answer.old) (reply_of texts reply.entry) ≡ (run.new, answer_of texts answer.new)) }
+        → way_turn (asks_match (codes "pattern") (record { pattern = pattern.now; subject = text.now })
+        (spoken texts (pattern_text pattern.now (subject_of instance.entry)))) (run.old, answer_of texts answer.old)
+        (reply_of texts reply.entry) ≡ (run.new, answer_of texts answer.new)) }
     ensures steps { IfOk result (λ step. (texts : Bool)
-        → way_step (asks_match (codes "pattern") (record { pattern = pattern.now; subject = text.now }) (spoken texts (pattern_text pattern.now (subject_of instance.entry)))) (run.old, answer_of texts answer.old) (reply_of texts reply.entry) ≡ turn_of step) }
-    ensures borrows { IfOk result (λ _. (root : Data) → All (BorrowsItsPlace root) (errors_in reply.entry) → All (PassesBorrowed root) (faults_in answer.old) → All (PassesBorrowed root) (faults_in answer.new)) }
+        → way_step (asks_match (codes "pattern") (record { pattern = pattern.now; subject = text.now })
+        (spoken texts (pattern_text pattern.now (subject_of instance.entry)))) (run.old, answer_of texts answer.old)
+        (reply_of texts reply.entry) ≡ turn_of step) }
+    ensures borrows { IfOk result (λ _. (root : Data) → All (BorrowsItsPlace root) (errors_in reply.entry)
+        → All (PassesBorrowed root) (faults_in answer.old) → All (PassesBorrowed root) (faults_in answer.new)) }
 {
-    let matches = says_yes(reply);
-    match run.stage {
-        Stage::Begun => {
-            run.stage = Stage::Asked(0);
-            Ok(Step::Match(pattern, text, match_point(run.mode, pattern)))
-        }
-        Stage::Asked(_) => {
-            run.stage = Stage::Ended;
-            tell_pattern(alloc, pattern, matches, run.mode, instance, answer)?;
+    let mode = run.mode;
+    match match_on(run, reply) {
+        MatchTurn::Asks => Ok(ask_match(pattern, text, mode)),
+        MatchTurn::Answered(matches) => {
+            tell_pattern(alloc, pattern, matches, mode, instance, answer)?;
             Ok(Step::Done)
         }
-        _ => {
-            run.stage = Stage::Ended;
-            Ok(Step::Done)
-        }
+        MatchTurn::Over => Ok(Step::Done),
     }
 }
 
@@ -110,10 +95,13 @@ pub fn turn_pattern<'s, 'i: 's>(
     answer: &mut Answer<'i>,
 ) -> Result<Step<'s>, OutOfMemory>
     ensures turns { IfOk result (λ _. (texts : Bool) → Tells texts true (subject_of instance.entry)
-        → way_turn (pattern_way texts pattern.now (subject_of instance.entry) (subject_string (subject_of instance.entry))) (run.old, answer_of texts answer.old) (reply_of texts reply.entry) ≡ (run.new, answer_of texts answer.new)) }
+        → way_turn (pattern_way texts pattern.now (subject_of instance.entry) (subject_string (subject_of instance.entry)))
+        (run.old, answer_of texts answer.old) (reply_of texts reply.entry) ≡ (run.new, answer_of texts answer.new)) }
     ensures steps { IfOk result (λ step. (texts : Bool)
-        → way_step (pattern_way texts pattern.now (subject_of instance.entry) (subject_string (subject_of instance.entry))) (run.old, answer_of texts answer.old) (reply_of texts reply.entry) ≡ turn_of step) }
-    ensures borrows { IfOk result (λ _. (root : Data) → All (BorrowsItsPlace root) (errors_in reply.entry) → All (PassesBorrowed root) (faults_in answer.old) → All (PassesBorrowed root) (faults_in answer.new)) }
+        → way_step (pattern_way texts pattern.now (subject_of instance.entry) (subject_string (subject_of instance.entry)))
+        (run.old, answer_of texts answer.old) (reply_of texts reply.entry) ≡ turn_of step) }
+    ensures borrows { IfOk result (λ _. (root : Data) → All (BorrowsItsPlace root) (errors_in reply.entry)
+        → All (PassesBorrowed root) (faults_in answer.old) → All (PassesBorrowed root) (faults_in answer.new)) }
 {
     match text_of(instance) {
         Some(text) => turn_of_text(alloc, pattern, text, run, instance, reply, answer),

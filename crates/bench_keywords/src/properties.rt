@@ -11,8 +11,8 @@ ghost use Rattle.keyword_ways.specs.Ways.{asked, nth, passes_on, way_step, way_t
 ghost use Rattle.keyword_ways.specs.Asking.{nth_at, stage_of};
 ghost use Rattle.keyword_ways.specs.Members.{present_from};
 
-use keyword_ways::passing::onward;
 use keyword_ways::members::has_member;
+use keyword_ways::passing::onward;
 use keyword_ways::run::{Progress, Stage};
 use schema_node::context::keyword::{Answer, Below, Reply, Step};
 use schema_reports::instance::Instance;
@@ -28,11 +28,16 @@ pub fn turn_properties<'s, 'i>(
     reply: Reply<'i>,
     answer: &mut Answer<'i>,
 ) -> Result<Step<'s>, OutOfMemory>
-    ensures turns { IfOk result (λ _. (texts : Bool) → way_turn (passes_on (present_from 0 (map string_bytes names.now) (subject_of instance.entry))) (run.old, answer_of texts answer.old) (reply_of texts reply.entry)
+    ensures turns { IfOk result (λ _. (texts : Bool) → way_turn
+        (passes_on (present_from 0 (map string_bytes names.now) (subject_of instance.entry))) (run.old, answer_of texts answer.old)
+        (reply_of texts reply.entry)
         ≡ (run.new, answer_of texts answer.new)) }
-    ensures steps { IfOk result (λ step. (texts : Bool) → way_step (passes_on (present_from 0 (map string_bytes names.now) (subject_of instance.entry))) (run.old, answer_of texts answer.old) (reply_of texts reply.entry)
+    ensures steps { IfOk result (λ step. (texts : Bool) → way_step
+        (passes_on (present_from 0 (map string_bytes names.now) (subject_of instance.entry))) (run.old, answer_of texts answer.old)
+        (reply_of texts reply.entry)
         ≡ turn_of step) }
-    ensures borrows { IfOk result (λ _. (root : Data) → All (BorrowsItsPlace root) (errors_in reply.entry) → All (PassesBorrowed root) (faults_in answer.old) → All (PassesBorrowed root) (faults_in answer.new)) }
+    ensures borrows { IfOk result (λ _. (root : Data) → All (BorrowsItsPlace root) (errors_in reply.entry)
+        → All (PassesBorrowed root) (faults_in answer.old) → All (PassesBorrowed root) (faults_in answer.new)) }
 {
     let place = onward(alloc, names.len(), run, reply, answer)?;
     Ok(ask_member(names, place, run, instance))
@@ -45,8 +50,12 @@ fn ask_member<'s>(
     run: &mut Progress,
     instance: Instance<'_>,
 ) -> Step<'s>
-    ensures stage { run.new ≡ record run.old { stage = stage_of (present_from 0 (map string_bytes names.now) (subject_of instance.entry)) place } }
-    ensures step { turn_of result ≡ asked run.old.mode (nth_at (present_from 0 (map string_bytes names.now) (subject_of instance.entry)) place) }
+    ensures stage { run.new ≡ record run.old {
+      stage = stage_of (present_from 0 (map string_bytes names.now) (subject_of instance.entry))
+          place;
+    } }
+    ensures step { turn_of result ≡ asked run.old.mode (nth_at (present_from 0 (map string_bytes names.now) (subject_of instance.entry))
+        place) }
 {
     match place {
         None => {
@@ -72,7 +81,8 @@ fn present_at<'s>(
     place: usize,
     instance: Instance<'_>,
 ) -> Option<(usize, &'s str)>
-    ensures present { option_map (λ p. record { child = p.0; below = down (to_member p.1.now) }) result ≡ nth place (present_from 0 (map string_bytes names.now) (subject_of instance.entry)) }
+    ensures present { option_map (λ p. record { child = p.0; below = down (to_member p.1.now) }) result
+        ≡ nth place (present_from 0 (map string_bytes names.now) (subject_of instance.entry)) }
 {
     let mut left = place;
     for (child, name) in names.iter().enumerate() {

@@ -98,11 +98,14 @@ pub fn turn_property_names<'i>(
     reply: Reply<'i>,
     answer: &mut Answer<'i>,
 ) -> Result<Step<'i>, OutOfMemory>
-    ensures turns { IfOk result (λ _. (texts : Bool) → way_turn (passes_on (map at_name (subject_names (subject_of instance.entry)))) (run.old, answer_of texts answer.old) (reply_of texts reply.entry)
+    ensures turns { IfOk result (λ _. (texts : Bool) → way_turn (passes_on (map at_name (subject_names (subject_of instance.entry))))
+        (run.old, answer_of texts answer.old) (reply_of texts reply.entry)
         ≡ (run.new, answer_of texts answer.new)) }
-    ensures steps { IfOk result (λ step. (texts : Bool) → way_step (passes_on (map at_name (subject_names (subject_of instance.entry)))) (run.old, answer_of texts answer.old) (reply_of texts reply.entry)
+    ensures steps { IfOk result (λ step. (texts : Bool) → way_step (passes_on (map at_name (subject_names (subject_of instance.entry))))
+        (run.old, answer_of texts answer.old) (reply_of texts reply.entry)
         ≡ turn_of step) }
-    ensures borrows { IfOk result (λ _. (root : Data) → All (BorrowsItsPlace root) (errors_in reply.entry) → All (PassesBorrowed root) (faults_in answer.old) → All (PassesBorrowed root) (faults_in answer.new)) }
+    ensures borrows { IfOk result (λ _. (root : Data) → All (BorrowsItsPlace root) (errors_in reply.entry)
+        → All (PassesBorrowed root) (faults_in answer.old) → All (PassesBorrowed root) (faults_in answer.new)) }
 {
     let place = onward(alloc, name_count(instance), run, reply, answer)?;
     Ok(ask_name(place, run, instance))

@@ -9,9 +9,9 @@ ghost use Rattle.keyword_ways.specs.Members.{has_member, is_object};
 ghost use Rattle.keyword_ways.specs.Ways.{noted};
 ghost use Rattle.bench_keywords.specs.Words.{missing, required_text};
 
+use crate::texts::quoted;
 use keyword_ways::answers::note;
 use keyword_ways::members::{has_member, is_object};
-use crate::texts::quoted;
 use schema_node::context::keyword::{Answer, Mode};
 use schema_reports::instance::Instance;
 use schema_reports::location::OutOfMemory;
@@ -26,8 +26,10 @@ pub fn tell_required<'i>(
     answer: &mut Answer<'i>,
 ) -> Result<(), OutOfMemory>
     ensures told { IfOk result (λ _. (texts : Bool) → answer_of texts answer.new
-        ≡ noted mode (codes "required") (answer_of texts answer.old) (map (λ k. spoken texts (required_text k)) (missing (map string_bytes names.now) (subject_of instance.entry)))) }
-    ensures borrows { IfOk result (λ _. (root : Data) → All (PassesBorrowed root) (faults_in answer.old) → All (PassesBorrowed root) (faults_in answer.new)) }
+        ≡ noted mode (codes "required") (answer_of texts answer.old)
+        (map (λ k. spoken texts (required_text k)) (missing (map string_bytes names.now) (subject_of instance.entry)))) }
+    ensures borrows { IfOk result (λ _. (root : Data) → All (PassesBorrowed root) (faults_in answer.old)
+        → All (PassesBorrowed root) (faults_in answer.new)) }
 {
     for name in names {
         if is_missing(name, instance) {
@@ -40,7 +42,8 @@ pub fn tell_required<'i>(
 
 /// Whether the instance is an object without this member.
 fn is_missing(name: &String, instance: Instance<'_>) -> bool
-    ensures missing { result ≡ (is_object (subject_of instance.entry) && not (has_member (string_bytes name.now) (subject_of instance.entry))) }
+    ensures missing { result ≡ (is_object (subject_of instance.entry) && not
+        (has_member (string_bytes name.now) (subject_of instance.entry))) }
 {
     is_object(instance) && !has_member(instance, name.as_str())
 }

@@ -24,7 +24,8 @@ pub fn text_of<'i>(instance: Instance<'i>) -> Option<&'i str>
 
 /// The compact text of an instance; a name is quoted.
 pub fn instance_text(alloc: Global, instance: Instance<'_>) -> Result<String, OutOfMemory>
-    ensures text { IfOk result (λ text. subject_has_float (subject_of instance.entry) ≡ false → string_bytes text ≡ subject_text (subject_of instance.entry)) }
+    ensures text { IfOk result (λ text. subject_has_float (subject_of instance.entry) ≡ false → string_bytes text
+        ≡ subject_text (subject_of instance.entry)) }
 {
     match instance {
         Instance::Value(value) => value.to_string(alloc),
@@ -34,7 +35,8 @@ pub fn instance_text(alloc: Global, instance: Instance<'_>) -> Result<String, Ou
 
 /// The error's text where an instance fits no schema of a list.
 pub fn none_text(alloc: Global, name: &str, instance: Instance<'_>) -> Result<String, OutOfMemory>
-    ensures text { IfOk result (λ text. subject_has_float (subject_of instance.entry) ≡ false → string_bytes text ≡ none_text name.now (subject_of instance.entry)) }
+    ensures text { IfOk result (λ text. subject_has_float (subject_of instance.entry) ≡ false → string_bytes text
+        ≡ none_text name.now (subject_of instance.entry)) }
 {
     let mut text = instance_text(alloc, instance)?;
     text.push_str(" is not valid under any of the schemas listed in the '")?;

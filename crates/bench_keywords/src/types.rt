@@ -11,9 +11,9 @@ ghost use Rattle.bench_keywords.specs.TypeNames.{fits, type_name};
 ghost use Rattle.keyword_ways.specs.Ways.{noted, unless};
 ghost use Rattle.bench_keywords.specs.Words.{more_names, names_text, type_text, types_text};
 
-use keyword_ways::answers::note;
 use crate::texts::instance_text;
 use crate::type_names::TypeName;
+use keyword_ways::answers::note;
 use schema_node::context::keyword::{Answer, Mode};
 use schema_reports::instance::Instance;
 use schema_reports::location::OutOfMemory;
@@ -28,8 +28,10 @@ pub fn tell_type<'i>(
     answer: &mut Answer<'i>,
 ) -> Result<(), OutOfMemory>
     ensures told { IfOk result (λ _. (texts : Bool) → Tells texts true (subject_of instance.entry) → answer_of texts answer.new
-        ≡ noted mode (codes "type") (answer_of texts answer.old) (map (spoken texts) (unless (fits name (subject_of instance.entry)) (type_text name (subject_of instance.entry))))) }
-    ensures borrows { IfOk result (λ _. (root : Data) → All (PassesBorrowed root) (faults_in answer.old) → All (PassesBorrowed root) (faults_in answer.new)) }
+        ≡ noted mode (codes "type") (answer_of texts answer.old)
+        (map (spoken texts) (unless (fits name (subject_of instance.entry)) (type_text name (subject_of instance.entry))))) }
+    ensures borrows { IfOk result (λ _. (root : Data) → All (PassesBorrowed root) (faults_in answer.old)
+        → All (PassesBorrowed root) (faults_in answer.new)) }
 {
     if name.fits(instance) {
         return Ok(());
@@ -40,7 +42,8 @@ pub fn tell_type<'i>(
 
 /// The error's text for one name.
 fn type_text(alloc: Global, name: TypeName, instance: Instance<'_>) -> Result<String, OutOfMemory>
-    ensures text { IfOk result (λ text. subject_has_float (subject_of instance.entry) ≡ false → string_bytes text ≡ type_text name (subject_of instance.entry)) }
+    ensures text { IfOk result (λ text. subject_has_float (subject_of instance.entry) ≡ false → string_bytes text
+        ≡ type_text name (subject_of instance.entry)) }
 {
     let mut text = instance_text(alloc, instance)?;
     text.push_str(" is not of type \"")?;
@@ -58,8 +61,11 @@ pub fn tell_types<'i>(
     answer: &mut Answer<'i>,
 ) -> Result<(), OutOfMemory>
     ensures told { IfOk result (λ _. (texts : Bool) → Tells texts true (subject_of instance.entry) → answer_of texts answer.new
-        ≡ noted mode (codes "type") (answer_of texts answer.old) (map (spoken texts) (unless (list_any (λ t. fits t (subject_of instance.entry)) names.now) (types_text names.now (subject_of instance.entry))))) }
-    ensures borrows { IfOk result (λ _. (root : Data) → All (PassesBorrowed root) (faults_in answer.old) → All (PassesBorrowed root) (faults_in answer.new)) }
+        ≡ noted mode (codes "type") (answer_of texts answer.old)
+        (map (spoken texts) (unless (list_any (λ t. fits t (subject_of instance.entry)) names.now)
+        (types_text names.now (subject_of instance.entry))))) }
+    ensures borrows { IfOk result (λ _. (root : Data) → All (PassesBorrowed root) (faults_in answer.old)
+        → All (PassesBorrowed root) (faults_in answer.new)) }
 {
     if fits_one(names, instance) {
         return Ok(());
@@ -86,7 +92,8 @@ fn types_text(
     names: &[TypeName],
     instance: Instance<'_>,
 ) -> Result<String, OutOfMemory>
-    ensures text { IfOk result (λ text. subject_has_float (subject_of instance.entry) ≡ false → string_bytes text ≡ types_text names.now (subject_of instance.entry)) }
+    ensures text { IfOk result (λ text. subject_has_float (subject_of instance.entry) ≡ false → string_bytes text
+        ≡ types_text names.now (subject_of instance.entry)) }
 {
     let mut text = instance_text(alloc, instance)?;
     text.push_str(" is not of types ")?;

@@ -4,6 +4,7 @@ pub mod Tallies
 pub mod Ways
 pub mod Asking
 pub mod Judging
+pub mod MatchTurns
 pub mod WayRuns
 pub mod WayReads
 pub mod WayWords

@@ -40,7 +40,8 @@ fn refused<'i>(answer: Answer<'i>) -> Answer<'i>
 
 /// The answer with this first error, where it has none.
 fn with_first<'i>(answer: Answer<'i>, fault: Fault<'i>) -> Answer<'i>
-    ensures first { (texts : Bool) → answer_of texts result ≡ with_first (answer_of texts answer.entry) (answer_of texts answer.entry).errors (fault_of texts fault.entry) }
+    ensures first { (texts : Bool) → answer_of texts result ≡ with_first (answer_of texts answer.entry)
+        (answer_of texts answer.entry).errors (fault_of texts fault.entry) }
     ensures faults { faults_in result ≡ first_kept (faults_in answer.entry) fault.entry }
 {
     match answer {
@@ -81,7 +82,8 @@ fn faults_of<'i>(alloc: Global, answer: Answer<'i>) -> Result<Vec<Fault<'i>>, Ou
 
 /// The errors of an answer that stand in its unit.
 fn descriptions_of(alloc: Global, answer: Answer<'_>) -> Vec<ErrorDescription>
-    ensures gives { (texts : Bool) → (answer_of texts answer.entry).gives ≡ record no_gives { errors = map (described_of texts) result.items } }
+    ensures gives { (texts : Bool) → (answer_of texts answer.entry).gives
+        ≡ record no_gives { errors = map (described_of texts) result.items } }
 {
     match answer {
         Answer::Evaluation(_, errors) => errors,
@@ -96,7 +98,8 @@ fn evaluated<'i>(
     text: String,
     before: Answer<'i>,
 ) -> Result<Answer<'i>, OutOfMemory>
-    ensures evaluated { IfOk result (λ after. (texts : Bool) → answer_of texts after ≡ evaluated (answer_of texts before.entry) (own (plain keyword.now (spoken texts (string_bytes text))))) }
+    ensures evaluated { IfOk result (λ after. (texts : Bool) → answer_of texts after
+        ≡ evaluated (answer_of texts before.entry) (own (plain keyword.now (spoken texts (string_bytes text))))) }
     ensures faults { IfOk result (λ after. faults_in after ≡ []) }
 {
     let mut errors = descriptions_of(alloc, before);
@@ -116,7 +119,8 @@ pub fn note<'i>(
 ) -> Result<(), OutOfMemory>
     ensures noted { IfOk result (λ _. (texts : Bool) → answer_of texts answer.new
         ≡ noted_one mode (answer_of texts answer.old) (own (plain keyword.now (spoken texts (string_bytes text))))) }
-    ensures borrows { IfOk result (λ _. (root : Data) → All (PassesBorrowed root) (faults_in answer.old) → All (PassesBorrowed root) (faults_in answer.new)) }
+    ensures borrows { IfOk result (λ _. (root : Data) → All (PassesBorrowed root) (faults_in answer.old)
+        → All (PassesBorrowed root) (faults_in answer.new)) }
 {
     let before = mem::replace(answer, Answer::Verdict(false));
     *answer = with_own(alloc, mode, keyword, text, before)?;
@@ -133,7 +137,8 @@ fn with_own<'i>(
 ) -> Result<Answer<'i>, OutOfMemory>
     ensures noted { IfOk result (λ after. (texts : Bool) → answer_of texts after
         ≡ noted_one mode (answer_of texts before.entry) (own (plain keyword.now (spoken texts (string_bytes text))))) }
-    ensures borrows { IfOk result (λ after. (root : Data) → All (PassesBorrowed root) (faults_in before.entry) → All (PassesBorrowed root) (faults_in after)) }
+    ensures borrows { IfOk result (λ after. (root : Data) → All (PassesBorrowed root) (faults_in before.entry)
+        → All (PassesBorrowed root) (faults_in after)) }
 {
     match mode {
         Mode::Verdict => Ok(refused(before)),
@@ -152,7 +157,8 @@ fn with_own_first<'i>(
 ) -> Result<Answer<'i>, OutOfMemory>
     ensures noted { IfOk result (λ after. (texts : Bool) → answer_of texts after
         ≡ noted_one Mode.First (answer_of texts before.entry) (own (plain keyword.now (spoken texts (string_bytes text))))) }
-    ensures borrows { IfOk result (λ after. (root : Data) → All (PassesBorrowed root) (faults_in before.entry) → All (PassesBorrowed root) (faults_in after)) }
+    ensures borrows { IfOk result (λ after. (root : Data) → All (PassesBorrowed root) (faults_in before.entry)
+        → All (PassesBorrowed root) (faults_in after)) }
 {
     let fault = own_fault(alloc, keyword, text)?;
     Ok(with_first(before, fault))
@@ -167,7 +173,8 @@ fn with_own_last<'i>(
 ) -> Result<Answer<'i>, OutOfMemory>
     ensures noted { IfOk result (λ after. (texts : Bool) → answer_of texts after
         ≡ noted_one Mode.All (answer_of texts before.entry) (own (plain keyword.now (spoken texts (string_bytes text))))) }
-    ensures borrows { IfOk result (λ after. (root : Data) → All (PassesBorrowed root) (faults_in before.entry) → All (PassesBorrowed root) (faults_in after)) }
+    ensures borrows { IfOk result (λ after. (root : Data) → All (PassesBorrowed root) (faults_in before.entry)
+        → All (PassesBorrowed root) (faults_in after)) }
 {
     let mut faults = faults_of(alloc, before)?;
     faults.push(own_fault(alloc, keyword, text)?)?;
@@ -176,7 +183,8 @@ fn with_own_last<'i>(
 
 /// An error at the keyword itself.
 fn own_fault<'i>(alloc: Global, keyword: &str, text: String) -> Result<Fault<'i>, OutOfMemory>
-    ensures own { IfOk result (λ fault. (texts : Bool) → fault_of texts fault ≡ own (plain keyword.now (spoken texts (string_bytes text)))) }
+    ensures own { IfOk result (λ fault. (texts : Bool) → fault_of texts fault
+        ≡ own (plain keyword.now (spoken texts (string_bytes text)))) }
     ensures borrows { IfOk result (λ fault. (root : Data) → PassesBorrowed root fault) }
 {
     Ok(Fault::Own(OwnError {
@@ -214,8 +222,10 @@ pub fn says_yes(reply: Reply<'_>) -> bool
 
 /// Takes what a child answered.
 pub fn take<'i>(alloc: Global, reply: Reply<'i>, answer: &mut Answer<'i>) -> Result<(), OutOfMemory>
-    ensures taken { IfOk result (λ _. (texts : Bool) → answer_of texts answer.new ≡ taken (answer_of texts answer.old) (reply_of texts reply.entry)) }
-    ensures borrows { IfOk result (λ _. (root : Data) → All (BorrowsItsPlace root) (errors_in reply.entry) → All (PassesBorrowed root) (faults_in answer.old) → All (PassesBorrowed root) (faults_in answer.new)) }
+    ensures taken { IfOk result (λ _. (texts : Bool) → answer_of texts answer.new
+        ≡ taken (answer_of texts answer.old) (reply_of texts reply.entry)) }
+    ensures borrows { IfOk result (λ _. (root : Data) → All (BorrowsItsPlace root) (errors_in reply.entry)
+        → All (PassesBorrowed root) (faults_in answer.old) → All (PassesBorrowed root) (faults_in answer.new)) }
 {
     let before = mem::replace(answer, Answer::Verdict(false));
     *answer = with_reply(alloc, reply, before)?;
@@ -228,8 +238,10 @@ fn with_reply<'i>(
     reply: Reply<'i>,
     before: Answer<'i>,
 ) -> Result<Answer<'i>, OutOfMemory>
-    ensures taken { IfOk result (λ after. (texts : Bool) → answer_of texts after ≡ taken (answer_of texts before.entry) (reply_of texts reply.entry)) }
-    ensures borrows { IfOk result (λ after. (root : Data) → All (BorrowsItsPlace root) (errors_in reply.entry) → All (PassesBorrowed root) (faults_in before.entry) → All (PassesBorrowed root) (faults_in after)) }
+    ensures taken { IfOk result (λ after. (texts : Bool) → answer_of texts after
+        ≡ taken (answer_of texts before.entry) (reply_of texts reply.entry)) }
+    ensures borrows { IfOk result (λ after. (root : Data) → All (BorrowsItsPlace root) (errors_in reply.entry)
+        → All (PassesBorrowed root) (faults_in before.entry) → All (PassesBorrowed root) (faults_in after)) }
 {
     match reply {
         Reply::Nothing => Ok(before),
@@ -257,7 +269,8 @@ fn pass_all<'i>(
     errors: Vec<ValidationError<'i>>,
     faults: &mut Vec<Fault<'i>>,
 ) -> Result<(), OutOfMemory>
-    ensures passed { IfOk result (λ _. (texts : Bool) → map (fault_of texts) faults.new.items ≡ map (fault_of texts) faults.old.items ++ map passed (map (error_of texts) errors.entry.items)) }
+    ensures passed { IfOk result (λ _. (texts : Bool) → map (fault_of texts) faults.new.items
+        ≡ map (fault_of texts) faults.old.items ++ map passed (map (error_of texts) errors.entry.items)) }
     ensures added { IfOk result (λ _. faults.new.items ≡ faults.old.items ++ map Passed errors.entry.items) }
 {
     for error in errors {

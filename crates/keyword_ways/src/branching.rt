@@ -1,4 +1,4 @@
-//! `if`, with `then` and `else`.
+//! A run that branches: it asks whether one child accepts, and passes on what the child of the branch that follows answers.
 ghost use Rattle.std.specs.Prelude.{All, ◌≡◌, Bool, option_map, IfOk};
 ghost use Rattle.serde_json.specs.Data.{Data};
 ghost use Rattle.schema_reports.specs.ReportViews.{BorrowsItsPlace};
@@ -20,7 +20,10 @@ fn ask_branch<'s>(
     refused: Option<usize>,
     run: &mut Progress,
 ) -> Step<'s>
-    ensures stage { run.new ≡ record run.old { stage = stage_at (branch_number accepts) (chosen accepts (option_map child_here accepted) (option_map child_here refused)) } }
+    ensures stage { run.new ≡ record run.old {
+      stage = stage_at (branch_number accepts)
+          (chosen accepts (option_map child_here accepted) (option_map child_here refused));
+    } }
     ensures step { turn_of result ≡ asked run.old.mode (chosen accepts (option_map child_here accepted) (option_map child_here refused)) }
 {
     let branch = if accepts { accepted } else { refused };
@@ -36,9 +39,9 @@ fn ask_branch<'s>(
     }
 }
 
-/// `if`: asks whether its child accepts, and then the branch that follows, whose answer it passes on. A branch is the
-/// number of a child, where there is one.
-pub fn turn_if<'s, 'i>(
+/// Takes a turn of a run that branches: it asks whether its first child accepts, and then the branch that follows, whose answer
+/// it passes on. A branch is the number of a child, where there is one.
+pub fn branch_on<'s, 'i>(
     alloc: Global,
     accepted: Option<usize>,
     refused: Option<usize>,
@@ -46,11 +49,16 @@ pub fn turn_if<'s, 'i>(
     reply: Reply<'i>,
     answer: &mut Answer<'i>,
 ) -> Result<Step<'s>, OutOfMemory>
-    ensures turns { IfOk result (λ _. (texts : Bool) → way_turn (branches (child_here 0) (option_map child_here accepted) (option_map child_here refused)) (run.old, answer_of texts answer.old) (reply_of texts reply.entry)
+    ensures turns { IfOk result (λ _. (texts : Bool) → way_turn
+        (branches (child_here 0) (option_map child_here accepted) (option_map child_here refused)) (run.old, answer_of texts answer.old)
+        (reply_of texts reply.entry)
         ≡ (run.new, answer_of texts answer.new)) }
-    ensures steps { IfOk result (λ step. (texts : Bool) → way_step (branches (child_here 0) (option_map child_here accepted) (option_map child_here refused)) (run.old, answer_of texts answer.old) (reply_of texts reply.entry)
+    ensures steps { IfOk result (λ step. (texts : Bool) → way_step
+        (branches (child_here 0) (option_map child_here accepted) (option_map child_here refused)) (run.old, answer_of texts answer.old)
+        (reply_of texts reply.entry)
         ≡ turn_of step) }
-    ensures borrows { IfOk result (λ _. (root : Data) → All (BorrowsItsPlace root) (errors_in reply.entry) → All (PassesBorrowed root) (faults_in answer.old) → All (PassesBorrowed root) (faults_in answer.new)) }
+    ensures borrows { IfOk result (λ _. (root : Data) → All (BorrowsItsPlace root) (errors_in reply.entry)
+        → All (PassesBorrowed root) (faults_in answer.old) → All (PassesBorrowed root) (faults_in answer.new)) }
 {
     match run.stage {
         Stage::Begun => {

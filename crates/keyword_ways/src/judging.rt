@@ -1,4 +1,4 @@
-//! How a run that judges by how many children accept goes from question to question.
+//! A run that judges: it asks one child after the other whether it accepts, and tells errors by how many do.
 ghost use Rattle.std.specs.Prelude.{◌≡◌, ◌+◌, ℕ, Bool, min, not};
 ghost use Rattle.schema_reports.specs.Keywords.{Answer as AnswerOfRun};
 ghost use Rattle.schema_node.specs.KeywordViews.{reply_of};
@@ -80,7 +80,8 @@ fn judge_at(
 ) -> Judging
     ensures stage { run.new ≡ record run.old { stage = counted_of (each_from child_here 0 count) accepted place } }
     ensures step { judging_turn result ≡ asked (asked_in units) (nth_at (each_from child_here 0 count) place) }
-    ensures answer { (t : Tally) (m : Mode) (a : AnswerOfRun) → judging_answer t m a result ≡ judged_at t m accepted a (nth_at (each_from child_here 0 count) place) }
+    ensures answer { (t : Tally) (m : Mode) (a : AnswerOfRun) → judging_answer t m a result
+        ≡ judged_at t m accepted a (nth_at (each_from child_here 0 count) place) }
 {
     if let Some(place) = place {
         if place < count {
@@ -96,7 +97,8 @@ fn judge_at(
 #[tactic(auto, using(crate::proofs::EachQuestion::nth_each_past))]
 fn place_after(last: usize, count: usize, settled: bool) -> Option<usize>
     ensures next { nth_at (each_from child_here 0 count) result ≡ next_if (not settled) (nth (last + 1) (each_from child_here 0 count)) }
-    ensures stage { (n : ℕ) → counted_of (each_from child_here 0 count) n result ≡ counted_at (last + 1) n (next_if (not settled) (nth (last + 1) (each_from child_here 0 count))) }
+    ensures stage { (n : ℕ) → counted_of (each_from child_here 0 count) n result
+        ≡ counted_at (last + 1) n (next_if (not settled) (nth (last + 1) (each_from child_here 0 count))) }
 {
     if settled {
         return None;
@@ -107,11 +109,16 @@ fn place_after(last: usize, count: usize, settled: bool) -> Option<usize>
 /// Takes a turn of a run that judges.
 pub fn judge_on(judge: Judge, run: &mut Progress, reply: Reply<'_>) -> Judging
     ensures stage { (texts : Bool) (t : Tally) → t.enough ≡ judge.enough → t.shows ≡ judge.shows
-        → run.new ≡ record run.old { stage = stage_after (judges t (each_from child_here 0 judge.count)) run.old.mode run.old.stage (reply_of texts reply.entry) } }
+        → run.new ≡ record run.old {
+          stage = stage_after (judges t (each_from child_here 0 judge.count)) run.old.mode run.old.stage
+              (reply_of texts reply.entry);
+        } }
     ensures step { (texts : Bool) (t : Tally) → t.enough ≡ judge.enough → t.shows ≡ judge.shows
-        → step_at (judges t (each_from child_here 0 judge.count)) run.old.mode run.old.stage (reply_of texts reply.entry) ≡ judging_turn result }
+        → step_at (judges t (each_from child_here 0 judge.count)) run.old.mode run.old.stage (reply_of texts reply.entry)
+        ≡ judging_turn result }
     ensures answer { (texts : Bool) (t : Tally) (a : AnswerOfRun) → t.enough ≡ judge.enough → t.shows ≡ judge.shows
-        → answer_after (judges t (each_from child_here 0 judge.count)) run.old.mode run.old.stage a (reply_of texts reply.entry) ≡ judging_answer t run.old.mode a result }
+        → answer_after (judges t (each_from child_here 0 judge.count)) run.old.mode run.old.stage a (reply_of texts reply.entry)
+        ≡ judging_answer t run.old.mode a result }
 {
     let units = wants_units(judge.shows, run.mode);
     let yes = says_yes(reply);

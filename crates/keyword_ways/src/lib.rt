@@ -4,7 +4,10 @@
 
 pub mod answers;
 pub mod branching;
+pub mod items;
 pub mod judging;
+pub mod matching;
 pub mod members;
 pub mod passing;
 pub mod run;
+pub mod telling;
