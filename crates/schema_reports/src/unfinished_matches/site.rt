@@ -1,5 +1,6 @@
 //! Unfinished matches, and where they are met.
-ghost use Rattle.std.specs.Prelude.{[], IfOk, MatchOption, None, Some, is_some, length, slice_index_or, string_bytes, true, unwrap_or, ◌<◌, ◌≡◌};
+ghost use Rattle.std.specs.Prelude.{[], IfOk, MatchOption, None, Some, is_some, length, slice_index_or, string_bytes, true};
+ghost use Rattle.std.specs.Prelude.{unwrap_or, ◌<◌, ◌≡◌};
 ghost use Rattle.schema_reports.specs.Headline.{reason_text};
 ghost use Rattle.schema_reports.specs.Instance.{a_value, subject_at};
 ghost use Rattle.schema_reports.specs.InstanceViews.{subject_of};
@@ -270,7 +271,10 @@ impl<'i> MatchFailure<'i> {
         reason: Reason,
         site: MatchSite<'i>,
     ) -> Result<MatchFailure<'i>, OutOfMemory>
-        ensures failure { IfOk result (λ f. f ≡ record { met = record { pair = record { pattern = pattern.now; subject = subject.now }; site = site.entry }; reason = reason_of reason }) }
+        ensures failure { IfOk result (λ f. f ≡ record {
+          met = record { pair = record { pattern = pattern.now; subject = subject.now }; site = site.entry };
+          reason = reason_of reason;
+        }) }
     {
         let unfinished = UnfinishedMatch::new(alloc, pattern, subject)?;
         Ok(MatchFailure {
@@ -358,7 +362,8 @@ impl<'i> MatchFailure<'i> {
         root: &'i Value,
     ) -> Result<ValidationError<'i>, OutOfMemory>
         ensures error { IfOk result (λ e. error_of true e ≡ failure_error self.entry) }
-        ensures instance { IfOk result (λ e. subject_of e.instance ≡ unwrap_or (subject_at (view root.now) e.place) (a_value (view root.now))) }
+        ensures instance { IfOk result (λ e. subject_of e.instance
+            ≡ unwrap_or (subject_at (view root.now) e.place) (a_value (view root.now))) }
     {
         let MatchFailure {
             unfinished,
@@ -388,7 +393,10 @@ impl<'i> MatchFailure<'i> {
 /// The position of the first of these sites that is of this match.
 pub(super) fn place_of(sites: &[LocatedMatch<'_>], pattern: &str, subject: &str) -> Option<usize>
     ensures variant { is_some result ≡ is_some (site_of sites.now (record { pattern = pattern.now; subject = subject.now })) }
-    ensures place { MatchOption result (site_of sites.now (record { pattern = pattern.now; subject = subject.now }) ≡ None) (λ i. (i < length sites.now) × ((d : Met) → site_of sites.now (record { pattern = pattern.now; subject = subject.now }) ≡ Some (slice_index_or sites.now i d).site)) }
+    ensures place { MatchOption result
+        (site_of sites.now (record { pattern = pattern.now; subject = subject.now }) ≡ None)
+        (λ i. (i < length sites.now) × ((d : Met)
+        → site_of sites.now (record { pattern = pattern.now; subject = subject.now }) ≡ Some (slice_index_or sites.now i d).site)) }
 {
     for (i, one) in sites.iter().enumerate() {
         if one.unfinished.is(pattern, subject) {
