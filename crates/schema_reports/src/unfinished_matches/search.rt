@@ -171,7 +171,13 @@ fn assume_within<
             return Ok(Outcomes::Undecided(failure));
         }
         runs += 1;
-        let given = run_from(alloc, run, &outcomes)?;
+        let given = match run_from(alloc, run, &outcomes) {
+            Ok(given) => given,
+            Err(error) => {
+                drop((outcomes, pending, results, failure));
+                return Err(error);
+            }
+        };
         let taken = take(
             alloc,
             &outcomes,
@@ -181,7 +187,10 @@ fn assume_within<
             &mut failure,
         );
         drop(outcomes);
-        taken?;
+        if let Err(error) = taken {
+            drop((pending, results, failure));
+            return Err(error);
+        }
     }
     drop(pending);
     Ok(Outcomes::Assumed { results, failure })
