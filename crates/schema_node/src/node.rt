@@ -9,6 +9,7 @@ mod evaluation_path;
 mod evaluation_place;
 mod faults;
 mod matches;
+mod question;
 mod replies;
 pub mod run;
 mod sites;
