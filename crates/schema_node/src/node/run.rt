@@ -293,6 +293,7 @@ fn run_turns<'i, K: Validate, M: Matcher>(
         (setting K.words K.is_whole K.shape M.matching engine.now) (asking question.now)
         context.old context.new node.0 (string_bytes keyword.now.name.now) (form_at_work K.shape keyword.now)) }
 {
+    let children = keyword.children;
     let mut reply = Reply::Nothing;
     'turns: loop {
         match keyword
@@ -306,15 +307,7 @@ fn run_turns<'i, K: Validate, M: Matcher>(
                     path: question.path,
                     mode: wanted,
                 };
-                reply = run_child(
-                    engine,
-                    node,
-                    keyword.children,
-                    child,
-                    below,
-                    &asked,
-                    context,
-                )?;
+                reply = run_child(engine, node, children, child, below, &asked, context)?;
             }
             Step::Done => return Ok(()),
             Step::Match(pattern, subject, point) => {
