@@ -1,5 +1,6 @@
 //! Runs of nodes over instances.
-ghost use Rattle.std.specs.Prelude.{◌≡◌, ◌<◌, [], Bool, IfOk, true, false, Some, MatchOption, length, map, option_map, string_bytes};
+ghost use Rattle.std.specs.Prelude.{◌≡◌, ◌<◌, [], Bool, IfOk, true, false, Some, MatchOption};
+ghost use Rattle.std.specs.Prelude.{length, map, option_map, string_bytes};
 ghost use Rattle.schema_reports.specs.Instance.{after_step};
 ghost use Rattle.schema_reports.specs.InstanceViews.{subject_of, step_of};
 ghost use Rattle.schema_reports.specs.Keywords.{down, here, for_units, for_verdict};
@@ -39,7 +40,8 @@ fn one_below<'i>(
 ) -> Option<(Instance<'i>, InstanceStep<'i>)>
     requires present { IsPresent (subject_of instance) (steps_below (below_of below)) }
     ensures below { MatchOption result (below_of below.entry ≡ here)
-        (λ r. (below_of below.entry ≡ down (step_of r.1)) × (after_step (step_of r.1) (subject_of instance.entry) ≡ Some (subject_of r.0))) }
+        (λ r. (below_of below.entry ≡ down (step_of r.1))
+        × (after_step (step_of r.1) (subject_of instance.entry) ≡ Some (subject_of r.0))) }
 {
     let found = match below {
         Below::Here => return None,
