@@ -14,7 +14,7 @@ ghost use Rattle.schema_reports.specs.Keywords.{own};
 ghost use Rattle.schema_node.specs.EvaluationPaths.{path_of};
 ghost use Rattle.schema_node.specs.EvaluationPlaces.{steps_to};
 ghost use Rattle.schema_node.specs.NodeRuns.{entry_where};
-ghost use Rattle.schema_node.specs.NodeTable.{absolute_in};
+ghost use Rattle.schema_node.specs.NodeTable.{keyword_absolute};
 ghost use Rattle.schema_node.specs.NodeViews.{node_of};
 
 use crate::context::keyword::{Answer, Fault, Mode, OwnError, Reply};
@@ -58,7 +58,8 @@ fn after<'i>(instance: Instance<'i>, step: InstanceStep<'i>) -> Option<Instance<
 
 // What stands some steps below, or the instance itself where the steps lead nowhere.
 fn instance_below<'i>(instance: Instance<'i>, steps: &[InstanceStep<'i>]) -> Instance<'i>
-    ensures below { IsPresent (subject_of instance.entry) (map step_of steps.now) → subject_from (map step_of steps.now) (subject_of instance.entry) ≡ Some (subject_of result) }
+    ensures below { IsPresent (subject_of instance.entry) (map step_of steps.now)
+        → subject_from (map step_of steps.now) (subject_of instance.entry) ≡ Some (subject_of result) }
 {
     let mut found = instance;
     for step in steps {
@@ -92,7 +93,8 @@ fn spot_path(
     name: &String,
     rest: &String,
 ) -> Result<Location, OutOfMemory>
-    ensures path { IfOk result (λ l. l ≡ joined location.now (unwrap_or (option_map string_bytes absorbed.now) (string_bytes name.now)) ++ string_bytes rest.now) }
+    ensures path { IfOk result (λ l. l
+        ≡ joined location.now (unwrap_or (option_map string_bytes absorbed.now) (string_bytes name.now)) ++ string_bytes rest.now) }
 {
     let name = match absorbed {
         Some(absorbed) => absorbed.as_str(),
@@ -121,7 +123,9 @@ fn evaluated_spot_path(
     name: &String,
     rest: &String,
 ) -> Result<Location, OutOfMemory>
-    ensures path { IfOk result (λ l. l ≡ joined (path_of path.now) (unwrap_or (option_map string_bytes absorbed.now) (string_bytes name.now)) ++ string_bytes rest.now) }
+    ensures path { IfOk result (λ l. l
+        ≡ joined (path_of path.now) (unwrap_or (option_map string_bytes absorbed.now) (string_bytes name.now))
+        ++ string_bytes rest.now) }
 {
     let path = path.made(alloc)?;
     spot_path(alloc, &path, absorbed, name, rest)
@@ -138,11 +142,13 @@ fn error_places<'i, K>(
 ) -> Result<ErrorPlaces<'i>, OutOfMemory>
     ensures place { IfOk result (λ p. p.place ≡ steps_to place.now ++ map step_of found.now.below.items) }
     ensures schema_path { IfOk result (λ p. p.schema_path
-        ≡ joined (node_of node.now).location (unwrap_or (option_map string_bytes found.now.absorbed) (string_bytes name.now)) ++ string_bytes found.now.path) }
+        ≡ joined (node_of node.now).location (unwrap_or (option_map string_bytes found.now.absorbed) (string_bytes name.now))
+        ++ string_bytes found.now.path) }
     ensures evaluation_path { IfOk result (λ p. p.evaluation_path
-        ≡ joined (path_of path.now) (unwrap_or (option_map string_bytes found.now.absorbed) (string_bytes name.now)) ++ string_bytes found.now.path) }
+        ≡ joined (path_of path.now) (unwrap_or (option_map string_bytes found.now.absorbed) (string_bytes name.now))
+        ++ string_bytes found.now.path) }
     ensures absolute { IfOk result (λ p. option_map string_bytes p.absolute_keyword_location
-        ≡ absolute_in (node_of node.now) (joined (node_of node.now).location (string_bytes name.now))) }
+        ≡ keyword_absolute (node_of node.now) (string_bytes name.now)) }
 {
     let schema_path = spot_path(alloc, &node.location, &found.absorbed, name, &found.path)?;
     let evaluation_path = evaluated_spot_path(alloc, path, &found.absorbed, name, &found.path)?;
@@ -167,7 +173,8 @@ fn own_error<'i, K>(
     found: OwnError<'i>,
 ) -> Result<ValidationError<'i>, OutOfMemory>
     ensures error { IfOk result (λ e. (texts : Bool) → error_of texts e
-        ≡ fault_error (entry_where (node_of node.now) (path_of path.now) (steps_to place.now)) (string_bytes name.now) (own (own_of texts found.entry))) }
+        ≡ fault_error (entry_where (node_of node.now) (path_of path.now) (steps_to place.now))
+        (string_bytes name.now) (own (own_of texts found.entry))) }
     ensures borrows { IfOk result (λ e. (root : Data) → subject_at root (steps_to place.now) ≡ Some (subject_of instance.entry)
         → IsPresent (subject_of instance.entry) (map step_of found.entry.below.items) → BorrowsItsPlace root e) }
 {
@@ -195,7 +202,8 @@ fn error_by<'i, K>(
     fault: Fault<'i>,
 ) -> Result<ValidationError<'i>, OutOfMemory>
     ensures error { IfOk result (λ e. (texts : Bool) → error_of texts e
-        ≡ fault_error (entry_where (node_of node.now) (path_of path.now) (steps_to place.now)) (string_bytes name.now) (fault_of texts fault.entry)) }
+        ≡ fault_error (entry_where (node_of node.now) (path_of path.now) (steps_to place.now))
+        (string_bytes name.now) (fault_of texts fault.entry)) }
     ensures borrows { IfOk result (λ e. (root : Data) → subject_at root (steps_to place.now) ≡ Some (subject_of instance.entry)
         → LiesInside root (subject_of instance.entry) fault.entry → BorrowsItsPlace root e) }
 {
@@ -216,7 +224,8 @@ fn errors_by<'i, K>(
     faults: Vec<Fault<'i>>,
 ) -> Result<Vec<ValidationError<'i>>, OutOfMemory>
     ensures errors { IfOk result (λ es. (texts : Bool) → map (error_of texts) es.items
-        ≡ map (fault_error (entry_where (node_of node.now) (path_of path.now) (steps_to place.now)) (string_bytes name.now)) (map (fault_of texts) faults.entry.items)) }
+        ≡ map (fault_error (entry_where (node_of node.now) (path_of path.now) (steps_to place.now))
+        (string_bytes name.now)) (map (fault_of texts) faults.entry.items)) }
     ensures borrows { IfOk result (λ es. (root : Data) → subject_at root (steps_to place.now) ≡ Some (subject_of instance.entry)
         → All (LiesInside root (subject_of instance.entry)) faults.entry.items → All (BorrowsItsPlace root) es.items) }
 {
@@ -288,7 +297,8 @@ pub fn finished<'i, K>(
     answer: Answer<'i>,
 ) -> Result<Reply<'i>, OutOfMemory>
     ensures reply { IfOk result (λ r. (texts : Bool) → reply_of texts r
-        ≡ answer_reply (mode_of mode) (entry_where (node_of node.now) (path_of path.now) (steps_to place.now)) (string_bytes name.now) (answer_of texts answer.entry)) }
+        ≡ answer_reply (mode_of mode) (entry_where (node_of node.now) (path_of path.now) (steps_to place.now))
+        (string_bytes name.now) (answer_of texts answer.entry)) }
     ensures borrows { IfOk result (λ r. (root : Data) → subject_at root (steps_to place.now) ≡ Some (subject_of instance.entry)
         → FaultsLieInside (mode_of mode) root (subject_of instance.entry) answer.entry → All (BorrowsItsPlace root) (errors_in r)) }
 {

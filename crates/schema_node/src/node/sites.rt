@@ -82,7 +82,9 @@ pub fn match_site<'i, K>(
     point: MatchPoint<'_>,
 ) -> Result<MatchSite<'i>, OutOfMemory>
     requires present { IsPresent (subject_of instance) (map step_of point.spot.below.now) }
-    ensures site { IfOk result (λ s. s ≡ site_at (entry_where (node_of node.now) (path_of path.now) (steps_to place.now)) (string_bytes name.now) (point_of point.entry)) }
+    ensures site { IfOk result (λ s. s
+        ≡ site_at (entry_where (node_of node.now) (path_of path.now) (steps_to place.now))
+        (string_bytes name.now) (point_of point.entry)) }
 {
     let name = match point.spot.absorbed {
         Some(absorbed) => absorbed,
