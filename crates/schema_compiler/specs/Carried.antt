@@ -16,14 +16,14 @@ use Rattle.schema_reports.specs.Guarded.{NodeEdge, NodePart, NodePlan}
 use Rattle.schema_node.specs.NodeTable.{NodeEntry}
 use Rattle.schema_compiler.specs.KeyViews.{key_of}
 use Rattle.schema_compiler.specs.Options.{given_parts}
-use Rattle.schema_compiler.specs.Compiling.{StandsBelow, member_causes, member_edges, object_edges, option_one, reference_asked}
+use Rattle.schema_compiler.specs.Compiling.{StandsBelow, member_causes, member_edges, object_edges, option_one, reference_asked, resolving_parts}
 use Rattle.schema_compiler.specs.Refusing.{IsRefusal, Refused}
 use Rattle.schema_compiler.specs.Filling.{IsPlanned, IsTable}
 use Rattle.schema_compiler.specs.Steps.{IsAnswered, IsEdgeTo, IsNumbered, MakesPart, MakesParts, MakesPlan}
 use Rattle.schema_compiler.specs.declared.compiler.error.BuildError.{BuildError}
 use Rattle.schema_compiler.specs.declared.compiler.key.SchemaKey.{SchemaKey}
-use Rattle.schema_compiler.specs.declared.compiler.table.Given.{Given}
-use Rattle.schema_compiler.specs.declared.compiler.table.Compiled.{Compiled}
+use Rattle.schema_compiler.specs.declared.compiler.given.Given.{Given}
+use Rattle.schema_compiler.specs.declared.compiler.compiled.Compiled.{Compiled}
 
 -- what is given, as parts, with the shape of keywords and the limit
 pub record Task (S K C : Type 0) : Type 0 where
@@ -42,6 +42,16 @@ task resolving owned script shape g = record {
   shape = shape;
   limit = g.options.now.node_limit;
 }
+
+-- what is given, as far as the resolver alone decides it
+abbrev pub resolver_parts : {R T S : Type 0} → (R → Resolver S) → Given R T → Parts S (Unit {0}) (Unit {0})
+resolver_parts resolving g = resolving_parts (resolving g.resolver.now)
+
+-- a reference leads to this key; to none where it is skipped
+abbrev pub LeadsBy : {S K R P : Type 0} → Parts S K R → (P → S) → Key S → Reference → Text → Option (SchemaKey P) → Type 0
+LeadsBy w point k kind text o = MatchOption o (is_self w k kind text ≡ true)
+    (λ t. (is_self w k kind text ≡ false)
+    × ((name : Text) → reference_edge w k name kind text ≡ Some (record { key = key_of point t; path = joined [] name; is_reference = true })))
 
 abbrev pub filled : {S P C : Type 0} → (S → P) → Compiled S C → Table P C
 filled point c = record { keys = map (key_of point) c.keys; nodes = c.nodes }

@@ -10,7 +10,7 @@ use Rattle.schema_compiler.specs.KeyViews.{key_of}
 use Rattle.schema_compiler.specs.Options.{given_parts}
 use Rattle.schema_compiler.proofs.Turns.{Asked, resumed, turns}
 use Rattle.schema_compiler.proofs.Entries.{SoFar}
-use Rattle.schema_compiler.proofs.compiler.table.Given.+compile.Given as goal
+use Rattle.schema_compiler.proofs.compiler.given.Given.+compile.Given as goal
 
 abbrev pub decreases-edge_to : goal.decreases-edge_to
 decreases-edge_to g l = 8 * (l.self.now.options.now.node_limit - length l.compiled.now.keys) + 1

@@ -22,14 +22,14 @@ use Rattle.schema_compiler.specs.Compiling.{reference_asked}
 use Rattle.schema_compiler.specs.Refusing.{Refused}
 use Rattle.schema_compiler.specs.Steps.{MakesPart, MakesPlan}
 use Rattle.schema_compiler.proofs.Growing.{refusal_map, from_key, blames_key, grown_none, grown_map, step_none}
-use Rattle.schema_compiler.proofs.Tables.{numbered_after, reserved_after, finished_grown}
+use Rattle.schema_compiler.proofs.Tables.{are_filled, finished_grown, finished_table, finishes, numbered_after, reserved_after}
 use Rattle.schema_compiler.proofs.References.{asked_refused, compile_clean, reference_clean, self_clean, asked_self, asked_edge, is_answered, is_skipped}
 use Rattle.schema_compiler.proofs.Entries.{all_entries, all_steps, so_far_none, so_far_more, member_refused}
 use Rattle.schema_compiler.proofs.Forms.{boolean_made, object_is, object_stands, other_refused}
 use Rattle.schema_compiler.proofs.Turns.{asked_begun, asked_compile, asked_refer, compile_refused, refer_refused, made_keyword, made_nothing}
 use Rattle.schema_compiler.proofs.MembersAsk.{own_is, reference_is, built_is, no_member, lone_is, lone_refused, members_are, members_refused, text_refused, other_text_refused, reference_made, planned_alone}
 use Rattle.schema_compiler.proofs.Unknown.{made_known, kept_unknown}
-use Rattle.schema_compiler.proofs.compiler.table.Given.+compile.Goals as goal
+use Rattle.schema_compiler.proofs.compiler.given.Given.+compile.Goals as goal
 
 pub child_edge-returns-in_err-edge_to-clause-refused : goal.child_edge-returns-in_err-edge_to-clause-refused
 child_edge-returns-in_err-edge_to-clause-refused g t c =
@@ -46,11 +46,6 @@ child_edge-returns-clause-answered g t c =
     let old = filled g.R.Resolver.point c.args.compiled.now in
     is_answered s.parts s.shape s.limit _ (record { key = v c.in_ok-below.below; path = pointer_to c.args.path.now; is_reference = false }) _ old.keys (map v c.edge_to.new.compiled.keys) old.nodes c.edge_to.new.compiled.nodes (edge_of c.in_ok-edge_to.field-0) _ c.in_ok-below.ensures.below
     (compile_clean s.parts (v c.args.key.now) c.args.path.now (record { key = v c.in_ok-below.below; path = pointer_to c.args.path.now; is_reference = false }) c.in_ok-below.ensures.below) (λ f. absurd (true≢false (sym f))) c.in_ok-location.ensures.pointer c.in_ok-edge_to.ensures.edge
-
-pub edge_to-edge_at-requires-clause-numbered : goal.edge_to-edge_at-requires-clause-numbered
-edge_to-edge_at-requires-clause-numbered g t c =
-    let v = key_of g.R.Resolver.point in
-    (v c.args.key, c.in_ok-number.ensures.numbered.number)
 
 pub edge_to-returns-clause-edge : goal.edge_to-returns-clause-edge
 edge_to-returns-clause-edge g t c =
@@ -88,17 +83,19 @@ number_of-returns-in_err-planned-clause-refused g t c =
     let k = v c.args.key.now in
     rw (p.1, p.2) (refusal_map s.limit _ _ _ _ old.keys (map v c.reserve_within.new.compiled.keys) (k ∷ []) (from_key s.parts k) (blames_key s.parts k) c.in_ok-number.ensures.keys (at_first, tt) _ c.in_err-planned.ensures.refused)
 
-pub number_of-finish-requires-clause-numbered : goal.number_of-finish-requires-clause-numbered
-number_of-finish-requires-clause-numbered g t c =
-    let v = key_of g.R.Resolver.point in
-    let old = filled g.R.Resolver.point c.args.compiled.now in
-    (numbered_after old.keys (map v c.reserve_within.new.compiled.keys) (map v c.planned_node.new.compiled.keys) c.in_ok-planned.ensures.planned.step.grown.added.0 (v c.args.key.now) c.in_ok-number.number.0 (c.in_ok-number.ensures.number ∙ c.requires.table.lengths) c.in_ok-number.ensures.keys c.in_ok-planned.ensures.planned.step.grown.added.1)
-
-pub number_of-finish-requires-clause-reserved : goal.number_of-finish-requires-clause-reserved
-number_of-finish-requires-clause-reserved g t c =
+pub number_of-fill-requires-clause-reserved : goal.number_of-fill-requires-clause-reserved
+number_of-fill-requires-clause-reserved g t c =
     let old = filled g.R.Resolver.point c.args.compiled.now in
     let n = c.in_ok-number.ensures.nodes in
     reserved_after old.nodes c.reserve_within.new.compiled.nodes c.planned_node.new.compiled.nodes n.0 c.in_ok-number.number.0 c.in_ok-number.ensures.number n.1 n.2 c.in_ok-planned.ensures.planned.step.grown.stay
+
+pub number_of-fill-requires-clause-ready : goal.number_of-fill-requires-clause-ready
+number_of-fill-requires-clause-ready g t c =
+    let v = key_of g.R.Resolver.point in
+    let s = task g.R.Resolver.resolving g.T.KeywordTable.owned g.T.KeywordTable.script g.K.Validate.shape c.args.self.now in
+    let m = c.in_ok-planned.ensures.planned in
+    are_filled s.parts s.shape s.limit (map v c.planned_node.new.compiled.keys) c.planned_node.new.compiled.nodes (v c.args.key.now) (plan_of c.in_ok-planned.planned.form)
+    (record { plans = m.plan; settled = m.step.settled; clean = m.step.clean })
 
 pub number_of-returns-clause-numbered : goal.number_of-returns-clause-numbered
 number_of-returns-clause-numbered g t c =
@@ -106,15 +103,23 @@ number_of-returns-clause-numbered g t c =
     let s = task g.R.Resolver.resolving g.T.KeywordTable.owned g.T.KeywordTable.script g.K.Validate.shape c.args.self.now in
     let old = filled g.R.Resolver.point c.args.compiled.now in
     let n = c.in_ok-number.ensures.nodes in
+    let m = c.in_ok-planned.ensures.planned in
     let k = v c.args.key.now in
+    let i = c.in_ok-number.number.0 in
+    let p = plan_of c.in_ok-planned.planned.form in
+    let annotations = c.in_ok-planned.planned.annotations in
     let reserved = map v c.reserve_within.new.compiled.keys in
     let planned = map v c.planned_node.new.compiled.keys in
-    let grown = c.in_ok-planned.ensures.planned.step.grown in
+    let nodes' = c.reserve_within.new.compiled.nodes in
+    let nodes'' = c.planned_node.new.compiled.nodes in
+    let nodes-filled = c.fill.new.self in
+    let at = numbered_after old.keys reserved planned m.step.grown.added.0 k i (c.in_ok-number.ensures.number ∙ c.requires.table.lengths) c.in_ok-number.ensures.keys m.step.grown.added.1 in
+    let is_reserved = reserved_after old.nodes nodes' nodes'' n.0 i c.in_ok-number.ensures.number n.1 n.2 m.step.grown.stay in
     record {
-      table = c.finish.ensures.table;
-      grown = finished_grown _ old.keys reserved planned (map v c.finish.new.compiled.keys) old.nodes c.reserve_within.new.compiled.nodes c.planned_node.new.compiled.nodes c.finish.new.compiled.nodes k n.0 c.in_ok-number.number.0
-          c.requires.table.lengths c.in_ok-number.ensures.number c.in_ok-number.ensures.keys n.1 at_first (grown_map _ _ _ _ _ _ (from_key s.parts k) grown) c.finish.ensures.keys c.finish.ensures.filled;
-      number = rw c.finish.ensures.keys (numbered_after old.keys reserved planned grown.added.0 k c.in_ok-number.number.0 (c.in_ok-number.ensures.number ∙ c.requires.table.lengths) c.in_ok-number.ensures.keys grown.added.1);
+      table = finished_table s.parts s.shape s.limit planned nodes'' nodes-filled i k annotations p m.step.table at is_reserved c.fill.ensures.filled (record { plans = m.plan; settled = m.step.settled; clean = m.step.clean }) m.annotated;
+      grown = finished_grown _ old.keys reserved planned planned old.nodes nodes' nodes'' nodes-filled k n.0 i
+          c.requires.table.lengths c.in_ok-number.ensures.number c.in_ok-number.ensures.keys n.1 at_first (grown_map _ _ _ _ _ _ (from_key s.parts k) m.step.grown) refl (finishes nodes'' nodes-filled i annotations p c.fill.ensures.filled);
+      number = at;
       fresh = λ absent. c.in_ok-number.ensures.number ∙ c.requires.table.lengths;
     }
 
