@@ -31,7 +31,13 @@ impl Model for ValidationOptions {
 
     ghost Value = { Options };
 
-    ghost view = { λ o. record { draft = option_map draft_of o.draft; base = option_map string_bytes o.base; formats = o.compiling.formats; declared = map string_bytes o.compiling.declared.items; limit = o.compiling.node_limit } };
+    ghost view = { λ o. record {
+      draft = option_map draft_of o.draft;
+      base = option_map string_bytes o.base;
+      formats = o.compiling.formats;
+      declared = map string_bytes o.compiling.declared.items;
+      limit = o.compiling.node_limit;
+    } };
 }
 
 impl ValidationOptions {
