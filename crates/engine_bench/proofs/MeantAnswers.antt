@@ -9,13 +9,13 @@ use Rattle.schema_reports.specs.Matching.{Matcher}
 use Rattle.schema_reports.specs.Resolving.{Resolver}
 use Rattle.schema_engine.specs.Handed.{Options}
 use Rattle.schema_engine.specs.Program.{OfEverySense, Program}
-use Rattle.engine_bench.specs.BenchMatching.{bench_matcher}
-use Rattle.engine_bench.specs.BenchShape.{BenchShape, is_whole}
+use Rattle.bench_parts.specs.BenchMatching.{bench_matcher}
+use Rattle.bench_keywords.specs.BenchShape.{BenchShape, is_whole}
 use Rattle.engine_bench.specs.ProgramAnswers.{Answers}
 use Rattle.engine_bench.specs.ProgramMeaning.{AnswersPlainly, BenchMeans, OfPlainMeaning}
-use Rattle.engine_bench.specs.Shapes.{shape_of}
-use Rattle.engine_bench.specs.Words.{words}
-use Rattle.engine_bench.specs.declared.keywords.BenchKeyword.{BenchKeyword}
+use Rattle.bench_keywords.specs.Shapes.{shape_of}
+use Rattle.bench_keywords.specs.Words.{words}
+use Rattle.bench_keywords.specs.declared.keyword.BenchKeyword.{BenchKeyword}
 use Rattle.engine_bench.specs.declared.program.answers.Answer.{Answer}
 use Rattle.engine_bench.specs.declared.program.requests.Call.{Call}
 use Rattle.engine_bench.specs.declared.program.requests.Call.TheVariants.{IsValid, IterErrors, Validate}

@@ -11,14 +11,14 @@ use Rattle.schema_reports.specs.Laws.{Agrees, AsksRightly, IsRight}
 use Rattle.schema_reports.specs.Turns.{FunctionLaws, Standing, TurnLaws, next, reply_to, standing, step_at, turned}
 use Rattle.schema_node.specs.KeywordViews.{fresh}
 use Rattle.schema_node.specs.declared.context.keyword.Mode.TheVariants as mode
-use Rattle.engine_bench.specs.declared.keywords.run.Stage.TheVariants.{Begun}
-use Rattle.engine_bench.specs.declared.keywords.run.Progress.{Progress}
-use Rattle.engine_bench.specs.BenchShape.{BenchShape}
-use Rattle.engine_bench.specs.Counts.{subject_string}
-use Rattle.engine_bench.specs.Ways.{match_point, way_begin}
-use Rattle.engine_bench.specs.WayRuns.{fits_at, replies_by}
-use Rattle.engine_bench.specs.Words.{turns_left, way, words}
-use Rattle.engine_bench.specs.Laws.{ends_in, fits_begun, fits_in, functions_keep, none_absorbed, turns_keep}
+use Rattle.keyword_ways.specs.declared.run.Stage.TheVariants.{Begun}
+use Rattle.keyword_ways.specs.declared.run.Progress.{Progress}
+use Rattle.bench_keywords.specs.BenchShape.{BenchShape}
+use Rattle.bench_keywords.specs.Counts.{subject_string}
+use Rattle.keyword_ways.specs.Ways.{match_point, way_begin}
+use Rattle.keyword_ways.specs.WayRuns.{fits_at, fits_begun, replies_by}
+use Rattle.bench_keywords.specs.Words.{turns_left, way, words}
+use Rattle.bench_keywords.specs.Laws.{ends_in, fits_in, functions_keep, none_absorbed, turns_keep}
 
 -- the patterns of the detour, and the keyword that it stands for
 abbrev pub Detour : Type 0

@@ -16,16 +16,16 @@ use Rattle.schema_engine.specs.Program.{FromSomeDepth, Program}
 use Rattle.schema_engine.specs.ProgramOf.{IsProgramOf}
 use Rattle.schema_engine.specs.Promised.{MeansSchema, OfSchema}
 use Rattle.schema_engine.specs.Roots.{Builds, RefusesBuild}
-use Rattle.engine_bench.specs.BenchAnswers.{bench_resolving}
-use Rattle.engine_bench.specs.BenchDocuments.{BenchDocument, HasCustom, HasDrafts}
-use Rattle.engine_bench.specs.BenchMatching.{bench_matcher}
-use Rattle.engine_bench.specs.Makers.{bench_script}
-use Rattle.engine_bench.specs.BenchShape.{BenchShape, is_whole}
+use Rattle.bench_parts.specs.BenchAnswers.{bench_resolving}
+use Rattle.bench_parts.specs.BenchDocuments.{BenchDocument, HasCustom, HasDrafts}
+use Rattle.bench_parts.specs.BenchMatching.{bench_matcher}
+use Rattle.bench_parts.specs.Makers.{bench_script}
+use Rattle.bench_keywords.specs.BenchShape.{BenchShape, is_whole}
 use Rattle.engine_bench.specs.ProgramAnswers.{Answers}
 use Rattle.engine_bench.specs.ProgramWords.{Holds}
-use Rattle.engine_bench.specs.Shapes.{shape_of}
-use Rattle.engine_bench.specs.Words.{words}
-use Rattle.engine_bench.specs.declared.keywords.BenchKeyword.{BenchKeyword}
+use Rattle.bench_keywords.specs.Shapes.{shape_of}
+use Rattle.bench_keywords.specs.Words.{words}
+use Rattle.bench_keywords.specs.declared.keyword.BenchKeyword.{BenchKeyword}
 use Rattle.engine_bench.specs.declared.program.requests.Call.{Call}
 
 module _ (resolver : Resolver Text) (table : Table BenchShape) (matcher : Matcher) (options : Options) (schema : Data) where

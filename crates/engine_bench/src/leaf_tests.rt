@@ -4,10 +4,10 @@ ghost use Rattle.schema_reports.specs.InstanceViews.{subject_of};
 ghost use Rattle.schema_node.specs.KeywordViews.{mode_of, turn_of};
 ghost use Rattle.engine_bench.specs.Detours.{match_at, matches_before, pattern_at, text_in};
 
-use crate::keywords::BenchKeyword;
-use crate::keywords::run::Progress;
-use crate::keywords::texts::text_of;
-use crate::matcher::BenchMatcher;
+use bench_keywords::keyword::BenchKeyword;
+use bench_keywords::texts::text_of;
+use bench_parts::matcher::BenchMatcher;
+use keyword_ways::run::Progress;
 use schema_engine::validator::Validator;
 use schema_node::context::keyword::{Answer, MatchPoint, Mode, Reply, Spot, Step, Validate};
 use schema_node::node::{Entry, EntryForm, NodeForm, Nodes};
@@ -33,7 +33,7 @@ struct DetourShape {}
 
 impl Model for DetourShape {
     ghost use Rattle.std.specs.Prelude.{[]};
-    ghost use Rattle.engine_bench.specs.BenchShape.{requires};
+    ghost use Rattle.bench_keywords.specs.BenchShape.{requires};
     ghost use Rattle.engine_bench.specs.Detours.{Detour};
 
     ghost Value = { Detour };
@@ -93,9 +93,10 @@ fn match_at<'s>(patterns: &'s [String], text: &'s str, left: usize) -> Step<'s>
 
 impl Validate for DetourKeyword {
     ghost use Rattle.std.specs.Prelude.{map, refl, string_bytes};
-    ghost use Rattle.engine_bench.specs.BenchShape.{is_whole};
-    ghost use Rattle.engine_bench.specs.Shapes.{shape_of};
-    ghost use Rattle.engine_bench.specs.Detours.{detour_ends, detour_fits, detour_functions, detour_left, detour_turns, detour_words, nothing_absorbed};
+    ghost use Rattle.bench_keywords.specs.BenchShape.{is_whole};
+    ghost use Rattle.bench_keywords.specs.Shapes.{shape_of};
+    ghost use Rattle.engine_bench.specs.Detours.{detour_ends, detour_fits, detour_functions, detour_left, detour_turns, detour_words};
+    ghost use Rattle.engine_bench.specs.Detours.{nothing_absorbed};
 
     type Run = (usize, Progress);
 

@@ -5,29 +5,12 @@
 #[cfg(test)]
 mod failing_matcher_tests;
 #[cfg(test)]
-mod keyword_table_tests;
-pub mod keywords;
-#[cfg(test)]
 mod leaf_tests;
-pub mod matcher;
-pub mod meta;
-#[cfg(test)]
-mod node_tests;
 #[cfg(test)]
 mod option_tests;
 pub mod program;
 #[cfg(test)]
-mod report_tests;
-pub mod resolver;
-#[cfg(test)]
 mod retry_tests;
-#[cfg(test)]
-mod rows;
-#[cfg(test)]
-mod search_tests;
-pub mod table;
-#[cfg(test)]
-mod tests;
 
 use crate::program::arguments::given_words;
 use crate::program::faults::Fault;

@@ -18,13 +18,13 @@ mod row_tests;
 #[cfg(test)]
 mod tests;
 
-use crate::keywords::BenchKeyword;
-use crate::matcher::BenchMatcher;
 use crate::program::answers::{Answer, ask};
 use crate::program::faults::Fault;
 use crate::program::requests::{Request, request_in};
-use crate::resolver::BenchResolver;
-use crate::table::BenchTable;
+use bench_keywords::keyword::BenchKeyword;
+use bench_parts::matcher::BenchMatcher;
+use bench_parts::resolver::BenchResolver;
+use bench_parts::table::BenchTable;
 use schema_engine::validator::Validator;
 use schema_reports::keywords::VocabularySet;
 use std::alloc::Global;

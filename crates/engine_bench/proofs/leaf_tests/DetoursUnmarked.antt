@@ -3,11 +3,11 @@ use Rattle.schema_reports.specs.Instance.{Subject}
 use Rattle.schema_reports.specs.Keywords.{Answer, Reply, no_reply}
 use Rattle.schema_node.specs.KeywordViews.{fresh}
 use Rattle.schema_node.specs.Marks.{AlwaysUnmarked, TakesNoMarks}
-use Rattle.engine_bench.specs.declared.keywords.run.Progress.{Progress}
+use Rattle.keyword_ways.specs.declared.run.Progress.{Progress}
 use Rattle.engine_bench.specs.Detours.{Detour, detour_words, matches_before}
-use Rattle.engine_bench.specs.Ways.{way_begin}
-use Rattle.engine_bench.specs.Words.{way, words}
-use Rattle.engine_bench.proofs.Unmarked.{WantsNone, mode-kept, step_unmarked}
+use Rattle.keyword_ways.specs.Ways.{way_begin}
+use Rattle.bench_keywords.specs.Words.{way, words}
+use Rattle.keyword_ways.proofs.WayMarks.{WantsNone, mode-kept, step_unmarked}
 
 -- each turn keeps the run's mode
 turns_unmarked : (texts : Bool) (m : Detour) (s : Subject) (n left : ℕ) (r : Progress × Answer) (reply : Reply) → WantsNone r.0.mode

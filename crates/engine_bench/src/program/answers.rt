@@ -9,20 +9,20 @@ ghost use Rattle.schema_reports.specs.Resolving.{Resolver};
 ghost use Rattle.schema_reports.specs.ReportViews.{error_of};
 ghost use Rattle.schema_engine.specs.Handed.{Options};
 ghost use Rattle.schema_engine.specs.Program.{FromSomeDepth, OfEverySense};
-ghost use Rattle.engine_bench.specs.BenchMatching.{bench_matcher};
-ghost use Rattle.engine_bench.specs.BenchShape.{BenchShape, is_whole};
+ghost use Rattle.bench_parts.specs.BenchMatching.{bench_matcher};
+ghost use Rattle.bench_keywords.specs.BenchShape.{BenchShape, is_whole};
 ghost use Rattle.engine_bench.specs.ProgramAnswers.{Answers};
 ghost use Rattle.engine_bench.specs.ProgramMeaning.{AnswersPlainly, BenchMeans};
 ghost use Rattle.engine_bench.specs.ProgramRuns.{answer_status};
 ghost use Rattle.engine_bench.specs.ProgramTexts.{error_line, verdict_text};
-ghost use Rattle.engine_bench.specs.Shapes.{shape_of};
-ghost use Rattle.engine_bench.specs.Words.{words};
+ghost use Rattle.bench_keywords.specs.Shapes.{shape_of};
+ghost use Rattle.bench_keywords.specs.Words.{words};
 ghost use Rattle.engine_bench.specs.declared.program.requests.Call.TheVariants.{IsValid, IterErrors, Validate};
 
-use crate::keywords::BenchKeyword;
-use crate::matcher::BenchMatcher;
 use crate::program::Status;
 use crate::program::requests::Call;
+use bench_keywords::keyword::BenchKeyword;
+use bench_parts::matcher::BenchMatcher;
 use schema_engine::validator::Validator;
 use schema_reports::location::OutOfMemory;
 use schema_reports::reports::ValidationError;
@@ -70,8 +70,12 @@ fn verdict(
     validator: &Validator<BenchKeyword, BenchMatcher>,
     instance: &Value,
 ) -> Result<Answer, OutOfMemory>
-    ensures senses { IfOk result (λ a. Answers (OfEverySense shape_of words is_whole bench_matcher validator.now (view instance.now)) IsValid a.accepted (string_bytes a.text)) }
-    ensures depth { IfOk result (λ a. Answers (FromSomeDepth shape_of words is_whole bench_matcher validator.now (view instance.now)) IsValid a.accepted (string_bytes a.text)) }
+    ensures senses { IfOk result (λ a. Answers
+        (OfEverySense shape_of words is_whole bench_matcher validator.now (view instance.now))
+        IsValid a.accepted (string_bytes a.text)) }
+    ensures depth { IfOk result (λ a. Answers
+        (FromSomeDepth shape_of words is_whole bench_matcher validator.now (view instance.now))
+        IsValid a.accepted (string_bytes a.text)) }
 {
     let accepted = validator.is_valid(alloc, instance)?;
     let text = verdict_text(alloc, accepted)?;
@@ -95,8 +99,12 @@ fn first(
     validator: &Validator<BenchKeyword, BenchMatcher>,
     instance: &Value,
 ) -> Result<Answer, OutOfMemory>
-    ensures senses { IfOk result (λ a. Answers (OfEverySense shape_of words is_whole bench_matcher validator.now (view instance.now)) Validate a.accepted (string_bytes a.text)) }
-    ensures depth { IfOk result (λ a. Answers (FromSomeDepth shape_of words is_whole bench_matcher validator.now (view instance.now)) Validate a.accepted (string_bytes a.text)) }
+    ensures senses { IfOk result (λ a. Answers
+        (OfEverySense shape_of words is_whole bench_matcher validator.now (view instance.now))
+        Validate a.accepted (string_bytes a.text)) }
+    ensures depth { IfOk result (λ a. Answers
+        (FromSomeDepth shape_of words is_whole bench_matcher validator.now (view instance.now))
+        Validate a.accepted (string_bytes a.text)) }
 {
     match validator.validate(alloc, instance)? {
         Ok(()) => Ok(Answer {
@@ -120,8 +128,12 @@ fn errors(
     validator: &Validator<BenchKeyword, BenchMatcher>,
     instance: &Value,
 ) -> Result<Answer, OutOfMemory>
-    ensures senses { IfOk result (λ a. Answers (OfEverySense shape_of words is_whole bench_matcher validator.now (view instance.now)) IterErrors a.accepted (string_bytes a.text)) }
-    ensures depth { IfOk result (λ a. Answers (FromSomeDepth shape_of words is_whole bench_matcher validator.now (view instance.now)) IterErrors a.accepted (string_bytes a.text)) }
+    ensures senses { IfOk result (λ a. Answers
+        (OfEverySense shape_of words is_whole bench_matcher validator.now (view instance.now))
+        IterErrors a.accepted (string_bytes a.text)) }
+    ensures depth { IfOk result (λ a. Answers
+        (FromSomeDepth shape_of words is_whole bench_matcher validator.now (view instance.now))
+        IterErrors a.accepted (string_bytes a.text)) }
 {
     let mut accepted = true;
     let mut text = String::new(alloc);
@@ -144,10 +156,16 @@ pub fn ask(
     call: Call,
     instance: &Value,
 ) -> Result<Answer, OutOfMemory>
-    ensures senses { IfOk result (λ a. Answers (OfEverySense shape_of words is_whole bench_matcher validator.now (view instance.now)) call a.accepted (string_bytes a.text)) }
-    ensures means { IfOk result (λ a. (resolver : Resolver Text) (table : Table BenchShape) (matcher : Matcher) (options : Options) (schema : Data)
-        → BenchMeans resolver table matcher options schema validator.now → AnswersPlainly resolver table matcher options schema (view instance.now) call a.accepted (string_bytes a.text)) }
-    ensures depth { IfOk result (λ a. Answers (FromSomeDepth shape_of words is_whole bench_matcher validator.now (view instance.now)) call a.accepted (string_bytes a.text)) }
+    ensures senses { IfOk result (λ a. Answers
+        (OfEverySense shape_of words is_whole bench_matcher validator.now (view instance.now))
+        call a.accepted (string_bytes a.text)) }
+    ensures means { IfOk result
+        (λ a. (resolver : Resolver Text) (table : Table BenchShape) (matcher : Matcher) (options : Options) (schema : Data)
+        → BenchMeans resolver table matcher options schema validator.now
+        → AnswersPlainly resolver table matcher options schema (view instance.now) call a.accepted (string_bytes a.text)) }
+    ensures depth { IfOk result (λ a. Answers
+        (FromSomeDepth shape_of words is_whole bench_matcher validator.now (view instance.now))
+        call a.accepted (string_bytes a.text)) }
 {
     match call {
         Call::IsValid => verdict(alloc, validator, instance),

@@ -1,13 +1,13 @@
 //! What the words ask for.
 ghost use Rattle.std.specs.Prelude.{◌≡◌, IfOk, IfErr, map, option_map, string_bytes};
 ghost use Rattle.serde_json.specs.View.{view};
-ghost use Rattle.engine_bench.specs.Makers.{texts_of};
+ghost use Rattle.bench_parts.specs.Makers.{texts_of};
 ghost use Rattle.engine_bench.specs.ProgramFaults.{FaultStands, Unlisted, Unread};
 ghost use Rattle.engine_bench.specs.ProgramViews.{texts, words_of};
 ghost use Rattle.engine_bench.specs.ProgramWords.{Holds, IsListOf, IsTextOf, call_in, call_named, listed, words_in};
 
 use crate::program::faults::{Fault, Word};
-use crate::table::keyword_values::texts_of;
+use bench_parts::table::keyword_values::texts_of;
 use schema_reports::location::OutOfMemory;
 use serde_json::{Category, Value};
 use std::alloc::Global;
@@ -118,7 +118,8 @@ fn list_in(alloc: Global, text: &[u8]) -> Result<Vec<String>, Fault>
 /// The first of the faults in the words, or want of memory: a number of words other than three or four, or a MODE that is
 /// none; a SCHEMA, then an INSTANCE that is not JSON; an UNFINISHED that is no list of texts.
 pub fn request_in(alloc: Global, words: &[Vec<u8>]) -> Result<Request, Fault>
-    ensures holds { IfOk result (λ r. Holds (texts words.now) r.call (view r.schema) (view r.instance) (map string_bytes r.unfinished.items)) }
+    ensures holds { IfOk result
+        (λ r. Holds (texts words.now) r.call (view r.schema) (view r.instance) (map string_bytes r.unfinished.items)) }
     ensures fault { IfErr result (FaultStands (texts words.now)) }
     ensures usage { call_in (texts words.now) ≡ None → result ≡ Err Fault.Usage }
 {

@@ -3,10 +3,10 @@
 //! A row is `[schema, instance, unfinished patterns, lines of all errors]`, which each mode answers; or
 //! `[words, standard output, standard error, status]`, where a word that is not a text is written as JSON.
 use crate::program::run;
-use crate::rows::{column, list_at, text_at, wrong_row};
 use schema_reports::location::OutOfMemory;
 use serde_json::Value;
 use std::alloc::Global;
+use test_rows::{column, list_at, text_at, wrong_row};
 
 /// What the program writes for its words: standard output, then standard error, then its status.
 fn written(alloc: Global, words: &[Vec<u8>]) -> (Vec<u8>, Vec<u8>, u8) {

@@ -1,4 +1,4 @@
-use Rattle.engine_bench.proofs.Unmarked.{bench_takes_no_marks}
+use Rattle.bench_keywords.proofs.Unmarked.{bench_takes_no_marks}
 use Rattle.engine_bench.proofs.failing_matcher_tests.first_fails.Goals as goal
 
 pub validate-requires : goal.validate-requires

@@ -1,4 +1,4 @@
-use Rattle.engine_bench.proofs.Unmarked.{bench_takes_no_marks}
+use Rattle.bench_keywords.proofs.Unmarked.{bench_takes_no_marks}
 use Rattle.engine_bench.proofs.option_tests.only_one_is_at.Goals as goal
 
 pub iter_errors-requires : goal.iter_errors-requires

@@ -5,12 +5,12 @@ use Rattle.serde_json.specs.View.{view}
 use Rattle.schema_engine.specs.Handed.{default_options, parts_of}
 use Rattle.schema_engine.specs.ProgramOf.{IsProgramOf}
 use Rattle.schema_engine.specs.Roots.{Builds, RefusesBuild}
-use Rattle.engine_bench.specs.BenchAnswers.{bench_resolving}
-use Rattle.engine_bench.specs.BenchMatching.{bench_matcher}
+use Rattle.bench_parts.specs.BenchAnswers.{bench_resolving}
+use Rattle.bench_parts.specs.BenchMatching.{bench_matcher}
 use Rattle.engine_bench.specs.ProgramMeaning.{Asked, BenchMeans, bench_table}
 use Rattle.engine_bench.specs.ProgramViews.{texts}
-use Rattle.engine_bench.specs.Shapes.{shape_of}
-use Rattle.engine_bench.specs.Words.{words}
+use Rattle.bench_keywords.specs.Shapes.{shape_of}
+use Rattle.bench_keywords.specs.Words.{words}
 use Rattle.engine_bench.proofs.BuildFaults.{build_fault}
 use Rattle.engine_bench.proofs.program.answer_to.Goals as goal
 

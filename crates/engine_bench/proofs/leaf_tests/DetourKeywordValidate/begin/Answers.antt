@@ -1,6 +1,6 @@
 use Rattle.std.proofs.Common.{ℕ, ◌≡◌}
 use Rattle.schema_reports.specs.Keywords.{Answer}
-use Rattle.engine_bench.specs.declared.keywords.run.Progress.{Progress}
+use Rattle.keyword_ways.specs.declared.run.Progress.{Progress}
 use Rattle.engine_bench.specs.Detours.{Detouring}
 use Rattle.engine_bench.proofs.leaf_tests.DetourKeywordValidate.begin.Goals as goal
 

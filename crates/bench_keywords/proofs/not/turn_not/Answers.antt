@@ -1,0 +1,4 @@
+use Rattle.bench_keywords.proofs.not.turn_not.Goals as goal
+
+pub returns-in_ok-tell_not-in-Judged-clause-borrows : goal.returns-in_ok-tell_not-in-Judged-clause-borrows
+returns-in_ok-tell_not-in-Judged-clause-borrows c = λ root errors faults. c.in_ok-tell_not-in-Judged.ensures.borrows root faults

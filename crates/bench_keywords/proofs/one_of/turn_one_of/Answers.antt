@@ -1,0 +1,4 @@
+use Rattle.bench_keywords.proofs.one_of.turn_one_of.Goals as goal
+
+pub returns-in_ok-tell_one_of-in-Judged-clause-borrows : goal.returns-in_ok-tell_one_of-in-Judged-clause-borrows
+returns-in_ok-tell_one_of-in-Judged-clause-borrows c = λ root errors faults. c.in_ok-tell_one_of-in-Judged.ensures.borrows root faults

@@ -1,0 +1,6 @@
+pub mod TypeNames
+pub mod Counts
+pub mod BenchShape
+pub mod Words
+pub mod Laws
+pub mod Shapes

@@ -1,0 +1,203 @@
+//! The keywords.
+ghost use Rattle.std.specs.Prelude.{All, ◌≡◌, true, Bool, IfOk};
+ghost use Rattle.serde_json.specs.Data.{Data};
+ghost use Rattle.schema_reports.specs.InstanceViews.{subject_of};
+ghost use Rattle.schema_node.specs.FaultViews.{errors_in, faults_in, PassesBorrowed};
+ghost use Rattle.schema_node.specs.KeywordViews.{answer_of, turn_of, Tells};
+ghost use Rattle.schema_reports.specs.Keywords.{done};
+ghost use Rattle.schema_reports.specs.ReportViews.{BorrowsItsPlace};
+ghost use Rattle.keyword_ways.specs.declared.run.Stage.TheVariants.{Ended};
+ghost use Rattle.keyword_ways.specs.Ways.{at_first, told_at_once};
+ghost use Rattle.bench_keywords.specs.Words.{way};
+ghost use Rattle.bench_keywords.specs.Shapes.{shape_of};
+
+use crate::any_of::turn_any_of;
+use crate::counts::{CountKind, tell_count};
+use crate::each::{turn_all_of, turn_items, turn_prefix_items};
+use crate::not::turn_not;
+use crate::one_of::turn_one_of;
+use crate::pattern::turn_pattern;
+use crate::properties::turn_properties;
+use crate::property_names::turn_property_names;
+use crate::required::tell_required;
+use crate::type_names::TypeName;
+use crate::types::{tell_type, tell_types};
+use keyword_ways::branching::branch_on;
+use keyword_ways::run::Progress;
+use keyword_ways::telling::tell_on;
+use schema_node::context::keyword::{Answer, Mode, Reply, Step, Validate};
+use schema_reports::instance::Instance;
+use schema_reports::location::OutOfMemory;
+use serde_json::Value;
+use std::alloc::Global;
+use std::marker::Model;
+
+/// A keyword. Its children are named by the numbers of the requests that its maker made.
+#[derive(Drop)]
+pub enum BenchKeyword {
+    /// `type` with one name.
+    Type(TypeName),
+    /// `type` with a list of names.
+    Types(Vec<TypeName>),
+    Required(Vec<String>),
+    /// The names of the schemas, child by child.
+    Properties(Vec<String>),
+    /// One that counts, with its limit.
+    Count(CountKind, u64),
+    /// `pattern`, with its text.
+    Pattern(String),
+    /// How many schemas there are.
+    AllOf(usize),
+    /// How many schemas there are.
+    PrefixItems(usize),
+    /// How many items come before.
+    Items(usize),
+    /// How many schemas there are.
+    AnyOf(usize),
+    /// How many schemas there are.
+    OneOf(usize),
+    /// The number of the child under `then`, and of that under `else`, where there is one.
+    If(Option<usize>, Option<usize>),
+    PropertyNames,
+    /// The schema.
+    Not(Value),
+}
+
+/// What is known of a keyword apart from its representation; it holds no value.
+#[derive(Drop)]
+pub struct Shape {}
+
+impl Model for Shape {
+    ghost use Rattle.std.specs.Prelude.{[]};
+    ghost use Rattle.bench_keywords.specs.BenchShape.{BenchShape, requires};
+
+    ghost Value = { BenchShape };
+
+    ghost view = { λ _. requires [] };
+}
+
+/// Notes the errors of a keyword's own.
+fn tell<'i>(
+    keyword: &BenchKeyword,
+    alloc: Global,
+    mode: Mode,
+    instance: Instance<'i>,
+    answer: &mut Answer<'i>,
+) -> Result<(), OutOfMemory>
+    ensures told { IfOk result (λ _. (texts : Bool) → Tells texts true (subject_of instance.entry) → answer_of texts answer.new
+        ≡ told_at_once (way texts (shape_of keyword.now) (subject_of instance.entry)) mode (answer_of texts answer.old)) }
+    ensures borrows { IfOk result (λ _. (root : Data) → All (PassesBorrowed root) (faults_in answer.old)
+        → All (PassesBorrowed root) (faults_in answer.new)) }
+{
+    match keyword {
+        BenchKeyword::Type(name) => tell_type(alloc, *name, mode, instance, answer),
+        BenchKeyword::Types(names) => tell_types(alloc, names.as_slice(), mode, instance, answer),
+        BenchKeyword::Required(names) => {
+            tell_required(alloc, names.as_slice(), mode, instance, answer)
+        }
+        BenchKeyword::Count(kind, limit) => {
+            tell_count(alloc, *kind, *limit, mode, instance, answer)
+        }
+        _ => Ok(()),
+    }
+}
+
+/// The turn of a keyword that asks nothing: the first one tells its errors.
+fn turn_telling<'s, 'i>(
+    keyword: &BenchKeyword,
+    alloc: Global,
+    run: &mut Progress,
+    instance: Instance<'i>,
+    reply: Reply<'i>,
+    answer: &mut Answer<'i>,
+) -> Result<Step<'s>, OutOfMemory>
+    ensures stage { IfOk result (λ _. run.new ≡ record run.old { stage = Ended }) }
+    ensures told { IfOk result (λ _. (texts : Bool) → Tells texts true (subject_of instance.entry) → answer_of texts answer.new
+        ≡ at_first run.old.stage (told_at_once (way texts (shape_of keyword.now) (subject_of instance.entry)) run.old.mode
+        (answer_of texts answer.old)) (answer_of texts answer.old)) }
+    ensures step { IfOk result (λ step. turn_of step ≡ done) }
+    ensures borrows { IfOk result (λ _. (root : Data) → All (BorrowsItsPlace root) (errors_in reply.entry)
+        → All (PassesBorrowed root) (faults_in answer.old) → All (PassesBorrowed root) (faults_in answer.new)) }
+{
+    drop(reply);
+    if tell_on(run) {
+        tell(keyword, alloc, run.mode, instance, answer)?;
+    }
+    Ok(Step::Done)
+}
+
+impl Validate for BenchKeyword {
+    ghost use Rattle.std.specs.Prelude.{refl};
+    ghost use Rattle.bench_keywords.specs.BenchShape.{is_whole};
+    ghost use Rattle.bench_keywords.specs.Words.{turns_left, words};
+    ghost use Rattle.bench_keywords.specs.Laws.{ends_in, fits_in, functions_keep, none_absorbed, turns_keep};
+
+    type Run = Progress;
+
+    type Shape = Shape;
+
+    ghost words = { words };
+
+    ghost shape = { shape_of };
+
+    ghost absorbed = { none_absorbed };
+
+    ghost is_whole = { is_whole };
+
+    ghost remaining = { turns_left };
+
+    ghost ends = { ends_in };
+
+    ghost fits = { fits_in };
+
+    fn begin(
+        &self,
+        _alloc: Global,
+        _instance: Instance,
+        mode: Mode,
+    ) -> Result<Progress, OutOfMemory> {
+        Ok(Progress::begin(mode))
+    }
+
+    fn turn<'s, 'i: 's>(
+        &'s self,
+        alloc: Global,
+        run: &mut Progress,
+        instance: Instance<'i>,
+        reply: Reply<'i>,
+        answer: &mut Answer<'i>,
+    ) -> Result<Step<'s>, OutOfMemory> {
+        match self {
+            BenchKeyword::Type(_) => turn_telling(self, alloc, run, instance, reply, answer),
+            BenchKeyword::Types(_) => turn_telling(self, alloc, run, instance, reply, answer),
+            BenchKeyword::Required(_) => turn_telling(self, alloc, run, instance, reply, answer),
+            BenchKeyword::Count(_, _) => turn_telling(self, alloc, run, instance, reply, answer),
+            BenchKeyword::Properties(names) => {
+                turn_properties(alloc, names.as_slice(), run, instance, reply, answer)
+            }
+            BenchKeyword::Pattern(pattern) => {
+                turn_pattern(alloc, pattern.as_str(), run, instance, reply, answer)
+            }
+            BenchKeyword::AllOf(count) => turn_all_of(alloc, *count, run, reply, answer),
+            BenchKeyword::PrefixItems(count) => {
+                turn_prefix_items(alloc, *count, run, instance, reply, answer)
+            }
+            BenchKeyword::Items(before) => turn_items(alloc, *before, run, instance, reply, answer),
+            BenchKeyword::AnyOf(count) => turn_any_of(alloc, *count, run, instance, reply, answer),
+            BenchKeyword::OneOf(count) => turn_one_of(alloc, *count, run, instance, reply, answer),
+            BenchKeyword::If(accepted, refused) => {
+                branch_on(alloc, *accepted, *refused, run, reply, answer)
+            }
+            BenchKeyword::PropertyNames => turn_property_names(alloc, run, instance, reply, answer),
+            BenchKeyword::Not(schema) => turn_not(alloc, schema, run, instance, reply, answer),
+        }
+    }
+
+    ghost speaks = { λ texts. refl };
+
+    ghost answers = { λ texts run a. refl };
+
+    ghost turn_laws = { turns_keep };
+
+    ghost function_laws = { functions_keep };
+}

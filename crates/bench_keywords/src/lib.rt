@@ -1,0 +1,16 @@
+//! The bench's keywords. Each goes about an instance in one of the ways.
+#![tactic(auto)]
+
+pub mod any_of;
+pub mod counts;
+pub mod each;
+pub mod keyword;
+pub mod not;
+pub mod one_of;
+pub mod pattern;
+pub mod properties;
+pub mod property_names;
+pub mod required;
+pub mod texts;
+pub mod type_names;
+pub mod types;

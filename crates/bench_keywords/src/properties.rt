@@ -1,0 +1,98 @@
+//! `properties`.
+ghost use Rattle.std.specs.Prelude.{All, ◌≡◌, Bool, map, option_map, string_bytes, IfOk};
+ghost use Rattle.serde_json.specs.Data.{Data};
+ghost use Rattle.schema_reports.specs.ReportViews.{BorrowsItsPlace};
+ghost use Rattle.schema_reports.specs.InstanceViews.{subject_of};
+ghost use Rattle.schema_reports.specs.Instance.{to_member};
+ghost use Rattle.schema_reports.specs.Keywords.{down};
+ghost use Rattle.schema_node.specs.FaultViews.{errors_in, faults_in, PassesBorrowed};
+ghost use Rattle.schema_node.specs.KeywordViews.{answer_of, reply_of, turn_of};
+ghost use Rattle.keyword_ways.specs.Ways.{asked, nth, passes_on, way_step, way_turn};
+ghost use Rattle.keyword_ways.specs.Asking.{nth_at, stage_of};
+ghost use Rattle.keyword_ways.specs.Members.{present_from};
+
+use keyword_ways::members::has_member;
+use keyword_ways::passing::onward;
+use keyword_ways::run::{Progress, Stage};
+use schema_node::context::keyword::{Answer, Below, Reply, Step};
+use schema_reports::instance::Instance;
+use schema_reports::location::OutOfMemory;
+use std::alloc::Global;
+
+/// Asks each child whose name is a member of the instance there.
+pub fn turn_properties<'s, 'i>(
+    alloc: Global,
+    names: &'s [String],
+    run: &mut Progress,
+    instance: Instance<'i>,
+    reply: Reply<'i>,
+    answer: &mut Answer<'i>,
+) -> Result<Step<'s>, OutOfMemory>
+    ensures turns { IfOk result (λ _. (texts : Bool) → way_turn
+        (passes_on (present_from 0 (map string_bytes names.now) (subject_of instance.entry))) (run.old, answer_of texts answer.old)
+        (reply_of texts reply.entry)
+        ≡ (run.new, answer_of texts answer.new)) }
+    ensures steps { IfOk result (λ step. (texts : Bool) → way_step
+        (passes_on (present_from 0 (map string_bytes names.now) (subject_of instance.entry))) (run.old, answer_of texts answer.old)
+        (reply_of texts reply.entry)
+        ≡ turn_of step) }
+    ensures borrows { IfOk result (λ _. (root : Data) → All (BorrowsItsPlace root) (errors_in reply.entry)
+        → All (PassesBorrowed root) (faults_in answer.old) → All (PassesBorrowed root) (faults_in answer.new)) }
+{
+    let place = onward(alloc, names.len(), run, reply, answer)?;
+    Ok(ask_member(names, place, run, instance))
+}
+
+/// Asks the question of this place, if there is one, and ends the run else.
+fn ask_member<'s>(
+    names: &'s [String],
+    place: Option<usize>,
+    run: &mut Progress,
+    instance: Instance<'_>,
+) -> Step<'s>
+    ensures stage { run.new ≡ record run.old {
+      stage = stage_of (present_from 0 (map string_bytes names.now) (subject_of instance.entry))
+          place;
+    } }
+    ensures step { turn_of result ≡ asked run.old.mode (nth_at (present_from 0 (map string_bytes names.now) (subject_of instance.entry))
+        place) }
+{
+    match place {
+        None => {
+            run.stage = Stage::Ended;
+            Step::Done
+        }
+        Some(place) => match present_at(names, place, instance) {
+            None => {
+                run.stage = Stage::Ended;
+                Step::Done
+            }
+            Some((child, name)) => {
+                run.stage = Stage::Asked(place);
+                Step::Ask(child, Below::Member(name), run.mode)
+            }
+        },
+    }
+}
+
+/// The child, with its name, that is the one of this place among those whose names are members of the instance.
+fn present_at<'s>(
+    names: &'s [String],
+    place: usize,
+    instance: Instance<'_>,
+) -> Option<(usize, &'s str)>
+    ensures present { option_map (λ p. record { child = p.0; below = down (to_member p.1.now) }) result
+        ≡ nth place (present_from 0 (map string_bytes names.now) (subject_of instance.entry)) }
+{
+    let mut left = place;
+    for (child, name) in names.iter().enumerate() {
+        let text = name.as_str();
+        if has_member(instance, text) {
+            if left == 0 {
+                return Some((child, text));
+            }
+            left -= 1;
+        }
+    }
+    None
+}

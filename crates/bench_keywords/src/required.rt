@@ -1,0 +1,58 @@
+//! `required`.
+ghost use Rattle.std.specs.Prelude.{All, ◌≡◌, ◌&&◌, not, Bool, codes, map, string_bytes, IfOk};
+ghost use Rattle.serde_json.specs.Data.{Data};
+ghost use Rattle.schema_reports.specs.InstanceViews.{subject_of};
+ghost use Rattle.schema_reports.specs.ReportViews.{spoken};
+ghost use Rattle.schema_node.specs.FaultViews.{faults_in, PassesBorrowed};
+ghost use Rattle.schema_node.specs.KeywordViews.{answer_of};
+ghost use Rattle.keyword_ways.specs.Members.{has_member, is_object};
+ghost use Rattle.keyword_ways.specs.Ways.{noted};
+ghost use Rattle.bench_keywords.specs.Words.{missing, required_text};
+
+use crate::texts::quoted;
+use keyword_ways::answers::note;
+use keyword_ways::members::{has_member, is_object};
+use schema_node::context::keyword::{Answer, Mode};
+use schema_reports::instance::Instance;
+use schema_reports::location::OutOfMemory;
+use std::alloc::Global;
+
+/// Notes an error for each name that an object lacks, in order.
+pub fn tell_required<'i>(
+    alloc: Global,
+    names: &[String],
+    mode: Mode,
+    instance: Instance<'i>,
+    answer: &mut Answer<'i>,
+) -> Result<(), OutOfMemory>
+    ensures told { IfOk result (λ _. (texts : Bool) → answer_of texts answer.new
+        ≡ noted mode (codes "required") (answer_of texts answer.old)
+        (map (λ k. spoken texts (required_text k)) (missing (map string_bytes names.now) (subject_of instance.entry)))) }
+    ensures borrows { IfOk result (λ _. (root : Data) → All (PassesBorrowed root) (faults_in answer.old)
+        → All (PassesBorrowed root) (faults_in answer.new)) }
+{
+    for name in names {
+        if is_missing(name, instance) {
+            let text = required_text(alloc, name.as_str())?;
+            note(alloc, mode, "required", text, answer)?;
+        }
+    }
+    Ok(())
+}
+
+/// Whether the instance is an object without this member.
+fn is_missing(name: &String, instance: Instance<'_>) -> bool
+    ensures missing { result ≡ (is_object (subject_of instance.entry) && not
+        (has_member (string_bytes name.now) (subject_of instance.entry))) }
+{
+    is_object(instance) && !has_member(instance, name.as_str())
+}
+
+/// The error's text.
+fn required_text(alloc: Global, name: &str) -> Result<String, OutOfMemory>
+    ensures text { IfOk result (λ text. string_bytes text ≡ required_text name.now) }
+{
+    let mut text = quoted(alloc, name)?;
+    text.push_str(" is a required property")?;
+    Ok(text)
+}

@@ -1,0 +1,52 @@
+-- What the bench's meta validators refuse of a document: the first fault, members in the order of their names and items in
+-- order, a member before what is inside it. Texts are not spoken of. (Core 2020-12, 8.1.1 and 4.3.1; Validation 2020-12, 6.3.2)
+use Rattle.std.specs.Prelude.{Bool, None, Option, Some, [], bytes_eq, codes, false, if◌then◌else◌, is_some, not, true, ℕ, ◌&&◌, ◌++◌, ◌+◌, ◌||◌, ◌∷◌}
+use Rattle.serde_json.specs.Data.{Data, Items, Members, array, boolean, item, member, no_items, no_members, null, number, object, string}
+use Rattle.serde_json.specs.Find.{as_array, as_number}
+use Rattle.schema_reports.specs.Instance.{Place, Text, to_item, to_member}
+use Rattle.schema_reports.specs.Drafts.{Draft, draft_2020_12, draft_unknown}
+use Rattle.schema_reports.specs.Reports.{Error}
+use Rattle.bench_parts.specs.BenchResolving.{is_schema}
+
+-- the error of a value of another type, at its place
+abbrev pub mistyped : Place → Error
+mistyped place = record { place = place; schema_path = codes "/type"; evaluation_path = codes "/type"; absolute = None; name = codes "type"; text = [] }
+
+-- an unknown draft counts as 2020-12
+abbrev pub is_2020_12 : Draft → Bool
+is_2020_12 draft_2020_12 = true
+is_2020_12 draft_unknown = true
+is_2020_12 _ = false
+
+-- a `minLength` that is no number, and in 2020-12 an `items` that is a list
+abbrev pub refuses_member : Draft → Text → Data → Bool
+refuses_member d k v = (bytes_eq k (codes "minLength") && not (is_some (as_number v))) || (bytes_eq k (codes "items") && is_2020_12 d && is_some (as_array v))
+
+abbrev pub member_fault : Draft → Place → Text → Data → Option Error
+member_fault d place k v = if refuses_member d k v then Some (mistyped place) else None
+
+abbrev pub earlier : Option Error → Option Error → Option Error
+earlier None o = o
+earlier (Some e) o = Some e
+
+-- the first fault inside what stands at a place
+abbrev mutual
+  pub fault_in : Draft → Place → Data → Option Error
+  fault_in d place null = None
+  fault_in d place (boolean b) = None
+  fault_in d place (number n) = None
+  fault_in d place (string s) = None
+  fault_in d place (array ds) = fault_in_items d place 0 ds
+  fault_in d place (object ms) = fault_in_members d place ms
+
+  pub fault_in_items : Draft → Place → ℕ → Items → Option Error
+  fault_in_items d place n no_items = None
+  fault_in_items d place n (item v ds) = earlier (fault_in d (place ++ to_item n ∷ []) v) (fault_in_items d place (n + 1) ds)
+
+  pub fault_in_members : Draft → Place → Members → Option Error
+  fault_in_members d place no_members = None
+  fault_in_members d place (member k v ms) = earlier (member_fault d (place ++ to_member k ∷ []) k v) (earlier (fault_in d (place ++ to_member k ∷ []) v) (fault_in_members d place ms))
+
+-- a document that is neither object nor boolean is refused as a whole
+abbrev pub document_fault : Draft → Data → Option Error
+document_fault d v = if is_schema v then fault_in d [] v else Some (mistyped [])

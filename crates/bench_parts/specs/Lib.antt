@@ -1,0 +1,12 @@
+pub mod Makers
+pub mod MakerViews
+pub mod MakerLaws
+pub mod BenchMatching
+pub mod BenchResolving
+pub mod BenchPointers
+pub mod BenchPointersLead
+pub mod BenchDocuments
+pub mod BenchAnswers
+pub mod OnWay
+pub mod BenchMeta
+pub mod ResolverLaws

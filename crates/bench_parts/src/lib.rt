@@ -1,0 +1,8 @@
+//! Parts that keep the laws, made for tests and for the program `engine_bench`: a keyword table, a resolver of one document,
+//! a matcher and meta validators.
+#![tactic(auto)]
+
+pub mod matcher;
+pub mod meta;
+pub mod resolver;
+pub mod table;

@@ -1,0 +1,59 @@
+//! The vocabularies of drafts.
+ghost use Rattle.std.specs.Prelude.{◌≡◌, IfOk};
+ghost use Rattle.schema_reports.specs.KeywordViews.{draft_of};
+ghost use Rattle.bench_parts.specs.BenchDocuments.{vocabularies_in, HasCustom, HasDrafts};
+
+use schema_reports::keywords::{Draft, Vocabulary, VocabularySet};
+use schema_reports::location::OutOfMemory;
+
+/// The vocabularies of drafts before 2019-09, of 2019-09, and of later ones.
+#[derive(Drop)]
+pub struct DraftVocabularies {
+    pub early: VocabularySet,
+    pub of_2019_09: VocabularySet,
+    pub late: VocabularySet,
+}
+
+impl DraftVocabularies {
+    /// The vocabularies that each draft has of its own, and in every draft the required ones.
+    ///
+    /// # Errors
+    ///
+    /// Want of memory.
+    pub fn with_required(required: VocabularySet) -> Result<DraftVocabularies, OutOfMemory>
+        ensures drafts { IfOk result (HasDrafts required) }
+        ensures custom { IfOk result (HasCustom required) }
+    {
+        let of_2019_09 = required
+            .duplicate()?
+            .with(Vocabulary::Content)?
+            .with(Vocabulary::Metadata)?
+            .with(Vocabulary::Validation)?
+            .with(Vocabulary::Applicator)?
+            .with(Vocabulary::Core)?;
+        let late = of_2019_09
+            .duplicate()?
+            .with(Vocabulary::FormatAnnotation)?
+            .with(Vocabulary::Unevaluated)?;
+        Ok(DraftVocabularies {
+            early: required,
+            of_2019_09,
+            late,
+        })
+    }
+
+    /// The vocabularies in a draft, in memory of their own.
+    ///
+    /// # Errors
+    ///
+    /// Want of memory.
+    pub fn in_draft(&self, draft: Draft) -> Result<VocabularySet, OutOfMemory>
+        ensures vocabularies { IfOk result (λ v. v ≡ vocabularies_in (draft_of draft) self.now) }
+    {
+        match draft {
+            Draft::Draft4 | Draft::Draft6 | Draft::Draft7 => self.early.duplicate(),
+            Draft::Draft201909 => self.of_2019_09.duplicate(),
+            Draft::Draft202012 | Draft::Unknown => self.late.duplicate(),
+        }
+    }
+}

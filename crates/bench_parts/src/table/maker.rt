@@ -1,0 +1,76 @@
+//! The makers.
+ghost use Rattle.std.specs.Prelude.{◌≡◌, Some, IfOk};
+ghost use Rattle.schema_node.specs.MakerViews.{maker_reply_of, TakesTurn};
+ghost use Rattle.bench_keywords.specs.Shapes.{shape_of};
+ghost use Rattle.bench_parts.specs.MakerViews.{list_shape, waiting_of};
+
+use bench_keywords::keyword::BenchKeyword;
+use schema_node::context::schema_place::SchemaPath;
+use schema_node::context::table::{MakerReply, MakerStep};
+use schema_reports::location::OutOfMemory;
+use schema_reports::reports::OwnedError;
+use std::alloc::Global;
+
+/// How a maker ends.
+#[derive(Drop)]
+pub enum Ending {
+    Keyword(BenchKeyword),
+    Nothing,
+    Refused(OwnedError),
+}
+
+/// A keyword with a list of schemas.
+#[derive(Clone, Copy)]
+pub enum ListKeyword {
+    AllOf,
+    AnyOf,
+    OneOf,
+    PrefixItems,
+}
+
+impl ListKeyword {
+    /// The keyword with so many schemas.
+    pub fn with_schemas(self, count: usize) -> BenchKeyword
+        ensures shape { shape_of result ≡ list_shape self count }
+    {
+        match self {
+            ListKeyword::AllOf => BenchKeyword::AllOf(count),
+            ListKeyword::AnyOf => BenchKeyword::AnyOf(count),
+            ListKeyword::OneOf => BenchKeyword::OneOf(count),
+            ListKeyword::PrefixItems => BenchKeyword::PrefixItems(count),
+        }
+    }
+}
+
+/// A maker: the paths of the children, in order, how many of them it has asked for, and how it ends, until it has.
+#[derive(Drop)]
+pub struct BenchMaker {
+    pub paths: Vec<SchemaPath>,
+    pub asked: usize,
+    pub ends: Option<Ending>,
+}
+
+impl BenchMaker {
+    /// Takes a turn.
+    pub fn turn(
+        &mut self,
+        alloc: Global,
+        _reply: MakerReply,
+    ) -> Result<MakerStep<BenchKeyword>, OutOfMemory>
+        ensures takes { IfOk result (λ step. TakesTurn shape_of (waiting_of self.old) (maker_reply_of _reply) step (waiting_of self.new)) }
+    {
+        if self.asked < self.paths.len() {
+            let path = self.paths[self.asked].copy(alloc)?;
+            self.asked += 1;
+            return Ok(MakerStep::Compile(path));
+        }
+        match self.ends.take() {
+            Some(ending) => match ending {
+                Ending::Keyword(keyword) => Ok(MakerStep::Keyword(keyword, Vec::new(alloc))),
+                Ending::Nothing => Ok(MakerStep::Nothing),
+                Ending::Refused(error) => Ok(MakerStep::Refuse(error)),
+            },
+            None => Ok(MakerStep::Nothing),
+        }
+    }
+}

@@ -1,4 +1,0 @@
-use Rattle.engine_bench.proofs.keywords.one_of.turn_one_of.Goals as goal
-
-pub returns-in_ok-tell_one_of-in-Judged-clause-borrows : goal.returns-in_ok-tell_one_of-in-Judged-clause-borrows
-returns-in_ok-tell_one_of-in-Judged-clause-borrows c = λ root errors faults. c.in_ok-tell_one_of-in-Judged.ensures.borrows root faults

@@ -1,0 +1,6 @@
+pub mod NextQuestions
+pub mod EachQuestion
+pub mod BorrowedFaults
+pub mod MemberNames
+pub mod MemberCounts
+pub mod WayMarks

@@ -1,0 +1,29 @@
+-- A turn of a run that judges, as the code takes it. All its questions are asked at the keyword's own place.
+use Rattle.std.specs.Prelude.{List, None, Option, Some, ℕ}
+use Rattle.schema_reports.specs.Keywords.{Answer, Question, Turn, ask, done}
+use Rattle.schema_node.specs.KeywordViews.{mode_of}
+use Rattle.schema_node.specs.declared.context.keyword.Mode.{Mode}
+use Rattle.keyword_ways.specs.declared.judging.Judging.{Judging}
+use Rattle.keyword_ways.specs.declared.judging.Judging.TheVariants.{Asks, Judged, Over}
+use Rattle.keyword_ways.specs.declared.run.Stage.{Stage}
+use Rattle.keyword_ways.specs.declared.run.Stage.TheVariants.{Ended}
+use Rattle.keyword_ways.specs.Items.{child_here}
+use Rattle.keyword_ways.specs.Tallies.{Tally}
+use Rattle.keyword_ways.specs.Ways.{counted_at, noted, nth}
+
+-- the step that it is
+abbrev pub judging_turn : Judging → Turn
+judging_turn (Asks i m) = ask (child_here i) (mode_of m)
+judging_turn (Judged n) = done
+judging_turn Over = done
+
+-- what it makes of an answer
+abbrev pub judging_answer : Tally → Mode → Answer → Judging → Answer
+judging_answer t m a (Asks i n) = a
+judging_answer t m a (Judged n) = noted m t.name a (t.told n)
+judging_answer t m a Over = a
+
+-- where a run stands that asks the question of a place, so many having accepted
+abbrev pub counted_of : List Question → ℕ → Option ℕ → Stage
+counted_of qs n None = Ended
+counted_of qs n (Some i) = counted_at i n (nth i qs)

@@ -1,0 +1,13 @@
+pub mod Members
+pub mod Items
+pub mod Tallies
+pub mod Ways
+pub mod Asking
+pub mod Judging
+pub mod MatchTurns
+pub mod WayRuns
+pub mod WayReads
+pub mod WayWords
+pub mod WayLaws
+pub mod Places
+pub mod FaultLists

@@ -1,0 +1,41 @@
+-- The members of an instance that is an object, and the questions that are asked at them.
+use Rattle.std.specs.Prelude.{Bool, List, None, Option, Some, [], false, is_some, true, ℕ, ◌+◌, ◌∷◌}
+use Rattle.serde_json.specs.Data.{Members, member, no_members}
+use Rattle.serde_json.specs.Find.{as_object}
+use Rattle.schema_reports.specs.Instance.{Subject, Text, a_name, a_value, after_step, to_member, to_name}
+use Rattle.schema_reports.specs.Keywords.{Question, down}
+
+abbrev pub has_member : Text → Subject → Bool
+has_member k s = is_some (after_step (to_member k) s)
+
+abbrev pub is_object : Subject → Bool
+is_object (a_value d) = is_some (as_object d)
+is_object (a_name k) = false
+
+-- the names of an object's members, in order; none where it is no object
+abbrev pub names_in : Members → List Text
+names_in no_members = []
+names_in (member k d ms) = k ∷ names_in ms
+
+abbrev pub names_of_any : Option Members → List Text
+names_of_any None = []
+names_of_any (Some ms) = names_in ms
+
+abbrev pub subject_names : Subject → List Text
+subject_names (a_value d) = names_of_any (as_object d)
+subject_names (a_name k) = []
+
+-- ---- questions
+
+abbrev pub kept : Bool → Question → List Question → List Question
+kept true q qs = q ∷ qs
+kept false q qs = qs
+
+-- each child whose name is present, at that member
+abbrev pub present_from : ℕ → List Text → Subject → List Question
+present_from i [] s = []
+present_from i (k ∷ ks) s = kept (has_member k s) (record { child = i; below = down (to_member k) }) (present_from (i + 1) ks s)
+
+-- the only child, at a name
+abbrev pub at_name : Text → Question
+at_name k = record { child = 0; below = down (to_name k) }

@@ -1,0 +1,280 @@
+//! What is added to the answer of a run.
+ghost use Rattle.std.specs.Prelude.{All, ◌≡◌, ◌++◌, [], Bool, IfOk, map, string_bytes};
+ghost use Rattle.serde_json.specs.Data.{Data};
+ghost use Rattle.schema_reports.specs.ReportViews.{BorrowsItsPlace, error_of, spoken};
+ghost use Rattle.schema_reports.specs.Keywords.{own, passed};
+ghost use Rattle.schema_node.specs.declared.context.keyword.Fault.TheVariants.{Passed};
+ghost use Rattle.schema_node.specs.FaultViews.{errors_in, faults_in, PassesBorrowed};
+ghost use Rattle.schema_node.specs.KeywordViews.{answer_of, described_of, fault_of, no_gives, reply_of};
+ghost use Rattle.keyword_ways.specs.FaultLists.{first_kept};
+ghost use Rattle.keyword_ways.specs.Tallies.{says_yes};
+ghost use Rattle.keyword_ways.specs.Ways.{evaluated, goes_on, noted_one, plain, refused, taken, with_first};
+
+use schema_node::context::keyword::{Answer, ErrorDescription, Fault, Mode, OwnError, Reply};
+use schema_reports::location::OutOfMemory;
+use schema_reports::reports::ValidationError;
+use std::alloc::Global;
+use std::mem;
+
+/// The answer with the verdict no.
+fn refused<'i>(answer: Answer<'i>) -> Answer<'i>
+    ensures refused { (texts : Bool) → answer_of texts result ≡ refused (answer_of texts answer.entry) }
+    ensures faults { faults_in result ≡ faults_in answer.entry }
+{
+    match answer {
+        Answer::Verdict(_) => Answer::Verdict(false),
+        Answer::First(first) => match first {
+            None => Answer::Verdict(false),
+            Some(fault) => Answer::First(Some(fault)),
+        },
+        Answer::All(faults) => {
+            if faults.is_empty() {
+                Answer::Verdict(false)
+            } else {
+                Answer::All(faults)
+            }
+        }
+        Answer::Evaluation(_, errors) => Answer::Evaluation(false, errors),
+    }
+}
+
+/// The answer with this first error, where it has none.
+fn with_first<'i>(answer: Answer<'i>, fault: Fault<'i>) -> Answer<'i>
+    ensures first { (texts : Bool) → answer_of texts result ≡ with_first (answer_of texts answer.entry)
+        (answer_of texts answer.entry).errors (fault_of texts fault.entry) }
+    ensures faults { faults_in result ≡ first_kept (faults_in answer.entry) fault.entry }
+{
+    match answer {
+        Answer::Verdict(_) => Answer::First(Some(fault)),
+        Answer::First(first) => match first {
+            None => Answer::First(Some(fault)),
+            Some(kept) => Answer::First(Some(kept)),
+        },
+        Answer::All(faults) => {
+            if faults.is_empty() {
+                Answer::First(Some(fault))
+            } else {
+                Answer::All(faults)
+            }
+        }
+        Answer::Evaluation(_, _) => Answer::First(Some(fault)),
+    }
+}
+
+/// The errors of an answer.
+fn faults_of<'i>(alloc: Global, answer: Answer<'i>) -> Result<Vec<Fault<'i>>, OutOfMemory>
+    ensures errors { IfOk result (λ faults. (texts : Bool) → map (fault_of texts) faults.items ≡ (answer_of texts answer.entry).errors) }
+    ensures faults { IfOk result (λ faults. faults.items ≡ faults_in answer.entry) }
+{
+    match answer {
+        Answer::Verdict(_) => Ok(Vec::new(alloc)),
+        Answer::First(first) => {
+            let mut faults = Vec::new(alloc);
+            if let Some(fault) = first {
+                faults.push(fault)?;
+            }
+            Ok(faults)
+        }
+        Answer::All(faults) => Ok(faults),
+        Answer::Evaluation(_, _) => Ok(Vec::new(alloc)),
+    }
+}
+
+/// The errors of an answer that stand in its unit.
+fn descriptions_of(alloc: Global, answer: Answer<'_>) -> Vec<ErrorDescription>
+    ensures gives { (texts : Bool) → (answer_of texts answer.entry).gives
+        ≡ record no_gives { errors = map (described_of texts) result.items } }
+{
+    match answer {
+        Answer::Evaluation(_, errors) => errors,
+        _ => Vec::new(alloc),
+    }
+}
+
+/// The answer that refuses, with an error of the keyword's own for its unit.
+fn evaluated<'i>(
+    alloc: Global,
+    keyword: &str,
+    text: String,
+    before: Answer<'i>,
+) -> Result<Answer<'i>, OutOfMemory>
+    ensures evaluated { IfOk result (λ after. (texts : Bool) → answer_of texts after
+        ≡ evaluated (answer_of texts before.entry) (own (plain keyword.now (spoken texts (string_bytes text))))) }
+    ensures faults { IfOk result (λ after. faults_in after ≡ []) }
+{
+    let mut errors = descriptions_of(alloc, before);
+    let keyword = String::from_str(alloc, keyword)?;
+    errors.push(ErrorDescription { keyword, text })?;
+    Ok(Answer::Evaluation(false, errors))
+}
+
+/// Notes an error of the keyword's own. Where a verdict is wanted, it refuses alone; in an evaluation the error stands in
+/// the unit.
+pub fn note<'i>(
+    alloc: Global,
+    mode: Mode,
+    keyword: &str,
+    text: String,
+    answer: &mut Answer<'i>,
+) -> Result<(), OutOfMemory>
+    ensures noted { IfOk result (λ _. (texts : Bool) → answer_of texts answer.new
+        ≡ noted_one mode (answer_of texts answer.old) (own (plain keyword.now (spoken texts (string_bytes text))))) }
+    ensures borrows { IfOk result (λ _. (root : Data) → All (PassesBorrowed root) (faults_in answer.old)
+        → All (PassesBorrowed root) (faults_in answer.new)) }
+{
+    let before = mem::replace(answer, Answer::Verdict(false));
+    *answer = with_own(alloc, mode, keyword, text, before)?;
+    Ok(())
+}
+
+/// The answer with an error of the keyword's own.
+fn with_own<'i>(
+    alloc: Global,
+    mode: Mode,
+    keyword: &str,
+    text: String,
+    before: Answer<'i>,
+) -> Result<Answer<'i>, OutOfMemory>
+    ensures noted { IfOk result (λ after. (texts : Bool) → answer_of texts after
+        ≡ noted_one mode (answer_of texts before.entry) (own (plain keyword.now (spoken texts (string_bytes text))))) }
+    ensures borrows { IfOk result (λ after. (root : Data) → All (PassesBorrowed root) (faults_in before.entry)
+        → All (PassesBorrowed root) (faults_in after)) }
+{
+    match mode {
+        Mode::Verdict => Ok(refused(before)),
+        Mode::Evaluate => evaluated(alloc, keyword, text, before),
+        Mode::First => with_own_first(alloc, keyword, text, before),
+        Mode::All => with_own_last(alloc, keyword, text, before),
+    }
+}
+
+/// The answer with an error of the keyword's own as its first, where it has none.
+fn with_own_first<'i>(
+    alloc: Global,
+    keyword: &str,
+    text: String,
+    before: Answer<'i>,
+) -> Result<Answer<'i>, OutOfMemory>
+    ensures noted { IfOk result (λ after. (texts : Bool) → answer_of texts after
+        ≡ noted_one Mode.First (answer_of texts before.entry) (own (plain keyword.now (spoken texts (string_bytes text))))) }
+    ensures borrows { IfOk result (λ after. (root : Data) → All (PassesBorrowed root) (faults_in before.entry)
+        → All (PassesBorrowed root) (faults_in after)) }
+{
+    let fault = own_fault(alloc, keyword, text)?;
+    Ok(with_first(before, fault))
+}
+
+/// The answer with an error of the keyword's own after the others.
+fn with_own_last<'i>(
+    alloc: Global,
+    keyword: &str,
+    text: String,
+    before: Answer<'i>,
+) -> Result<Answer<'i>, OutOfMemory>
+    ensures noted { IfOk result (λ after. (texts : Bool) → answer_of texts after
+        ≡ noted_one Mode.All (answer_of texts before.entry) (own (plain keyword.now (spoken texts (string_bytes text))))) }
+    ensures borrows { IfOk result (λ after. (root : Data) → All (PassesBorrowed root) (faults_in before.entry)
+        → All (PassesBorrowed root) (faults_in after)) }
+{
+    let mut faults = faults_of(alloc, before)?;
+    faults.push(own_fault(alloc, keyword, text)?)?;
+    Ok(Answer::All(faults))
+}
+
+/// An error at the keyword itself.
+fn own_fault<'i>(alloc: Global, keyword: &str, text: String) -> Result<Fault<'i>, OutOfMemory>
+    ensures own { IfOk result (λ fault. (texts : Bool) → fault_of texts fault
+        ≡ own (plain keyword.now (spoken texts (string_bytes text)))) }
+    ensures borrows { IfOk result (λ fault. (root : Data) → PassesBorrowed root fault) }
+{
+    Ok(Fault::Own(OwnError {
+        absorbed: None,
+        path: String::new(alloc),
+        below: Vec::new(alloc),
+        keyword: String::from_str(alloc, keyword)?,
+        text,
+    }))
+}
+
+/// Whether a reply lets its run go on.
+pub fn goes_on(reply: &Reply<'_>) -> bool
+    ensures goes_on { (texts : Bool) → result ≡ goes_on (reply_of texts reply.now) }
+{
+    match reply {
+        Reply::Nothing => true,
+        Reply::Truth(holds) => *holds,
+        Reply::First(first) => first.is_none(),
+        Reply::All(_) => true,
+    }
+}
+
+/// Whether a reply says yes, which is all that is wanted of it.
+pub fn says_yes(reply: Reply<'_>) -> bool
+    ensures yes { (texts : Bool) → result ≡ says_yes (reply_of texts reply.entry) }
+{
+    match reply {
+        Reply::Nothing => false,
+        Reply::Truth(yes) => yes,
+        Reply::First(_) => false,
+        Reply::All(_) => false,
+    }
+}
+
+/// Takes what a child answered.
+pub fn take<'i>(alloc: Global, reply: Reply<'i>, answer: &mut Answer<'i>) -> Result<(), OutOfMemory>
+    ensures taken { IfOk result (λ _. (texts : Bool) → answer_of texts answer.new
+        ≡ taken (answer_of texts answer.old) (reply_of texts reply.entry)) }
+    ensures borrows { IfOk result (λ _. (root : Data) → All (BorrowsItsPlace root) (errors_in reply.entry)
+        → All (PassesBorrowed root) (faults_in answer.old) → All (PassesBorrowed root) (faults_in answer.new)) }
+{
+    let before = mem::replace(answer, Answer::Verdict(false));
+    *answer = with_reply(alloc, reply, before)?;
+    Ok(())
+}
+
+/// The answer with what a child answered.
+fn with_reply<'i>(
+    alloc: Global,
+    reply: Reply<'i>,
+    before: Answer<'i>,
+) -> Result<Answer<'i>, OutOfMemory>
+    ensures taken { IfOk result (λ after. (texts : Bool) → answer_of texts after
+        ≡ taken (answer_of texts before.entry) (reply_of texts reply.entry)) }
+    ensures borrows { IfOk result (λ after. (root : Data) → All (BorrowsItsPlace root) (errors_in reply.entry)
+        → All (PassesBorrowed root) (faults_in before.entry) → All (PassesBorrowed root) (faults_in after)) }
+{
+    match reply {
+        Reply::Nothing => Ok(before),
+        Reply::Truth(holds) => {
+            if holds {
+                Ok(before)
+            } else {
+                Ok(refused(before))
+            }
+        }
+        Reply::First(first) => match first {
+            None => Ok(before),
+            Some(error) => Ok(with_first(before, Fault::Passed(error))),
+        },
+        Reply::All(errors) => {
+            let mut faults = faults_of(alloc, before)?;
+            pass_all(errors, &mut faults)?;
+            Ok(Answer::All(faults))
+        }
+    }
+}
+
+/// Passes errors on, in order.
+fn pass_all<'i>(
+    errors: Vec<ValidationError<'i>>,
+    faults: &mut Vec<Fault<'i>>,
+) -> Result<(), OutOfMemory>
+    ensures passed { IfOk result (λ _. (texts : Bool) → map (fault_of texts) faults.new.items
+        ≡ map (fault_of texts) faults.old.items ++ map passed (map (error_of texts) errors.entry.items)) }
+    ensures added { IfOk result (λ _. faults.new.items ≡ faults.old.items ++ map Passed errors.entry.items) }
+{
+    for error in errors {
+        faults.push(Fault::Passed(error))?;
+    }
+    Ok(())
+}

@@ -1,0 +1,138 @@
+//! A run that judges: it asks one child after the other whether it accepts, and tells errors by how many do.
+ghost use Rattle.std.specs.Prelude.{◌≡◌, ◌+◌, ℕ, Bool, min, not};
+ghost use Rattle.schema_reports.specs.Keywords.{Answer as AnswerOfRun};
+ghost use Rattle.schema_node.specs.KeywordViews.{reply_of};
+ghost use Rattle.keyword_ways.specs.Asking.{nth_at};
+ghost use Rattle.keyword_ways.specs.Items.{child_here, each_from};
+ghost use Rattle.keyword_ways.specs.Judging.{counted_of, judging_answer, judging_turn};
+ghost use Rattle.keyword_ways.specs.Tallies.{Tally, asked_in, counted, is_settled, wants_units};
+ghost use Rattle.keyword_ways.specs.Ways.{answer_after, asked, counted_at, judged_at, judges, next_if, nth, stage_after, step_at};
+
+use crate::answers::says_yes;
+use crate::run::{Progress, Stage};
+use schema_node::context::keyword::{Mode, Reply};
+
+/// What a turn of a run that judges does.
+#[derive(Clone, Copy)]
+pub enum Judging {
+    /// It asks the child of this number, in this mode.
+    Asks(usize, Mode),
+    /// It ends the run, in which so many accepted.
+    Judged(usize),
+    /// The run had ended.
+    Over,
+}
+
+/// How a keyword judges: how many children it has, after how many that accept further ones change nothing, and whether it
+/// gives their units.
+#[derive(Clone, Copy)]
+pub struct Judge {
+    pub count: usize,
+    pub enough: usize,
+    pub shows: bool,
+}
+
+/// Whether a run in this mode asks for units.
+fn wants_units(shows: bool, mode: Mode) -> bool
+    ensures units { (t : Tally) → t.shows ≡ shows → result ≡ wants_units t mode }
+{
+    match mode {
+        Mode::Verdict => false,
+        Mode::First => false,
+        Mode::All => false,
+        Mode::Evaluate => shows,
+    }
+}
+
+/// The mode of its questions.
+fn asked_in(units: bool) -> Mode
+    ensures mode { result ≡ asked_in units }
+{
+    if units { Mode::Evaluate } else { Mode::Verdict }
+}
+
+/// How many accept after one more answer, so many at the most.
+fn tallied(enough: usize, accepts: bool, before: usize) -> usize
+    ensures tallied { result ≡ min enough (counted accepts before) }
+{
+    if accepts && before < enough {
+        before + 1
+    } else {
+        enough.min(before)
+    }
+}
+
+/// Whether further answers change nothing.
+fn is_settled(units: bool, enough: usize, accepted: usize) -> bool
+    ensures settled { result ≡ is_settled units enough accepted }
+{
+    !units && enough <= accepted
+}
+
+/// Asks the question of this place, if there is one, and ends the run else.
+#[tactic(auto, using(crate::proofs::EachQuestion::nth_each_here, crate::proofs::EachQuestion::nth_each_past))]
+fn judge_at(
+    place: Option<usize>,
+    accepted: usize,
+    count: usize,
+    units: bool,
+    run: &mut Progress,
+) -> Judging
+    ensures stage { run.new ≡ record run.old { stage = counted_of (each_from child_here 0 count) accepted place } }
+    ensures step { judging_turn result ≡ asked (asked_in units) (nth_at (each_from child_here 0 count) place) }
+    ensures answer { (t : Tally) (m : Mode) (a : AnswerOfRun) → judging_answer t m a result
+        ≡ judged_at t m accepted a (nth_at (each_from child_here 0 count) place) }
+{
+    if let Some(place) = place {
+        if place < count {
+            run.stage = Stage::Counted(place, accepted);
+            return Judging::Asks(place, asked_in(units));
+        }
+    }
+    run.stage = Stage::Ended;
+    Judging::Judged(accepted)
+}
+
+/// The place after the last, where there is one.
+#[tactic(auto, using(crate::proofs::EachQuestion::nth_each_past))]
+fn place_after(last: usize, count: usize, settled: bool) -> Option<usize>
+    ensures next { nth_at (each_from child_here 0 count) result ≡ next_if (not settled) (nth (last + 1) (each_from child_here 0 count)) }
+    ensures stage { (n : ℕ) → counted_of (each_from child_here 0 count) n result
+        ≡ counted_at (last + 1) n (next_if (not settled) (nth (last + 1) (each_from child_here 0 count))) }
+{
+    if settled {
+        return None;
+    }
+    if last < count { Some(last + 1) } else { None }
+}
+
+/// Takes a turn of a run that judges.
+pub fn judge_on(judge: Judge, run: &mut Progress, reply: Reply<'_>) -> Judging
+    ensures stage { (texts : Bool) (t : Tally) → t.enough ≡ judge.enough → t.shows ≡ judge.shows
+        → run.new ≡ record run.old {
+          stage = stage_after (judges t (each_from child_here 0 judge.count)) run.old.mode run.old.stage
+              (reply_of texts reply.entry);
+        } }
+    ensures step { (texts : Bool) (t : Tally) → t.enough ≡ judge.enough → t.shows ≡ judge.shows
+        → step_at (judges t (each_from child_here 0 judge.count)) run.old.mode run.old.stage (reply_of texts reply.entry)
+        ≡ judging_turn result }
+    ensures answer { (texts : Bool) (t : Tally) (a : AnswerOfRun) → t.enough ≡ judge.enough → t.shows ≡ judge.shows
+        → answer_after (judges t (each_from child_here 0 judge.count)) run.old.mode run.old.stage a (reply_of texts reply.entry)
+        ≡ judging_answer t run.old.mode a result }
+{
+    let units = wants_units(judge.shows, run.mode);
+    let yes = says_yes(reply);
+    match run.stage {
+        Stage::Begun => judge_at(Some(0), 0, judge.count, units, run),
+        Stage::Counted(last, before) => {
+            let accepted = tallied(judge.enough, yes, before);
+            let settled = is_settled(units, judge.enough, accepted);
+            let place = place_after(last, judge.count, settled);
+            judge_at(place, accepted, judge.count, units, run)
+        }
+        _ => {
+            run.stage = Stage::Ended;
+            Judging::Over
+        }
+    }
+}

@@ -1,0 +1,72 @@
+//! A run that asks whether a pattern matches a text, and tells an error where it does not.
+ghost use Rattle.std.specs.Prelude.{◌≡◌, Bool};
+ghost use Rattle.schema_reports.specs.Instance.{Text};
+ghost use Rattle.schema_reports.specs.Keywords.{Answer as AnswerOfRun, match_text};
+ghost use Rattle.schema_reports.specs.Matching.{Pair};
+ghost use Rattle.schema_node.specs.KeywordViews.{point_of, reply_of, turn_of};
+ghost use Rattle.keyword_ways.specs.MatchTurns.{match_answer, match_turn};
+ghost use Rattle.keyword_ways.specs.Ways.{asks_match, match_point, way_step, way_turn};
+
+use crate::answers::says_yes;
+use crate::run::{Progress, Stage};
+use schema_node::context::keyword::{MatchPoint, Mode, Reply, Spot, Step};
+
+/// What a turn of a run that asks a match does.
+#[derive(Clone, Copy)]
+pub enum MatchTurn {
+    /// It asks whether the pattern matches.
+    Asks,
+    /// It ends the run, in which the pattern was found to match or not.
+    Answered(bool),
+    /// The run had ended.
+    Over,
+}
+
+/// Takes a turn of a run that asks a match.
+pub fn match_on(run: &mut Progress, reply: Reply<'_>) -> MatchTurn
+    ensures turns { (texts : Bool) (name text : Text) (p : Pair) (a : AnswerOfRun)
+        → way_turn (asks_match name p text) (run.old, a) (reply_of texts reply.entry)
+        ≡ (run.new, match_answer name text run.old.mode a result) }
+    ensures steps { (texts : Bool) (name text : Text) (p : Pair) (a : AnswerOfRun)
+        → way_step (asks_match name p text) (run.old, a) (reply_of texts reply.entry) ≡ match_turn p run.old.mode result }
+{
+    let matches = says_yes(reply);
+    match run.stage {
+        Stage::Begun => {
+            run.stage = Stage::Asked(0);
+            MatchTurn::Asks
+        }
+        Stage::Asked(_) => {
+            run.stage = Stage::Ended;
+            MatchTurn::Answered(matches)
+        }
+        _ => {
+            run.stage = Stage::Ended;
+            MatchTurn::Over
+        }
+    }
+}
+
+/// Asks in a run in this mode whether a pattern matches a text.
+pub fn ask_match<'s>(pattern: &'s str, text: &'s str, mode: Mode) -> Step<'s>
+    ensures step { turn_of result ≡ match_text (record { pattern = pattern.now; subject = text.now }) (match_point mode pattern.now) }
+{
+    Step::Match(pattern, text, match_point(mode, pattern))
+}
+
+/// Where a match is asked for in a run in this mode: at the keyword, and without evaluation path and place where a verdict
+/// alone is wanted.
+fn match_point(mode: Mode, pattern: &str) -> MatchPoint<'_>
+    ensures point { point_of result ≡ match_point mode pattern.now }
+{
+    let spot = Spot {
+        absorbed: None,
+        path: "",
+        below: &[],
+    };
+    MatchPoint {
+        spot,
+        located: mode != Mode::Verdict,
+        pattern: Some(pattern),
+    }
+}

@@ -1,0 +1,120 @@
+//! A run that passes on: it asks one question after the other, and passes on what each answers.
+ghost use Rattle.std.specs.Prelude.{All, ◌≡◌, ◌≤◌, ◌+◌, ◌^◌, ◌<◌, ℕ, Bool, List, length, option_map, IfOk};
+ghost use Rattle.serde_json.specs.Data.{Data};
+ghost use Rattle.schema_reports.specs.ReportViews.{BorrowsItsPlace};
+ghost use Rattle.schema_reports.specs.Keywords.{Question};
+ghost use Rattle.schema_node.specs.FaultViews.{errors_in, faults_in, PassesBorrowed};
+ghost use Rattle.schema_node.specs.KeywordViews.{answer_of, reply_of, turn_of};
+ghost use Rattle.schema_node.specs.declared.context.keyword.Mode.{Mode as ModeOfRun};
+ghost use Rattle.keyword_ways.specs.Asking.{IsNext, nth_at, stage_of};
+ghost use Rattle.keyword_ways.specs.Items.{child_here, each_from};
+ghost use Rattle.keyword_ways.specs.Ways.{answer_after, asked, passes_on, way_step, way_turn};
+
+use crate::answers::{goes_on, take};
+use crate::run::{Progress, Stage};
+use schema_node::context::keyword::{Answer, Below, Mode, Reply, Step};
+use schema_reports::location::OutOfMemory;
+use std::alloc::Global;
+
+/// Takes the reply to what was asked; where nothing was, there is nothing to take.
+fn take_asked<'i>(
+    alloc: Global,
+    stage: Stage,
+    reply: Reply<'i>,
+    answer: &mut Answer<'i>,
+) -> Result<(), OutOfMemory>
+    ensures answered { IfOk result (λ _. (texts : Bool) (qs : List Question) (m : ModeOfRun) → answer_of texts answer.new
+        ≡ answer_after (passes_on qs) m stage (answer_of texts answer.old) (reply_of texts reply.entry)) }
+    ensures borrows { IfOk result (λ _. (root : Data) → All (BorrowsItsPlace root) (errors_in reply.entry)
+        → All (PassesBorrowed root) (faults_in answer.old) → All (PassesBorrowed root) (faults_in answer.new)) }
+{
+    match stage {
+        Stage::Asked(_) => take(alloc, reply, answer),
+        _ => Ok(()),
+    }
+}
+
+/// Takes a reply, and says which question comes next, by its place in order. There are at most `limit` questions.
+pub fn onward<'i>(
+    alloc: Global,
+    limit: usize,
+    run: &Progress,
+    reply: Reply<'i>,
+    answer: &mut Answer<'i>,
+) -> Result<Option<usize>, OutOfMemory>
+    ensures answered { IfOk result (λ place. (texts : Bool) (qs : List Question) → answer_of texts answer.new
+        ≡ answer_after (passes_on qs) run.now.mode run.now.stage (answer_of texts answer.old) (reply_of texts reply.entry)) }
+    ensures next { IfOk result (λ place. (texts : Bool) (qs : List Question) → length qs ≤ limit
+        → IsNext qs run.now.stage (reply_of texts reply.entry) place) }
+    ensures borrows { IfOk result (λ _. (root : Data) → All (BorrowsItsPlace root) (errors_in reply.entry)
+        → All (PassesBorrowed root) (faults_in answer.old) → All (PassesBorrowed root) (faults_in answer.new)) }
+{
+    let onward = goes_on(&reply);
+    take_asked(alloc, run.stage, reply, answer)?;
+    match run.stage {
+        Stage::Begun => Ok(Some(0)),
+        Stage::Asked(last) => {
+            if !onward {
+                return Ok(None);
+            }
+            if last < limit {
+                Ok(Some(last + 1))
+            } else {
+                Ok(None)
+            }
+        }
+        Stage::Counted(_, _) => Ok(None),
+        Stage::Ended => Ok(None),
+    }
+}
+
+/// The number that is asked about next, of `count` from `first` on; the run ends where there is none.
+#[tactic(auto, using(crate::proofs::EachQuestion::nth_each, crate::proofs::EachQuestion::nth_each_past))]
+fn number_at(place: Option<usize>, first: usize, count: usize, run: &mut Progress) -> Option<usize>
+    requires { first + count < 2 ^ 64 }
+    ensures stage { (f : ℕ → Question) → run.new ≡ record run.old { stage = stage_of (each_from f first count) place } }
+    ensures number { (f : ℕ → Question) → nth_at (each_from f first count) place ≡ option_map f result }
+{
+    if let Some(place) = place {
+        if place < count {
+            run.stage = Stage::Asked(place);
+            return Some(first + place);
+        }
+    }
+    run.stage = Stage::Ended;
+    None
+}
+
+/// Takes a turn of a run that passes on the answers to numbered questions: takes the reply, and says the number that is asked
+/// about next, of `count` from `first` on. The run ends where there is none.
+pub fn next_number<'i>(
+    alloc: Global,
+    first: usize,
+    count: usize,
+    run: &mut Progress,
+    reply: Reply<'i>,
+    answer: &mut Answer<'i>,
+) -> Result<Option<usize>, OutOfMemory>
+    requires { first + count < 2 ^ 64 }
+    ensures turns { IfOk result (λ _. (texts : Bool) (f : ℕ → Question)
+        → way_turn (passes_on (each_from f first count)) (run.old, answer_of texts answer.old) (reply_of texts reply.entry)
+        ≡ (run.new, answer_of texts answer.new)) }
+    ensures steps { IfOk result (λ number. (texts : Bool) (f : ℕ → Question)
+        → way_step (passes_on (each_from f first count)) (run.old, answer_of texts answer.old) (reply_of texts reply.entry)
+        ≡ asked run.old.mode (option_map f number)) }
+    ensures borrows { IfOk result (λ _. (root : Data) → All (BorrowsItsPlace root) (errors_in reply.entry)
+        → All (PassesBorrowed root) (faults_in answer.old) → All (PassesBorrowed root) (faults_in answer.new)) }
+{
+    let place = onward(alloc, count, run, reply, answer)?;
+    Ok(number_at(place, first, count, run))
+}
+
+/// The question of a child at the keyword's own place.
+pub fn ask_here<'s>(number: Option<usize>, mode: Mode) -> Step<'s>
+    ensures step { turn_of result ≡ asked mode (option_map child_here number) }
+{
+    match number {
+        Some(child) => Step::Ask(child, Below::Here, mode),
+        None => Step::Done,
+    }
+}

@@ -1,0 +1,404 @@
+//! Texts of errors, made and run through the traits' bounds.
+use bench_keywords::keyword::BenchKeyword;
+use bench_parts::table::BenchTable;
+use schema_node::context::keyword::{Answer, ErrorDescription, Fault, Mode, Reply, Step, Validate};
+use schema_node::context::table::{KeywordOrigin, KeywordTable, MakerReply, MakerStep};
+use schema_reports::instance::Instance;
+use schema_reports::keywords::{Draft, VocabularySet};
+use schema_reports::location::OutOfMemory;
+use serde_json::{Map, Value};
+use std::alloc::Global;
+use test_rows::{column, list_at, text_at, wrong_row};
+
+/// Whether a maker asks for a child, whose path is then added and a space; a refusal adds its text.
+fn asks_child<K>(
+    alloc: Global,
+    step: &MakerStep<K>,
+    log: &mut String,
+) -> Result<bool, OutOfMemory> {
+    match step {
+        MakerStep::Compile(path) => {
+            let pointer = path.pointer(alloc)?;
+            log.push_str(pointer.as_str())?;
+            log.push_str(" ")?;
+            Ok(true)
+        }
+        MakerStep::Refuse(error) => {
+            log.push_str(error.text.as_str())?;
+            Ok(false)
+        }
+        _ => Ok(false),
+    }
+}
+
+/// The keyword that a maker ends with, if it does.
+fn keyword_in<K>(step: MakerStep<K>) -> Option<K> {
+    match step {
+        MakerStep::Keyword(keyword, _) => Some(keyword),
+        _ => None,
+    }
+}
+
+/// Whether a turn of a maker asks for a child; else it leaves the keyword that it made, if any.
+fn takes_turn<K: Validate, T: KeywordTable<K>>(
+    alloc: Global,
+    table: &T,
+    maker: &mut T::Maker,
+    reply: MakerReply,
+    made: &mut Option<K>,
+    log: &mut String,
+) -> Result<bool, OutOfMemory> {
+    let step = table.turn(alloc, maker, reply)?;
+    let asks = asks_child(alloc, &step, log);
+    *made = keyword_in(step);
+    asks
+}
+
+/// Takes a maker's turns until it asks for no child, each of which gets the next number.
+fn make_turns<K: Validate, T: KeywordTable<K>>(
+    alloc: Global,
+    table: &T,
+    maker: &mut T::Maker,
+    made: &mut Option<K>,
+    log: &mut String,
+) -> Result<(), OutOfMemory> {
+    let mut reply = MakerReply::Begun;
+    for child in 0..8usize {
+        if !takes_turn(alloc, table, maker, reply, made, log)? {
+            return Ok(());
+        }
+        reply = MakerReply::Child(child);
+    }
+    Ok(())
+}
+
+/// A maker of a member, without vocabularies and formats.
+fn maker_of<K: Validate, T: KeywordTable<K>>(
+    alloc: Global,
+    table: &T,
+    object: &Map<String, Value>,
+    draft: Draft,
+    name: &str,
+) -> Result<T::Maker, OutOfMemory> {
+    let vocabularies = VocabularySet::new(alloc);
+    table.begin(
+        alloc,
+        KeywordOrigin::Builtin(name),
+        object,
+        draft,
+        &vocabularies,
+        false,
+    )
+}
+
+/// Makes the keyword that a table makes of a member, if it makes one, and adds the paths of its children, or a refusal's
+/// text.
+fn make<K: Validate, T: KeywordTable<K>>(
+    alloc: Global,
+    table: &T,
+    schema: &Value,
+    draft: Draft,
+    name: &str,
+    made: &mut Option<K>,
+    log: &mut String,
+) -> Result<(), OutOfMemory> {
+    let Some(object) = schema.as_object() else {
+        return Ok(());
+    };
+    let mut maker = maker_of(alloc, table, object, draft, name)?;
+    make_turns(alloc, table, &mut maker, made, log)
+}
+
+/// The answer to the question of a mode, if one was asked: this verdict, or no error.
+fn reply_to<'i>(alloc: Global, asked: Option<Mode>, verdict: bool) -> Reply<'i> {
+    match asked {
+        Some(Mode::Verdict) => Reply::Truth(verdict),
+        Some(Mode::First) => Reply::First(None),
+        Some(Mode::All) => Reply::All(Vec::new(alloc)),
+        Some(Mode::Evaluate) => Reply::Nothing,
+        None => Reply::Nothing,
+    }
+}
+
+/// Adds what a match asks: its pattern, its subject and `located` or `bare`, each with a space after it.
+fn push_match(
+    pattern: &str,
+    subject: &str,
+    located: bool,
+    log: &mut String,
+) -> Result<(), OutOfMemory> {
+    log.push_str(pattern)?;
+    log.push_str(" ")?;
+    log.push_str(subject)?;
+    log.push_str(if located { " located " } else { " bare " })
+}
+
+/// The mode in which a turn with this reply asks a question, where it asks one: it adds `!` for one that asks a verdict,
+/// `?` for another, and for a match its pattern, its subject and `located` or `bare`.
+fn asks<'i, K: Validate>(
+    alloc: Global,
+    keyword: &K,
+    run: &mut K::Run,
+    instance: Instance<'i>,
+    reply: Reply<'i>,
+    answer: &mut Answer<'i>,
+    log: &mut String,
+) -> Result<Option<Mode>, OutOfMemory> {
+    match keyword.turn(alloc, run, instance, reply, answer)? {
+        Step::Ask(_, _, mode) => {
+            log.push_str(if let Mode::Verdict = mode { "!" } else { "?" })?;
+            Ok(Some(mode))
+        }
+        Step::Match(pattern, subject, point) => {
+            push_match(pattern, subject, point.located, log)?;
+            Ok(Some(Mode::Verdict))
+        }
+        _ => Ok(None),
+    }
+}
+
+/// The verdict of this number; no where there are fewer.
+fn verdict_at(verdicts: &[Value], number: usize) -> bool {
+    match verdicts.get(number) {
+        Some(verdict) => verdict.as_bool().unwrap_or(false),
+        None => false,
+    }
+}
+
+/// Takes turns until nothing is asked, each question answered by no error or the verdict of its number, and adds what
+/// was found.
+fn tell_turns<'i, K: Validate>(
+    alloc: Global,
+    keyword: &K,
+    run: &mut K::Run,
+    instance: Instance<'i>,
+    verdicts: &[Value],
+    answer: &mut Answer<'i>,
+    log: &mut String,
+) -> Result<(), OutOfMemory> {
+    let mut asked = None;
+    let mut verdict = false;
+    for question in 0..8usize {
+        let reply = reply_to(alloc, asked, verdict);
+        asked = asks(alloc, keyword, run, instance, reply, answer, log)?;
+        if asked.is_none() {
+            break;
+        }
+        verdict = verdict_at(verdicts, question);
+    }
+    push_answer(answer, log)
+}
+
+/// An answer with nothing found yet: an evaluation for that mode, else all errors.
+fn answer_in<'i>(alloc: Global, mode: Mode) -> Answer<'i> {
+    match mode {
+        Mode::Evaluate => Answer::Evaluation(true, Vec::new(alloc)),
+        _ => Answer::All(Vec::new(alloc)),
+    }
+}
+
+/// Adds what a keyword's run in a mode asks, and what it finds: of an evaluation what the unit has, else the errors.
+fn told<K: Validate>(
+    alloc: Global,
+    keyword: &K,
+    value: &Value,
+    mode: Mode,
+    verdicts: &[Value],
+    log: &mut String,
+) -> Result<(), OutOfMemory> {
+    let instance = Instance::Value(value);
+    let mut run = keyword.begin(alloc, instance, mode)?;
+    let mut answer = answer_in(alloc, mode);
+    tell_turns(
+        alloc,
+        keyword,
+        &mut run,
+        instance,
+        verdicts,
+        &mut answer,
+        log,
+    )
+}
+
+/// Adds the texts of own errors, each with `;` after it; an evaluation leaves its verdict and its errors alone.
+fn push_answer(answer: &Answer<'_>, log: &mut String) -> Result<(), OutOfMemory> {
+    match answer {
+        Answer::All(faults) => push_texts(faults.as_slice(), log),
+        Answer::Evaluation(valid, errors) => {
+            log.clear();
+            log.push_str(if *valid { "valid " } else { "invalid " })?;
+            push_descriptions(errors.as_slice(), log)
+        }
+        _ => Ok(()),
+    }
+}
+
+/// Adds the texts of own errors, each with `;` after it.
+fn push_texts(faults: &[Fault<'_>], log: &mut String) -> Result<(), OutOfMemory> {
+    for fault in faults {
+        if let Fault::Own(error) = fault {
+            log.push_str(error.text.as_str())?;
+            log.push_str(";")?;
+        }
+    }
+    Ok(())
+}
+
+/// Adds the errors of an evaluation, each as its keyword, `: ` and its text.
+fn push_descriptions(errors: &[ErrorDescription], log: &mut String) -> Result<(), OutOfMemory> {
+    for error in errors {
+        log.push_str(error.keyword.as_str())?;
+        log.push_str(": ")?;
+        log.push_str(error.text.as_str())?;
+    }
+    Ok(())
+}
+
+/// The draft of this name.
+pub(crate) fn draft_named(name: &str) -> Draft {
+    match name {
+        "4" => Draft::Draft4,
+        "7" => Draft::Draft7,
+        "2019-09" => Draft::Draft201909,
+        "unknown" => Draft::Unknown,
+        _ => Draft::Draft202012,
+    }
+}
+
+/// Adds what a row's keyword is asked for when it is made, and what it then tells of the row's value in a mode.
+fn push_log(alloc: Global, row: &Value, mode: Mode, log: &mut String) -> Result<(), OutOfMemory> {
+    let draft = draft_named(text_at(row, 0));
+    let mut made: Option<BenchKeyword> = None;
+    make(
+        alloc,
+        &BenchTable {},
+        column(row, 1),
+        draft,
+        text_at(row, 2),
+        &mut made,
+        log,
+    )?;
+    match &made {
+        Some(keyword) => told(alloc, keyword, column(row, 3), mode, list_at(row, 4), log),
+        None => Ok(()),
+    }
+}
+
+/// Whether a row's log in a mode is this.
+fn logs(alloc: Global, row: &Value, mode: Mode) -> Result<bool, OutOfMemory> {
+    let mut log = String::new(alloc);
+    push_log(alloc, row, mode, &mut log)?;
+    Ok(log.as_str() == text_at(row, 5))
+}
+
+/// The number of the first row that is wrong of a table of drafts, schemas, names, values, verdicts and logs in a mode.
+fn wrong_log(alloc: Global, table: &str, mode: Mode) -> Result<Option<usize>, serde_json::Error> {
+    wrong_row(alloc, table, |row| logs(alloc, row, mode))
+}
+
+#[test]
+fn keywords_that_ask_nothing(rt: HostRuntime) -> Result<(), serde_json::Error> {
+    assert_eq!(rt; wrong_log(rt.alloc(), LEAVES, Mode::All)?, None);
+    Ok(())
+}
+
+const LEAVES: &str = r##"[
+["2020-12", {"type":"string"}, "type", 1, [], "1 is not of type \"string\";"],
+["2020-12", {"type":"string"}, "type", "AB", [], ""],
+["2020-12", {"type":["string","null"]}, "type", 1, [], "1 is not of types \"string\", \"null\";"],
+["2020-12", {"type":"integer"}, "type", 18446744073709551615, [], ""],
+["2020-12", {"type":"text"}, "type", 1, [], "\"type\" has a value of another shape"],
+["2020-12", {"required":["foo","a","bar"]}, "required", {"a":3}, [],
+ "\"foo\" is a required property;\"bar\" is a required property;"],
+["2020-12", {"required":["foo","a","bar"]}, "required", 1, [], ""],
+["2020-12", {"minLength":3}, "minLength", "aé", [], "\"aé\" is shorter than 3 characters;"],
+["2020-12", {"maxLength":1}, "maxLength", "abc", [], "\"abc\" is longer than 1 character;"],
+["2020-12", {"minProperties":2}, "minProperties", {"a":3}, [], "{\"a\":3} has less than 2 properties;"],
+["2020-12", {"minProperties":1}, "minProperties", {}, [], "{} has less than 1 property;"],
+["2020-12", {"pattern":1}, "pattern", 1, [], "\"pattern\" has a value of another shape"]
+]"##;
+
+#[test]
+fn keywords_that_ask(rt: HostRuntime) -> Result<(), serde_json::Error> {
+    assert_eq!(rt; wrong_log(rt.alloc(), QUESTIONS, Mode::All)?, None);
+    Ok(())
+}
+
+const QUESTIONS: &str = r##"[
+["2020-12", {"properties":{"b":true,"a":{}}}, "properties", {"a":3}, [], "/properties/a /properties/b ?"],
+["2020-12", {"allOf":[true,{}]}, "allOf", 1, [], "/allOf/0 /allOf/1 ??"],
+["2020-12", {"prefixItems":[{},{},{}]}, "prefixItems", [1,2], [], "/prefixItems/0 /prefixItems/1 /prefixItems/2 ??"],
+["2020-12", {"prefixItems":[{},{},{}],"items":false}, "items", [1,2,3,4,5], [], "/items ??"],
+["unknown", {"prefixItems":[{},{},{}],"items":false}, "items", [1,2,3,4,5], [], "/items ??"],
+["2019-09", {"prefixItems":[{},{},{}],"items":false}, "items", [1,2,3,4,5], [], "/items ?????"],
+["2020-12", {"prefixItems":[{},{},{}],"items":false}, "items", 5, [], "/items "],
+["2020-12", {"items":[true]}, "items", [1,2,3,4,5], [], "/items ?????"],
+["7", {"items":[true]}, "items", [1,2,3,4,5], [], ""],
+["2020-12", {"propertyNames":{}}, "propertyNames", {"a":3,"b":4}, [], "/propertyNames ??"],
+["2020-12", {"propertyNames":{}}, "propertyNames", [1], [], "/propertyNames "],
+["2020-12", {"not":{"type":"integer"}}, "not", 1, [true], "/not !{\"type\":\"integer\"} is not allowed for 1;"],
+["2020-12", {"not":{"type":"integer"}}, "not", 1, [false], "/not !"],
+["2020-12", {"anyOf":[{},{},{}]}, "anyOf", 1, [false,false,false],
+ "/anyOf/0 /anyOf/1 /anyOf/2 !!!1 is not valid under any of the schemas listed in the 'anyOf' keyword;"],
+["2020-12", {"anyOf":[{},{},{}]}, "anyOf", 1, [false,true,true], "/anyOf/0 /anyOf/1 /anyOf/2 !!"],
+["2020-12", {"anyOf":{}}, "anyOf", 1, [], "\"anyOf\" has a value of another shape"],
+["2020-12", {"oneOf":[{},{},{}]}, "oneOf", 1, [false,false,false],
+ "/oneOf/0 /oneOf/1 /oneOf/2 !!!1 is not valid under any of the schemas listed in the 'oneOf' keyword;"],
+["2020-12", {"oneOf":[{},{},{}]}, "oneOf", 1, [true,true,false],
+ "/oneOf/0 /oneOf/1 /oneOf/2 !!1 is valid under more than one of the schemas listed in the 'oneOf' keyword;"],
+["2020-12", {"oneOf":[{},{},{}]}, "oneOf", 1, [false,true,false], "/oneOf/0 /oneOf/1 /oneOf/2 !!!"],
+["2020-12", {"oneOf":1}, "oneOf", 1, [], "\"oneOf\" has a value of another shape"],
+["2020-12", {"else":{},"if":{},"then":{}}, "if", 1, [true], "/if /then /else !?"],
+["2020-12", {"else":{},"if":{},"then":{}}, "if", 1, [false], "/if /then /else !?"],
+["2020-12", {"else":{},"if":{}}, "if", 1, [true], "/if /else !"],
+["2020-12", {"else":{},"if":{}}, "if", 1, [false], "/if /else !?"]
+]"##;
+
+#[test]
+fn units(rt: HostRuntime) -> Result<(), serde_json::Error> {
+    assert_eq!(rt; wrong_log(rt.alloc(), UNITS, Mode::Evaluate)?, None);
+    Ok(())
+}
+
+// What the evaluation gives for the unit, each question answered by yes.
+const UNITS: &str = r##"[
+["2020-12", {"type":"string"}, "type", 1, [], "invalid type: 1 is not of type \"string\""],
+["2020-12", {"type":"string"}, "type", "AB", [], "valid "],
+["2020-12", {"not":{"type":"integer"}}, "not", 1, [true], "invalid not: {\"type\":\"integer\"} is not allowed for 1"]
+]"##;
+
+/// Adds what the keyword `pattern` of a row asks of the row's value in a mode, and what it then tells.
+fn tell_match(alloc: Global, row: &Value, log: &mut String) -> Result<(), OutOfMemory> {
+    let mode = match text_at(row, 2) {
+        "verdict" => Mode::Verdict,
+        "first" => Mode::First,
+        _ => Mode::All,
+    };
+    let pattern = String::from_str(alloc, text_at(row, 0))?;
+    let keyword = BenchKeyword::Pattern(pattern);
+    told(alloc, &keyword, column(row, 1), mode, list_at(row, 3), log)
+}
+
+/// Whether a row's keyword `pattern` asks and tells this.
+fn asks_match(alloc: Global, row: &Value) -> Result<bool, OutOfMemory> {
+    let mut log = String::new(alloc);
+    tell_match(alloc, row, &mut log)?;
+    Ok(log.as_str() == text_at(row, 4))
+}
+
+#[test]
+fn pattern(rt: HostRuntime) -> Result<(), serde_json::Error> {
+    let alloc = rt.alloc();
+    assert_eq!(rt;
+        wrong_row(alloc, PATTERNS, |row| asks_match(alloc, row))?,
+        None
+    );
+    Ok(())
+}
+
+const PATTERNS: &str = r##"[
+["b\"c", "é", "all", [false], "b\"c é located \"é\" does not match \"b\"c\";"],
+["b\"c", "é", "first", [true], "b\"c é located "],
+["b\"c", "é", "verdict", [true], "b\"c é bare "],
+["b\"c", [1], "all", [false], ""]
+]"##;

@@ -1,0 +1,44 @@
+//! What the matcher answers, through the trait's bound.
+use bench_parts::matcher::BenchMatcher;
+use schema_node::context::matcher::Matcher;
+use schema_reports::location::OutOfMemory;
+use schema_reports::unfinished_matches::{Match, Reason};
+use std::alloc::Global;
+
+/// Whether a matcher says this: `yes`, `no`, or the text of a limit.
+fn says<M: Matcher>(
+    alloc: Global,
+    matcher: &M,
+    pattern: &str,
+    subject: &str,
+    want: &str,
+) -> Result<bool, OutOfMemory> {
+    let answer = matcher.is_match(alloc, pattern, subject)?;
+    Ok(match &answer {
+        Match::Finished(matches) => want == if *matches { "yes" } else { "no" },
+        Match::Unfinished(Reason::Limit(text)) => text.is(want),
+        Match::Unfinished(Reason::Engine) => want == "engine",
+    })
+}
+
+/// Whether a matcher that leaves `(?<=ab)c` unfinished and a copy of it answer each call.
+fn answers<M: Matcher>(alloc: Global, matcher: &M, copy: &M) -> Result<bool, OutOfMemory> {
+    let limit = "Error executing regex: Max limit for backtracking count exceeded";
+    Ok(
+        says(alloc, copy, "(?<=ab)c", "abc", limit)?
+            && says(alloc, matcher, "bc", "abcd", "yes")?
+            && says(alloc, matcher, "", "", "yes")?
+            && says(alloc, matcher, "cb", "abcd", "no")?
+            && matcher.is_valid_ecma_regex(alloc, "(")?,
+    )
+}
+
+#[test]
+fn matches(rt: HostRuntime) -> Result<(), OutOfMemory> {
+    let alloc = rt.alloc();
+    let unfinished = vec![in alloc; String::from_str(alloc, "(?<=ab)c")?]?;
+    let matcher = BenchMatcher::new(unfinished);
+    let copy = matcher.clone()?;
+    assert!(rt; answers(alloc, &matcher, &copy)?);
+    Ok(())
+}
