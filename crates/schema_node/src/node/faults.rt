@@ -297,7 +297,8 @@ pub fn finished<'i, K>(
         ≡ answer_reply (mode_of question.now.mode) (where_asked (node_of node.now) (asking question.now))
         (string_bytes name.now) (answer_of texts answer.entry)) }
     ensures borrows { IfOk result (λ r. (root : Data) → IsAskedOf root (asking question.now)
-        → FaultsLieInside (mode_of question.now.mode) root (subject_of question.now.instance) answer.entry → All (BorrowsItsPlace root) (errors_in r)) }
+        → FaultsLieInside (mode_of question.now.mode) root (subject_of question.now.instance) answer.entry
+        → All (BorrowsItsPlace root) (errors_in r)) }
 {
     match question.mode {
         Mode::Verdict => Ok(Reply::Truth(is_accepting(&answer))),
