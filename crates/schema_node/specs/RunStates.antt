@@ -5,6 +5,7 @@ use Rattle.schema_reports.specs.Instance.{Place, Subject, Text, subject_at}
 use Rattle.schema_reports.specs.InstanceViews.{subject_of}
 use Rattle.schema_reports.specs.Keywords.{Answer, Keywords, Mode, Question as ChildQuestion, for_units}
 use Rattle.schema_reports.specs.Laws.{IsRight}
+use Rattle.schema_reports.specs.Meaning.{Where}
 use Rattle.schema_reports.specs.Matching.{Extends, Matcher, completion_of, matching}
 use Rattle.schema_reports.specs.Reports.{Outcome}
 use Rattle.schema_reports.specs.ReportViews.{BorrowsItsPlace}
@@ -17,7 +18,7 @@ use Rattle.schema_node.specs.FaultViews.{PassesBorrowed, errors_in, faults_in}
 use Rattle.schema_node.specs.KeywordViews.{answer_of, mode_of, reply_of}
 use Rattle.schema_node.specs.Matches.{MeetsEach, Settling, settling}
 use Rattle.schema_node.specs.NodeMeets.{ChildMeets, EdgeMeets, EntryMeets, FormMeets, NodeMeets, PartsMeet}
-use Rattle.schema_node.specs.NodeRuns.{ChildReplies, EdgeReplies, FormReplies, NodeReplies, PartsReply, Reading, Reads, Ready, TellsAll, child_says, reply_by}
+use Rattle.schema_node.specs.NodeRuns.{ChildReplies, EdgeReplies, FormReplies, NodeReplies, PartsReply, Reading, Reads, Ready, TellsAll, child_says, entry_where, reply_by}
 use Rattle.schema_node.specs.NodeTable.{NodeEntry, numbered}
 use Rattle.schema_node.specs.NodeViews.{edge_of}
 use Rattle.schema_node.specs.Progress.{Context, NoDeeper, busy_at}
@@ -61,6 +62,14 @@ asking q = record { subject = subject_of q.instance; place = steps_to q.place.no
 
 abbrev pub asking_first : FirstQuestion → Asking
 asking_first q = record { subject = subject_of q.instance; place = q.place.now; path = q.path.now; mode = mode_of q.mode }
+
+-- where a node is at work
+abbrev pub where_asked : {C : Type 0} → NodeEntry C → Asking → Where
+where_asked n q = entry_where n q.path q.place
+
+-- in a root value the subject stands at the place
+abbrev pub IsAskedOf : Data → Asking → Type 0
+IsAskedOf root q = subject_at root q.place ≡ Some q.subject
 
 -- the pairs in progress are as before, and what is assumed
 pub record Keeps (old new : Context) : Type 0 where
@@ -120,7 +129,7 @@ module _ {K R : Type 0} (g : Setting K R) (q : Asking) (c : Context) where
 
   -- a fact about it in every reading, where nothing is assumed twice, at every depth that is enough
   abbrev pub OfWholeRun : ℕ → (Bool → Run → Type 0) → Type 0
-  OfWholeRun i fact = (root : Data) (texts : Bool) → subject_at root q.place ≡ Some q.subject → TellsAll texts root g.is_whole g.nodes g.count
+  OfWholeRun i fact = (root : Data) (texts : Bool) → IsAskedOf root q → TellsAll texts root g.is_whole g.nodes g.count
       → Extends (completion_of c.remembered.assumptions) c.remembered.assumptions → (n : ℕ) → left g.nodes g.count i q.subject busy < n → fact texts (whole_run texts root n i)
 
   abbrev pub RunReplies : ℕ → code.Reply → Type 0
@@ -157,11 +166,11 @@ HasBegun g q m run a = (texts : Bool) → (g.words texts).begin m q.subject q.mo
 -- ---- errors borrow what stands at their places, in every root value in which the subject stands at the place
 
 abbrev pub PassesItsOwn : Asking → code_answer.Answer → Type 0
-PassesItsOwn q a = (root : Data) → subject_at root q.place ≡ Some q.subject → All (PassesBorrowed root) (faults_in a)
+PassesItsOwn q a = (root : Data) → IsAskedOf root q → All (PassesBorrowed root) (faults_in a)
 
 abbrev pub RunBorrows : Asking → code.Reply → Type 0
-RunBorrows q r = (root : Data) → subject_at root q.place ≡ Some q.subject → All (BorrowsItsPlace root) (errors_in r)
+RunBorrows q r = (root : Data) → IsAskedOf root q → All (BorrowsItsPlace root) (errors_in r)
 
 -- the reply is of the mode
 abbrev pub RunSpeaks : Asking → code.Reply → Type 0
-RunSpeaks q r = (root : Data) → subject_at root q.place ≡ Some q.subject → (o : Outcome) × (reply_of false r ≡ reply_by q.mode o)
+RunSpeaks q r = (root : Data) → IsAskedOf root q → (o : Outcome) × (reply_of false r ≡ reply_by q.mode o)

@@ -3,11 +3,9 @@ ghost use Rattle.std.specs.Prelude.{◌≡◌, IfOk, OnOk, map, string_bytes};
 ghost use Rattle.schema_reports.specs.InstanceViews.{step_of, subject_of};
 ghost use Rattle.schema_reports.specs.Laws.{IsPresent};
 ghost use Rattle.schema_reports.specs.Runs.{site_at};
-ghost use Rattle.schema_node.specs.EvaluationPaths.{path_of};
-ghost use Rattle.schema_node.specs.EvaluationPlaces.{steps_to};
 ghost use Rattle.schema_node.specs.KeywordViews.{point_of};
 ghost use Rattle.schema_node.specs.Matches.{after_match, comes_out};
-ghost use Rattle.schema_node.specs.NodeRuns.{entry_where};
+ghost use Rattle.schema_node.specs.RunStates.{asking, where_asked};
 ghost use Rattle.schema_node.specs.NodeViews.{node_of};
 
 use crate::context::keyword::MatchPoint;
@@ -37,7 +35,7 @@ pub fn asked_match<'i, K, M: Matcher>(
     ensures met { OnOk result (context.new.remembered ≡ after_match context.old.remembered
         (record {
           pair = record { pattern = pattern.now; subject = subject.now };
-          site = site_at (entry_where (node_of node.now) (path_of question.now.path.now) (steps_to question.now.place.now))
+          site = site_at (where_asked (node_of node.now) (asking question.now))
               (string_bytes name.now) (point_of point.entry);
         })
         ((M.matching engine.now.matcher.now).is_match pattern.now subject.now)) }
@@ -46,15 +44,7 @@ pub fn asked_match<'i, K, M: Matcher>(
     match engine.matcher.is_match(engine.alloc, pattern, subject)? {
         Match::Finished(matches) => Ok(matches),
         Match::Unfinished(reason) => {
-            let site = match_site(
-                engine.alloc,
-                node,
-                name,
-                question.instance,
-                question.place,
-                question.path,
-                point,
-            )?;
+            let site = match_site(engine.alloc, node, name, question, point)?;
             Ok(context.resolve(pattern, subject, reason, site)?)
         }
     }

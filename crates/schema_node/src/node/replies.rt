@@ -3,7 +3,6 @@ ghost use Rattle.std.specs.Prelude.{◌≡◌, IfOk, Bool, true, false, All, [],
 ghost use Rattle.serde_json.specs.Data.{Data};
 ghost use Rattle.schema_reports.specs.Reports.{accepted};
 ghost use Rattle.schema_reports.specs.Meaning.{both};
-ghost use Rattle.schema_reports.specs.Instance.{subject_at};
 ghost use Rattle.schema_reports.specs.InstanceTexts.{subject_has_float};
 ghost use Rattle.schema_reports.specs.InstanceViews.{subject_of};
 ghost use Rattle.schema_reports.specs.ReportViews.{error_of, BorrowsItsPlace};
@@ -14,16 +13,14 @@ ghost use Rattle.schema_node.specs.declared.context.keyword.Reply.TheVariants as
 ghost use Rattle.schema_node.specs.NodeTable.{keyword_absolute};
 ghost use Rattle.schema_node.specs.NodeViews.{node_of};
 ghost use Rattle.schema_node.specs.FaultViews.{errors_in};
-ghost use Rattle.schema_node.specs.EvaluationPaths.{path_of};
 ghost use Rattle.schema_node.specs.EvaluationPlaces.{steps_to};
-ghost use Rattle.schema_node.specs.NodeRuns.{reply_by, entry_where, refuses, accepts, Joins, Stamps};
+ghost use Rattle.schema_node.specs.RunStates.{IsAskedOf, asking, where_asked};
+ghost use Rattle.schema_node.specs.NodeRuns.{reply_by, refuses, accepts, Joins, Stamps};
 
 use crate::context::keyword::{Mode, Reply};
 use crate::node::Node;
 use crate::node::absolute::absolute_location;
-use crate::node::evaluation_path::EvaluationPath;
-use crate::node::evaluation_place::EvaluationPlace;
-use schema_reports::instance::Instance;
+use crate::node::question::Question;
 use schema_reports::location::{Location, LocationSegment, OutOfMemory};
 use schema_reports::reports::ValidationError;
 use std::alloc::Global;
@@ -205,27 +202,24 @@ pub fn stamped_reply<'i, K>(
 pub fn refused<'i, K>(
     alloc: Global,
     node: &Node<K>,
-    instance: Instance<'i>,
-    place: &EvaluationPlace<'_, 'i>,
-    path: &EvaluationPath<'_>,
-    mode: Mode,
+    question: &Question<'_, 'i>,
 ) -> Result<Reply<'i>, OutOfMemory>
     ensures refuses { IfOk result (λ r. (texts : Bool)
-        → (texts ≡ true → subject_has_float (subject_of instance.entry) ≡ false) → reply_of texts r
-        ≡ reply_by (mode_of mode) (false_outcome texts
-        (entry_where (node_of node.now) (path_of path.now) (steps_to place.now)) (subject_of instance.entry))) }
+        → (texts ≡ true → subject_has_float (subject_of question.now.instance) ≡ false) → reply_of texts r
+        ≡ reply_by (mode_of question.now.mode) (false_outcome texts
+        (where_asked (node_of node.now) (asking question.now)) (subject_of question.now.instance))) }
     ensures borrows { IfOk result (λ r. (root : Data)
-        → subject_at root (steps_to place.now) ≡ Some (subject_of instance.entry) → All (BorrowsItsPlace root) (errors_in r)) }
+        → IsAskedOf root (asking question.now) → All (BorrowsItsPlace root) (errors_in r)) }
 {
-    match mode {
+    match question.mode {
         Mode::Verdict => Ok(Reply::Truth(false)),
         Mode::First => {
-            let error = false_error(alloc, node, instance, place, path)?;
+            let error = false_error(alloc, node, question)?;
             Ok(Reply::First(Some(error)))
         }
         Mode::All => {
             let mut errors = Vec::new(alloc);
-            errors.push(false_error(alloc, node, instance, place, path)?)?;
+            errors.push(false_error(alloc, node, question)?)?;
             Ok(Reply::All(errors))
         }
         Mode::Evaluate => Ok(Reply::Nothing),
@@ -236,23 +230,21 @@ pub fn refused<'i, K>(
 fn false_error<'i, K>(
     alloc: Global,
     node: &Node<K>,
-    instance: Instance<'i>,
-    place: &EvaluationPlace<'_, 'i>,
-    path: &EvaluationPath<'_>,
+    question: &Question<'_, 'i>,
 ) -> Result<ValidationError<'i>, OutOfMemory>
     ensures error { IfOk result (λ e. (texts : Bool)
-        → (texts ≡ true → subject_has_float (subject_of instance.entry) ≡ false) → error_of texts e
-        ≡ false_error texts (entry_where (node_of node.now) (path_of path.now) (steps_to place.now)) (subject_of instance.entry)) }
-    ensures place { IfOk result (λ e. e.place ≡ steps_to place.now) }
-    ensures instance { IfOk result (λ e. e.instance ≡ instance.entry) }
+        → (texts ≡ true → subject_has_float (subject_of question.now.instance) ≡ false) → error_of texts e
+        ≡ false_error texts (where_asked (node_of node.now) (asking question.now)) (subject_of question.now.instance)) }
+    ensures place { IfOk result (λ e. e.place ≡ steps_to question.now.place.now) }
+    ensures instance { IfOk result (λ e. e.instance ≡ question.now.instance) }
 {
     let absolute = absolute_location(alloc, node, &node.location)?;
     ValidationError::false_schema(
         alloc,
-        instance,
-        place.made()?,
+        question.instance,
+        question.place.made()?,
         node.location.copy()?,
-        path.made(alloc)?,
+        question.path.made(alloc)?,
         absolute,
     )
 }

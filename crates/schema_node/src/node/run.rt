@@ -102,14 +102,7 @@ fn run_node<'i, K: Validate, M: Matcher>(
         None => Ok(accepted(engine.alloc, question.mode)),
         Some(form) => match form {
             NodeForm::Always => Ok(accepted(engine.alloc, question.mode)),
-            NodeForm::Never => refused(
-                engine.alloc,
-                found,
-                question.instance,
-                question.place,
-                question.path,
-                question.mode,
-            ),
+            NodeForm::Never => refused(engine.alloc, found, question),
             NodeForm::Keywords(entries) => run_entries(
                 engine,
                 node,
@@ -261,10 +254,7 @@ fn run_keyword<'i, K: Validate, M: Matcher>(
         engine.alloc,
         engine.nodes.node(node),
         keyword.name,
-        question.instance,
-        question.place,
-        question.path,
-        question.mode,
+        question,
         answer,
     )
 }
