@@ -3,7 +3,7 @@ ghost use Rattle.std.specs.Prelude.{◌≡◌, ◌++◌, ◌∷◌, [], Some, If
 ghost use Rattle.schema_reports.specs.KeywordViews.{draft_of};
 ghost use Rattle.schema_engine.specs.Handed.{default_options};
 
-use schema_compiler::compiler::table::CompileOptions;
+use schema_compiler::compiler::given::CompileOptions;
 use schema_reports::keywords::Draft;
 use schema_reports::location::OutOfMemory;
 use std::alloc::Global;
