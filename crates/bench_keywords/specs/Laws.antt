@@ -1,5 +1,5 @@
 -- The keywords keep the laws.
-use Rattle.std.proofs.Common.{◌≡◌, [], List, Bool, false, Option, Some, None, refl, arith, min, ◌+◌, ◌-◌}
+use Rattle.std.proofs.Common.{◌≡◌, List, Bool, false, Option, Some, None, refl, arith, min, ◌+◌, ◌-◌}
 use Rattle.std.specs.Prelude.{All, option_map}
 use Rattle.std.proofs.lemmas.List.Elements.{All-append, All-nil, All-cons}
 use Rattle.schema_reports.specs.Instance.{Subject, Text}

@@ -1,6 +1,6 @@
 -- What each keyword says of an instance.
 use Rattle.std.specs.List.{list_any}
-use Rattle.std.specs.Prelude.{Bool, List, None, Option, Some, [], codes, false, filter, map, min, not, option_map, suc, true, zero, ℕ, ◌++◌, ◌+◌, ◌-◌, ◌&&◌, ◌∷◌}
+use Rattle.std.specs.Prelude.{Bool, List, None, Option, Some, [], codes, false, filter, map, min, not, option_map, suc, true, zero, ℕ, ◌++◌, ◌-◌, ◌&&◌, ◌∷◌}
 use Rattle.schema_reports.specs.Instance.{Subject, Text, a_name}
 use Rattle.schema_reports.specs.ReportViews.{spoken}
 use Rattle.schema_reports.specs.Keywords.{Answer, Keywords}

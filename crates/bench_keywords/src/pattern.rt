@@ -106,6 +106,7 @@ pub fn turn_pattern<'s, 'i: 's>(
     match text_of(instance) {
         Some(text) => turn_of_text(alloc, pattern, text, run, instance, reply, answer),
         None => {
+            drop(reply);
             run.stage = Stage::Ended;
             Ok(Step::Done)
         }

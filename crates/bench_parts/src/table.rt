@@ -56,7 +56,10 @@ fn ends(alloc: Global, ending: Ending) -> BenchMaker
 fn keyword_pointer(alloc: Global, name: &str) -> Result<Location, OutOfMemory>
     ensures pointer { IfOk result (λ l. l ≡ pointer_to (to_member name.now ∷ [])) }
 {
-    Location::new(alloc).join(LocationSegment::Property(name))
+    let root = Location::new(alloc);
+    let pointer = root.join(LocationSegment::Property(name));
+    drop(root);
+    pointer
 }
 
 /// The text of a refusal.

@@ -29,6 +29,7 @@ fn refused<'i>(answer: Answer<'i>) -> Answer<'i>
         },
         Answer::All(faults) => {
             if faults.is_empty() {
+                drop(faults);
                 Answer::Verdict(false)
             } else {
                 Answer::All(faults)
@@ -48,16 +49,24 @@ fn with_first<'i>(answer: Answer<'i>, fault: Fault<'i>) -> Answer<'i>
         Answer::Verdict(_) => Answer::First(Some(fault)),
         Answer::First(first) => match first {
             None => Answer::First(Some(fault)),
-            Some(kept) => Answer::First(Some(kept)),
+            Some(kept) => {
+                drop(fault);
+                Answer::First(Some(kept))
+            }
         },
         Answer::All(faults) => {
             if faults.is_empty() {
+                drop(faults);
                 Answer::First(Some(fault))
             } else {
+                drop(fault);
                 Answer::All(faults)
             }
         }
-        Answer::Evaluation(_, _) => Answer::First(Some(fault)),
+        Answer::Evaluation(_, errors) => {
+            drop(errors);
+            Answer::First(Some(fault))
+        }
     }
 }
 
@@ -76,7 +85,10 @@ fn faults_of<'i>(alloc: Global, answer: Answer<'i>) -> Result<Vec<Fault<'i>>, Ou
             Ok(faults)
         }
         Answer::All(faults) => Ok(faults),
-        Answer::Evaluation(_, _) => Ok(Vec::new(alloc)),
+        Answer::Evaluation(_, errors) => {
+            drop(errors);
+            Ok(Vec::new(alloc))
+        }
     }
 }
 
@@ -141,7 +153,10 @@ fn with_own<'i>(
         → All (PassesBorrowed root) (faults_in after)) }
 {
     match mode {
-        Mode::Verdict => Ok(refused(before)),
+        Mode::Verdict => {
+            drop(text);
+            Ok(refused(before))
+        }
         Mode::Evaluate => evaluated(alloc, keyword, text, before),
         Mode::First => with_own_first(alloc, keyword, text, before),
         Mode::All => with_own_last(alloc, keyword, text, before),

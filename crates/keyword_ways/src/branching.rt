@@ -62,6 +62,7 @@ pub fn branch_on<'s, 'i>(
 {
     match run.stage {
         Stage::Begun => {
+            drop(reply);
             run.stage = Stage::Asked(0);
             Ok(Step::Ask(0, Below::Here, Mode::Verdict))
         }
@@ -74,6 +75,7 @@ pub fn branch_on<'s, 'i>(
             Ok(Step::Done)
         }
         _ => {
+            drop(reply);
             run.stage = Stage::Ended;
             Ok(Step::Done)
         }

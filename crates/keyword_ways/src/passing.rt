@@ -30,7 +30,10 @@ fn take_asked<'i>(
 {
     match stage {
         Stage::Asked(_) => take(alloc, reply, answer),
-        _ => Ok(()),
+        _ => {
+            drop(reply);
+            Ok(())
+        }
     }
 }
 

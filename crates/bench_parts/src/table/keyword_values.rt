@@ -1,11 +1,12 @@
 //! The values of keywords.
-ghost use Rattle.std.specs.Prelude.{◌≡◌, ◌∷◌, [], IfOk, map, option_map, string_bytes};
+ghost use Rattle.std.specs.Prelude.{◌≡◌, ◌++◌, ◌∷◌, [], IfOk, map, option_map, string_bytes};
 ghost use Rattle.serde_json.specs.View.{items_view, members_view, view};
 ghost use Rattle.schema_reports.specs.Instance.{to_item, to_member};
 ghost use Rattle.bench_parts.specs.Makers.{count_shape, items_from, names_of, pattern_shape, required_shape, texts_of, type_named, type_of};
 ghost use Rattle.bench_parts.specs.Makers.{type_shape, types_of, values_below};
 ghost use Rattle.bench_keywords.specs.Shapes.{shape_of};
 
+use crate::table::schema_values::value_of;
 use bench_keywords::counts::CountKind;
 use bench_keywords::keyword::BenchKeyword;
 use bench_keywords::type_names::TypeName;
@@ -78,6 +79,15 @@ pub fn type_keyword(alloc: Global, value: &Value) -> Result<Option<BenchKeyword>
     }
 }
 
+/// Adds a copy of a text.
+fn push_copy(alloc: Global, text: &str, texts: &mut Vec<String>) -> Result<(), OutOfMemory>
+    ensures pushed { IfOk result (λ _. map string_bytes texts.new.items ≡ map string_bytes texts.old.items ++ text.now ∷ []) }
+{
+    let copy = String::from_str(alloc, text)?;
+    texts.push(copy)?;
+    Ok(())
+}
+
 /// The texts that values are, if each is one.
 pub fn texts_of(alloc: Global, values: &[Value]) -> Result<Option<Vec<String>>, OutOfMemory>
     ensures texts { IfOk result (λ texts. option_map (λ v. map string_bytes v.items) texts ≡ texts_of (items_view values.now)) }
@@ -85,7 +95,7 @@ pub fn texts_of(alloc: Global, values: &[Value]) -> Result<Option<Vec<String>>, 
     let mut texts = Vec::new(alloc);
     for value in values {
         match value {
-            Value::String(text) => texts.push(String::from_str(alloc, text.as_str())?)?,
+            Value::String(text) => push_copy(alloc, text.as_str(), &mut texts)?,
             _ => return Ok(None),
         }
     }
@@ -124,7 +134,7 @@ pub fn names_of(alloc: Global, members: &Map<String, Value>) -> Result<Vec<Strin
 {
     let mut names = Vec::new(alloc);
     for (name, _) in members {
-        names.push(String::from_str(alloc, name.as_str())?)?;
+        push_copy(alloc, name.as_str(), &mut names)?;
     }
     Ok(names)
 }
@@ -148,9 +158,9 @@ pub fn values_below(
 fn member_below(alloc: Global, keyword: &str, name: &str) -> Result<SchemaPath, OutOfMemory>
     ensures path { IfOk result (λ path. path ≡ to_member keyword.now ∷ to_member name.now ∷ []) }
 {
-    let mut path = SchemaPath::root(alloc);
-    path.push(SchemaStep::Member(String::from_str(alloc, keyword)?))?;
-    path.push(SchemaStep::Member(String::from_str(alloc, name)?))?;
+    let step = SchemaStep::Member(String::from_str(alloc, name)?);
+    let mut path = value_of(alloc, keyword)?;
+    path.push(step)?;
     Ok(path)
 }
 
@@ -183,8 +193,7 @@ pub fn items_below(
 fn item_below(alloc: Global, keyword: &str, index: usize) -> Result<SchemaPath, OutOfMemory>
     ensures path { IfOk result (λ path. path ≡ to_member keyword.now ∷ to_item index ∷ []) }
 {
-    let mut path = SchemaPath::root(alloc);
-    path.push(SchemaStep::Member(String::from_str(alloc, keyword)?))?;
+    let mut path = value_of(alloc, keyword)?;
     path.push(SchemaStep::Item(index))?;
     Ok(path)
 }

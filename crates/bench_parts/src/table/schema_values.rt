@@ -24,8 +24,9 @@ pub fn value_in<'o>(object: &'o Map<String, Value>, name: &str) -> Option<&'o Va
 pub fn value_of(alloc: Global, keyword: &str) -> Result<SchemaPath, OutOfMemory>
     ensures path { IfOk result (λ path. path ≡ to_member keyword.now ∷ []) }
 {
+    let name = String::from_str(alloc, keyword)?;
     let mut path = SchemaPath::root(alloc);
-    path.push(SchemaStep::Member(String::from_str(alloc, keyword)?))?;
+    path.push(SchemaStep::Member(name))?;
     Ok(path)
 }
 
