@@ -18,6 +18,7 @@ ghost use Rattle.schema_engine.specs.Asked.{RunDecides, RunFindsFirst, RunListsE
 use schema_node::context::keyword::{Mode, Reply, Validate};
 use schema_node::context::matcher::Matcher;
 use schema_node::context::validation::ValidationContext;
+use schema_node::node::run::FirstQuestion;
 use schema_node::node::{Nodes, SchemaNode};
 use schema_reports::instance::{Instance, Place};
 use schema_reports::keywords::Draft;
@@ -133,14 +134,17 @@ impl<K: Validate, M: Matcher> Validator<K, M> {
         let place = Place::root(alloc);
         let path = Location::new(alloc);
         let mut context = ValidationContext::assuming(alloc, matches);
+        let question = FirstQuestion {
+            instance: Instance::Value(instance),
+            place: &place,
+            path: &path,
+            mode,
+        };
         let reply = self.nodes.run(
             alloc,
             &self.matcher,
             self.root,
-            Instance::Value(instance),
-            &place,
-            &path,
-            mode,
+            &question,
             &mut context,
         )?;
         Ok((context.into_matches(), reply))
