@@ -1,5 +1,9 @@
 //! The compiler: from a key to numbered nodes, one for each key that is reached. What a key asks for is compiled before its
 //! own node is filled.
+//!
+//! What it is given is in `given`, what it fills in `compiled`; `context` says what draft, vocabularies and options decide where
+//! a schema stands. Its steps are in `vocabularies`, `values`, `makers`, `subschema`, `targets` (over the references of `ref_`
+//! and `start`), `entries` and `annotations`.
 ghost use Rattle.std.specs.Prelude.{IfErr, IfOk, Option, map, option_map, string_bytes};
 ghost use Rattle.serde_json.specs.View.{members_view, view};
 ghost use Rattle.schema_reports.specs.Instance.{Text};

@@ -15,7 +15,7 @@ use schema_reports::keywords::{BuiltinRow, Draft, Vocabulary, builtin_row, has_v
 use schema_reports::location::{Location, LocationSegment, OutOfMemory};
 use serde_json::{Map, Value};
 
-/// The schema of a key, compiled with these options.
+/// Where a schema is compiled: its key, and the options. What it tells takes no memory.
 #[derive(Clone, Copy)]
 pub struct Context<'c, S> {
     pub options: &'c CompileOptions,
@@ -54,7 +54,7 @@ impl<'c, S> Context<'c, S> {
         has_vocabulary(self.key.draft, &self.key.vocabularies, vocabulary)
     }
 
-    /// What the standard's table says of a name here. It takes no memory.
+    /// What the standard's table says of a keyword's name.
     #[tactic(auto, unfolding(crate::specs::Builtins::builtin))]
     pub(crate) fn builtin_row(&self, name: &str) -> Option<BuiltinRow>
         ensures row { option_map (λ r. record {
