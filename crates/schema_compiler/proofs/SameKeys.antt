@@ -7,7 +7,6 @@ use Rattle.std.proofs.lemmas.Option.{slice_get-map, slice_get_read}
 use Rattle.schema_reports.specs.Instance.{Place, Step, same_place, same_step, to_member, to_item, to_name}
 use Rattle.schema_reports.specs.Drafts as spec
 use Rattle.schema_reports.specs.Plan.{Key}
-use Rattle.schema_reports.specs.declared.keywords.Draft.{Draft}
 
 pub and_parts : (a b : Bool) → (a && b) ≡ true → (a ≡ true) × (b ≡ true)
 and_parts true true h = (refl, refl)

@@ -135,6 +135,10 @@ reserved_after {C} nodes nodes' nodes'' n i e e' none stay =
     let at : slice_get (nodes ++ n ∷ []) i ≡ Some n = ap (slice_get (nodes ++ n ∷ [])) e ∙ get-end nodes n in
     (n, stay i n (subst (λ (ns : List (NodeEntry C)). slice_get ns i ≡ Some n) (sym e') at), none)
 
+-- a number that is filled has got a form
+pub finishes : {C : Type 0} (nodes nodes' : List (NodeEntry C)) (i : ℕ) (annotations : Option Value) (p : NodePlan C) → Fills nodes i annotations p nodes' → Finishes nodes i nodes'
+finishes nodes nodes' i annotations p fills = (filled fills.0 fills.1 annotations p, p, refl, fills.3)
+
 -- a number was reserved, the table grew, and the number got its form
 pub finished_grown : {S C : Type 0} (P : Key S → Type 0) (keys keys' keys'' keys''' : List (Key S)) (nodes nodes' nodes'' nodes''' : List (NodeEntry C)) (k : Key S) (n : NodeEntry C) (i : ℕ)
     → length nodes ≡ length keys → i ≡ length nodes → keys' ≡ keys ++ k ∷ [] → nodes' ≡ nodes ++ n ∷ [] → P k → IsGrown P keys' keys'' nodes' nodes'' → keys''' ≡ keys'' → Finishes nodes'' i nodes'''

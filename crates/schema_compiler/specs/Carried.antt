@@ -1,14 +1,14 @@
 -- What the compiler carries: what it is given and does not change, and the table that it fills; and what each of its
 -- functions answers, over the two.
-use Rattle.std.specs.Prelude.{Bool, List, MatchOption, None, Option, Some, [], false, flat_map, map, true, ℕ, ◌≡◌}
+use Rattle.std.specs.Prelude.{Bool, List, MatchOption, Option, Some, [], false, flat_map, map, true, ℕ, ◌≡◌}
 use Rattle.serde_json.specs.Data.{Data, Members, object}
 use Rattle.schema_reports.specs.Instance.{Place, Text}
 use Rattle.schema_reports.specs.Drafts.{Draft, Vocabularies}
 use Rattle.schema_reports.specs.Pointer.{joined}
-use Rattle.schema_reports.specs.Making.{Making, Script, compile}
+use Rattle.schema_reports.specs.Making.{Script, compile}
 use Rattle.schema_reports.specs.Resolving.{Resolver}
 use Rattle.schema_reports.specs.Parts.{Parts}
-use Rattle.schema_reports.specs.Plan.{Edge, Key, Part, Reference, found, is_self, making, part, part_made, parts, plan, plan_of as plan_of_schema, reference_edge, reference_part, sorted, subschema}
+use Rattle.schema_reports.specs.Plan.{Edge, Key, Reference, found, is_self, making, part, part_made, parts, plan, plan_of as plan_of_schema, reference_edge, reference_part, sorted, subschema}
 use Rattle.schema_reports.specs.Reach.{Reached, asked_edges, maker_edges, members_edges, reference_edges}
 use Rattle.schema_reports.specs.Refusals.{Cause, causes, lookup_causes, maker_causes, members_causes, reference_causes, request_causes, schema_causes, undeclared}
 use Rattle.schema_reports.specs.Units.{annotations_of, object_annotations, unknown}
@@ -16,14 +16,14 @@ use Rattle.schema_reports.specs.Guarded.{NodeEdge, NodePart, NodePlan}
 use Rattle.schema_node.specs.NodeTable.{NodeEntry}
 use Rattle.schema_compiler.specs.KeyViews.{key_of}
 use Rattle.schema_compiler.specs.Options.{given_parts}
-use Rattle.schema_compiler.specs.Compiling.{StandsBelow, member_causes, member_edges, object_edges, option_one, reference_asked}
+use Rattle.schema_compiler.specs.Compiling.{StandsBelow, member_causes, member_edges, object_edges, option_one, reference_asked, resolving_parts}
 use Rattle.schema_compiler.specs.Refusing.{IsRefusal, Refused}
 use Rattle.schema_compiler.specs.Filling.{IsPlanned, IsTable}
 use Rattle.schema_compiler.specs.Steps.{IsAnswered, IsEdgeTo, IsNumbered, MakesPart, MakesParts, MakesPlan}
 use Rattle.schema_compiler.specs.declared.compiler.error.BuildError.{BuildError}
 use Rattle.schema_compiler.specs.declared.compiler.key.SchemaKey.{SchemaKey}
-use Rattle.schema_compiler.specs.declared.compiler.table.Given.{Given}
-use Rattle.schema_compiler.specs.declared.compiler.table.Compiled.{Compiled}
+use Rattle.schema_compiler.specs.declared.compiler.given.Given.{Given}
+use Rattle.schema_compiler.specs.declared.compiler.compiled.Compiled.{Compiled}
 
 -- what is given, as parts, with the shape of keywords and the limit
 pub record Task (S K C : Type 0) : Type 0 where
@@ -36,6 +36,7 @@ pub record Table (S C : Type 0) : Type 0 where
   pub keys : List (Key S)
   pub nodes : List (NodeEntry C)
 
+-- what is given, by the senses of resolver, table and keywords
 abbrev pub task : {R T S K C : Type 0} → (R → Resolver S) → (T → Text → Bool) → (T → Bool → Text → Members → Draft → Vocabularies → Bool → Script K) → (C → K) → Given R T → Task S K C
 task resolving owned script shape g = record {
   parts = given_parts (resolving g.resolver.now) (owned g.table.now) (script g.table.now) g.options.now;
@@ -43,6 +44,17 @@ task resolving owned script shape g = record {
   limit = g.options.now.node_limit;
 }
 
+-- what is given, as far as the resolver alone decides it
+abbrev pub resolver_parts : {R T S : Type 0} → (R → Resolver S) → Given R T → Parts S (Unit {0}) (Unit {0})
+resolver_parts resolving g = resolving_parts (resolving g.resolver.now)
+
+-- a reference leads to this key; to none where it is skipped
+abbrev pub LeadsBy : {S K R P : Type 0} → Parts S K R → (P → S) → Key S → Reference → Text → Option (SchemaKey P) → Type 0
+LeadsBy w point k kind text o = MatchOption o (is_self w k kind text ≡ true)
+    (λ t. (is_self w k kind text ≡ false)
+    × ((name : Text) → reference_edge w k name kind text ≡ Some (record { key = key_of point t; path = joined [] name; is_reference = true })))
+
+-- what is filled so far, by the sense of the resolver's states
 abbrev pub filled : {S P C : Type 0} → (S → P) → Compiled S C → Table P C
 filled point c = record { keys = map (key_of point) c.keys; nodes = c.nodes }
 
@@ -58,6 +70,7 @@ module _ {S K C : Type 0} (g : Task S K C) where
       × ((name : Text) → reference_edge g.parts k name kind text ≡ Some (record { key = key_of point t; path = joined [] name; is_reference = true }))
       × (lacking t.vocabularies ≡ []))
 
+  -- why no target is found, or is refused: said for whatever name and keys go with it
   abbrev pub RefusesTarget : Key S → Reference → Text → BuildError → Type 0
   RefusesTarget k kind text e = (name : Text) (keys : List (Key S)) → Refused g.parts g.limit (option_one (reference_asked g.parts k name kind text)) (lookup_causes g.parts (found g.parts k kind text)) keys e
 
@@ -66,70 +79,91 @@ module _ {S K C : Type 0} (g : Task S K C) (t : Table S C) where
   abbrev pub PlannedAs : Key S → NodePlan C → Type 0
   PlannedAs = IsPlanned g.parts g.shape t.keys t.nodes
 
+  -- the keys and nodes so far are as the parts have them
   abbrev pub IsWell : Type 0
   IsWell = IsTable g.parts g.shape g.limit t.keys t.nodes
 
   -- ---- what refuses
 
+  -- why a key gets no number
   abbrev pub RefusesKey : Key S → BuildError → Type 0
   RefusesKey k = IsRefusal g.limit t.keys (Reached g.parts k) (StandsBelow g.parts k)
 
+  -- why a step is refused that asks for these edges, and that these causes stand against
   abbrev pub Refuses : List (Edge S) → List Cause → BuildError → Type 0
   Refuses es cs = Refused g.parts g.limit es cs t.keys
 
+  -- why a key gets no plan
   abbrev pub RefusesNode : Key S → BuildError → Type 0
   RefusesNode k = Refuses (asked_edges g.parts k) (causes g.parts k)
 
+  -- why an object with these members gets no plan
   abbrev pub RefusesObject : Key S → Members → BuildError → Type 0
   RefusesObject k ms = Refuses (object_edges g.parts k ms) (schema_causes g.parts k (object ms))
 
+  -- why no keywords are made of these members
   abbrev pub RefusesMembers : Key S → Members → BuildError → Type 0
   RefusesMembers k ms = Refuses (members_edges g.parts k ms ms) (members_causes g.parts k ms ms)
 
+  -- why no keyword is made of one member
   abbrev pub RefusesMember : Key S → Members → Text → Data → BuildError → Type 0
   RefusesMember k ms name value = Refuses (member_edges g.parts k ms name value) (member_causes g.parts k ms name value)
 
+  -- why a maker makes no keyword
   abbrev pub RefusesMaker : Key S → Members → Bool → Text → BuildError → Type 0
   RefusesMaker k ms own name = Refuses (maker_edges g.parts k name (making g.parts k ms own name)) (maker_causes g.parts k (making g.parts k ms own name))
 
+  -- why there is no edge to the subschema at a path
   abbrev pub RefusesChild : Key S → Place → BuildError → Type 0
   RefusesChild k path = Refuses (option_one (subschema g.parts k path)) (request_causes g.parts k (compile path))
 
+  -- why there is no edge to a reference's target
   abbrev pub RefusesEdge : Key S → Text → Reference → Text → BuildError → Type 0
   RefusesEdge k name kind text = Refuses (option_one (reference_asked g.parts k name kind text)) (lookup_causes g.parts (found g.parts k kind text))
 
+  -- why there is no reference keyword
   abbrev pub RefusesReference : Key S → Text → Reference → Data → BuildError → Type 0
   RefusesReference k name kind value = Refuses (reference_edges g.parts k name kind value) (reference_causes g.parts k name kind value)
 
   -- ---- what is made
 
   module _ (t' : Table S C) (k : Key S) where
+    -- the key has this number
     abbrev pub Numbers : ℕ → Type 0
     Numbers = IsNumbered g.parts g.shape g.limit t.keys t'.keys t.nodes t'.nodes k
 
+    -- this edge leads to the key's number
     abbrev pub LeadsToKey : Text → NodeEdge → Type 0
     LeadsToKey = IsEdgeTo g.parts g.shape g.limit t.keys t'.keys t.nodes t'.nodes k
 
+    -- this is the key's plan, with its annotations
     abbrev pub PlansNode : NodePlan C → Option Data → Type 0
     PlansNode p annotations = MakesPlan g.parts g.shape g.limit t.keys t'.keys t.nodes t'.nodes (asked_edges g.parts k) (causes g.parts k) k p (plan g.parts k) annotations (annotations_of g.parts k)
 
+    -- this is the plan of the key's object with these members, with its annotations
     abbrev pub PlansObject : Members → NodePlan C → Option Data → Type 0
     PlansObject ms p annotations = MakesPlan g.parts g.shape g.limit t.keys t'.keys t.nodes t'.nodes (object_edges g.parts k ms) (schema_causes g.parts k (object ms)) k p (plan_of_schema g.parts k (object ms)) annotations (object_annotations g.parts k ms)
 
+    -- these are the keywords of the members, and those of which no keyword is made
     abbrev pub MakesMembers : Members → List (NodePart C) → Members → Type 0
     MakesMembers ms xs left = MakesParts g.parts g.shape g.limit t.keys t'.keys t.nodes t'.nodes (members_edges g.parts k ms ms) (members_causes g.parts k ms ms) k xs (sorted (parts g.parts k ms ms)) left (unknown g.parts k ms ms)
 
+    -- this is the keyword of one member, if it is one
     abbrev pub MakesMember : Members → Text → Data → Option (NodePart C) → Type 0
     MakesMember ms name value o = MakesPart g.parts g.shape g.limit t.keys t'.keys t.nodes t'.nodes (member_edges g.parts k ms name value) (member_causes g.parts k ms name value) k o (part g.parts k ms name value)
 
+    -- this is the keyword that a maker makes, if it makes one
     abbrev pub MakesKeyword : Members → Bool → Text → ℕ → Bool → Option (NodePart C) → Type 0
     MakesKeyword ms own name priority is_leaf o = MakesPart g.parts g.shape g.limit t.keys t'.keys t.nodes t'.nodes (maker_edges g.parts k name (making g.parts k ms own name)) (maker_causes g.parts k (making g.parts k ms own name)) k o (part_made g.parts name priority is_leaf (making g.parts k ms own name))
 
+    -- this edge leads to the subschema at a path
     abbrev pub AnswersChild : Place → NodeEdge → Type 0
     AnswersChild path e = IsAnswered g.parts g.shape g.limit t.keys t'.keys t.nodes t'.nodes (subschema g.parts k path) (request_causes g.parts k (compile path)) (Some e)
 
+    -- this edge leads to a reference's target; none where it is skipped
     abbrev pub AnswersReference : Text → Reference → Text → Option NodeEdge → Type 0
     AnswersReference name kind text o = IsAnswered g.parts g.shape g.limit t.keys t'.keys t.nodes t'.nodes (reference_asked g.parts k name kind text) (lookup_causes g.parts (found g.parts k kind text)) o
 
+    -- this is the reference keyword, if it is not skipped
     abbrev pub MakesReference : Text → ℕ → Reference → Data → Option (NodePart C) → Type 0
     MakesReference name priority kind value o = MakesPart g.parts g.shape g.limit t.keys t'.keys t.nodes t'.nodes (reference_edges g.parts k name kind value) (reference_causes g.parts k name kind value) k o (reference_part g.parts k name priority kind value)

@@ -8,7 +8,7 @@ use Rattle.schema_reports.specs.Resolving.{Resolver}
 use Rattle.schema_reports.specs.Parts.{Parts}
 use Rattle.schema_compiler.specs.Builtins.{builtin}
 use Rattle.schema_compiler.specs.Compiling.{parts_of}
-use Rattle.schema_compiler.specs.declared.compiler.table.CompileOptions.{CompileOptions}
+use Rattle.schema_compiler.specs.declared.compiler.given.CompileOptions.{CompileOptions}
 
 abbrev pub given_parts : {S K : Type 0} → Resolver S → (Text → Bool) → (Bool → Text → Members → Draft → Vocabularies → Bool → Script K) → CompileOptions → Parts S K (Unit {0})
 given_parts resolver owned script options = parts_of resolver (record { owns = owned; builtin = builtin; script = script }) options.formats (map string_bytes options.declared.items)

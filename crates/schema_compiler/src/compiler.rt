@@ -1,37 +1,59 @@
-//! The compiler: from a key to numbered nodes, one for each key that is reached.
-ghost use Rattle.std.specs.Prelude.{Option, IfOk, IfErr, map, string_bytes};
+//! The compiler: from a key to numbered nodes, one for each key that is reached. What a key asks for is compiled before its
+//! own node is filled.
+//!
+//! What it is given is in `given`, what it fills in `compiled`; `context` says what draft, vocabularies and options decide where
+//! a schema stands. Its steps are in `vocabularies`, `values`, `makers`, `subschema`, `targets` (over the references of `ref_`
+//! and `start`), `entries` and `annotations`.
+ghost use Rattle.std.specs.Prelude.{IfErr, IfOk, Option, map, option_map, string_bytes};
+ghost use Rattle.serde_json.specs.View.{members_view, view};
 ghost use Rattle.schema_reports.specs.Instance.{Text};
 ghost use Rattle.schema_reports.specs.Drafts as drafts;
 ghost use Rattle.schema_reports.specs.Matching as matching;
 ghost use Rattle.schema_reports.specs.Keywords as words;
-ghost use Rattle.schema_compiler.specs.KeyViews.{key_of};
+ghost use Rattle.schema_node.specs.NodeViews.{edge_of, entry_of as entry_view, plan_of};
+ghost use Rattle.schema_compiler.specs.KeyViews.{key_of, kind_of};
 ghost use Rattle.schema_compiler.specs.Builtins.{builtin};
 ghost use Rattle.schema_compiler.specs.Compilation.{IsCompilation, RefusesRoot, all_parts};
+ghost use Rattle.schema_compiler.specs.Carried.{AnswersChild, AnswersReference, IsWell, LeadsToKey};
+ghost use Rattle.schema_compiler.specs.Carried.{MakesKeyword, MakesMember, MakesMembers, MakesReference};
+ghost use Rattle.schema_compiler.specs.Carried.{Numbers, PlansNode, PlansObject, RefusesChild, RefusesEdge};
+ghost use Rattle.schema_compiler.specs.Carried.{RefusesKey, RefusesMaker, RefusesMember, RefusesMembers};
+ghost use Rattle.schema_compiler.specs.Carried.{RefusesNode, RefusesObject, RefusesReference, filled, task};
 
+use crate::compiler::annotations::object_of;
+use crate::compiler::compiled::{Compiled, PlannedNode};
+use crate::compiler::context::Context;
+use crate::compiler::entries::{entry_named, insert_by_priority, node_alone};
 use crate::compiler::error::BuildError;
+use crate::compiler::given::{CompileOptions, Given};
 use crate::compiler::key::SchemaKey;
-use crate::compiler::keys::Keys;
-use crate::compiler::table::{CompileOptions, Compiled, Given, check_declared};
+use crate::compiler::keys::{Keys, find};
+use crate::compiler::makers::keep_edge;
+use crate::ref_::{ReferenceKind, reference_kind};
 use schema_node::context::keyword::Validate;
 use schema_node::context::resolver::Resolver;
-use schema_node::context::table::KeywordTable;
-use schema_node::node::Nodes;
-use schema_reports::location::Location;
+use schema_node::context::schema_place::SchemaPath;
+use schema_node::context::table::{KeywordTable, MakerReply, MakerStep};
+use schema_node::node::{Edge, Entry, EntryForm, NodeForm, Nodes};
+use schema_reports::location::{Location, LocationSegment};
+use serde_json::{Map, Value};
 use std::alloc::Global;
 
 mod annotations;
-mod builtin;
+pub mod compiled;
 pub mod context;
 mod entries;
 pub mod error;
+pub mod given;
 pub mod key;
 mod keys;
 mod makers;
-mod nodes_of;
-pub(crate) mod start;
-pub mod table;
+mod start;
+mod subschema;
+mod targets;
 pub(crate) mod text;
 mod values;
+mod vocabularies;
 
 /// Compiles all that a key reaches. Each key gets one number, the key itself the first. What is said holds whatever
 /// matcher, keywords' words, draft and base go with the parts: the compiler reads none of them.
@@ -46,10 +68,19 @@ pub fn compile<R: Resolver, K: Validate, T: KeywordTable<K>>(
     options: &CompileOptions,
     root: SchemaKey<R::State>,
 ) -> Result<Compiled<R::State, K>, BuildError>
-    ensures compiled { IfOk result (λ m. (matcher : matching.Matcher) (keywords : words.Keywords K.Shape (K.Run × words.Answer)) (draft : Option drafts.Draft) (base : Option Text)
-        → IsCompilation (all_parts (R.resolving resolver.now) (record { owns = T.owned table.now; builtin = builtin; script = T.script table.now }) options.now.formats (map string_bytes options.now.declared.items) matcher keywords draft base) K.shape options.now.node_limit (key_of R.point root) (map (key_of R.point) m.keys) m.nodes) }
-    ensures refused { IfErr result (λ e. (matcher : matching.Matcher) (keywords : words.Keywords K.Shape (K.Run × words.Answer)) (draft : Option drafts.Draft) (base : Option Text)
-        → RefusesRoot (all_parts (R.resolving resolver.now) (record { owns = T.owned table.now; builtin = builtin; script = T.script table.now }) options.now.formats (map string_bytes options.now.declared.items) matcher keywords draft base) options.now.node_limit (key_of R.point root) e) }
+    ensures compiled { IfOk result (λ m. (matcher : matching.Matcher)
+        (keywords : words.Keywords K.Shape (K.Run × words.Answer)) (draft : Option drafts.Draft)
+        (base : Option Text) → IsCompilation (all_parts (R.resolving resolver.now)
+        (record { owns = T.owned table.now; builtin = builtin; script = T.script table.now })
+        options.now.formats (map string_bytes options.now.declared.items)
+        matcher keywords draft base) K.shape options.now.node_limit (key_of R.point root)
+        (map (key_of R.point) m.keys) m.nodes) }
+    ensures refused { IfErr result (λ e. (matcher : matching.Matcher)
+        (keywords : words.Keywords K.Shape (K.Run × words.Answer)) (draft : Option drafts.Draft)
+        (base : Option Text) → RefusesRoot (all_parts (R.resolving resolver.now)
+        (record { owns = T.owned table.now; builtin = builtin; script = T.script table.now })
+        options.now.formats (map string_bytes options.now.declared.items)
+        matcher keywords draft base) options.now.node_limit (key_of R.point root) e) }
 {
     let given = Given {
         alloc,
@@ -57,7 +88,7 @@ pub fn compile<R: Resolver, K: Validate, T: KeywordTable<K>>(
         table,
         options,
     };
-    check_declared(&given, &root.vocabularies)?;
+    given.check_declared(&root.vocabularies)?;
     let mut compiled = Compiled {
         keys: Keys::new(alloc),
         nodes: Nodes::new(alloc),
@@ -68,4 +99,360 @@ pub fn compile<R: Resolver, K: Validate, T: KeywordTable<K>>(
     let count = compiled.nodes.len();
     let _ranked = count;
     Ok(compiled)
+}
+
+// The keywords of an object, by their priorities, and the members that no keyword is made of.
+#[derive(Drop)]
+struct ObjectKeywords<K> {
+    entries: Vec<Entry<K>>,
+    unknown: Map<String, Value>,
+}
+
+impl<'p, R: Resolver, T> Given<'p, R, T> {
+    /// The edge to the node of a key, which is compiled first where it has no number. The edge is guarded where the node is
+    /// still being compiled.
+    #[cycle(compile)]
+    fn edge_to<K: Validate>(
+        &self,
+        compiled: &mut Compiled<R::State, K>,
+        key: SchemaKey<R::State>,
+        path: Location,
+    ) -> Result<Edge, BuildError>
+    where
+        T: KeywordTable<K>,
+        requires table { IsWell (task R.resolving T.owned T.script K.shape self.now)
+            (filled R.point compiled.old) }
+        ensures edge { IfOk result (λ e. LeadsToKey
+            (task R.resolving T.owned T.script K.shape self.now) (filled R.point compiled.old)
+            (filled R.point compiled.new) (key_of R.point key) path (edge_of e)) }
+        ensures refused { IfErr result
+            (RefusesKey (task R.resolving T.owned T.script K.shape self.now)
+            (filled R.point compiled.old) (key_of R.point key)) }
+    {
+        let number = self.number_of(compiled, &key);
+        drop(key);
+        Ok(compiled.edge_at(number?, path))
+    }
+
+    // The number of a key, which is compiled first where it has none.
+    #[cycle(compile)]
+    fn number_of<K: Validate>(
+        &self,
+        compiled: &mut Compiled<R::State, K>,
+        key: &SchemaKey<R::State>,
+    ) -> Result<usize, BuildError>
+    where
+        T: KeywordTable<K>,
+        requires table { IsWell (task R.resolving T.owned T.script K.shape self.now)
+            (filled R.point compiled.old) }
+        ensures numbered { IfOk result (Numbers (task R.resolving T.owned T.script K.shape self.now)
+            (filled R.point compiled.old) (filled R.point compiled.new) (key_of R.point key.now)) }
+        ensures refused { IfErr result
+            (RefusesKey (task R.resolving T.owned T.script K.shape self.now)
+            (filled R.point compiled.old) (key_of R.point key.now)) }
+    {
+        if let Some(number) = find::<R>(&compiled.keys, key) {
+            return Ok(number);
+        }
+        let number = self.reserve_within(compiled, key)?;
+        let planned = self.planned_node(compiled, key)?;
+        compiled
+            .nodes
+            .fill(number, planned.form, planned.annotations);
+        Ok(number.0)
+    }
+
+    // What a key's node asks of an instance, and its annotations.
+    #[cycle(compile)]
+    fn planned_node<K: Validate>(
+        &self,
+        compiled: &mut Compiled<R::State, K>,
+        key: &SchemaKey<R::State>,
+    ) -> Result<PlannedNode<K>, BuildError>
+    where
+        T: KeywordTable<K>,
+        requires table { IsWell (task R.resolving T.owned T.script K.shape self.now)
+            (filled R.point compiled.old) }
+        ensures planned { IfOk result (λ n. PlansNode
+            (task R.resolving T.owned T.script K.shape self.now) (filled R.point compiled.old)
+            (filled R.point compiled.new) (key_of R.point key.now) (plan_of n.form)
+            (option_map view n.annotations)) }
+        ensures refused { IfErr result (RefusesNode
+            (task R.resolving T.owned T.script K.shape self.now) (filled R.point compiled.old)
+            (key_of R.point key.now)) }
+    {
+        match self.object_at(key) {
+            Some(members) => self.planned_object(compiled, key, members),
+            None => Ok(PlannedNode {
+                form: self.form_at(key)?,
+                annotations: None,
+            }),
+        }
+    }
+
+    // What the node of an object asks of an instance; a `$ref` that stands alone is all of it.
+    #[cycle(compile)]
+    fn planned_object<K: Validate>(
+        &self,
+        compiled: &mut Compiled<R::State, K>,
+        key: &SchemaKey<R::State>,
+        members: &Map<String, Value>,
+    ) -> Result<PlannedNode<K>, BuildError>
+    where
+        T: KeywordTable<K>,
+        requires table { IsWell (task R.resolving T.owned T.script K.shape self.now)
+            (filled R.point compiled.old) }
+        ensures planned { IfOk result (λ n. PlansObject
+            (task R.resolving T.owned T.script K.shape self.now) (filled R.point compiled.old)
+            (filled R.point compiled.new) (key_of R.point key.now) (members_view members.now.entries)
+            (plan_of n.form) (option_map view n.annotations)) }
+        ensures refused { IfErr result (RefusesObject
+            (task R.resolving T.owned T.script K.shape self.now) (filled R.point compiled.old)
+            (key_of R.point key.now) (members_view members.now.entries)) }
+    {
+        let context = Context {
+            options: self.options,
+            key,
+        };
+        match context.lone_reference(members) {
+            Some(value) => {
+                let name = String::from_str(self.alloc, "$ref")?;
+                let entry = self.reference_entry(
+                    compiled,
+                    key,
+                    &name,
+                    70,
+                    ReferenceKind::Ref,
+                    value,
+                )?;
+                Ok(node_alone(self.alloc, entry)?)
+            }
+            None => {
+                let keywords = self.keywords_of(compiled, key, members)?;
+                Ok(PlannedNode {
+                    form: NodeForm::Keywords(keywords.entries),
+                    annotations: object_of(keywords.unknown),
+                })
+            }
+        }
+    }
+
+    // The keywords of an object, by their priorities, and the members that no keyword is made of.
+    #[cycle(compile)]
+    fn keywords_of<K: Validate>(
+        &self,
+        compiled: &mut Compiled<R::State, K>,
+        key: &SchemaKey<R::State>,
+        members: &Map<String, Value>,
+    ) -> Result<ObjectKeywords<K>, BuildError>
+    where
+        T: KeywordTable<K>,
+        requires table { IsWell (task R.resolving T.owned T.script K.shape self.now)
+            (filled R.point compiled.old) }
+        ensures parts { IfOk result (λ o. MakesMembers
+            (task R.resolving T.owned T.script K.shape self.now) (filled R.point compiled.old)
+            (filled R.point compiled.new) (key_of R.point key.now) (members_view members.now.entries)
+            (map entry_view o.entries.items) (members_view o.unknown.entries)) }
+        ensures refused { IfErr result (RefusesMembers
+            (task R.resolving T.owned T.script K.shape self.now) (filled R.point compiled.old)
+            (key_of R.point key.now) (members_view members.now.entries)) }
+    {
+        let mut entries = Vec::new(self.alloc);
+        let mut unknown = Map::new(self.alloc);
+        for (name, value) in members.iter() {
+            match self.entry_of(compiled, key, members, name, value)? {
+                Some(entry) => insert_by_priority(&mut entries, entry)?,
+                None => self.keep_unknown(key, &mut unknown, name, value)?,
+            }
+        }
+        Ok(ObjectKeywords { entries, unknown })
+    }
+
+    // The keyword of a member, if it is one: the table's own, or else a built-in one; references are the engine's.
+    #[cycle(compile)]
+    fn entry_of<K: Validate>(
+        &self,
+        compiled: &mut Compiled<R::State, K>,
+        key: &SchemaKey<R::State>,
+        members: &Map<String, Value>,
+        name: &String,
+        value: &Value,
+    ) -> Result<Option<Entry<K>>, BuildError>
+    where
+        T: KeywordTable<K>,
+        requires table { IsWell (task R.resolving T.owned T.script K.shape self.now)
+            (filled R.point compiled.old) }
+        ensures part { IfOk result (λ o. MakesMember
+            (task R.resolving T.owned T.script K.shape self.now) (filled R.point compiled.old)
+            (filled R.point compiled.new) (key_of R.point key.now) (members_view members.now.entries)
+            (string_bytes name.now) (view value.now) (option_map entry_view o)) }
+        ensures refused { IfErr result (RefusesMember
+            (task R.resolving T.owned T.script K.shape self.now) (filled R.point compiled.old)
+            (key_of R.point key.now) (members_view members.now.entries) (string_bytes name.now)
+            (view value.now)) }
+    {
+        let text = name.as_str();
+        if self.table.owns(text) {
+            return self.made_entry(compiled, key, members, true, name, 80, false);
+        }
+        let context = Context {
+            options: self.options,
+            key,
+        };
+        match context.builtin_row(text) {
+            None => Ok(None),
+            Some(row) => match reference_kind(text) {
+                Some(kind) => self.reference_entry(compiled, key, name, row.priority, kind, value),
+                None => self.made_entry(
+                    compiled,
+                    key,
+                    members,
+                    false,
+                    name,
+                    row.priority,
+                    row.is_leaf,
+                ),
+            },
+        }
+    }
+
+    // The keyword that a maker makes.
+    #[cycle(compile)]
+    fn made_entry<K: Validate>(
+        &self,
+        compiled: &mut Compiled<R::State, K>,
+        key: &SchemaKey<R::State>,
+        members: &Map<String, Value>,
+        own: bool,
+        name: &String,
+        priority: u8,
+        is_leaf: bool,
+    ) -> Result<Option<Entry<K>>, BuildError>
+    where
+        T: KeywordTable<K>,
+        requires table { IsWell (task R.resolving T.owned T.script K.shape self.now)
+            (filled R.point compiled.old) }
+        ensures part { IfOk result (λ o. MakesKeyword
+            (task R.resolving T.owned T.script K.shape self.now) (filled R.point compiled.old)
+            (filled R.point compiled.new) (key_of R.point key.now) (members_view members.now.entries)
+            own (string_bytes name.now) priority is_leaf (option_map entry_view o)) }
+        ensures refused { IfErr result (RefusesMaker
+            (task R.resolving T.owned T.script K.shape self.now) (filled R.point compiled.old)
+            (key_of R.point key.now) (members_view members.now.entries) own (string_bytes name.now)) }
+    {
+        let mut maker = self.maker_of(key, members, own, name)?;
+        let mut children = Vec::new(self.alloc);
+        let mut reply = MakerReply::Begun;
+        loop {
+            match self.table.turn(self.alloc, &mut maker, reply)? {
+                MakerStep::Compile(path) => {
+                    let edge = self.child_edge(compiled, key, &path)?;
+                    reply = keep_edge(&mut children, Some(edge))?;
+                }
+                MakerStep::Refer(text) => {
+                    let edge = self.reference_edge(compiled, key, name, ReferenceKind::Ref, &text)?;
+                    reply = keep_edge(&mut children, edge)?;
+                }
+                MakerStep::Keyword(keyword, _) => {
+                    let form = EntryForm::Keyword(keyword, children);
+                    return Ok(Some(entry_named(name, priority, is_leaf, form)?));
+                }
+                MakerStep::Nothing => return Ok(None),
+                MakerStep::Refuse(error) => return Err(BuildError::KeywordRefused(error)),
+            }
+        }
+    }
+
+    // The edge to the subschema at a path below.
+    #[cycle(compile)]
+    fn child_edge<K: Validate>(
+        &self,
+        compiled: &mut Compiled<R::State, K>,
+        key: &SchemaKey<R::State>,
+        path: &SchemaPath,
+    ) -> Result<Edge, BuildError>
+    where
+        T: KeywordTable<K>,
+        requires table { IsWell (task R.resolving T.owned T.script K.shape self.now)
+            (filled R.point compiled.old) }
+        ensures answered { IfOk result (λ e. AnswersChild
+            (task R.resolving T.owned T.script K.shape self.now) (filled R.point compiled.old)
+            (filled R.point compiled.new) (key_of R.point key.now) path.now (edge_of e)) }
+        ensures refused { IfErr result (RefusesChild
+            (task R.resolving T.owned T.script K.shape self.now) (filled R.point compiled.old)
+            (key_of R.point key.now) path.now) }
+    {
+        let location = path.pointer(self.alloc)?;
+        let below = self.subschema_key(key, path)?;
+        Ok(self.edge_to(compiled, below, location)?)
+    }
+
+    // The edge to a reference's target; none where the reference is skipped.
+    #[cycle(compile)]
+    fn reference_edge<K: Validate>(
+        &self,
+        compiled: &mut Compiled<R::State, K>,
+        key: &SchemaKey<R::State>,
+        name: &String,
+        kind: ReferenceKind,
+        text: &String,
+    ) -> Result<Option<Edge>, BuildError>
+    where
+        T: KeywordTable<K>,
+        requires table { IsWell (task R.resolving T.owned T.script K.shape self.now)
+            (filled R.point compiled.old) }
+        ensures answered { IfOk result (λ o. AnswersReference
+            (task R.resolving T.owned T.script K.shape self.now) (filled R.point compiled.old)
+            (filled R.point compiled.new) (key_of R.point key.now) (string_bytes name.now)
+            (kind_of kind) (string_bytes text.now) (option_map edge_of o)) }
+        ensures refused { IfErr result (RefusesEdge
+            (task R.resolving T.owned T.script K.shape self.now) (filled R.point compiled.old)
+            (key_of R.point key.now) (string_bytes name.now) (kind_of kind) (string_bytes text.now)) }
+    {
+        let path = Location::new(self.alloc).join(LocationSegment::Property(name.as_str()))?;
+        match self.target_of(key, kind, text.as_str())? {
+            None => Ok(None),
+            Some(target) => {
+                let edge = self.edge_to(compiled, target, path)?;
+                Ok(Some(edge))
+            }
+        }
+    }
+
+    // The reference under a keyword of this name; none where it is skipped.
+    #[cycle(compile)]
+    fn reference_entry<K: Validate>(
+        &self,
+        compiled: &mut Compiled<R::State, K>,
+        key: &SchemaKey<R::State>,
+        name: &String,
+        priority: u8,
+        kind: ReferenceKind,
+        value: &Value,
+    ) -> Result<Option<Entry<K>>, BuildError>
+    where
+        T: KeywordTable<K>,
+        requires table { IsWell (task R.resolving T.owned T.script K.shape self.now)
+            (filled R.point compiled.old) }
+        ensures part { IfOk result (λ o. MakesReference
+            (task R.resolving T.owned T.script K.shape self.now) (filled R.point compiled.old)
+            (filled R.point compiled.new) (key_of R.point key.now) (string_bytes name.now) priority
+            (kind_of kind) (view value.now) (option_map entry_view o)) }
+        ensures refused { IfErr result (RefusesReference
+            (task R.resolving T.owned T.script K.shape self.now) (filled R.point compiled.old)
+            (key_of R.point key.now) (string_bytes name.now) (kind_of kind) (view value.now)) }
+    {
+        let context = Context {
+            options: self.options,
+            key,
+        };
+        let text = context.text_of(name, value)?;
+        match self.reference_edge(compiled, key, name, kind, text)? {
+            None => Ok(None),
+            Some(edge) => {
+                let form = EntryForm::Reference(edge);
+                Ok(Some(entry_named(name, priority, false, form)?))
+            }
+        }
+    }
 }

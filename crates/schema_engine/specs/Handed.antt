@@ -1,4 +1,5 @@
--- Everything that is handed in to a build, as one record, and what a build answers.
+-- What is handed in to a build, as data: the options, the parts that options, resolver, table, matcher and keywords make
+-- together, and what the code's own values stand for.
 use Rattle.std.specs.Prelude.{ℕ, List, [], Bool, true, Option, None}
 use Rattle.serde_json.specs.Data.{Members}
 use Rattle.schema_reports.specs.Instance.{Text}
@@ -6,8 +7,13 @@ use Rattle.schema_reports.specs.Drafts.{Draft, Vocabularies}
 use Rattle.schema_reports.specs.Resolving.{Resolver}
 use Rattle.schema_reports.specs.Making.{Builtin, Script, Table}
 use Rattle.schema_reports.specs.Matching.{Matcher, finished}
-use Rattle.schema_reports.specs.Keywords.{Keywords, done}
+use Rattle.schema_reports.specs.Keywords.{Answer, Keywords, done}
+use Rattle.schema_reports.specs.KeywordTable.{builtin_in}
 use Rattle.schema_reports.specs.Parts.{Parts}
+use Rattle.schema_node.specs.declared.context.keyword.Validate.{Ghosts as KeywordMembers}
+use Rattle.schema_node.specs.declared.context.matcher.Matcher.{Ghosts as MatcherMembers}
+use Rattle.schema_node.specs.declared.context.resolver.Resolver.{Ghosts as ResolverMembers}
+use Rattle.schema_node.specs.declared.context.table.KeywordTable.{Ghosts as TableMembers}
 
 -- the options that a build reads
 pub record Options : Type 0 where
@@ -24,6 +30,7 @@ default_options = record { draft = None; base = None; formats = None; declared =
 abbrev pub table_of : {K : Type 0} → (Text → Bool) → (Draft → Vocabularies → Text → Option Builtin) → (Bool → Text → Members → Draft → Vocabularies → Bool → Script K) → Table K
 table_of owns builtin script = record { owns = owns; builtin = builtin; script = script }
 
+-- all parts, with the options
 abbrev pub parts_of : {S K R : Type 0} → Resolver S → Table K → Matcher → Keywords K R → Options → Parts S K R
 parts_of resolver table matcher keywords options = record {
   resolver = resolver;
@@ -52,4 +59,29 @@ no_keywords = record {
   turn = λ m s r reply. tt;
   step = λ m s r reply. done;
   answer = λ r. record { verdict = true; errors = []; gives = record { children = []; annotations = None; errors = []; absorbed = [] } };
+}
+
+-- The resolver, the table and the matcher that are handed in, as data, and how keywords run; and what a keyword and a
+-- matcher of the code stand for. S is what a state stands for, K what is known of a keyword, R a run with its answer so far,
+-- C a keyword of the code, M a matcher of it.
+pub record Handed (S K R C M : Type 0) : Type 0 where
+  pub resolver : Resolver S
+  pub table : Table K
+  pub matcher : Matcher
+  pub words : Bool → Keywords K R
+  pub shape : C → K
+  pub is_whole : K → Bool
+  pub matching : M → Matcher
+
+-- what values of the code stand for, by the members of their traits
+abbrev pub handed : {A State S T C Maker Run K M : Type 0} → ResolverMembers A State S → TableMembers T C Maker Run K → KeywordMembers C Run K → MatcherMembers M
+    → A → T → M → Handed S K (Run × Answer) C M
+handed resolvers tables keywords matchers resolver table matcher = record {
+  resolver = resolvers.resolving resolver;
+  table = table_of (tables.owned table) builtin_in (tables.script table);
+  matcher = matchers.matching matcher;
+  words = keywords.words;
+  shape = keywords.shape;
+  is_whole = keywords.is_whole;
+  matching = matchers.matching;
 }

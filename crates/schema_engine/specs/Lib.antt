@@ -7,3 +7,5 @@ pub mod Promised
 pub mod Pointing
 pub mod Roots
 pub mod ProgramOf
+pub mod Asked
+pub mod Called

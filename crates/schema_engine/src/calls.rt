@@ -1,21 +1,12 @@
 //! One instance asked of a schema: built by the default options and asked in one call.
 ghost use Rattle.std.specs.Prelude.{Bool, IfOk, IfErr, IfSome, All};
 ghost use Rattle.serde_json.specs.View.{view};
-ghost use Rattle.schema_reports.specs.Cover.{is_valid};
-ghost use Rattle.schema_reports.specs.Headline.{IsValidAnswer, Plainly, VerdictSays};
-ghost use Rattle.schema_reports.specs.KeywordTable.{builtin_in};
-ghost use Rattle.schema_reports.specs.Means as means;
 ghost use Rattle.schema_node.specs.Marks.{TakesNoMarks};
-ghost use Rattle.schema_node.specs.NodeTable.{numbered};
 ghost use Rattle.schema_reports.specs.ReportViews.{BorrowsItsPlace};
 ghost use Rattle.schema_engine.specs.Answers.{refusal_of};
-ghost use Rattle.schema_engine.specs.Handed.{parts_of, table_of, default_options};
-ghost use Rattle.schema_engine.specs.Program.{Program, FromSomeDepth};
-ghost use Rattle.schema_engine.specs.ProgramOf.{IsProgramOf};
-ghost use Rattle.schema_engine.specs.Pointing.{EachPoints, FirstPoints};
-ghost use Rattle.schema_engine.specs.Spoken.{ErrorsAnswered, FirstAnswered};
-ghost use Rattle.schema_engine.specs.Promised.{OfSchema};
-ghost use Rattle.schema_engine.specs.Roots.{RefusesBuild};
+ghost use Rattle.schema_engine.specs.Called.{DecidesGuardedly, DecidesPlainly, SchemaRefused};
+ghost use Rattle.schema_engine.specs.Called.{ErrorsPlainly, ErrorsGuardedly, EachLeads, FirstPlainly, FirstGuardedly, FirstLeads};
+ghost use Rattle.schema_engine.specs.Handed.{default_options, handed};
 
 use crate::validator::Validator;
 use schema_compiler::compiler::error::BuildError;
@@ -41,12 +32,15 @@ pub fn is_valid<S: Resolver, T: KeywordTable<K>, K: Validate, M: Matcher>(
     matcher: &M,
 ) -> Result<bool, BuildError>
     requires unmarked { (texts : Bool) → TakesNoMarks (K.words texts) }
-    ensures answer { IfOk result (λ valid. OfSchema (S.resolving resolver.now) (table_of (T.owned table.now) builtin_in (T.script table.now)) (M.matching matcher.now) K.words default_options (view schema.now) (view instance.now)
-        (λ texts w root. IsValidAnswer w root (view instance.now) valid)) }
-    ensures guarded { IfOk result (λ valid. (p : Program K M) × IsProgramOf (S.resolving resolver.now) (table_of (T.owned table.now) builtin_in (T.script table.now)) (M.matching matcher.now) default_options (view schema.now) K.shape M.matching p
-        × FromSomeDepth K.shape K.words K.is_whole M.matching p (view instance.now) (λ texts v. VerdictSays v is_valid valid)) }
-    ensures refused { IfErr result (λ e. (texts : Bool)
-        → RefusesBuild (parts_of (S.resolving resolver.now) (table_of (T.owned table.now) builtin_in (T.script table.now)) (M.matching matcher.now) (K.words texts) default_options) (view schema.now) default_options.limit e) }
+    ensures answer { IfOk result (λ valid. DecidesPlainly
+        (handed S.Resolver T.KeywordTable K.Validate M.Matcher.own resolver.now table.now matcher.now)
+        default_options (view schema.now) (view instance.now) valid) }
+    ensures guarded { IfOk result (λ valid. DecidesGuardedly
+        (handed S.Resolver T.KeywordTable K.Validate M.Matcher.own resolver.now table.now matcher.now)
+        default_options (view schema.now) (view instance.now) valid) }
+    ensures refused { IfErr result (λ e. SchemaRefused
+        (handed S.Resolver T.KeywordTable K.Validate M.Matcher.own resolver.now table.now matcher.now)
+        default_options (view schema.now) e) }
 {
     let validator = Validator::<K, M>::new(alloc, schema, table, resolver, matcher)?;
     Ok(validator.is_valid(alloc, instance)?)
@@ -66,16 +60,19 @@ pub fn validate<'i, S: Resolver, T: KeywordTable<K>, K: Validate, M: Matcher>(
     matcher: &M,
 ) -> Result<Result<(), ValidationError<'i>>, BuildError>
     requires unmarked { (texts : Bool) → TakesNoMarks (K.words texts) }
-    ensures answer { IfOk result (λ r. OfSchema (S.resolving resolver.now) (table_of (T.owned table.now) builtin_in (T.script table.now)) (M.matching matcher.now) K.words default_options (view schema.now) (view instance.now)
-        (λ texts w root. Plainly w root (view instance.now) (λ v. FirstAnswered v texts (refusal_of r)))) }
-    ensures guarded { IfOk result (λ r. (p : Program K M) × IsProgramOf (S.resolving resolver.now) (table_of (T.owned table.now) builtin_in (T.script table.now)) (M.matching matcher.now) default_options (view schema.now) K.shape M.matching p
-        × FromSomeDepth K.shape K.words K.is_whole M.matching p (view instance.now) (λ texts v. FirstAnswered v texts (refusal_of r))) }
-    ensures leads { IfOk result (λ r. (p : Program K M) × IsProgramOf (S.resolving resolver.now) (table_of (T.owned table.now) builtin_in (T.script table.now)) (M.matching matcher.now) default_options (view schema.now) K.shape M.matching p
-        × OfSchema (S.resolving resolver.now) (table_of (T.owned table.now) builtin_in (T.script table.now)) (M.matching matcher.now) K.words default_options (view schema.now) (view instance.now)
-        (λ texts w root. means.FromSomeDepth (K.words texts) (M.matching p.matcher) (numbered K.shape p.nodes) p.root (view instance.now) (λ v. FirstPoints w root (view instance.now) v texts (refusal_of r)))) }
+    ensures answer { IfOk result (λ r. FirstPlainly
+        (handed S.Resolver T.KeywordTable K.Validate M.Matcher.own resolver.now table.now matcher.now)
+        default_options (view schema.now) (view instance.now) (refusal_of r)) }
+    ensures guarded { IfOk result (λ r. FirstGuardedly
+        (handed S.Resolver T.KeywordTable K.Validate M.Matcher.own resolver.now table.now matcher.now)
+        default_options (view schema.now) (view instance.now) (refusal_of r)) }
+    ensures leads { IfOk result (λ r. FirstLeads
+        (handed S.Resolver T.KeywordTable K.Validate M.Matcher.own resolver.now table.now matcher.now)
+        default_options (view schema.now) (view instance.now) (refusal_of r)) }
     ensures borrows { IfOk result (λ r. IfSome (refusal_of r) (BorrowsItsPlace (view instance.now))) }
-    ensures refused { IfErr result (λ e. (texts : Bool)
-        → RefusesBuild (parts_of (S.resolving resolver.now) (table_of (T.owned table.now) builtin_in (T.script table.now)) (M.matching matcher.now) (K.words texts) default_options) (view schema.now) default_options.limit e) }
+    ensures refused { IfErr result (λ e. SchemaRefused
+        (handed S.Resolver T.KeywordTable K.Validate M.Matcher.own resolver.now table.now matcher.now)
+        default_options (view schema.now) e) }
 {
     let validator = Validator::<K, M>::new(alloc, schema, table, resolver, matcher)?;
     Ok(validator.validate(alloc, instance)?)
@@ -95,16 +92,19 @@ pub fn iter_errors<'i, S: Resolver, T: KeywordTable<K>, K: Validate, M: Matcher>
     matcher: &M,
 ) -> Result<ErrorIterator<'i>, BuildError>
     requires unmarked { (texts : Bool) → TakesNoMarks (K.words texts) }
-    ensures answer { IfOk result (λ es. OfSchema (S.resolving resolver.now) (table_of (T.owned table.now) builtin_in (T.script table.now)) (M.matching matcher.now) K.words default_options (view schema.now) (view instance.now)
-        (λ texts w root. Plainly w root (view instance.now) (λ v. ErrorsAnswered v texts es))) }
-    ensures guarded { IfOk result (λ es. (p : Program K M) × IsProgramOf (S.resolving resolver.now) (table_of (T.owned table.now) builtin_in (T.script table.now)) (M.matching matcher.now) default_options (view schema.now) K.shape M.matching p
-        × FromSomeDepth K.shape K.words K.is_whole M.matching p (view instance.now) (λ texts v. ErrorsAnswered v texts es)) }
-    ensures leads { IfOk result (λ es. (p : Program K M) × IsProgramOf (S.resolving resolver.now) (table_of (T.owned table.now) builtin_in (T.script table.now)) (M.matching matcher.now) default_options (view schema.now) K.shape M.matching p
-        × OfSchema (S.resolving resolver.now) (table_of (T.owned table.now) builtin_in (T.script table.now)) (M.matching matcher.now) K.words default_options (view schema.now) (view instance.now)
-        (λ texts w root. means.FromSomeDepth (K.words texts) (M.matching p.matcher) (numbered K.shape p.nodes) p.root (view instance.now) (λ v. EachPoints w root (view instance.now) v texts es))) }
+    ensures answer { IfOk result (λ es. ErrorsPlainly
+        (handed S.Resolver T.KeywordTable K.Validate M.Matcher.own resolver.now table.now matcher.now)
+        default_options (view schema.now) (view instance.now) es) }
+    ensures guarded { IfOk result (λ es. ErrorsGuardedly
+        (handed S.Resolver T.KeywordTable K.Validate M.Matcher.own resolver.now table.now matcher.now)
+        default_options (view schema.now) (view instance.now) es) }
+    ensures leads { IfOk result (λ es. EachLeads
+        (handed S.Resolver T.KeywordTable K.Validate M.Matcher.own resolver.now table.now matcher.now)
+        default_options (view schema.now) (view instance.now) es) }
     ensures borrows { IfOk result (λ es. All (BorrowsItsPlace (view instance.now)) es) }
-    ensures refused { IfErr result (λ e. (texts : Bool)
-        → RefusesBuild (parts_of (S.resolving resolver.now) (table_of (T.owned table.now) builtin_in (T.script table.now)) (M.matching matcher.now) (K.words texts) default_options) (view schema.now) default_options.limit e) }
+    ensures refused { IfErr result (λ e. SchemaRefused
+        (handed S.Resolver T.KeywordTable K.Validate M.Matcher.own resolver.now table.now matcher.now)
+        default_options (view schema.now) e) }
 {
     let validator = Validator::<K, M>::new(alloc, schema, table, resolver, matcher)?;
     Ok(validator.iter_errors(alloc, instance)?)

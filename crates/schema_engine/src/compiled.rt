@@ -1,13 +1,9 @@
 //! Validators of compiled nodes.
 ghost use Rattle.std.specs.Prelude.{◌≡◌, ◌<◌, IfOk, length};
 ghost use Rattle.serde_json.specs.View.{view};
-ghost use Rattle.schema_reports.specs.KeywordTable.{builtin_in};
 ghost use Rattle.schema_reports.specs.KeywordViews.{draft_of};
-ghost use Rattle.schema_reports.specs.Plan.{Key};
-ghost use Rattle.schema_reports.specs.Root.{IsRoot};
-ghost use Rattle.schema_engine.specs.Compiled.{IsCompiled};
-ghost use Rattle.schema_engine.specs.Handed.{Options, parts_of, no_matcher, no_keywords, table_of};
-ghost use Rattle.schema_engine.specs.Promised.{MeansSchema};
+ghost use Rattle.schema_engine.specs.Called.{MeansAsCompiled};
+ghost use Rattle.schema_engine.specs.Handed.{handed};
 
 use crate::validator::Validator;
 use schema_node::context::keyword::Validate;
@@ -38,11 +34,9 @@ pub fn of_compiled<S: Resolver, T: KeywordTable<K>, K: Validate, M: Matcher>(
     requires inside { root.0 < length nodes }
     ensures made { IfOk result (λ v. (v.nodes ≡ nodes) × (v.root ≡ root.0) × (v.draft ≡ draft_of draft)) }
     ensures matcher { IfOk result (λ v. M.matching v.matcher ≡ M.matching matcher.now) }
-    ensures means { IfOk result (λ v. (options : Options)
-        → ((key : Key S.Point) → IsRoot (parts_of (S.resolving resolver.now) (table_of (T.owned table.now) builtin_in (T.script table.now)) no_matcher no_keywords options) (view schema.now) key
-        → IsCompiled (parts_of (S.resolving resolver.now) (table_of (T.owned table.now) builtin_in (T.script table.now)) no_matcher no_keywords options) K.shape key nodes root.0)
-        → MeansSchema (S.resolving resolver.now) (table_of (T.owned table.now) builtin_in (T.script table.now)) (M.matching matcher.now) K.words options (view schema.now)
-        K.shape K.is_whole M.matching v) }
+    ensures means { IfOk result (λ v. MeansAsCompiled
+        (handed S.Resolver T.KeywordTable K.Validate M.Matcher.own resolver.now table.now matcher.now)
+        (view schema.now) nodes root.0 v) }
 {
     let matcher = matcher.clone()?;
     Ok(Validator::of_nodes(nodes, root, draft, matcher))

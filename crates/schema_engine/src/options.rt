@@ -3,7 +3,7 @@ ghost use Rattle.std.specs.Prelude.{◌≡◌, ◌++◌, ◌∷◌, [], Some, If
 ghost use Rattle.schema_reports.specs.KeywordViews.{draft_of};
 ghost use Rattle.schema_engine.specs.Handed.{default_options};
 
-use schema_compiler::compiler::table::CompileOptions;
+use schema_compiler::compiler::given::CompileOptions;
 use schema_reports::keywords::Draft;
 use schema_reports::location::OutOfMemory;
 use std::alloc::Global;
@@ -31,7 +31,13 @@ impl Model for ValidationOptions {
 
     ghost Value = { Options };
 
-    ghost view = { λ o. record { draft = option_map draft_of o.draft; base = option_map string_bytes o.base; formats = o.compiling.formats; declared = map string_bytes o.compiling.declared.items; limit = o.compiling.node_limit } };
+    ghost view = { λ o. record {
+      draft = option_map draft_of o.draft;
+      base = option_map string_bytes o.base;
+      formats = o.compiling.formats;
+      declared = map string_bytes o.compiling.declared.items;
+      limit = o.compiling.node_limit;
+    } };
 }
 
 impl ValidationOptions {

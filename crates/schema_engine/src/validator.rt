@@ -1,24 +1,24 @@
 //! A validator: what it answers of instances.
 ghost use Rattle.std.specs.Prelude.{◌≡◌, [], false, Bool, Option, IfOk, All, IfSome, length, slice_get, ◌<◌};
 ghost use Rattle.serde_json.specs.View.{view};
-ghost use Rattle.schema_reports.specs.Cover.{is_valid};
-ghost use Rattle.schema_reports.specs.Headline.{VerdictSays};
 ghost use Rattle.schema_reports.specs.KeywordViews.{draft_of};
 ghost use Rattle.schema_reports.specs.Unfinished.{starting};
 ghost use Rattle.schema_reports.specs.ReportViews.{BorrowsItsPlace};
-ghost use Rattle.schema_engine.specs.Program.{OfEverySense, FromSomeDepth};
 ghost use Rattle.schema_node.specs.FaultViews.{errors_in};
 ghost use Rattle.schema_node.specs.KeywordViews.{mode_of, reply_of};
 ghost use Rattle.schema_node.specs.Marks.{TakesNoMarks};
 ghost use Rattle.schema_node.specs.NodeRuns.{reply_by};
 ghost use Rattle.schema_reports.specs.Reports.{Outcome};
 ghost use Rattle.schema_reports.specs.Keywords.{for_all, for_first, for_units, for_verdict};
-ghost use Rattle.schema_engine.specs.Answers.{SaysErrors, SaysFirst, SaysReply, SaysVerdict, MeetsMatches, refusal_of};
-ghost use Rattle.schema_engine.specs.Spoken.{ErrorsAnswered, FirstAnswered};
+ghost use Rattle.schema_engine.specs.Answers.{refusal_of};
+ghost use Rattle.schema_engine.specs.Asked.{DecidesFromSomeDepth, ErrorsFromSomeDepth, FirstFromSomeDepth};
+ghost use Rattle.schema_engine.specs.Asked.{DecidesInEverySense, ErrorsInEverySense, FirstInEverySense};
+ghost use Rattle.schema_engine.specs.Asked.{RunDecides, RunFindsFirst, RunListsErrors, RunMeets, RunReplies};
 
 use schema_node::context::keyword::{Mode, Reply, Validate};
 use schema_node::context::matcher::Matcher;
 use schema_node::context::validation::ValidationContext;
+use schema_node::node::run::FirstQuestion;
 use schema_node::node::{Nodes, SchemaNode};
 use schema_reports::instance::{Instance, Place};
 use schema_reports::keywords::Draft;
@@ -123,8 +123,10 @@ impl<K: Validate, M: Matcher> Validator<K, M> {
     ) -> Result<(MatchAssumptions<'i>, Reply<'i>), OutOfMemory>
         requires unmarked { (texts : Bool) → TakesNoMarks (K.words texts) }
         requires wanted { ¬ (mode_of mode ≡ for_units) }
-        ensures says { IfOk result (λ r. SaysReply K.shape K.words K.is_whole M.matching self.now (view instance.now) mode matches.entry.assumptions r.1) }
-        ensures meets { IfOk result (λ r. MeetsMatches K.shape K.words K.is_whole M.matching self.now (view instance.now) (mode_of mode) matches.entry r.0) }
+        ensures says { IfOk result (λ r. RunReplies
+            K.Validate M.Matcher.own self.now (view instance.now) mode matches.entry.assumptions r.1) }
+        ensures meets { IfOk result (λ r. RunMeets
+            K.Validate M.Matcher.own self.now (view instance.now) (mode_of mode) matches.entry r.0) }
         ensures assumes { IfOk result (λ r. r.0.assumptions ≡ matches.entry.assumptions) }
         ensures speaks { IfOk result (λ r. (o : Outcome) × (reply_of false r.1 ≡ reply_by (mode_of mode) o)) }
         ensures borrows { IfOk result (λ r. All (BorrowsItsPlace (view instance.now)) (errors_in r.1)) }
@@ -132,14 +134,17 @@ impl<K: Validate, M: Matcher> Validator<K, M> {
         let place = Place::root(alloc);
         let path = Location::new(alloc);
         let mut context = ValidationContext::assuming(alloc, matches);
+        let question = FirstQuestion {
+            instance: Instance::Value(instance),
+            place: &place,
+            path: &path,
+            mode,
+        };
         let reply = self.nodes.run(
             alloc,
             &self.matcher,
             self.root,
-            Instance::Value(instance),
-            &place,
-            &path,
-            mode,
+            &question,
             &mut context,
         )?;
         Ok((context.into_matches(), reply))
@@ -153,8 +158,10 @@ impl<K: Validate, M: Matcher> Validator<K, M> {
         matches: MatchAssumptions<'i>,
     ) -> Result<(MatchAssumptions<'i>, bool), OutOfMemory>
         requires unmarked { (texts : Bool) → TakesNoMarks (K.words texts) }
-        ensures says { IfOk result (λ r. SaysVerdict K.shape K.words K.is_whole M.matching self.now (view instance.now) matches.entry.assumptions r.1) }
-        ensures meets { IfOk result (λ r. MeetsMatches K.shape K.words K.is_whole M.matching self.now (view instance.now) for_verdict matches.entry r.0) }
+        ensures says { IfOk result (λ r. RunDecides
+            K.Validate M.Matcher.own self.now (view instance.now) matches.entry.assumptions r.1) }
+        ensures meets { IfOk result (λ r. RunMeets
+            K.Validate M.Matcher.own self.now (view instance.now) for_verdict matches.entry r.0) }
         ensures assumes { IfOk result (λ r. r.0.assumptions ≡ matches.entry.assumptions) }
     {
         let (met, reply) = self.asked(alloc, instance, Mode::Verdict, matches)?;
@@ -167,7 +174,8 @@ impl<K: Validate, M: Matcher> Validator<K, M> {
     // Whether every outcome of the unfinished matches accepts.
     fn valid_under_each(&self, alloc: Global, instance: &Value) -> Result<bool, OutOfMemory>
         requires unmarked { (texts : Bool) → TakesNoMarks (K.words texts) }
-        ensures depth { IfOk result (λ valid. FromSomeDepth K.shape K.words K.is_whole M.matching self.now (view instance.now) (λ texts v. VerdictSays v is_valid valid)) }
+        ensures depth { IfOk result (λ valid. DecidesFromSomeDepth
+            K.Validate M.Matcher.own self.now (view instance.now) valid) }
     {
         let first = self.verdict(alloc, instance, MatchAssumptions::new(alloc))?;
         if !first.0.met_unassumed() {
@@ -187,8 +195,10 @@ impl<K: Validate, M: Matcher> Validator<K, M> {
         instance: &'i Value,
     ) -> Result<(MatchAssumptions<'i>, Option<ValidationError<'i>>), OutOfMemory>
         requires unmarked { (texts : Bool) → TakesNoMarks (K.words texts) }
-        ensures says { IfOk result (λ r. SaysFirst K.shape K.words K.is_whole M.matching self.now (view instance.now) [] r.1) }
-        ensures meets { IfOk result (λ r. MeetsMatches K.shape K.words K.is_whole M.matching self.now (view instance.now) for_first (starting []) r.0) }
+        ensures says { IfOk result (λ r. RunFindsFirst
+            K.Validate M.Matcher.own self.now (view instance.now) [] r.1) }
+        ensures meets { IfOk result (λ r. RunMeets
+            K.Validate M.Matcher.own self.now (view instance.now) for_first (starting []) r.0) }
         ensures assumes { IfOk result (λ r. r.0.assumptions ≡ []) }
         ensures borrows { IfOk result (λ r. IfSome r.1 (BorrowsItsPlace (view instance.now))) }
     {
@@ -207,8 +217,10 @@ impl<K: Validate, M: Matcher> Validator<K, M> {
         matches: MatchAssumptions<'i>,
     ) -> Result<(MatchAssumptions<'i>, Vec<ValidationError<'i>>), OutOfMemory>
         requires unmarked { (texts : Bool) → TakesNoMarks (K.words texts) }
-        ensures says { IfOk result (λ r. SaysErrors K.shape K.words K.is_whole M.matching self.now (view instance.now) matches.entry.assumptions r.1.items) }
-        ensures meets { IfOk result (λ r. MeetsMatches K.shape K.words K.is_whole M.matching self.now (view instance.now) for_all matches.entry r.0) }
+        ensures says { IfOk result (λ r. RunListsErrors
+            K.Validate M.Matcher.own self.now (view instance.now) matches.entry.assumptions r.1.items) }
+        ensures meets { IfOk result (λ r. RunMeets
+            K.Validate M.Matcher.own self.now (view instance.now) for_all matches.entry r.0) }
         ensures assumes { IfOk result (λ r. r.0.assumptions ≡ matches.entry.assumptions) }
         ensures borrows { IfOk result (λ r. All (BorrowsItsPlace (view instance.now)) r.1.items) }
     {
@@ -227,7 +239,8 @@ impl<K: Validate, M: Matcher> Validator<K, M> {
         instance: &'i Value,
     ) -> Result<Option<ValidationError<'i>>, OutOfMemory>
         requires unmarked { (texts : Bool) → TakesNoMarks (K.words texts) }
-        ensures depth { IfOk result (λ e. FromSomeDepth K.shape K.words K.is_whole M.matching self.now (view instance.now) (λ texts v. FirstAnswered v texts e)) }
+        ensures depth { IfOk result (λ e. FirstFromSomeDepth
+            K.Validate M.Matcher.own self.now (view instance.now) e) }
         ensures borrows { IfOk result (λ e. IfSome e (BorrowsItsPlace (view instance.now))) }
     {
         let (met, error) = self.first(alloc, instance)?;
@@ -250,7 +263,8 @@ impl<K: Validate, M: Matcher> Validator<K, M> {
         instance: &'i Value,
     ) -> Result<Vec<ValidationError<'i>>, OutOfMemory>
         requires unmarked { (texts : Bool) → TakesNoMarks (K.words texts) }
-        ensures depth { IfOk result (λ es. FromSomeDepth K.shape K.words K.is_whole M.matching self.now (view instance.now) (λ texts v. ErrorsAnswered v texts es.items)) }
+        ensures depth { IfOk result (λ es. ErrorsFromSomeDepth
+            K.Validate M.Matcher.own self.now (view instance.now) es.items) }
         ensures borrows { IfOk result (λ es. All (BorrowsItsPlace (view instance.now)) es.items) }
     {
         let (met, errors) = self.errors(alloc, instance, MatchAssumptions::new(alloc))?;
@@ -274,8 +288,10 @@ impl<K: Validate, M: Matcher> Validator<K, M> {
     /// Want of memory.
     pub fn is_valid(&self, alloc: Global, instance: &Value) -> Result<bool, OutOfMemory>
         requires unmarked { (texts : Bool) → TakesNoMarks (K.words texts) }
-        ensures depth { IfOk result (λ valid. FromSomeDepth K.shape K.words K.is_whole M.matching self.now (view instance.now) (λ texts v. VerdictSays v is_valid valid)) }
-        ensures senses { IfOk result (λ valid. OfEverySense K.shape K.words K.is_whole M.matching self.now (view instance.now) (λ texts v. VerdictSays v is_valid valid)) }
+        ensures depth { IfOk result (λ valid. DecidesFromSomeDepth
+            K.Validate M.Matcher.own self.now (view instance.now) valid) }
+        ensures senses { IfOk result (λ valid. DecidesInEverySense
+            K.Validate M.Matcher.own self.now (view instance.now) valid) }
     {
         Ok(self.valid_under_each(alloc, instance)?)
     }
@@ -293,8 +309,10 @@ impl<K: Validate, M: Matcher> Validator<K, M> {
         instance: &'i Value,
     ) -> Result<Result<(), ValidationError<'i>>, OutOfMemory>
         requires unmarked { (texts : Bool) → TakesNoMarks (K.words texts) }
-        ensures depth { IfOk result (λ r. FromSomeDepth K.shape K.words K.is_whole M.matching self.now (view instance.now) (λ texts v. FirstAnswered v texts (refusal_of r))) }
-        ensures senses { IfOk result (λ r. OfEverySense K.shape K.words K.is_whole M.matching self.now (view instance.now) (λ texts v. FirstAnswered v texts (refusal_of r))) }
+        ensures depth { IfOk result (λ r. FirstFromSomeDepth
+            K.Validate M.Matcher.own self.now (view instance.now) (refusal_of r)) }
+        ensures senses { IfOk result (λ r. FirstInEverySense
+            K.Validate M.Matcher.own self.now (view instance.now) (refusal_of r)) }
         ensures borrows { IfOk result (λ r. IfSome (refusal_of r) (BorrowsItsPlace (view instance.now))) }
     {
         Ok(unless_refused(self.first_under_each(alloc, instance)?))
@@ -313,8 +331,10 @@ impl<K: Validate, M: Matcher> Validator<K, M> {
         instance: &'i Value,
     ) -> Result<ErrorIterator<'i>, OutOfMemory>
         requires unmarked { (texts : Bool) → TakesNoMarks (K.words texts) }
-        ensures depth { IfOk result (λ es. FromSomeDepth K.shape K.words K.is_whole M.matching self.now (view instance.now) (λ texts v. ErrorsAnswered v texts es)) }
-        ensures senses { IfOk result (λ es. OfEverySense K.shape K.words K.is_whole M.matching self.now (view instance.now) (λ texts v. ErrorsAnswered v texts es)) }
+        ensures depth { IfOk result (λ es. ErrorsFromSomeDepth
+            K.Validate M.Matcher.own self.now (view instance.now) es) }
+        ensures senses { IfOk result (λ es. ErrorsInEverySense
+            K.Validate M.Matcher.own self.now (view instance.now) es) }
         ensures borrows { IfOk result (λ es. All (BorrowsItsPlace (view instance.now)) es) }
     {
         Ok(ErrorIterator::new(self.all_under_each(alloc, instance)?))

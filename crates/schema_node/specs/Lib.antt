@@ -15,5 +15,6 @@ pub mod EvaluationPaths
 pub mod EvaluationPlaces
 pub mod PlaceForms
 pub mod NodeRuns
+pub mod RunStates
 pub mod Turning
 pub mod ValidatorViews

@@ -4,6 +4,7 @@ use Rattle.serde_json.specs.View.{view}
 use Rattle.serde_json.specs.declared.value.Value.{Value}
 use Rattle.schema_reports.specs.Instance.{Text}
 use Rattle.schema_reports.specs.Plan.{encoded}
+use Rattle.schema_reports.specs.Pointer.{joined}
 use Rattle.schema_reports.specs.Guarded.{NodeEdge, NodeForm, node_keyword, node_reference, NodePart, NodePlan, node_always, node_never, node_these, Nodes, node_edges}
 
 -- a node as data
@@ -18,6 +19,10 @@ pub record NodeEntry (K : Type 0) : Type 0 where
 -- the absolute location of a location: the URI, `#`, and the pointer from `start` on
 abbrev pub absolute_in : {K : Type 0} → NodeEntry K → Text → Option Text
 absolute_in n location = option_map (λ base. base ++ (35 ∷ encoded (drop n.start location))) n.base
+
+-- the absolute location of a keyword of this name
+abbrev pub keyword_absolute : {K : Type 0} → NodeEntry K → Text → Option Text
+keyword_absolute n name = absolute_in n (joined n.location name)
 
 -- the same nodes with what is known of their keywords in place of the keywords
 abbrev pub shaped_form : {K S : Type 0} → (K → S) → NodeForm K → NodeForm S

@@ -1,5 +1,6 @@
 //! Numbered nodes: what a schema is once it is compiled.
-ghost use Rattle.std.specs.Prelude.{◌≡◌, ◌++◌, [], ◌∷◌, length, OnOk, OnErr, IfOk, map, option_map, string_bytes, Some, slice_get, ◌<◌, ℕ, true, false};
+ghost use Rattle.std.specs.Prelude.{◌≡◌, ◌++◌, ◌∷◌, ◌<◌, [], ℕ, OnOk, OnErr, IfOk, Some, true, false};
+ghost use Rattle.std.specs.Prelude.{length, map, option_map, slice_get, string_bytes};
 ghost use Rattle.schema_node.specs.NodeViews.{boolean_plan, entry_of, plan_of, reserved_node, node_of};
 ghost use Rattle.schema_reports.specs.Guarded.{node_these};
 ghost use Rattle.schema_node.specs.NodeTable.{NodeEntry, IsReserved, IsFilled, AreFilled, Adds, Fills, IsRanked};
@@ -9,6 +10,7 @@ mod evaluation_path;
 mod evaluation_place;
 mod faults;
 mod matches;
+mod question;
 mod replies;
 pub mod run;
 mod sites;
@@ -174,7 +176,8 @@ impl<K: Drop> Nodes<K> {
     ) -> Result<SchemaNode, OutOfMemory>
         requires ready { AreFilled self.old (plan_of form) }
         ensures number { IfOk result (λ i. i.0 ≡ length self.old) }
-        ensures added { OnOk result (Adds self.old (reserved_node location (option_map string_bytes base) start) annotations (plan_of form) self.new) }
+        ensures added { OnOk result (Adds self.old (reserved_node location (option_map string_bytes base) start)
+            annotations (plan_of form) self.new) }
         ensures unchanged { OnErr result (self.new ≡ self.old) }
     {
         let node = self.reserve(location, base, start)?;
@@ -195,7 +198,8 @@ impl<K: Drop> Nodes<K> {
         accepts: bool,
     ) -> Result<SchemaNode, OutOfMemory>
         ensures number { IfOk result (λ i. i.0 ≡ length self.old) }
-        ensures added { OnOk result (Adds self.old (reserved_node location (option_map string_bytes base) start) None (boolean_plan accepts) self.new) }
+        ensures added { OnOk result (Adds self.old (reserved_node location (option_map string_bytes base) start)
+            None (boolean_plan accepts) self.new) }
         ensures unchanged { OnErr result (self.new ≡ self.old) }
     {
         let form = if accepts {
@@ -221,7 +225,8 @@ impl<K: Drop> Nodes<K> {
     ) -> Result<SchemaNode, OutOfMemory>
         requires ready { AreFilled self.old (node_these (map entry_of entries.items)) }
         ensures number { IfOk result (λ i. i.0 ≡ length self.old) }
-        ensures added { OnOk result (Adds self.old (reserved_node location (option_map string_bytes base) start) annotations (node_these (map entry_of entries.items)) self.new) }
+        ensures added { OnOk result (Adds self.old (reserved_node location (option_map string_bytes base) start)
+            annotations (node_these (map entry_of entries.items)) self.new) }
         ensures unchanged { OnErr result (self.new ≡ self.old) }
     {
         self.add(
@@ -247,7 +252,8 @@ impl<K: Drop> Nodes<K> {
     ) -> Result<SchemaNode, OutOfMemory>
         requires ready { AreFilled self.old (node_these (map entry_of entries.items)) }
         ensures number { IfOk result (λ i. i.0 ≡ length self.old) }
-        ensures added { OnOk result (Adds self.old (reserved_node location (option_map string_bytes base) start) None (node_these (map entry_of entries.items)) self.new) }
+        ensures added { OnOk result (Adds self.old (reserved_node location (option_map string_bytes base) start)
+            None (node_these (map entry_of entries.items)) self.new) }
         ensures unchanged { OnErr result (self.new ≡ self.old) }
     {
         self.from_keywords(location, base, start, entries, None)

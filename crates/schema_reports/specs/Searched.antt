@@ -2,7 +2,8 @@
 use Rattle.std.specs.Prelude.{Contains, None, Some, [], codes, is_some, option_map, true, unwrap_or, ◌≡◌}
 use Rattle.schema_reports.specs.Matching.{Assumptions, unfinished}
 use Rattle.schema_reports.specs.Reports.{Error}
-use Rattle.schema_reports.specs.Runs.{Met}
+use Rattle.schema_reports.specs.Instance.{Text}
+use Rattle.schema_reports.specs.Runs.{Met, Site}
 use Rattle.schema_reports.specs.Cover.{Call, IsRun, Sense, branch_at}
 use Rattle.schema_reports.specs.Headline.{reason_text}
 use Rattle.schema_reports.specs.Unfinished.{Failure, Remembered, starting}
@@ -26,13 +27,17 @@ module _ (v : Sense) (call : Call) where
     pub remembers : (s : S) (as' : Assumptions) (r : Remembered) (result : T) (end : S) → Reaches Step start s → IsRun v call as' → ¬ (as' ≡ []) → Step s (starting as') r result end → Remembers as' r
     pub gives : (s : S) (as' : Assumptions) (r : Remembered) (result : T) (end : S) → Reaches Step start s → IsRun v call as' → ¬ (as' ≡ []) → Step s (starting as') r result end → r.unassumed ≡ None → view result ≡ says as'
 
--- the error of a failure; where its site has no evaluation path, that is the schema path, and the place is the root
-abbrev pub failure_error : Failure → Error
-failure_error f = let at = unwrap_or f.met.site.located (f.met.site.schema_path, []) in record {
+-- the error with this text of a match met at this site; where the site has no evaluation path, that is the schema path, and the place is the root
+abbrev pub site_error : Site → Text → Error
+site_error site text = let at = unwrap_or site.located (site.schema_path, []) in record {
   place = at.1;
-  schema_path = f.met.site.schema_path;
+  schema_path = site.schema_path;
   evaluation_path = at.0;
   absolute = None;
   name = codes "pattern";
-  text = reason_text (unwrap_or f.met.site.pattern f.met.pair.pattern) (unfinished f.reason);
+  text = text;
 }
+
+-- the error of a failure, whose text shows the pattern as the schema has it
+abbrev pub failure_error : Failure → Error
+failure_error f = site_error f.met.site (reason_text (unwrap_or f.met.site.pattern f.met.pair.pattern) (unfinished f.reason))

@@ -1,7 +1,10 @@
 //! Laws of covers: what its members say is what every completion says.
 ghost use Rattle.schema_reports.specs.Keywords.{Keywords};
 ghost use Rattle.schema_reports.specs.Parts.{Parts};
-ghost use Rattle.schema_reports.specs.Promises.{EvaluationOfMembers, ErrorsOfMembers, FirstIsHead, FirstOfMembers, MembersDiffer, MembersRun, NodesFollow, NoneListed, OneCover, OneMember, PairsDiffer, PlainFollows, RunsOfCover, RunsSpeak, SharedOfMembers, UndecidedPast, UnitsArePlain, VerdictOfMembers};
+ghost use Rattle.schema_reports.specs.Promises.{NodesFollow, PlainFollows, RunsSpeak, UnitsArePlain};
+ghost use Rattle.schema_reports.specs.Promises.{ErrorsOfMembers, EvaluationOfMembers, FirstOfMembers, SharedOfMembers, VerdictOfMembers};
+ghost use Rattle.schema_reports.specs.Promises.{FirstIsHead, NoneListed, OneCover, UndecidedPast};
+ghost use Rattle.schema_reports.specs.Promises.{MembersDiffer, MembersRun, OneMember, PairsDiffer, RunsOfCover};
 
 /// A run under assumptions speaks for every completion that extends them.
 pub fn runs_speak<S, K, R>()

@@ -1,5 +1,6 @@
 //! Instances and their places.
-ghost use Rattle.std.specs.Prelude.{◌≡◌, List, [], ◌∷◌, ◌++◌, IfOk, option_map, Option, Some, None, map, IfSome, false, string_bytes};
+ghost use Rattle.std.specs.Prelude.{◌≡◌, List, [], ◌∷◌, ◌++◌, IfOk, option_map, Option, Some, None, map, IfSome, false};
+ghost use Rattle.std.specs.Prelude.{string_bytes};
 ghost use Rattle.schema_reports.specs.Instance.{same_place, same_step, after_step, to_member, to_item, to_name};
 ghost use Rattle.schema_reports.specs.Pointer.{pointer_to, step_text};
 ghost use Rattle.schema_reports.specs.InstanceTexts.{subject_has_float};
@@ -91,7 +92,8 @@ impl<'i> Instance<'i> {
 
     /// The compact text, as JSON; a name is quoted. No digits are promised where a number is a float.
     pub fn text(self, alloc: Global) -> Result<String, OutOfMemory>
-        ensures text { IfOk result (λ s. subject_has_float (subject_of self.entry) ≡ false → string_bytes s ≡ subject_text (subject_of self.entry)) }
+        ensures text { IfOk result (λ s. subject_has_float (subject_of self.entry) ≡ false
+            → string_bytes s ≡ subject_text (subject_of self.entry)) }
     {
         match self {
             Instance::Value(value) => value.to_string(alloc),

@@ -3,7 +3,8 @@
 ghost use Rattle.schema_reports.specs.Depths.{DepthsAgree};
 ghost use Rattle.schema_reports.specs.Guarded.{Nodes};
 ghost use Rattle.schema_reports.specs.Keywords.{Keywords};
-ghost use Rattle.schema_reports.specs.Numbered.{GuardedIsPlain, GuardedRunsSettle, GuardedSenseSettles, GuardedSettles, Numbers, NumbersMeanPlain, NumbersMeanUnfolding, NumbersSayUnfolding, RunsSayOutcomes};
+ghost use Rattle.schema_reports.specs.Numbered.{GuardedIsPlain, GuardedRunsSettle, GuardedSenseSettles, GuardedSettles};
+ghost use Rattle.schema_reports.specs.Numbered.{Numbers, NumbersMeanPlain, NumbersMeanUnfolding, NumbersSayUnfolding, RunsSayOutcomes};
 ghost use Rattle.schema_reports.specs.Parts.{Parts};
 ghost use Rattle.serde_json.specs.Data.{Data};
 ghost use Rattle.std.specs.Prelude.{ℕ};
@@ -65,5 +66,6 @@ ghost use Rattle.schema_reports.specs.Fractions.{NumbersAreWhole};
 
 /// The keywords of a number are whole where its key's schema holds no fraction.
 pub fn numbers_are_whole<S, K, R>()
-    ensures { (w : Parts S K R) (is_whole : K → Bool) (keys : Numbers S) (nodes : Nodes K) → NumbersAreWhole w is_whole keys nodes }
+    ensures { (w : Parts S K R) (is_whole : K → Bool) (keys : Numbers S) (nodes : Nodes K)
+        → NumbersAreWhole w is_whole keys nodes }
 {}

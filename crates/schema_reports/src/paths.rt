@@ -16,7 +16,8 @@ pub fn errors_lead<S, K, R>()
 
 /// So does each error of numbered nodes, whether questions return or not.
 pub fn node_errors_lead<S, K, R>()
-    ensures lead { (w : Parts S K R) (absorbs : K → List Text) (keys : Numbers S) (nodes : Nodes K) → NodeErrorsLead w absorbs keys nodes }
+    ensures lead { (w : Parts S K R) (absorbs : K → List Text) (keys : Numbers S) (nodes : Nodes K)
+        → NodeErrorsLead w absorbs keys nodes }
 {}
 
 /// Where they do, so does each error that a call gives, but for its failure.

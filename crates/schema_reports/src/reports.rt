@@ -69,7 +69,8 @@ fn copy_text(text: &Option<String>) -> Result<Option<String>, OutOfMemory>
 
 // The text of the schema `false`, which shows the instance, with no digits promised for a float.
 fn false_text(alloc: Global, instance: Instance<'_>) -> Result<String, OutOfMemory>
-    ensures text { IfOk result (λ t. subject_has_float (subject_of instance.entry) ≡ false → string_bytes t ≡ false_text true (subject_of instance.entry)) }
+    ensures text { IfOk result (λ t. subject_has_float (subject_of instance.entry) ≡ false
+        → string_bytes t ≡ false_text true (subject_of instance.entry)) }
 {
     let shown = instance.text(alloc)?;
     let mut text = String::from_str(alloc, "False schema does not allow ")?;
@@ -89,7 +90,8 @@ impl<'i> ValidationError<'i> {
     ) -> Result<ValidationError<'i>, OutOfMemory>
         ensures error { IfOk result
             (λ e. (texts : Bool) → (texts ≡ true → subject_has_float (subject_of instance.entry) ≡ false)
-            → error_of texts e ≡ false_error texts (where_of place.entry schema_path evaluation_path absolute) (subject_of instance.entry)) }
+            → error_of texts e
+            ≡ false_error texts (where_of place.entry schema_path evaluation_path absolute) (subject_of instance.entry)) }
         ensures borrows { IfOk result (λ e. e.instance ≡ instance.entry) }
     {
         let text = false_text(alloc, instance)?;

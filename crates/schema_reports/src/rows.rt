@@ -1,5 +1,9 @@
 //! Worked rows: what the definitions say of small schemas.
-ghost use Rattle.schema_reports.specs.Rows.{RootsAreRoots, TextIsString, NumberIsNoString, NotIsTakenApart, NotIsRefused, NotSharesNoError, EitherIsTakenApart, EitherIsAccepted, LongSharesOneError, LongVerdictIsWhole, LongErrorsAreTakenApart, NestedIsRefused, NestedDoesNotReturn, ChainIsRefused, EmbeddedCountsFromItsResource, SelfIsNoKeyword, TurningReturns, TurningIsNumbered, TurningIsAccepted};
+ghost use Rattle.schema_reports.specs.Rows.{RootsAreRoots, TextIsString, NumberIsNoString, NotIsTakenApart, NotIsRefused};
+ghost use Rattle.schema_reports.specs.Rows.{NotSharesNoError, EitherIsTakenApart, EitherIsAccepted, LongSharesOneError};
+ghost use Rattle.schema_reports.specs.Rows.{LongVerdictIsWhole, LongErrorsAreTakenApart, NestedIsRefused, NestedDoesNotReturn};
+ghost use Rattle.schema_reports.specs.Rows.{ChainIsRefused, EmbeddedCountsFromItsResource, SelfIsNoKeyword};
+ghost use Rattle.schema_reports.specs.Rows.{TurningReturns, TurningIsNumbered, TurningIsAccepted};
 
 /// The worked rows hold: each clause is one row, and it names what the definitions say of a small schema.
 ///

@@ -1,16 +1,21 @@
-//! What a schema is compiled under: its draft, its vocabularies, and the options.
-ghost use Rattle.std.specs.Prelude.{◌≡◌, ◌||◌, not, unwrap_or};
+//! The place where a schema is compiled: its draft, its vocabularies, its location, and what follows from them.
+ghost use Rattle.std.specs.Prelude.{◌≡◌, ◌||◌, None, IfOk, not, unwrap_or, option_map, codes, string_bytes, if◌then◌else◌};
+ghost use Rattle.serde_json.specs.View.{view, members_view};
+ghost use Rattle.schema_reports.specs.Instance.{member_of};
+ghost use Rattle.schema_reports.specs.Pointer.{joined};
 ghost use Rattle.schema_reports.specs.Drafts.{ref_stands_alone};
 ghost use Rattle.schema_reports.specs.KeywordTable.{is_in_force};
 ghost use Rattle.schema_reports.specs.KeywordViews.{draft_of, vocabulary_of};
+ghost use Rattle.schema_compiler.specs.Builtins.{builtin};
 ghost use Rattle.schema_compiler.specs.Dialects.{asserts_formats, integer_valued_numbers};
 
+use crate::compiler::given::CompileOptions;
 use crate::compiler::key::SchemaKey;
-use crate::compiler::table::{CompileOptions, checks_formats, stands_alone};
-use schema_reports::keywords::{Draft, Vocabulary, has_vocabulary};
-use schema_reports::location::Location;
+use schema_reports::keywords::{BuiltinRow, Draft, Vocabulary, builtin_row, has_vocabulary};
+use schema_reports::location::{Location, LocationSegment, OutOfMemory};
+use serde_json::{Map, Value};
 
-/// The schema of a key, compiled with these options. No call of a context takes memory.
+/// Where a schema is compiled: its key, and the options. What it tells takes no memory.
 #[derive(Clone, Copy)]
 pub struct Context<'c, S> {
     pub options: &'c CompileOptions,
@@ -32,11 +37,33 @@ impl<'c, S> Context<'c, S> {
         &self.key.location
     }
 
+    /// The location of the schema's keyword of this name.
+    pub(crate) fn keyword_location(&self, name: &String) -> Result<Location, OutOfMemory>
+        ensures location { IfOk result (λ l. l ≡
+            joined self.now.key.now.location (string_bytes name.now)) }
+    {
+        self.location()
+            .join(LocationSegment::Property(name.as_str()))
+    }
+
     /// Whether a vocabulary is in force: always before 2019-09, always where it is the core, and else where it is in the set.
     pub fn has_vocabulary(&self, vocabulary: &Vocabulary) -> bool
-        ensures in_force { result ≡ is_in_force (draft_of self.now.key.now.draft) self.now.key.now.vocabularies (vocabulary_of vocabulary.now) }
+        ensures in_force { result ≡ is_in_force (draft_of self.now.key.now.draft)
+            self.now.key.now.vocabularies (vocabulary_of vocabulary.now) }
     {
         has_vocabulary(self.key.draft, &self.key.vocabularies, vocabulary)
+    }
+
+    /// What the standard's table says of a keyword's name.
+    #[tactic(auto, unfolding(crate::specs::Builtins::builtin))]
+    pub(crate) fn builtin_row(&self, name: &str) -> Option<BuiltinRow>
+        ensures row { option_map (λ r. record {
+          name = name.now;
+          priority = r.priority;
+          is_leaf = r.is_leaf;
+        }) result ≡ builtin (draft_of self.now.key.now.draft) self.now.key.now.vocabularies name.now }
+    {
+        builtin_row(self.draft(), &self.key.vocabularies, name)
     }
 
     /// Whether keywords count beside a `$ref`: from 2019-09 on.
@@ -44,6 +71,19 @@ impl<'c, S> Context<'c, S> {
         ensures beside { result ≡ not (ref_stands_alone (draft_of self.now.key.now.draft)) }
     {
         !stands_alone(self.key.draft)
+    }
+
+    /// The value of the `$ref` that stands alone in an object.
+    pub(crate) fn lone_reference<'v>(&self, members: &'v Map<String, Value>) -> Option<&'v Value>
+        ensures alone { option_map (λ v. view v.now) result ≡
+            (if ref_stands_alone (draft_of self.now.key.now.draft) then
+            member_of (codes "$ref") (members_view members.now.entries) else None) }
+    {
+        if self.supports_adjacent_validation() {
+            None
+        } else {
+            members.get("$ref")
+        }
     }
 
     /// Whether a number with an integer's value, such as 1.0, is an integer: from draft 6 on.
@@ -67,8 +107,27 @@ impl<'c, S> Context<'c, S> {
 
     /// Whether formats are checked: by the option, or else by the vocabularies, or in drafts 4 to 7.
     pub fn validates_formats_by_default(&self) -> bool
-        ensures formats { result ≡ unwrap_or self.now.options.now.formats (ref_stands_alone (draft_of self.now.key.now.draft) || asserts_formats self.now.key.now.vocabularies) }
+        ensures formats { result ≡ unwrap_or self.now.options.now.formats
+            (ref_stands_alone (draft_of self.now.key.now.draft)
+            || asserts_formats self.now.key.now.vocabularies) }
     {
-        checks_formats(self.options, self.key)
+        match self.options.formats {
+            Some(checked) => checked,
+            None => stands_alone(self.key.draft) || self.asserts_formats_by_dialect(),
+        }
+    }
+}
+
+// Whether `$ref` stands alone in a draft: in 4 to 7, which check formats by default.
+fn stands_alone(draft: Draft) -> bool
+    ensures alone { result ≡ ref_stands_alone (draft_of draft) }
+{
+    match draft {
+        Draft::Draft4 => true,
+        Draft::Draft6 => true,
+        Draft::Draft7 => true,
+        Draft::Draft201909 => false,
+        Draft::Draft202012 => false,
+        Draft::Unknown => false,
     }
 }

@@ -5,7 +5,7 @@ ghost use Rattle.schema_node.specs.NodeViews.{entry_of, form_of, plan_of};
 ghost use Rattle.schema_compiler.specs.Ordering.{placed_after};
 ghost use Rattle.schema_compiler.specs.Steps.{alone};
 
-use crate::compiler::table::PlannedNode;
+use crate::compiler::compiled::PlannedNode;
 use schema_node::node::{Entry, EntryForm, NodeForm};
 use schema_reports::location::OutOfMemory;
 use std::alloc::Global;
@@ -13,7 +13,8 @@ use std::alloc::Global;
 // The place after all keywords of this priority or a lower one that stand in front.
 fn place_for<K>(entries: &[Entry<K>], priority: u8) -> usize
     ensures within { result ≤ length entries.now }
-    ensures place { (x : NodePart K) → x.priority ≡ priority → insert (map entry_of entries.now) result x ≡ placed_after x (map entry_of entries.now) }
+    ensures place { (x : NodePart K) → x.priority ≡ priority →
+        insert (map entry_of entries.now) result x ≡ placed_after x (map entry_of entries.now) }
 {
     let mut place = 0;
     for entry in entries {
@@ -30,7 +31,8 @@ pub(crate) fn insert_by_priority<K: Drop>(
     entries: &mut Vec<Entry<K>>,
     entry: Entry<K>,
 ) -> Result<(), OutOfMemory>
-    ensures placed { IfOk result (λ _. map entry_of entries.new.items ≡ placed_after (entry_of entry) (map entry_of entries.old.items)) }
+    ensures placed { IfOk result (λ _. map entry_of entries.new.items ≡
+        placed_after (entry_of entry) (map entry_of entries.old.items)) }
 {
     let place = place_for(entries.as_slice(), entry.priority);
     entries.insert(place, entry)?;
@@ -44,7 +46,12 @@ pub(crate) fn entry_named<K: Drop>(
     is_leaf: bool,
     form: EntryForm<K>,
 ) -> Result<Entry<K>, OutOfMemory>
-    ensures entry { IfOk result (λ e. entry_of e ≡ record { name = string_bytes name.now; priority = priority; is_leaf = is_leaf; form = form_of form }) }
+    ensures entry { IfOk result (λ e. entry_of e ≡ record {
+      name = string_bytes name.now;
+      priority = priority;
+      is_leaf = is_leaf;
+      form = form_of form;
+    }) }
 {
     Ok(Entry {
         name: name.clone()?,

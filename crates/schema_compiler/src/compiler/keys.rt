@@ -1,5 +1,6 @@
 //! The keys that were reached, in the order of their numbers. A key is found by a hash, from number to number.
-ghost use Rattle.std.specs.Prelude.{◌≡◌, ◌≢◌, ◌≤◌, ◌+◌, ◌++◌, ◌∷◌, ℕ, [], MatchOption, OnErr, OnOk, Some, if◌then◌else◌, length, map, nat_eq, slice_get, vec_capacity, vec_len};
+ghost use Rattle.std.specs.Prelude.{◌≡◌, ◌≢◌, ◌≤◌, ◌+◌, ◌++◌, ◌∷◌, ℕ, [], MatchOption, OnErr, OnOk, Some};
+ghost use Rattle.std.specs.Prelude.{if◌then◌else◌, length, map, nat_eq, slice_get, vec_capacity, vec_len};
 ghost use Rattle.std.specs.HashMap.{IsUnchanged, get};
 ghost use Rattle.schema_compiler.specs.KeyViews.{key_of};
 ghost use Rattle.schema_compiler.specs.KeyHashes.{hash_of};
@@ -75,9 +76,12 @@ fn link<S>(
 ) -> Result<(), OutOfMemory>
     ensures keys { keys.new.items ≡ keys.old.items }
     ensures room { OnOk result (vec_len keys.new + 1 ≤ vec_capacity keys.new) }
-    ensures last { OnOk result ((q : ℕ) → get nat_eq last.new q ≡ (if nat_eq hash q then Some (length keys.old.items) else get nat_eq last.old q)) }
-    ensures linked { OnOk result (earlier.new.items ≡ earlier.old.items ++ get nat_eq last.old hash ∷ []) }
-    ensures unchanged { OnErr result (IsUnchanged last.old last.new × (earlier.new.items ≡ earlier.old.items)) }
+    ensures last { OnOk result ((q : ℕ) → get nat_eq last.new q ≡
+        (if nat_eq hash q then Some (length keys.old.items) else get nat_eq last.old q)) }
+    ensures linked { OnOk result (earlier.new.items ≡
+        earlier.old.items ++ get nat_eq last.old hash ∷ []) }
+    ensures unchanged { OnErr result (IsUnchanged last.old last.new
+        × (earlier.new.items ≡ earlier.old.items)) }
 {
     keys.reserve(1)?;
     earlier.reserve(1)?;

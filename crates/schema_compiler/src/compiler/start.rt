@@ -3,9 +3,9 @@ ghost use Rattle.std.specs.Prelude.{◌≡◌, ◌-◌, IfOk, length, suc, take,
 ghost use Rattle.schema_reports.specs.Plan.{segment_count, segments_length, innermost, start_of, schema_at};
 ghost use Rattle.schema_reports.specs.KeywordViews.{draft_of};
 ghost use Rattle.schema_node.specs.ResolverViews.{place_of, found_of};
-ghost use Rattle.schema_compiler.specs.Compiling.{resolving_parts};
+ghost use Rattle.schema_compiler.specs.Carried.{resolver_parts};
 
-use crate::compiler::key::{draft_at, has_id};
+use crate::compiler::given::Given;
 use schema_node::context::resolver::{Resolver, Target};
 use schema_node::context::schema_place::{SchemaPath, SchemaPlace};
 use schema_reports::keywords::Draft;
@@ -43,7 +43,10 @@ fn counts_from(
     place: &SchemaPlace,
     segments: usize,
 ) -> Result<SchemaPlace, OutOfMemory>
-    ensures from { IfOk result (λ p. place_of p ≡ record { document = place.now.document; path = take (length place.now.path - segments) place.now.path }) }
+    ensures from { IfOk result (λ p. place_of p ≡ record {
+      document = place.now.document;
+      path = take (length place.now.path - segments) place.now.path;
+    }) }
 {
     let steps = place.path.len();
     let kept = if segments < steps {
@@ -57,68 +60,76 @@ fn counts_from(
     })
 }
 
-// The next place inwards, where it has an identifier, or else the one that is given.
-fn nearer_place<R: Resolver>(
-    alloc: Global,
-    resolver: &R,
-    draft: Draft,
-    next: &SchemaPlace,
-    given: SchemaPlace,
-) -> Result<SchemaPlace, OutOfMemory>
-    ensures nearer { IfOk result (λ p. place_of p ≡ (if is_some ((R.resolving resolver.now).id (draft_of draft) (schema_at (resolving_parts (R.resolving resolver.now)) (place_of next.now))) then place_of next.now else place_of given)) }
-{
-    if has_id(resolver, draft, next) {
-        next.copy(alloc)
-    } else {
-        Ok(given)
+impl<'p, R: Resolver, T> Given<'p, R, T> {
+    // The next place inwards, where it has an identifier, or else the one that is given.
+    fn nearer_place(
+        &self,
+        draft: Draft,
+        next: &SchemaPlace,
+        given: SchemaPlace,
+    ) -> Result<SchemaPlace, OutOfMemory>
+        ensures nearer { IfOk result (λ p. place_of p ≡
+            (if is_some ((R.resolving self.now.resolver.now).id (draft_of draft)
+            (schema_at (resolver_parts R.resolving self.now) (place_of next.now)))
+            then place_of next.now else place_of given)) }
+    {
+        if self.has_id(draft, next) {
+            next.copy(self.alloc)
+        } else {
+            Ok(given)
+        }
     }
-}
 
-// The innermost subresource with an identifier on the way from a place down to a path; else the place itself.
-fn innermost_place<R: Resolver>(
-    alloc: Global,
-    resolver: &R,
-    draft: Draft,
-    from: &SchemaPlace,
-    path: &SchemaPath,
-) -> Result<SchemaPlace, OutOfMemory>
-    ensures inner { IfOk result (λ p. place_of p ≡ innermost (resolving_parts (R.resolving resolver.now)) (suc (length path.now)) (draft_of draft) (place_of from.now) path.now (place_of from.now)) }
-{
-    let mut depth = path.len();
-    let mut inner_draft = draft;
-    let mut place = from.copy(alloc)?;
-    let mut given = from.copy(alloc)?;
-    loop {
-        match resolver.subresource_on_way(alloc, inner_draft, &place, path)? {
-            None => return Ok(given),
-            Some(next) => {
-                inner_draft = draft_at(resolver, inner_draft, &next);
-                given = nearer_place(alloc, resolver, inner_draft, &next, given)?;
-                place = next;
+    // The innermost subresource with an identifier on the way from a place down to a path; else the place itself.
+    fn innermost_place(
+        &self,
+        draft: Draft,
+        from: &SchemaPlace,
+        path: &SchemaPath,
+    ) -> Result<SchemaPlace, OutOfMemory>
+        ensures inner { IfOk result (λ p. place_of p ≡
+            innermost (resolver_parts R.resolving self.now) (suc (length path.now)) (draft_of draft)
+            (place_of from.now) path.now (place_of from.now)) }
+    {
+        let mut depth = path.len();
+        let mut inner_draft = draft;
+        let mut place = from.copy(self.alloc)?;
+        let mut given = from.copy(self.alloc)?;
+        loop {
+            match self
+                .resolver
+                .subresource_on_way(self.alloc, inner_draft, &place, path)?
+            {
+                None => return Ok(given),
+                Some(next) => {
+                    inner_draft = self.draft_at(inner_draft, &next);
+                    given = self.nearer_place(inner_draft, &next, given)?;
+                    place = next;
+                }
             }
+            if depth == 0 {
+                return Ok(given);
+            }
+            depth -= 1;
         }
-        if depth == 0 {
-            return Ok(given);
-        }
-        depth -= 1;
     }
-}
 
-/// The length of a pointer's part up to the innermost subresource with an identifier that it passes into.
-pub(crate) fn start_of_target<R: Resolver>(
-    alloc: Global,
-    resolver: &R,
-    draft: Draft,
-    target: &Target<R::State>,
-    location: &Location,
-) -> Result<usize, OutOfMemory>
-    ensures start { IfOk result (λ n. n ≡ start_of (resolving_parts (R.resolving resolver.now)) (draft_of draft) (found_of R.point target.now) location.now) }
-{
-    let from = counts_from(alloc, &target.place, segment_count(location.as_str()))?;
-    let inner_draft = draft_at(resolver, draft, &from);
-    let inner = innermost_place(alloc, resolver, inner_draft, &from, &target.place.path)?;
-    let outside = from.path.len();
-    let whole = inner.path.len();
-    let segments = if outside < whole { whole - outside } else { 0 };
-    Ok(segments_length(segments, location.as_str()))
+    /// The length of a pointer's part up to the innermost subresource with an identifier that it passes into.
+    pub(crate) fn start_of_target(
+        &self,
+        draft: Draft,
+        target: &Target<R::State>,
+        location: &Location,
+    ) -> Result<usize, OutOfMemory>
+        ensures start { IfOk result (λ n. n ≡ start_of (resolver_parts R.resolving self.now)
+            (draft_of draft) (found_of R.point target.now) location.now) }
+    {
+        let from = counts_from(self.alloc, &target.place, segment_count(location.as_str()))?;
+        let inner_draft = self.draft_at(draft, &from);
+        let inner = self.innermost_place(inner_draft, &from, &target.place.path)?;
+        let outside = from.path.len();
+        let whole = inner.path.len();
+        let segments = if outside < whole { whole - outside } else { 0 };
+        Ok(segments_length(segments, location.as_str()))
+    }
 }

@@ -8,70 +8,107 @@ ghost use Rattle.schema_reports.specs.Plan.{schema_of};
 ghost use Rattle.schema_reports.specs.Refusals.{not_a_schema, reference_not_text};
 ghost use Rattle.schema_node.specs.NodeViews.{boolean_plan, plan_of};
 ghost use Rattle.schema_compiler.specs.KeyViews.{key_of};
-ghost use Rattle.schema_compiler.specs.Compiling.{resolving_parts};
+ghost use Rattle.schema_compiler.specs.Carried.{resolver_parts};
 ghost use Rattle.schema_compiler.specs.Refusing.{Names};
 
+use crate::compiler::context::Context;
 use crate::compiler::error::BuildError;
+use crate::compiler::given::Given;
 use crate::compiler::key::SchemaKey;
-use crate::compiler::table::{keyword_location, plain_form};
 use schema_node::context::resolver::Resolver;
 use schema_node::node::NodeForm;
 use serde_json::{Map, Value};
 
-/// The members of the object at a key's place, if there is one.
-pub(crate) fn object_at<'a, R: Resolver>(
-    resolver: &'a R,
-    key: &SchemaKey<R::State>,
-) -> Option<&'a Map<String, Value>>
-    ensures object { option_map (λ m. members_view m.now.entries) result ≡ as_object (schema_of (resolving_parts (R.resolving resolver.now)) (key_of R.point key.now)) }
-{
-    match resolver.value(&key.place) {
-        Some(value) => value.as_object(),
-        None => None,
+impl<'p, R: Resolver, T> Given<'p, R, T> {
+    /// The members of the object at a key's place, if there is one.
+    pub(crate) fn object_at(&self, key: &SchemaKey<R::State>) -> Option<&'p Map<String, Value>>
+        ensures object { option_map (λ m. members_view m.now.entries) result ≡
+            as_object (schema_of (resolver_parts R.resolving self.now) (key_of R.point key.now)) }
+    {
+        match self.resolver.value(&key.place) {
+            Some(value) => value.as_object(),
+            None => None,
+        }
+    }
+
+    /// What a key's value that is no object asks of an instance; only a boolean is a schema.
+    pub(crate) fn form_at<K: Drop>(
+        &self,
+        key: &SchemaKey<R::State>,
+    ) -> Result<NodeForm<K>, BuildError>
+        ensures form { IfOk result (λ form. (b : Bool) ×
+            (as_bool (schema_of (resolver_parts R.resolving self.now) (key_of R.point key.now)) ≡
+            Some b) × (plan_of form ≡ boolean_plan b)) }
+        ensures refused { IfErr result (Names (not_a_schema key.now.location ∷ [])) }
+        ensures other { IfErr result (λ _.
+            as_bool (schema_of (resolver_parts R.resolving self.now) (key_of R.point key.now)) ≡
+            None) }
+    {
+        let context = Context {
+            options: self.options,
+            key,
+        };
+        match self.resolver.value(&key.place) {
+            Some(value) => context.plain_form(value),
+            None => context.plain_form(&Value::Null),
+        }
     }
 }
 
-/// What a key's value that is no object asks of an instance; only a boolean is a schema.
-pub(crate) fn form_at<R: Resolver, K: Drop>(
-    resolver: &R,
-    key: &SchemaKey<R::State>,
-) -> Result<NodeForm<K>, BuildError>
-    ensures form { IfOk result (λ form. (b : Bool) × (as_bool (schema_of (resolving_parts (R.resolving resolver.now)) (key_of R.point key.now)) ≡ Some b) × (plan_of form ≡ boolean_plan b)) }
-    ensures refused { IfErr result (Names (not_a_schema key.now.location ∷ [])) }
-    ensures other { IfErr result (λ _. as_bool (schema_of (resolving_parts (R.resolving resolver.now)) (key_of R.point key.now)) ≡ None) }
-{
-    match resolver.value(&key.place) {
-        Some(value) => plain_form(key, value),
-        None => plain_form(key, &Value::Null),
+impl<'c, S> Context<'c, S> {
+    // What a value that is no object asks of an instance; only a boolean is a schema.
+    fn plain_form<K: Drop>(&self, value: &Value) -> Result<NodeForm<K>, BuildError>
+        ensures form { IfOk result (λ form. (b : Bool) × (as_bool (view value.now) ≡ Some b) ×
+            (plan_of form ≡ boolean_plan b)) }
+        ensures refused { IfErr result (Names (not_a_schema self.now.key.now.location ∷ [])) }
+        ensures other { IfErr result (λ _. as_bool (view value.now) ≡ None) }
+    {
+        match value.as_bool() {
+            Some(accepts) => Ok(form_of_boolean(accepts)),
+            None => Err(BuildError::NotASchema(self.location().copy()?)),
+        }
+    }
+
+    /// The text of the schema's reference of this name; only a text is one.
+    pub(crate) fn text_of<'v>(
+        &self,
+        name: &String,
+        value: &'v Value,
+    ) -> Result<&'v String, BuildError>
+        ensures text { IfOk result (λ text. view value.now ≡ string (string_bytes text.now)) }
+        ensures refused { IfErr result (Names (reference_not_text
+            (joined self.now.key.now.location (string_bytes name.now)) ∷ [])) }
+        ensures other { IfErr result (λ _. as_str (view value.now) ≡ None) }
+    {
+        match value {
+            Value::String(text) => Ok(text),
+            Value::Null => Err(self.not_text(name)),
+            Value::Bool(_) => Err(self.not_text(name)),
+            Value::Number(_) => Err(self.not_text(name)),
+            Value::Array(_) => Err(self.not_text(name)),
+            Value::Object(_) => Err(self.not_text(name)),
+        }
+    }
+
+    // That the reference of this name is no text, or want of memory.
+    fn not_text(&self, name: &String) -> BuildError
+        ensures refused { Names (reference_not_text
+            (joined self.now.key.now.location (string_bytes name.now)) ∷ []) result }
+    {
+        match self.keyword_location(name) {
+            Ok(location) => BuildError::ReferenceNotText(location),
+            Err(_) => BuildError::OutOfMemory,
+        }
     }
 }
 
-/// The text of a key's reference; only a text is one.
-pub(crate) fn text_of<'a, S>(
-    key: &SchemaKey<S>,
-    name: &String,
-    value: &'a Value,
-) -> Result<&'a String, BuildError>
-    ensures text { IfOk result (λ text. view value.now ≡ string (string_bytes text.now)) }
-    ensures refused { IfErr result (Names (reference_not_text (joined key.now.location (string_bytes name.now)) ∷ [])) }
-    ensures other { IfErr result (λ _. as_str (view value.now) ≡ None) }
+// What a boolean asks of an instance.
+fn form_of_boolean<K: Drop>(accepts: bool) -> NodeForm<K>
+    ensures form { plan_of result ≡ boolean_plan accepts }
 {
-    match value {
-        Value::String(text) => Ok(text),
-        Value::Null => Err(not_text(key, name)),
-        Value::Bool(_) => Err(not_text(key, name)),
-        Value::Number(_) => Err(not_text(key, name)),
-        Value::Array(_) => Err(not_text(key, name)),
-        Value::Object(_) => Err(not_text(key, name)),
-    }
-}
-
-// That the reference of this name is no text, or want of memory.
-fn not_text<S>(key: &SchemaKey<S>, name: &String) -> BuildError
-    ensures refused { Names (reference_not_text (joined key.now.location (string_bytes name.now)) ∷ []) result }
-{
-    match keyword_location(key, name) {
-        Ok(location) => BuildError::ReferenceNotText(location),
-        Err(_) => BuildError::OutOfMemory,
+    if accepts {
+        NodeForm::Always
+    } else {
+        NodeForm::Never
     }
 }

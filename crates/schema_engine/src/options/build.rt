@@ -1,11 +1,8 @@
 //! Building a validator.
-ghost use Rattle.std.specs.Prelude.{Bool, IfOk, IfErr};
+ghost use Rattle.std.specs.Prelude.{IfOk, IfErr};
 ghost use Rattle.serde_json.specs.View.{view};
-ghost use Rattle.schema_reports.specs.KeywordTable.{builtin_in};
-ghost use Rattle.schema_engine.specs.Handed.{parts_of, table_of};
-ghost use Rattle.schema_engine.specs.Promised.{MeansSchema};
-ghost use Rattle.schema_engine.specs.ProgramOf.{IsProgramOf};
-ghost use Rattle.schema_engine.specs.Roots.{Builds, RefusesBuild};
+ghost use Rattle.schema_engine.specs.Called.{IsCompiledFrom, MeansPlainly, SchemaBuilds, SchemaRefused};
+ghost use Rattle.schema_engine.specs.Handed.{handed};
 
 use crate::compiled::of_compiled;
 use crate::options::ValidationOptions;
@@ -36,13 +33,18 @@ impl ValidationOptions {
         resolver: &S,
         matcher: &M,
     ) -> Result<Validator<K, M>, BuildError>
-        ensures means { IfOk result (λ v. MeansSchema (S.resolving resolver.now) (table_of (T.owned table.now) builtin_in (T.script table.now)) (M.matching matcher.now) K.words self.now (view schema.now)
-            K.shape K.is_whole M.matching v) }
-        ensures program { IfOk result (IsProgramOf (S.resolving resolver.now) (table_of (T.owned table.now) builtin_in (T.script table.now)) (M.matching matcher.now) self.now (view schema.now) K.shape M.matching) }
-        ensures built { IfOk result (λ _. (texts : Bool)
-            → Builds (parts_of (S.resolving resolver.now) (table_of (T.owned table.now) builtin_in (T.script table.now)) (M.matching matcher.now) (K.words texts) self.now) (view schema.now) self.now.limit) }
-        ensures refused { IfErr result (λ e. (texts : Bool)
-            → RefusesBuild (parts_of (S.resolving resolver.now) (table_of (T.owned table.now) builtin_in (T.script table.now)) (M.matching matcher.now) (K.words texts) self.now) (view schema.now) self.now.limit e) }
+        ensures means { IfOk result (λ v. MeansPlainly
+            (handed S.Resolver T.KeywordTable K.Validate M.Matcher.own resolver.now table.now matcher.now)
+            self.now (view schema.now) v) }
+        ensures program { IfOk result (λ v. IsCompiledFrom
+            (handed S.Resolver T.KeywordTable K.Validate M.Matcher.own resolver.now table.now matcher.now)
+            self.now (view schema.now) v) }
+        ensures built { IfOk result (λ _. SchemaBuilds
+            (handed S.Resolver T.KeywordTable K.Validate M.Matcher.own resolver.now table.now matcher.now)
+            self.now (view schema.now)) }
+        ensures refused { IfErr result (λ e. SchemaRefused
+            (handed S.Resolver T.KeywordTable K.Validate M.Matcher.own resolver.now table.now matcher.now)
+            self.now (view schema.now) e) }
     {
         let root = root_key(alloc, resolver, self, schema)?;
         let draft = root.draft;

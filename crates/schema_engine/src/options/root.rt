@@ -31,9 +31,12 @@ pub fn root_key<R: Resolver>(
     options: &ValidationOptions,
     schema: &Value,
 ) -> Result<SchemaKey<R::State>, BuildError>
-    ensures key { IfOk result (λ k. IsRootKey (resolving_parts (R.resolving resolver.now) options.now) (view schema.now) (key_of R.point k)) }
-    ensures drafted { IfOk result (λ k. root_draft (resolving_parts (R.resolving resolver.now) options.now) (view schema.now) ≡ Ok (draft_of k.draft)) }
-    ensures refused { IfErr result (RefusesKey (resolving_parts (R.resolving resolver.now) options.now) (view schema.now)) }
+    ensures key { IfOk result (λ k. IsRootKey
+        (resolving_parts (R.resolving resolver.now) options.now) (view schema.now) (key_of R.point k)) }
+    ensures drafted { IfOk result (λ k. root_draft
+        (resolving_parts (R.resolving resolver.now) options.now) (view schema.now) ≡ Ok (draft_of k.draft)) }
+    ensures refused { IfErr result (RefusesKey
+        (resolving_parts (R.resolving resolver.now) options.now) (view schema.now)) }
 {
     let draft = options.root_draft(alloc, resolver, schema)?;
     let base = options.base_of(resolver, draft, schema);
@@ -51,8 +54,10 @@ impl ValidationOptions {
         resolver: &R,
         schema: &Value,
     ) -> Result<Draft, BuildError>
-        ensures drafted { IfOk result (λ d. root_draft (resolving_parts (R.resolving resolver.now) self.now) (view schema.now) ≡ Ok (draft_of d)) }
-        ensures refused { IfErr result (RefusesKey (resolving_parts (R.resolving resolver.now) self.now) (view schema.now)) }
+        ensures drafted { IfOk result (λ d. root_draft
+            (resolving_parts (R.resolving resolver.now) self.now) (view schema.now) ≡ Ok (draft_of d)) }
+        ensures refused { IfErr result (RefusesKey
+            (resolving_parts (R.resolving resolver.now) self.now) (view schema.now)) }
     {
         match self.draft {
             Some(draft) => Ok(draft),
@@ -62,7 +67,8 @@ impl ValidationOptions {
 
     // The base of a schema's root.
     fn base_of<'v, R: Resolver>(&'v self, resolver: &R, draft: Draft, schema: &'v Value) -> &'v str
-        ensures base { result.now ≡ base_of (resolving_parts (R.resolving resolver.now) self.now) (draft_of draft) (view schema.now) }
+        ensures base { result.now ≡ base_of (resolving_parts (R.resolving resolver.now) self.now)
+            (draft_of draft) (view schema.now) }
     {
         if let Some(base) = &self.base {
             return base.as_str();
@@ -82,7 +88,9 @@ fn key_at<R: Resolver>(
     place: SchemaPlace,
     draft: Draft,
 ) -> Result<SchemaKey<R::State>, OutOfMemory>
-    ensures key { IfOk result (λ k. key_of R.point k ≡ key_at (compiling.resolving_parts (R.resolving resolver.now)) (record { place = place_of place; state = R.point state }) (draft_of draft)) }
+    ensures key { IfOk result (λ k. key_of R.point k ≡ key_at
+        (compiling.resolving_parts (R.resolving resolver.now))
+        (record { place = place_of place; state = R.point state }) (draft_of draft)) }
     ensures draft { IfOk result (λ k. k.draft ≡ draft) }
 {
     let vocabularies = resolver.find_vocabularies(alloc, &state, draft, &place)?;

@@ -138,7 +138,8 @@ pub trait Validate: Drop {
 
     /// Begins a run. The answer begins as accepted, with no errors.
     fn begin(&self, alloc: Global, instance: Instance, mode: Mode) -> Result<Self::Run, OutOfMemory>
-        ensures begins { IfOk result (λ run. (texts : Bool) → (words texts).begin (shape self.now) (subject_of instance.entry) (mode_of mode) ≡ (run, fresh)) };
+        ensures begins { IfOk result (λ run. (texts : Bool)
+            → (words texts).begin (shape self.now) (subject_of instance.entry) (mode_of mode) ≡ (run, fresh)) };
 
     /// Takes a turn, with what the turn before asked for. An error that it passes on borrows its place as the reply's did.
     fn turn<'s, 'i: 's>(
@@ -150,9 +151,11 @@ pub trait Validate: Drop {
         answer: &mut Answer<'i>,
     ) -> Result<Step<'s>, OutOfMemory>
         ensures turns { IfOk result (λ _. (texts : Bool) → Tells texts (is_whole (shape self.now)) (subject_of instance.entry)
-            → (words texts).turn (shape self.now) (subject_of instance.entry) (run.old, answer_of texts answer.old) (reply_of texts reply.entry) ≡ (run.new, answer_of texts answer.new)) }
+            → (words texts).turn (shape self.now) (subject_of instance.entry) (run.old, answer_of texts answer.old)
+            (reply_of texts reply.entry) ≡ (run.new, answer_of texts answer.new)) }
         ensures steps { IfOk result (λ step. (texts : Bool) → Tells texts (is_whole (shape self.now)) (subject_of instance.entry)
-            → (words texts).step (shape self.now) (subject_of instance.entry) (run.old, answer_of texts answer.old) (reply_of texts reply.entry) ≡ turn_of step) }
+            → (words texts).step (shape self.now) (subject_of instance.entry) (run.old, answer_of texts answer.old)
+            (reply_of texts reply.entry) ≡ turn_of step) }
         ensures borrows { IfOk result (λ _. (root : Data) → All (BorrowsItsPlace root) (errors_in reply.entry)
             → All (PassesBorrowed root) (faults_in answer.old) → All (PassesBorrowed root) (faults_in answer.new)) };
 
@@ -160,7 +163,8 @@ pub trait Validate: Drop {
 
     ghost answers: { (texts : Bool) (run : Self.Run) (a : spec.Answer) → (words texts).answer (run, a) ≡ a };
 
-    ghost turn_laws: { (texts : Bool) (m : Self.Shape) → TurnLaws (words texts) m (absorbed m) (remaining m) (ends texts m) (fits texts m) };
+    ghost turn_laws: { (texts : Bool) (m : Self.Shape)
+        → TurnLaws (words texts) m (absorbed m) (remaining m) (ends texts m) (fits texts m) };
 
     ghost function_laws: { (texts : Bool) (m : Self.Shape) → FunctionLaws (words texts) m (absorbed m) };
 }

@@ -1,5 +1,6 @@
 //! The resolver, which answers what references and identifiers lead to.
-ghost use Rattle.std.specs.Prelude.{◌≡◌, ◌↔◌, true, Some, None, Ok, IfOk, MatchResult, option_map, is_some, map, find, take, length};
+ghost use Rattle.std.specs.Prelude.{◌≡◌, ◌↔◌, true, Some, None, Ok, IfOk, MatchResult};
+ghost use Rattle.std.specs.Prelude.{find, is_some, length, map, option_map, take};
 ghost use Rattle.serde_json.specs.View.{view};
 ghost use Rattle.schema_reports.specs.Resolving as spec;
 ghost use Rattle.schema_reports.specs.Instance.{same_place};
@@ -54,7 +55,8 @@ fn first_on_way(
     places: &[SchemaPlace],
     path: &SchemaPath,
 ) -> Result<Option<SchemaPlace>, OutOfMemory>
-    ensures first { IfOk result (λ o. option_map place_of o ≡ find (λ q. same_place q.path (take (length q.path) path.now)) (map place_of places.now)) }
+    ensures first { IfOk result (λ o. option_map place_of o
+        ≡ find (λ q. same_place q.path (take (length q.path) path.now)) (map place_of places.now)) }
 {
     for place in places {
         if place.path.is_prefix_of(path) {
@@ -141,7 +143,8 @@ pub trait Resolver {
         draft: Draft,
         place: &SchemaPlace,
     ) -> Result<VocabularySet, OutOfMemory>
-        ensures vocabularies { IfOk result (λ v. v ≡ (resolving self.now).find_vocabularies (point state.now) (draft_of draft) (place_of place.now)) };
+        ensures vocabularies { IfOk result (λ v. v
+            ≡ (resolving self.now).find_vocabularies (point state.now) (draft_of draft) (place_of place.now)) };
 
     /// The draft of a value inside a schema of this draft.
     fn detect(&self, draft: Draft, value: &Value) -> Draft
@@ -164,7 +167,8 @@ pub trait Resolver {
         draft: Draft,
         place: &SchemaPlace,
     ) -> Result<Vec<SchemaPlace>, OutOfMemory>
-        ensures places { IfOk result (λ ps. map place_of ps.items ≡ (resolving self.now).subresources_of (draft_of draft) (place_of place.now)) };
+        ensures places { IfOk result (λ ps. map place_of ps.items
+            ≡ (resolving self.now).subresources_of (draft_of draft) (place_of place.now)) };
 
     /// The first subschema, in order, of the schema at a place that lies on the way down to a path. It is asked for each
     /// subschema on the way to a reference's target: a resolver that finds it without listing them all gives its own body.
@@ -175,7 +179,9 @@ pub trait Resolver {
         place: &SchemaPlace,
         path: &SchemaPath,
     ) -> Result<Option<SchemaPlace>, OutOfMemory>
-        ensures first { IfOk result (λ o. option_map place_of o ≡ find (λ q. same_place q.path (take (length q.path) path.now)) ((resolving self.now).subresources_of (draft_of draft) (place_of place.now))) }
+        ensures first { IfOk result (λ o. option_map place_of o
+            ≡ find (λ q. same_place q.path (take (length q.path) path.now))
+            ((resolving self.now).subresources_of (draft_of draft) (place_of place.now))) }
     {
         let below = self.subresources_of(alloc, draft, place)?;
         first_on_way(alloc, below.as_slice(), path)

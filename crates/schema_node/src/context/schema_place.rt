@@ -55,7 +55,8 @@ fn copy_of_step(step: &SchemaStep) -> Result<SchemaStep, OutOfMemory>
 
 // Adds copies of steps.
 fn push_steps(steps: &mut Vec<SchemaStep>, more: &[SchemaStep]) -> Result<(), OutOfMemory>
-    ensures added { IfOk result (λ _. map schema_step_of steps.new.items ≡ map schema_step_of steps.old.items ++ map schema_step_of more.now) }
+    ensures added { IfOk result (λ _. map schema_step_of steps.new.items
+        ≡ map schema_step_of steps.old.items ++ map schema_step_of more.now) }
 {
     for step in more {
         steps.push(copy_of_step(step)?)?;

@@ -69,7 +69,9 @@ pub trait KeywordTable<K: Validate> {
         vocabularies: &VocabularySet,
         formats: bool,
     ) -> Result<Self::Maker, OutOfMemory>
-        ensures begins { IfOk result (λ m. waiting m ≡ begun (script self.now (is_own origin.entry) (name_of origin.entry) (members_view object.now.entries) (draft_of draft) vocabularies.now formats)) };
+        ensures begins { IfOk result (λ m. waiting m
+            ≡ begun (script self.now (is_own origin.entry) (name_of origin.entry) (members_view object.now.entries)
+            (draft_of draft) vocabularies.now formats)) };
 
     /// Takes a turn.
     fn turn(
@@ -80,6 +82,7 @@ pub trait KeywordTable<K: Validate> {
     ) -> Result<MakerStep<K>, OutOfMemory>
         ensures takes { IfOk result (λ step. TakesTurn K.shape (waiting maker.old) (maker_reply_of reply) step (waiting maker.new)) };
 
-    ghost right: { (t : Self) (own : Bool) (name : Text) (object : Members) (draft : drafts.Draft) (vocabularies : drafts.Vocabularies) (formats : Bool)
+    ghost right: { (t : Self) (own : Bool) (name : Text) (object : Members) (draft : drafts.Draft)
+        (vocabularies : drafts.Vocabularies) (formats : Bool)
         → MakesRightly K.absorbed K.is_whole object (script t own name object draft vocabularies formats) };
 }

@@ -111,8 +111,12 @@ impl<'i> ValidationContext<'i> {
         subject: &str,
         site: MatchSite<'i>,
     ) -> Result<bool, OutOfMemory>
-        ensures answer { IfOk result (λ b. b ≡ comes_out self.old.remembered.assumptions (record { pattern = pattern.now; subject = subject.now }) ((M.matching matcher.now).is_match pattern.now subject.now)) }
-        ensures met { OnOk result (self.new.remembered ≡ after_match self.old.remembered (record { pair = record { pattern = pattern.now; subject = subject.now }; site = site.entry }) ((M.matching matcher.now).is_match pattern.now subject.now)) }
+        ensures answer { IfOk result (λ b. b ≡ comes_out self.old.remembered.assumptions
+            (record { pattern = pattern.now; subject = subject.now })
+            ((M.matching matcher.now).is_match pattern.now subject.now)) }
+        ensures met { OnOk result (self.new.remembered ≡ after_match self.old.remembered
+            (record { pair = record { pattern = pattern.now; subject = subject.now }; site = site.entry })
+            ((M.matching matcher.now).is_match pattern.now subject.now)) }
         ensures in_progress { self.new.in_progress ≡ self.old.in_progress }
         ensures unchanged { OnErr result (self.new ≡ self.old) }
     {
@@ -131,8 +135,13 @@ impl<'i> ValidationContext<'i> {
         reason: Reason,
         site: MatchSite<'i>,
     ) -> Result<bool, OutOfMemory>
-        ensures answer { IfOk result (λ b. b ≡ or_no (assumed self.old.remembered.assumptions (record { pattern = pattern.now; subject = subject.now }))) }
-        ensures met { OnOk result (self.new.remembered ≡ meet self.old.remembered (record { met = record { pair = record { pattern = pattern.now; subject = subject.now }; site = site.entry }; reason = reason_of reason })) }
+        ensures answer { IfOk result (λ b. b ≡ or_no (assumed self.old.remembered.assumptions
+            (record { pattern = pattern.now; subject = subject.now }))) }
+        ensures met { OnOk result (self.new.remembered ≡ meet self.old.remembered
+            (record {
+              met = record { pair = record { pattern = pattern.now; subject = subject.now }; site = site.entry };
+              reason = reason_of reason;
+            })) }
         ensures in_progress { self.new.in_progress ≡ self.old.in_progress }
         ensures unchanged { OnErr result (self.new ≡ self.old) }
     {

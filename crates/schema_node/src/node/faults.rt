@@ -1,7 +1,7 @@
 //! What a keyword has found, as errors at its place.
 ghost use Rattle.std.specs.Prelude.{◌≡◌, ◌++◌, IfOk, Bool, All, Some, [], map, option_map, slice_get, string_bytes, unwrap_or};
 ghost use Rattle.serde_json.specs.Data.{Data};
-ghost use Rattle.schema_reports.specs.Instance.{after_step, subject_at, subject_from};
+ghost use Rattle.schema_reports.specs.Instance.{after_step, subject_from};
 ghost use Rattle.schema_reports.specs.InstanceViews.{step_of, subject_of};
 ghost use Rattle.schema_reports.specs.Laws.{IsPresent};
 ghost use Rattle.schema_reports.specs.Meaning.{fault_error};
@@ -13,14 +13,15 @@ ghost use Rattle.schema_node.specs.KeywordViews.{answer_of, fault_of, fresh, mod
 ghost use Rattle.schema_reports.specs.Keywords.{own};
 ghost use Rattle.schema_node.specs.EvaluationPaths.{path_of};
 ghost use Rattle.schema_node.specs.EvaluationPlaces.{steps_to};
-ghost use Rattle.schema_node.specs.NodeRuns.{entry_where};
-ghost use Rattle.schema_node.specs.NodeTable.{absolute_in};
+ghost use Rattle.schema_node.specs.RunStates.{IsAskedOf, asking, where_asked};
+ghost use Rattle.schema_node.specs.NodeTable.{keyword_absolute};
 ghost use Rattle.schema_node.specs.NodeViews.{node_of};
 
 use crate::context::keyword::{Answer, Fault, Mode, OwnError, Reply};
 use crate::node::Node;
 use crate::node::evaluation_path::EvaluationPath;
 use crate::node::evaluation_place::EvaluationPlace;
+use crate::node::question::Question;
 use crate::node::replies::{keyword_location, stamped_error};
 use schema_reports::instance::{Instance, InstanceStep, Place};
 use schema_reports::location::{Location, LocationSegment, OutOfMemory};
@@ -58,7 +59,8 @@ fn after<'i>(instance: Instance<'i>, step: InstanceStep<'i>) -> Option<Instance<
 
 // What stands some steps below, or the instance itself where the steps lead nowhere.
 fn instance_below<'i>(instance: Instance<'i>, steps: &[InstanceStep<'i>]) -> Instance<'i>
-    ensures below { IsPresent (subject_of instance.entry) (map step_of steps.now) → subject_from (map step_of steps.now) (subject_of instance.entry) ≡ Some (subject_of result) }
+    ensures below { IsPresent (subject_of instance.entry) (map step_of steps.now)
+        → subject_from (map step_of steps.now) (subject_of instance.entry) ≡ Some (subject_of result) }
 {
     let mut found = instance;
     for step in steps {
@@ -92,7 +94,8 @@ fn spot_path(
     name: &String,
     rest: &String,
 ) -> Result<Location, OutOfMemory>
-    ensures path { IfOk result (λ l. l ≡ joined location.now (unwrap_or (option_map string_bytes absorbed.now) (string_bytes name.now)) ++ string_bytes rest.now) }
+    ensures path { IfOk result (λ l. l
+        ≡ joined location.now (unwrap_or (option_map string_bytes absorbed.now) (string_bytes name.now)) ++ string_bytes rest.now) }
 {
     let name = match absorbed {
         Some(absorbed) => absorbed.as_str(),
@@ -121,7 +124,9 @@ fn evaluated_spot_path(
     name: &String,
     rest: &String,
 ) -> Result<Location, OutOfMemory>
-    ensures path { IfOk result (λ l. l ≡ joined (path_of path.now) (unwrap_or (option_map string_bytes absorbed.now) (string_bytes name.now)) ++ string_bytes rest.now) }
+    ensures path { IfOk result (λ l. l
+        ≡ joined (path_of path.now) (unwrap_or (option_map string_bytes absorbed.now) (string_bytes name.now))
+        ++ string_bytes rest.now) }
 {
     let path = path.made(alloc)?;
     spot_path(alloc, &path, absorbed, name, rest)
@@ -132,22 +137,29 @@ fn error_places<'i, K>(
     alloc: Global,
     node: &Node<K>,
     name: &String,
-    place: &EvaluationPlace<'_, 'i>,
-    path: &EvaluationPath<'_>,
+    question: &Question<'_, 'i>,
     found: &OwnError<'i>,
 ) -> Result<ErrorPlaces<'i>, OutOfMemory>
-    ensures place { IfOk result (λ p. p.place ≡ steps_to place.now ++ map step_of found.now.below.items) }
+    ensures place { IfOk result (λ p. p.place ≡ steps_to question.now.place.now ++ map step_of found.now.below.items) }
     ensures schema_path { IfOk result (λ p. p.schema_path
-        ≡ joined (node_of node.now).location (unwrap_or (option_map string_bytes found.now.absorbed) (string_bytes name.now)) ++ string_bytes found.now.path) }
+        ≡ joined (node_of node.now).location (unwrap_or (option_map string_bytes found.now.absorbed) (string_bytes name.now))
+        ++ string_bytes found.now.path) }
     ensures evaluation_path { IfOk result (λ p. p.evaluation_path
-        ≡ joined (path_of path.now) (unwrap_or (option_map string_bytes found.now.absorbed) (string_bytes name.now)) ++ string_bytes found.now.path) }
+        ≡ joined (path_of question.now.path.now) (unwrap_or (option_map string_bytes found.now.absorbed) (string_bytes name.now))
+        ++ string_bytes found.now.path) }
     ensures absolute { IfOk result (λ p. option_map string_bytes p.absolute_keyword_location
-        ≡ absolute_in (node_of node.now) (joined (node_of node.now).location (string_bytes name.now))) }
+        ≡ keyword_absolute (node_of node.now) (string_bytes name.now)) }
 {
     let schema_path = spot_path(alloc, &node.location, &found.absorbed, name, &found.path)?;
-    let evaluation_path = evaluated_spot_path(alloc, path, &found.absorbed, name, &found.path)?;
+    let evaluation_path = evaluated_spot_path(
+        alloc,
+        question.path,
+        &found.absorbed,
+        name,
+        &found.path,
+    )?;
     let absolute_keyword_location = keyword_location(alloc, node, name)?;
-    let place = place_below(place, found.below.as_slice())?;
+    let place = place_below(question.place, found.below.as_slice())?;
     Ok(ErrorPlaces {
         place,
         schema_path,
@@ -161,18 +173,17 @@ fn own_error<'i, K>(
     alloc: Global,
     node: &Node<K>,
     name: &String,
-    instance: Instance<'i>,
-    place: &EvaluationPlace<'_, 'i>,
-    path: &EvaluationPath<'_>,
+    question: &Question<'_, 'i>,
     found: OwnError<'i>,
 ) -> Result<ValidationError<'i>, OutOfMemory>
     ensures error { IfOk result (λ e. (texts : Bool) → error_of texts e
-        ≡ fault_error (entry_where (node_of node.now) (path_of path.now) (steps_to place.now)) (string_bytes name.now) (own (own_of texts found.entry))) }
-    ensures borrows { IfOk result (λ e. (root : Data) → subject_at root (steps_to place.now) ≡ Some (subject_of instance.entry)
-        → IsPresent (subject_of instance.entry) (map step_of found.entry.below.items) → BorrowsItsPlace root e) }
+        ≡ fault_error (where_asked (node_of node.now) (asking question.now))
+        (string_bytes name.now) (own (own_of texts found.entry))) }
+    ensures borrows { IfOk result (λ e. (root : Data) → IsAskedOf root (asking question.now)
+        → IsPresent (subject_of question.now.instance) (map step_of found.entry.below.items) → BorrowsItsPlace root e) }
 {
-    let places = error_places(alloc, node, name, place, path, &found)?;
-    let instance = instance_below(instance, found.below.as_slice());
+    let places = error_places(alloc, node, name, question, &found)?;
+    let instance = instance_below(question.instance, found.below.as_slice());
     Ok(ValidationError {
         instance,
         place: places.place,
@@ -189,18 +200,17 @@ fn error_by<'i, K>(
     alloc: Global,
     node: &Node<K>,
     name: &String,
-    instance: Instance<'i>,
-    place: &EvaluationPlace<'_, 'i>,
-    path: &EvaluationPath<'_>,
+    question: &Question<'_, 'i>,
     fault: Fault<'i>,
 ) -> Result<ValidationError<'i>, OutOfMemory>
     ensures error { IfOk result (λ e. (texts : Bool) → error_of texts e
-        ≡ fault_error (entry_where (node_of node.now) (path_of path.now) (steps_to place.now)) (string_bytes name.now) (fault_of texts fault.entry)) }
-    ensures borrows { IfOk result (λ e. (root : Data) → subject_at root (steps_to place.now) ≡ Some (subject_of instance.entry)
-        → LiesInside root (subject_of instance.entry) fault.entry → BorrowsItsPlace root e) }
+        ≡ fault_error (where_asked (node_of node.now) (asking question.now))
+        (string_bytes name.now) (fault_of texts fault.entry)) }
+    ensures borrows { IfOk result (λ e. (root : Data) → IsAskedOf root (asking question.now)
+        → LiesInside root (subject_of question.now.instance) fault.entry → BorrowsItsPlace root e) }
 {
     match fault {
-        Fault::Own(found) => own_error(alloc, node, name, instance, place, path, found),
+        Fault::Own(found) => own_error(alloc, node, name, question, found),
         Fault::Passed(error) => stamped_error(alloc, node, name, error),
     }
 }
@@ -210,19 +220,18 @@ fn errors_by<'i, K>(
     alloc: Global,
     node: &Node<K>,
     name: &String,
-    instance: Instance<'i>,
-    place: &EvaluationPlace<'_, 'i>,
-    path: &EvaluationPath<'_>,
+    question: &Question<'_, 'i>,
     faults: Vec<Fault<'i>>,
 ) -> Result<Vec<ValidationError<'i>>, OutOfMemory>
     ensures errors { IfOk result (λ es. (texts : Bool) → map (error_of texts) es.items
-        ≡ map (fault_error (entry_where (node_of node.now) (path_of path.now) (steps_to place.now)) (string_bytes name.now)) (map (fault_of texts) faults.entry.items)) }
-    ensures borrows { IfOk result (λ es. (root : Data) → subject_at root (steps_to place.now) ≡ Some (subject_of instance.entry)
-        → All (LiesInside root (subject_of instance.entry)) faults.entry.items → All (BorrowsItsPlace root) es.items) }
+        ≡ map (fault_error (where_asked (node_of node.now) (asking question.now))
+        (string_bytes name.now)) (map (fault_of texts) faults.entry.items)) }
+    ensures borrows { IfOk result (λ es. (root : Data) → IsAskedOf root (asking question.now)
+        → All (LiesInside root (subject_of question.now.instance)) faults.entry.items → All (BorrowsItsPlace root) es.items) }
 {
     let mut errors = Vec::new(alloc);
     for fault in faults {
-        errors.push(error_by(alloc, node, name, instance, place, path, fault)?)?;
+        errors.push(error_by(alloc, node, name, question, fault)?)?;
     }
     Ok(errors)
 }
@@ -281,29 +290,28 @@ pub fn finished<'i, K>(
     alloc: Global,
     node: &Node<K>,
     name: &String,
-    instance: Instance<'i>,
-    place: &EvaluationPlace<'_, 'i>,
-    path: &EvaluationPath<'_>,
-    mode: Mode,
+    question: &Question<'_, 'i>,
     answer: Answer<'i>,
 ) -> Result<Reply<'i>, OutOfMemory>
     ensures reply { IfOk result (λ r. (texts : Bool) → reply_of texts r
-        ≡ answer_reply (mode_of mode) (entry_where (node_of node.now) (path_of path.now) (steps_to place.now)) (string_bytes name.now) (answer_of texts answer.entry)) }
-    ensures borrows { IfOk result (λ r. (root : Data) → subject_at root (steps_to place.now) ≡ Some (subject_of instance.entry)
-        → FaultsLieInside (mode_of mode) root (subject_of instance.entry) answer.entry → All (BorrowsItsPlace root) (errors_in r)) }
+        ≡ answer_reply (mode_of question.now.mode) (where_asked (node_of node.now) (asking question.now))
+        (string_bytes name.now) (answer_of texts answer.entry)) }
+    ensures borrows { IfOk result (λ r. (root : Data) → IsAskedOf root (asking question.now)
+        → FaultsLieInside (mode_of question.now.mode) root (subject_of question.now.instance) answer.entry
+        → All (BorrowsItsPlace root) (errors_in r)) }
 {
-    match mode {
+    match question.mode {
         Mode::Verdict => Ok(Reply::Truth(is_accepting(&answer))),
         Mode::First => match first_fault(answer) {
             None => Ok(Reply::First(None)),
             Some(fault) => {
-                let error = error_by(alloc, node, name, instance, place, path, fault)?;
+                let error = error_by(alloc, node, name, question, fault)?;
                 Ok(Reply::First(Some(error)))
             }
         },
         Mode::All => {
             let faults = all_faults(alloc, answer)?;
-            let errors = errors_by(alloc, node, name, instance, place, path, faults)?;
+            let errors = errors_by(alloc, node, name, question, faults)?;
             Ok(Reply::All(errors))
         }
         Mode::Evaluate => Ok(Reply::Nothing),

@@ -3,50 +3,48 @@ ghost use Rattle.std.specs.Prelude.{◌≡◌, IfOk, OnOk, map, string_bytes};
 ghost use Rattle.schema_reports.specs.InstanceViews.{step_of, subject_of};
 ghost use Rattle.schema_reports.specs.Laws.{IsPresent};
 ghost use Rattle.schema_reports.specs.Runs.{site_at};
-ghost use Rattle.schema_node.specs.EvaluationPaths.{path_of};
-ghost use Rattle.schema_node.specs.EvaluationPlaces.{steps_to};
 ghost use Rattle.schema_node.specs.KeywordViews.{point_of};
 ghost use Rattle.schema_node.specs.Matches.{after_match, comes_out};
-ghost use Rattle.schema_node.specs.NodeRuns.{entry_where};
+ghost use Rattle.schema_node.specs.RunStates.{asking, where_asked};
 ghost use Rattle.schema_node.specs.NodeViews.{node_of};
 
 use crate::context::keyword::MatchPoint;
 use crate::context::matcher::Matcher;
 use crate::context::validation::ValidationContext;
 use crate::node::Node;
-use crate::node::evaluation_path::EvaluationPath;
-use crate::node::evaluation_place::EvaluationPlace;
+use crate::node::question::{Engine, Question};
 use crate::node::sites::match_site;
-use schema_reports::instance::Instance;
 use schema_reports::location::OutOfMemory;
 use schema_reports::unfinished_matches::Match;
-use std::alloc::Global;
 
 /// How a match that a keyword of the node asks for comes out. Its site is made only where the matcher leaves it unfinished.
 pub fn asked_match<'i, K, M: Matcher>(
-    alloc: Global,
-    matcher: &M,
+    engine: &Engine<'_, K, M>,
     node: &Node<K>,
     name: &String,
-    instance: Instance<'i>,
-    place: &EvaluationPlace<'_, 'i>,
-    path: &EvaluationPath<'_>,
+    question: &Question<'_, 'i>,
     pattern: &str,
     subject: &str,
     point: MatchPoint<'_>,
     context: &mut ValidationContext<'i>,
 ) -> Result<bool, OutOfMemory>
-    requires present { IsPresent (subject_of instance) (map step_of point.spot.below.now) }
-    ensures answer { IfOk result (λ b. b ≡ comes_out context.old.remembered.assumptions (record { pattern = pattern.now; subject = subject.now }) ((M.matching matcher.now).is_match pattern.now subject.now)) }
+    requires present { IsPresent (subject_of question.now.instance) (map step_of point.spot.below.now) }
+    ensures answer { IfOk result (λ b. b ≡ comes_out context.old.remembered.assumptions
+        (record { pattern = pattern.now; subject = subject.now })
+        ((M.matching engine.now.matcher.now).is_match pattern.now subject.now)) }
     ensures met { OnOk result (context.new.remembered ≡ after_match context.old.remembered
-        (record { pair = record { pattern = pattern.now; subject = subject.now }; site = site_at (entry_where (node_of node.now) (path_of path.now) (steps_to place.now)) (string_bytes name.now) (point_of point.entry) })
-        ((M.matching matcher.now).is_match pattern.now subject.now)) }
+        (record {
+          pair = record { pattern = pattern.now; subject = subject.now };
+          site = site_at (where_asked (node_of node.now) (asking question.now))
+              (string_bytes name.now) (point_of point.entry);
+        })
+        ((M.matching engine.now.matcher.now).is_match pattern.now subject.now)) }
     ensures in_progress { context.new.in_progress ≡ context.old.in_progress }
 {
-    match matcher.is_match(alloc, pattern, subject)? {
+    match engine.matcher.is_match(engine.alloc, pattern, subject)? {
         Match::Finished(matches) => Ok(matches),
         Match::Unfinished(reason) => {
-            let site = match_site(alloc, node, name, instance, place, path, point)?;
+            let site = match_site(engine.alloc, node, name, question, point)?;
             Ok(context.resolve(pattern, subject, reason, site)?)
         }
     }

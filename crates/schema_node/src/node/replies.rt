@@ -2,9 +2,7 @@
 ghost use Rattle.std.specs.Prelude.{◌≡◌, IfOk, Bool, true, false, All, [], Some};
 ghost use Rattle.serde_json.specs.Data.{Data};
 ghost use Rattle.schema_reports.specs.Reports.{accepted};
-ghost use Rattle.schema_reports.specs.Pointer.{joined};
 ghost use Rattle.schema_reports.specs.Meaning.{both};
-ghost use Rattle.schema_reports.specs.Instance.{subject_at};
 ghost use Rattle.schema_reports.specs.InstanceTexts.{subject_has_float};
 ghost use Rattle.schema_reports.specs.InstanceViews.{subject_of};
 ghost use Rattle.schema_reports.specs.ReportViews.{error_of, BorrowsItsPlace};
@@ -12,19 +10,17 @@ ghost use Rattle.schema_reports.specs.Meaning.{stamped, false_outcome, false_err
 ghost use Rattle.std.specs.Prelude.{string_bytes, option_map, map};
 ghost use Rattle.schema_node.specs.KeywordViews.{mode_of, reply_of};
 ghost use Rattle.schema_node.specs.declared.context.keyword.Reply.TheVariants as variant;
-ghost use Rattle.schema_node.specs.NodeTable.{absolute_in};
+ghost use Rattle.schema_node.specs.NodeTable.{keyword_absolute};
 ghost use Rattle.schema_node.specs.NodeViews.{node_of};
 ghost use Rattle.schema_node.specs.FaultViews.{errors_in};
-ghost use Rattle.schema_node.specs.EvaluationPaths.{path_of};
 ghost use Rattle.schema_node.specs.EvaluationPlaces.{steps_to};
-ghost use Rattle.schema_node.specs.NodeRuns.{reply_by, entry_where, refuses, accepts, Joins, Stamps};
+ghost use Rattle.schema_node.specs.RunStates.{IsAskedOf, asking, where_asked};
+ghost use Rattle.schema_node.specs.NodeRuns.{reply_by, refuses, accepts, Joins, Stamps};
 
 use crate::context::keyword::{Mode, Reply};
 use crate::node::Node;
 use crate::node::absolute::absolute_location;
-use crate::node::evaluation_path::EvaluationPath;
-use crate::node::evaluation_place::EvaluationPlace;
-use schema_reports::instance::Instance;
+use crate::node::question::Question;
 use schema_reports::location::{Location, LocationSegment, OutOfMemory};
 use schema_reports::reports::ValidationError;
 use std::alloc::Global;
@@ -68,8 +64,10 @@ pub fn is_yes(reply: Reply<'_>) -> bool
 
 // The first error of a reply, or else of the other one.
 fn joined_first<'i>(found: Option<ValidationError<'i>>, more: Reply<'i>) -> Reply<'i>
-    ensures both { (texts : Bool) → Joins (reply_of texts (variant.First found.entry)) (reply_of texts more.entry) (reply_of texts result) }
-    ensures borrows { (root : Data) → All (BorrowsItsPlace root) (errors_in (variant.First found.entry)) → All (BorrowsItsPlace root) (errors_in more.entry) → All (BorrowsItsPlace root) (errors_in result) }
+    ensures both { (texts : Bool)
+        → Joins (reply_of texts (variant.First found.entry)) (reply_of texts more.entry) (reply_of texts result) }
+    ensures borrows { (root : Data) → All (BorrowsItsPlace root) (errors_in (variant.First found.entry))
+        → All (BorrowsItsPlace root) (errors_in more.entry) → All (BorrowsItsPlace root) (errors_in result) }
 {
     match found {
         Some(error) => Reply::First(Some(error)),
@@ -82,8 +80,10 @@ fn joined_all<'i>(
     mut errors: Vec<ValidationError<'i>>,
     more: Reply<'i>,
 ) -> Result<Reply<'i>, OutOfMemory>
-    ensures both { IfOk result (λ r. (texts : Bool) → Joins (reply_of texts (variant.All errors.entry)) (reply_of texts more.entry) (reply_of texts r)) }
-    ensures borrows { IfOk result (λ r. (root : Data) → All (BorrowsItsPlace root) errors.entry.items → All (BorrowsItsPlace root) (errors_in more.entry) → All (BorrowsItsPlace root) (errors_in r)) }
+    ensures both { IfOk result (λ r. (texts : Bool)
+        → Joins (reply_of texts (variant.All errors.entry)) (reply_of texts more.entry) (reply_of texts r)) }
+    ensures borrows { IfOk result (λ r. (root : Data) → All (BorrowsItsPlace root) errors.entry.items
+        → All (BorrowsItsPlace root) (errors_in more.entry) → All (BorrowsItsPlace root) (errors_in r)) }
 {
     match more {
         Reply::All(mut others) => {
@@ -96,8 +96,10 @@ fn joined_all<'i>(
 
 /// Both replies, the first one first.
 pub fn joined<'i>(found: Reply<'i>, more: Reply<'i>) -> Result<Reply<'i>, OutOfMemory>
-    ensures both { IfOk result (λ r. (texts : Bool) → Joins (reply_of texts found.entry) (reply_of texts more.entry) (reply_of texts r)) }
-    ensures borrows { IfOk result (λ r. (root : Data) → All (BorrowsItsPlace root) (errors_in found.entry) → All (BorrowsItsPlace root) (errors_in more.entry) → All (BorrowsItsPlace root) (errors_in r)) }
+    ensures both { IfOk result (λ r. (texts : Bool)
+        → Joins (reply_of texts found.entry) (reply_of texts more.entry) (reply_of texts r)) }
+    ensures borrows { IfOk result (λ r. (root : Data) → All (BorrowsItsPlace root) (errors_in found.entry)
+        → All (BorrowsItsPlace root) (errors_in more.entry) → All (BorrowsItsPlace root) (errors_in r)) }
 {
     match found {
         Reply::Nothing => Ok(more),
@@ -116,7 +118,7 @@ pub fn keyword_location<K>(
     node: &Node<K>,
     name: &String,
 ) -> Result<Option<String>, OutOfMemory>
-    ensures absolute { IfOk result (λ t. option_map string_bytes t ≡ absolute_in (node_of node.now) (joined (node_of node.now).location (string_bytes name.now))) }
+    ensures absolute { IfOk result (λ t. option_map string_bytes t ≡ keyword_absolute (node_of node.now) (string_bytes name.now)) }
 {
     let location = node
         .location
@@ -132,7 +134,7 @@ pub fn stamped_error<'i, K>(
     error: ValidationError<'i>,
 ) -> Result<ValidationError<'i>, OutOfMemory>
     ensures stamped { IfOk result (λ e. (texts : Bool) → error_of texts e
-        ≡ stamped (absolute_in (node_of node.now) (joined (node_of node.now).location (string_bytes name.now))) (error_of texts error.entry)) }
+        ≡ stamped (keyword_absolute (node_of node.now) (string_bytes name.now)) (error_of texts error.entry)) }
     ensures place { IfOk result (λ e. e.place ≡ error.entry.place) }
     ensures instance { IfOk result (λ e. e.instance ≡ error.entry.instance) }
 {
@@ -156,8 +158,9 @@ fn stamped_errors<'i, K>(
     errors: Vec<ValidationError<'i>>,
 ) -> Result<Vec<ValidationError<'i>>, OutOfMemory>
     ensures stamped { IfOk result (λ es. (texts : Bool) → map (error_of texts) es.items
-        ≡ map (stamped (absolute_in (node_of node.now) (joined (node_of node.now).location (string_bytes name.now)))) (map (error_of texts) errors.entry.items)) }
-    ensures borrows { IfOk result (λ es. (root : Data) → All (BorrowsItsPlace root) errors.entry.items → All (BorrowsItsPlace root) es.items) }
+        ≡ map (stamped (keyword_absolute (node_of node.now) (string_bytes name.now))) (map (error_of texts) errors.entry.items)) }
+    ensures borrows { IfOk result (λ es. (root : Data) → All (BorrowsItsPlace root) errors.entry.items
+        → All (BorrowsItsPlace root) es.items) }
 {
     let mut stamped = Vec::new(alloc);
     for error in errors {
@@ -174,8 +177,9 @@ pub fn stamped_reply<'i, K>(
     reply: Reply<'i>,
 ) -> Result<Reply<'i>, OutOfMemory>
     ensures stamped { IfOk result (λ r. (texts : Bool)
-        → Stamps (absolute_in (node_of node.now) (joined (node_of node.now).location (string_bytes name.now))) (reply_of texts reply.entry) (reply_of texts r)) }
-    ensures borrows { IfOk result (λ r. (root : Data) → All (BorrowsItsPlace root) (errors_in reply.entry) → All (BorrowsItsPlace root) (errors_in r)) }
+        → Stamps (keyword_absolute (node_of node.now) (string_bytes name.now)) (reply_of texts reply.entry) (reply_of texts r)) }
+    ensures borrows { IfOk result (λ r. (root : Data) → All (BorrowsItsPlace root) (errors_in reply.entry)
+        → All (BorrowsItsPlace root) (errors_in r)) }
 {
     match reply {
         Reply::Nothing => Ok(Reply::Nothing),
@@ -198,24 +202,24 @@ pub fn stamped_reply<'i, K>(
 pub fn refused<'i, K>(
     alloc: Global,
     node: &Node<K>,
-    instance: Instance<'i>,
-    place: &EvaluationPlace<'_, 'i>,
-    path: &EvaluationPath<'_>,
-    mode: Mode,
+    question: &Question<'_, 'i>,
 ) -> Result<Reply<'i>, OutOfMemory>
-    ensures refuses { IfOk result (λ r. (texts : Bool) → (texts ≡ true → subject_has_float (subject_of instance.entry) ≡ false) → reply_of texts r
-        ≡ reply_by (mode_of mode) (false_outcome texts (entry_where (node_of node.now) (path_of path.now) (steps_to place.now)) (subject_of instance.entry))) }
-    ensures borrows { IfOk result (λ r. (root : Data) → subject_at root (steps_to place.now) ≡ Some (subject_of instance.entry) → All (BorrowsItsPlace root) (errors_in r)) }
+    ensures refuses { IfOk result (λ r. (texts : Bool)
+        → (texts ≡ true → subject_has_float (subject_of question.now.instance) ≡ false) → reply_of texts r
+        ≡ reply_by (mode_of question.now.mode) (false_outcome texts
+        (where_asked (node_of node.now) (asking question.now)) (subject_of question.now.instance))) }
+    ensures borrows { IfOk result (λ r. (root : Data)
+        → IsAskedOf root (asking question.now) → All (BorrowsItsPlace root) (errors_in r)) }
 {
-    match mode {
+    match question.mode {
         Mode::Verdict => Ok(Reply::Truth(false)),
         Mode::First => {
-            let error = false_error(alloc, node, instance, place, path)?;
+            let error = false_error(alloc, node, question)?;
             Ok(Reply::First(Some(error)))
         }
         Mode::All => {
             let mut errors = Vec::new(alloc);
-            errors.push(false_error(alloc, node, instance, place, path)?)?;
+            errors.push(false_error(alloc, node, question)?)?;
             Ok(Reply::All(errors))
         }
         Mode::Evaluate => Ok(Reply::Nothing),
@@ -226,22 +230,21 @@ pub fn refused<'i, K>(
 fn false_error<'i, K>(
     alloc: Global,
     node: &Node<K>,
-    instance: Instance<'i>,
-    place: &EvaluationPlace<'_, 'i>,
-    path: &EvaluationPath<'_>,
+    question: &Question<'_, 'i>,
 ) -> Result<ValidationError<'i>, OutOfMemory>
-    ensures error { IfOk result (λ e. (texts : Bool) → (texts ≡ true → subject_has_float (subject_of instance.entry) ≡ false) → error_of texts e
-        ≡ false_error texts (entry_where (node_of node.now) (path_of path.now) (steps_to place.now)) (subject_of instance.entry)) }
-    ensures place { IfOk result (λ e. e.place ≡ steps_to place.now) }
-    ensures instance { IfOk result (λ e. e.instance ≡ instance.entry) }
+    ensures error { IfOk result (λ e. (texts : Bool)
+        → (texts ≡ true → subject_has_float (subject_of question.now.instance) ≡ false) → error_of texts e
+        ≡ false_error texts (where_asked (node_of node.now) (asking question.now)) (subject_of question.now.instance)) }
+    ensures place { IfOk result (λ e. e.place ≡ steps_to question.now.place.now) }
+    ensures instance { IfOk result (λ e. e.instance ≡ question.now.instance) }
 {
     let absolute = absolute_location(alloc, node, &node.location)?;
     ValidationError::false_schema(
         alloc,
-        instance,
-        place.made()?,
+        question.instance,
+        question.place.made()?,
         node.location.copy()?,
-        path.made(alloc)?,
+        question.path.made(alloc)?,
         absolute,
     )
 }

@@ -1,28 +1,23 @@
 //! Runs of nodes over instances.
-ghost use Rattle.std.specs.Prelude.{◌≡◌, ◌<◌, ◌≤◌, [], ℕ, All, Bool, IfOk, true, false, Some, MatchOption, length, map, option_map, string_bytes};
-ghost use Rattle.serde_json.specs.Data.{Data};
-ghost use Rattle.schema_reports.specs.Instance.{after_step, subject_at};
+ghost use Rattle.std.specs.Prelude.{◌≡◌, ◌<◌, [], Bool, IfOk, true, false, Some, MatchOption};
+ghost use Rattle.std.specs.Prelude.{length, map, option_map, string_bytes};
+ghost use Rattle.schema_reports.specs.Instance.{after_step};
 ghost use Rattle.schema_reports.specs.InstanceViews.{subject_of, step_of};
 ghost use Rattle.schema_reports.specs.Keywords.{down, here, for_units, for_verdict};
-ghost use Rattle.schema_reports.specs.Laws.{IsPresent, IsRight, steps_below};
-ghost use Rattle.schema_reports.specs.Matching.{Extends, completion_of, matching};
-ghost use Rattle.schema_reports.specs.Numbered.{left, subject_in};
-ghost use Rattle.schema_reports.specs.ReportViews.{BorrowsItsPlace};
-ghost use Rattle.schema_reports.specs.Reports.{Outcome};
-ghost use Rattle.schema_reports.specs.Runs.{no_run, reply_in};
-ghost use Rattle.schema_node.specs.FaultViews.{errors_in, faults_in, PassesBorrowed};
-ghost use Rattle.schema_reports.specs.Guarded.{guarded_node, guarded_within, node_child, node_keyword};
-ghost use Rattle.schema_node.specs.KeywordViews.{answer_of, below_of, mode_of, reply_of};
+ghost use Rattle.schema_reports.specs.Laws.{IsPresent, steps_below};
+ghost use Rattle.schema_node.specs.FaultViews.{faults_in};
+ghost use Rattle.schema_reports.specs.Guarded.{node_child};
+ghost use Rattle.schema_node.specs.KeywordViews.{below_of, mode_of};
 ghost use Rattle.schema_node.specs.NodeTable.{numbered, shaped_form, shaped_part};
 ghost use Rattle.schema_node.specs.NodeViews.{edge_of, entry_of, form_of};
-ghost use Rattle.schema_node.specs.EvaluationPaths.{path_of};
-ghost use Rattle.schema_node.specs.EvaluationPlaces.{steps_to};
-ghost use Rattle.schema_node.specs.NodeRuns.{Reading, Reads, Ready, TellsAll, HasForm, HasParts, NodeReplies, EdgeReplies, ChildReplies, FormReplies, HasChildren, PartsReply, child_says, reply_by};
+ghost use Rattle.schema_node.specs.NodeRuns.{HasForm, HasParts, HasChildren};
 ghost use Rattle.schema_node.specs.Marks.{TakesNoMarks};
-ghost use Rattle.schema_node.specs.Matches.{MeetsEach, settling};
-ghost use Rattle.schema_node.specs.NodeMeets.{NodeMeets, EdgeMeets, ChildMeets, FormMeets, EntryMeets, PartsMeet};
-ghost use Rattle.schema_node.specs.Progress.{busy_at, NoDeeper};
-ghost use Rattle.schema_node.specs.Turning.{unit_with};
+ghost use Rattle.schema_node.specs.Progress.{NoDeeper};
+ghost use Rattle.schema_node.specs.RunStates.{asking, asking_first, form_at_work, setting, setting_over};
+ghost use Rattle.schema_node.specs.RunStates.{FindsRightly, HasBegun, Keeps, MayRun, PassesItsOwn};
+ghost use Rattle.schema_node.specs.RunStates.{ChildSays, EdgeSays, FormSays, NodeSays, PartsSay};
+ghost use Rattle.schema_node.specs.RunStates.{MeetsChild, MeetsEdge, MeetsEntry, MeetsForm, MeetsNode, MeetsParts};
+ghost use Rattle.schema_node.specs.RunStates.{RunBorrows, RunMeets, RunReplies, RunSpeaks};
 
 use crate::context::keyword::{Answer, Below, Mode, Reply, Step, Validate};
 use crate::context::matcher::Matcher;
@@ -31,6 +26,7 @@ use crate::node::evaluation_path::EvaluationPath;
 use crate::node::evaluation_place::EvaluationPlace;
 use crate::node::faults::{begun, finished};
 use crate::node::matches::asked_match;
+use crate::node::question::{Engine, NamedKeyword, Question};
 use crate::node::replies::{accepted, is_settled, is_yes, joined, refused, stamped_reply};
 use crate::node::{Edge, Entry, EntryForm, NodeForm, Nodes, SchemaNode};
 use schema_reports::instance::{Instance, InstanceStep, Place};
@@ -44,7 +40,8 @@ fn one_below<'i>(
 ) -> Option<(Instance<'i>, InstanceStep<'i>)>
     requires present { IsPresent (subject_of instance) (steps_below (below_of below)) }
     ensures below { MatchOption result (below_of below.entry ≡ here)
-        (λ r. (below_of below.entry ≡ down (step_of r.1)) × (after_step (step_of r.1) (subject_of instance.entry) ≡ Some (subject_of r.0))) }
+        (λ r. (below_of below.entry ≡ down (step_of r.1))
+        × (after_step (step_of r.1) (subject_of instance.entry) ≡ Some (subject_of r.0))) }
 {
     let found = match below {
         Below::Here => return None,
@@ -82,23 +79,6 @@ fn asks_verdict_first<K>(entry: &Entry<K>, mode: Mode) -> bool
     }
 }
 
-/// What a run is made with, and does not change.
-#[derive_where(Clone, Copy)]
-struct Engine<'r, K, M> {
-    nodes: &'r Nodes<K>,
-    alloc: Global,
-    matcher: &'r M,
-}
-
-/// What is asked, where, and how it was reached.
-#[derive(Clone, Copy)]
-struct Question<'q, 'i> {
-    instance: Instance<'i>,
-    place: &'q EvaluationPlace<'q, 'i>,
-    path: &'q EvaluationPath<'q>,
-    mode: Mode,
-}
-
 // The reply of a node at a place.
 #[cycle(run)]
 fn run_node<'i, K: Validate, M: Matcher>(
@@ -107,30 +87,22 @@ fn run_node<'i, K: Validate, M: Matcher>(
     question: &Question<'_, 'i>,
     context: &mut ValidationContext<'i>,
 ) -> Result<Reply<'i>, OutOfMemory>
-    requires known { node.0 < length engine.now.nodes.now }
-    requires ready { Ready K.words (numbered K.shape engine.now.nodes.now) (length engine.now.nodes.now) }
-    requires above { NoDeeper (steps_to question.now.place.now) context.old.in_progress }
-    requires wanted { ¬ (mode_of question.now.mode ≡ for_units) }
-    ensures kept { IfOk result (λ _. context.new.in_progress ≡ context.old.in_progress) }
-    ensures assumes { IfOk result (λ _. context.new.remembered.assumptions ≡ context.old.remembered.assumptions) }
-    ensures says { IfOk result (λ r. NodeReplies K.words K.is_whole (numbered K.shape engine.now.nodes.now) (length engine.now.nodes.now) (settling (M.matching engine.now.matcher.now) context.old.remembered.assumptions)
-        (mode_of question.now.mode) (path_of question.now.path.now) (steps_to question.now.place.now) (busy_at (steps_to question.now.place.now) context.old.in_progress) (subject_of question.now.instance) node.0 r) }
-    ensures meets { IfOk result (λ _. NodeMeets K.words K.is_whole (numbered K.shape engine.now.nodes.now) (length engine.now.nodes.now) (settling (M.matching engine.now.matcher.now) context.old.remembered.assumptions)
-        (mode_of question.now.mode) (path_of question.now.path.now) (steps_to question.now.place.now) (busy_at (steps_to question.now.place.now) context.old.in_progress) (subject_of question.now.instance) context.old.remembered context.new.remembered node.0) }
+    requires may { MayRun (setting K.words K.is_whole K.shape M.matching engine.now) (asking question.now)
+        context.old node.0 }
+    ensures keeps { IfOk result (λ _. Keeps context.old context.new) }
+    ensures says { IfOk result (λ r. NodeSays
+        (setting K.words K.is_whole K.shape M.matching engine.now) (asking question.now)
+        context.old node.0 r) }
+    ensures meets { IfOk result (λ _. MeetsNode
+        (setting K.words K.is_whole K.shape M.matching engine.now) (asking question.now)
+        context.old context.new node.0) }
 {
     let found = engine.nodes.node(node);
     match &found.form {
         None => Ok(accepted(engine.alloc, question.mode)),
         Some(form) => match form {
             NodeForm::Always => Ok(accepted(engine.alloc, question.mode)),
-            NodeForm::Never => refused(
-                engine.alloc,
-                found,
-                question.instance,
-                question.place,
-                question.path,
-                question.mode,
-            ),
+            NodeForm::Never => refused(engine.alloc, found, question),
             NodeForm::Keywords(entries) => run_entries(
                 engine,
                 node,
@@ -151,17 +123,16 @@ fn run_entries<'i, K: Validate, M: Matcher>(
     question: &Question<'_, 'i>,
     context: &mut ValidationContext<'i>,
 ) -> Result<Reply<'i>, OutOfMemory>
-    requires known { node.0 < length engine.now.nodes.now }
+    requires may { MayRun (setting K.words K.is_whole K.shape M.matching engine.now) (asking question.now)
+        context.old node.0 }
     requires parts { HasParts (numbered K.shape engine.now.nodes.now) node.0 (map (shaped_part K.shape) (map entry_of entries.now)) }
-    requires ready { Ready K.words (numbered K.shape engine.now.nodes.now) (length engine.now.nodes.now) }
-    requires above { NoDeeper (steps_to question.now.place.now) context.old.in_progress }
-    requires wanted { ¬ (mode_of question.now.mode ≡ for_units) }
-    ensures kept { IfOk result (λ _. context.new.in_progress ≡ context.old.in_progress) }
-    ensures assumes { IfOk result (λ _. context.new.remembered.assumptions ≡ context.old.remembered.assumptions) }
-    ensures says { IfOk result (λ r. PartsReply K.words K.is_whole (numbered K.shape engine.now.nodes.now) (length engine.now.nodes.now) (settling (M.matching engine.now.matcher.now) context.old.remembered.assumptions)
-        (mode_of question.now.mode) (path_of question.now.path.now) (steps_to question.now.place.now) (busy_at (steps_to question.now.place.now) context.old.in_progress) (subject_of question.now.instance) node.0 (map (shaped_part K.shape) (map entry_of entries.now)) r) }
-    ensures meets { IfOk result (λ _. PartsMeet K.words K.is_whole (numbered K.shape engine.now.nodes.now) (length engine.now.nodes.now) (settling (M.matching engine.now.matcher.now) context.old.remembered.assumptions)
-        (mode_of question.now.mode) (path_of question.now.path.now) (steps_to question.now.place.now) (busy_at (steps_to question.now.place.now) context.old.in_progress) (subject_of question.now.instance) context.old.remembered context.new.remembered node.0 (map (shaped_part K.shape) (map entry_of entries.now))) }
+    ensures keeps { IfOk result (λ _. Keeps context.old context.new) }
+    ensures says { IfOk result (λ r. PartsSay
+        (setting K.words K.is_whole K.shape M.matching engine.now) (asking question.now)
+        context.old node.0 (map (shaped_part K.shape) (map entry_of entries.now)) r) }
+    ensures meets { IfOk result (λ _. MeetsParts
+        (setting K.words K.is_whole K.shape M.matching engine.now) (asking question.now)
+        context.old context.new node.0 (map (shaped_part K.shape) (map entry_of entries.now))) }
 {
     let mut found = accepted(engine.alloc, question.mode);
     for entry in entries {
@@ -183,17 +154,16 @@ fn run_entry<'i, K: Validate, M: Matcher>(
     question: &Question<'_, 'i>,
     context: &mut ValidationContext<'i>,
 ) -> Result<Reply<'i>, OutOfMemory>
-    requires known { node.0 < length engine.now.nodes.now }
+    requires may { MayRun (setting K.words K.is_whole K.shape M.matching engine.now) (asking question.now)
+        context.old node.0 }
     requires form { HasForm (numbered K.shape engine.now.nodes.now) node.0 (shaped_form K.shape (form_of entry.now.form)) }
-    requires ready { Ready K.words (numbered K.shape engine.now.nodes.now) (length engine.now.nodes.now) }
-    requires above { NoDeeper (steps_to question.now.place.now) context.old.in_progress }
-    requires wanted { ¬ (mode_of question.now.mode ≡ for_units) }
-    ensures kept { IfOk result (λ _. context.new.in_progress ≡ context.old.in_progress) }
-    ensures assumes { IfOk result (λ _. context.new.remembered.assumptions ≡ context.old.remembered.assumptions) }
-    ensures says { IfOk result (λ r. FormReplies K.words K.is_whole (numbered K.shape engine.now.nodes.now) (length engine.now.nodes.now) (settling (M.matching engine.now.matcher.now) context.old.remembered.assumptions)
-        (mode_of question.now.mode) (path_of question.now.path.now) (steps_to question.now.place.now) (busy_at (steps_to question.now.place.now) context.old.in_progress) (subject_of question.now.instance) node.0 (string_bytes entry.now.name) (shaped_form K.shape (form_of entry.now.form)) r) }
-    ensures meets { IfOk result (λ _. EntryMeets K.words K.is_whole (numbered K.shape engine.now.nodes.now) (length engine.now.nodes.now) (settling (M.matching engine.now.matcher.now) context.old.remembered.assumptions)
-        (mode_of question.now.mode) (path_of question.now.path.now) (steps_to question.now.place.now) (busy_at (steps_to question.now.place.now) context.old.in_progress) (subject_of question.now.instance) context.old.remembered context.new.remembered node.0 (shaped_part K.shape (entry_of entry.now))) }
+    ensures keeps { IfOk result (λ _. Keeps context.old context.new) }
+    ensures says { IfOk result (λ r. FormSays
+        (setting K.words K.is_whole K.shape M.matching engine.now) (asking question.now)
+        context.old node.0 (string_bytes entry.now.name) (shaped_form K.shape (form_of entry.now.form)) r) }
+    ensures meets { IfOk result (λ _. MeetsEntry
+        (setting K.words K.is_whole K.shape M.matching engine.now) (asking question.now)
+        context.old context.new node.0 (shaped_part K.shape (entry_of entry.now))) }
 {
     if asks_verdict_first(entry, question.mode) {
         let asked = Question {
@@ -220,28 +190,26 @@ fn run_form<'i, K: Validate, M: Matcher>(
     question: &Question<'_, 'i>,
     context: &mut ValidationContext<'i>,
 ) -> Result<Reply<'i>, OutOfMemory>
-    requires known { node.0 < length engine.now.nodes.now }
+    requires may { MayRun (setting K.words K.is_whole K.shape M.matching engine.now) (asking question.now)
+        context.old node.0 }
     requires form { HasForm (numbered K.shape engine.now.nodes.now) node.0 (shaped_form K.shape (form_of entry.now.form)) }
-    requires ready { Ready K.words (numbered K.shape engine.now.nodes.now) (length engine.now.nodes.now) }
-    requires above { NoDeeper (steps_to question.now.place.now) context.old.in_progress }
-    requires wanted { ¬ (mode_of question.now.mode ≡ for_units) }
-    ensures kept { IfOk result (λ _. context.new.in_progress ≡ context.old.in_progress) }
-    ensures assumes { IfOk result (λ _. context.new.remembered.assumptions ≡ context.old.remembered.assumptions) }
-    ensures says { IfOk result (λ r. FormReplies K.words K.is_whole (numbered K.shape engine.now.nodes.now) (length engine.now.nodes.now) (settling (M.matching engine.now.matcher.now) context.old.remembered.assumptions)
-        (mode_of question.now.mode) (path_of question.now.path.now) (steps_to question.now.place.now) (busy_at (steps_to question.now.place.now) context.old.in_progress) (subject_of question.now.instance) node.0 (string_bytes entry.now.name) (shaped_form K.shape (form_of entry.now.form)) r) }
-    ensures meets { IfOk result (λ _. FormMeets K.words K.is_whole (numbered K.shape engine.now.nodes.now) (length engine.now.nodes.now) (settling (M.matching engine.now.matcher.now) context.old.remembered.assumptions)
-        (mode_of question.now.mode) (path_of question.now.path.now) (steps_to question.now.place.now) (busy_at (steps_to question.now.place.now) context.old.in_progress) (subject_of question.now.instance) context.old.remembered context.new.remembered node.0 (string_bytes entry.now.name) (shaped_form K.shape (form_of entry.now.form))) }
+    ensures keeps { IfOk result (λ _. Keeps context.old context.new) }
+    ensures says { IfOk result (λ r. FormSays
+        (setting K.words K.is_whole K.shape M.matching engine.now) (asking question.now)
+        context.old node.0 (string_bytes entry.now.name) (shaped_form K.shape (form_of entry.now.form)) r) }
+    ensures meets { IfOk result (λ _. MeetsForm
+        (setting K.words K.is_whole K.shape M.matching engine.now) (asking question.now)
+        context.old context.new node.0 (string_bytes entry.now.name) (shaped_form K.shape (form_of entry.now.form))) }
 {
     match &entry.form {
-        EntryForm::Keyword(keyword, children) => run_keyword(
-            engine,
-            node,
-            &entry.name,
-            keyword,
-            children.as_slice(),
-            question,
-            context,
-        ),
+        EntryForm::Keyword(keyword, children) => {
+            let named = NamedKeyword {
+                name: &entry.name,
+                keyword,
+                children: children.as_slice(),
+            };
+            run_keyword(engine, node, &named, question, context)
+        }
         EntryForm::Reference(edge) => {
             let reply = run_edge(engine, edge, question, context)?;
             stamped_reply(engine.alloc, engine.nodes.node(node), &entry.name, reply)
@@ -254,32 +222,29 @@ fn run_form<'i, K: Validate, M: Matcher>(
 fn run_keyword<'i, K: Validate, M: Matcher>(
     engine: &Engine<'_, K, M>,
     node: SchemaNode,
-    name: &String,
-    keyword: &K,
-    children: &[Option<Edge>],
+    keyword: &NamedKeyword<'_, K>,
     question: &Question<'_, 'i>,
     context: &mut ValidationContext<'i>,
 ) -> Result<Reply<'i>, OutOfMemory>
-    requires known { node.0 < length engine.now.nodes.now }
-    requires form { HasForm (numbered K.shape engine.now.nodes.now) node.0 (node_keyword (K.shape keyword.now) (map (option_map edge_of) children.now)) }
-    requires ready { Ready K.words (numbered K.shape engine.now.nodes.now) (length engine.now.nodes.now) }
-    requires above { NoDeeper (steps_to question.now.place.now) context.old.in_progress }
-    requires wanted { ¬ (mode_of question.now.mode ≡ for_units) }
-    ensures kept { IfOk result (λ _. context.new.in_progress ≡ context.old.in_progress) }
-    ensures assumes { IfOk result (λ _. context.new.remembered.assumptions ≡ context.old.remembered.assumptions) }
-    ensures says { IfOk result (λ r. FormReplies K.words K.is_whole (numbered K.shape engine.now.nodes.now) (length engine.now.nodes.now) (settling (M.matching engine.now.matcher.now) context.old.remembered.assumptions)
-        (mode_of question.now.mode) (path_of question.now.path.now) (steps_to question.now.place.now) (busy_at (steps_to question.now.place.now) context.old.in_progress) (subject_of question.now.instance) node.0 (string_bytes name.now) (node_keyword (K.shape keyword.now) (map (option_map edge_of) children.now)) r) }
-    ensures meets { IfOk result (λ _. FormMeets K.words K.is_whole (numbered K.shape engine.now.nodes.now) (length engine.now.nodes.now) (settling (M.matching engine.now.matcher.now) context.old.remembered.assumptions)
-        (mode_of question.now.mode) (path_of question.now.path.now) (steps_to question.now.place.now) (busy_at (steps_to question.now.place.now) context.old.in_progress) (subject_of question.now.instance) context.old.remembered context.new.remembered node.0 (string_bytes name.now) (node_keyword (K.shape keyword.now) (map (option_map edge_of) children.now))) }
+    requires may { MayRun (setting K.words K.is_whole K.shape M.matching engine.now) (asking question.now)
+        context.old node.0 }
+    requires form { HasForm (numbered K.shape engine.now.nodes.now) node.0 (form_at_work K.shape keyword.now) }
+    ensures keeps { IfOk result (λ _. Keeps context.old context.new) }
+    ensures says { IfOk result (λ r. FormSays
+        (setting K.words K.is_whole K.shape M.matching engine.now) (asking question.now)
+        context.old node.0 (string_bytes keyword.now.name.now) (form_at_work K.shape keyword.now) r) }
+    ensures meets { IfOk result (λ _. MeetsForm
+        (setting K.words K.is_whole K.shape M.matching engine.now) (asking question.now)
+        context.old context.new node.0 (string_bytes keyword.now.name.now) (form_at_work K.shape keyword.now)) }
 {
-    let mut run = keyword.begin(engine.alloc, question.instance, question.mode)?;
+    let mut run = keyword
+        .keyword
+        .begin(engine.alloc, question.instance, question.mode)?;
     let mut answer = begun(engine.alloc, question.mode);
     run_turns(
         engine,
         node,
-        name,
         keyword,
-        children,
         question,
         &mut run,
         &mut answer,
@@ -288,11 +253,8 @@ fn run_keyword<'i, K: Validate, M: Matcher>(
     finished(
         engine.alloc,
         engine.nodes.node(node),
-        name,
-        question.instance,
-        question.place,
-        question.path,
-        question.mode,
+        keyword.name,
+        question,
         answer,
     )
 }
@@ -302,34 +264,34 @@ fn run_keyword<'i, K: Validate, M: Matcher>(
 fn run_turns<'i, K: Validate, M: Matcher>(
     engine: &Engine<'_, K, M>,
     node: SchemaNode,
-    name: &String,
-    keyword: &K,
-    children: &[Option<Edge>],
+    keyword: &NamedKeyword<'_, K>,
     question: &Question<'_, 'i>,
     run: &mut K::Run,
     answer: &mut Answer<'i>,
     context: &mut ValidationContext<'i>,
 ) -> Result<(), OutOfMemory>
-    requires known { node.0 < length engine.now.nodes.now }
-    requires form { HasForm (numbered K.shape engine.now.nodes.now) node.0 (node_keyword (K.shape keyword.now) (map (option_map edge_of) children.now)) }
-    requires ready { Ready K.words (numbered K.shape engine.now.nodes.now) (length engine.now.nodes.now) }
-    requires above { NoDeeper (steps_to question.now.place.now) context.old.in_progress }
-    requires wanted { ¬ (mode_of question.now.mode ≡ for_units) }
-    requires begun { (texts : Bool) → (K.words texts).begin (K.shape keyword.now) (subject_of question.now.instance) (mode_of question.now.mode) ≡ (run.old, answer_of texts answer.old) }
+    requires may { MayRun (setting K.words K.is_whole K.shape M.matching engine.now) (asking question.now)
+        context.old node.0 }
+    requires form { HasForm (numbered K.shape engine.now.nodes.now) node.0 (form_at_work K.shape keyword.now) }
+    requires begun { HasBegun (setting K.words K.is_whole K.shape M.matching engine.now) (asking question.now)
+        (K.shape keyword.now.keyword.now) run.old answer.old }
     requires no_faults { faults_in answer.old ≡ [] }
-    ensures kept { IfOk result (λ _. context.new.in_progress ≡ context.old.in_progress) }
-    ensures assumes { IfOk result (λ _. context.new.remembered.assumptions ≡ context.old.remembered.assumptions) }
-    ensures right { IfOk result (λ _. (x : Reading) → Reads K.is_whole (numbered K.shape engine.now.nodes.now) (length engine.now.nodes.now) (settling (M.matching engine.now.matcher.now) context.old.remembered.assumptions) (steps_to question.now.place.now) (subject_of question.now.instance) x
-        → left (numbered K.shape engine.now.nodes.now) (length engine.now.nodes.now) node.0 (subject_of question.now.instance) (busy_at (steps_to question.now.place.now) context.old.in_progress) ≤ x.depth
-        → (let answers = child_says K.words (numbered K.shape engine.now.nodes.now) x (path_of question.now.path.now) (steps_to question.now.place.now) (busy_at (steps_to question.now.place.now) context.old.in_progress) (map (option_map edge_of) children.now) in
-        IsRight (K.words x.texts) (K.shape keyword.now) (subject_of question.now.instance) (matching x.matcher x.completion) answers (λ q. unit_with (answers q)) (λ a b. false) (mode_of question.now.mode) (answer_of x.texts answer.new))) }
-    ensures passes { IfOk result (λ _. (root : Data) → subject_at root (steps_to question.now.place.now) ≡ Some (subject_of question.now.instance) → All (PassesBorrowed root) (faults_in answer.new)) }
-    ensures meets { IfOk result (λ _. FormMeets K.words K.is_whole (numbered K.shape engine.now.nodes.now) (length engine.now.nodes.now) (settling (M.matching engine.now.matcher.now) context.old.remembered.assumptions)
-        (mode_of question.now.mode) (path_of question.now.path.now) (steps_to question.now.place.now) (busy_at (steps_to question.now.place.now) context.old.in_progress) (subject_of question.now.instance) context.old.remembered context.new.remembered node.0 (string_bytes name.now) (node_keyword (K.shape keyword.now) (map (option_map edge_of) children.now))) }
+    ensures keeps { IfOk result (λ _. Keeps context.old context.new) }
+    ensures right { IfOk result (λ _. FindsRightly
+        (setting K.words K.is_whole K.shape M.matching engine.now) (asking question.now)
+        context.old node.0 (map (option_map edge_of) keyword.now.children.now) (K.shape keyword.now.keyword.now) answer.new) }
+    ensures passes { IfOk result (λ _. PassesItsOwn (asking question.now) answer.new) }
+    ensures meets { IfOk result (λ _. MeetsForm
+        (setting K.words K.is_whole K.shape M.matching engine.now) (asking question.now)
+        context.old context.new node.0 (string_bytes keyword.now.name.now) (form_at_work K.shape keyword.now)) }
 {
+    let children = keyword.children;
     let mut reply = Reply::Nothing;
     'turns: loop {
-        match keyword.turn(engine.alloc, run, question.instance, reply, answer)? {
+        match keyword
+            .keyword
+            .turn(engine.alloc, run, question.instance, reply, answer)?
+        {
             Step::Ask(child, below, wanted) => {
                 let asked = Question {
                     instance: question.instance,
@@ -342,13 +304,10 @@ fn run_turns<'i, K: Validate, M: Matcher>(
             Step::Done => return Ok(()),
             Step::Match(pattern, subject, point) => {
                 let matches = asked_match(
-                    engine.alloc,
-                    engine.matcher,
+                    engine,
                     engine.nodes.node(node),
-                    name,
-                    question.instance,
-                    question.place,
-                    question.path,
+                    keyword.name,
+                    question,
                     pattern,
                     subject,
                     point,
@@ -377,18 +336,17 @@ fn run_child<'i, K: Validate, M: Matcher>(
     question: &Question<'_, 'i>,
     context: &mut ValidationContext<'i>,
 ) -> Result<Reply<'i>, OutOfMemory>
-    requires known { node.0 < length engine.now.nodes.now }
+    requires may { MayRun (setting K.words K.is_whole K.shape M.matching engine.now) (asking question.now)
+        context.old node.0 }
     requires children { HasChildren (numbered K.shape engine.now.nodes.now) node.0 (map (option_map edge_of) children.now) }
     requires present { IsPresent (subject_of question.now.instance) (steps_below (below_of below)) }
-    requires ready { Ready K.words (numbered K.shape engine.now.nodes.now) (length engine.now.nodes.now) }
-    requires above { NoDeeper (steps_to question.now.place.now) context.old.in_progress }
-    requires wanted { ¬ (mode_of question.now.mode ≡ for_units) }
-    ensures kept { IfOk result (λ _. context.new.in_progress ≡ context.old.in_progress) }
-    ensures assumes { IfOk result (λ _. context.new.remembered.assumptions ≡ context.old.remembered.assumptions) }
-    ensures says { IfOk result (λ r. ChildReplies K.words K.is_whole (numbered K.shape engine.now.nodes.now) (length engine.now.nodes.now) (settling (M.matching engine.now.matcher.now) context.old.remembered.assumptions)
-        (mode_of question.now.mode) (path_of question.now.path.now) (steps_to question.now.place.now) (busy_at (steps_to question.now.place.now) context.old.in_progress) (subject_of question.now.instance) node.0 (map (option_map edge_of) children.now) (record { child = child; below = below_of below.entry }) r) }
-    ensures meets { IfOk result (λ _. ChildMeets K.words K.is_whole (numbered K.shape engine.now.nodes.now) (length engine.now.nodes.now) (settling (M.matching engine.now.matcher.now) context.old.remembered.assumptions)
-        (mode_of question.now.mode) (path_of question.now.path.now) (steps_to question.now.place.now) (busy_at (steps_to question.now.place.now) context.old.in_progress) (subject_of question.now.instance) context.old.remembered context.new.remembered node.0 (map (option_map edge_of) children.now) (record { child = child; below = below_of below.entry })) }
+    ensures keeps { IfOk result (λ _. Keeps context.old context.new) }
+    ensures says { IfOk result (λ r. ChildSays
+        (setting K.words K.is_whole K.shape M.matching engine.now) (asking question.now)
+        context.old node.0 (map (option_map edge_of) children.now) (record { child = child; below = below_of below.entry }) r) }
+    ensures meets { IfOk result (λ _. MeetsChild
+        (setting K.words K.is_whole K.shape M.matching engine.now) (asking question.now)
+        context.old context.new node.0 (map (option_map edge_of) children.now) (record { child = child; below = below_of below.entry })) }
 {
     match child_edge(children, child) {
         None => Ok(accepted(engine.alloc, question.mode)),
@@ -416,16 +374,15 @@ fn run_edge<'i, K: Validate, M: Matcher>(
     question: &Question<'_, 'i>,
     context: &mut ValidationContext<'i>,
 ) -> Result<Reply<'i>, OutOfMemory>
-    requires known { edge.now.node.0 < length engine.now.nodes.now }
-    requires ready { Ready K.words (numbered K.shape engine.now.nodes.now) (length engine.now.nodes.now) }
-    requires above { NoDeeper (steps_to question.now.place.now) context.old.in_progress }
-    requires wanted { ¬ (mode_of question.now.mode ≡ for_units) }
-    ensures kept { IfOk result (λ _. context.new.in_progress ≡ context.old.in_progress) }
-    ensures assumes { IfOk result (λ _. context.new.remembered.assumptions ≡ context.old.remembered.assumptions) }
-    ensures says { IfOk result (λ r. EdgeReplies K.words K.is_whole (numbered K.shape engine.now.nodes.now) (length engine.now.nodes.now) (settling (M.matching engine.now.matcher.now) context.old.remembered.assumptions)
-        (mode_of question.now.mode) (path_of question.now.path.now) (steps_to question.now.place.now) (busy_at (steps_to question.now.place.now) context.old.in_progress) (subject_of question.now.instance) (edge_of edge.now) r) }
-    ensures meets { IfOk result (λ _. EdgeMeets K.words K.is_whole (numbered K.shape engine.now.nodes.now) (length engine.now.nodes.now) (settling (M.matching engine.now.matcher.now) context.old.remembered.assumptions)
-        (mode_of question.now.mode) (path_of question.now.path.now) (steps_to question.now.place.now) (busy_at (steps_to question.now.place.now) context.old.in_progress) (subject_of question.now.instance) context.old.remembered context.new.remembered (edge_of edge.now)) }
+    requires may { MayRun (setting K.words K.is_whole K.shape M.matching engine.now) (asking question.now)
+        context.old edge.now.node.0 }
+    ensures keeps { IfOk result (λ _. Keeps context.old context.new) }
+    ensures says { IfOk result (λ r. EdgeSays
+        (setting K.words K.is_whole K.shape M.matching engine.now) (asking question.now)
+        context.old (edge_of edge.now) r) }
+    ensures meets { IfOk result (λ _. MeetsEdge
+        (setting K.words K.is_whole K.shape M.matching engine.now) (asking question.now)
+        context.old context.new (edge_of edge.now)) }
 {
     let whole = question.path.across(&edge.path);
     if !edge.guarded {
@@ -453,6 +410,15 @@ fn run_edge<'i, K: Validate, M: Matcher>(
     Ok(reply)
 }
 
+/// What a run begins with: what stands at a place, the path that led there, and what is wanted.
+#[derive(Clone, Copy)]
+pub struct FirstQuestion<'q, 'i> {
+    pub instance: Instance<'i>,
+    pub place: &'q Place<'i>,
+    pub path: &'q Location,
+    pub mode: Mode,
+}
+
 impl<K: Validate> Nodes<K> {
     /// Runs a node over what stands at a place, for its verdict, its first error or all errors, with the path that led to
     /// it. The reply is of the mode. A match that the matcher leaves unfinished comes out as the context assumes it to, or
@@ -463,49 +429,39 @@ impl<K: Validate> Nodes<K> {
         alloc: Global,
         matcher: &M,
         node: SchemaNode,
-        instance: Instance<'i>,
-        place: &Place<'i>,
-        path: &Location,
-        mode: Mode,
+        question: &FirstQuestion<'_, 'i>,
         context: &mut ValidationContext<'i>,
     ) -> Result<Reply<'i>, OutOfMemory>
         requires known { node.0 < length self.now }
-        requires above { NoDeeper place.now context.old.in_progress }
-        requires wanted { ¬ (mode_of mode ≡ for_units) }
+        requires above { NoDeeper question.now.place.now context.old.in_progress }
+        requires wanted { ¬ (mode_of question.now.mode ≡ for_units) }
         requires unmarked { (texts : Bool) → TakesNoMarks (K.words texts) }
         ensures kept { IfOk result (λ _. context.new.in_progress ≡ context.old.in_progress) }
         ensures assumes { IfOk result (λ _. context.new.remembered.assumptions ≡ context.old.remembered.assumptions) }
-        ensures replies { IfOk result (λ r. (root : Data) (texts : Bool) → subject_at root place.now ≡ Some (subject_of instance.entry)
-            → TellsAll texts root K.is_whole (numbered K.shape self.now) (length self.now)
-            → Extends (completion_of context.old.remembered.assumptions) context.old.remembered.assumptions → (n : ℕ)
-            → left (numbered K.shape self.now) (length self.now) node.0 (subject_of instance.entry) (busy_at place.now context.old.in_progress) < n
-            → reply_of texts r ≡ reply_in (mode_of mode)
-            (guarded_within no_run (guarded_node (K.words texts) (M.matching matcher.now) (numbered K.shape self.now) (subject_in root) context.old.remembered.assumptions) n node.0 path.now place.now (busy_at place.now context.old.in_progress))) }
-        ensures meets { IfOk result (λ _. (root : Data) (texts : Bool) → subject_at root place.now ≡ Some (subject_of instance.entry)
-            → TellsAll texts root K.is_whole (numbered K.shape self.now) (length self.now)
-            → Extends (completion_of context.old.remembered.assumptions) context.old.remembered.assumptions → (n : ℕ)
-            → left (numbered K.shape self.now) (length self.now) node.0 (subject_of instance.entry) (busy_at place.now context.old.in_progress) < n
-            → MeetsEach (M.matching matcher.now) context.old.remembered
-            ((guarded_within no_run (guarded_node (K.words texts) (M.matching matcher.now) (numbered K.shape self.now) (subject_in root) context.old.remembered.assumptions) n node.0 path.now place.now (busy_at place.now context.old.in_progress)).met (mode_of mode))
-            context.new.remembered) }
-        ensures speaks { IfOk result (λ r. (root : Data) → subject_at root place.now ≡ Some (subject_of instance.entry) → (o : Outcome) × (reply_of false r ≡ reply_by (mode_of mode) o)) }
-        ensures borrows { IfOk result (λ r. (root : Data) → subject_at root place.now ≡ Some (subject_of instance.entry) → All (BorrowsItsPlace root) (errors_in r)) }
+        ensures replies { IfOk result (λ r. RunReplies
+            (setting_over K.words K.is_whole K.shape self.now (M.matching matcher.now)) (asking_first question.now)
+            context.old node.0 r) }
+        ensures meets { IfOk result (λ _. RunMeets
+            (setting_over K.words K.is_whole K.shape self.now (M.matching matcher.now)) (asking_first question.now)
+            context.old context.new node.0) }
+        ensures speaks { IfOk result (λ r. RunSpeaks (asking_first question.now) r) }
+        ensures borrows { IfOk result (λ r. RunBorrows (asking_first question.now) r) }
     {
         // (the use says that the table is ranked)
         let _ = &self.nodes;
-        let place = EvaluationPlace::given(place);
-        let path = EvaluationPath::given(path);
+        let place = EvaluationPlace::given(question.place);
+        let path = EvaluationPath::given(question.path);
         let engine = Engine {
             nodes: self,
             alloc,
             matcher,
         };
-        let question = Question {
-            instance,
+        let asked = Question {
+            instance: question.instance,
             place: &place,
             path: &path,
-            mode,
+            mode: question.mode,
         };
-        run_node(&engine, node, &question, context)
+        run_node(&engine, node, &asked, context)
     }
 }

@@ -6,15 +6,14 @@ ghost use Rattle.schema_reports.specs.Laws.{IsPresent};
 ghost use Rattle.schema_reports.specs.Pointer.{joined};
 ghost use Rattle.schema_reports.specs.Runs.{site_at};
 ghost use Rattle.schema_node.specs.KeywordViews.{point_of};
-ghost use Rattle.schema_node.specs.EvaluationPaths.{path_of};
 ghost use Rattle.schema_node.specs.EvaluationPlaces.{steps_to};
-ghost use Rattle.schema_node.specs.NodeRuns.{entry_where};
+ghost use Rattle.schema_node.specs.RunStates.{asking, where_asked};
 ghost use Rattle.schema_node.specs.NodeViews.{node_of};
 
 use crate::context::keyword::MatchPoint;
 use crate::node::Node;
-use crate::node::evaluation_path::EvaluationPath;
 use crate::node::evaluation_place::EvaluationPlace;
+use crate::node::question::Question;
 use schema_reports::instance::{Instance, InstanceStep, Place};
 use schema_reports::location::{Location, LocationSegment, OutOfMemory};
 use schema_reports::unfinished_matches::MatchSite;
@@ -76,13 +75,13 @@ pub fn match_site<'i, K>(
     alloc: Global,
     node: &Node<K>,
     name: &String,
-    instance: Instance<'i>,
-    place: &EvaluationPlace<'_, 'i>,
-    path: &EvaluationPath<'_>,
+    question: &Question<'_, 'i>,
     point: MatchPoint<'_>,
 ) -> Result<MatchSite<'i>, OutOfMemory>
-    requires present { IsPresent (subject_of instance) (map step_of point.spot.below.now) }
-    ensures site { IfOk result (λ s. s ≡ site_at (entry_where (node_of node.now) (path_of path.now) (steps_to place.now)) (string_bytes name.now) (point_of point.entry)) }
+    requires present { IsPresent (subject_of question.now.instance) (map step_of point.spot.below.now) }
+    ensures site { IfOk result (λ s. s
+        ≡ site_at (where_asked (node_of node.now) (asking question.now))
+        (string_bytes name.now) (point_of point.entry)) }
 {
     let name = match point.spot.absorbed {
         Some(absorbed) => absorbed,
@@ -90,8 +89,8 @@ pub fn match_site<'i, K>(
     };
     let schema_path = path_from(alloc, &node.location, name, point.spot.path)?;
     let site = if point.located {
-        let evaluation_path = path_from(alloc, &path.made(alloc)?, name, point.spot.path)?;
-        let place = place_within(instance, place, point.spot.below)?;
+        let evaluation_path = path_from(alloc, &question.path.made(alloc)?, name, point.spot.path)?;
+        let place = place_within(question.instance, question.place, point.spot.below)?;
         MatchSite::located(schema_path, evaluation_path, place)
     } else {
         MatchSite::schema(schema_path)

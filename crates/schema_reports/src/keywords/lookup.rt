@@ -33,7 +33,8 @@ pub fn get_for_draft(draft: Draft, vocabularies: &VocabularySet, name: &str) -> 
 /// What the table gives a member of this name: the keyword's entry, its priority and whether it is a leaf, where
 /// [`get_for_draft`] has an entry. It takes no memory.
 pub fn builtin_row(draft: Draft, vocabularies: &VocabularySet, name: &str) -> Option<BuiltinRow>
-    ensures row { option_map (λ r. record { name = name.now; priority = r.priority; is_leaf = r.is_leaf }) result ≡ builtin_in (draft_of draft) vocabularies.now name.now }
+    ensures row { option_map (λ r. record { name = name.now; priority = r.priority; is_leaf = r.is_leaf }) result
+        ≡ builtin_in (draft_of draft) vocabularies.now name.now }
     ensures entry { option_map (λ r. entry_seen r.entry) result ≡ entry_of (draft_of draft) vocabularies.now name.now }
 {
     let entry = get_for_draft(draft, vocabularies, name)?;

@@ -44,7 +44,10 @@ impl Model for VocabularySet {
 
     ghost Value = { List Vocabulary };
 
-    ghost view = { λ s. listed (s.core ∷ s.applicator ∷ s.unevaluated ∷ s.validation ∷ s.metadata ∷ s.format ∷ s.format_annotation ∷ s.format_assertion ∷ s.content ∷ []) (map string_bytes s.custom.items) };
+    ghost view = { λ s. listed
+        (s.core ∷ s.applicator ∷ s.unevaluated ∷ s.validation ∷ s.metadata
+        ∷ s.format ∷ s.format_annotation ∷ s.format_assertion ∷ s.content ∷ [])
+        (map string_bytes s.custom.items) };
 }
 
 impl VocabularySet {

@@ -180,7 +180,8 @@ fn note<'i>(
     subject: &str,
     site: &MatchSite<'i>,
 ) -> Result<(), OutOfMemory>
-    ensures ok { OnOk result (sites.new.items ≡ noted sites.old.items (record { pair = record { pattern = pattern.now; subject = subject.now }; site = site.now })) }
+    ensures ok { OnOk result (sites.new.items ≡ noted sites.old.items
+        (record { pair = record { pattern = pattern.now; subject = subject.now }; site = site.now })) }
     ensures err { OnErr result (sites.new.items ≡ sites.old.items) }
 {
     if !site.has_place() {
@@ -241,8 +242,12 @@ impl<'i> MatchAssumptions<'i> {
         reason: Reason,
         site: MatchSite<'i>,
     ) -> Result<bool, OutOfMemory>
-        ensures answer { IfOk result (λ b. b ≡ or_no (assumed self.old.assumptions (record { pattern = pattern.now; subject = subject.now }))) }
-        ensures ok { OnOk result (self.new ≡ meet self.old (record { met = record { pair = record { pattern = pattern.now; subject = subject.now }; site = site.entry }; reason = reason_of reason })) }
+        ensures answer { IfOk result (λ b. b ≡ or_no
+            (assumed self.old.assumptions (record { pattern = pattern.now; subject = subject.now }))) }
+        ensures ok { OnOk result (self.new ≡ meet self.old (record {
+          met = record { pair = record { pattern = pattern.now; subject = subject.now }; site = site.entry };
+          reason = reason_of reason;
+        })) }
         ensures err { OnErr result (self.new ≡ self.old) }
     {
         let failure = MatchFailure::met(self.alloc, pattern, subject, reason, site)?;
@@ -273,8 +278,10 @@ impl<'i> MatchAssumptions<'i> {
         site: MatchSite<'i>,
     ) -> Result<bool, OutOfMemory>
         requires known { IsTrue (is_known self.old (record { pattern = pattern.now; subject = subject.now })) }
-        ensures answer { IfOk result (λ b. b ≡ or_no (assumed self.old.assumptions (record { pattern = pattern.now; subject = subject.now }))) }
-        ensures ok { OnOk result (self.new ≡ meet_known self.old (record { pair = record { pattern = pattern.now; subject = subject.now }; site = site.entry })) }
+        ensures answer { IfOk result (λ b. b ≡ or_no
+            (assumed self.old.assumptions (record { pattern = pattern.now; subject = subject.now }))) }
+        ensures ok { OnOk result (self.new ≡ meet_known self.old
+            (record { pair = record { pattern = pattern.now; subject = subject.now }; site = site.entry })) }
         ensures err { OnErr result (self.new ≡ self.old) }
     {
         let noted = note(self.alloc, &mut self.located, pattern, subject, &site);

@@ -32,7 +32,8 @@ fn push_one(
     unfinished: &UnfinishedMatch,
     matches: bool,
 ) -> Result<(), OutOfMemory>
-    ensures { IfOk result (λ _. pending.new.items ≡ pending.old.items ++ (record { pair = unfinished.now; outcome = matches } ∷ assumed.now) ∷ []) }
+    ensures { IfOk result (λ _. pending.new.items
+        ≡ pending.old.items ++ (record { pair = unfinished.now; outcome = matches } ∷ assumed.now) ∷ []) }
 {
     let unfinished = unfinished.copy()?;
     pending.push(assumed.copy(alloc)?.with(unfinished, matches)?)?;
@@ -46,7 +47,9 @@ fn push_both(
     assumed: &AssumedOutcomes,
     unfinished: &UnfinishedMatch,
 ) -> Result<(), OutOfMemory>
-    ensures { IfOk result (λ _. pending.new.items ≡ pending.old.items ++ (record { pair = unfinished.now; outcome = true } ∷ assumed.now) ∷ [] ++ (record { pair = unfinished.now; outcome = false } ∷ assumed.now) ∷ []) }
+    ensures { IfOk result (λ _. pending.new.items
+        ≡ pending.old.items ++ (record { pair = unfinished.now; outcome = true } ∷ assumed.now) ∷ []
+        ++ (record { pair = unfinished.now; outcome = false } ∷ assumed.now) ∷ []) }
 {
     push_one(alloc, pending, assumed, unfinished, true)?;
     push_one(alloc, pending, assumed, unfinished, false)
@@ -58,7 +61,8 @@ fn begin<'i>(
     first: MatchAssumptions<'i>,
 ) -> Result<(Vec<AssumedOutcomes>, MatchFailure<'i>), OutOfMemory>
     requires met { IsSome first.unassumed }
-    ensures pending { (u : Failure) → first.entry.unassumed ≡ Some u → IfOk result (λ r. r.0.items ≡ assuming u.met true first.entry.assumptions ∷ assuming u.met false first.entry.assumptions ∷ []) }
+    ensures pending { (u : Failure) → first.entry.unassumed ≡ Some u → IfOk result (λ r. r.0.items
+        ≡ assuming u.met true first.entry.assumptions ∷ assuming u.met false first.entry.assumptions ∷ []) }
     ensures failure { (u : Failure) → first.entry.unassumed ≡ Some u → IfOk result (λ r. r.1 ≡ located_by u first.entry.located) }
 {
     let (assumed, unassumed, located) = first.into_parts();
@@ -119,8 +123,12 @@ fn take<'i, T: Drop>(
     failure: &mut MatchFailure<'i>,
 ) -> Result<(), OutOfMemory>
     ensures located { failure.new ≡ located_by failure.old given.entry.0.located }
-    ensures whole { given.entry.0.unassumed ≡ None → IfOk result (λ _. (pending.new.items ≡ pending.old.items) × (results.new.items ≡ results.old.items ++ given.entry.1 ∷ [])) }
-    ensures branches { (u : Failure) → given.entry.0.unassumed ≡ Some u → IfOk result (λ _. (pending.new.items ≡ pending.old.items ++ assuming u.met true outcomes.now ∷ [] ++ assuming u.met false outcomes.now ∷ []) × (results.new.items ≡ results.old.items)) }
+    ensures whole { given.entry.0.unassumed ≡ None → IfOk result
+        (λ _. (pending.new.items ≡ pending.old.items) × (results.new.items ≡ results.old.items ++ given.entry.1 ∷ [])) }
+    ensures branches { (u : Failure) → given.entry.0.unassumed ≡ Some u → IfOk result
+        (λ _. (pending.new.items
+        ≡ pending.old.items ++ assuming u.met true outcomes.now ∷ [] ++ assuming u.met false outcomes.now ∷ [])
+        × (results.new.items ≡ results.old.items)) }
 {
     let (met, result) = given;
     match take_met(met, failure) {
@@ -151,7 +159,8 @@ fn assume_within<
     requires callable { F.IsAlwaysCallable run.old }
     requires met { IsSome first.unassumed }
     requires limit { 1 ≤ run_limit }
-    ensures outcomes { IfOk result (AreOutcomes (λ s x m t end. F.step s x (Ok (m, t)) end) first.entry run.old run_limit) }
+    ensures outcomes { IfOk result
+        (AreOutcomes (λ s x m t end. F.step s x (Ok (m, t)) end) first.entry run.old run_limit) }
 {
     let (mut pending, mut failure) = begin(alloc, first)?;
     let mut results = Vec::new(alloc);
@@ -162,7 +171,13 @@ fn assume_within<
             return Ok(Outcomes::Undecided(failure));
         }
         runs += 1;
-        let given = run_from(alloc, run, &outcomes)?;
+        let given = match run_from(alloc, run, &outcomes) {
+            Ok(given) => given,
+            Err(error) => {
+                drop((outcomes, pending, results, failure));
+                return Err(error);
+            }
+        };
         let taken = take(
             alloc,
             &outcomes,
@@ -172,7 +187,10 @@ fn assume_within<
             &mut failure,
         );
         drop(outcomes);
-        taken?;
+        if let Err(error) = taken {
+            drop((pending, results, failure));
+            return Err(error);
+        }
     }
     drop(pending);
     Ok(Outcomes::Assumed { results, failure })
@@ -190,7 +208,8 @@ pub fn assume_each_outcome<
 ) -> Result<Outcomes<'i, T>, OutOfMemory>
     requires callable { F.IsAlwaysCallable run }
     requires met { IsSome first.0.unassumed }
-    ensures outcomes { IfOk result (AreOutcomes (λ s x m t end. F.step s x (Ok (m, t)) end) first.entry.0 run MAX_ASSUMED_RUNS) }
+    ensures outcomes { IfOk result
+        (AreOutcomes (λ s x m t end. F.step s x (Ok (m, t)) end) first.entry.0 run MAX_ASSUMED_RUNS) }
 {
     let (first, result) = first;
     drop(result);

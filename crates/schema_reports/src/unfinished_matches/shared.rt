@@ -2,10 +2,12 @@
 ghost use Rattle.std.specs.Prelude.{◌≡◌, ◌++◌, ◌∷◌, [], IfOk, filter, map, option_map};
 ghost use Rattle.std.specs.List.{list_all};
 ghost use Rattle.schema_reports.specs.Outcomes.{AreErrors, is_yes};
-ghost use Rattle.schema_reports.specs.SharedResults.{IsSharedBy, has_key, in_each_of, is_empty, or_none, same_key};
+ghost use Rattle.schema_reports.specs.SharedResults.{AreShared, IsSharedBy, OneError};
+ghost use Rattle.schema_reports.specs.SharedResults.{has_key, in_each_of, is_empty, or_none, same_key};
 ghost use Rattle.serde_json.specs.View.{view};
 
 use super::search::Outcomes;
+use super::site::MatchFailure;
 use crate::location::OutOfMemory;
 use crate::reports::ValidationError;
 use serde_json::Value;
@@ -28,8 +30,14 @@ pub fn validity(outcomes: Outcomes<'_, bool>) -> bool
     ensures yes { result ≡ is_yes outcomes.entry }
 {
     match outcomes {
-        Outcomes::Assumed { results, .. } => all_valid(&results),
-        Outcomes::Undecided(_) => false,
+        Outcomes::Assumed { results, failure } => {
+            drop(failure);
+            all_valid(&results)
+        }
+        Outcomes::Undecided(failure) => {
+            drop(failure);
+            false
+        }
     }
 }
 
@@ -43,8 +51,10 @@ fn is_same_key(
 {
     let one_path = one.instance_path(alloc)?;
     let other_path = other.instance_path(alloc)?;
+    let is_same_place = one_path.as_str() == other_path.as_str();
+    drop((one_path, other_path));
     Ok(
-        one_path.as_str() == other_path.as_str()
+        is_same_place
             && one.schema_path.as_str() == other.schema_path.as_str()
             && one.evaluation_path.as_str() == other.evaluation_path.as_str()
             && one.text.as_str() == other.text.as_str(),
@@ -95,6 +105,24 @@ fn are_empty(results: &[Vec<ValidationError<'_>>]) -> bool
     true
 }
 
+// Pushes the error, where each of the results has its key.
+fn keep_shared<'i>(
+    alloc: Global,
+    kept: &mut Vec<ValidationError<'i>>,
+    error: ValidationError<'i>,
+    results: &[Vec<ValidationError<'i>>],
+) -> Result<(), OutOfMemory>
+    ensures kept { IfOk result (λ _. kept.new.items ≡ kept.old.items
+        ++ filter (in_each_of (map (λ r. r.items) results.now)) (error.entry ∷ [])) }
+{
+    if is_in_each(alloc, results, &error)? {
+        kept.push(error)?;
+    } else {
+        drop(error);
+    }
+    Ok(())
+}
+
 // Those of the errors whose key each of the results has, in their order.
 fn kept<'i>(
     alloc: Global,
@@ -107,9 +135,7 @@ fn kept<'i>(
     let mut left = errors;
     left.reverse();
     while let Some(error) = left.pop() {
-        if is_in_each(alloc, results, &error)? {
-            kept.push(error)?;
-        }
+        keep_shared(alloc, &mut kept, error, results)?;
     }
     Ok(kept)
 }
@@ -148,6 +174,43 @@ fn shared_errors<'i>(
     Ok(or_none(shared, empty))
 }
 
+// The failure as the only error.
+fn failure_alone<'i>(
+    alloc: Global,
+    failure: MatchFailure<'i>,
+    root: &'i Value,
+) -> Result<Vec<ValidationError<'i>>, OutOfMemory>
+    ensures alone { IfOk result (λ es. OneError (view root.now) failure.entry es.items) }
+{
+    let error = failure.into_error(alloc, root)?;
+    let mut alone = Vec::new(alloc);
+    alone.push(error)?;
+    Ok(alone)
+}
+
+// The errors that all results share, or the failure alone where they share none and some result has one.
+fn shared_or_failure<'i>(
+    alloc: Global,
+    results: Vec<Vec<ValidationError<'i>>>,
+    failure: MatchFailure<'i>,
+    root: &'i Value,
+) -> Result<Vec<ValidationError<'i>>, OutOfMemory>
+    ensures shared { IfOk result
+        (λ es. AreShared (view root.now) failure.entry (map (λ r. r.items) results.entry.items) es.items) }
+{
+    match shared_errors(alloc, results) {
+        Ok(Some(shared)) => {
+            drop(failure);
+            Ok(shared)
+        }
+        Ok(None) => failure_alone(alloc, failure, root),
+        Err(error) => {
+            drop(failure);
+            Err(error)
+        }
+    }
+}
+
 /// The errors that every result has, in the order of the last one; where there is none although some result has an error, or
 /// where there were too many combinations, the failure alone.
 pub fn errors<'i>(
@@ -157,14 +220,8 @@ pub fn errors<'i>(
 ) -> Result<Vec<ValidationError<'i>>, OutOfMemory>
     ensures shared { IfOk result (λ es. AreErrors (view root.now) outcomes.entry es.items) }
 {
-    let failure = match outcomes {
-        Outcomes::Undecided(failure) => failure,
-        Outcomes::Assumed { results, failure } => match shared_errors(alloc, results)? {
-            Some(shared) => return Ok(shared),
-            None => failure,
-        },
-    };
-    let mut alone = Vec::new(alloc);
-    alone.push(failure.into_error(alloc, root)?)?;
-    Ok(alone)
+    match outcomes {
+        Outcomes::Undecided(failure) => failure_alone(alloc, failure, root),
+        Outcomes::Assumed { results, failure } => shared_or_failure(alloc, results, failure, root),
+    }
 }

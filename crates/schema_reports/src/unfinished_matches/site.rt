@@ -1,11 +1,12 @@
 //! Unfinished matches, and where they are met.
-ghost use Rattle.std.specs.Prelude.{[], IfOk, MatchOption, None, Some, is_some, length, slice_index_or, string_bytes, true, unwrap_or, ◌<◌, ◌≡◌};
+ghost use Rattle.std.specs.Prelude.{[], IfOk, MatchOption, None, Some, is_some, length, slice_index_or, string_bytes, true};
+ghost use Rattle.std.specs.Prelude.{unwrap_or, ◌<◌, ◌≡◌};
 ghost use Rattle.schema_reports.specs.Headline.{reason_text};
 ghost use Rattle.schema_reports.specs.Instance.{a_value, subject_at};
 ghost use Rattle.schema_reports.specs.InstanceViews.{subject_of};
 ghost use Rattle.schema_reports.specs.Matching.{same_pair, unfinished};
 ghost use Rattle.schema_reports.specs.ReportViews.{error_of};
-ghost use Rattle.schema_reports.specs.Searched.{failure_error};
+ghost use Rattle.schema_reports.specs.Searched.{failure_error, site_error};
 ghost use Rattle.serde_json.specs.View.{view};
 ghost use Rattle.schema_reports.specs.MatchViews.{reason_of};
 ghost use Rattle.schema_reports.specs.Runs.{Met, Site};
@@ -270,7 +271,10 @@ impl<'i> MatchFailure<'i> {
         reason: Reason,
         site: MatchSite<'i>,
     ) -> Result<MatchFailure<'i>, OutOfMemory>
-        ensures failure { IfOk result (λ f. f ≡ record { met = record { pair = record { pattern = pattern.now; subject = subject.now }; site = site.entry }; reason = reason_of reason }) }
+        ensures failure { IfOk result (λ f. f ≡ record {
+          met = record { pair = record { pattern = pattern.now; subject = subject.now }; site = site.entry };
+          reason = reason_of reason;
+        }) }
     {
         let unfinished = UnfinishedMatch::new(alloc, pattern, subject)?;
         Ok(MatchFailure {
@@ -350,6 +354,54 @@ fn at_or_root<'i>(root: &'i Value, place: &Place<'i>) -> Instance<'i>
     }
 }
 
+// The text of a failure: it shows the pattern as the schema has it, where the site has that.
+fn failure_text(
+    alloc: Global,
+    reason: Reason,
+    met: &UnfinishedMatch,
+    site: &MatchSite<'_>,
+) -> Result<String, OutOfMemory>
+    ensures text { IfOk result (λ t. string_bytes t
+        ≡ reason_text (unwrap_or site.now.pattern met.now.pattern) (unfinished (reason_of reason))) }
+{
+    let shown = match &site.pattern {
+        Some(pattern) => pattern.as_str(),
+        None => met.pattern(),
+    };
+    reason_text(alloc, reason, shown)
+}
+
+// The error with this text at this site; its instance is what stands at its place.
+fn error_at<'i>(
+    alloc: Global,
+    root: &'i Value,
+    site: MatchSite<'i>,
+    text: String,
+) -> Result<ValidationError<'i>, OutOfMemory>
+    ensures error { IfOk result (λ e. error_of true e ≡ site_error site.entry (string_bytes text)) }
+    ensures instance { IfOk result (λ e. subject_of e.instance
+        ≡ unwrap_or (subject_at (view root.now) e.place) (a_value (view root.now))) }
+{
+    let keyword = String::from_str(alloc, "pattern")?;
+    let MatchSite {
+        schema_path,
+        located,
+        pattern,
+    } = site;
+    drop(pattern);
+    let (evaluation_path, place) = place_or_root(alloc, located, &schema_path)?;
+    let instance = at_or_root(root, &place);
+    Ok(ValidationError {
+        instance,
+        place,
+        schema_path,
+        evaluation_path,
+        absolute_keyword_location: None,
+        keyword,
+        text,
+    })
+}
+
 impl<'i> MatchFailure<'i> {
     /// The failure as an error, whose instance is what stands at its place.
     pub(super) fn into_error(
@@ -358,37 +410,33 @@ impl<'i> MatchFailure<'i> {
         root: &'i Value,
     ) -> Result<ValidationError<'i>, OutOfMemory>
         ensures error { IfOk result (λ e. error_of true e ≡ failure_error self.entry) }
-        ensures instance { IfOk result (λ e. subject_of e.instance ≡ unwrap_or (subject_at (view root.now) e.place) (a_value (view root.now))) }
+        ensures instance { IfOk result (λ e. subject_of e.instance
+            ≡ unwrap_or (subject_at (view root.now) e.place) (a_value (view root.now))) }
     {
         let MatchFailure {
             unfinished,
             reason,
             site,
         } = self;
-        let shown = match &site.pattern {
-            Some(pattern) => pattern.as_str(),
-            None => unfinished.pattern(),
-        };
-        let text = reason_text(alloc, reason, shown)?;
-        let (evaluation_path, place) = place_or_root(alloc, site.located, &site.schema_path)?;
-        let instance = at_or_root(root, &place);
-        let keyword = String::from_str(alloc, "pattern")?;
-        Ok(ValidationError {
-            instance,
-            place,
-            schema_path: site.schema_path,
-            evaluation_path,
-            absolute_keyword_location: None,
-            keyword,
-            text,
-        })
+        let text = failure_text(alloc, reason, &unfinished, &site);
+        drop(unfinished);
+        match text {
+            Ok(text) => error_at(alloc, root, site, text),
+            Err(error) => {
+                drop(site);
+                Err(error)
+            }
+        }
     }
 }
 
 /// The position of the first of these sites that is of this match.
 pub(super) fn place_of(sites: &[LocatedMatch<'_>], pattern: &str, subject: &str) -> Option<usize>
     ensures variant { is_some result ≡ is_some (site_of sites.now (record { pattern = pattern.now; subject = subject.now })) }
-    ensures place { MatchOption result (site_of sites.now (record { pattern = pattern.now; subject = subject.now }) ≡ None) (λ i. (i < length sites.now) × ((d : Met) → site_of sites.now (record { pattern = pattern.now; subject = subject.now }) ≡ Some (slice_index_or sites.now i d).site)) }
+    ensures place { MatchOption result
+        (site_of sites.now (record { pattern = pattern.now; subject = subject.now }) ≡ None)
+        (λ i. (i < length sites.now) × ((d : Met)
+        → site_of sites.now (record { pattern = pattern.now; subject = subject.now }) ≡ Some (slice_index_or sites.now i d).site)) }
 {
     for (i, one) in sites.iter().enumerate() {
         if one.unfinished.is(pattern, subject) {

@@ -26,8 +26,12 @@ pub fn validity_under_each<
 >(alloc: Global, run: F, first: (MatchAssumptions<'i>, bool)) -> Result<bool, OutOfMemory>
     requires callable { F.IsAlwaysCallable run }
     requires met { IsSome first.0.unassumed }
-    ensures says { (v : Sense) (call : Call) → Follows v → IsRunOf v call (λ s x m t end. F.step s x (Ok (m, t)) end) first.entry.0 run (λ (b : Bool). b) (verdict_of v) → IfOk result (λ b. VerdictSays v call b) }
-    ensures exactly { (v : Sense) (call : Call) → Follows v → IsRunOf v call (λ s x m t end. F.step s x (Ok (m, t)) end) first.entry.0 run (λ (b : Bool). b) (verdict_of v) → IfOk result (λ b. (b ≡ true) ↔ (Decides v call × EachAccepts v)) }
+    ensures says { (v : Sense) (call : Call) → Follows v
+        → IsRunOf v call (λ s x m t end. F.step s x (Ok (m, t)) end) first.entry.0 run (λ (b : Bool). b) (verdict_of v)
+        → IfOk result (λ b. VerdictSays v call b) }
+    ensures exactly { (v : Sense) (call : Call) → Follows v
+        → IsRunOf v call (λ s x m t end. F.step s x (Ok (m, t)) end) first.entry.0 run (λ (b : Bool). b) (verdict_of v)
+        → IfOk result (λ b. (b ≡ true) ↔ (Decides v call × EachAccepts v)) }
 {
     Ok(validity(assume_each_outcome(alloc, run, first)?))
 }
@@ -47,10 +51,18 @@ pub fn errors_under_each<
 ) -> Result<Vec<ValidationError<'i>>, OutOfMemory>
     requires callable { F.IsAlwaysCallable run }
     requires met { IsSome first.0.unassumed }
-    ensures errors { (v : Sense) → Follows v → IsRunOf v iter_errors (λ s x m t end. F.step s x (Ok (m, t)) end) first.entry.0 run errors_in (errors_of v) → IfOk result (λ es. ErrorsSay v (errors_in es)) }
-    ensures first { (v : Sense) → Follows v → IsRunOf v validate (λ s x m t end. F.step s x (Ok (m, t)) end) first.entry.0 run errors_in (errors_of v) → IfOk result (λ es. FirstSays v (first_error (errors_in es))) }
-    ensures verdict { (v : Sense) (call : Call) → Follows v → IsRunOf v call (λ s x m t end. F.step s x (Ok (m, t)) end) first.entry.0 run none_in (λ m. is_nil (errors_of v m)) → IfOk result (λ es. VerdictSays v call (none_in es)) }
-    ensures gives { (v : Sense) (call : Call) → IsRunOf v call (λ s x m t end. F.step s x (Ok (m, t)) end) first.entry.0 run none_in (λ m. is_nil (errors_of v m)) → IfOk result (λ es. GivesErrors v call (λ s x m t end. F.step s x (Ok (m, t)) end) run (view root.now) es.items) }
+    ensures errors { (v : Sense) → Follows v
+        → IsRunOf v iter_errors (λ s x m t end. F.step s x (Ok (m, t)) end) first.entry.0 run errors_in (errors_of v)
+        → IfOk result (λ es. ErrorsSay v (errors_in es)) }
+    ensures first { (v : Sense) → Follows v
+        → IsRunOf v validate (λ s x m t end. F.step s x (Ok (m, t)) end) first.entry.0 run errors_in (errors_of v)
+        → IfOk result (λ es. FirstSays v (first_error (errors_in es))) }
+    ensures verdict { (v : Sense) (call : Call) → Follows v
+        → IsRunOf v call (λ s x m t end. F.step s x (Ok (m, t)) end) first.entry.0 run none_in (λ m. is_nil (errors_of v m))
+        → IfOk result (λ es. VerdictSays v call (none_in es)) }
+    ensures gives { (v : Sense) (call : Call)
+        → IsRunOf v call (λ s x m t end. F.step s x (Ok (m, t)) end) first.entry.0 run none_in (λ m. is_nil (errors_of v m))
+        → IfOk result (λ es. GivesErrors v call (λ s x m t end. F.step s x (Ok (m, t)) end) run (view root.now) es.items) }
 {
     let outcomes = assume_each_outcome(alloc, run, first)?;
     Ok(errors(alloc, outcomes, root)?)

@@ -13,10 +13,10 @@ use Rattle.schema_node.proofs.node.faults.errors_by.Goals as goal
 
 pub loop-fault-preserved : goal.loop-fault-preserved
 loop-fault-preserved g c = record {
-  so_far = λ texts. made_more (error_of texts) (fault_error (entry_where (node_of c.args.node.now) (path_of c.args.path.now) (steps_to c.args.place.now)) (string_bytes c.args.name.now)) (fault_of texts)
+  so_far = λ texts. made_more (error_of texts) (fault_error (entry_where (node_of c.args.node.now) (path_of c.args.question.now.path.now) (steps_to c.args.question.now.place.now)) (string_bytes c.args.name.now)) (fault_of texts)
       c.loop-fault.errors.items _ c.in_ok-error_by.field-0 c.in-Some.fault _ _ _ c.in_ok-push.ensures.items c.in-Some.ensures.steps.0 (c.in_ok-error_by.ensures.error texts) (c.loop-fault.invariant.so_far texts);
   borrows = λ root at_place each.
-      let s = subject_of c.args.instance in
+      let s = subject_of c.args.question.now.instance in
       let i = c.loop-fault.invariant.borrows root at_place each in
       let left = subst (All (LiesInside root s)) c.in-Some.ensures.steps.0 i.1 in
       let this = c.in_ok-error_by.ensures.borrows root at_place (all_first (LiesInside root s) _ _ left) in

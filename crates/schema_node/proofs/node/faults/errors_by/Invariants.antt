@@ -15,8 +15,8 @@ use Rattle.schema_node.proofs.node.faults.errors_by.Given as goal
 
 abbrev pub invariant-loop-fault : goal.invariant-loop-fault
 invariant-loop-fault g l =
-    let f = fault_error (entry_where (node_of l.node) (path_of l.path) (steps_to l.place)) (string_bytes l.name) in
+    let f = fault_error (entry_where (node_of l.node) (path_of l.question.path.now) (steps_to l.question.place.now)) (string_bytes l.name) in
     record {
       so_far : (texts : Bool) → map (error_of texts) l.errors.items ++ map f (map (fault_of texts) (into_iter_items l.fault-iterator)) ≡ map f (map (fault_of texts) l.fn.faults.items);
-      borrows : (root : Data) → subject_at root (steps_to l.place) ≡ Some (subject_of l.instance) → All (LiesInside root (subject_of l.instance)) l.fn.faults.items → All (BorrowsItsPlace root) l.errors.items × All (LiesInside root (subject_of l.instance)) (into_iter_items l.fault-iterator);
+      borrows : (root : Data) → subject_at root (steps_to l.question.place.now) ≡ Some (subject_of l.question.instance) → All (LiesInside root (subject_of l.question.instance)) l.fn.faults.items → All (BorrowsItsPlace root) l.errors.items × All (LiesInside root (subject_of l.question.instance)) (into_iter_items l.fault-iterator);
     }

@@ -63,8 +63,8 @@ run_child-run_edge-requires g t c =
     let ns = numbered g.K.Validate.shape c.args.engine.now.nodes.now in
     let e = edge_of c.in-Some.edge.now in
     let k = c.requires.children c.args.child e (sym c.in-Some.ensures.edge) in
-    let l = falls_here g.K.Validate.words g.K.Validate.is_whole ns (length c.args.engine.now.nodes.now) (settling (g.M.Matcher.matching c.args.engine.now.matcher.now) c.args.context.now.remembered.assumptions) c.requires.ready.ranked c.args.node.0 (subject_of c.args.question.now.instance) (busy_at (steps_to c.args.question.now.place.now) c.args.context.now.in_progress) e c.requires.known k in
-    λ κs h. (lower_edge _ _ _ t 0 refl l c.decreases, (h.0, (h.1.0, (h.1.1.0, (h.1.1.1, ((c.requires.ready.ranked c.args.node.0 c.requires.known e k).0, (c.requires.ready, (c.requires.above, c.requires.wanted))))))))
+    let l = falls_here g.K.Validate.words g.K.Validate.is_whole ns (length c.args.engine.now.nodes.now) (settling (g.M.Matcher.matching c.args.engine.now.matcher.now) c.args.context.now.remembered.assumptions) c.requires.may.ready.ranked c.args.node.0 (subject_of c.args.question.now.instance) (busy_at (steps_to c.args.question.now.place.now) c.args.context.now.in_progress) e c.requires.may.known k in
+    λ κs h. (lower_edge _ _ _ t 0 refl l c.decreases, (h.0, (h.1.0, (h.1.1.0, (h.1.1.1, record { known = (c.requires.may.ready.ranked c.args.node.0 c.requires.may.known e k).0; ready = c.requires.may.ready; above = c.requires.may.above; wanted = c.requires.may.wanted })))))
 
 pub run_child-run_edge-requires-in-Some-one_below : goal.run_child-run_edge-requires-in-Some-one_below
 run_child-run_edge-requires-in-Some-one_below g t c =
@@ -74,18 +74,18 @@ run_child-run_edge-requires-in-Some-one_below g t c =
     let p = steps_to c.args.question.now.place.now in
     let step = step_of c.in-Some-one_below.step in
     let es = c.args.context.now.in_progress in
-    let none : busy_at (steps_to c.in_ok-lower-in-Some-one_below.lower) es ≡ [] = ap (λ q. busy_at q es) c.in_ok-lower-in-Some-one_below.ensures.below ∙ busy-below p step es c.requires.above in
-    let deeper = subst (λ q. NoDeeper q es) (sym c.in_ok-lower-in-Some-one_below.ensures.below) (deeper-below p step es c.requires.above) in
-    let l = falls_below g.K.Validate.words g.K.Validate.is_whole ns (length c.args.engine.now.nodes.now) (settling (g.M.Matcher.matching c.args.engine.now.matcher.now) c.args.context.now.remembered.assumptions) c.requires.ready.ranked c.args.node.0 (subject_of c.args.question.now.instance) (subject_of c.in-Some-one_below.inner) step (busy_at p es) e c.requires.known k c.in-Some-one_below.ensures.below.1 in
+    let none : busy_at (steps_to c.in_ok-lower-in-Some-one_below.lower) es ≡ [] = ap (λ q. busy_at q es) c.in_ok-lower-in-Some-one_below.ensures.below ∙ busy-below p step es c.requires.may.above in
+    let deeper = subst (λ q. NoDeeper q es) (sym c.in_ok-lower-in-Some-one_below.ensures.below) (deeper-below p step es c.requires.may.above) in
+    let l = falls_below g.K.Validate.words g.K.Validate.is_whole ns (length c.args.engine.now.nodes.now) (settling (g.M.Matcher.matching c.args.engine.now.matcher.now) c.args.context.now.remembered.assumptions) c.requires.may.ready.ranked c.args.node.0 (subject_of c.args.question.now.instance) (subject_of c.in-Some-one_below.inner) step (busy_at p es) e c.requires.may.known k c.in-Some-one_below.ensures.below.1 in
     let n = ap (edge_needs ns (length c.args.engine.now.nodes.now) e (subject_of c.in-Some-one_below.inner)) none in
-    λ κs h. (lower_edge _ _ _ t 0 n l c.decreases, (h.0, (h.1.0, (h.1.1.0, (h.1.1.1, ((c.requires.ready.ranked c.args.node.0 c.requires.known e k).0, (c.requires.ready, (deeper, c.requires.wanted))))))))
+    λ κs h. (lower_edge _ _ _ t 0 n l c.decreases, (h.0, (h.1.0, (h.1.1.0, (h.1.1.1, record { known = (c.requires.may.ready.ranked c.args.node.0 c.requires.may.known e k).0; ready = c.requires.may.ready; above = deeper; wanted = c.requires.may.wanted })))))
 
 pub run_child-returns-in-None-one_below-clause-says : goal.run_child-returns-in-None-one_below-clause-says
 run_child-returns-in-None-one_below-clause-says g t c =
     let ns = numbered g.K.Validate.shape c.args.engine.now.nodes.now in
     let e = edge_of c.in-Some.edge.now in
     let k = c.requires.children c.args.child e (sym c.in-Some.ensures.edge) in
-    let l = falls_here g.K.Validate.words g.K.Validate.is_whole ns (length c.args.engine.now.nodes.now) (settling (g.M.Matcher.matching c.args.engine.now.matcher.now) c.args.context.now.remembered.assumptions) c.requires.ready.ranked c.args.node.0 (subject_of c.args.question.now.instance) (busy_at (steps_to c.args.question.now.place.now) c.args.context.now.in_progress) e c.requires.known k in
+    let l = falls_here g.K.Validate.words g.K.Validate.is_whole ns (length c.args.engine.now.nodes.now) (settling (g.M.Matcher.matching c.args.engine.now.matcher.now) c.args.context.now.remembered.assumptions) c.requires.may.ready.ranked c.args.node.0 (subject_of c.args.question.now.instance) (busy_at (steps_to c.args.question.now.place.now) c.args.context.now.in_progress) e c.requires.may.known k in
     if_ok_mono c.run_edge.result _ _ (λ r says. child_here g.K.Validate.words g.K.Validate.is_whole ns (length c.args.engine.now.nodes.now) (settling (g.M.Matcher.matching c.args.engine.now.matcher.now) c.args.context.now.remembered.assumptions) (mode_of c.args.question.now.mode) (path_of c.args.question.now.path.now) (steps_to c.args.question.now.place.now) (busy_at (steps_to c.args.question.now.place.now) c.args.context.now.in_progress) (subject_of c.args.question.now.instance) c.args.node.0 _
     (record { child = c.args.child; below = below_of c.args.below }) r e (sym c.in-Some.ensures.edge) c.in-None-one_below.ensures.below l says) c.run_edge.ensures.says
 
@@ -99,8 +99,8 @@ run_child-returns-in_ok-run_edge-in-Some-one_below-clause-says g t c =
     let es = c.args.context.now.in_progress in
     let s = subject_of c.args.question.now.instance in
     let inner = subject_of c.in-Some-one_below.inner in
-    let none : busy_at (steps_to c.in_ok-lower-in-Some-one_below.lower) es ≡ [] = ap (λ q. busy_at q es) c.in_ok-lower-in-Some-one_below.ensures.below ∙ busy-below p step es c.requires.above in
-    let l = falls_below g.K.Validate.words g.K.Validate.is_whole ns (length c.args.engine.now.nodes.now) (settling (g.M.Matcher.matching c.args.engine.now.matcher.now) c.args.context.now.remembered.assumptions) c.requires.ready.ranked c.args.node.0 s inner step (busy_at p es) e c.requires.known k c.in-Some-one_below.ensures.below.1 in
+    let none : busy_at (steps_to c.in_ok-lower-in-Some-one_below.lower) es ≡ [] = ap (λ q. busy_at q es) c.in_ok-lower-in-Some-one_below.ensures.below ∙ busy-below p step es c.requires.may.above in
+    let l = falls_below g.K.Validate.words g.K.Validate.is_whole ns (length c.args.engine.now.nodes.now) (settling (g.M.Matcher.matching c.args.engine.now.matcher.now) c.args.context.now.remembered.assumptions) c.requires.may.ready.ranked c.args.node.0 s inner step (busy_at p es) e c.requires.may.known k c.in-Some-one_below.ensures.below.1 in
     let answer = subst (λ busy. EdgeReplies g.K.Validate.words g.K.Validate.is_whole ns (length c.args.engine.now.nodes.now) (settling (g.M.Matcher.matching c.args.engine.now.matcher.now) c.args.context.now.remembered.assumptions) (mode_of c.args.question.now.mode) (path_of c.args.question.now.path.now) (steps_to c.in_ok-lower-in-Some-one_below.lower) busy inner e c.in_ok-run_edge-in-Some-one_below.field-0) none c.in_ok-run_edge-in-Some-one_below.ensures.says in
     child_below g.K.Validate.words g.K.Validate.is_whole ns (length c.args.engine.now.nodes.now) (settling (g.M.Matcher.matching c.args.engine.now.matcher.now) c.args.context.now.remembered.assumptions) (mode_of c.args.question.now.mode) (path_of c.args.question.now.path.now) p (busy_at p es) s c.args.node.0 _
     (record { child = c.args.child; below = below_of c.args.below }) c.in_ok-run_edge-in-Some-one_below.field-0 e step (steps_to c.in_ok-lower-in-Some-one_below.lower) inner (sym c.in-Some.ensures.edge) c.in-Some-one_below.ensures.below.0
@@ -125,8 +125,8 @@ run_edge-run_node-requires-2 g t c =
     let needs = needs_of_entered g.K.Validate.words g.K.Validate.is_whole ns (length c.args.engine.now.nodes.now) (settling (g.M.Matcher.matching c.args.engine.now.matcher.now) c.args.context.now.remembered.assumptions) s (busy_at p c.args.context.now.in_progress) e c.if-not-edge.false new.0 in
     let there : steps_to c.given-place.result ≡ p = c.given-place.ensures.same ∙ c.in_ok-here.ensures.same in
     let l = ap (λ q. left ns (length c.args.engine.now.nodes.now) e.node s (busy_at q c.enter.new.self.in_progress)) there ∙ ap (left ns (length c.args.engine.now.nodes.now) e.node s) busy in
-    let deeper = subst (λ q. NoDeeper q c.enter.new.self.in_progress) (sym there) (subst (NoDeeper p) (sym new.1) (deeper-pushed p e.node c.args.context.now.in_progress c.requires.above)) in
-    λ κs h. (lower_entered _ _ _ t l needs c.decreases, (h.0, (h.1.0, (h.1.1.0, (h.1.1.1, (c.requires.known, (c.requires.ready, (deeper, c.requires.wanted))))))))
+    let deeper = subst (λ q. NoDeeper q c.enter.new.self.in_progress) (sym there) (subst (NoDeeper p) (sym new.1) (deeper-pushed p e.node c.args.context.now.in_progress c.requires.may.above)) in
+    λ κs h. (lower_entered _ _ _ t l needs c.decreases, (h.0, (h.1.0, (h.1.1.0, (h.1.1.1, record { known = c.requires.may.known; ready = c.requires.may.ready; above = deeper; wanted = c.requires.may.wanted })))))
 
 pub run_edge-returns-clause-says : goal.run_edge-returns-clause-says
 run_edge-returns-clause-says g t c =
@@ -145,8 +145,8 @@ run_form-run_edge-requires g t c =
     let ns = numbered g.K.Validate.shape c.args.engine.now.nodes.now in
     let e = edge_of c.in-Reference.edge in
     let k = reference_edge ns c.args.node.0 e (rw c.in-Reference.is at c.requires.form) in
-    let l = falls_here g.K.Validate.words g.K.Validate.is_whole ns (length c.args.engine.now.nodes.now) (settling (g.M.Matcher.matching c.args.engine.now.matcher.now) c.args.context.now.remembered.assumptions) c.requires.ready.ranked c.args.node.0 (subject_of c.args.question.now.instance) (busy_at (steps_to c.args.question.now.place.now) c.args.context.now.in_progress) e c.requires.known k in
-    λ κs h. (lower_edge _ _ _ t 3 refl l c.decreases, (h.0, (h.1.0, (h.1.1.0, (h.1.1.1, ((c.requires.ready.ranked c.args.node.0 c.requires.known e k).0, (c.requires.ready, (c.requires.above, c.requires.wanted))))))))
+    let l = falls_here g.K.Validate.words g.K.Validate.is_whole ns (length c.args.engine.now.nodes.now) (settling (g.M.Matcher.matching c.args.engine.now.matcher.now) c.args.context.now.remembered.assumptions) c.requires.may.ready.ranked c.args.node.0 (subject_of c.args.question.now.instance) (busy_at (steps_to c.args.question.now.place.now) c.args.context.now.in_progress) e c.requires.may.known k in
+    λ κs h. (lower_edge _ _ _ t 3 refl l c.decreases, (h.0, (h.1.0, (h.1.1.0, (h.1.1.1, record { known = (c.requires.may.ready.ranked c.args.node.0 c.requires.may.known e k).0; ready = c.requires.may.ready; above = c.requires.may.above; wanted = c.requires.may.wanted })))))
 
 pub run_form-returns-in-Keyword-clause-says : goal.run_form-returns-in-Keyword-clause-says
 run_form-returns-in-Keyword-clause-says g t c = rw (c.in-Keyword.is, ← c.as_slice.ensures.value) c.run_keyword.ensures.says
@@ -156,7 +156,7 @@ run_form-returns-in_ok-reply-in-Reference-clause-says g t c =
     let ns = numbered g.K.Validate.shape c.args.engine.now.nodes.now in
     let e = edge_of c.in-Reference.edge in
     let k = reference_edge ns c.args.node.0 e (rw c.in-Reference.is at c.requires.form) in
-    let l = falls_here g.K.Validate.words g.K.Validate.is_whole ns (length c.args.engine.now.nodes.now) (settling (g.M.Matcher.matching c.args.engine.now.matcher.now) c.args.context.now.remembered.assumptions) c.requires.ready.ranked c.args.node.0 (subject_of c.args.question.now.instance) (busy_at (steps_to c.args.question.now.place.now) c.args.context.now.in_progress) e c.requires.known k in
+    let l = falls_here g.K.Validate.words g.K.Validate.is_whole ns (length c.args.engine.now.nodes.now) (settling (g.M.Matcher.matching c.args.engine.now.matcher.now) c.args.context.now.remembered.assumptions) c.requires.may.ready.ranked c.args.node.0 (subject_of c.args.question.now.instance) (busy_at (steps_to c.args.question.now.place.now) c.args.context.now.in_progress) e c.requires.may.known k in
     let at_node = absolute_is g.K.Validate.shape c.args.engine.now.nodes.now c.args.node.0 (node_of c.node.result.now) (string_bytes c.args.entry.now.name) c.node.ensures.found in
     rw c.in-Reference.is (if_ok_both c.stamped_reply.result _ _ _ (λ r stamped borrows. form_reference g.K.Validate.words g.K.Validate.is_whole ns (length c.args.engine.now.nodes.now) (settling (g.M.Matcher.matching c.args.engine.now.matcher.now) c.args.context.now.remembered.assumptions) (mode_of c.args.question.now.mode) (path_of c.args.question.now.path.now) (steps_to c.args.question.now.place.now) (busy_at (steps_to c.args.question.now.place.now) c.args.context.now.in_progress) (subject_of c.args.question.now.instance) c.args.node.0 (string_bytes c.args.entry.now.name) e
     c.in_ok-reply-in-Reference.reply r _ at_node l stamped borrows c.in_ok-reply-in-Reference.ensures.says) c.stamped_reply.ensures.stamped c.stamped_reply.ensures.borrows)
@@ -164,7 +164,7 @@ run_form-returns-in_ok-reply-in-Reference-clause-says g t c =
 pub run_node-run_entries-requires : goal.run_node-run_entries-requires
 run_node-run_entries-requires g t c =
     let plan = plan_is g.K.Validate.shape c.args.engine.now.nodes.now c.args.node.0 (node_of c.node-found.result.now) _ c.node-found.ensures.found (ap (option_map plan_of) c.in-Some.is ∙ ap (λ f. Some (plan_of f)) c.in-Keywords.is) in
-    λ κs h. (lower_same _ _ t 6 0 refl c.decreases, (h.0, (h.1.0, (h.1.1.0, (h.1.1.1, (c.requires.known, (rw c.as_slice.ensures.value (_, plan, λ y k. k), (c.requires.ready, (c.requires.above, c.requires.wanted)))))))))
+    λ κs h. (lower_same _ _ t 6 0 refl c.decreases, (h.0, (h.1.0, (h.1.1.0, (h.1.1.1, (c.requires.may, rw c.as_slice.ensures.value (_, plan, λ y k. k)))))))
 
 pub run_node-returns-in-Never-clause-says : goal.run_node-returns-in-Never-clause-says
 run_node-returns-in-Never-clause-says g t c =
@@ -201,12 +201,12 @@ run_entries-run_entry-requires g t c =
     let kept = c.loop-entry.invariant.kept in
     let l = ap (λ es. left ns (length c.args.engine.now.nodes.now) c.args.node.0 (subject_of c.args.question.now.instance) (busy_at p es)) kept in
     let here = part_at entry_of (shaped_part g.K.Validate.shape) c.args.entries.now c.loop-entry.entry-index c.entry-item.result c.loop-entry-test.true c.entry-item.is in
-    λ κs h. (lower_same _ _ t 5 0 l c.decreases, (h.0, (h.1.0, (h.1.1.0, (h.1.1.1, (c.requires.known, ((c.requires.parts.0, c.requires.parts.1, shaped_part g.K.Validate.shape (entry_of c.entry-item.result), c.requires.parts.2 _ here, refl), (c.requires.ready, (subst (NoDeeper p) (sym kept) c.requires.above, c.requires.wanted)))))))))
+    λ κs h. (lower_same _ _ t 5 0 l c.decreases, (h.0, (h.1.0, (h.1.1.0, (h.1.1.1, (record { known = c.requires.may.known; ready = c.requires.may.ready; above = subst (NoDeeper p) (sym kept) c.requires.may.above; wanted = c.requires.may.wanted }, (c.requires.parts.0, c.requires.parts.1, shaped_part g.K.Validate.shape (entry_of c.entry-item.result), c.requires.parts.2 _ here, refl)))))))
 
 pub run_entries-loop-entry-preserved : goal.run_entries-loop-entry-preserved
 run_entries-loop-entry-preserved g t c = record {
-  kept = c.in_ok-more.ensures.kept ∙ c.loop-entry.invariant.kept;
-  assumes = c.in_ok-more.ensures.assumes ∙ c.loop-entry.invariant.assumes;
+  kept = c.in_ok-more.ensures.keeps.in_progress ∙ c.loop-entry.invariant.kept;
+  assumes = c.in_ok-more.ensures.keeps.assumptions ∙ c.loop-entry.invariant.assumes;
   unsettled = λ texts. sym (c.is_settled.ensures.settled texts) ∙ c.if-is_settled.false;
   met = λ texts root depth reads l.
       let ns = numbered g.K.Validate.shape c.args.engine.now.nodes.now in
@@ -251,25 +251,25 @@ run_entry-returns-then-is_yes-clause-says g t c = λ x reads l.
     (busy_at (steps_to c.args.question.now.place.now) c.args.context.now.in_progress) (string_bytes c.args.entry.now.name) _ c.in_ok-verdict.verdict c.accepted.result (sym (c.is_yes.ensures.yes x.texts) ∙ c.if-is_yes.true) (c.in_ok-verdict.ensures.says x reads l) c.accepted.ensures.accepts c.accepted.ensures.no_errors
 
 pub run_entry-returns-then-asks_verdict_first-clause-says : goal.run_entry-returns-then-asks_verdict_first-clause-says
-run_entry-returns-then-asks_verdict_first-clause-says g t c = rw (c.in_ok-verdict.ensures.kept, c.in_ok-verdict.ensures.assumes) at c.run_form-then-asks_verdict_first.ensures.says
+run_entry-returns-then-asks_verdict_first-clause-says g t c = rw (c.in_ok-verdict.ensures.keeps.in_progress, c.in_ok-verdict.ensures.keeps.assumptions) at c.run_form-then-asks_verdict_first.ensures.says
 
 pub run_turns-turns-init : goal.run_turns-turns-init
 run_turns-turns-init g t c =
     let w = settling (g.M.Matcher.matching c.args.engine.now.matcher.now) c.args.context.now.remembered.assumptions in
-    let name = string_bytes c.args.name.now in
+    let name = string_bytes c.args.keyword.now.name.now in
     let ns = numbered g.K.Validate.shape c.args.engine.now.nodes.now in
     let p = steps_to c.args.question.now.place.now in
     let s = subject_of c.args.question.now.instance in
-    let m = g.K.Validate.shape c.args.keyword.now in
-    let es = map (option_map edge_of) c.args.children.now in
+    let m = g.K.Validate.shape c.args.keyword.now.keyword.now in
+    let es = map (option_map edge_of) c.args.keyword.now.children.now in
     let busy = busy_at p c.args.context.now.in_progress in
     record {
       kept = refl;
       assumes = refl;
-      unmarked = unmarked_first (g.K.Validate.words false) (g.K.Validate.shape c.args.keyword.now) (g.K.Validate.absorbed (g.K.Validate.shape c.args.keyword.now)) (g.K.Validate.remaining (g.K.Validate.shape c.args.keyword.now)) (g.K.Validate.ends false (g.K.Validate.shape c.args.keyword.now)) (g.K.Validate.fits false (g.K.Validate.shape c.args.keyword.now)) (g.met.K.Validate.turn_laws false (g.K.Validate.shape c.args.keyword.now)) s (mode_of c.args.question.now.mode) (c.args.run.now, answer_of false c.args.answer.now) (c.requires.ready.unmarked false m s (mode_of c.args.question.now.mode) c.requires.wanted)
+      unmarked = unmarked_first (g.K.Validate.words false) (g.K.Validate.shape c.args.keyword.now.keyword.now) (g.K.Validate.absorbed (g.K.Validate.shape c.args.keyword.now.keyword.now)) (g.K.Validate.remaining (g.K.Validate.shape c.args.keyword.now.keyword.now)) (g.K.Validate.ends false (g.K.Validate.shape c.args.keyword.now.keyword.now)) (g.K.Validate.fits false (g.K.Validate.shape c.args.keyword.now.keyword.now)) (g.met.K.Validate.turn_laws false (g.K.Validate.shape c.args.keyword.now.keyword.now)) s (mode_of c.args.question.now.mode) (c.args.run.now, answer_of false c.args.answer.now) (c.requires.may.ready.unmarked false m s (mode_of c.args.question.now.mode) c.requires.may.wanted)
           (c.requires.begun false);
       borrows = λ root at_place. (All-nil (BorrowsItsPlace root), subst (All (PassesBorrowed root)) (sym c.requires.no_faults) (All-nil (PassesBorrowed root)));
-      leads = λ x reads l. begins (g.K.Validate.words x.texts) (g.K.Validate.shape c.args.keyword.now) (g.K.Validate.absorbed (g.K.Validate.shape c.args.keyword.now)) (g.K.Validate.remaining (g.K.Validate.shape c.args.keyword.now)) (g.K.Validate.ends x.texts (g.K.Validate.shape c.args.keyword.now)) (g.K.Validate.fits x.texts (g.K.Validate.shape c.args.keyword.now)) (g.met.K.Validate.turn_laws x.texts (g.K.Validate.shape c.args.keyword.now)) s x (mode_of c.args.question.now.mode) (child_says g.K.Validate.words ns x (path_of c.args.question.now.path.now) p busy es) (c.args.run.now, answer_of x.texts c.args.answer.now)
+      leads = λ x reads l. begins (g.K.Validate.words x.texts) (g.K.Validate.shape c.args.keyword.now.keyword.now) (g.K.Validate.absorbed (g.K.Validate.shape c.args.keyword.now.keyword.now)) (g.K.Validate.remaining (g.K.Validate.shape c.args.keyword.now.keyword.now)) (g.K.Validate.ends x.texts (g.K.Validate.shape c.args.keyword.now.keyword.now)) (g.K.Validate.fits x.texts (g.K.Validate.shape c.args.keyword.now.keyword.now)) (g.met.K.Validate.turn_laws x.texts (g.K.Validate.shape c.args.keyword.now.keyword.now)) s x (mode_of c.args.question.now.mode) (child_says g.K.Validate.words ns x (path_of c.args.question.now.path.now) p busy es) (c.args.run.now, answer_of x.texts c.args.answer.now)
           (agrees_answers g.K.Validate.words ns (λ texts m s completion matcher a h. (g.met.K.Validate.function_laws texts m).agree s (matching matcher completion) a h) x (path_of c.args.question.now.path.now) p busy es)
           (c.requires.begun x.texts);
       met = λ texts root depth reads l. meets_begun (g.K.Validate.words texts) w.matcher w.assumptions (node_at (g.K.Validate.words texts) w.matcher ns (subject_in root) c.args.node.0 (path_of c.args.question.now.path.now) p) s (child_run g.K.Validate.words ns w texts root depth (path_of c.args.question.now.path.now) p busy es) (same_edge es) name m (g.K.Validate.remaining m s) _ (mode_of c.args.question.now.mode) (c.args.run.now, answer_of texts c.args.answer.now) (c.requires.begun texts) ((g.met.K.Validate.turn_laws texts m).bounded s (mode_of c.args.question.now.mode));
@@ -280,8 +280,8 @@ run_turns-run_child-requires g t c =
     let ns = numbered g.K.Validate.shape c.args.engine.now.nodes.now in
     let p = steps_to c.args.question.now.place.now in
     let s = subject_of c.args.question.now.instance in
-    let m = g.K.Validate.shape c.args.keyword.now in
-    let es = map (option_map edge_of) c.args.children.now in
+    let m = g.K.Validate.shape c.args.keyword.now.keyword.now in
+    let es = map (option_map edge_of) c.args.keyword.now.children.now in
     let busy = busy_at p c.args.context.now.in_progress in
     let told = reply_of false c.turns.reply in
     let turn = c.in_ok-child.ensures.turns false (tells_nothing (g.K.Validate.is_whole m) s) in
@@ -289,21 +289,21 @@ run_turns-run_child-requires g t c =
     let kept = c.turns.invariant.kept in
     let l = ap (λ es. left ns (length c.args.engine.now.nodes.now) c.args.node.0 s (busy_at p es)) kept in
     let q : Question = record { child = c.in-Ask.child; below = below_of c.in-Ask.below } in
-    let there = asks_present (g.K.Validate.words false) (g.K.Validate.shape c.args.keyword.now) (g.K.Validate.absorbed (g.K.Validate.shape c.args.keyword.now)) (g.K.Validate.remaining (g.K.Validate.shape c.args.keyword.now)) (g.K.Validate.ends false (g.K.Validate.shape c.args.keyword.now)) (g.K.Validate.fits false (g.K.Validate.shape c.args.keyword.now)) (g.met.K.Validate.turn_laws false (g.K.Validate.shape c.args.keyword.now)) s (c.turns.run, answer_of false c.turns.answer) told q (mode_of c.in-Ask.wanted) ((g.met.K.Validate.function_laws false m).present s) step in
-    let less = asks_less (g.K.Validate.words false) (g.K.Validate.shape c.args.keyword.now) (g.K.Validate.absorbed (g.K.Validate.shape c.args.keyword.now)) (g.K.Validate.remaining (g.K.Validate.shape c.args.keyword.now)) (g.K.Validate.ends false (g.K.Validate.shape c.args.keyword.now)) (g.K.Validate.fits false (g.K.Validate.shape c.args.keyword.now)) (g.met.K.Validate.turn_laws false (g.K.Validate.shape c.args.keyword.now)) s (c.turns.run, answer_of false c.turns.answer) told q (mode_of c.in-Ask.wanted) c.turns.invariant.unmarked step in
-    λ κs h. (lower_same _ _ t 1 0 l c.decreases, (h.0, (h.1.0, (h.1.1.0, (h.1.1.1, (c.requires.known, (keyword_children ns c.args.node.0 m es c.requires.form, (there, (c.requires.ready, (subst (NoDeeper p) (sym kept) c.requires.above, less))))))))))
+    let there = asks_present (g.K.Validate.words false) (g.K.Validate.shape c.args.keyword.now.keyword.now) (g.K.Validate.absorbed (g.K.Validate.shape c.args.keyword.now.keyword.now)) (g.K.Validate.remaining (g.K.Validate.shape c.args.keyword.now.keyword.now)) (g.K.Validate.ends false (g.K.Validate.shape c.args.keyword.now.keyword.now)) (g.K.Validate.fits false (g.K.Validate.shape c.args.keyword.now.keyword.now)) (g.met.K.Validate.turn_laws false (g.K.Validate.shape c.args.keyword.now.keyword.now)) s (c.turns.run, answer_of false c.turns.answer) told q (mode_of c.in-Ask.wanted) ((g.met.K.Validate.function_laws false m).present s) step in
+    let less = asks_less (g.K.Validate.words false) (g.K.Validate.shape c.args.keyword.now.keyword.now) (g.K.Validate.absorbed (g.K.Validate.shape c.args.keyword.now.keyword.now)) (g.K.Validate.remaining (g.K.Validate.shape c.args.keyword.now.keyword.now)) (g.K.Validate.ends false (g.K.Validate.shape c.args.keyword.now.keyword.now)) (g.K.Validate.fits false (g.K.Validate.shape c.args.keyword.now.keyword.now)) (g.met.K.Validate.turn_laws false (g.K.Validate.shape c.args.keyword.now.keyword.now)) s (c.turns.run, answer_of false c.turns.answer) told q (mode_of c.in-Ask.wanted) c.turns.invariant.unmarked step in
+    λ κs h. (lower_same _ _ t 1 0 l c.decreases, (h.0, (h.1.0, (h.1.1.0, (h.1.1.1, (record { known = c.requires.may.known; ready = c.requires.may.ready; above = subst (NoDeeper p) (sym kept) c.requires.may.above; wanted = less }, (keyword_children ns c.args.node.0 m es c.requires.form, there)))))))
 
 pub run_turns-returns-in-Done-clause-right : goal.run_turns-returns-in-Done-clause-right
 run_turns-returns-in-Done-clause-right g t c = λ x reads l.
     let ns = numbered g.K.Validate.shape c.args.engine.now.nodes.now in
     let p = steps_to c.args.question.now.place.now in
     let s = subject_of c.args.question.now.instance in
-    let m = g.K.Validate.shape c.args.keyword.now in
-    let es = map (option_map edge_of) c.args.children.now in
+    let m = g.K.Validate.shape c.args.keyword.now.keyword.now in
+    let es = map (option_map edge_of) c.args.keyword.now.children.now in
     let busy = busy_at p c.args.context.now.in_progress in
-    let tells = tells_keyword g.K.Validate.is_whole ns (length c.args.engine.now.nodes.now) (settling (g.M.Matcher.matching c.args.engine.now.matcher.now) c.args.context.now.remembered.assumptions) p s x c.args.node.0 m es c.requires.known reads c.requires.form in
+    let tells = tells_keyword g.K.Validate.is_whole ns (length c.args.engine.now.nodes.now) (settling (g.M.Matcher.matching c.args.engine.now.matcher.now) c.args.context.now.remembered.assumptions) p s x c.args.node.0 m es c.requires.may.known reads c.requires.form in
     let answers = child_says g.K.Validate.words ns x (path_of c.args.question.now.path.now) p busy es in
-    ended_right (g.K.Validate.words x.texts) (g.K.Validate.shape c.args.keyword.now) (g.K.Validate.absorbed (g.K.Validate.shape c.args.keyword.now)) (g.K.Validate.remaining (g.K.Validate.shape c.args.keyword.now)) (g.K.Validate.ends x.texts (g.K.Validate.shape c.args.keyword.now)) (g.K.Validate.fits x.texts (g.K.Validate.shape c.args.keyword.now)) (g.met.K.Validate.turn_laws x.texts (g.K.Validate.shape c.args.keyword.now)) s x (mode_of c.args.question.now.mode) answers (c.turns.run, answer_of x.texts c.turns.answer) (c.turn.new.run, answer_of x.texts c.turn.new.answer) (reply_of x.texts c.turns.reply) (answer_of x.texts c.turn.new.answer) (c.turns.invariant.leads x reads l) (c.in_ok-child.ensures.turns x.texts tells) (g.met.K.Validate.answers x.texts c.turn.new.run (answer_of x.texts c.turn.new.answer)) (rw c.in-Done.is at (c.in_ok-child.ensures.steps x.texts tells))
+    ended_right (g.K.Validate.words x.texts) (g.K.Validate.shape c.args.keyword.now.keyword.now) (g.K.Validate.absorbed (g.K.Validate.shape c.args.keyword.now.keyword.now)) (g.K.Validate.remaining (g.K.Validate.shape c.args.keyword.now.keyword.now)) (g.K.Validate.ends x.texts (g.K.Validate.shape c.args.keyword.now.keyword.now)) (g.K.Validate.fits x.texts (g.K.Validate.shape c.args.keyword.now.keyword.now)) (g.met.K.Validate.turn_laws x.texts (g.K.Validate.shape c.args.keyword.now.keyword.now)) s x (mode_of c.args.question.now.mode) answers (c.turns.run, answer_of x.texts c.turns.answer) (c.turn.new.run, answer_of x.texts c.turn.new.answer) (reply_of x.texts c.turns.reply) (answer_of x.texts c.turn.new.answer) (c.turns.invariant.leads x reads l) (c.in_ok-child.ensures.turns x.texts tells) (g.met.K.Validate.answers x.texts c.turn.new.run (answer_of x.texts c.turn.new.answer)) (rw c.in-Done.is at (c.in_ok-child.ensures.steps x.texts tells))
 
 pub run_turns-returns-in-Done-clause-passes : goal.run_turns-returns-in-Done-clause-passes
 run_turns-returns-in-Done-clause-passes g t c = λ root at_place.
@@ -313,22 +313,22 @@ run_turns-returns-in-Done-clause-passes g t c = λ root at_place.
 pub run_keyword-run_turns-requires : goal.run_keyword-run_turns-requires
 run_keyword-run_turns-requires g t c =
     let begun = λ (texts : Bool). c.in_ok-run.ensures.begins texts ∙ ap (λ a. (c.in_ok-run.run', a)) (sym (c.begun-answer.ensures.fresh texts)) in
-    λ κs h. (lower_same _ _ t 2 0 refl c.decreases, (h.0, (h.1.0, (h.1.1.0, (h.1.1.1, (c.requires.known, (c.requires.form, (c.requires.ready, (c.requires.above, (c.requires.wanted, (begun, c.begun-answer.ensures.no_faults)))))))))))
+    λ κs h. (lower_same _ _ t 2 0 refl c.decreases, (h.0, (h.1.0, (h.1.1.0, (h.1.1.1, (c.requires.may, (c.requires.form, (begun, c.begun-answer.ensures.no_faults))))))))
 
 pub run_keyword-returns-clause-says : goal.run_keyword-returns-clause-says
 run_keyword-returns-clause-says g t c =
     let ns = numbered g.K.Validate.shape c.args.engine.now.nodes.now in
     let p = steps_to c.args.question.now.place.now in
     let s = subject_of c.args.question.now.instance in
-    let m = g.K.Validate.shape c.args.keyword.now in
-    let es = map (option_map edge_of) c.args.children.now in
+    let m = g.K.Validate.shape c.args.keyword.now.keyword.now in
+    let es = map (option_map edge_of) c.args.keyword.now.children.now in
     let busy = busy_at p c.args.context.now.in_progress in
     let n = node_of c.node.result.now in
-    let name = string_bytes c.args.name.now in
+    let name = string_bytes c.args.keyword.now.name.now in
     if_ok_both c.finished.result _ _ _ (λ r reply borrows x reads l.
     let answers = child_says g.K.Validate.words ns x (path_of c.args.question.now.path.now) p busy es in
     let right = c.in_ok-run_turns.ensures.right x reads l in
-    let says = right_reply (g.K.Validate.words x.texts) m s x answers (entry_where n (path_of c.args.question.now.path.now) p) name (mode_of c.args.question.now.mode) (answer_of x.texts c.run_turns.new.answer) c.requires.wanted right in
+    let says = right_reply (g.K.Validate.words x.texts) m s x answers (entry_where n (path_of c.args.question.now.path.now) p) name (mode_of c.args.question.now.mode) (answer_of x.texts c.run_turns.new.answer) c.requires.may.wanted right in
     let whole = keyword_says g.K.Validate.shape c.args.engine.now.nodes.now g.K.Validate.words x (path_of c.args.question.now.path.now) p s c.args.node.0 n name m answers c.node.ensures.found reads.stands in
     let lie = faults_lie x.texts x.root s (g.K.Validate.absorbed m) (g.K.Validate.words x.texts) m x answers (mode_of c.args.question.now.mode) c.run_turns.new.answer ((g.met.K.Validate.function_laws x.texts m).stands s (matching x.matcher x.completion) answers) right
     (c.in_ok-run_turns.ensures.passes x.root reads.stands) in
@@ -341,9 +341,9 @@ run_keyword-returns-clause-meets g t c = if_ok_always c.finished.result _ c.in_o
 pub run_turns-unreachable-requires-in-Unmark : goal.run_turns-unreachable-requires-in-Unmark
 run_turns-unreachable-requires-in-Unmark g t c =
     let s = subject_of c.args.question.now.instance in
-    let m = g.K.Validate.shape c.args.keyword.now in
+    let m = g.K.Validate.shape c.args.keyword.now.keyword.now in
     let step = rw c.in-Unmark.is at (c.in_ok-child.ensures.steps false (tells_nothing (g.K.Validate.is_whole m) s)) in
-    subst IsUnmarked step (is_unmarked (g.K.Validate.words false) (g.K.Validate.shape c.args.keyword.now) (g.K.Validate.absorbed (g.K.Validate.shape c.args.keyword.now)) (g.K.Validate.remaining (g.K.Validate.shape c.args.keyword.now)) (g.K.Validate.ends false (g.K.Validate.shape c.args.keyword.now)) (g.K.Validate.fits false (g.K.Validate.shape c.args.keyword.now)) (g.met.K.Validate.turn_laws false (g.K.Validate.shape c.args.keyword.now)) s (c.turns.run, answer_of false c.turns.answer) (reply_of false c.turns.reply) c.turns.invariant.unmarked)
+    subst IsUnmarked step (is_unmarked (g.K.Validate.words false) (g.K.Validate.shape c.args.keyword.now.keyword.now) (g.K.Validate.absorbed (g.K.Validate.shape c.args.keyword.now.keyword.now)) (g.K.Validate.remaining (g.K.Validate.shape c.args.keyword.now.keyword.now)) (g.K.Validate.ends false (g.K.Validate.shape c.args.keyword.now.keyword.now)) (g.K.Validate.fits false (g.K.Validate.shape c.args.keyword.now.keyword.now)) (g.met.K.Validate.turn_laws false (g.K.Validate.shape c.args.keyword.now.keyword.now)) s (c.turns.run, answer_of false c.turns.answer) (reply_of false c.turns.reply) c.turns.invariant.unmarked)
 
 pub run_edge-returns-then-branch-clause-meets : goal.run_edge-returns-then-branch-clause-meets
 run_edge-returns-then-branch-clause-meets g t c =
@@ -397,7 +397,7 @@ run_entry-returns-then-is_yes-clause-meets g t c = λ texts root depth reads l.
     let part = shaped_part g.K.Validate.shape (entry_of c.args.entry.now) in
     let looked = part_looked g.K.Validate.words ns w texts root depth c.args.node.0 (path_of c.args.question.now.path.now) p busy part in
     let holds = leaf_holds g.K.Validate.words ns w texts root depth c.args.node.0 (path_of c.args.question.now.path.now) p busy part c.in_ok-verdict.verdict _ (c.in_ok-verdict.ensures.says (reading w texts root depth) reads l) (sym (c.is_yes.ensures.yes texts) ∙ c.if-is_yes.true) in
-    meets_same w.matcher _ _ _ _ (leaf_yes (mode_of c.args.question.now.mode) looked (c.asks_verdict_first.ensures.leaf c.if-asks_verdict_first.true) (c.asks_verdict_first.ensures.wants_more c.if-asks_verdict_first.true) c.requires.wanted holds) (c.in_ok-verdict.ensures.meets texts root depth reads l)
+    meets_same w.matcher _ _ _ _ (leaf_yes (mode_of c.args.question.now.mode) looked (c.asks_verdict_first.ensures.leaf c.if-asks_verdict_first.true) (c.asks_verdict_first.ensures.wants_more c.if-asks_verdict_first.true) c.requires.may.wanted holds) (c.in_ok-verdict.ensures.meets texts root depth reads l)
 
 pub run_entry-returns-then-asks_verdict_first-clause-meets : goal.run_entry-returns-then-asks_verdict_first-clause-meets
 run_entry-returns-then-asks_verdict_first-clause-meets g t c = if_ok_mono c.run_form-then-asks_verdict_first.result _ _ (λ r met texts root depth reads l.
@@ -409,8 +409,8 @@ run_entry-returns-then-asks_verdict_first-clause-meets g t c = if_ok_mono c.run_
     let part = shaped_part g.K.Validate.shape (entry_of c.args.entry.now) in
     let looked = part_looked g.K.Validate.words ns w texts root depth c.args.node.0 (path_of c.args.question.now.path.now) p busy part in
     let holds = leaf_holds g.K.Validate.words ns w texts root depth c.args.node.0 (path_of c.args.question.now.path.now) p busy part c.in_ok-verdict.verdict _ (c.in_ok-verdict.ensures.says (reading w texts root depth) reads l) (sym (c.is_yes.ensures.yes texts) ∙ c.if-is_yes.false) in
-    let more = moved (λ es as'. FormMeets g.K.Validate.words g.K.Validate.is_whole ns (length c.args.engine.now.nodes.now) (settling (g.M.Matcher.matching c.args.engine.now.matcher.now) as') (mode_of c.args.question.now.mode) (path_of c.args.question.now.path.now) p (busy_at p es) s c.run_form.new.context.remembered c.run_form-then-asks_verdict_first.new.context.remembered c.args.node.0 part.name part.form) c.in_ok-verdict.ensures.kept c.in_ok-verdict.ensures.assumes met texts root depth reads l in
-    meets_same w.matcher _ _ _ _ (leaf_no (mode_of c.args.question.now.mode) looked (c.asks_verdict_first.ensures.leaf c.if-asks_verdict_first.true) (c.asks_verdict_first.ensures.wants_more c.if-asks_verdict_first.true) c.requires.wanted holds) (meets_append w.matcher _ _ _ _ _ (c.in_ok-verdict.ensures.meets texts root depth reads l) more)) c.run_form-then-asks_verdict_first.ensures.meets
+    let more = moved (λ es as'. FormMeets g.K.Validate.words g.K.Validate.is_whole ns (length c.args.engine.now.nodes.now) (settling (g.M.Matcher.matching c.args.engine.now.matcher.now) as') (mode_of c.args.question.now.mode) (path_of c.args.question.now.path.now) p (busy_at p es) s c.run_form.new.context.remembered c.run_form-then-asks_verdict_first.new.context.remembered c.args.node.0 part.name part.form) c.in_ok-verdict.ensures.keeps.in_progress c.in_ok-verdict.ensures.keeps.assumptions met texts root depth reads l in
+    meets_same w.matcher _ _ _ _ (leaf_no (mode_of c.args.question.now.mode) looked (c.asks_verdict_first.ensures.leaf c.if-asks_verdict_first.true) (c.asks_verdict_first.ensures.wants_more c.if-asks_verdict_first.true) c.requires.may.wanted holds) (meets_append w.matcher _ _ _ _ _ (c.in_ok-verdict.ensures.meets texts root depth reads l) more)) c.run_form-then-asks_verdict_first.ensures.meets
 
 pub run_child-returns-in-None-one_below-clause-meets : goal.run_child-returns-in-None-one_below-clause-meets
 run_child-returns-in-None-one_below-clause-meets g t c =
@@ -421,7 +421,7 @@ run_child-returns-in-None-one_below-clause-meets g t c =
     let busy = busy_at p c.args.context.now.in_progress in
     let e = edge_of c.in-Some.edge.now in
     let k = c.requires.children c.args.child e (sym c.in-Some.ensures.edge) in
-    let l = falls_here g.K.Validate.words g.K.Validate.is_whole ns (length c.args.engine.now.nodes.now) w c.requires.ready.ranked c.args.node.0 s busy e c.requires.known k in
+    let l = falls_here g.K.Validate.words g.K.Validate.is_whole ns (length c.args.engine.now.nodes.now) w c.requires.may.ready.ranked c.args.node.0 s busy e c.requires.may.known k in
     if_ok_mono c.run_edge.result _ _ (λ r met. meets_here g.K.Validate.words g.K.Validate.is_whole ns (length c.args.engine.now.nodes.now) w (mode_of c.args.question.now.mode) (path_of c.args.question.now.path.now) p busy s c.args.node.0 _ (record { child = c.args.child; below = below_of c.args.below }) _ _ e (sym c.in-Some.ensures.edge) c.in-None-one_below.ensures.below l met) c.run_edge.ensures.meets
 
 pub run_child-returns-in_ok-run_edge-in-Some-one_below-clause-meets : goal.run_child-returns-in_ok-run_edge-in-Some-one_below-clause-meets
@@ -436,8 +436,8 @@ run_child-returns-in_ok-run_edge-in-Some-one_below-clause-meets g t c =
     let step = step_of c.in-Some-one_below.step in
     let es = c.args.context.now.in_progress in
     let inner = subject_of c.in-Some-one_below.inner in
-    let none : busy_at (steps_to c.in_ok-lower-in-Some-one_below.lower) es ≡ [] = ap (λ q. busy_at q es) c.in_ok-lower-in-Some-one_below.ensures.below ∙ busy-below p step es c.requires.above in
-    let l = falls_below g.K.Validate.words g.K.Validate.is_whole ns (length c.args.engine.now.nodes.now) w c.requires.ready.ranked c.args.node.0 s inner step busy e c.requires.known k c.in-Some-one_below.ensures.below.1 in
+    let none : busy_at (steps_to c.in_ok-lower-in-Some-one_below.lower) es ≡ [] = ap (λ q. busy_at q es) c.in_ok-lower-in-Some-one_below.ensures.below ∙ busy-below p step es c.requires.may.above in
+    let l = falls_below g.K.Validate.words g.K.Validate.is_whole ns (length c.args.engine.now.nodes.now) w c.requires.may.ready.ranked c.args.node.0 s inner step busy e c.requires.may.known k c.in-Some-one_below.ensures.below.1 in
     let met = subst (λ busy'. EdgeMeets g.K.Validate.words g.K.Validate.is_whole ns (length c.args.engine.now.nodes.now) w (mode_of c.args.question.now.mode) (path_of c.args.question.now.path.now) (steps_to c.in_ok-lower-in-Some-one_below.lower) busy' inner c.args.context.now.remembered c.run_edge-in-Some-one_below.new.context.remembered e) none c.in_ok-run_edge-in-Some-one_below.ensures.meets in
     meets_below g.K.Validate.words g.K.Validate.is_whole ns (length c.args.engine.now.nodes.now) w (mode_of c.args.question.now.mode) (path_of c.args.question.now.path.now) p busy s c.args.node.0 _ (record { child = c.args.child; below = below_of c.args.below }) _ _ e step (steps_to c.in_ok-lower-in-Some-one_below.lower) inner (sym c.in-Some.ensures.edge) c.in-Some-one_below.ensures.below.0
     c.in_ok-lower-in-Some-one_below.ensures.below c.in-Some-one_below.ensures.below.1 l met
@@ -454,7 +454,7 @@ run_form-returns-in_ok-reply-in-Reference-clause-meets g t c =
     let busy = busy_at p c.args.context.now.in_progress in
     let e = edge_of c.in-Reference.edge in
     let k = reference_edge ns c.args.node.0 e (rw c.in-Reference.is at c.requires.form) in
-    let l = falls_here g.K.Validate.words g.K.Validate.is_whole ns (length c.args.engine.now.nodes.now) w c.requires.ready.ranked c.args.node.0 s busy e c.requires.known k in
+    let l = falls_here g.K.Validate.words g.K.Validate.is_whole ns (length c.args.engine.now.nodes.now) w c.requires.may.ready.ranked c.args.node.0 s busy e c.requires.may.known k in
     rw c.in-Reference.is (if_ok_always c.stamped_reply.result _ (meets_reference g.K.Validate.words g.K.Validate.is_whole ns (length c.args.engine.now.nodes.now) w (mode_of c.args.question.now.mode) (path_of c.args.question.now.path.now) p busy s c.args.node.0 (string_bytes c.args.entry.now.name) e _ _ l c.in_ok-reply-in-Reference.ensures.meets))
 
 pub run_node-returns-in-Never-clause-meets : goal.run_node-returns-in-Never-clause-meets
@@ -482,45 +482,45 @@ run_turns-turns-smaller-in-Ask g t c =
     let ns = numbered g.K.Validate.shape c.args.engine.now.nodes.now in
     let p = steps_to c.args.question.now.place.now in
     let s = subject_of c.args.question.now.instance in
-    let m = g.K.Validate.shape c.args.keyword.now in
-    let es = map (option_map edge_of) c.args.children.now in
+    let m = g.K.Validate.shape c.args.keyword.now.keyword.now in
+    let es = map (option_map edge_of) c.args.keyword.now.children.now in
     let busy = busy_at p c.args.context.now.in_progress in
     let told = reply_of false c.turns.reply in
     let turn = c.in_ok-child.ensures.turns false (tells_nothing (g.K.Validate.is_whole m) s) in
     let step = rw c.in-Ask.is at (c.in_ok-child.ensures.steps false (tells_nothing (g.K.Validate.is_whole m) s)) in
     let q : Question = record { child = c.in-Ask.child; below = below_of c.in-Ask.below } in
-    falls_turned (g.K.Validate.words false) (g.K.Validate.shape c.args.keyword.now) (g.K.Validate.absorbed (g.K.Validate.shape c.args.keyword.now)) (g.K.Validate.remaining (g.K.Validate.shape c.args.keyword.now)) (g.K.Validate.ends false (g.K.Validate.shape c.args.keyword.now)) (g.K.Validate.fits false (g.K.Validate.shape c.args.keyword.now)) (g.met.K.Validate.turn_laws false (g.K.Validate.shape c.args.keyword.now)) s (c.turns.run, answer_of false c.turns.answer) (c.turn.new.run, answer_of false c.turn.new.answer) told (ask q (mode_of c.in-Ask.wanted)) turn step (ask_goes_on q (mode_of c.in-Ask.wanted))
+    falls_turned (g.K.Validate.words false) (g.K.Validate.shape c.args.keyword.now.keyword.now) (g.K.Validate.absorbed (g.K.Validate.shape c.args.keyword.now.keyword.now)) (g.K.Validate.remaining (g.K.Validate.shape c.args.keyword.now.keyword.now)) (g.K.Validate.ends false (g.K.Validate.shape c.args.keyword.now.keyword.now)) (g.K.Validate.fits false (g.K.Validate.shape c.args.keyword.now.keyword.now)) (g.met.K.Validate.turn_laws false (g.K.Validate.shape c.args.keyword.now.keyword.now)) s (c.turns.run, answer_of false c.turns.answer) (c.turn.new.run, answer_of false c.turn.new.answer) told (ask q (mode_of c.in-Ask.wanted)) turn step (ask_goes_on q (mode_of c.in-Ask.wanted))
 
 pub run_turns-turns-preserved-in-Ask : goal.run_turns-turns-preserved-in-Ask
 run_turns-turns-preserved-in-Ask g t c =
     let w = settling (g.M.Matcher.matching c.args.engine.now.matcher.now) c.args.context.now.remembered.assumptions in
-    let name = string_bytes c.args.name.now in
+    let name = string_bytes c.args.keyword.now.name.now in
     let ns = numbered g.K.Validate.shape c.args.engine.now.nodes.now in
     let p = steps_to c.args.question.now.place.now in
     let s = subject_of c.args.question.now.instance in
-    let m = g.K.Validate.shape c.args.keyword.now in
-    let es = map (option_map edge_of) c.args.children.now in
+    let m = g.K.Validate.shape c.args.keyword.now.keyword.now in
+    let es = map (option_map edge_of) c.args.keyword.now.children.now in
     let busy = busy_at p c.args.context.now.in_progress in
     let told = reply_of false c.turns.reply in
     let turn = c.in_ok-child.ensures.turns false (tells_nothing (g.K.Validate.is_whole m) s) in
     let step = rw c.in-Ask.is at (c.in_ok-child.ensures.steps false (tells_nothing (g.K.Validate.is_whole m) s)) in
     let q : Question = record { child = c.in-Ask.child; below = below_of c.in-Ask.below } in
-    let less = asks_less (g.K.Validate.words false) (g.K.Validate.shape c.args.keyword.now) (g.K.Validate.absorbed (g.K.Validate.shape c.args.keyword.now)) (g.K.Validate.remaining (g.K.Validate.shape c.args.keyword.now)) (g.K.Validate.ends false (g.K.Validate.shape c.args.keyword.now)) (g.K.Validate.fits false (g.K.Validate.shape c.args.keyword.now)) (g.met.K.Validate.turn_laws false (g.K.Validate.shape c.args.keyword.now)) s (c.turns.run, answer_of false c.turns.answer) told q (mode_of c.in-Ask.wanted) c.turns.invariant.unmarked step in
+    let less = asks_less (g.K.Validate.words false) (g.K.Validate.shape c.args.keyword.now.keyword.now) (g.K.Validate.absorbed (g.K.Validate.shape c.args.keyword.now.keyword.now)) (g.K.Validate.remaining (g.K.Validate.shape c.args.keyword.now.keyword.now)) (g.K.Validate.ends false (g.K.Validate.shape c.args.keyword.now.keyword.now)) (g.K.Validate.fits false (g.K.Validate.shape c.args.keyword.now.keyword.now)) (g.met.K.Validate.turn_laws false (g.K.Validate.shape c.args.keyword.now.keyword.now)) s (c.turns.run, answer_of false c.turns.answer) told q (mode_of c.in-Ask.wanted) c.turns.invariant.unmarked step in
     let says = moved (λ es' as'. ChildReplies g.K.Validate.words g.K.Validate.is_whole ns (length c.args.engine.now.nodes.now) (settling (g.M.Matcher.matching c.args.engine.now.matcher.now) as') (mode_of c.in-Ask.wanted) (path_of c.args.question.now.path.now) p (busy_at p es') s c.args.node.0 es q c.in_ok-reply-in-Ask.reply) c.turns.invariant.kept c.turns.invariant.assumes c.in_ok-reply-in-Ask.ensures.says in
     record {
-      kept = c.in_ok-reply-in-Ask.ensures.kept ∙ c.turns.invariant.kept;
-      assumes = c.in_ok-reply-in-Ask.ensures.assumes ∙ c.turns.invariant.assumes;
-      unmarked = unmarked_after (g.K.Validate.words false) (g.K.Validate.shape c.args.keyword.now) (g.K.Validate.absorbed (g.K.Validate.shape c.args.keyword.now)) (g.K.Validate.remaining (g.K.Validate.shape c.args.keyword.now)) (g.K.Validate.ends false (g.K.Validate.shape c.args.keyword.now)) (g.K.Validate.fits false (g.K.Validate.shape c.args.keyword.now)) (g.met.K.Validate.turn_laws false (g.K.Validate.shape c.args.keyword.now)) s (c.turns.run, answer_of false c.turns.answer) (c.turn.new.run, answer_of false c.turn.new.answer) told (reply_of false c.in_ok-reply-in-Ask.reply) (ask q (mode_of c.in-Ask.wanted)) c.turns.invariant.unmarked turn step (ask_goes_on q (mode_of c.in-Ask.wanted));
+      kept = c.in_ok-reply-in-Ask.ensures.keeps.in_progress ∙ c.turns.invariant.kept;
+      assumes = c.in_ok-reply-in-Ask.ensures.keeps.assumptions ∙ c.turns.invariant.assumes;
+      unmarked = unmarked_after (g.K.Validate.words false) (g.K.Validate.shape c.args.keyword.now.keyword.now) (g.K.Validate.absorbed (g.K.Validate.shape c.args.keyword.now.keyword.now)) (g.K.Validate.remaining (g.K.Validate.shape c.args.keyword.now.keyword.now)) (g.K.Validate.ends false (g.K.Validate.shape c.args.keyword.now.keyword.now)) (g.K.Validate.fits false (g.K.Validate.shape c.args.keyword.now.keyword.now)) (g.met.K.Validate.turn_laws false (g.K.Validate.shape c.args.keyword.now.keyword.now)) s (c.turns.run, answer_of false c.turns.answer) (c.turn.new.run, answer_of false c.turn.new.answer) told (reply_of false c.in_ok-reply-in-Ask.reply) (ask q (mode_of c.in-Ask.wanted)) c.turns.invariant.unmarked turn step (ask_goes_on q (mode_of c.in-Ask.wanted));
       borrows = λ root at_place.
           let i = c.turns.invariant.borrows root at_place in
           let d = left ns (length c.args.engine.now.nodes.now) c.args.node.0 s busy in
           ((says (silent (settling (g.M.Matcher.matching c.args.engine.now.matcher.now) c.args.context.now.remembered.assumptions) root d) (silent_reads g.K.Validate.is_whole ns (length c.args.engine.now.nodes.now) (settling (g.M.Matcher.matching c.args.engine.now.matcher.now) c.args.context.now.remembered.assumptions) p s root d at_place) (no_deeper d)).borrows, c.in_ok-child.ensures.borrows root i.0 i.1);
       leads = λ x reads l.
-          let tells = tells_keyword g.K.Validate.is_whole ns (length c.args.engine.now.nodes.now) (settling (g.M.Matcher.matching c.args.engine.now.matcher.now) c.args.context.now.remembered.assumptions) p s x c.args.node.0 m es c.requires.known reads c.requires.form in
-          asked (g.K.Validate.words x.texts) (g.K.Validate.shape c.args.keyword.now) (g.K.Validate.absorbed (g.K.Validate.shape c.args.keyword.now)) (g.K.Validate.remaining (g.K.Validate.shape c.args.keyword.now)) (g.K.Validate.ends x.texts (g.K.Validate.shape c.args.keyword.now)) (g.K.Validate.fits x.texts (g.K.Validate.shape c.args.keyword.now)) (g.met.K.Validate.turn_laws x.texts (g.K.Validate.shape c.args.keyword.now)) s x (mode_of c.args.question.now.mode) (child_says g.K.Validate.words ns x (path_of c.args.question.now.path.now) p busy es) (c.turns.run, answer_of x.texts c.turns.answer) (c.turn.new.run, answer_of x.texts c.turn.new.answer)
+          let tells = tells_keyword g.K.Validate.is_whole ns (length c.args.engine.now.nodes.now) (settling (g.M.Matcher.matching c.args.engine.now.matcher.now) c.args.context.now.remembered.assumptions) p s x c.args.node.0 m es c.requires.may.known reads c.requires.form in
+          asked (g.K.Validate.words x.texts) (g.K.Validate.shape c.args.keyword.now.keyword.now) (g.K.Validate.absorbed (g.K.Validate.shape c.args.keyword.now.keyword.now)) (g.K.Validate.remaining (g.K.Validate.shape c.args.keyword.now.keyword.now)) (g.K.Validate.ends x.texts (g.K.Validate.shape c.args.keyword.now.keyword.now)) (g.K.Validate.fits x.texts (g.K.Validate.shape c.args.keyword.now.keyword.now)) (g.met.K.Validate.turn_laws x.texts (g.K.Validate.shape c.args.keyword.now.keyword.now)) s x (mode_of c.args.question.now.mode) (child_says g.K.Validate.words ns x (path_of c.args.question.now.path.now) p busy es) (c.turns.run, answer_of x.texts c.turns.answer) (c.turn.new.run, answer_of x.texts c.turn.new.answer)
           (reply_of x.texts c.turns.reply) (reply_of x.texts c.in_ok-reply-in-Ask.reply) q (mode_of c.in-Ask.wanted) less (c.turns.invariant.leads x reads l) (c.in_ok-child.ensures.turns x.texts tells) (rw c.in-Ask.is at (c.in_ok-child.ensures.steps x.texts tells)) (says x reads l).same;
       met = λ texts root depth reads l.
-          let tells = tells_keyword g.K.Validate.is_whole ns (length c.args.engine.now.nodes.now) w p s (reading w texts root depth) c.args.node.0 m es c.requires.known reads c.requires.form in
+          let tells = tells_keyword g.K.Validate.is_whole ns (length c.args.engine.now.nodes.now) w p s (reading w texts root depth) c.args.node.0 m es c.requires.may.known reads c.requires.form in
           let step' = rw c.in-Ask.is at (c.in_ok-child.ensures.steps texts tells) in
           let turn' = c.in_ok-child.ensures.turns texts tells in
           let falls = falls_turned (g.K.Validate.words texts) m (g.K.Validate.absorbed m) (g.K.Validate.remaining m) (g.K.Validate.ends texts m) (g.K.Validate.fits texts m) (g.met.K.Validate.turn_laws texts m) s (c.turns.run, answer_of texts c.turns.answer) (c.turn.new.run, answer_of texts c.turn.new.answer) (reply_of texts c.turns.reply) (ask q (mode_of c.in-Ask.wanted)) turn' step' (ask_goes_on q (mode_of c.in-Ask.wanted)) in
@@ -535,10 +535,10 @@ run_turns-turns-smaller-in-Match g t c =
     let w = settling (g.M.Matcher.matching c.args.engine.now.matcher.now) c.args.context.now.remembered.assumptions in
     let p = steps_to c.args.question.now.place.now in
     let s = subject_of c.args.question.now.instance in
-    let m = g.K.Validate.shape c.args.keyword.now in
-    let es = map (option_map edge_of) c.args.children.now in
+    let m = g.K.Validate.shape c.args.keyword.now.keyword.now in
+    let es = map (option_map edge_of) c.args.keyword.now.children.now in
     let busy = busy_at p c.args.context.now.in_progress in
-    let name = string_bytes c.args.name.now in
+    let name = string_bytes c.args.keyword.now.name.now in
     let told = reply_of false c.turns.reply in
     let turn = c.in_ok-child.ensures.turns false (tells_nothing (g.K.Validate.is_whole m) s) in
     let a : Pair = record { pattern = c.in-Match.pattern.now; subject = c.in-Match.subject.now } in
@@ -552,10 +552,10 @@ run_turns-turns-smaller g t c =
     let w = settling (g.M.Matcher.matching c.args.engine.now.matcher.now) c.args.context.now.remembered.assumptions in
     let p = steps_to c.args.question.now.place.now in
     let s = subject_of c.args.question.now.instance in
-    let m = g.K.Validate.shape c.args.keyword.now in
-    let es = map (option_map edge_of) c.args.children.now in
+    let m = g.K.Validate.shape c.args.keyword.now.keyword.now in
+    let es = map (option_map edge_of) c.args.keyword.now.children.now in
     let busy = busy_at p c.args.context.now.in_progress in
-    let name = string_bytes c.args.name.now in
+    let name = string_bytes c.args.keyword.now.name.now in
     let told = reply_of false c.turns.reply in
     let turn = c.in_ok-child.ensures.turns false (tells_nothing (g.K.Validate.is_whole m) s) in
     let step = rw c.in-Ecma.is at (c.in_ok-child.ensures.steps false (tells_nothing (g.K.Validate.is_whole m) s)) in
@@ -567,10 +567,10 @@ run_turns-asked_match-requires g t c =
     let w = settling (g.M.Matcher.matching c.args.engine.now.matcher.now) c.args.context.now.remembered.assumptions in
     let p = steps_to c.args.question.now.place.now in
     let s = subject_of c.args.question.now.instance in
-    let m = g.K.Validate.shape c.args.keyword.now in
-    let es = map (option_map edge_of) c.args.children.now in
+    let m = g.K.Validate.shape c.args.keyword.now.keyword.now in
+    let es = map (option_map edge_of) c.args.keyword.now.children.now in
     let busy = busy_at p c.args.context.now.in_progress in
-    let name = string_bytes c.args.name.now in
+    let name = string_bytes c.args.keyword.now.name.now in
     let told = reply_of false c.turns.reply in
     let turn = c.in_ok-child.ensures.turns false (tells_nothing (g.K.Validate.is_whole m) s) in
     let a : Pair = record { pattern = c.in-Match.pattern.now; subject = c.in-Match.subject.now } in
@@ -584,10 +584,10 @@ run_turns-turns-preserved-in-Match g t c =
     let w = settling (g.M.Matcher.matching c.args.engine.now.matcher.now) c.args.context.now.remembered.assumptions in
     let p = steps_to c.args.question.now.place.now in
     let s = subject_of c.args.question.now.instance in
-    let m = g.K.Validate.shape c.args.keyword.now in
-    let es = map (option_map edge_of) c.args.children.now in
+    let m = g.K.Validate.shape c.args.keyword.now.keyword.now in
+    let es = map (option_map edge_of) c.args.keyword.now.children.now in
     let busy = busy_at p c.args.context.now.in_progress in
-    let name = string_bytes c.args.name.now in
+    let name = string_bytes c.args.keyword.now.name.now in
     let told = reply_of false c.turns.reply in
     let turn = c.in_ok-child.ensures.turns false (tells_nothing (g.K.Validate.is_whole m) s) in
     let a : Pair = record { pattern = c.in-Match.pattern.now; subject = c.in-Match.subject.now } in
@@ -604,12 +604,12 @@ run_turns-turns-preserved-in-Match g t c =
           let i = c.turns.invariant.borrows root at_place in
           (All-nil (BorrowsItsPlace root), c.in_ok-child.ensures.borrows root i.0 i.1);
       leads = λ x reads l.
-          let tells = tells_keyword g.K.Validate.is_whole ns (length c.args.engine.now.nodes.now) w p s x c.args.node.0 m es c.requires.known reads c.requires.form in
+          let tells = tells_keyword g.K.Validate.is_whole ns (length c.args.engine.now.nodes.now) w p s x c.args.node.0 m es c.requires.may.known reads c.requires.form in
           let is = ap truth (out ∙ ap (λ b. settled b answer) (sym (reads.completes a)) ∙ ap (λ (o : Matcher). settled (completed x.completion a) (o.is_match a.pattern a.subject)) (sym reads.matcher)) in
           matched (g.K.Validate.words x.texts) m (g.K.Validate.absorbed m) (g.K.Validate.remaining m) (g.K.Validate.ends x.texts m) (g.K.Validate.fits x.texts m) (g.met.K.Validate.turn_laws x.texts m) s x (mode_of c.args.question.now.mode) (child_says g.K.Validate.words ns x (path_of c.args.question.now.path.now) p busy es) (c.turns.run, answer_of x.texts c.turns.answer) (c.turn.new.run, answer_of x.texts c.turn.new.answer)
           (reply_of x.texts c.turns.reply) (truth c.in_ok-matches-in-Match.matches) a point (c.turns.invariant.leads x reads l) (c.in_ok-child.ensures.turns x.texts tells) (rw c.in-Match.is at (c.in_ok-child.ensures.steps x.texts tells)) is;
       met = λ texts root depth reads l.
-          let tells = tells_keyword g.K.Validate.is_whole ns (length c.args.engine.now.nodes.now) w p s (reading w texts root depth) c.args.node.0 m es c.requires.known reads c.requires.form in
+          let tells = tells_keyword g.K.Validate.is_whole ns (length c.args.engine.now.nodes.now) w p s (reading w texts root depth) c.args.node.0 m es c.requires.may.known reads c.requires.form in
           let step' = rw c.in-Match.is at (c.in_ok-child.ensures.steps texts tells) in
           let turn' = c.in_ok-child.ensures.turns texts tells in
           let falls = falls_turned (g.K.Validate.words texts) m (g.K.Validate.absorbed m) (g.K.Validate.remaining m) (g.K.Validate.ends texts m) (g.K.Validate.fits texts m) (g.met.K.Validate.turn_laws texts m) s (c.turns.run, answer_of texts c.turns.answer) (c.turn.new.run, answer_of texts c.turn.new.answer) (reply_of texts c.turns.reply) (match_text a point) turn' step' (match_goes_on a point) in
@@ -625,10 +625,10 @@ run_turns-turns-preserved g t c =
     let w = settling (g.M.Matcher.matching c.args.engine.now.matcher.now) c.args.context.now.remembered.assumptions in
     let p = steps_to c.args.question.now.place.now in
     let s = subject_of c.args.question.now.instance in
-    let m = g.K.Validate.shape c.args.keyword.now in
-    let es = map (option_map edge_of) c.args.children.now in
+    let m = g.K.Validate.shape c.args.keyword.now.keyword.now in
+    let es = map (option_map edge_of) c.args.keyword.now.children.now in
     let busy = busy_at p c.args.context.now.in_progress in
-    let name = string_bytes c.args.name.now in
+    let name = string_bytes c.args.keyword.now.name.now in
     let told = reply_of false c.turns.reply in
     let turn = c.in_ok-child.ensures.turns false (tells_nothing (g.K.Validate.is_whole m) s) in
     let text = c.in-Ecma.text.now in
@@ -641,12 +641,12 @@ run_turns-turns-preserved g t c =
           let i = c.turns.invariant.borrows root at_place in
           (All-nil (BorrowsItsPlace root), c.in_ok-child.ensures.borrows root i.0 i.1);
       leads = λ x reads l.
-          let tells = tells_keyword g.K.Validate.is_whole ns (length c.args.engine.now.nodes.now) w p s x c.args.node.0 m es c.requires.known reads c.requires.form in
+          let tells = tells_keyword g.K.Validate.is_whole ns (length c.args.engine.now.nodes.now) w p s x c.args.node.0 m es c.requires.may.known reads c.requires.form in
           let is = ap truth (c.in_ok-valid-in-Ecma.ensures.valid ∙ ap (λ (o : Matcher). o.is_ecma text) (sym reads.matcher)) in
           told_pattern (g.K.Validate.words x.texts) m (g.K.Validate.absorbed m) (g.K.Validate.remaining m) (g.K.Validate.ends x.texts m) (g.K.Validate.fits x.texts m) (g.met.K.Validate.turn_laws x.texts m) s x (mode_of c.args.question.now.mode) (child_says g.K.Validate.words ns x (path_of c.args.question.now.path.now) p busy es) (c.turns.run, answer_of x.texts c.turns.answer) (c.turn.new.run, answer_of x.texts c.turn.new.answer)
           (reply_of x.texts c.turns.reply) (truth c.in_ok-valid-in-Ecma.valid) text (c.turns.invariant.leads x reads l) (c.in_ok-child.ensures.turns x.texts tells) (rw c.in-Ecma.is at (c.in_ok-child.ensures.steps x.texts tells)) is;
       met = λ texts root depth reads l.
-          let tells = tells_keyword g.K.Validate.is_whole ns (length c.args.engine.now.nodes.now) w p s (reading w texts root depth) c.args.node.0 m es c.requires.known reads c.requires.form in
+          let tells = tells_keyword g.K.Validate.is_whole ns (length c.args.engine.now.nodes.now) w p s (reading w texts root depth) c.args.node.0 m es c.requires.may.known reads c.requires.form in
           let step' = rw c.in-Ecma.is at (c.in_ok-child.ensures.steps texts tells) in
           let turn' = c.in_ok-child.ensures.turns texts tells in
           let falls = falls_turned (g.K.Validate.words texts) m (g.K.Validate.absorbed m) (g.K.Validate.remaining m) (g.K.Validate.ends texts m) (g.K.Validate.fits texts m) (g.met.K.Validate.turn_laws texts m) s (c.turns.run, answer_of texts c.turns.answer) (c.turn.new.run, answer_of texts c.turn.new.answer) (reply_of texts c.turns.reply) (ecma text) turn' step' (ecma_goes_on text) in
@@ -659,22 +659,22 @@ run_turns-returns-in-Done-clause-meets g t c = λ texts root depth reads l.
     let w = settling (g.M.Matcher.matching c.args.engine.now.matcher.now) c.args.context.now.remembered.assumptions in
     let p = steps_to c.args.question.now.place.now in
     let s = subject_of c.args.question.now.instance in
-    let m = g.K.Validate.shape c.args.keyword.now in
-    let es = map (option_map edge_of) c.args.children.now in
+    let m = g.K.Validate.shape c.args.keyword.now.keyword.now in
+    let es = map (option_map edge_of) c.args.keyword.now.children.now in
     let busy = busy_at p c.args.context.now.in_progress in
-    let name = string_bytes c.args.name.now in
+    let name = string_bytes c.args.keyword.now.name.now in
     let told = reply_of false c.turns.reply in
     let turn = c.in_ok-child.ensures.turns false (tells_nothing (g.K.Validate.is_whole m) s) in
-    let tells = tells_keyword g.K.Validate.is_whole ns (length c.args.engine.now.nodes.now) w p s (reading w texts root depth) c.args.node.0 m es c.requires.known reads c.requires.form in
+    let tells = tells_keyword g.K.Validate.is_whole ns (length c.args.engine.now.nodes.now) w p s (reading w texts root depth) c.args.node.0 m es c.requires.may.known reads c.requires.form in
     let all = meets_all (g.K.Validate.words texts) w.matcher w.assumptions (node_at (g.K.Validate.words texts) w.matcher ns (subject_in root) c.args.node.0 (path_of c.args.question.now.path.now) p) s (child_run g.K.Validate.words ns w texts root depth (path_of c.args.question.now.path.now) p busy es) (same_edge es) name m (g.K.Validate.remaining m s) _ _ c.turns.context.remembered (c.turns.run, answer_of texts c.turns.answer) (reply_of texts c.turns.reply) (rw c.in-Done.is at (c.in_ok-child.ensures.steps texts tells)) (c.turns.invariant.met texts root depth reads l) in
     meets_same w.matcher _ _ _ _ (ap (λ v. keyword_met (g.K.Validate.words texts) w.matcher w.assumptions (node_at (g.K.Validate.words texts) w.matcher ns (subject_in root) c.args.node.0 (path_of c.args.question.now.path.now) p) v (child_run g.K.Validate.words ns w texts root depth (path_of c.args.question.now.path.now) p busy es) (same_edge es) name m (mode_of c.args.question.now.mode)) (sym (stands_in root p s reads.stands))) all
 
 pub run_turns-unreachable-requires : goal.run_turns-unreachable-requires
 run_turns-unreachable-requires g t c =
     let s = subject_of c.args.question.now.instance in
-    let m = g.K.Validate.shape c.args.keyword.now in
+    let m = g.K.Validate.shape c.args.keyword.now.keyword.now in
     let step = rw c.in-Mark.is at (c.in_ok-child.ensures.steps false (tells_nothing (g.K.Validate.is_whole m) s)) in
-    subst IsUnmarked step (is_unmarked (g.K.Validate.words false) (g.K.Validate.shape c.args.keyword.now) (g.K.Validate.absorbed (g.K.Validate.shape c.args.keyword.now)) (g.K.Validate.remaining (g.K.Validate.shape c.args.keyword.now)) (g.K.Validate.ends false (g.K.Validate.shape c.args.keyword.now)) (g.K.Validate.fits false (g.K.Validate.shape c.args.keyword.now)) (g.met.K.Validate.turn_laws false (g.K.Validate.shape c.args.keyword.now)) s (c.turns.run, answer_of false c.turns.answer) (reply_of false c.turns.reply) c.turns.invariant.unmarked)
+    subst IsUnmarked step (is_unmarked (g.K.Validate.words false) (g.K.Validate.shape c.args.keyword.now.keyword.now) (g.K.Validate.absorbed (g.K.Validate.shape c.args.keyword.now.keyword.now)) (g.K.Validate.remaining (g.K.Validate.shape c.args.keyword.now.keyword.now)) (g.K.Validate.ends false (g.K.Validate.shape c.args.keyword.now.keyword.now)) (g.K.Validate.fits false (g.K.Validate.shape c.args.keyword.now.keyword.now)) (g.met.K.Validate.turn_laws false (g.K.Validate.shape c.args.keyword.now.keyword.now)) s (c.turns.run, answer_of false c.turns.answer) (reply_of false c.turns.reply) c.turns.invariant.unmarked)
 
 pub run_entry-returns-clause-meets : goal.run_entry-returns-clause-meets
 run_entry-returns-clause-meets g t c = if_ok_mono c.run_form-2.result _ _ (λ r met texts root depth reads l.

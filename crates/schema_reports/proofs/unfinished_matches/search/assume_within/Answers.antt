@@ -27,7 +27,7 @@ loop-outcomes-preserved g c = record {
   within = omega arith;
   completes =
       λ u is.
-      stack_taken _ c.args.first u c.args.run.now _ _ _ c.in-Some.outcomes _ _ _ _ _ _ c.in_ok-given.given.0 c.in_ok-given.given.1 c.run_from.new.run c.in_ok-given.given.0.unassumed refl c.in-Some.ensures.items (c.loop-outcomes.invariant.completes u is) c.in_ok-given.ensures.made c.take-taken.ensures.located c.in_ok-taken.ensures.whole c.in_ok-taken.ensures.branches;
+      stack_taken _ c.args.first u c.args.run.now _ _ _ c.in-Some.outcomes _ _ _ _ _ _ c.in-Ok.given.0 c.in-Ok.given.1 c.run_from.new.run c.in-Ok.given.0.unassumed refl c.in-Some.ensures.items (c.loop-outcomes.invariant.completes u is) c.in-Ok.ensures.made c.take-taken.ensures.located c.in_default-taken.ensures.whole c.in_default-taken.ensures.branches;
 }
 
 pub returns-then-runs-run_limit : goal.returns-then-runs-run_limit

@@ -1,0 +1,40 @@
+//! Prints the errors of an instance, by a validator of a small schema: the engine and the bench's parts used as libraries.
+#![tactic(auto)]
+
+use bench_keywords::keyword::BenchKeyword;
+use bench_parts::matcher::BenchMatcher;
+use bench_parts::resolver::BenchResolver;
+use bench_parts::table::BenchTable;
+use schema_engine::keywords::VocabularySet;
+use schema_engine::validator::Validator;
+use serde_json::Value;
+
+const SCHEMA: &str = r##"{
+  "properties": {
+    "age": {"$ref": "#/$defs/count"},
+    "id": {"anyOf": [{"type": "string"}, {"type": "integer"}]}
+  },
+  "$defs": {"count": {"type": "integer"}}
+}"##;
+
+const INSTANCE: &str = r#"{"age": "7", "id": null}"#;
+
+fn main(rt: HostRuntime) -> anyhow::Result<()> {
+    let alloc = rt.alloc();
+    let schema = Value::from_str(alloc, SCHEMA)?;
+    let instance = Value::from_str(alloc, INSTANCE)?;
+    let table = BenchTable {};
+    let resolver = BenchResolver::new(alloc, &schema, VocabularySet::new(alloc))?;
+    let matcher = BenchMatcher::new(Vec::new(alloc));
+    match Validator::<BenchKeyword, BenchMatcher>::new(
+        alloc, &schema, &table, &resolver, &matcher,
+    ) {
+        Err(refused) => println!(rt; "{refused}")?,
+        Ok(validator) => {
+            for error in validator.iter_errors(alloc, &instance)? {
+                println!(rt; "{}: {error}", error.instance_path(alloc)?.as_str())?;
+            }
+        }
+    }
+    Ok(())
+}

@@ -1,0 +1,644 @@
+use Rattle.std.proofs.Common.{length, ◌≡◌, ◌∷◌, [], ◌++◌, List, append_assoc, string_cmp, subst, map, refl, sym, ap, ◌∙◌, arith, Some, None, rules, true, false, true≢false}
+use Rattle.std.specs.Prelude.{IfErr, IfOk, Option, string_bytes, option_map}
+use Rattle.std.proofs.lemmas.List.{append-nil, length-map}
+use Rattle.std.proofs.lemmas.Result.{err_from_is_err_and}
+use Rattle.std.proofs.lemmas.Grind.{common_steps}
+use Rattle.std.specs.List.Sorted.{IsStrictlySortedBy}
+use Rattle.std.specs.Map.{keys_of}
+use Rattle.serde_json.specs.Data.{Data}
+use Rattle.serde_json.specs.View.{view, members_view}
+use Rattle.serde_json.proofs.Views.{Entry}
+use Rattle.schema_reports.specs.Pointer.{pointer_to, joined}
+use Rattle.schema_reports.specs.Plan.{Edge, Part, Plan, making}
+use Rattle.schema_reports.specs.Reach.{at_first}
+use Rattle.schema_reports.specs.Refusals.{Cause}
+use Rattle.schema_reports.specs.Units.{object_of, unknown}
+use Rattle.schema_reports.specs.Guarded.{node_these}
+use Rattle.schema_node.specs.MakerViews.{maker_reply_of}
+use Rattle.schema_node.specs.NodeViews.{edge_of, entry_of, plan_of}
+use Rattle.schema_compiler.specs.KeyViews.{key_of, kind_of}
+use Rattle.schema_compiler.specs.Carried.{filled, task}
+use Rattle.schema_compiler.specs.Compiling.{reference_asked}
+use Rattle.schema_compiler.specs.Refusing.{Refused}
+use Rattle.schema_compiler.specs.Steps.{MakesPart, MakesPlan}
+use Rattle.schema_compiler.proofs.Growing.{refusal_map, from_key, blames_key, grown_none, grown_map, step_none}
+use Rattle.schema_compiler.proofs.Tables.{are_filled, finished_grown, finished_table, finishes, numbered_after, reserved_after}
+use Rattle.schema_compiler.proofs.References.{asked_refused, compile_clean, reference_clean, self_clean, asked_self, asked_edge, is_answered, is_skipped}
+use Rattle.schema_compiler.proofs.Entries.{all_entries, all_steps, so_far_none, so_far_more, member_refused}
+use Rattle.schema_compiler.proofs.Forms.{boolean_made, object_is, object_stands, other_refused}
+use Rattle.schema_compiler.proofs.Turns.{asked_begun, asked_compile, asked_refer, compile_refused, refer_refused, made_keyword, made_nothing}
+use Rattle.schema_compiler.proofs.MembersAsk.{own_is, reference_is, built_is, no_member, lone_is, lone_refused, members_are, members_refused, text_refused, other_text_refused, reference_made, planned_alone}
+use Rattle.schema_compiler.proofs.Unknown.{made_known, kept_unknown}
+use Rattle.schema_compiler.proofs.compiler.given.Given.+compile.Goals as goal
+
+pub child_edge-returns-in_err-edge_to-clause-refused : goal.child_edge-returns-in_err-edge_to-clause-refused
+child_edge-returns-in_err-edge_to-clause-refused g t c =
+    let v = key_of g.R.Resolver.point in
+    let s = task g.R.Resolver.resolving g.T.KeywordTable.owned g.T.KeywordTable.script g.K.Validate.shape c.args.self.now in
+    let old = filled g.R.Resolver.point c.args.compiled.now in
+    let p = err_from_is_err_and c.from_residual-in_err-edge_to.result c.from_residual-in_err-edge_to.ensures.1 in
+    rw (p.1, p.2) (asked_refused s.parts s.limit _ (record { key = v c.in_ok-below.below; path = pointer_to c.args.path.now; is_reference = false }) _ old.keys _ c.in_ok-below.ensures.below c.in_err-edge_to.ensures.refused)
+
+pub child_edge-returns-clause-answered : goal.child_edge-returns-clause-answered
+child_edge-returns-clause-answered g t c =
+    let v = key_of g.R.Resolver.point in
+    let s = task g.R.Resolver.resolving g.T.KeywordTable.owned g.T.KeywordTable.script g.K.Validate.shape c.args.self.now in
+    let old = filled g.R.Resolver.point c.args.compiled.now in
+    is_answered s.parts s.shape s.limit _ (record { key = v c.in_ok-below.below; path = pointer_to c.args.path.now; is_reference = false }) _ old.keys (map v c.edge_to.new.compiled.keys) old.nodes c.edge_to.new.compiled.nodes (edge_of c.in_ok-edge_to.field-0) _ c.in_ok-below.ensures.below
+    (compile_clean s.parts (v c.args.key.now) c.args.path.now (record { key = v c.in_ok-below.below; path = pointer_to c.args.path.now; is_reference = false }) c.in_ok-below.ensures.below) (λ f. absurd (true≢false (sym f))) c.in_ok-location.ensures.pointer c.in_ok-edge_to.ensures.edge
+
+pub edge_to-returns-clause-edge : goal.edge_to-returns-clause-edge
+edge_to-returns-clause-edge g t c =
+    let n = c.in_ok-number.ensures.numbered in
+    record {
+      table = n.table;
+      grown = n.grown;
+      number = rw c.edge_at.ensures.node (n.number);
+      fresh = rw c.edge_at.ensures.node (n.fresh);
+      at_path = c.edge_at.ensures.path;
+      leads = c.edge_at.ensures.leads;
+    }
+
+pub number_of-returns-in-Some-clause-numbered : goal.number_of-returns-in-Some-clause-numbered
+number_of-returns-in-Some-clause-numbered g t c =
+    let old = filled g.R.Resolver.point c.args.compiled.now in
+    record {
+      table = c.requires.table;
+      grown = grown_none _ old.keys old.nodes c.requires.table.lengths;
+      number = c.in-Some.ensures.found;
+      fresh = λ absent. absurd (absent c.in-Some.ensures.found);
+    }
+
+pub number_of-returns-in_err-number-clause-refused : goal.number_of-returns-in_err-number-clause-refused
+number_of-returns-in_err-number-clause-refused g t c =
+    let p = err_from_is_err_and c.from_residual.result c.from_residual.ensures.1 in
+    rw (p.1, p.2) c.in_err-number.ensures.refused
+
+pub number_of-returns-in_err-planned-clause-refused : goal.number_of-returns-in_err-planned-clause-refused
+number_of-returns-in_err-planned-clause-refused g t c =
+    let v = key_of g.R.Resolver.point in
+    let s = task g.R.Resolver.resolving g.T.KeywordTable.owned g.T.KeywordTable.script g.K.Validate.shape c.args.self.now in
+    let old = filled g.R.Resolver.point c.args.compiled.now in
+    let p = err_from_is_err_and c.from_residual-in_err-planned.result c.from_residual-in_err-planned.ensures.1 in
+    let k = v c.args.key.now in
+    rw (p.1, p.2) (refusal_map s.limit _ _ _ _ old.keys (map v c.reserve_within.new.compiled.keys) (k ∷ []) (from_key s.parts k) (blames_key s.parts k) c.in_ok-number.ensures.keys (at_first, tt) _ c.in_err-planned.ensures.refused)
+
+pub number_of-fill-requires-clause-reserved : goal.number_of-fill-requires-clause-reserved
+number_of-fill-requires-clause-reserved g t c =
+    let old = filled g.R.Resolver.point c.args.compiled.now in
+    let n = c.in_ok-number.ensures.nodes in
+    reserved_after old.nodes c.reserve_within.new.compiled.nodes c.planned_node.new.compiled.nodes n.0 c.in_ok-number.number.0 c.in_ok-number.ensures.number n.1 n.2 c.in_ok-planned.ensures.planned.step.grown.stay
+
+pub number_of-fill-requires-clause-ready : goal.number_of-fill-requires-clause-ready
+number_of-fill-requires-clause-ready g t c =
+    let v = key_of g.R.Resolver.point in
+    let s = task g.R.Resolver.resolving g.T.KeywordTable.owned g.T.KeywordTable.script g.K.Validate.shape c.args.self.now in
+    let m = c.in_ok-planned.ensures.planned in
+    are_filled s.parts s.shape s.limit (map v c.planned_node.new.compiled.keys) c.planned_node.new.compiled.nodes (v c.args.key.now) (plan_of c.in_ok-planned.planned.form)
+    (record { plans = m.plan; settled = m.step.settled; clean = m.step.clean })
+
+pub number_of-returns-clause-numbered : goal.number_of-returns-clause-numbered
+number_of-returns-clause-numbered g t c =
+    let v = key_of g.R.Resolver.point in
+    let s = task g.R.Resolver.resolving g.T.KeywordTable.owned g.T.KeywordTable.script g.K.Validate.shape c.args.self.now in
+    let old = filled g.R.Resolver.point c.args.compiled.now in
+    let n = c.in_ok-number.ensures.nodes in
+    let m = c.in_ok-planned.ensures.planned in
+    let k = v c.args.key.now in
+    let i = c.in_ok-number.number.0 in
+    let p = plan_of c.in_ok-planned.planned.form in
+    let annotations = c.in_ok-planned.planned.annotations in
+    let reserved = map v c.reserve_within.new.compiled.keys in
+    let planned = map v c.planned_node.new.compiled.keys in
+    let nodes' = c.reserve_within.new.compiled.nodes in
+    let nodes'' = c.planned_node.new.compiled.nodes in
+    let nodes-filled = c.fill.new.self in
+    let at = numbered_after old.keys reserved planned m.step.grown.added.0 k i (c.in_ok-number.ensures.number ∙ c.requires.table.lengths) c.in_ok-number.ensures.keys m.step.grown.added.1 in
+    let is_reserved = reserved_after old.nodes nodes' nodes'' n.0 i c.in_ok-number.ensures.number n.1 n.2 m.step.grown.stay in
+    record {
+      table = finished_table s.parts s.shape s.limit planned nodes'' nodes-filled i k annotations p m.step.table at is_reserved c.fill.ensures.filled (record { plans = m.plan; settled = m.step.settled; clean = m.step.clean }) m.annotated;
+      grown = finished_grown _ old.keys reserved planned planned old.nodes nodes' nodes'' nodes-filled k n.0 i
+          c.requires.table.lengths c.in_ok-number.ensures.number c.in_ok-number.ensures.keys n.1 at_first (grown_map _ _ _ _ _ _ (from_key s.parts k) m.step.grown) refl (finishes nodes'' nodes-filled i annotations p c.fill.ensures.filled);
+      number = at;
+      fresh = λ absent. c.in_ok-number.ensures.number ∙ c.requires.table.lengths;
+    }
+
+pub keywords_of-loop-name-init : goal.keywords_of-loop-name-init
+keywords_of-loop-name-init g t c =
+    let v = key_of g.R.Resolver.point in
+    let s = task g.R.Resolver.resolving g.T.KeywordTable.owned g.T.KeywordTable.script g.K.Validate.shape c.args.self.now in
+    let old = filled g.R.Resolver.point c.args.compiled.now in
+    let all : c.into_iter-name-iterator.result ≡ c.args.members.now.entries = search rules in
+    record {
+      can = tt;
+      finite = tt;
+      so_far = rw (all, c.new-entries.ensures.items) (so_far_none s.parts s.shape s.limit (v c.args.key.now) (members_view c.args.members.now.entries) old.keys old.nodes c.requires.table);
+      unknown = ([], sym all, rw c.new-unknown.ensures.empty refl);
+    }
+
+pub keywords_of-returns-in_err-entry-clause-refused : goal.keywords_of-returns-in_err-entry-clause-refused
+keywords_of-returns-in_err-entry-clause-refused g t c =
+    let v = key_of g.R.Resolver.point in
+    let s = task g.R.Resolver.resolving g.T.KeywordTable.owned g.T.KeywordTable.script g.K.Validate.shape c.args.self.now in
+    let old = filled g.R.Resolver.point c.args.compiled.now in
+    let k = v c.args.key.now in
+    let whole = members_view c.args.members.now.entries in
+    let so = rw c.in-Some.ensures.steps at c.loop-name.invariant.so_far in
+    let name = string_bytes c.in-Some.name.now in
+    let value = view c.in-Some.value.now in
+    let rest = members_view c.next.new.self in
+    let es = map entry_of c.loop-name.entries.items in
+    let keys' = map v c.loop-name.compiled.keys in
+    let nodes' = c.loop-name.compiled.nodes in
+    let p = err_from_is_err_and c.from_residual.result c.from_residual.ensures.1 in
+    rw (p.1, p.2) (member_refused s.parts s.shape s.limit k whole name value rest es old.keys keys' old.nodes nodes' _ so c.in_err-entry.ensures.refused)
+
+pub keywords_of-loop-name-preserved-in-Continue-branch-3 : goal.keywords_of-loop-name-preserved-in-Continue-branch-3
+keywords_of-loop-name-preserved-in-Continue-branch-3 g t c =
+    let v = key_of g.R.Resolver.point in
+    let s = task g.R.Resolver.resolving g.T.KeywordTable.owned g.T.KeywordTable.script g.K.Validate.shape c.args.self.now in
+    let old = filled g.R.Resolver.point c.args.compiled.now in
+    let k = v c.args.key.now in
+    let whole = members_view c.args.members.now.entries in
+    let so = rw c.in-Some.ensures.steps at c.loop-name.invariant.so_far in
+    let name = string_bytes c.in-Some.name.now in
+    let value = view c.in-Some.value.now in
+    let rest = members_view c.next.new.self in
+    let es = map entry_of c.loop-name.entries.items in
+    let keys' = map v c.loop-name.compiled.keys in
+    let nodes' = c.loop-name.compiled.nodes in
+    let keys'' = map v c.entry_of.new.compiled.keys in
+    let nodes'' = c.entry_of.new.compiled.nodes in
+    let inv = c.loop-name.invariant.unknown in
+    let done = inv.0 in
+    let member : Entry = (c.in-Some.name.now, c.in-Some.value.now) in
+    let left = c.next.new.self in
+    let all : c.args.members.now.entries ≡ done ++ member ∷ left = inv.1 ∙ ap (λ ms. done ++ ms) c.in-Some.ensures.steps in
+    let all' = all ∙ sym (append_assoc done (member ∷ []) left) in
+    let step = c.in_ok-entry.ensures.part.step in
+    let made = rw c.in-Some-2.is at c.in_ok-entry.ensures.part.made in
+    record {
+      can = tt;
+      finite = tt;
+      so_far = rw c.in_ok-insert_by_priority-in-Some-2.ensures.placed (so_far_more s.parts s.shape s.limit k whole name value rest (Some (entry_of c.in-Some-2.entry)) es old.keys keys' keys'' old.nodes nodes' nodes'' so step made);
+      unknown = (done ++ member ∷ [], all', made_known s.parts k whole s.shape keys'' nodes'' (entry_of c.in-Some-2.entry) done member (members_view c.loop-name.unknown.entries) made inv.2);
+    }
+
+pub keywords_of-loop-name-preserved : goal.keywords_of-loop-name-preserved
+keywords_of-loop-name-preserved g t c =
+    let v = key_of g.R.Resolver.point in
+    let s = task g.R.Resolver.resolving g.T.KeywordTable.owned g.T.KeywordTable.script g.K.Validate.shape c.args.self.now in
+    let old = filled g.R.Resolver.point c.args.compiled.now in
+    let k = v c.args.key.now in
+    let whole = members_view c.args.members.now.entries in
+    let so = rw c.in-Some.ensures.steps at c.loop-name.invariant.so_far in
+    let name = string_bytes c.in-Some.name.now in
+    let value = view c.in-Some.value.now in
+    let rest = members_view c.next.new.self in
+    let es = map entry_of c.loop-name.entries.items in
+    let keys' = map v c.loop-name.compiled.keys in
+    let nodes' = c.loop-name.compiled.nodes in
+    let keys'' = map v c.entry_of.new.compiled.keys in
+    let nodes'' = c.entry_of.new.compiled.nodes in
+    let inv = c.loop-name.invariant.unknown in
+    let done = inv.0 in
+    let member : Entry = (c.in-Some.name.now, c.in-Some.value.now) in
+    let left = c.next.new.self in
+    let all : c.args.members.now.entries ≡ done ++ member ∷ left = inv.1 ∙ ap (λ ms. done ++ ms) c.in-Some.ensures.steps in
+    let all' = all ∙ sym (append_assoc done (member ∷ []) left) in
+    let step = c.in_ok-entry.ensures.part.step in
+    let made = rw c.in-None-2.is at c.in_ok-entry.ensures.part.made in
+    record {
+      can = tt;
+      finite = tt;
+      so_far = so_far_more s.parts s.shape s.limit k whole name value rest None es old.keys keys' keys'' old.nodes nodes' nodes'' so step made;
+      unknown = (
+        done ++ member ∷ [],
+        all',
+        kept_unknown s.parts k whole s.shape keys'' nodes'' done member left (members_view c.loop-name.unknown.entries) (members_view c.keep_unknown.new.unknown.entries)
+            (subst (λ ms. IsStrictlySortedBy string_cmp (keys_of ms)) all c.iter-name-items.ensures.ordered) made inv.2 c.in_ok-keep_unknown-in-None-2.ensures.kept,
+      );
+    }
+
+pub keywords_of-returns-clause-parts : goal.keywords_of-returns-clause-parts
+keywords_of-returns-clause-parts g t c =
+    let v = key_of g.R.Resolver.point in
+    let s = task g.R.Resolver.resolving g.T.KeywordTable.owned g.T.KeywordTable.script g.K.Validate.shape c.args.self.now in
+    let old = filled g.R.Resolver.point c.args.compiled.now in
+    let k = v c.args.key.now in
+    let whole = members_view c.args.members.now.entries in
+    let ended = c.in-None.ensures.steps.0 in
+    let so = rw ended at c.loop-name.invariant.so_far in
+    let es = map entry_of c.loop-name.entries.items in
+    let keys' = map v c.loop-name.compiled.keys in
+    let nodes' = c.loop-name.compiled.nodes in
+    let inv = c.loop-name.invariant.unknown in
+    record {
+      step = all_steps s.parts s.shape s.limit k whole es old.keys keys' old.nodes nodes' so;
+      entries = all_entries s.parts s.shape s.limit k whole es old.keys keys' old.nodes nodes' so;
+      unknown = inv.2 ∙ ap (λ (ms : List Entry). unknown s.parts k whole (members_view ms)) (sym (inv.1 ∙ ap (λ (ms : List Entry). inv.0 ++ ms) ended ∙ append-nil inv.0));
+    }
+
+pub entry_of-returns-then-owns-clause-refused : goal.entry_of-returns-then-owns-clause-refused
+entry_of-returns-then-owns-clause-refused g t c =
+    let v = key_of g.R.Resolver.point in
+    let s = task g.R.Resolver.resolving g.T.KeywordTable.owned g.T.KeywordTable.script g.K.Validate.shape c.args.self.now in
+    let old = filled g.R.Resolver.point c.args.compiled.now in
+    let k = v c.args.key.now in
+    let whole = members_view c.args.members.now.entries in
+    let name = string_bytes c.args.name.now in
+    let value = view c.args.value.now in
+    let owns = rw c.as_str-text.ensures.value at c.owns.ensures.owned in
+    own_is s.parts k whole name value (λ (es : List (Edge _)) (cs : List Cause) (p : Option (Part _)). IfErr c.made_entry.result (Refused s.parts s.limit es cs old.keys)) (sym owns ∙ c.if-owns.true) c.made_entry.ensures.refused
+
+pub entry_of-returns-in-Some-reference_kind-clause-refused : goal.entry_of-returns-in-Some-reference_kind-clause-refused
+entry_of-returns-in-Some-reference_kind-clause-refused g t c =
+    let v = key_of g.R.Resolver.point in
+    let s = task g.R.Resolver.resolving g.T.KeywordTable.owned g.T.KeywordTable.script g.K.Validate.shape c.args.self.now in
+    let old = filled g.R.Resolver.point c.args.compiled.now in
+    let k = v c.args.key.now in
+    let whole = members_view c.args.members.now.entries in
+    let name = string_bytes c.args.name.now in
+    let value = view c.args.value.now in
+    let owns = rw c.as_str-text.ensures.value at c.owns.ensures.owned in
+    let row = rw c.as_str-text.ensures.value at c.in-Some.ensures.row in
+    let kind = rw c.as_str-text.ensures.value at c.in-Some-reference_kind.ensures.kind in
+    reference_is s.parts k whole name value (λ (es : List (Edge _)) (cs : List Cause) (p : Option (Part _)). IfErr c.reference_entry.result (Refused s.parts s.limit es cs old.keys)) _ (kind_of c.in-Some-reference_kind.kind) (sym owns ∙ c.if-owns.false) row kind c.reference_entry.ensures.refused
+
+pub entry_of-returns-in-None-reference_kind-clause-refused : goal.entry_of-returns-in-None-reference_kind-clause-refused
+entry_of-returns-in-None-reference_kind-clause-refused g t c =
+    let v = key_of g.R.Resolver.point in
+    let s = task g.R.Resolver.resolving g.T.KeywordTable.owned g.T.KeywordTable.script g.K.Validate.shape c.args.self.now in
+    let old = filled g.R.Resolver.point c.args.compiled.now in
+    let k = v c.args.key.now in
+    let whole = members_view c.args.members.now.entries in
+    let name = string_bytes c.args.name.now in
+    let value = view c.args.value.now in
+    let owns = rw c.as_str-text.ensures.value at c.owns.ensures.owned in
+    let row = rw c.as_str-text.ensures.value at c.in-Some.ensures.row in
+    let kind = rw c.as_str-text.ensures.value at c.in-None-reference_kind.ensures.kind in
+    built_is s.parts k whole name value (λ (es : List (Edge _)) (cs : List Cause) (p : Option (Part _)). IfErr c.made_entry-in-None-reference_kind.result (Refused s.parts s.limit es cs old.keys)) _ (sym owns ∙ c.if-owns.false) row kind c.made_entry-in-None-reference_kind.ensures.refused
+
+pub entry_of-returns-then-owns-clause-part : goal.entry_of-returns-then-owns-clause-part
+entry_of-returns-then-owns-clause-part g t c =
+    let v = key_of g.R.Resolver.point in
+    let s = task g.R.Resolver.resolving g.T.KeywordTable.owned g.T.KeywordTable.script g.K.Validate.shape c.args.self.now in
+    let old = filled g.R.Resolver.point c.args.compiled.now in
+    let k = v c.args.key.now in
+    let whole = members_view c.args.members.now.entries in
+    let name = string_bytes c.args.name.now in
+    let value = view c.args.value.now in
+    let owns = rw c.as_str-text.ensures.value at c.owns.ensures.owned in
+    own_is s.parts k whole name value (λ (es : List (Edge _)) (cs : List Cause) (p : Option (Part _)). IfOk c.made_entry.result (λ o. MakesPart s.parts s.shape s.limit old.keys (map v c.made_entry.new.compiled.keys) old.nodes c.made_entry.new.compiled.nodes es cs k (option_map entry_of o) p)) (sym owns ∙ c.if-owns.true) c.made_entry.ensures.part
+
+pub entry_of-returns-in-Some-reference_kind-clause-part : goal.entry_of-returns-in-Some-reference_kind-clause-part
+entry_of-returns-in-Some-reference_kind-clause-part g t c =
+    let v = key_of g.R.Resolver.point in
+    let s = task g.R.Resolver.resolving g.T.KeywordTable.owned g.T.KeywordTable.script g.K.Validate.shape c.args.self.now in
+    let old = filled g.R.Resolver.point c.args.compiled.now in
+    let k = v c.args.key.now in
+    let whole = members_view c.args.members.now.entries in
+    let name = string_bytes c.args.name.now in
+    let value = view c.args.value.now in
+    let owns = rw c.as_str-text.ensures.value at c.owns.ensures.owned in
+    let row = rw c.as_str-text.ensures.value at c.in-Some.ensures.row in
+    let kind = rw c.as_str-text.ensures.value at c.in-Some-reference_kind.ensures.kind in
+    reference_is s.parts k whole name value (λ (es : List (Edge _)) (cs : List Cause) (p : Option (Part _)). IfOk c.reference_entry.result (λ o. MakesPart s.parts s.shape s.limit old.keys (map v c.reference_entry.new.compiled.keys) old.nodes c.reference_entry.new.compiled.nodes es cs k (option_map entry_of o) p)) _ (kind_of c.in-Some-reference_kind.kind) (sym owns ∙ c.if-owns.false) row kind c.reference_entry.ensures.part
+
+pub entry_of-returns-in-None-reference_kind-clause-part : goal.entry_of-returns-in-None-reference_kind-clause-part
+entry_of-returns-in-None-reference_kind-clause-part g t c =
+    let v = key_of g.R.Resolver.point in
+    let s = task g.R.Resolver.resolving g.T.KeywordTable.owned g.T.KeywordTable.script g.K.Validate.shape c.args.self.now in
+    let old = filled g.R.Resolver.point c.args.compiled.now in
+    let k = v c.args.key.now in
+    let whole = members_view c.args.members.now.entries in
+    let name = string_bytes c.args.name.now in
+    let value = view c.args.value.now in
+    let owns = rw c.as_str-text.ensures.value at c.owns.ensures.owned in
+    let row = rw c.as_str-text.ensures.value at c.in-Some.ensures.row in
+    let kind = rw c.as_str-text.ensures.value at c.in-None-reference_kind.ensures.kind in
+    built_is s.parts k whole name value (λ (es : List (Edge _)) (cs : List Cause) (p : Option (Part _)). IfOk c.made_entry-in-None-reference_kind.result (λ o. MakesPart s.parts s.shape s.limit old.keys (map v c.made_entry-in-None-reference_kind.new.compiled.keys) old.nodes c.made_entry-in-None-reference_kind.new.compiled.nodes es cs k (option_map entry_of o) p)) _ (sym owns ∙ c.if-owns.false) row kind c.made_entry-in-None-reference_kind.ensures.part
+
+pub entry_of-returns-in-None-clause-part : goal.entry_of-returns-in-None-clause-part
+entry_of-returns-in-None-clause-part g t c =
+    let v = key_of g.R.Resolver.point in
+    let s = task g.R.Resolver.resolving g.T.KeywordTable.owned g.T.KeywordTable.script g.K.Validate.shape c.args.self.now in
+    let old = filled g.R.Resolver.point c.args.compiled.now in
+    let k = v c.args.key.now in
+    let whole = members_view c.args.members.now.entries in
+    let name = string_bytes c.args.name.now in
+    let value = view c.args.value.now in
+    let owns = rw c.as_str-text.ensures.value at c.owns.ensures.owned in
+    let row = rw c.as_str-text.ensures.value at c.in-None.ensures.row in
+    no_member s.parts k whole name value (λ (es : List (Edge _)) (cs : List Cause) (p : Option (Part _)). MakesPart s.parts s.shape s.limit old.keys old.keys old.nodes old.nodes es cs k None p) (sym owns ∙ c.if-owns.false) row
+    (record { step = step_none s.parts s.shape s.limit old.keys old.nodes c.requires.table; made = tt })
+
+pub made_entry-loop-children-init : goal.made_entry-loop-children-init
+made_entry-loop-children-init g t c =
+    let v = key_of g.R.Resolver.point in
+    let s = task g.R.Resolver.resolving g.T.KeywordTable.owned g.T.KeywordTable.script g.K.Validate.shape c.args.self.now in
+    let old = filled g.R.Resolver.point c.args.compiled.now in
+    let k = v c.args.key.now in
+    let whole = members_view c.args.members.now.entries in
+    let name = string_bytes c.args.name.now in
+    let making = making s.parts k whole c.args.own name in
+    rw c.new-children.ensures.items (asked_begun s.parts s.shape s.limit k name making _ (g.T.KeywordTable.waiting c.in_ok-maker.maker) old.keys old.nodes refl c.in_ok-maker.ensures.begins c.requires.table)
+
+pub made_entry-returns-in_err-edge-in-Compile-clause-refused : goal.made_entry-returns-in_err-edge-in-Compile-clause-refused
+made_entry-returns-in_err-edge-in-Compile-clause-refused g t c =
+    let v = key_of g.R.Resolver.point in
+    let s = task g.R.Resolver.resolving g.T.KeywordTable.owned g.T.KeywordTable.script g.K.Validate.shape c.args.self.now in
+    let old = filled g.R.Resolver.point c.args.compiled.now in
+    let k = v c.args.key.now in
+    let whole = members_view c.args.members.now.entries in
+    let name = string_bytes c.args.name.now in
+    let making = making s.parts k whole c.args.own name in
+    let inv = c.loop-children.invariant in
+    let waiting = g.T.KeywordTable.waiting c.loop-children.maker in
+    let waiting' = g.T.KeywordTable.waiting c.turn.new.maker in
+    let told = maker_reply_of c.loop-children.reply in
+    let es = map (option_map edge_of) c.loop-children.children.items in
+    let keys' = map v c.loop-children.compiled.keys in
+    let nodes' = c.loop-children.compiled.nodes in
+    let takes = rw c.in-Compile.is at c.in_ok-path.ensures.takes in
+    let p = err_from_is_err_and c.from_residual-in_err-edge-in-Compile.result c.from_residual-in_err-edge-in-Compile.ensures.1 in
+    rw (p.1, p.2) (compile_refused s.parts s.shape s.limit k name making waiting waiting' told es old.keys keys' old.nodes nodes' c.in-Compile.path _ inv takes c.in_err-edge-in-Compile.ensures.refused)
+
+pub made_entry-loop-children-preserved-in-Compile : goal.made_entry-loop-children-preserved-in-Compile
+made_entry-loop-children-preserved-in-Compile g t c =
+    let v = key_of g.R.Resolver.point in
+    let s = task g.R.Resolver.resolving g.T.KeywordTable.owned g.T.KeywordTable.script g.K.Validate.shape c.args.self.now in
+    let old = filled g.R.Resolver.point c.args.compiled.now in
+    let k = v c.args.key.now in
+    let whole = members_view c.args.members.now.entries in
+    let name = string_bytes c.args.name.now in
+    let making = making s.parts k whole c.args.own name in
+    let inv = c.loop-children.invariant in
+    let waiting = g.T.KeywordTable.waiting c.loop-children.maker in
+    let waiting' = g.T.KeywordTable.waiting c.turn.new.maker in
+    let told = maker_reply_of c.loop-children.reply in
+    let es = map (option_map edge_of) c.loop-children.children.items in
+    let keys' = map v c.loop-children.compiled.keys in
+    let nodes' = c.loop-children.compiled.nodes in
+    let takes = rw c.in-Compile.is at c.in_ok-path.ensures.takes in
+    let e = c.in_ok-edge-in-Compile.ensures.answered in
+    rw (c.in_ok-reply-in-Compile.ensures.kept, c.in_ok-reply-in-Compile.ensures.told)
+    (asked_compile s.parts s.shape s.limit k name making waiting waiting' told es old.keys keys' (map v c.child_edge.new.compiled.keys) old.nodes nodes' c.child_edge.new.compiled.nodes c.in-Compile.path (edge_of c.in_ok-edge-in-Compile.edge) (length c.loop-children.children.items)
+    inv takes (sym (length-map c.loop-children.children.items (option_map edge_of))) e.leads e.filled.0 e.step)
+
+pub made_entry-returns-in_err-edge-in-Refer-clause-refused : goal.made_entry-returns-in_err-edge-in-Refer-clause-refused
+made_entry-returns-in_err-edge-in-Refer-clause-refused g t c =
+    let v = key_of g.R.Resolver.point in
+    let s = task g.R.Resolver.resolving g.T.KeywordTable.owned g.T.KeywordTable.script g.K.Validate.shape c.args.self.now in
+    let old = filled g.R.Resolver.point c.args.compiled.now in
+    let k = v c.args.key.now in
+    let whole = members_view c.args.members.now.entries in
+    let name = string_bytes c.args.name.now in
+    let making = making s.parts k whole c.args.own name in
+    let inv = c.loop-children.invariant in
+    let waiting = g.T.KeywordTable.waiting c.loop-children.maker in
+    let waiting' = g.T.KeywordTable.waiting c.turn.new.maker in
+    let told = maker_reply_of c.loop-children.reply in
+    let es = map (option_map edge_of) c.loop-children.children.items in
+    let keys' = map v c.loop-children.compiled.keys in
+    let nodes' = c.loop-children.compiled.nodes in
+    let takes = rw c.in-Refer.is at c.in_ok-path.ensures.takes in
+    let p = err_from_is_err_and c.from_residual-in_err-edge-in-Refer.result c.from_residual-in_err-edge-in-Refer.ensures.1 in
+    rw (p.1, p.2) (refer_refused s.parts s.shape s.limit k name making waiting waiting' told es old.keys keys' old.nodes nodes' c.in-Refer.text _ inv takes c.in_err-edge-in-Refer.ensures.refused)
+
+pub made_entry-loop-children-preserved : goal.made_entry-loop-children-preserved
+made_entry-loop-children-preserved g t c =
+    let v = key_of g.R.Resolver.point in
+    let s = task g.R.Resolver.resolving g.T.KeywordTable.owned g.T.KeywordTable.script g.K.Validate.shape c.args.self.now in
+    let old = filled g.R.Resolver.point c.args.compiled.now in
+    let k = v c.args.key.now in
+    let whole = members_view c.args.members.now.entries in
+    let name = string_bytes c.args.name.now in
+    let making = making s.parts k whole c.args.own name in
+    let inv = c.loop-children.invariant in
+    let waiting = g.T.KeywordTable.waiting c.loop-children.maker in
+    let waiting' = g.T.KeywordTable.waiting c.turn.new.maker in
+    let told = maker_reply_of c.loop-children.reply in
+    let es = map (option_map edge_of) c.loop-children.children.items in
+    let keys' = map v c.loop-children.compiled.keys in
+    let nodes' = c.loop-children.compiled.nodes in
+    let takes = rw c.in-Refer.is at c.in_ok-path.ensures.takes in
+    let e = c.in_ok-edge-in-Refer.ensures.answered in
+    rw c.in_ok-reply-in-Refer.ensures.kept
+    (asked_refer s.parts s.shape s.limit k name making waiting waiting' told _ es old.keys keys' (map v c.reference_edge.new.compiled.keys) old.nodes nodes' c.reference_edge.new.compiled.nodes c.in-Refer.text (option_map edge_of c.in_ok-edge-in-Refer.edge) (length c.loop-children.children.items)
+    inv takes (sym (length-map c.loop-children.children.items (option_map edge_of))) c.in_ok-reply-in-Refer.ensures.told e.leads e.filled e.step)
+
+pub made_entry-returns-in-Keyword-clause-part : goal.made_entry-returns-in-Keyword-clause-part
+made_entry-returns-in-Keyword-clause-part g t c =
+    let v = key_of g.R.Resolver.point in
+    let s = task g.R.Resolver.resolving g.T.KeywordTable.owned g.T.KeywordTable.script g.K.Validate.shape c.args.self.now in
+    let old = filled g.R.Resolver.point c.args.compiled.now in
+    let k = v c.args.key.now in
+    let whole = members_view c.args.members.now.entries in
+    let name = string_bytes c.args.name.now in
+    let making = making s.parts k whole c.args.own name in
+    let inv = c.loop-children.invariant in
+    let waiting = g.T.KeywordTable.waiting c.loop-children.maker in
+    let waiting' = g.T.KeywordTable.waiting c.turn.new.maker in
+    let told = maker_reply_of c.loop-children.reply in
+    let es = map (option_map edge_of) c.loop-children.children.items in
+    let keys' = map v c.loop-children.compiled.keys in
+    let nodes' = c.loop-children.compiled.nodes in
+    let takes = rw c.in-Keyword.is at c.in_ok-path.ensures.takes in
+    let made = made_keyword s.parts s.shape s.limit k name making waiting waiting' told es old.keys keys' old.nodes nodes' c.args.priority c.args.is_leaf c.in-Keyword.keyword c.in-Keyword.field-1 inv takes in
+    rw c.in_ok-entry_named-in-Keyword.ensures.entry (record { step = made.0; made = made.1 })
+
+pub made_entry-returns-in-Nothing-clause-part : goal.made_entry-returns-in-Nothing-clause-part
+made_entry-returns-in-Nothing-clause-part g t c =
+    let v = key_of g.R.Resolver.point in
+    let s = task g.R.Resolver.resolving g.T.KeywordTable.owned g.T.KeywordTable.script g.K.Validate.shape c.args.self.now in
+    let old = filled g.R.Resolver.point c.args.compiled.now in
+    let k = v c.args.key.now in
+    let whole = members_view c.args.members.now.entries in
+    let name = string_bytes c.args.name.now in
+    let making = making s.parts k whole c.args.own name in
+    let inv = c.loop-children.invariant in
+    let waiting = g.T.KeywordTable.waiting c.loop-children.maker in
+    let waiting' = g.T.KeywordTable.waiting c.turn.new.maker in
+    let told = maker_reply_of c.loop-children.reply in
+    let es = map (option_map edge_of) c.loop-children.children.items in
+    let keys' = map v c.loop-children.compiled.keys in
+    let nodes' = c.loop-children.compiled.nodes in
+    let takes = rw c.in-Nothing.is at c.in_ok-path.ensures.takes in
+    let made = made_nothing s.parts s.shape s.limit k name making waiting waiting' told es old.keys keys' old.nodes nodes' c.args.priority c.args.is_leaf inv takes in
+    record { step = made.0; made = made.1 }
+
+pub planned_object-returns-in_err-entry-in-Some-clause-refused : goal.planned_object-returns-in_err-entry-in-Some-clause-refused
+planned_object-returns-in_err-entry-in-Some-clause-refused g t c =
+    let v = key_of g.R.Resolver.point in
+    let s = task g.R.Resolver.resolving g.T.KeywordTable.owned g.T.KeywordTable.script g.K.Validate.shape c.args.self.now in
+    let old = filled g.R.Resolver.point c.args.compiled.now in
+    let k = v c.args.key.now in
+    let whole = members_view c.args.members.now.entries in
+    let p = err_from_is_err_and c.from_residual-in_err-entry-in-Some.result c.from_residual-in_err-entry-in-Some.ensures.1 in
+    rw (p.1, p.2) (lone_refused s.parts k s.limit old.keys _ whole (view c.in-Some.value.now) c.in-Some.ensures.alone (rw c.in_ok-name-in-Some.ensures.ok at c.in_err-entry-in-Some.ensures.refused))
+
+pub planned_object-returns-in_err-keywords-in-None-clause-refused : goal.planned_object-returns-in_err-keywords-in-None-clause-refused
+planned_object-returns-in_err-keywords-in-None-clause-refused g t c =
+    let v = key_of g.R.Resolver.point in
+    let s = task g.R.Resolver.resolving g.T.KeywordTable.owned g.T.KeywordTable.script g.K.Validate.shape c.args.self.now in
+    let old = filled g.R.Resolver.point c.args.compiled.now in
+    let k = v c.args.key.now in
+    let whole = members_view c.args.members.now.entries in
+    let p = err_from_is_err_and c.from_residual-in_err-keywords-in-None.result c.from_residual-in_err-keywords-in-None.ensures.1 in
+    rw (p.1, p.2) (members_refused s.parts k s.limit old.keys _ whole c.in-None.ensures.alone c.in_err-keywords-in-None.ensures.refused)
+
+pub planned_object-returns-in_ok-node_alone-in-Some-clause-planned : goal.planned_object-returns-in_ok-node_alone-in-Some-clause-planned
+planned_object-returns-in_ok-node_alone-in-Some-clause-planned g t c =
+    let v = key_of g.R.Resolver.point in
+    let s = task g.R.Resolver.resolving g.T.KeywordTable.owned g.T.KeywordTable.script g.K.Validate.shape c.args.self.now in
+    let old = filled g.R.Resolver.point c.args.compiled.now in
+    let k = v c.args.key.now in
+    let whole = members_view c.args.members.now.entries in
+    let n = c.in_ok-node_alone-in-Some.field-0 in
+    let keys' = map v c.reference_entry.new.compiled.keys in
+    let nodes' = c.reference_entry.new.compiled.nodes in
+    lone_is s.parts k whole (λ (es : List (Edge _)) (cs : List Cause) (q : Plan _) (a : Option Data). MakesPlan s.parts s.shape s.limit old.keys keys' old.nodes nodes' es cs k (plan_of n.form) q (option_map view n.annotations) a) (view c.in-Some.value.now) c.in-Some.ensures.alone
+    (planned_alone s.parts k s.shape s.limit old.keys keys' old.nodes nodes' _ _ _ _ (plan_of n.form) n.annotations c.in_ok-node_alone-in-Some.ensures.plan c.in_ok-node_alone-in-Some.ensures.annotations (rw c.in_ok-name-in-Some.ensures.ok at c.in_ok-entry-in-Some.ensures.part))
+
+pub planned_object-returns-in_ok-keywords-in-None-clause-planned : goal.planned_object-returns-in_ok-keywords-in-None-clause-planned
+planned_object-returns-in_ok-keywords-in-None-clause-planned g t c =
+    let v = key_of g.R.Resolver.point in
+    let s = task g.R.Resolver.resolving g.T.KeywordTable.owned g.T.KeywordTable.script g.K.Validate.shape c.args.self.now in
+    let old = filled g.R.Resolver.point c.args.compiled.now in
+    let k = v c.args.key.now in
+    let whole = members_view c.args.members.now.entries in
+    let m = c.in_ok-keywords-in-None.ensures.parts in
+    let keys' = map v c.keywords_of.new.compiled.keys in
+    let nodes' = c.keywords_of.new.compiled.nodes in
+    members_are s.parts k whole (λ (es : List (Edge _)) (cs : List Cause) (q : Plan _) (a : Option Data). MakesPlan s.parts s.shape s.limit old.keys keys' old.nodes nodes' es cs k (node_these (map entry_of c.in_ok-keywords-in-None.keywords.entries.items)) q (option_map view c.object_of.result) a) c.in-None.ensures.alone
+    (record { step = m.step; plan = m.entries; annotated = c.object_of.ensures.object ∙ ap object_of m.unknown })
+
+pub reference_edge-returns-in_err-target_of-clause-refused : goal.reference_edge-returns-in_err-target_of-clause-refused
+reference_edge-returns-in_err-target_of-clause-refused g t c =
+    let old = filled g.R.Resolver.point c.args.compiled.now in
+    let name = string_bytes c.args.name.now in
+    let h = rw c.as_str-2.ensures.value at (c.in_err-target_of.ensures.refused name old.keys) in
+    let p = err_from_is_err_and c.from_residual-in_err-target_of.result c.from_residual-in_err-target_of.ensures.1 in
+    rw (p.1, p.2) h
+
+pub reference_edge-returns-in_err-edge-in-Some-clause-refused : goal.reference_edge-returns-in_err-edge-in-Some-clause-refused
+reference_edge-returns-in_err-edge-in-Some-clause-refused g t c =
+    let v = key_of g.R.Resolver.point in
+    let s = task g.R.Resolver.resolving g.T.KeywordTable.owned g.T.KeywordTable.script g.K.Validate.shape c.args.self.now in
+    let old = filled g.R.Resolver.point c.args.compiled.now in
+    let k = v c.args.key.now in
+    let name = string_bytes c.args.name.now in
+    let kind = kind_of c.args.kind in
+    let text = string_bytes c.args.text.now in
+    let target = rw c.as_str-2.ensures.value at c.in_ok-target_of.ensures.target in
+    let t = rw c.in-Some.is at target in
+    let p = err_from_is_err_and c.from_residual-in_err-edge-in-Some.result c.from_residual-in_err-edge-in-Some.ensures.1 in
+    rw (p.1, p.2) (asked_refused s.parts s.limit (reference_asked s.parts k name kind text) (record { key = v c.in-Some.target; path = joined [] name; is_reference = true }) _ old.keys _ (asked_edge s.parts k name kind text (record { key = v c.in-Some.target; path = joined [] name; is_reference = true }) t.0 (t.1 name)) c.in_err-edge-in-Some.ensures.refused)
+
+pub reference_edge-returns-in-None-clause-answered : goal.reference_edge-returns-in-None-clause-answered
+reference_edge-returns-in-None-clause-answered g t c =
+    let v = key_of g.R.Resolver.point in
+    let s = task g.R.Resolver.resolving g.T.KeywordTable.owned g.T.KeywordTable.script g.K.Validate.shape c.args.self.now in
+    let old = filled g.R.Resolver.point c.args.compiled.now in
+    let k = v c.args.key.now in
+    let name = string_bytes c.args.name.now in
+    let kind = kind_of c.args.kind in
+    let text = string_bytes c.args.text.now in
+    let target = rw c.as_str-2.ensures.value at c.in_ok-target_of.ensures.target in
+    let h = rw c.in-None.is at target in
+    is_skipped s.parts s.shape s.limit (reference_asked s.parts k name kind text) _ old.keys old.nodes (asked_self s.parts k name kind text h) (self_clean s.parts k kind text h) c.requires.table
+
+pub reference_edge-returns-in_ok-edge-in-Some-clause-answered : goal.reference_edge-returns-in_ok-edge-in-Some-clause-answered
+reference_edge-returns-in_ok-edge-in-Some-clause-answered g t c =
+    let v = key_of g.R.Resolver.point in
+    let s = task g.R.Resolver.resolving g.T.KeywordTable.owned g.T.KeywordTable.script g.K.Validate.shape c.args.self.now in
+    let old = filled g.R.Resolver.point c.args.compiled.now in
+    let k = v c.args.key.now in
+    let name = string_bytes c.args.name.now in
+    let kind = kind_of c.args.kind in
+    let text = string_bytes c.args.text.now in
+    let target = rw c.as_str-2.ensures.value at c.in_ok-target_of.ensures.target in
+    let t = rw c.in-Some.is at target in
+    is_answered s.parts s.shape s.limit (reference_asked s.parts k name kind text) (record { key = v c.in-Some.target; path = joined [] name; is_reference = true }) _ old.keys (map v c.edge_to.new.compiled.keys) old.nodes c.edge_to.new.compiled.nodes (edge_of c.in_ok-edge-in-Some.edge) _ (asked_edge s.parts k name kind text (record { key = v c.in-Some.target; path = joined [] name; is_reference = true }) t.0 (t.1 name))
+    (reference_clean s.parts k name kind text (record { key = v c.in-Some.target; path = joined [] name; is_reference = true }) (t.1 name)) (λ f. t.2) (grind (arith, common_steps, c.in_ok-path.ensures)) c.in_ok-edge-in-Some.ensures.edge
+
+pub reference_entry-returns-in_err-text-clause-refused : goal.reference_entry-returns-in_err-text-clause-refused
+reference_entry-returns-in_err-text-clause-refused g t c =
+    let v = key_of g.R.Resolver.point in
+    let s = task g.R.Resolver.resolving g.T.KeywordTable.owned g.T.KeywordTable.script g.K.Validate.shape c.args.self.now in
+    let old = filled g.R.Resolver.point c.args.compiled.now in
+    let k = v c.args.key.now in
+    let name = string_bytes c.args.name.now in
+    let kind = kind_of c.args.kind in
+    let value = view c.args.value.now in
+    let p = err_from_is_err_and c.from_residual.result c.from_residual.ensures.1 in
+    rw (p.1, p.2) (other_text_refused s.parts k s.limit old.keys _ name kind value c.in_err-text.ensures.other c.in_err-text.ensures.refused)
+
+pub reference_entry-returns-in_err-reference_edge-clause-refused : goal.reference_entry-returns-in_err-reference_edge-clause-refused
+reference_entry-returns-in_err-reference_edge-clause-refused g t c =
+    let v = key_of g.R.Resolver.point in
+    let s = task g.R.Resolver.resolving g.T.KeywordTable.owned g.T.KeywordTable.script g.K.Validate.shape c.args.self.now in
+    let old = filled g.R.Resolver.point c.args.compiled.now in
+    let k = v c.args.key.now in
+    let name = string_bytes c.args.name.now in
+    let kind = kind_of c.args.kind in
+    let value = view c.args.value.now in
+    let p = err_from_is_err_and c.from_residual-in_err-reference_edge.result c.from_residual-in_err-reference_edge.ensures.1 in
+    rw (p.1, p.2) (text_refused s.parts k s.limit old.keys _ name kind (string_bytes c.in_ok-text.text.now) value c.in_ok-text.ensures.text c.in_err-reference_edge.ensures.refused)
+
+pub reference_entry-returns-in-None-clause-part : goal.reference_entry-returns-in-None-clause-part
+reference_entry-returns-in-None-clause-part g t c =
+    let v = key_of g.R.Resolver.point in
+    let s = task g.R.Resolver.resolving g.T.KeywordTable.owned g.T.KeywordTable.script g.K.Validate.shape c.args.self.now in
+    let old = filled g.R.Resolver.point c.args.compiled.now in
+    let k = v c.args.key.now in
+    let name = string_bytes c.args.name.now in
+    let kind = kind_of c.args.kind in
+    let value = view c.args.value.now in
+    reference_made s.parts k s.shape s.limit old.keys (map v c.reference_edge.new.compiled.keys) old.nodes c.reference_edge.new.compiled.nodes name kind (string_bytes c.in_ok-text.text.now) value c.args.priority None c.in_ok-text.ensures.text (rw c.in-None.is at c.in_ok-reference_edge.ensures.answered)
+
+pub reference_entry-returns-in_ok-entry_named-in-Some-clause-part : goal.reference_entry-returns-in_ok-entry_named-in-Some-clause-part
+reference_entry-returns-in_ok-entry_named-in-Some-clause-part g t c =
+    let v = key_of g.R.Resolver.point in
+    let s = task g.R.Resolver.resolving g.T.KeywordTable.owned g.T.KeywordTable.script g.K.Validate.shape c.args.self.now in
+    let old = filled g.R.Resolver.point c.args.compiled.now in
+    let k = v c.args.key.now in
+    let name = string_bytes c.args.name.now in
+    let kind = kind_of c.args.kind in
+    let value = view c.args.value.now in
+    rw c.in_ok-entry_named-in-Some.ensures.entry (reference_made s.parts k s.shape s.limit old.keys (map v c.reference_edge.new.compiled.keys) old.nodes c.reference_edge.new.compiled.nodes name kind (string_bytes c.in_ok-text.text.now) value c.args.priority (Some (edge_of c.in-Some.edge)) c.in_ok-text.ensures.text (rw c.in-Some.is at c.in_ok-reference_edge.ensures.answered))
+
+pub planned_node-returns-in-Some-clause-refused : goal.planned_node-returns-in-Some-clause-refused
+planned_node-returns-in-Some-clause-refused g t c =
+    let v = key_of g.R.Resolver.point in
+    let s = task g.R.Resolver.resolving g.T.KeywordTable.owned g.T.KeywordTable.script g.K.Validate.shape c.args.self.now in
+    let old = filled g.R.Resolver.point c.args.compiled.now in
+    let k = v c.args.key.now in
+    object_stands s.parts k (λ (es : List (Edge _)) (cs : List Cause) (q : Plan _) (a : Option Data). IfErr c.planned_object.result (Refused s.parts s.limit es cs old.keys)) (members_view c.in-Some.members.now.entries) (object_is s.parts k _ (members_view c.in-Some.members.now.entries) c.in-Some.ensures.object) c.planned_object.ensures.refused
+
+pub planned_node-returns-in-Some-clause-planned : goal.planned_node-returns-in-Some-clause-planned
+planned_node-returns-in-Some-clause-planned g t c =
+    let v = key_of g.R.Resolver.point in
+    let s = task g.R.Resolver.resolving g.T.KeywordTable.owned g.T.KeywordTable.script g.K.Validate.shape c.args.self.now in
+    let old = filled g.R.Resolver.point c.args.compiled.now in
+    let k = v c.args.key.now in
+    object_stands s.parts k (λ (es : List (Edge _)) (cs : List Cause) (q : Plan _) (a : Option Data). IfOk c.planned_object.result (λ n. MakesPlan s.parts s.shape s.limit old.keys (map v c.planned_object.new.compiled.keys) old.nodes c.planned_object.new.compiled.nodes es cs k (plan_of n.form) q (option_map view n.annotations) a)) (members_view c.in-Some.members.now.entries) (object_is s.parts k _ (members_view c.in-Some.members.now.entries) c.in-Some.ensures.object) c.planned_object.ensures.planned
+
+pub planned_node-returns-in_err-form_at-in-None-clause-refused : goal.planned_node-returns-in_err-form_at-in-None-clause-refused
+planned_node-returns-in_err-form_at-in-None-clause-refused g t c =
+    let v = key_of g.R.Resolver.point in
+    let s = task g.R.Resolver.resolving g.T.KeywordTable.owned g.T.KeywordTable.script g.K.Validate.shape c.args.self.now in
+    let old = filled g.R.Resolver.point c.args.compiled.now in
+    let k = v c.args.key.now in
+    let p = err_from_is_err_and c.from_residual.result c.from_residual.ensures.1 in
+    rw (p.1, p.2) (other_refused s.parts k s.limit old.keys _ c.in-None.ensures.object c.in_err-form_at-in-None.ensures.other c.in_err-form_at-in-None.ensures.refused)
+
+pub planned_node-returns-in_ok-form_at-in-None-clause-planned : goal.planned_node-returns-in_ok-form_at-in-None-clause-planned
+planned_node-returns-in_ok-form_at-in-None-clause-planned g t c =
+    let v = key_of g.R.Resolver.point in
+    let s = task g.R.Resolver.resolving g.T.KeywordTable.owned g.T.KeywordTable.script g.K.Validate.shape c.args.self.now in
+    let old = filled g.R.Resolver.point c.args.compiled.now in
+    let k = v c.args.key.now in
+    let f = c.in_ok-form_at-in-None.ensures.form in
+    boolean_made s.parts k s.shape s.limit f.0 (plan_of c.in_ok-form_at-in-None.field-0) old.keys old.nodes f.1 f.2 c.requires.table

@@ -1,0 +1,141 @@
+//! The keys that were reached and their nodes, while they are filled.
+ghost use Rattle.std.specs.Prelude.{◌≡◌, ◌≢◌, ℕ, ◌<◌, ◌++◌, ◌∷◌, [], true, IfOk, IfErr, OnOk};
+ghost use Rattle.std.specs.Prelude.{map, option_map, Some, None, slice_get, length, string_bytes};
+ghost use Rattle.schema_node.specs.NodeTable.{NodeEntry, LeadsToFilled, IsReserved};
+ghost use Rattle.schema_node.specs.NodeViews.{edge_of, reserved_node};
+ghost use Rattle.schema_compiler.specs.KeyViews.{key_of};
+ghost use Rattle.schema_compiler.specs.Carried.{IsWell, RefusesKey, filled, resolver_parts, task};
+ghost use Rattle.schema_compiler.specs.Filling.{shown_base};
+ghost use Rattle.schema_compiler.specs.declared.compiler.error.BuildError.TheVariants as build;
+
+use crate::compiler::error::BuildError;
+use crate::compiler::given::Given;
+use crate::compiler::key::{SchemaKey, copy_of};
+use crate::compiler::keys::Keys;
+use crate::compiler::text::{has_own_scheme, text_before_fragment};
+use schema_node::context::keyword::Validate;
+use schema_node::context::resolver::Resolver;
+use schema_node::context::table::KeywordTable;
+use schema_node::node::{Edge, NodeForm, Nodes, SchemaNode};
+use schema_reports::location::{Location, OutOfMemory};
+use serde_json::Value;
+
+/// The keys that were reached, and the node of each, at the same number.
+#[derive(Drop)]
+pub struct Compiled<S, K> {
+    pub keys: Keys<S>,
+    pub nodes: Nodes<K>,
+}
+
+/// What a key's node asks of an instance, and the members that no keyword is made of, as an object.
+#[derive(Drop)]
+pub(crate) struct PlannedNode<K> {
+    pub form: NodeForm<K>,
+    pub annotations: Option<Value>,
+}
+
+impl<S: Drop, K: Validate> Compiled<S, K> {
+    /// The edge to a number that is there, which is guarded where the number is only reserved.
+    pub(crate) fn edge_at(&self, number: usize, path: Location) -> Edge
+        requires within { number < length self.now.nodes }
+        ensures node { result.node.0 ≡ number }
+        ensures path { result.path ≡ path }
+        ensures leads { LeadsToFilled self.now.nodes (edge_of result) }
+        ensures guarded { result.guarded ≡ true → IsReserved self.now.nodes number }
+    {
+        let node = SchemaNode(number);
+        let guarded = !self.nodes.is_filled(node);
+        Edge {
+            node,
+            path,
+            guarded,
+        }
+    }
+}
+
+impl<'p, R: Resolver, T> Given<'p, R, T> {
+    // The URI that absolute locations in a key's resource begin with; a base of scheme `json-schema` gives none.
+    fn shown_base_of(&self, key: &SchemaKey<R::State>) -> Result<Option<String>, OutOfMemory>
+        ensures base { IfOk result (λ o. option_map string_bytes o ≡
+            shown_base (resolver_parts R.resolving self.now) (key_of R.point key.now)) }
+    {
+        let uri = self.resolver.base_uri(&key.state);
+        if has_own_scheme(uri) {
+            return Ok(None);
+        }
+        Ok(Some(String::from_str(self.alloc, text_before_fragment(uri))?))
+    }
+
+    // Reserves the node of a key.
+    fn reserve_node<K: Validate>(
+        &self,
+        nodes: &mut Nodes<K>,
+        key: &SchemaKey<R::State>,
+    ) -> Result<SchemaNode, OutOfMemory>
+        ensures added { OnOk result (nodes.new ≡ nodes.old ++ reserved_node key.now.location
+            (shown_base (resolver_parts R.resolving self.now) (key_of R.point key.now))
+            key.now.start ∷ []) }
+        ensures number { IfOk result (λ n. n.0 ≡ length nodes.old) }
+    {
+        let location = key.location.copy()?;
+        let base = self.shown_base_of(key)?;
+        nodes.reserve(location, base, key.start)
+    }
+
+    // Gives a key the next number, with a node that is reserved.
+    fn reserve<K: Validate>(
+        &self,
+        compiled: &mut Compiled<R::State, K>,
+        key: &SchemaKey<R::State>,
+    ) -> Result<SchemaNode, BuildError>
+    where
+        T: KeywordTable<K>,
+        requires table { IsWell (task R.resolving T.owned T.script K.shape self.now)
+            (filled R.point compiled.old) }
+        requires absent { (i : ℕ) → slice_get (map (key_of R.point) compiled.old.keys) i ≢
+            Some (key_of R.point key.now) }
+        requires room { length compiled.old.keys < self.now.options.now.node_limit }
+        ensures table { OnOk result (IsWell (task R.resolving T.owned T.script K.shape self.now)
+            (filled R.point compiled.new)) }
+        ensures keys { OnOk result (map (key_of R.point) compiled.new.keys ≡
+            map (key_of R.point) compiled.old.keys ++ key_of R.point key.now ∷ []) }
+        ensures nodes { OnOk result ((n : NodeEntry K) ×
+            (compiled.new.nodes ≡ compiled.old.nodes ++ n ∷ []) × (n.plan ≡ None)) }
+        ensures number { IfOk result (λ n. n.0 ≡ length compiled.old.nodes) }
+        ensures memory { IfErr result (λ e. e ≡ build.OutOfMemory) }
+    {
+        let number = self.reserve_node(&mut compiled.nodes, key)?;
+        let own = copy_of::<R>(self.alloc, key)?;
+        compiled.keys.push(own)?;
+        Ok(number)
+    }
+
+    /// Gives a key the next number, with a node that is reserved, unless the limit is reached.
+    pub(crate) fn reserve_within<K: Validate>(
+        &self,
+        compiled: &mut Compiled<R::State, K>,
+        key: &SchemaKey<R::State>,
+    ) -> Result<SchemaNode, BuildError>
+    where
+        T: KeywordTable<K>,
+        requires table { IsWell (task R.resolving T.owned T.script K.shape self.now)
+            (filled R.point compiled.old) }
+        requires absent { (i : ℕ) → slice_get (map (key_of R.point) compiled.old.keys) i ≢
+            Some (key_of R.point key.now) }
+        ensures table { OnOk result (IsWell (task R.resolving T.owned T.script K.shape self.now)
+            (filled R.point compiled.new)) }
+        ensures keys { OnOk result (map (key_of R.point) compiled.new.keys ≡
+            map (key_of R.point) compiled.old.keys ++ key_of R.point key.now ∷ []) }
+        ensures nodes { OnOk result ((n : NodeEntry K) ×
+            (compiled.new.nodes ≡ compiled.old.nodes ++ n ∷ []) × (n.plan ≡ None)) }
+        ensures number { IfOk result (λ n. n.0 ≡ length compiled.old.nodes) }
+        ensures refused { IfErr result
+            (RefusesKey (task R.resolving T.owned T.script K.shape self.now)
+            (filled R.point compiled.old) (key_of R.point key.now)) }
+    {
+        if compiled.keys.len() >= self.options.node_limit {
+            return Err(BuildError::NodeLimit(self.options.node_limit));
+        }
+        Ok(self.reserve(compiled, key)?)
+    }
+}

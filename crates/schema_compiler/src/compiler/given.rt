@@ -1,0 +1,23 @@
+//! What a compilation is given, and does not change.
+use std::alloc::Global;
+
+/// The options that a compilation reads.
+#[derive(Drop)]
+pub struct CompileOptions {
+    /// Whether formats are checked; none leaves it to draft and vocabularies.
+    pub formats: Option<bool>,
+    /// The custom vocabularies that are declared.
+    pub declared: Vec<String>,
+    /// How many keys may be reached.
+    pub node_limit: usize,
+}
+
+/// The memory, the resolver, the keyword table and the options of a compilation. The compiler's functions are its methods;
+/// what they fill is a `Compiled`.
+#[derive_where(Clone, Copy)]
+pub(crate) struct Given<'p, R, T> {
+    pub alloc: Global,
+    pub resolver: &'p R,
+    pub table: &'p T,
+    pub options: &'p CompileOptions,
+}

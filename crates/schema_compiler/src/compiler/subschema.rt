@@ -1,0 +1,150 @@
+//! The key of a subschema, and what stands at a place in a schema.
+ghost use Rattle.std.specs.Prelude.{◌≡◌, ◌++◌, true, false, IfOk, IfErr, Some, if◌then◌else◌, is_some};
+ghost use Rattle.schema_reports.specs.Pointer.{pointer_to};
+ghost use Rattle.schema_reports.specs.Making.{compile};
+ghost use Rattle.schema_reports.specs.Drafts.{same_draft, at_path};
+ghost use Rattle.schema_reports.specs.Plan.{subschema, inside, schema_at};
+ghost use Rattle.schema_reports.specs.Refusals.{request_causes};
+ghost use Rattle.schema_reports.specs.KeywordViews.{draft_of};
+ghost use Rattle.schema_node.specs.ResolverViews.{place_of};
+ghost use Rattle.schema_compiler.specs.KeyViews.{key_of};
+ghost use Rattle.schema_compiler.specs.Carried.{resolver_parts};
+ghost use Rattle.schema_compiler.specs.Refusing.{Names};
+
+use crate::compiler::error::BuildError;
+use crate::compiler::given::Given;
+use crate::compiler::key::SchemaKey;
+use schema_node::context::resolver::{Resolver, Target};
+use schema_node::context::schema_place::{SchemaPath, SchemaPlace};
+use schema_reports::keywords::{Draft, VocabularySet};
+use schema_reports::location::{Location, OutOfMemory};
+use serde_json::Value;
+use std::alloc::Global;
+
+// Whether both are one draft.
+fn is_same_draft(left: Draft, right: Draft) -> bool
+    ensures same { result ≡ same_draft (draft_of left) (draft_of right) }
+{
+    match (left, right) {
+        (Draft::Draft4, Draft::Draft4) => true,
+        (Draft::Draft6, Draft::Draft6) => true,
+        (Draft::Draft7, Draft::Draft7) => true,
+        (Draft::Draft201909, Draft::Draft201909) => true,
+        (Draft::Draft202012, Draft::Draft202012) => true,
+        (Draft::Unknown, Draft::Unknown) => true,
+        _ => false,
+    }
+}
+
+// The location of the subschema at a path below.
+fn location_inside<S>(
+    alloc: Global,
+    key: &SchemaKey<S>,
+    path: &SchemaPath,
+) -> Result<Location, OutOfMemory>
+    ensures location { IfOk result (λ l. l ≡ key.now.location ++ pointer_to path.now) }
+{
+    let pointer = path.pointer(alloc)?;
+    key.location.append(&pointer)
+}
+
+impl<'p, R: Resolver, T> Given<'p, R, T> {
+    /// Whether the schema at a place has an identifier.
+    pub(crate) fn has_id(&self, draft: Draft, place: &SchemaPlace) -> bool
+        ensures identified { result ≡ is_some ((R.resolving self.now.resolver.now).id (draft_of draft)
+            (schema_at (resolver_parts R.resolving self.now) (place_of place.now))) }
+    {
+        match self.resolver.value(place) {
+            Some(value) => self.resolver.id(draft, value).is_some(),
+            None => self.resolver.id(draft, &Value::Null).is_some(),
+        }
+    }
+
+    /// The draft of the schema at a place, inside a schema of this draft.
+    pub(crate) fn draft_at(&self, draft: Draft, place: &SchemaPlace) -> Draft
+        ensures detected { draft_of result ≡ (R.resolving self.now.resolver.now).detect (draft_of draft)
+            (schema_at (resolver_parts R.resolving self.now) (place_of place.now)) }
+    {
+        match self.resolver.value(place) {
+            Some(value) => self.resolver.detect(draft, value),
+            None => self.resolver.detect(draft, &Value::Null),
+        }
+    }
+
+    // The vocabularies in force at a place inside a key's schema.
+    fn vocabularies_inside(
+        &self,
+        key: &SchemaKey<R::State>,
+        below: &Target<R::State>,
+    ) -> Result<VocabularySet, OutOfMemory>
+        ensures vocabularies { IfOk result (λ v. v ≡
+            (if same_draft (draft_of below.now.draft) (draft_of key.now.draft)
+            then key.now.vocabularies
+            else (R.resolving self.now.resolver.now).find_vocabularies
+            (R.point below.now.state) (draft_of below.now.draft) (place_of below.now.place))) }
+    {
+        if is_same_draft(below.draft, key.draft) {
+            key.vocabularies.duplicate()
+        } else {
+            self.resolver
+                .find_vocabularies(self.alloc, &below.state, below.draft, &below.place)
+        }
+    }
+
+    // The key of the subschema at a place below, in its state and draft.
+    fn key_inside(
+        &self,
+        key: &SchemaKey<R::State>,
+        path: &SchemaPath,
+        below: Target<R::State>,
+    ) -> Result<SchemaKey<R::State>, OutOfMemory>
+        requires below { place_of below.place ≡ at_path (place_of key.now.place) path.now }
+        ensures inside { IfOk result (λ k. key_of R.point k ≡
+            inside (resolver_parts R.resolving self.now) (key_of R.point key.now) path.now
+            (R.point below.state) (draft_of below.draft)) }
+    {
+        let location = location_inside(self.alloc, key, path)?;
+        let base = key.base.copy()?;
+        let vocabularies = self.vocabularies_inside(key, &below)?;
+        let start = if self.has_id(below.draft, &below.place) {
+            location.as_str().len()
+        } else {
+            key.start
+        };
+        Ok(SchemaKey {
+            place: below.place,
+            state: below.state,
+            draft: below.draft,
+            vocabularies,
+            location,
+            base,
+            start,
+        })
+    }
+
+    /// The key of the subschema at a path below.
+    pub(crate) fn subschema_key(
+        &self,
+        key: &SchemaKey<R::State>,
+        path: &SchemaPath,
+    ) -> Result<SchemaKey<R::State>, BuildError>
+        ensures below { IfOk result (λ k.
+            subschema (resolver_parts R.resolving self.now) (key_of R.point key.now) path.now ≡
+            Some (record { key = key_of R.point k; path = pointer_to path.now; is_reference = false })) }
+        ensures refused { IfErr result (Names
+            (request_causes (resolver_parts R.resolving self.now) (key_of R.point key.now)
+            (compile path.now))) }
+    {
+        let place = key.place.below(self.alloc, path)?;
+        let draft = self.draft_at(key.draft, &place);
+        let state = self
+            .resolver
+            .in_subresource(self.alloc, &key.state, draft, &place)?;
+        let below = Target {
+            place,
+            state,
+            draft,
+        };
+        Ok(self.key_inside(key, path, below)?)
+    }
+}

@@ -1,0 +1,53 @@
+//! What a reference leads to, where that requires no vocabulary that is not declared.
+ghost use Rattle.std.specs.Prelude.{◌≡◌, [], IfOk, IfErr, IfSome, MatchOption};
+ghost use Rattle.schema_compiler.specs.KeyViews.{key_of, kind_of};
+ghost use Rattle.schema_compiler.specs.Carried.{RefusesTarget, Targets, lacking, task};
+ghost use Rattle.schema_compiler.specs.Refusing.{Names};
+
+use crate::compiler::error::BuildError;
+use crate::compiler::given::Given;
+use crate::compiler::key::SchemaKey;
+use crate::ref_::ReferenceKind;
+use schema_node::context::keyword::Validate;
+use schema_node::context::resolver::Resolver;
+use schema_node::context::table::KeywordTable;
+
+impl<'p, R: Resolver, T> Given<'p, R, T> {
+    // Refuses a custom vocabulary that is not declared, where a reference's target requires it.
+    fn check_target<K: Validate>(
+        &self,
+        target: &Option<SchemaKey<R::State>>,
+    ) -> Result<(), BuildError>
+    where
+        T: KeywordTable<K>,
+        ensures declared { IfOk result (λ _. IfSome target.now (λ t. lacking
+            (task R.resolving T.owned T.script K.shape self.now) t.vocabularies ≡ [])) }
+        ensures refused { IfErr result (λ e. MatchOption target.now ⊥ (λ t. Names (lacking
+            (task R.resolving T.owned T.script K.shape self.now) t.vocabularies) e)) }
+    {
+        match target {
+            None => Ok(()),
+            Some(target) => self.check_declared(&target.vocabularies),
+        }
+    }
+
+    /// The key that a reference leads to, where it requires no vocabulary that is not declared; none where it is skipped.
+    pub(crate) fn target_of<K: Validate>(
+        &self,
+        key: &SchemaKey<R::State>,
+        kind: ReferenceKind,
+        text: &str,
+    ) -> Result<Option<SchemaKey<R::State>>, BuildError>
+    where
+        T: KeywordTable<K>,
+        ensures target { IfOk result (Targets (task R.resolving T.owned T.script K.shape self.now)
+            R.point (key_of R.point key.now) (kind_of kind) text.now) }
+        ensures refused { IfErr result (RefusesTarget
+            (task R.resolving T.owned T.script K.shape self.now) (key_of R.point key.now)
+            (kind_of kind) text.now) }
+    {
+        let target = self.target_key(key, kind, text)?;
+        self.check_target(&target)?;
+        Ok(target)
+    }
+}

@@ -1,0 +1,61 @@
+//! Whether the custom vocabularies that a schema requires are declared.
+ghost use Rattle.std.specs.Prelude.{◌≡◌, [], IfOk, IfErr, map, string_bytes, bytes_eq};
+ghost use Rattle.std.specs.List.{list_any};
+ghost use Rattle.schema_reports.specs.Drafts.{custom_vocabulary};
+ghost use Rattle.schema_compiler.specs.Carried.{lacking, task};
+ghost use Rattle.schema_compiler.specs.Refusing.{Names};
+
+use crate::compiler::error::BuildError;
+use crate::compiler::given::Given;
+use schema_node::context::keyword::Validate;
+use schema_node::context::resolver::Resolver;
+use schema_node::context::table::KeywordTable;
+use schema_reports::keywords::VocabularySet;
+
+// Whether a custom vocabulary is declared.
+fn is_declared(declared: &[String], uri: &str) -> bool
+    ensures declared { result ≡ list_any (bytes_eq uri.now) (map string_bytes declared.now) }
+{
+    for other in declared {
+        if uri == other.as_str() {
+            return true;
+        }
+    }
+    false
+}
+
+impl<'p, R: Resolver, T> Given<'p, R, T> {
+    // Refuses a vocabulary of one of these URIs that is not declared.
+    fn check_each<K: Validate>(&self, uris: &[String]) -> Result<(), BuildError>
+    where
+        T: KeywordTable<K>,
+        ensures declared { IfOk result (λ _. lacking
+            (task R.resolving T.owned T.script K.shape self.now)
+            (map custom_vocabulary (map string_bytes uris.now)) ≡ []) }
+        ensures refused { IfErr result (Names (lacking
+            (task R.resolving T.owned T.script K.shape self.now)
+            (map custom_vocabulary (map string_bytes uris.now)))) }
+    {
+        for uri in uris {
+            if !is_declared(self.options.declared.as_slice(), uri.as_str()) {
+                return Err(BuildError::UnsupportedVocabulary(uri.clone()?));
+            }
+        }
+        Ok(())
+    }
+
+    /// Refuses a custom vocabulary that is not declared.
+    pub(crate) fn check_declared<K: Validate>(
+        &self,
+        vocabularies: &VocabularySet,
+    ) -> Result<(), BuildError>
+    where
+        T: KeywordTable<K>,
+        ensures declared { IfOk result (λ _. lacking
+            (task R.resolving T.owned T.script K.shape self.now) vocabularies.now ≡ []) }
+        ensures refused { IfErr result (Names (lacking
+            (task R.resolving T.owned T.script K.shape self.now) vocabularies.now)) }
+    {
+        self.check_each(vocabularies.custom())
+    }
+}

@@ -1,0 +1,69 @@
+-- What the calls of a validator answer of an instance: the sentences that their clauses cite. They are those of `Answers`,
+-- `Program` and `Spoken`, over the members of the keyword type's and the matcher type's traits.
+use Rattle.std.specs.Prelude.{Bool, List, Option}
+use Rattle.serde_json.specs.Data.{Data}
+use Rattle.schema_reports.specs.Cover.{is_valid}
+use Rattle.schema_reports.specs.Headline.{VerdictSays}
+use Rattle.schema_reports.specs.Keywords as wanted
+use Rattle.schema_reports.specs.Matching.{Assumptions}
+use Rattle.schema_reports.specs.Unfinished.{Remembered}
+use Rattle.schema_reports.specs.declared.reports.ValidationError.{ValidationError}
+use Rattle.schema_node.specs.declared.context.keyword.Mode.{Mode}
+use Rattle.schema_node.specs.declared.context.keyword.Reply.{Reply}
+use Rattle.schema_node.specs.declared.context.keyword.Validate.{Ghosts as KeywordMembers}
+use Rattle.schema_node.specs.declared.context.matcher.Matcher.{Ghosts as MatcherMembers}
+use Rattle.schema_engine.specs.Answers.{MeetsMatches, SaysErrors, SaysFirst, SaysReply, SaysVerdict}
+use Rattle.schema_engine.specs.Program.{FromSomeDepth, OfEverySense, Program}
+use Rattle.schema_engine.specs.Spoken.{ErrorsAnswered, FirstAnswered}
+
+-- C is a keyword of the code, K what is known of it, M a matcher of the code
+module _ {C Run K M : Type 0} (keywords : KeywordMembers C Run K) (matchers : MatcherMembers M) (p : Program C M) (instance : Data) where
+  -- ---- one run of the root's node, under what is assumed of unfinished matches
+
+  -- its reply is what the guarded meaning replies at every great enough depth, in the mode that is wanted
+  abbrev pub RunReplies : Mode → Assumptions → Reply → Type 0
+  RunReplies = SaysReply keywords.shape keywords.words keywords.is_whole matchers.matching p instance
+
+  -- so is its verdict
+  abbrev pub RunDecides : Assumptions → Bool → Type 0
+  RunDecides = SaysVerdict keywords.shape keywords.words keywords.is_whole matchers.matching p instance
+
+  -- so are all its errors
+  abbrev pub RunListsErrors : Assumptions → List ValidationError → Type 0
+  RunListsErrors = SaysErrors keywords.shape keywords.words keywords.is_whole matchers.matching p instance
+
+  -- so is its first error, or none
+  abbrev pub RunFindsFirst : Assumptions → Option ValidationError → Type 0
+  RunFindsFirst = SaysFirst keywords.shape keywords.words keywords.is_whole matchers.matching p instance
+
+  -- what it remembers after it, of the unfinished matches that it met
+  abbrev pub RunMeets : wanted.Mode → Remembered → Remembered → Type 0
+  RunMeets = MeetsMatches keywords.shape keywords.words keywords.is_whole matchers.matching p instance
+
+  -- ---- a call: what its answer is, by what the nodes say from some depth on, where chains of references return too
+
+  -- the verdict is that of all outcomes of the unfinished matches, and no past the limit of runs
+  abbrev pub DecidesFromSomeDepth : Bool → Type 0
+  DecidesFromSomeDepth valid = FromSomeDepth keywords.shape keywords.words keywords.is_whole matchers.matching p instance (λ texts v. VerdictSays v is_valid valid)
+
+  -- the error is the first that all outcomes share, or tells of such a match
+  abbrev pub FirstFromSomeDepth : Option ValidationError → Type 0
+  FirstFromSomeDepth o = FromSomeDepth keywords.shape keywords.words keywords.is_whole matchers.matching p instance (λ texts v. FirstAnswered v texts o)
+
+  -- the errors are those that all outcomes share, or one that tells of such a match
+  abbrev pub ErrorsFromSomeDepth : List ValidationError → Type 0
+  ErrorsFromSomeDepth es = FromSomeDepth keywords.shape keywords.words keywords.is_whole matchers.matching p instance (λ texts v. ErrorsAnswered v texts es)
+
+  -- ---- the same of every sense that the nodes mean, which there is where no chain of references returns
+
+  -- the verdict is the sense's
+  abbrev pub DecidesInEverySense : Bool → Type 0
+  DecidesInEverySense valid = OfEverySense keywords.shape keywords.words keywords.is_whole matchers.matching p instance (λ texts v. VerdictSays v is_valid valid)
+
+  -- the first error, or none, is the sense's
+  abbrev pub FirstInEverySense : Option ValidationError → Type 0
+  FirstInEverySense o = OfEverySense keywords.shape keywords.words keywords.is_whole matchers.matching p instance (λ texts v. FirstAnswered v texts o)
+
+  -- the errors are the sense's
+  abbrev pub ErrorsInEverySense : List ValidationError → Type 0
+  ErrorsInEverySense es = OfEverySense keywords.shape keywords.words keywords.is_whole matchers.matching p instance (λ texts v. ErrorsAnswered v texts es)

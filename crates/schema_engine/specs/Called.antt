@@ -1,0 +1,100 @@
+-- What a build answers of a schema, and what the calls of schema and instance answer: the sentences that their clauses cite,
+-- over all that is handed in. They are those of `Promised`, `ProgramOf`, `Roots`, `Spoken` and `Pointing`.
+use Rattle.std.specs.Prelude.{Bool, List, Option, ℕ}
+use Rattle.serde_json.specs.Data.{Data}
+use Rattle.schema_reports.specs.Cover.{Sense, is_valid}
+use Rattle.schema_reports.specs.Headline.{IsValidAnswer, Plainly, VerdictSays}
+use Rattle.schema_reports.specs.Means as means
+use Rattle.schema_reports.specs.Parts.{Parts}
+use Rattle.schema_reports.specs.Plan.{Key}
+use Rattle.schema_reports.specs.Root.{IsRoot}
+use Rattle.schema_reports.specs.declared.reports.ValidationError.{ValidationError}
+use Rattle.schema_node.specs.NodeTable.{NodeEntry, numbered}
+use Rattle.schema_compiler.specs.declared.compiler.error.BuildError.{BuildError}
+use Rattle.schema_engine.specs.Compiled.{IsCompiled}
+use Rattle.schema_engine.specs.Handed.{Handed, Options, no_keywords, no_matcher, parts_of}
+use Rattle.schema_engine.specs.Pointing.{EachPoints, FirstPoints}
+use Rattle.schema_engine.specs.Program.{FromSomeDepth, Program}
+use Rattle.schema_engine.specs.ProgramOf.{IsProgramOf}
+use Rattle.schema_engine.specs.Promised.{MeansSchema, OfSchema}
+use Rattle.schema_engine.specs.Roots.{Builds, RefusesBuild}
+use Rattle.schema_engine.specs.Spoken.{ErrorsAnswered, FirstAnswered}
+
+-- what is handed in, the options, and the schema
+module _ {S K R C M : Type 0} (h : Handed S K R C M) (options : Options) (schema : Data) where
+  -- ---- a build
+
+  -- the validator means the plain meaning of schema and parts, where no chain of references returns
+  abbrev pub MeansPlainly : Program C M → Type 0
+  MeansPlainly p = MeansSchema h.resolver h.table h.matcher h.words options schema h.shape h.is_whole h.matching p
+
+  -- its nodes correspond one to one to the keys that the root's key reaches, its draft is the root's, and its matcher answers
+  -- as the one that is handed in
+  abbrev pub IsCompiledFrom : Program C M → Type 0
+  IsCompiledFrom p = IsProgramOf h.resolver h.table h.matcher options schema h.shape h.matching p
+
+  -- no cause of refusal stands for what the root reaches, and that is no more than the limit
+  abbrev pub SchemaBuilds : Type 0
+  SchemaBuilds = (texts : Bool) → Builds (parts_of h.resolver h.table h.matcher (h.words texts) options) schema options.limit
+
+  -- the error names a cause that stands, or more keys are reached than the limit
+  abbrev pub SchemaRefused : BuildError → Type 0
+  SchemaRefused e = (texts : Bool) → RefusesBuild (parts_of h.resolver h.table h.matcher (h.words texts) options) schema options.limit e
+
+  -- ---- a call of an instance
+
+  module _ (instance : Data) where
+    -- a fact about the plain meaning of each root key, where no chain of references returns
+    abbrev pub PlainlyOf : (Bool → Sense → Type 0) → Type 0
+    PlainlyOf fact = OfSchema h.resolver h.table h.matcher h.words options schema instance (λ texts w root. Plainly w root instance (fact texts))
+
+    -- a fact about what the nodes compiled from the schema say from some depth on, where chains of references return too
+    abbrev pub GuardedlyOf : (Bool → Sense → Type 0) → Type 0
+    GuardedlyOf fact = (p : Program C M) × IsProgramOf h.resolver h.table h.matcher options schema h.shape h.matching p
+        × FromSomeDepth h.shape h.words h.is_whole h.matching p instance fact
+
+    -- a fact about such nodes, and about the root's key under which their errors point
+    abbrev pub PointingOf : (Parts S K R → Key S → Sense → Bool → Type 0) → Type 0
+    PointingOf fact = (p : Program C M) × IsProgramOf h.resolver h.table h.matcher options schema h.shape h.matching p
+        × OfSchema h.resolver h.table h.matcher h.words options schema instance
+        (λ texts w root. means.FromSomeDepth (h.words texts) (h.matching p.matcher) (numbered h.shape p.nodes) p.root instance (λ v. fact w root v texts))
+
+    -- the verdict is the plain meaning's
+    abbrev pub DecidesPlainly : Bool → Type 0
+    DecidesPlainly valid = OfSchema h.resolver h.table h.matcher h.words options schema instance (λ texts w root. IsValidAnswer w root instance valid)
+
+    -- it is what nodes compiled from the schema say from some depth on
+    abbrev pub DecidesGuardedly : Bool → Type 0
+    DecidesGuardedly valid = GuardedlyOf (λ texts v. VerdictSays v is_valid valid)
+
+    -- the first error, or none, is the plain meaning's
+    abbrev pub FirstPlainly : Option ValidationError → Type 0
+    FirstPlainly o = PlainlyOf (λ texts v. FirstAnswered v texts o)
+
+    -- it is what nodes compiled from the schema say from some depth on
+    abbrev pub FirstGuardedly : Option ValidationError → Type 0
+    FirstGuardedly o = GuardedlyOf (λ texts v. FirstAnswered v texts o)
+
+    -- it points at a keyword that its evaluation path leads to, and at a value inside the instance
+    abbrev pub FirstLeads : Option ValidationError → Type 0
+    FirstLeads o = PointingOf (λ w root v texts. FirstPoints w root instance v texts o)
+
+    -- the errors, in order, are the plain meaning's
+    abbrev pub ErrorsPlainly : List ValidationError → Type 0
+    ErrorsPlainly es = PlainlyOf (λ texts v. ErrorsAnswered v texts es)
+
+    -- they are what nodes compiled from the schema say from some depth on
+    abbrev pub ErrorsGuardedly : List ValidationError → Type 0
+    ErrorsGuardedly es = GuardedlyOf (λ texts v. ErrorsAnswered v texts es)
+
+    -- each points at a keyword that its evaluation path leads to, and at a value inside the instance
+    abbrev pub EachLeads : List ValidationError → Type 0
+    EachLeads es = PointingOf (λ w root v texts. EachPoints w root instance v texts es)
+
+-- where the nodes with the root's number are compiled from each root key of the schema, by some options, the validator means
+-- the plain meaning by these options
+abbrev pub MeansAsCompiled : {S K R C M : Type 0} → Handed S K R C M → Data → List (NodeEntry C) → ℕ → Program C M → Type 0
+MeansAsCompiled {S} h schema nodes root p = (options : Options)
+    → ((key : Key S) → IsRoot (parts_of h.resolver h.table no_matcher no_keywords options) schema key
+    → IsCompiled (parts_of h.resolver h.table no_matcher no_keywords options) h.shape key nodes root)
+    → MeansPlainly h options schema p

@@ -1,0 +1,176 @@
+-- What a run is made with and does not change, and what it is asked; and what each of its functions answers, over the two.
+use Rattle.std.specs.Prelude.{◌≡◌, ◌<◌, ◌≤◌, ℕ, Bool, All, List, Some, false, length, map, option_map}
+use Rattle.serde_json.specs.Data.{Data}
+use Rattle.schema_reports.specs.Instance.{Place, Subject, Text, subject_at}
+use Rattle.schema_reports.specs.InstanceViews.{subject_of}
+use Rattle.schema_reports.specs.Keywords.{Answer, Keywords, Mode, Question as ChildQuestion, for_units}
+use Rattle.schema_reports.specs.Laws.{IsRight}
+use Rattle.schema_reports.specs.Meaning.{Where}
+use Rattle.schema_reports.specs.Matching.{Extends, Matcher, completion_of, matching}
+use Rattle.schema_reports.specs.Reports.{Outcome}
+use Rattle.schema_reports.specs.ReportViews.{BorrowsItsPlace}
+use Rattle.schema_reports.specs.Runs.{Run, no_run, reply_in}
+use Rattle.schema_reports.specs.Guarded.{Children, NodeEdge, NodeForm, NodePart, Nodes, guarded_node, guarded_within, node_keyword}
+use Rattle.schema_reports.specs.Numbered.{left, subject_in}
+use Rattle.schema_node.specs.EvaluationPaths.{path_of}
+use Rattle.schema_node.specs.EvaluationPlaces.{steps_to}
+use Rattle.schema_node.specs.FaultViews.{PassesBorrowed, errors_in, faults_in}
+use Rattle.schema_node.specs.KeywordViews.{answer_of, mode_of, reply_of}
+use Rattle.schema_node.specs.Matches.{MeetsEach, Settling, settling}
+use Rattle.schema_node.specs.NodeMeets.{ChildMeets, EdgeMeets, EntryMeets, FormMeets, NodeMeets, PartsMeet}
+use Rattle.schema_node.specs.NodeRuns.{ChildReplies, EdgeReplies, FormReplies, NodeReplies, PartsReply, Reading, Reads, Ready, TellsAll, child_says, entry_where, reply_by}
+use Rattle.schema_node.specs.NodeTable.{NodeEntry, numbered}
+use Rattle.schema_node.specs.NodeViews.{edge_of}
+use Rattle.schema_node.specs.Progress.{Context, NoDeeper, busy_at}
+use Rattle.schema_node.specs.Turning.{unit_with}
+use Rattle.schema_node.specs.declared.context.keyword.Answer as code_answer
+use Rattle.schema_node.specs.declared.context.keyword.Reply as code
+use Rattle.schema_node.specs.declared.node.question.Engine.{Engine}
+use Rattle.schema_node.specs.declared.node.question.Question.{Question}
+use Rattle.schema_node.specs.declared.node.question.NamedKeyword.{NamedKeyword}
+use Rattle.schema_node.specs.declared.node.run.FirstQuestion.{FirstQuestion}
+
+-- what a run is made with: the keywords as they are read, the numbered nodes and how many there are, and the matcher
+pub record Setting (K R : Type 0) : Type 0 where
+  pub words : Bool → Keywords K R
+  pub is_whole : K → Bool
+  pub nodes : Nodes K
+  pub count : ℕ
+  pub matcher : Matcher
+
+-- what is asked: what stands there, where, by what path, and in which mode
+pub record Asking : Type 0 where
+  pub subject : Subject
+  pub place : Place
+  pub path : Text
+  pub mode : Mode
+
+abbrev pub setting_over : {K R C : Type 0} → (Bool → Keywords K R) → (K → Bool) → (C → K) → List (NodeEntry C) → Matcher → Setting K R
+setting_over words is_whole shape ns matcher = record {
+  words = words;
+  is_whole = is_whole;
+  nodes = numbered shape ns;
+  count = length ns;
+  matcher = matcher;
+}
+
+abbrev pub setting : {K R C M : Type 0} → (Bool → Keywords K R) → (K → Bool) → (C → K) → (M → Matcher) → Engine C M → Setting K R
+setting words is_whole shape matching e = setting_over words is_whole shape e.nodes.now (matching e.matcher.now)
+
+abbrev pub asking : Question → Asking
+asking q = record { subject = subject_of q.instance; place = steps_to q.place.now; path = path_of q.path.now; mode = mode_of q.mode }
+
+abbrev pub asking_first : FirstQuestion → Asking
+asking_first q = record { subject = subject_of q.instance; place = q.place.now; path = q.path.now; mode = mode_of q.mode }
+
+-- where a node is at work
+abbrev pub where_asked : {C : Type 0} → NodeEntry C → Asking → Where
+where_asked n q = entry_where n q.path q.place
+
+-- in a root value the subject stands at the place
+abbrev pub IsAskedOf : Data → Asking → Type 0
+IsAskedOf root q = subject_at root q.place ≡ Some q.subject
+
+-- the pairs in progress are as before, and what is assumed
+pub record Keeps (old new : Context) : Type 0 where
+  pub in_progress : new.in_progress ≡ old.in_progress
+  pub assumptions : new.remembered.assumptions ≡ old.remembered.assumptions
+
+-- a number of the table may be asked: the table is ranked, its keywords take no marks, no pair in progress lies deeper, and
+-- units are not what is wanted
+pub record MayRun {K R : Type 0} (g : Setting K R) (q : Asking) (c : Context) (i : ℕ) : Type 0 where
+  pub known : i < g.count
+  pub ready : Ready g.words g.nodes g.count
+  pub above : NoDeeper q.place c.in_progress
+  pub wanted : ¬ (q.mode ≡ for_units)
+
+-- a keyword with its children, as the form of an entry
+abbrev pub form_at_work : {C K : Type 0} → (C → K) → NamedKeyword C → NodeForm K
+form_at_work shape k = node_keyword (shape k.keyword.now) (map (option_map edge_of) k.children.now)
+
+module _ {K R : Type 0} (g : Setting K R) (q : Asking) (c : Context) where
+  -- how the run's matches are settled
+  abbrev pub settled_by : Settling
+  settled_by = settling g.matcher c.remembered.assumptions
+
+  -- the nodes in progress at the place
+  abbrev pub busy : List ℕ
+  busy = busy_at q.place c.in_progress
+
+  -- ---- what is replied
+
+  abbrev pub NodeSays : ℕ → code.Reply → Type 0
+  NodeSays = NodeReplies g.words g.is_whole g.nodes g.count settled_by q.mode q.path q.place busy q.subject
+
+  abbrev pub PartsSay : ℕ → List (NodePart K) → code.Reply → Type 0
+  PartsSay = PartsReply g.words g.is_whole g.nodes g.count settled_by q.mode q.path q.place busy q.subject
+
+  abbrev pub FormSays : ℕ → Text → NodeForm K → code.Reply → Type 0
+  FormSays = FormReplies g.words g.is_whole g.nodes g.count settled_by q.mode q.path q.place busy q.subject
+
+  abbrev pub ChildSays : ℕ → Children → ChildQuestion → code.Reply → Type 0
+  ChildSays = ChildReplies g.words g.is_whole g.nodes g.count settled_by q.mode q.path q.place busy q.subject
+
+  abbrev pub EdgeSays : NodeEdge → code.Reply → Type 0
+  EdgeSays = EdgeReplies g.words g.is_whole g.nodes g.count settled_by q.mode q.path q.place busy q.subject
+
+  -- ---- what a keyword has found at the end: what is right, in every reading
+
+  abbrev pub FindsRightly : ℕ → Children → K → code_answer.Answer → Type 0
+  FindsRightly i es m a = (x : Reading) → Reads g.is_whole g.nodes g.count settled_by q.place q.subject x → left g.nodes g.count i q.subject busy ≤ x.depth
+      → (let answers = child_says g.words g.nodes x q.path q.place busy es in
+      IsRight (g.words x.texts) m q.subject (matching x.matcher x.completion) answers (λ asked. unit_with (answers asked)) (λ a b. false) q.mode (answer_of x.texts a))
+
+  -- ---- what a whole run of a node says and meets
+
+  -- the run in a reading, with questions of a depth
+  abbrev pub whole_run : Bool → Data → ℕ → ℕ → Run
+  whole_run texts root n i = guarded_within no_run (guarded_node (g.words texts) g.matcher g.nodes (subject_in root) c.remembered.assumptions) n i q.path q.place busy
+
+  -- a fact about it in every reading, where nothing is assumed twice, at every depth that is enough
+  abbrev pub OfWholeRun : ℕ → (Bool → Run → Type 0) → Type 0
+  OfWholeRun i fact = (root : Data) (texts : Bool) → IsAskedOf root q → TellsAll texts root g.is_whole g.nodes g.count
+      → Extends (completion_of c.remembered.assumptions) c.remembered.assumptions → (n : ℕ) → left g.nodes g.count i q.subject busy < n → fact texts (whole_run texts root n i)
+
+  abbrev pub RunReplies : ℕ → code.Reply → Type 0
+  RunReplies i r = OfWholeRun i (λ texts run. reply_of texts r ≡ reply_in q.mode run)
+
+  -- ---- what is remembered after it
+
+  module _ (c' : Context) where
+    abbrev pub MeetsNode : ℕ → Type 0
+    MeetsNode = NodeMeets g.words g.is_whole g.nodes g.count settled_by q.mode q.path q.place busy q.subject c.remembered c'.remembered
+
+    abbrev pub MeetsParts : ℕ → List (NodePart K) → Type 0
+    MeetsParts = PartsMeet g.words g.is_whole g.nodes g.count settled_by q.mode q.path q.place busy q.subject c.remembered c'.remembered
+
+    abbrev pub MeetsEntry : ℕ → NodePart K → Type 0
+    MeetsEntry = EntryMeets g.words g.is_whole g.nodes g.count settled_by q.mode q.path q.place busy q.subject c.remembered c'.remembered
+
+    abbrev pub MeetsForm : ℕ → Text → NodeForm K → Type 0
+    MeetsForm = FormMeets g.words g.is_whole g.nodes g.count settled_by q.mode q.path q.place busy q.subject c.remembered c'.remembered
+
+    abbrev pub MeetsChild : ℕ → Children → ChildQuestion → Type 0
+    MeetsChild = ChildMeets g.words g.is_whole g.nodes g.count settled_by q.mode q.path q.place busy q.subject c.remembered c'.remembered
+
+    abbrev pub MeetsEdge : NodeEdge → Type 0
+    MeetsEdge = EdgeMeets g.words g.is_whole g.nodes g.count settled_by q.mode q.path q.place busy q.subject c.remembered c'.remembered
+
+    abbrev pub RunMeets : ℕ → Type 0
+    RunMeets i = OfWholeRun i (λ texts run. MeetsEach g.matcher c.remembered (run.met q.mode) c'.remembered)
+
+-- a keyword's run has begun, and its answer is fresh
+abbrev pub HasBegun : {K R : Type 0} → Setting K (R × Answer) → Asking → K → R → code_answer.Answer → Type 0
+HasBegun g q m run a = (texts : Bool) → (g.words texts).begin m q.subject q.mode ≡ (run, answer_of texts a)
+
+-- ---- errors borrow what stands at their places, in every root value in which the subject stands at the place
+
+abbrev pub PassesItsOwn : Asking → code_answer.Answer → Type 0
+PassesItsOwn q a = (root : Data) → IsAskedOf root q → All (PassesBorrowed root) (faults_in a)
+
+abbrev pub RunBorrows : Asking → code.Reply → Type 0
+RunBorrows q r = (root : Data) → IsAskedOf root q → All (BorrowsItsPlace root) (errors_in r)
+
+-- the reply is of the mode
+abbrev pub RunSpeaks : Asking → code.Reply → Type 0
+RunSpeaks q r = (root : Data) → IsAskedOf root q → (o : Outcome) × (reply_of false r ≡ reply_by q.mode o)
