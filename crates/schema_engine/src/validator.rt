@@ -140,13 +140,9 @@ impl<K: Validate, M: Matcher> Validator<K, M> {
             path: &path,
             mode,
         };
-        let reply = self.nodes.run(
-            alloc,
-            &self.matcher,
-            self.root,
-            &question,
-            &mut context,
-        )?;
+        let reply = self
+            .nodes
+            .run(alloc, &self.matcher, self.root, &question, &mut context)?;
         Ok((context.into_matches(), reply))
     }
 
