@@ -353,7 +353,7 @@ fn run_child<'i, K: Validate, M: Matcher>(
         Some(edge) => match one_below(question.instance, below) {
             None => run_edge(engine, edge, question, context),
             Some((inner, step)) => {
-                let lower = question.place.below(step, question.mode)?;
+                let lower = question.place.below(step);
                 let asked = Question {
                     instance: inner,
                     place: &lower,
