@@ -361,7 +361,7 @@ fn run_child<'i, K: Validate, M: Matcher>(
                     path: question.path,
                     mode: question.mode,
                 };
-                Ok(run_edge(engine, edge, &asked, context)?)
+                run_edge(engine, edge, &asked, context)
             }
         },
     }
@@ -393,7 +393,7 @@ fn run_edge<'i, K: Validate, M: Matcher>(
             path: &whole,
             mode: question.mode,
         };
-        return Ok(run_node(engine, edge.node, &asked, context)?);
+        return run_node(engine, edge.node, &asked, context);
     }
     let here = question.place.made()?;
     if context.enter(edge.node, &here)? {
