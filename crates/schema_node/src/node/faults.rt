@@ -10,7 +10,7 @@ ghost use Rattle.schema_reports.specs.ReportViews.{error_of, BorrowsItsPlace};
 ghost use Rattle.schema_node.specs.AnswerModes.{mode_in};
 ghost use Rattle.schema_node.specs.FaultViews.{answer_reply, errors_in, faults_in, FaultsLieInside, LiesInside};
 ghost use Rattle.schema_node.specs.KeywordViews.{answer_of, fault_of, fresh, mode_of, own_of, reply_of};
-ghost use Rattle.schema_reports.specs.Keywords.{own};
+ghost use Rattle.schema_reports.specs.Keywords.{for_all, for_first, own};
 ghost use Rattle.schema_node.specs.EvaluationPaths.{path_of};
 ghost use Rattle.schema_node.specs.EvaluationPlaces.{steps_to};
 ghost use Rattle.schema_node.specs.RunStates.{IsAskedOf, asking, where_asked};
@@ -224,6 +224,52 @@ fn first_fault<'i>(answer: Answer<'i>) -> Option<Fault<'i>>
     }
 }
 
+// The first error of an answer, as a reply. Its room on the stack is its own, so that a verdict pays nothing for it.
+#[inline(never)]
+fn first_finished<'i, K>(
+    alloc: Global,
+    node: &Node<K>,
+    name: &String,
+    question: &Question<'_, 'i>,
+    answer: Answer<'i>,
+) -> Result<Reply<'i>, OutOfMemory>
+    ensures reply { IfOk result (λ r. (texts : Bool) → reply_of texts r
+        ≡ answer_reply for_first (where_asked (node_of node.now) (asking question.now))
+        (string_bytes name.now) (answer_of texts answer.entry)) }
+    ensures borrows { IfOk result (λ r. (root : Data) → IsAskedOf root (asking question.now)
+        → FaultsLieInside for_first root (subject_of question.now.instance) answer.entry
+        → All (BorrowsItsPlace root) (errors_in r)) }
+{
+    match first_fault(answer) {
+        None => Ok(Reply::First(None)),
+        Some(fault) => {
+            let error = error_by(alloc, node, name, question, fault)?;
+            Ok(Reply::First(Some(error)))
+        }
+    }
+}
+
+// All errors of an answer, as a reply. Its room on the stack is its own, too.
+#[inline(never)]
+fn all_finished<'i, K>(
+    alloc: Global,
+    node: &Node<K>,
+    name: &String,
+    question: &Question<'_, 'i>,
+    answer: Answer<'i>,
+) -> Result<Reply<'i>, OutOfMemory>
+    ensures reply { IfOk result (λ r. (texts : Bool) → reply_of texts r
+        ≡ answer_reply for_all (where_asked (node_of node.now) (asking question.now))
+        (string_bytes name.now) (answer_of texts answer.entry)) }
+    ensures borrows { IfOk result (λ r. (root : Data) → IsAskedOf root (asking question.now)
+        → FaultsLieInside for_all root (subject_of question.now.instance) answer.entry
+        → All (BorrowsItsPlace root) (errors_in r)) }
+{
+    let faults = all_faults(alloc, answer)?;
+    let errors = errors_by(alloc, node, name, question, faults)?;
+    Ok(Reply::All(errors))
+}
+
 /// What an answer says in a mode, as a reply.
 pub fn finished<'i, K>(
     alloc: Global,
@@ -241,18 +287,8 @@ pub fn finished<'i, K>(
 {
     match question.mode {
         Mode::Verdict => Ok(Reply::Truth(is_accepting(&answer))),
-        Mode::First => match first_fault(answer) {
-            None => Ok(Reply::First(None)),
-            Some(fault) => {
-                let error = error_by(alloc, node, name, question, fault)?;
-                Ok(Reply::First(Some(error)))
-            }
-        },
-        Mode::All => {
-            let faults = all_faults(alloc, answer)?;
-            let errors = errors_by(alloc, node, name, question, faults)?;
-            Ok(Reply::All(errors))
-        }
+        Mode::First => first_finished(alloc, node, name, question, answer),
+        Mode::All => all_finished(alloc, node, name, question, answer),
         Mode::Evaluate => Ok(Reply::Nothing),
     }
 }

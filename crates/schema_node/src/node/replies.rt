@@ -185,8 +185,10 @@ fn stamped_errors<'i, K>(
     Ok(errors)
 }
 
-/// The reply with its errors stamped so.
-pub fn stamped_reply<'i, K>(
+// The reply with its errors stamped so, where there may be something to stamp. Its room on the stack is its own, so that a
+// verdict pays nothing for it.
+#[inline(never)]
+fn stamped_by_base<'i, K>(
     alloc: Global,
     node: &Node<K>,
     name: &String,
@@ -197,9 +199,6 @@ pub fn stamped_reply<'i, K>(
     ensures borrows { IfOk result (λ r. (root : Data) → All (BorrowsItsPlace root) (errors_in reply.entry)
         → All (BorrowsItsPlace root) (errors_in r)) }
 {
-    if node.base.is_none() {
-        return Ok(reply);
-    }
     match reply {
         Reply::Nothing => Ok(Reply::Nothing),
         Reply::Truth(yes) => Ok(Reply::Truth(yes)),
@@ -217,7 +216,26 @@ pub fn stamped_reply<'i, K>(
     }
 }
 
-/// The reply of the schema `false`.
+/// The reply with its errors stamped so.
+pub fn stamped_reply<'i, K>(
+    alloc: Global,
+    node: &Node<K>,
+    name: &String,
+    reply: Reply<'i>,
+) -> Result<Reply<'i>, OutOfMemory>
+    ensures stamped { IfOk result (λ r. (texts : Bool)
+        → Stamps (keyword_absolute (node_of node.now) (string_bytes name.now)) (reply_of texts reply.entry) (reply_of texts r)) }
+    ensures borrows { IfOk result (λ r. (root : Data) → All (BorrowsItsPlace root) (errors_in reply.entry)
+        → All (BorrowsItsPlace root) (errors_in r)) }
+{
+    if node.base.is_none() {
+        return Ok(reply);
+    }
+    stamped_by_base(alloc, node, name, reply)
+}
+
+/// The reply of the schema `false`. Its room on the stack is its own, so that what asks for it pays nothing otherwise.
+#[inline(never)]
 pub fn refused<'i, K>(
     alloc: Global,
     node: &Node<K>,

@@ -15,7 +15,8 @@ use schema_reports::location::OutOfMemory;
 use schema_reports::unfinished_matches::MatchSite;
 use std::alloc::Global;
 
-/// The site of a match that a keyword of the node asks for.
+/// The site of a match that a keyword of the node asks for. Its room on the stack is its own.
+#[inline(never)]
 pub fn match_site<'i, K>(
     alloc: Global,
     node: &Node<K>,
