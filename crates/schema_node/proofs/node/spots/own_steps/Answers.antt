@@ -4,7 +4,7 @@ use Rattle.std.proofs.lemmas.List.{drop_more}
 use Rattle.schema_reports.specs.Instance.{Place, Step, Subject, after_step, subject_from}
 use Rattle.schema_reports.specs.InstanceViews.{step_of, subject_of}
 use Rattle.schema_reports.specs.Laws.{IsPresent}
-use Rattle.schema_node.proofs.node.sites.place_within.Goals as goal
+use Rattle.schema_node.proofs.node.spots.own_steps.Goals as goal
 
 step_there : (t : Step) (p : Place) (s : Subject) → is_some (option_and_then (subject_from p) (after_step t s)) ≡ true → is_some (after_step t s) ≡ true
 step_there t p s h = go (after_step t s) h
