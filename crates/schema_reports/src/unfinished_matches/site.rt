@@ -10,8 +10,10 @@ ghost use Rattle.schema_reports.specs.Searched.{failure_error, site_error};
 ghost use Rattle.serde_json.specs.View.{view};
 ghost use Rattle.schema_reports.specs.MatchViews.{reason_of};
 ghost use Rattle.schema_reports.specs.Runs.{Met, Site};
+ghost use Rattle.schema_reports.specs.HashIndex.{match_hash};
 ghost use Rattle.schema_reports.specs.Unfinished.{located_by, or_pattern, site_of};
 
+use super::positions::match_hash;
 use crate::instance::{Instance, Place};
 use crate::location::{Location, OutOfMemory};
 use crate::reports::ValidationError;
@@ -82,6 +84,13 @@ impl UnfinishedMatch {
         ensures { result.now ≡ self.now.subject }
     {
         self.subject.as_str()
+    }
+
+    /// The hash by which it is found.
+    pub(super) fn hash(&self) -> u64
+        ensures hash { result ≡ match_hash self.now }
+    {
+        match_hash(self.pattern.as_str(), self.subject.as_str())
     }
 
     /// The same match in memory of its own.
@@ -242,6 +251,13 @@ impl<'i> LocatedMatch<'i> {
         let unfinished = UnfinishedMatch::new(alloc, pattern, subject)?;
         let site = site.copy()?;
         Ok(LocatedMatch { unfinished, site })
+    }
+
+    /// The match.
+    pub(super) fn unfinished(&self) -> &UnfinishedMatch
+        ensures { result.now ≡ self.now.pair }
+    {
+        &self.unfinished
     }
 }
 
