@@ -58,3 +58,4 @@ mod SearchedErrors
 pub mod SitesInside
 pub mod HashIndexed
 pub mod MatchesIndexed
+pub mod KeysIndexed

@@ -169,14 +169,14 @@ fn same_steps(a: &[InstanceStep<'_>], b: &[InstanceStep<'_>]) -> bool
     true
 }
 
-// The pointer after one step more.
-fn join_step(location: Location, step: InstanceStep<'_>) -> Result<Location, OutOfMemory>
-    ensures joined { IfOk result (λ l. l ≡ location ++ step_text (step_of step.entry)) }
+// Adds one step to a pointer.
+fn push_step(pointer: &mut Location, step: InstanceStep<'_>) -> Result<(), OutOfMemory>
+    ensures pushed { IfOk result (λ _. pointer.new ≡ pointer.old ++ step_text (step_of step.entry)) }
 {
     match step {
-        InstanceStep::Member(name) => location.join(LocationSegment::Property(name)),
-        InstanceStep::Item(index) => location.join(LocationSegment::Index(index)),
-        InstanceStep::NameOf(_) => Ok(location),
+        InstanceStep::Member(name) => pointer.push(LocationSegment::Property(name)),
+        InstanceStep::Item(index) => pointer.push(LocationSegment::Index(index)),
+        InstanceStep::NameOf(_) => Ok(()),
     }
 }
 
@@ -221,7 +221,7 @@ impl<'i> Place<'i> {
     {
         let mut location = Location::new(alloc);
         for step in self.steps.iter() {
-            location = join_step(location, *step)?;
+            push_step(&mut location, *step)?;
         }
         Ok(location)
     }

@@ -91,13 +91,20 @@ impl Location {
     pub fn join(&self, segment: LocationSegment<'_>) -> Result<Location, OutOfMemory>
         ensures joined { IfOk result (λ l. l ≡ self.now ++ segment_text (segment_of segment.entry)) }
     {
-        let mut text = self.text.clone()?;
-        text.push('/')?;
+        let mut location = self.copy()?;
+        location.push(segment)?;
+        Ok(location)
+    }
+
+    /// Adds one segment at the end, as `join` writes it. On `Err` a part of it may stand there.
+    pub(crate) fn push(&mut self, segment: LocationSegment<'_>) -> Result<(), OutOfMemory>
+        ensures pushed { IfOk result (λ _. self.new ≡ self.old ++ segment_text (segment_of segment.entry)) }
+    {
+        self.text.push('/')?;
         match segment {
-            LocationSegment::Property(name) => push_escaped(&mut text, name)?,
-            LocationSegment::Index(index) => push_decimal(&mut text, index)?,
+            LocationSegment::Property(name) => push_escaped(&mut self.text, name),
+            LocationSegment::Index(index) => push_decimal(&mut self.text, index),
         }
-        Ok(Location { text })
     }
 
     /// The pointer followed by another.
