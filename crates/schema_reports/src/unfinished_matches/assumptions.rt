@@ -204,8 +204,8 @@ impl IndexedOutcomes {
     }
 }
 
-/// What a run assumes, and what it remembers of the unfinished matches that it meets: the first one that is not assumed,
-/// and for each match the first site where it was met that has an instance path.
+/// What a run assumes of unfinished matches, and what it remembers of those that it meets: the first one that is not assumed,
+/// and for each match the first site with an instance path.
 #[derive(Drop)]
 pub struct MatchAssumptions<'i> {
     alloc: Global,
@@ -223,7 +223,7 @@ impl<'i> Model for MatchAssumptions<'i> {
 }
 
 impl<'i> MatchAssumptions<'i> {
-    /// What the first run of a call starts from: it assumes nothing.
+    /// Returns what the first run of a call starts from: nothing is assumed. It allocates nothing.
     pub fn new(alloc: Global) -> MatchAssumptions<'i>
         ensures starts { result ≡ starting [] }
     {
@@ -278,8 +278,8 @@ fn keep_first<'i>(
 }
 
 impl<'i> MatchAssumptions<'i> {
-    /// Whether the match is known to be unfinished: it is assumed, or it is the first one that was not, or a site of it is
-    /// remembered.
+    /// Returns `true` if the match is known to be unfinished: its outcome is assumed, or it was the first one without an
+    /// assumed outcome, or a site of it is remembered.
     pub fn is_unfinished(&self, pattern: &str, subject: &str) -> bool
         ensures known { result ≡ is_known self.now (record { pattern = pattern.now; subject = subject.now }) }
     {
@@ -294,15 +294,15 @@ impl<'i> MatchAssumptions<'i> {
         self.located.contains(pattern, subject)
     }
 
-    /// Whether an unfinished match was met that is not assumed.
+    /// Returns `true` if an unfinished match was met whose outcome is not assumed.
     pub fn met_unassumed(&self) -> bool
         ensures met { result ≡ is_some self.now.unassumed }
     {
         self.unassumed.is_some()
     }
 
-    /// What a match that the matcher left unfinished comes out as: as assumed, or no. It is remembered with its site.
-    /// Where memory is wanted, nothing is.
+    /// Returns the assumed outcome of a match that the matcher did not finish, or `false` if none is assumed, and remembers the
+    /// match with its site. Fails only if memory cannot be allocated; nothing has changed then.
     pub fn resolve(
         &mut self,
         pattern: &str,
@@ -335,7 +335,7 @@ impl<'i> MatchAssumptions<'i> {
         }
     }
 
-    /// The same of a match that is known to be unfinished: the matcher need not be asked again.
+    /// The same for a match that is known to be unfinished, so that the matcher need not be asked again.
     pub fn resolve_unfinished(
         &mut self,
         pattern: &str,

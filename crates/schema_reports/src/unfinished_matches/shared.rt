@@ -26,7 +26,7 @@ fn all_valid(results: &[bool]) -> bool
     true
 }
 
-/// Whether every result is yes; where there were too many combinations, no.
+/// Returns `true` if every result is `true`, and `false` if there were too many combinations.
 pub fn validity(outcomes: Outcomes<'_, bool>) -> bool
     ensures yes { result ≡ is_yes outcomes.entry }
 {
@@ -160,8 +160,8 @@ fn shared_or_failure<'i>(
     }
 }
 
-/// The errors that every result has, in the order of the last one; where there is none although some result has an error, or
-/// where there were too many combinations, the failure alone.
+/// Returns the errors that every result has, in the order of the last result. If there is none although some result has an
+/// error, or if there were too many combinations, it returns the failure alone. Fails only if memory cannot be allocated.
 pub fn errors<'i>(
     alloc: Global,
     outcomes: Outcomes<'i, Vec<ValidationError<'i>>>,

@@ -22,14 +22,14 @@ use serde_json::Value;
 use std::alloc::Global;
 use std::marker::Model;
 
-/// Why a match was not finished: a limit was reached, which the text tells of, or the engine failed.
+/// Why a match was not finished: a limit was reached, which the text names, or the regex engine failed.
 #[derive(Drop)]
 pub enum Reason {
     Limit(Text),
     Engine,
 }
 
-/// What a matcher says of a pattern and a subject.
+/// What a matcher answers for a pattern and a subject: whether they match, or why it did not finish.
 #[derive(Drop)]
 pub enum Match {
     Finished(bool),
@@ -103,8 +103,8 @@ impl UnfinishedMatch {
     }
 }
 
-/// Where a match was met: a schema path; where the run knows them, the evaluation path and the place of the subject; and
-/// the pattern as the schema has it, where it is not the compiled one.
+/// Where a match was asked for: the schema path; the evaluation path and the place of the subject, if the run knows them; and
+/// the pattern as it is written in the schema, if that is not the compiled one.
 #[derive(Drop)]
 pub struct MatchSite<'i> {
     schema_path: Location,
@@ -121,7 +121,7 @@ impl<'i> Model for MatchSite<'i> {
 }
 
 impl<'i> MatchSite<'i> {
-    /// A site with its schema path alone.
+    /// Returns a site with a schema path alone.
     pub fn schema(schema_path: Location) -> MatchSite<'i>
         ensures site { result ≡ record { schema_path = schema_path; located = None; pattern = None } }
     {
@@ -132,7 +132,7 @@ impl<'i> MatchSite<'i> {
         }
     }
 
-    /// A site with its evaluation path and its place too.
+    /// Returns a site with an evaluation path and a place too.
     pub fn located(
         schema_path: Location,
         evaluation_path: Location,
@@ -147,7 +147,7 @@ impl<'i> MatchSite<'i> {
         }
     }
 
-    /// The site with the pattern as the schema has it.
+    /// Adds the pattern as it is written in the schema. Fails only if memory cannot be allocated.
     pub fn pattern(self, alloc: Global, pattern: &str) -> Result<MatchSite<'i>, OutOfMemory>
         ensures site { IfOk result (λ s. s ≡ record self.entry { pattern = Some pattern.now }) }
     {
