@@ -16,7 +16,7 @@ use std::alloc::Global;
 fn segment_count(location: &str) -> usize
     ensures count { result ≡ segment_count location.now }
 {
-    location.as_bytes().iter().filter(|x| **x == 47).count()
+    location.as_bytes().iter().filter(|x| **x == b'/').count()
 }
 
 // How long its first segments are.
@@ -26,7 +26,7 @@ fn segments_length(count: usize, location: &str) -> usize
     let mut left = count;
     let mut size = 0usize;
     for x in location.as_bytes() {
-        if *x == 47 {
+        if *x == b'/' {
             if left == 0 {
                 return size;
             }
