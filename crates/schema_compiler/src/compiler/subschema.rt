@@ -36,8 +36,8 @@ fn location_inside<S>(
 }
 
 impl<'p, R: Resolver, T> Given<'p, R, T> {
-    // Whether a value that was read has an identifier.
-    fn identifies(&self, draft: Draft, value: Option<&Value>) -> bool
+    /// Whether a value that was read has an identifier.
+    pub(crate) fn identifies(&self, draft: Draft, value: Option<&Value>) -> bool
         ensures identified { result ≡ is_some ((R.resolving self.now.resolver.now).id (draft_of draft)
             (unwrap_or (option_map (λ v. view v.now) value.entry) null)) }
     {
@@ -47,8 +47,8 @@ impl<'p, R: Resolver, T> Given<'p, R, T> {
         }
     }
 
-    // The draft of a value that was read, inside a schema of this draft.
-    fn detected(&self, draft: Draft, value: Option<&Value>) -> Draft
+    /// The draft of a value that was read, inside a schema of this draft; no value counts as null.
+    pub(crate) fn detected(&self, draft: Draft, value: Option<&Value>) -> Draft
         ensures detected { draft_of result ≡
             (R.resolving self.now.resolver.now).detect (draft_of draft)
             (unwrap_or (option_map (λ v. view v.now) value.entry) null) }
@@ -57,22 +57,6 @@ impl<'p, R: Resolver, T> Given<'p, R, T> {
             Some(value) => self.resolver.detect(draft, value),
             None => self.resolver.detect(draft, &Value::Null),
         }
-    }
-
-    /// Whether the schema at a place has an identifier.
-    pub(crate) fn has_id(&self, draft: Draft, place: &SchemaPlace) -> bool
-        ensures identified { result ≡ is_some ((R.resolving self.now.resolver.now).id (draft_of draft)
-            (schema_at (resolver_parts R.resolving self.now) (place_of place.now))) }
-    {
-        self.identifies(draft, self.resolver.value(place))
-    }
-
-    /// The draft of the schema at a place, inside a schema of this draft.
-    pub(crate) fn draft_at(&self, draft: Draft, place: &SchemaPlace) -> Draft
-        ensures detected { draft_of result ≡ (R.resolving self.now.resolver.now).detect (draft_of draft)
-            (schema_at (resolver_parts R.resolving self.now) (place_of place.now)) }
-    {
-        self.detected(draft, self.resolver.value(place))
     }
 
     // The vocabularies in force at a place inside a key's schema.
