@@ -55,12 +55,21 @@ pub(crate) mod text;
 mod values;
 mod vocabularies;
 
-/// Compiles all that a key reaches. Each key gets one number, the key itself the first. What is said holds whatever
-/// matcher, keywords' words, draft and base go with the parts: the compiler reads none of them.
+/// The priority of `$ref` in the table of built-in keywords, which one that stands alone has too.
+const REF_PRIORITY: u8 = 70;
+
+/// The priority of a keyword that the keyword table owns: after each built-in one.
+const OWN_PRIORITY: u8 = 80;
+
+/// Compiles the schema of a key and every schema that it reaches through subschemas and references. Returns their keys and
+/// nodes, one number for each key, the given key's being 0. A matcher, the runs of keywords, and the options' draft and base
+/// are not read, so the contract holds for all of them.
 ///
 /// # Errors
 ///
-/// A cause that stands for a key that is reached, more keys than the limit, or want of memory.
+/// Fails if a schema that is reached cannot be compiled: it is neither an object nor a boolean, a reference in it is no
+/// string or is refused by the resolver, a keyword refuses it, or a vocabulary that it requires is not declared. Fails also
+/// if more keys are reached than the limit, or out of memory.
 pub fn compile<R: Resolver, K: Validate, T: KeywordTable<K>>(
     alloc: Global,
     resolver: &R,
@@ -181,10 +190,15 @@ impl<'p, R: Resolver, T> Given<'p, R, T> {
             (task R.resolving T.owned T.script K.shape self.now) (filled R.point compiled.old)
             (key_of R.point key.now)) }
     {
-        match self.object_at(key) {
+        let context = Context {
+            options: self.options,
+            key,
+        };
+        let value = self.resolver.value(&key.place);
+        match values::object_of(value) {
             Some(members) => self.planned_object(compiled, key, members),
             None => Ok(PlannedNode {
-                form: self.form_at(key)?,
+                form: context.plain_form(value)?,
                 annotations: None,
             }),
         }
@@ -221,7 +235,7 @@ impl<'p, R: Resolver, T> Given<'p, R, T> {
                     compiled,
                     key,
                     &name,
-                    70,
+                    REF_PRIORITY,
                     ReferenceKind::Ref,
                     value,
                 )?;
@@ -293,7 +307,7 @@ impl<'p, R: Resolver, T> Given<'p, R, T> {
     {
         let text = name.as_str();
         if self.table.owns(text) {
-            return self.made_entry(compiled, key, members, true, name, 80, false);
+            return self.made_entry(compiled, key, members, true, name, OWN_PRIORITY, false);
         }
         let context = Context {
             options: self.options,
