@@ -168,7 +168,7 @@ fn errors_by<'i, K>(
     ensures borrows { IfOk result (λ es. (root : Data) → IsAskedOf root (asking question.now)
         → All (LiesInside root (subject_of question.now.instance)) faults.entry.items → All (BorrowsItsPlace root) es.items) }
 {
-    let mut errors = Vec::new(alloc);
+    let mut errors = Vec::with_capacity(alloc, faults.len())?;
     for fault in faults {
         errors.push(error_by(alloc, node, name, question, fault)?)?;
     }
