@@ -11,3 +11,4 @@ pub mod WayWords
 pub mod WayLaws
 pub mod Places
 pub mod FaultLists
+pub mod OwnWays
