@@ -11,7 +11,7 @@ ghost use Rattle.bench_keywords.specs.Words.{any_of_tally, if_none, none_text};
 
 use crate::texts::none_text;
 use keyword_ways::answers::{note, refuse};
-use keyword_ways::judging::{Judge, Judging, judge_on};
+use keyword_ways::judging::{Judge, Judging, judge_children};
 use keyword_ways::run::Progress;
 use schema_node::context::keyword::{Answer, Below, Mode, Reply, Step};
 use schema_reports::instance::Instance;
@@ -67,7 +67,7 @@ pub fn turn_any_of<'s, 'i>(
         enough: 1,
         shows: true,
     };
-    match judge_on(judge, run, reply) {
+    match judge_children(judge, run, reply) {
         Judging::Asks(child, asked) => Ok(Step::Ask(child, Below::Here, asked)),
         Judging::Judged(accepted) => {
             tell_any_of(alloc, accepted, mode, instance, answer)?;

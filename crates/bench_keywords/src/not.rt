@@ -13,7 +13,7 @@ ghost use Rattle.keyword_ways.specs.Ways.{judges, noted, way_step, way_turn};
 ghost use Rattle.bench_keywords.specs.Words.{if_any, not_tally, not_text};
 
 use keyword_ways::answers::{note, refuse};
-use keyword_ways::judging::{Judge, Judging, judge_on};
+use keyword_ways::judging::{Judge, Judging, judge_children};
 use keyword_ways::run::Progress;
 use schema_node::context::keyword::{Answer, Below, Mode, Reply, Step};
 use schema_reports::instance::Instance;
@@ -84,7 +84,7 @@ pub fn turn_not<'s, 'i>(
         enough: 1,
         shows: false,
     };
-    match judge_on(judge, run, reply) {
+    match judge_children(judge, run, reply) {
         Judging::Asks(child, asked) => Ok(Step::Ask(child, Below::Here, asked)),
         Judging::Judged(accepted) => {
             tell_not(alloc, schema, accepted, mode, instance, answer)?;

@@ -12,7 +12,7 @@ ghost use Rattle.bench_keywords.specs.Words.{many_text, none_text, one_of_tally,
 
 use crate::texts::none_text;
 use keyword_ways::answers::{note, refuse};
-use keyword_ways::judging::{Judge, Judging, judge_on};
+use keyword_ways::judging::{Judge, Judging, judge_children};
 use keyword_ways::run::Progress;
 use schema_node::context::keyword::{Answer, Below, Mode, Reply, Step};
 use schema_reports::instance::Instance;
@@ -83,7 +83,7 @@ pub fn turn_one_of<'s, 'i>(
         enough: 2,
         shows: true,
     };
-    match judge_on(judge, run, reply) {
+    match judge_children(judge, run, reply) {
         Judging::Asks(child, asked) => Ok(Step::Ask(child, Below::Here, asked)),
         Judging::Judged(accepted) => {
             tell_one_of(alloc, accepted, mode, instance, answer)?;

@@ -3,7 +3,7 @@ ghost use Rattle.std.specs.Prelude.{◌≡◌, ◌+◌, ℕ, Bool, min, not};
 ghost use Rattle.schema_reports.specs.Keywords.{Answer as AnswerOfRun, Question};
 ghost use Rattle.schema_node.specs.KeywordViews.{reply_of};
 ghost use Rattle.keyword_ways.specs.Asking.{nth_at};
-ghost use Rattle.keyword_ways.specs.Items.{each_from};
+ghost use Rattle.keyword_ways.specs.Items.{child_here, each_from};
 ghost use Rattle.keyword_ways.specs.Judging.{counted_of, judging_answer, judging_turn};
 ghost use Rattle.keyword_ways.specs.Tallies.{Tally, asked_in, counted, is_settled, wants_units};
 ghost use Rattle.keyword_ways.specs.Ways.{answer_after, asked, counted_at, judged_at, judges, next_if, nth, stage_after, step_at};
@@ -135,4 +135,21 @@ pub fn judge_on(judge: Judge, run: &mut Progress, reply: Reply<'_>) -> Judging
             Judging::Over
         }
     }
+}
+
+/// Takes a turn of a run that judges its children, each at the keyword's own place.
+pub fn judge_children(judge: Judge, run: &mut Progress, reply: Reply<'_>) -> Judging
+    ensures stage { (texts : Bool) (t : Tally) → t.enough ≡ judge.enough → t.shows ≡ judge.shows
+        → run.new ≡ record run.old {
+          stage = stage_after (judges t (each_from child_here 0 judge.count)) run.old.mode run.old.stage
+              (reply_of texts reply.entry);
+        } }
+    ensures step { (texts : Bool) (t : Tally) → t.enough ≡ judge.enough → t.shows ≡ judge.shows
+        → step_at (judges t (each_from child_here 0 judge.count)) run.old.mode run.old.stage (reply_of texts reply.entry)
+        ≡ judging_turn child_here result }
+    ensures answer { (texts : Bool) (t : Tally) (a : AnswerOfRun) → t.enough ≡ judge.enough → t.shows ≡ judge.shows
+        → answer_after (judges t (each_from child_here 0 judge.count)) run.old.mode run.old.stage a (reply_of texts reply.entry)
+        ≡ judging_answer t run.old.mode a result }
+{
+    judge_on(judge, run, reply)
 }
