@@ -1,6 +1,6 @@
 -- Keywords of an author's own. The author says in which way a keyword goes about an instance, with its texts; where texts are
 -- not spoken of, each counts as empty. All that the laws of keywords name follows from that.
-use Rattle.std.proofs.Common.{◌≡◌, ℕ, Bool, List, false, refl, subst, sym, map}
+use Rattle.std.proofs.Common.{◌≡◌, ◌∙◌, ℕ, Bool, List, false, refl, subst, sym, map}
 use Rattle.std.proofs.lemmas.List.Elements.{All-nil}
 use Rattle.schema_reports.specs.Instance.{Subject, Text}
 use Rattle.schema_reports.specs.ReportViews.{spoken}
@@ -9,7 +9,7 @@ use Rattle.schema_reports.specs.Turns.{FunctionLaws, Standing, TurnLaws}
 use Rattle.keyword_ways.specs.declared.run.Progress.{Progress}
 use Rattle.keyword_ways.specs.Places.{AsksPresent}
 use Rattle.keyword_ways.specs.Tallies.{Tally}
-use Rattle.keyword_ways.specs.Ways.{Way, asks_match, branches, judges, passes_on, questions, tells, unless}
+use Rattle.keyword_ways.specs.Ways.{Way, asks_match, branches, judges, passes_on, passes_some, places, questions, tells, unless}
 use Rattle.keyword_ways.specs.WayLaws.{AllPresent, SameQuestions, function_laws, turn_laws}
 use Rattle.keyword_ways.specs.WayWords.{left_at_most, nothing_absorbed, run_ends, run_fits, words_of}
 
@@ -19,6 +19,7 @@ spoken_tally texts t = record t { told = λ n. map (spoken texts) (t.told n) }
 abbrev pub spoken_way : Bool → Way → Way
 spoken_way texts (tells name ts) = tells name (map (spoken texts) ts)
 spoken_way texts (passes_on qs) = passes_on qs
+spoken_way texts (passes_some os) = passes_some os
 spoken_way texts (judges t qs) = judges (spoken_tally texts t) qs
 spoken_way texts (branches q one other) = branches q one other
 spoken_way texts (asks_match name p text) = asks_match name p (spoken texts text)
@@ -30,9 +31,18 @@ leaf_way name holds text = tells name (unless holds text)
 pub same_questions : (texts : Bool) (w : Way) → questions (spoken_way texts w) ≡ questions w
 same_questions texts (tells name ts) = refl
 same_questions texts (passes_on qs) = refl
+same_questions texts (passes_some os) = refl
 same_questions texts (judges t qs) = refl
 same_questions texts (branches q one other) = refl
 same_questions texts (asks_match name p text) = refl
+
+same_places : (texts : Bool) (w : Way) → places (spoken_way texts w) ≡ places w
+same_places texts (tells name ts) = refl
+same_places texts (passes_on qs) = refl
+same_places texts (passes_some os) = refl
+same_places texts (judges t qs) = refl
+same_places texts (branches q one other) = refl
+same_places texts (asks_match name p text) = refl
 
 module _ {M : Type 0} (way : M → Subject → Way) where
   abbrev pub spoken_ways : Bool → M → Subject → Way
@@ -58,7 +68,10 @@ module _ {M : Type 0} (way : M → Subject → Way) where
   own_fits = run_fits spoken_ways
 
   own_same : SameQuestions spoken_ways
-  own_same texts m s = subst (λ qs. questions (spoken_way texts (way m s)) ≡ qs) (sym (same_questions false (way m s))) (same_questions texts (way m s))
+  own_same texts m s = (
+    same_questions texts (way m s) ∙ sym (same_questions false (way m s)),
+    same_places texts (way m s) ∙ sym (same_places false (way m s)),
+  )
 
   own_present : AlwaysPresent → AllPresent spoken_ways
   own_present present texts m s = subst (AsksPresent s) (sym (same_questions texts (way m s))) (present m s)

@@ -8,7 +8,8 @@ use Rattle.serde_json.specs.Data.{Data, Items, Members, array, boolean, item, me
 use Rattle.schema_reports.specs.Keywords.{Question, down}
 use Rattle.schema_reports.specs.Laws.{IsPresent, steps_below}
 use Rattle.schema_node.specs.KeywordViews.{option_list}
-use Rattle.keyword_ways.specs.Members.{at_name, has_member, kept, names_in, present_from, subject_names}
+use Rattle.keyword_ways.specs.Members.{at_name, has_member, kept, members_from, names_in, only_if, present_from, subject_names}
+use Rattle.keyword_ways.specs.Somes.{somes}
 use Rattle.keyword_ways.specs.Items.{child_at_item, child_here, each_from, first_at_item, item_count, items_count}
 
 -- each of the questions is asked at a place that is there
@@ -30,6 +31,16 @@ kept_present false i k s qs h rest = rest
 pub members_present : (i : ℕ) (ks : List Text) (s : Subject) → All (λ q. IsPresent s (steps_below q.below)) (present_from i ks s)
 members_present i [] s = All-nil _
 members_present i (k ∷ ks) s = kept_present (has_member k s) i k s (present_from (i + 1) ks s) refl (members_present (i + 1) ks s)
+
+some_present : (b : Bool) (i : ℕ) (k : Text) (s : Subject) (os : List (Option Question)) → has_member k s ≡ b → AsksPresent s (somes os)
+    → AsksPresent s (somes (only_if b (record { child = i; below = down (to_member k) }) ∷ os))
+some_present true i k s os h rest = All-cons (λ q. IsPresent s (steps_below q.below)) (record { child = i; below = down (to_member k) }) (somes os) (member_present k s h) rest
+some_present false i k s os h rest = rest
+
+-- the members that are there, child by child
+pub some_members_present : (i : ℕ) (ks : List Text) (s : Subject) → AsksPresent s (somes (members_from i ks s))
+some_members_present i [] s = All-nil _
+some_members_present i (k ∷ ks) s = some_present (has_member k s) i k s (members_from (i + 1) ks s) refl (some_members_present (i + 1) ks s)
 
 -- questions that are asked each at a present place
 pub each_present : (f : ℕ → Question) (s : Subject) (i n : ℕ) → ((k : ℕ) → k < n → IsPresent s (steps_below (f (i + k)).below)) → All (λ q. IsPresent s (steps_below q.below)) (each_from f i n)
