@@ -1,10 +1,11 @@
 -- The next question, where there is one.
-use Rattle.std.proofs.Common.{ℕ, zero, suc, drop, add-zero, ◌≡◌, ◌∙◌, ◌≤◌, ◌+◌, Bool, true, false, List, [], ◌∷◌, Option, Some, None, length, ap, sym, subst, refl, add-one, arith}
+use Rattle.std.proofs.Common.{map, ℕ, zero, suc, drop, add-zero, ◌≡◌, ◌∙◌, ◌≤◌, ◌+◌, Bool, true, false, List, [], ◌∷◌, Option, Some, None, length, ap, sym, subst, refl, add-one, arith}
 use Rattle.schema_reports.specs.Instance.{Subject, Text}
 use Rattle.schema_reports.specs.Keywords.{Answer, Question, Reply, Turn}
 use Rattle.keyword_ways.specs.declared.run.Stage.TheVariants.{Asked, Begun, Counted, Ended}
 use Rattle.keyword_ways.specs.declared.run.Stage.{Stage}
 use Rattle.schema_node.specs.declared.context.keyword.Mode.{Mode}
+use Rattle.std.proofs.lemmas.List.{drop-map}
 use Rattle.schema_node.proofs.NodeParts.{drop_past}
 use Rattle.keyword_ways.specs.Somes.{first_some, question_of, some_from}
 use Rattle.keyword_ways.specs.declared.run.Progress.{Progress}
@@ -89,3 +90,9 @@ pub members-drop : (n i : ℕ) (ks : List Text) (s : Subject) → drop n (member
 members-drop zero i ks s = ap (λ j. members_from j ks s) (sym (add-zero i))
 members-drop (suc n) i [] s = refl
 members-drop (suc n) i (k ∷ ks) s = members-drop n (i + 1) ks s ∙ ap (λ j. members_from j (drop n ks) s) (one_on i n)
+
+pub members_from_drop : {X : Type 0} (f : X → Text) (n : ℕ) (xs : List X) (s : Subject) → drop n (members_from 0 (map f xs) s) ≡ members_from n (map f (drop n xs)) s
+members_from_drop f n xs s = members-drop n 0 (map f xs) s ∙ (ap (λ j. members_from j (drop n (map f xs)) s) (from_none n) ∙ ap (λ ks. members_from n ks s) (drop-map f n xs))
+  where
+    from_none : (n : ℕ) → 0 + n ≡ n
+    from_none n = omega arith
