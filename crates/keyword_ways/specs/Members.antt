@@ -39,3 +39,12 @@ present_from i (k ∷ ks) s = kept (has_member k s) (record { child = i; below =
 -- the only child, at a name
 abbrev pub at_name : Text → Question
 at_name k = record { child = 0; below = down (to_name k) }
+
+abbrev pub only_if : Bool → Question → Option Question
+only_if true q = Some q
+only_if false q = None
+
+-- the same, child by child: none where the name is not present
+abbrev pub members_from : ℕ → List Text → Subject → List (Option Question)
+members_from i [] s = []
+members_from i (k ∷ ks) s = only_if (has_member k s) (record { child = i; below = down (to_member k) }) ∷ members_from (i + 1) ks s
