@@ -114,15 +114,17 @@ impl<'p, R: Resolver, T> Given<'p, R, T> {
         })
     }
 
-    /// The key of the subschema at a path below.
+    /// The key of the subschema at a path below, and the value that was read there.
     pub(crate) fn subschema_key(
         &self,
         key: &SchemaKey<R::State>,
         path: &SchemaPath,
-    ) -> Result<SchemaKey<R::State>, BuildError>
+    ) -> Result<(SchemaKey<R::State>, Option<&'p Value>), BuildError>
         ensures below { IfOk result (λ k.
             subschema (resolver_parts R.resolving self.now) (key_of R.point key.now) path.now ≡
-            Some (record { key = key_of R.point k; path = pointer_to path.now; is_reference = false })) }
+            Some (record { key = key_of R.point k.0; path = pointer_to path.now; is_reference = false })) }
+        ensures read { IfOk result (λ k. option_map (λ v. view v.now) k.1 ≡
+            (R.resolving self.now.resolver.now).value (place_of k.0.place)) }
         ensures refused { IfErr result (Names
             (request_causes (resolver_parts R.resolving self.now) (key_of R.point key.now)
             (compile path.now))) }
@@ -139,6 +141,6 @@ impl<'p, R: Resolver, T> Given<'p, R, T> {
             state,
             draft,
         };
-        Ok(self.key_inside(key, path, below, has_id)?)
+        Ok((self.key_inside(key, path, below, has_id)?, value))
     }
 }

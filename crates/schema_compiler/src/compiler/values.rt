@@ -6,12 +6,43 @@ ghost use Rattle.serde_json.specs.View.{view, members_view};
 ghost use Rattle.schema_reports.specs.Pointer.{joined};
 ghost use Rattle.schema_reports.specs.Refusals.{not_a_schema, reference_not_text};
 ghost use Rattle.schema_node.specs.NodeViews.{boolean_plan, plan_of};
+ghost use Rattle.schema_node.specs.ResolverViews.{place_of};
+ghost use Rattle.schema_compiler.specs.Readings.{IsReading};
 ghost use Rattle.schema_compiler.specs.Refusing.{Names};
 
 use crate::compiler::context::Context;
 use crate::compiler::error::BuildError;
+use crate::compiler::given::Given;
+use crate::compiler::key::SchemaKey;
+use schema_node::context::resolver::Resolver;
 use schema_node::node::NodeForm;
 use serde_json::{Map, Value};
+
+/// What is known of the value at a key's place: it was read for the key already, or it was not.
+#[derive(Clone, Copy)]
+pub(crate) enum Reading<'p> {
+    Read(Option<&'p Value>),
+    Unread,
+}
+
+impl<'p, R: Resolver, T> Given<'p, R, T> {
+    /// The value at a key's place, which is read where it was not read already.
+    pub(crate) fn value_of(
+        &self,
+        key: &SchemaKey<R::State>,
+        reading: Reading<'p>,
+    ) -> Option<&'p Value>
+        requires reading { IsReading
+            ((R.resolving self.now.resolver.now).value (place_of key.now.place)) reading }
+        ensures value { option_map (λ v. view v.now) result ≡
+            (R.resolving self.now.resolver.now).value (place_of key.now.place) }
+    {
+        match reading {
+            Reading::Read(value) => value,
+            Reading::Unread => self.resolver.value(&key.place),
+        }
+    }
+}
 
 /// The members of a value that was read at a place, if it is an object.
 pub(crate) fn object_of<'v>(value: Option<&'v Value>) -> Option<&'v Map<String, Value>>
