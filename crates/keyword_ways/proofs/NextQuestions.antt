@@ -1,5 +1,5 @@
 -- The next question, where there is one.
-use Rattle.std.proofs.Common.{map, ℕ, zero, suc, drop, add-zero, ◌≡◌, ◌∙◌, ◌≤◌, ◌+◌, Bool, true, false, List, [], ◌∷◌, Option, Some, None, length, ap, sym, subst, refl, add-one, arith}
+use Rattle.std.proofs.Common.{map, ℕ, zero, suc, drop, add-zero, ◌≡◌, ◌∙◌, ◌≤◌, ◌+◌, Bool, true, false, List, [], ◌∷◌, Option, None, length, ap, sym, subst, refl, add-one, arith}
 use Rattle.schema_reports.specs.Instance.{Subject, Text}
 use Rattle.schema_reports.specs.Keywords.{Answer, Question, Reply, Turn}
 use Rattle.keyword_ways.specs.declared.run.Stage.TheVariants.{Asked, Begun, Counted, Ended}
