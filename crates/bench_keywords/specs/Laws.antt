@@ -26,7 +26,7 @@ ends_in = run_ends way
 abbrev pub fits_in : Bool → BenchShape → Standing (Progress × Answer) → Type 0
 fits_in = run_fits way
 
-same_asked : (texts : Bool) (pattern : Text) (s : Subject) (o : Option Text) 
+same_asked : (texts : Bool) (pattern : Text) (s : Subject) (o : Option Text)
     → (questions (pattern_way texts pattern s o) ≡ questions (pattern_way false pattern s o)) × (places (pattern_way texts pattern s o) ≡ places (pattern_way false pattern s o))
 same_asked texts pattern s None = (refl, refl)
 same_asked texts pattern s (Some text) = (refl, refl)

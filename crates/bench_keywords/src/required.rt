@@ -48,7 +48,8 @@ pub fn tell_required<'i>(
 
 /// Whether the instance is an object that lacks one of these members.
 fn lacks_one(names: &[String], instance: Instance<'_>) -> bool
-    ensures lacks { result ≡ list_any (λ k. is_object (subject_of instance.entry) && not (has_member (string_bytes k) (subject_of instance.entry)))
+    ensures lacks { result ≡ list_any
+        (λ k. is_object (subject_of instance.entry) && not (has_member (string_bytes k) (subject_of instance.entry)))
         names.now }
 {
     names.iter().any(|name| is_missing(name, instance))

@@ -1,5 +1,5 @@
 -- The next question, where there is one.
-use Rattle.std.proofs.Common.{map, ℕ, zero, suc, drop, add-zero, ◌≡◌, ◌∙◌, ◌≤◌, ◌+◌, Bool, true, false, List, [], ◌∷◌, Option, Some, None, length, ap, sym, subst, refl, add-one, arith}
+use Rattle.std.proofs.Common.{map, ℕ, zero, suc, drop, add-zero, ◌≡◌, ◌∙◌, ◌≤◌, ◌+◌, Bool, true, false, List, [], ◌∷◌, Option, None, length, ap, sym, refl, arith}
 use Rattle.schema_reports.specs.Instance.{Subject, Text}
 use Rattle.schema_reports.specs.Keywords.{Answer, Question, Reply, Turn}
 use Rattle.keyword_ways.specs.declared.run.Stage.TheVariants.{Asked, Begun, Counted, Ended}
@@ -11,7 +11,7 @@ use Rattle.keyword_ways.specs.Somes.{first_some, question_of, some_from}
 use Rattle.keyword_ways.specs.declared.run.Progress.{Progress}
 use Rattle.keyword_ways.specs.Ways.{answer_after, asked, goes_on, next_if, next_some, nth, passes_on, passes_some, stage_at, stage_some, way_step, way_turn}
 use Rattle.keyword_ways.specs.Asking.{IsNext, IsNextFrom, nth_at, some_at, stage_of}
-use Rattle.keyword_ways.specs.Members.{has_member, kept, members_from, present_from}
+use Rattle.keyword_ways.specs.Members.{members_from}
 
 pub nth-past : (i : ℕ) (qs : List Question) → length qs ≤ i → nth i qs ≡ None
 nth-past zero [] h = refl
@@ -38,14 +38,6 @@ turned qs run after a b r place is_next goes answers =
 pub stepped : (qs : List Question) (run : Progress) (a : Answer) (r : Reply) (place : Option ℕ) (step : Turn) → IsNext qs run.stage r place
     → step ≡ asked run.mode (nth_at qs place) → way_step (passes_on qs) (run, a) r ≡ step
 stepped qs run a r place step is_next asks = is_next.step_is run.mode ∙ sym asks
-
-length-kept : (b : Bool) (q : Question) (qs : List Question) (n : ℕ) → length qs ≤ n → length (kept b q qs) ≤ n + 1
-length-kept true q qs n h = omega arith
-length-kept false q qs n h = omega arith
-
-pub length-present : (i : ℕ) (ks : List Text) (s : Subject) → length (present_from i ks s) ≤ length ks
-length-present i [] s = omega arith
-length-present i (k ∷ ks) s = subst (λ n. length (present_from i (k ∷ ks) s) ≤ n) (add-one (length ks)) (length-kept (has_member k s) _ (present_from (i + 1) ks s) (length ks) (length-present (i + 1) ks s))
 
 -- ---- where some are there
 

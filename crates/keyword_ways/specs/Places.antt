@@ -8,7 +8,7 @@ use Rattle.serde_json.specs.Data.{Data, Items, Members, array, boolean, item, me
 use Rattle.schema_reports.specs.Keywords.{Question, down}
 use Rattle.schema_reports.specs.Laws.{IsPresent, steps_below}
 use Rattle.schema_node.specs.KeywordViews.{option_list}
-use Rattle.keyword_ways.specs.Members.{at_name, has_member, kept, members_from, names_in, only_if, present_from, subject_names}
+use Rattle.keyword_ways.specs.Members.{at_name, has_member, members_from, names_in, only_if, subject_names}
 use Rattle.keyword_ways.specs.Somes.{somes}
 use Rattle.keyword_ways.specs.Items.{child_at_item, child_here, each_from, first_at_item, item_count, items_count}
 
@@ -22,15 +22,6 @@ member_present k s h = leads (after_step (to_member k) s) h
     leads : (o : Option Subject) → is_some o ≡ true → is_some (option_and_then (subject_from []) o) ≡ true
     leads None h = cc
     leads (Some t) h = refl
-
-kept_present : (b : Bool) (i : ℕ) (k : Text) (s : Subject) (qs : List Question) → has_member k s ≡ b → All (λ q. IsPresent s (steps_below q.below)) qs
-    → All (λ q. IsPresent s (steps_below q.below)) (kept b (record { child = i; below = down (to_member k) }) qs)
-kept_present true i k s qs h rest = All-cons (λ q. IsPresent s (steps_below q.below)) (record { child = i; below = down (to_member k) }) qs (member_present k s h) rest
-kept_present false i k s qs h rest = rest
-
-pub members_present : (i : ℕ) (ks : List Text) (s : Subject) → All (λ q. IsPresent s (steps_below q.below)) (present_from i ks s)
-members_present i [] s = All-nil _
-members_present i (k ∷ ks) s = kept_present (has_member k s) i k s (present_from (i + 1) ks s) refl (members_present (i + 1) ks s)
 
 some_present : (b : Bool) (i : ℕ) (k : Text) (s : Subject) (os : List (Option Question)) → has_member k s ≡ b → AsksPresent s (somes os)
     → AsksPresent s (somes (only_if b (record { child = i; below = down (to_member k) }) ∷ os))

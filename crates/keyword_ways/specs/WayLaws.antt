@@ -1,6 +1,6 @@
 -- The laws of a type of keywords that go about an instance in ways, proved once: what is left to show of a type is that its
 -- keywords ask the same questions whether texts are spoken of or not, and each at a place that is there.
-use Rattle.std.proofs.Common.{◌≡◌, ◌∙◌, ℕ, ◌+◌, ◌<◌, ◌⊎◌, ◌∷◌, [], List, Bool, true, false, Option, Some, None, refl, ap, subst, inl, inr, arith, drop, length, zero, suc}
+use Rattle.std.proofs.Common.{◌≡◌, ◌∙◌, ℕ, ◌+◌, ◌<◌, ◌⊎◌, ◌∷◌, [], List, Bool, true, false, Option, Some, None, refl, ap, subst, inl, inr, arith, drop, zero, suc}
 use Rattle.std.specs.Prelude.{All, Contains, not, ◌++◌}
 use Rattle.std.proofs.lemmas.List.Elements.{Contains-append_right}
 use Rattle.schema_reports.specs.Instance.{Subject}

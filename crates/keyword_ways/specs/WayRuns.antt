@@ -324,10 +324,12 @@ some_kept : (os : List (Option Question)) (replies : Replies) (m : Mode) (i : �
     × (end_at (passes_some os) replies m (stage_some (next_some b o)) (taken a (replies.to_question m q)) ≡ led (replies.to_question m) a (somes (drop i os)))
 some_kept os replies m i a q rest next false o here goes later h f = absurd (h refl)
 some_kept os replies m i a q rest next true None here goes later h f = absurd (h refl)
-some_kept os replies m i a q rest next true (Some (j, p)) here goes later h f = let is : IsFound os (i + 1) j p = found_from (i + 1) os j p later in
-    ((p, is.rest, is.here, f p m refl), sym (led_some (replies.to_question m) a i os q rest here
-    ∙ (ap (λ b. either b (led (replies.to_question m) (taken a (replies.to_question m q)) (somes (drop (i + 1) os))) (taken a (replies.to_question m q))) (sym goes)
-    ∙ ap (led (replies.to_question m) (taken a (replies.to_question m q))) is.same)))
+some_kept os replies m i a q rest next true (Some (j, p)) here goes later h f = let is : IsFound os (i + 1) j p = found_from (i + 1) os j p later in (
+  (p, is.rest, is.here, f p m refl),
+  sym (led_some (replies.to_question m) a i os q rest here
+      ∙ (ap (λ b. either b (led (replies.to_question m) (taken a (replies.to_question m q)) (somes (drop (i + 1) os))) (taken a (replies.to_question m q))) (sym goes)
+      ∙ ap (led (replies.to_question m) (taken a (replies.to_question m q))) is.same)),
+)
 
 keeps_some : (os : List (Option Question)) (replies : Replies) (m : Mode) (i : ℕ) (a : Answer) (r next : Reply) → fits_at (passes_some os) replies m (Asked i) r
     → (step_at (passes_some os) m (Asked i) r ≡ done → ⊥) → IsTrueNext replies (step_at (passes_some os) m (Asked i) r) next

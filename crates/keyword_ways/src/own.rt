@@ -59,7 +59,8 @@ pub struct Keyword<K: OwnKeyword> {
 
 impl<K: OwnKeyword> Validate for Keyword<K> {
     ghost use Rattle.std.specs.Prelude.{refl};
-    ghost use Rattle.keyword_ways.specs.OwnWays.{own_absorbed, own_ends, own_fits, own_function_laws, own_remaining, own_turn_laws, own_words};
+    ghost use Rattle.keyword_ways.specs.OwnWays.{own_absorbed, own_ends, own_fits, own_function_laws, own_remaining};
+    ghost use Rattle.keyword_ways.specs.OwnWays.{own_turn_laws, own_words};
 
     type Run = Progress;
 
