@@ -144,16 +144,8 @@ impl VocabularySet {
         ensures same { IfOk result (λ set. set ≡ self.now) }
     {
         Ok(VocabularySet {
-            core: self.core,
-            applicator: self.applicator,
-            unevaluated: self.unevaluated,
-            validation: self.validation,
-            metadata: self.metadata,
-            format: self.format,
-            format_annotation: self.format_annotation,
-            format_assertion: self.format_assertion,
-            content: self.content,
             custom: self.custom.clone()?,
+            ..*self
         })
     }
 
