@@ -10,4 +10,5 @@ pub mod WayReads
 pub mod WayWords
 pub mod WayLaws
 pub mod Places
+pub mod Plans
 pub mod FaultLists

@@ -15,5 +15,6 @@ pub mod judging;
 pub mod matching;
 pub mod members;
 pub mod passing;
+pub mod planned;
 pub mod run;
 pub mod telling;
