@@ -9,7 +9,6 @@ ghost use Rattle.keyword_ways.specs.Members.{has_member, is_object};
 ghost use Rattle.keyword_ways.specs.Ways.{noted};
 ghost use Rattle.bench_keywords.specs.Words.{missing, required_text};
 
-use crate::texts::quoted;
 use keyword_ways::answers::note;
 use keyword_ways::members::{has_member, is_object};
 use schema_node::context::keyword::{Answer, Mode};
@@ -52,7 +51,7 @@ fn is_missing(name: &String, instance: Instance<'_>) -> bool
 fn required_text(alloc: Global, name: &str) -> Result<String, OutOfMemory>
     ensures text { IfOk result (λ text. string_bytes text ≡ required_text name.now) }
 {
-    let mut text = quoted(alloc, name)?;
+    let mut text = Instance::Name(name).text(alloc)?;
     text.push_str(" is a required property")?;
     Ok(text)
 }

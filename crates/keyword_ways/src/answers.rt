@@ -120,6 +120,15 @@ fn evaluated<'i>(
     Ok(Answer::Evaluation(false, errors))
 }
 
+/// Makes the answer say no, with no error. Where a verdict alone is wanted, this is what a keyword does that refuses.
+pub fn refuse<'i>(answer: &mut Answer<'i>)
+    ensures refused { (texts : Bool) → answer_of texts answer.new ≡ refused (answer_of texts answer.old) }
+    ensures borrows { (root : Data) → All (PassesBorrowed root) (faults_in answer.old) → All (PassesBorrowed root) (faults_in answer.new) }
+{
+    let before = mem::replace(answer, Answer::Verdict(false));
+    *answer = refused(before);
+}
+
 /// Notes an error of the keyword's own. Where a verdict is wanted, it refuses alone; in an evaluation the error stands in
 /// the unit.
 pub fn note<'i>(
