@@ -4,14 +4,14 @@ ghost use Rattle.serde_json.specs.Data.{Data};
 ghost use Rattle.schema_reports.specs.Instance.{Subject, Text};
 ghost use Rattle.schema_reports.specs.InstanceTexts.{subject_has_float};
 ghost use Rattle.schema_reports.specs.InstanceViews.{subject_of};
-ghost use Rattle.schema_reports.specs.Keywords.{Reply as ReplyOfRun, done};
+ghost use Rattle.schema_reports.specs.Keywords.{done};
 ghost use Rattle.schema_reports.specs.ReportViews.{BorrowsItsPlace, spoken};
 ghost use Rattle.schema_node.specs.FaultViews.{errors_in, faults_in, PassesBorrowed};
 ghost use Rattle.schema_node.specs.KeywordViews.{answer_of, reply_of, turn_of, Tells as TellsRightly};
 ghost use Rattle.keyword_ways.specs.Plans.{asks_count, asks_of, least_tally, planned_way, question_of};
 ghost use Rattle.keyword_ways.specs.Ways.{asked, judges, noted, passes_on, tells, unless, way_step, way_turn};
 
-use crate::answers::note;
+use crate::answers::{note, refuse};
 use crate::items::item_count;
 use crate::judging::{Judge, Judging, judge_on};
 use crate::passing::next_number;
@@ -100,6 +100,10 @@ fn tell<'i, P: PlannedKeyword>(
     ensures borrows { IfOk result (λ _. (root : Data) → All (PassesBorrowed root) (faults_in answer.old)
         → All (PassesBorrowed root) (faults_in answer.new)) }
 {
+    if mode == Mode::Verdict {
+        refuse(answer);
+        return Ok(());
+    }
     let text = keyword.text(alloc, instance)?;
     note(alloc, mode, keyword.name(), text, answer)
 }
@@ -131,17 +135,20 @@ fn turn_telling<'s, 'i, P: PlannedKeyword>(
     holds: bool,
     run: &mut Progress,
     instance: Instance<'i>,
+    reply: Reply<'i>,
     answer: &mut Answer<'i>,
 ) -> Result<Step<'s>, OutOfMemory>
-    ensures turns { IfOk result (λ _. (texts : Bool) (reply : ReplyOfRun)
+    ensures turns { IfOk result (λ _. (texts : Bool)
         → TellsRightly texts (P.is_whole (P.shape keyword.now)) (subject_of instance.entry)
         → way_turn (tells (P.named (P.shape keyword.now))
         (unless holds (spoken texts (P.told (P.shape keyword.now) (subject_of instance.entry)))))
-        (run.old, answer_of texts answer.old) reply ≡ (run.new, answer_of texts answer.new)) }
+        (run.old, answer_of texts answer.old) (reply_of texts reply.entry) ≡ (run.new, answer_of texts answer.new)) }
     ensures step { IfOk result (λ step. turn_of step ≡ done) }
-    ensures borrows { IfOk result (λ _. (root : Data) → All (PassesBorrowed root) (faults_in answer.old)
+    ensures borrows { IfOk result (λ _. (root : Data) → All (BorrowsItsPlace root) (errors_in reply.entry)
+        → All (PassesBorrowed root) (faults_in answer.old)
         → All (PassesBorrowed root) (faults_in answer.new)) }
 {
+    drop(reply);
     let first = tell_on(run);
     if first && !holds {
         tell(keyword, alloc, run.mode, instance, answer)?;
@@ -254,10 +261,15 @@ impl<P: PlannedKeyword> Validate for Planned<P> {
         answer: &mut Answer<'i>,
     ) -> Result<Step<'s>, OutOfMemory> {
         match self.keyword.plan(instance) {
-            Plan::Tells(holds) => {
-                drop(reply);
-                turn_telling(&self.keyword, alloc, holds, run, instance, answer)
-            }
+            Plan::Tells(holds) => turn_telling(
+                &self.keyword,
+                alloc,
+                holds,
+                run,
+                instance,
+                reply,
+                answer,
+            ),
             Plan::PassesOn(asks) => turn_passing(alloc, asks, run, instance, reply, answer),
             Plan::AtLeast(asks, least) => turn_judging(
                 &self.keyword,
