@@ -51,6 +51,13 @@ IsRightMember absorbed is_whole d (member_is.Keyword m c) = ([] ≡ absorbed m) 
 IsRightMember absorbed is_whole d member_is.Nothing = Unit {0}
 IsRightMember absorbed is_whole d member_is.Malformed = Unit {0}
 
+-- so it is where no keyword of the type absorbs another, or holds a value of the schema
+pub right_where_whole : {K : Type 0} (absorbed : K → List Text) (is_whole : K → Bool) → ((m : K) → [] ≡ absorbed m) → ((m : K) → is_whole m ≡ true)
+    → (d : Data) (m : MemberKeyword K) → IsRightMember absorbed is_whole d m
+right_where_whole absorbed is_whole none whole d (member_is.Keyword m c) = (none m, λ h. whole m)
+right_where_whole absorbed is_whole none whole d member_is.Nothing = tt
+right_where_whole absorbed is_whole none whole d member_is.Malformed = tt
+
 values_lie_below : (name : Text) (ks : List Text) → All IsStrictlyBelow (values_below name ks)
 values_lie_below name [] = All-nil _
 values_lie_below name (k ∷ ks) = All-cons IsStrictlyBelow (to_member name ∷ to_member k ∷ []) _ tt (values_lie_below name ks)
