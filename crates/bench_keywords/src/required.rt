@@ -1,5 +1,6 @@
 //! `required`.
 ghost use Rattle.std.specs.Prelude.{All, ◌≡◌, ◌&&◌, not, Bool, codes, map, string_bytes, IfOk};
+ghost use Rattle.std.specs.List.{list_any};
 ghost use Rattle.serde_json.specs.Data.{Data};
 ghost use Rattle.schema_reports.specs.InstanceViews.{subject_of};
 ghost use Rattle.schema_reports.specs.ReportViews.{spoken};
@@ -9,7 +10,7 @@ ghost use Rattle.keyword_ways.specs.Members.{has_member, is_object};
 ghost use Rattle.keyword_ways.specs.Ways.{noted};
 ghost use Rattle.bench_keywords.specs.Words.{missing, required_text};
 
-use keyword_ways::answers::note;
+use keyword_ways::answers::{note, refuse};
 use keyword_ways::members::{has_member, is_object};
 use schema_node::context::keyword::{Answer, Mode};
 use schema_reports::instance::Instance;
@@ -30,6 +31,12 @@ pub fn tell_required<'i>(
     ensures borrows { IfOk result (λ _. (root : Data) → All (PassesBorrowed root) (faults_in answer.old)
         → All (PassesBorrowed root) (faults_in answer.new)) }
 {
+    if mode == Mode::Verdict {
+        if lacks_one(names, instance) {
+            refuse(answer);
+        }
+        return Ok(());
+    }
     for name in names {
         if is_missing(name, instance) {
             let text = required_text(alloc, name.as_str())?;
@@ -37,6 +44,14 @@ pub fn tell_required<'i>(
         }
     }
     Ok(())
+}
+
+/// Whether the instance is an object that lacks one of these members.
+fn lacks_one(names: &[String], instance: Instance<'_>) -> bool
+    ensures lacks { result ≡ list_any (λ k. is_object (subject_of instance.entry) && not (has_member (string_bytes k) (subject_of instance.entry)))
+        names.now }
+{
+    names.iter().any(|name| is_missing(name, instance))
 }
 
 /// Whether the instance is an object without this member.

@@ -85,12 +85,7 @@ pub fn tell_types<'i>(
 fn fits_one(names: &[TypeName], instance: Instance<'_>) -> bool
     ensures fits { result ≡ list_any (λ t. fits t (subject_of instance.entry)) names.now }
 {
-    for name in names {
-        if name.fits(instance) {
-            return true;
-        }
-    }
-    false
+    names.iter().any(|name| name.fits(instance))
 }
 
 /// The error's text for a list of names.

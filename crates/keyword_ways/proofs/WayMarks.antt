@@ -12,6 +12,7 @@ use Rattle.keyword_ways.specs.declared.run.Stage.TheVariants.{Asked, Begun, Coun
 use Rattle.keyword_ways.specs.declared.run.Progress.{Progress}
 use Rattle.keyword_ways.specs.Tallies.{Tally, asked_in, says_yes, tallied, wants_units}
 use Rattle.keyword_ways.specs.Ways.{Way, asked, asks_match, branches, chosen, goes_on, judges, left_to_judge, mode_from, next_if, nth, passes_on, step_at, tells}
+use Rattle.keyword_ways.specs.OwnWays.{own_words, spoken_ways}
 use Rattle.keyword_ways.specs.WayWords.{words_of}
 
 -- a mode that wants no units
@@ -70,3 +71,7 @@ module _ {M : Type 0} (way : Bool → M → Subject → Way) where
   pub ways_take_no_marks : (texts : Bool) → TakesNoMarks (words_of way texts)
   ways_take_no_marks texts = λ m s mode' none.
       turns_unmarked texts m s ((words_of way texts).most_turns m s) ((words_of way texts).begin m s mode') no_reply (λ e. none (sym (mode-kept mode') ∙ e))
+
+-- nor do an author's own
+pub own_take_no_marks : {M : Type 0} (way : M → Subject → Way) (texts : Bool) → TakesNoMarks (own_words way texts)
+own_take_no_marks way = ways_take_no_marks (spoken_ways way)

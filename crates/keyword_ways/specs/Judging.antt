@@ -10,7 +10,7 @@ use Rattle.keyword_ways.specs.declared.run.Stage.TheVariants.{Ended}
 use Rattle.keyword_ways.specs.Tallies.{Tally}
 use Rattle.keyword_ways.specs.Ways.{counted_at, noted, nth}
 
--- the step that it is, where `f` gives the question of a number
+-- the step that it is
 abbrev pub judging_turn : (ℕ → Question) → Judging → Turn
 judging_turn f (Asks i m) = ask (f i) (mode_of m)
 judging_turn f (Judged n) = done

@@ -12,3 +12,4 @@ pub mod WayLaws
 pub mod Places
 pub mod Plans
 pub mod FaultLists
+pub mod OwnWays

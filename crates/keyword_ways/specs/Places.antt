@@ -1,5 +1,5 @@
 -- Which questions are asked at places that are there.
-use Rattle.std.proofs.Common.{◌≡◌, ℕ, ◌+◌, ◌<◌, ◌∷◌, [], List, Bool, true, false, Option, Some, None, refl, ap, subst, arith, zero, suc, is_some, option_and_then, add-zero}
+use Rattle.std.proofs.Common.{◌≡◌, ℕ, ◌+◌, ◌<◌, ◌∷◌, [], List, Bool, true, false, Option, Some, None, refl, ap, subst, arith, zero, suc, is_some, min, option_and_then, add-zero, ◌-◌}
 use Rattle.std.proofs.lemmas.Slice.Eq.{bytes_eq-Decides}
 use Rattle.std.specs.Prelude.{All, bytes_eq, if◌then◌else◌, map, option_map}
 use Rattle.std.proofs.lemmas.List.Elements.{All-map, All-nil, All-cons, All-weaker}
@@ -9,7 +9,11 @@ use Rattle.schema_reports.specs.Keywords.{Question, down}
 use Rattle.schema_reports.specs.Laws.{IsPresent, steps_below}
 use Rattle.schema_node.specs.KeywordViews.{option_list}
 use Rattle.keyword_ways.specs.Members.{at_name, has_member, kept, names_in, present_from, subject_names}
-use Rattle.keyword_ways.specs.Items.{child_here, each_from, item_count, items_count}
+use Rattle.keyword_ways.specs.Items.{child_at_item, child_here, each_from, first_at_item, item_count, items_count}
+
+-- each of the questions is asked at a place that is there
+abbrev pub AsksPresent : Subject → List Question → Type 0
+AsksPresent s qs = All (λ q. IsPresent s (steps_below q.below)) qs
 
 pub member_present : (k : Text) (s : Subject) → has_member k s ≡ true → IsPresent s (to_member k ∷ [])
 member_present k s h = leads (after_step (to_member k) s) h
@@ -91,3 +95,25 @@ names_present (a_value (string t)) = All-nil _
 names_present (a_value (array ds)) = All-nil _
 names_present (a_value (object ms)) = All-map (λ q. IsPresent (a_value (object ms)) (steps_below q.below)) at_name (names_in ms)
     (All-weaker (IsNamed ms) (λ k. IsPresent (a_value (object ms)) (to_name k ∷ [])) (λ k h. name_leads k (member_of k ms) h) (names_in ms) (each_named ms))
+
+-- ---- what an author asks
+
+-- nothing
+pub nothing_asked : (s : Subject) → AsksPresent s []
+nothing_asked s = All-nil _
+
+-- each child at the keyword's own place
+pub children_present : (s : Subject) (n : ℕ) → AsksPresent s (each_from child_here 0 n)
+children_present s n = each_present child_here s 0 n (λ k h. refl)
+
+-- the only child at each item
+pub items_present : (s : Subject) → AsksPresent s (each_from first_at_item 0 (item_count s))
+items_present s = each_present first_at_item s 0 (item_count s) (λ k h. item_present s (0 + k) (omega arith))
+
+-- the only child at each item after the first n
+pub later_items_present : (s : Subject) (n : ℕ) → AsksPresent s (each_from first_at_item n (item_count s - n))
+later_items_present s n = each_present first_at_item s n (item_count s - n) (λ k h. item_present s (n + k) (omega arith))
+
+-- each of n children at the item of its number
+pub first_items_present : (s : Subject) (n : ℕ) → AsksPresent s (each_from child_at_item 0 (min n (item_count s)))
+first_items_present s n = each_present child_at_item s 0 (min n (item_count s)) (λ k h. item_present s (0 + k) (omega arith))

@@ -1,4 +1,4 @@
-//! A run that judges: it asks one numbered question after the other for a verdict, and tells errors by how many accept.
+//! A run that judges: it asks one numbered question after the other, and tells errors by how many are answered by yes.
 ghost use Rattle.std.specs.Prelude.{◌≡◌, ◌+◌, ℕ, Bool, min, not};
 ghost use Rattle.schema_reports.specs.Keywords.{Answer as AnswerOfRun, Question};
 ghost use Rattle.schema_node.specs.KeywordViews.{reply_of};
@@ -23,8 +23,8 @@ pub enum Judging {
     Over,
 }
 
-/// How a keyword judges: how many questions it asks, after how many that accept further ones change nothing, and whether it
-/// gives their units.
+/// How a keyword judges: how many questions it has, after how many that are answered by yes further ones change nothing, and
+/// whether it gives their units.
 #[derive(Clone, Copy)]
 pub struct Judge {
     pub count: usize,

@@ -11,9 +11,12 @@
 pub mod answers;
 pub mod branching;
 pub mod items;
+pub mod judge;
 pub mod judging;
+pub mod leaf;
 pub mod matching;
 pub mod members;
+pub mod own;
 pub mod passing;
 pub mod planned;
 pub mod run;
