@@ -4,4 +4,3 @@ pub mod BorrowedFaults
 pub mod MemberNames
 pub mod MemberCounts
 pub mod WayMarks
-pub mod PlanMarks

@@ -10,6 +10,6 @@ pub mod WayReads
 pub mod WayWords
 pub mod WayLaws
 pub mod Places
-pub mod Plans
 pub mod FaultLists
 pub mod OwnWays
+pub mod Plans

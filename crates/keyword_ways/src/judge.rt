@@ -64,7 +64,12 @@ pub trait JudgeKeyword: Drop {
         ensures holds { result ≡ accepts (shape self.now) (subject_of instance.entry) accepted };
 
     /// The error's text. It is asked for only where the keyword does not hold and an error is wanted.
-    fn text(&self, alloc: Global, instance: Instance<'_>, accepted: usize) -> Result<String, OutOfMemory>
+    fn text(
+        &self,
+        alloc: Global,
+        instance: Instance<'_>,
+        accepted: usize,
+    ) -> Result<String, OutOfMemory>
         ensures text { IfOk result (λ text. subject_has_float (subject_of instance.entry) ≡ false → string_bytes text
             ≡ error_text (shape self.now) (subject_of instance.entry) accepted) };
 }

@@ -1,5 +1,5 @@
 //! Keywords that say by a plan how they go about an instance. Their runs and their laws are the same for all of them.
-ghost use Rattle.std.specs.Prelude.{All, ◌≡◌, Bool, IfOk, Some, false, refl, string_bytes, true};
+ghost use Rattle.std.specs.Prelude.{All, ◌≡◌, ◌∷◌, [], Bool, IfOk, Some, false, refl, string_bytes, true};
 ghost use Rattle.serde_json.specs.Data.{Data};
 ghost use Rattle.schema_reports.specs.Instance.{Subject, Text};
 ghost use Rattle.schema_reports.specs.InstanceTexts.{subject_has_float};
@@ -8,8 +8,9 @@ ghost use Rattle.schema_reports.specs.Keywords.{done};
 ghost use Rattle.schema_reports.specs.ReportViews.{BorrowsItsPlace, spoken};
 ghost use Rattle.schema_node.specs.FaultViews.{errors_in, faults_in, PassesBorrowed};
 ghost use Rattle.schema_node.specs.KeywordViews.{answer_of, reply_of, turn_of, Tells as TellsRightly};
-ghost use Rattle.keyword_ways.specs.Plans.{asks_count, asks_of, least_tally, planned_way, question_of};
-ghost use Rattle.keyword_ways.specs.Ways.{asked, judges, noted, passes_on, tells, unless, way_step, way_turn};
+ghost use Rattle.keyword_ways.specs.Plans.{asks_count, asks_of, least_way, plan_ways, question_of};
+ghost use Rattle.keyword_ways.specs.OwnWays.{leaf_way, spoken_way};
+ghost use Rattle.keyword_ways.specs.Ways.{asked, noted, passes_on, way_step, way_turn};
 
 use crate::answers::{note, refuse};
 use crate::items::item_count;
@@ -96,7 +97,7 @@ fn tell<'i, P: PlannedKeyword>(
     ensures told { IfOk result (λ _. (texts : Bool)
         → TellsRightly texts (P.is_whole (P.shape keyword.now)) (subject_of instance.entry) → answer_of texts answer.new
         ≡ noted mode (P.named (P.shape keyword.now)) (answer_of texts answer.old)
-        (unless false (spoken texts (P.told (P.shape keyword.now) (subject_of instance.entry))))) }
+        (spoken texts (P.told (P.shape keyword.now) (subject_of instance.entry)) ∷ [])) }
     ensures borrows { IfOk result (λ _. (root : Data) → All (PassesBorrowed root) (faults_in answer.old)
         → All (PassesBorrowed root) (faults_in answer.new)) }
 {
@@ -140,8 +141,8 @@ fn turn_telling<'s, 'i, P: PlannedKeyword>(
 ) -> Result<Step<'s>, OutOfMemory>
     ensures turns { IfOk result (λ _. (texts : Bool)
         → TellsRightly texts (P.is_whole (P.shape keyword.now)) (subject_of instance.entry)
-        → way_turn (tells (P.named (P.shape keyword.now))
-        (unless holds (spoken texts (P.told (P.shape keyword.now) (subject_of instance.entry)))))
+        → way_turn (spoken_way texts (leaf_way (P.named (P.shape keyword.now)) holds
+        (P.told (P.shape keyword.now) (subject_of instance.entry))))
         (run.old, answer_of texts answer.old) (reply_of texts reply.entry) ≡ (run.new, answer_of texts answer.new)) }
     ensures step { IfOk result (λ step. turn_of step ≡ done) }
     ensures borrows { IfOk result (λ _. (root : Data) → All (BorrowsItsPlace root) (errors_in reply.entry)
@@ -193,12 +194,12 @@ fn turn_judging<'s, 'i, P: PlannedKeyword>(
 ) -> Result<Step<'s>, OutOfMemory>
     ensures turns { IfOk result (λ _. (texts : Bool)
         → TellsRightly texts (P.is_whole (P.shape keyword.now)) (subject_of instance.entry)
-        → way_turn (judges (least_tally (P.named (P.shape keyword.now))
-        (spoken texts (P.told (P.shape keyword.now) (subject_of instance.entry))) least) (asks_of asks (subject_of instance.entry)))
+        → way_turn (spoken_way texts (least_way (P.named (P.shape keyword.now))
+        (P.told (P.shape keyword.now) (subject_of instance.entry)) least (asks_of asks (subject_of instance.entry))))
         (run.old, answer_of texts answer.old) (reply_of texts reply.entry) ≡ (run.new, answer_of texts answer.new)) }
     ensures steps { IfOk result (λ step. (texts : Bool)
-        → way_step (judges (least_tally (P.named (P.shape keyword.now))
-        (spoken texts (P.told (P.shape keyword.now) (subject_of instance.entry))) least) (asks_of asks (subject_of instance.entry)))
+        → way_step (spoken_way texts (least_way (P.named (P.shape keyword.now))
+        (P.told (P.shape keyword.now) (subject_of instance.entry)) least (asks_of asks (subject_of instance.entry))))
         (run.old, answer_of texts answer.old) (reply_of texts reply.entry) ≡ turn_of step) }
     ensures borrows { IfOk result (λ _. (root : Data) → All (BorrowsItsPlace root) (errors_in reply.entry)
         → All (PassesBorrowed root) (faults_in answer.old) → All (PassesBorrowed root) (faults_in answer.new)) }
@@ -222,26 +223,26 @@ fn turn_judging<'s, 'i, P: PlannedKeyword>(
 }
 
 impl<P: PlannedKeyword> Validate for Planned<P> {
-    ghost use Rattle.keyword_ways.specs.Plans.{planned_function_laws, planned_turn_laws};
-    ghost use Rattle.keyword_ways.specs.WayWords.{left_at_most, nothing_absorbed, run_ends, run_fits, words_of};
+    ghost use Rattle.keyword_ways.specs.OwnWays.{own_absorbed, own_ends, own_fits, own_function_laws, own_remaining, own_turn_laws, own_words};
+    ghost use Rattle.keyword_ways.specs.Plans.{plans_present};
 
     type Run = Progress;
 
     type Shape = P::Shape;
 
-    ghost words = { words_of (planned_way P.planned P.named P.told) };
+    ghost words = { own_words (plan_ways P.planned P.named P.told) };
 
     ghost shape = { λ k. P.shape k.keyword };
 
-    ghost absorbed = { nothing_absorbed (planned_way P.planned P.named P.told) };
+    ghost absorbed = { own_absorbed (plan_ways P.planned P.named P.told) };
 
     ghost is_whole = { P.is_whole };
 
-    ghost remaining = { left_at_most (planned_way P.planned P.named P.told) };
+    ghost remaining = { own_remaining (plan_ways P.planned P.named P.told) };
 
-    ghost ends = { run_ends (planned_way P.planned P.named P.told) };
+    ghost ends = { own_ends (plan_ways P.planned P.named P.told) };
 
-    ghost fits = { run_fits (planned_way P.planned P.named P.told) };
+    ghost fits = { own_fits (plan_ways P.planned P.named P.told) };
 
     fn begin(
         &self,
@@ -288,7 +289,7 @@ impl<P: PlannedKeyword> Validate for Planned<P> {
 
     ghost answers = { λ texts run a. refl };
 
-    ghost turn_laws = { planned_turn_laws P.planned P.named P.told };
+    ghost turn_laws = { own_turn_laws (plan_ways P.planned P.named P.told) };
 
-    ghost function_laws = { planned_function_laws P.planned P.named P.told };
+    ghost function_laws = { own_function_laws (plan_ways P.planned P.named P.told) (plans_present P.planned P.named P.told) };
 }
