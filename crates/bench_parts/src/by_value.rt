@@ -9,8 +9,8 @@ ghost use Rattle.bench_parts.specs.ByValue.{IsRightMember, children_of, script_a
 ghost use Rattle.bench_parts.specs.MakerViews.{waiting_of};
 
 use crate::table::keyword_values::{items_below, names_of, values_below};
-use crate::table::malformed;
 use crate::table::maker::{Ending, PathsMaker, ends};
+use crate::table::malformed;
 use crate::table::schema_values::{value_in, value_of};
 use schema_node::context::keyword::Validate;
 use schema_node::context::schema_place::SchemaPath;
@@ -109,7 +109,7 @@ fn maker_of<K: Validate>(
     made: MemberKeyword<K>,
 ) -> Result<PathsMaker<K>, OutOfMemory>
     ensures maker { IfOk result (λ m. waiting_of K.shape m
-        ≡ makers.begun (script_of name.now (view value.now) (shaped K.shape made.entry))) }
+        ≡ makers.begun (script_of name.now (view value.now) (shaped K.shape made))) }
 {
     match made {
         MemberKeyword::Keyword(keyword, children) => Ok(PathsMaker {

@@ -94,7 +94,11 @@ fn makes_if(
 }
 
 /// The maker of `properties`.
-fn properties_maker(alloc: Global, name: &str, value: &Value) -> Result<PathsMaker<BenchKeyword>, OutOfMemory>
+fn properties_maker(
+    alloc: Global,
+    name: &str,
+    value: &Value,
+) -> Result<PathsMaker<BenchKeyword>, OutOfMemory>
     ensures maker { IfOk result (λ m. waiting_of shape_of m ≡ makers.begun (properties_script name.now (view value.now))) }
 {
     match value.as_object() {
@@ -144,7 +148,7 @@ fn items_maker(
     object: &Map<String, Value>,
     draft: Draft,
 ) -> Result<PathsMaker<BenchKeyword>, OutOfMemory>
-    ensures maker { IfOk result (λ m. waiting_of m
+    ensures maker { IfOk result (λ m. waiting_of shape_of m
         ≡ makers.begun (items_script (draft_of draft) (members_view object.now.entries) name.now (view value.now))) }
 {
     if is_older_list(draft, value) {
@@ -155,8 +159,12 @@ fn items_maker(
 }
 
 /// The maker of `not`.
-fn not_maker(alloc: Global, name: &str, value: &Value) -> Result<PathsMaker<BenchKeyword>, OutOfMemory>
-    ensures maker { IfOk result (λ m. waiting_of m
+fn not_maker(
+    alloc: Global,
+    name: &str,
+    value: &Value,
+) -> Result<PathsMaker<BenchKeyword>, OutOfMemory>
+    ensures maker { IfOk result (λ m. waiting_of shape_of m
         ≡ makers.begun (only_child name.now (has_not (compact_text (view value.now)) (has_float (view value.now))))) }
 {
     let schema = value.clone()?;
@@ -169,7 +177,7 @@ fn if_maker(
     name: &str,
     object: &Map<String, Value>,
 ) -> Result<PathsMaker<BenchKeyword>, OutOfMemory>
-    ensures maker { IfOk result (λ m. waiting_of m
+    ensures maker { IfOk result (λ m. waiting_of shape_of m
         ≡ makers.begun (if_script name.now (has_branch (codes "then") (members_view object.now.entries))
         (has_branch (codes "else") (members_view object.now.entries)))) }
 {
@@ -186,7 +194,11 @@ fn if_maker(
 }
 
 /// A maker whose keyword has its own value as its only schema.
-fn only_child(alloc: Global, name: &str, keyword: BenchKeyword) -> Result<PathsMaker<BenchKeyword>, OutOfMemory>
+fn only_child(
+    alloc: Global,
+    name: &str,
+    keyword: BenchKeyword,
+) -> Result<PathsMaker<BenchKeyword>, OutOfMemory>
     ensures maker { IfOk result (λ m. waiting_of shape_of m ≡ makers.begun (only_child name.now (shape_of keyword))) }
 {
     let mut paths = Vec::new(alloc);
@@ -206,7 +218,7 @@ fn value_maker(
     object: &Map<String, Value>,
     draft: Draft,
 ) -> Result<PathsMaker<BenchKeyword>, OutOfMemory>
-    ensures maker { IfOk result (λ m. waiting_of m
+    ensures maker { IfOk result (λ m. waiting_of shape_of m
         ≡ makers.begun (value_script (draft_of draft) (members_view object.now.entries) name.now (view value.now))) }
 {
     if name == "type" {
@@ -231,7 +243,7 @@ fn later_maker(
     object: &Map<String, Value>,
     draft: Draft,
 ) -> Result<PathsMaker<BenchKeyword>, OutOfMemory>
-    ensures maker { IfOk result (λ m. waiting_of m
+    ensures maker { IfOk result (λ m. waiting_of shape_of m
         ≡ makers.begun (later_script (draft_of draft) (members_view object.now.entries) name.now (view value.now))) }
 {
     if name == "minLength" {
@@ -273,7 +285,7 @@ fn schema_maker(
     object: &Map<String, Value>,
     draft: Draft,
 ) -> Result<PathsMaker<BenchKeyword>, OutOfMemory>
-    ensures maker { IfOk result (λ m. waiting_of m
+    ensures maker { IfOk result (λ m. waiting_of shape_of m
         ≡ makers.begun (schema_script (draft_of draft) (members_view object.now.entries) name.now (view value.now))) }
 {
     if name == "allOf" {
@@ -310,7 +322,7 @@ fn member_maker(
     object: &Map<String, Value>,
     draft: Draft,
 ) -> Result<PathsMaker<BenchKeyword>, OutOfMemory>
-    ensures maker { IfOk result (λ m. waiting_of m
+    ensures maker { IfOk result (λ m. waiting_of shape_of m
         ≡ makers.begun (member_script (draft_of draft) (members_view object.now.entries) name.now
         (get_member name.now (members_view object.now.entries)))) }
 {

@@ -65,11 +65,7 @@ pub fn ends<K: Validate>(alloc: Global, ending: Ending<K>) -> PathsMaker<K>
 
 impl<K: Validate> PathsMaker<K> {
     /// Takes a turn.
-    pub fn turn(
-        &mut self,
-        alloc: Global,
-        _reply: MakerReply,
-    ) -> Result<MakerStep<K>, OutOfMemory>
+    pub fn turn(&mut self, alloc: Global, _reply: MakerReply) -> Result<MakerStep<K>, OutOfMemory>
         ensures takes { IfOk result (λ step. TakesTurn K.shape (waiting_of K.shape self.old) (maker_reply_of _reply) step
             (waiting_of K.shape self.new)) }
     {
