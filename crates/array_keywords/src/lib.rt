@@ -62,6 +62,7 @@ impl PlannedKeyword for ArrayKeyword {
 }
 
 /// The keywords of a schema, by name and value.
+#[derive(Drop)]
 pub struct ArrayTable {}
 
 impl MakesByValue<Planned<ArrayKeyword>> for ArrayTable {
