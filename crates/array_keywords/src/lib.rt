@@ -51,13 +51,19 @@ impl PlannedKeyword for ArrayKeyword {
         }
     }
 
+    #[tactic(auto, unfolding(crate::specs::Arrays::told))]
     fn text(&self, alloc: Global, instance: Instance<'_>) -> Result<String, OutOfMemory> {
         let mut text = instance.text(alloc)?;
         match self {
-            ArrayKeyword::MinItems(limit) => write!(text, " has less than {limit} items")?,
-            ArrayKeyword::Contains => text.push_str(" has no item that is valid")?,
+            ArrayKeyword::MinItems(limit) => {
+                write!(text, " has less than {limit} items")?;
+                Ok(text)
+            }
+            ArrayKeyword::Contains => {
+                text.push_str(" has no item that is valid")?;
+                Ok(text)
+            }
         }
-        Ok(text)
     }
 }
 
