@@ -15,19 +15,16 @@ use Rattle.array_keywords.specs.declared.ArrayKeyword.{ArrayKeyword}
 use Rattle.array_keywords.specs.declared.ArrayKeyword.TheVariants.{Contains, MinItems}
 
 -- what is no list is accepted
-abbrev pub planned_list : ArrayKeyword → Subject → Plan
-planned_list (MinItems limit) s = Tells (nat_le limit (item_count s))
-planned_list Contains s = AtLeast asks.Items 1
-
 abbrev pub planned : ArrayKeyword → Subject → Plan
-planned k s = if is_list s then planned_list k s else Tells true
+planned (MinItems limit) s = if is_list s then Tells (nat_le limit (item_count s)) else Tells true
+planned Contains s = if is_list s then AtLeast asks.Items 1 else Tells true
 
 abbrev pub name : ArrayKeyword → Text
 name (MinItems limit) = codes "minItems"
 name Contains = codes "contains"
 
 abbrev pub told : ArrayKeyword → Subject → Text
-told (MinItems limit) s = subject_text s ++ codes " has less than " ++ decimal limit ++ codes " items"
+told (MinItems limit) s = subject_text s ++ (codes " has less than " ++ (decimal limit ++ codes " items"))
 told Contains s = subject_text s ++ codes " has no item that is valid"
 
 -- ---- what a member of a schema makes

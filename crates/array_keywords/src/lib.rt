@@ -51,7 +51,6 @@ impl PlannedKeyword for ArrayKeyword {
         }
     }
 
-    #[tactic(auto, unfolding(crate::specs::Arrays::told))]
     fn text(&self, alloc: Global, instance: Instance<'_>) -> Result<String, OutOfMemory> {
         let mut text = instance.text(alloc)?;
         match self {
@@ -85,13 +84,11 @@ impl MakesByValue<Planned<ArrayKeyword>> for ArrayTable {
         value: &Value,
     ) -> Result<MemberKeyword<Planned<ArrayKeyword>>, OutOfMemory> {
         if name == "minItems" {
-            return Ok(match value.as_u64() {
-                Some(limit) => {
-                    let keyword = ArrayKeyword::MinItems(limit);
-                    MemberKeyword::Keyword(Planned { keyword }, Children::Childless)
-                }
-                None => MemberKeyword::Malformed,
-            });
+            let Some(limit) = value.as_u64() else {
+                return Ok(MemberKeyword::Malformed);
+            };
+            let keyword = ArrayKeyword::MinItems(limit);
+            return Ok(MemberKeyword::Keyword(Planned { keyword }, Children::Childless));
         }
         if name == "contains" {
             let keyword = ArrayKeyword::Contains;
