@@ -13,3 +13,4 @@ pub mod WayLaws
 pub mod Places
 pub mod FaultLists
 pub mod OwnWays
+pub mod Plans

@@ -106,7 +106,7 @@ fn place_after(last: usize, count: usize, settled: bool) -> Option<usize>
     if last < count { Some(last + 1) } else { None }
 }
 
-/// Takes a turn of a run that judges.
+/// Takes a turn of a run that judges, whatever the question of a number is.
 pub fn judge_on(judge: Judge, run: &mut Progress, reply: Reply<'_>) -> Judging
     ensures stage { (texts : Bool) (f : ℕ → Question) (t : Tally) → t.enough ≡ judge.enough → t.shows ≡ judge.shows
         → run.new ≡ record run.old {

@@ -22,5 +22,6 @@ pub mod matching;
 pub mod members;
 pub mod own;
 pub mod passing;
+pub mod planned;
 pub mod run;
 pub mod telling;
