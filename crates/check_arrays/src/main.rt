@@ -12,30 +12,25 @@ use serde_json::Value;
 
 const SCHEMA: &str = r#"{"minItems": 3, "contains": {"minItems": 1}}"#;
 
-const INSTANCES: &str = r#"[[[], [], [0]], [[], []], "no array"]"#;
+const INSTANCE: &str = r#"[[], []]"#;
 
 fn main(rt: HostRuntime) -> anyhow::Result<()> {
     let alloc = rt.alloc();
     let schema = Value::from_str(alloc, SCHEMA)?;
-    let instances = Value::from_str(alloc, INSTANCES)?;
+    let instance = Value::from_str(alloc, INSTANCE)?;
     let table = TableByValue {
         keywords: ArrayTable {},
     };
     let resolver = BenchResolver::new(alloc, &schema, VocabularySet::new(alloc))?;
     let matcher = BenchMatcher::new(Vec::new(alloc));
-    let validator = match Validator::<Planned<ArrayKeyword>, BenchMatcher>::new(
+    match Validator::<Planned<ArrayKeyword>, BenchMatcher>::new(
         alloc, &schema, &table, &resolver, &matcher,
     ) {
-        Err(refused) => return Ok(println!(rt; "{refused}")?),
-        Ok(validator) => validator,
-    };
-    let Some(instances) = instances.as_array() else {
-        return Ok(());
-    };
-    for instance in instances {
-        println!(rt; "{instance}: {}", validator.is_valid(alloc, instance)?)?;
-        for error in validator.iter_errors(alloc, instance)? {
-            println!(rt; "  {}: {error}", error.schema_path.as_str())?;
+        Err(refused) => println!(rt; "{refused}")?,
+        Ok(validator) => {
+            for error in validator.iter_errors(alloc, &instance)? {
+                println!(rt; "{}: {error}", error.schema_path.as_str())?;
+            }
         }
     }
     Ok(())

@@ -3,8 +3,5 @@ use Rattle.keyword_ways.specs.Plans.{plan_ways}
 use Rattle.array_keywords.specs.Arrays.{name, planned, told}
 use Rattle.check_arrays.proofs.main.Goals as goal
 
-pub is_valid-requires : goal.is_valid-requires
-is_valid-requires c = record { unmarked = own_take_no_marks (plan_ways planned name told) }
-
 pub iter_errors-requires : goal.iter_errors-requires
 iter_errors-requires c = record { unmarked = own_take_no_marks (plan_ways planned name told) }
