@@ -8,12 +8,12 @@ use Rattle.schema_reports.specs.Meaning.{subject_text}
 use Rattle.bench_keywords.specs.declared.type_names.TypeName.{TypeName}
 use Rattle.keyword_ways.specs.declared.run.Progress.{Progress}
 use Rattle.bench_keywords.specs.TypeNames.{fits, type_name}
-use Rattle.keyword_ways.specs.Members.{at_name, has_member, is_object, present_from, subject_names}
+use Rattle.keyword_ways.specs.Members.{at_name, has_member, is_object, members_from, subject_names}
 use Rattle.bench_keywords.specs.BenchShape.{BenchShape, has_all_of, has_any_of, has_count, has_if, has_items, has_not, has_one_of, has_pattern, has_prefix_items, has_properties, has_property_names, has_type, has_types, requires}
 use Rattle.bench_keywords.specs.Counts.{count_fits, count_name, count_text, subject_string}
 use Rattle.keyword_ways.specs.Items.{child_at_item, child_here, each_from, first_at_item, item_count}
 use Rattle.keyword_ways.specs.Tallies.{Tally}
-use Rattle.keyword_ways.specs.Ways.{Way, asks_match, branches, judges, passes_on, tells, unless}
+use Rattle.keyword_ways.specs.Ways.{Way, asks_match, branches, judges, passes_on, passes_some, tells, unless}
 use Rattle.keyword_ways.specs.WayWords.{left_at_most, words_of}
 
 -- ---- type
@@ -94,7 +94,7 @@ abbrev pub way : Bool → BenchShape → Subject → Way
 way texts (has_type t) s = tells (codes "type") (map (spoken texts) (unless (fits t s) (type_text t s)))
 way texts (has_types ts) s = tells (codes "type") (map (spoken texts) (unless (list_any (λ t. fits t s) ts) (types_text ts s)))
 way texts (requires ks) s = tells (codes "required") (map (λ k. spoken texts (required_text k)) (missing ks s))
-way texts (has_properties ks) s = passes_on (present_from 0 ks s)
+way texts (has_properties ks) s = passes_some (members_from 0 ks s)
 way texts (has_count kind n) s = tells (count_name kind) (map (spoken texts) (unless (count_fits kind n s) (count_text kind n s)))
 way texts (has_pattern pattern) s = pattern_way texts pattern s (subject_string s)
 way texts (has_all_of n) s = passes_on (each_from child_here 0 n)

@@ -10,8 +10,8 @@ ghost use Rattle.keyword_ways.specs.Ways.{judges, noted, way_step, way_turn};
 ghost use Rattle.bench_keywords.specs.Words.{any_of_tally, if_none, none_text};
 
 use crate::texts::none_text;
-use keyword_ways::answers::note;
-use keyword_ways::judging::{Judge, Judging, judge_on};
+use keyword_ways::answers::{note, refuse};
+use keyword_ways::judging::{Judge, Judging, judge_children};
 use keyword_ways::run::Progress;
 use schema_node::context::keyword::{Answer, Below, Mode, Reply, Step};
 use schema_reports::instance::Instance;
@@ -33,6 +33,10 @@ fn tell_any_of<'i>(
         → All (PassesBorrowed root) (faults_in answer.new)) }
 {
     if accepted > 0 {
+        return Ok(());
+    }
+    if mode == Mode::Verdict {
+        refuse(answer);
         return Ok(());
     }
     let text = none_text(alloc, "anyOf", instance)?;
@@ -63,7 +67,7 @@ pub fn turn_any_of<'s, 'i>(
         enough: 1,
         shows: true,
     };
-    match judge_on(judge, run, reply) {
+    match judge_children(judge, run, reply) {
         Judging::Asks(child, asked) => Ok(Step::Ask(child, Below::Here, asked)),
         Judging::Judged(accepted) => {
             tell_any_of(alloc, accepted, mode, instance, answer)?;

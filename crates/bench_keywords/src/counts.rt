@@ -13,8 +13,7 @@ ghost use Rattle.bench_keywords.specs.Counts.{allows, count_fits, count_name, co
 ghost use Rattle.bench_keywords.specs.Counts.{member_count, one_counted, subject_members, subject_string};
 ghost use Rattle.keyword_ways.specs.Ways.{noted, unless};
 
-use crate::texts::instance_text;
-use keyword_ways::answers::note;
+use keyword_ways::answers::{note, refuse};
 use schema_node::context::keyword::{Answer, Mode};
 use schema_reports::instance::Instance;
 use schema_reports::location::OutOfMemory;
@@ -155,7 +154,7 @@ fn count_text(
     ensures text { IfOk result (λ text. subject_has_float (subject_of instance.entry) ≡ false → string_bytes text
         ≡ count_text kind limit (subject_of instance.entry)) }
 {
-    let mut text = instance_text(alloc, instance)?;
+    let mut text = instance.text(alloc)?;
     text.push_str(kind.words())?;
     push_decimal(&mut text, limit)?;
     text.push_str(kind.counted(limit))?;
@@ -186,6 +185,10 @@ pub fn tell_count<'i>(
         → All (PassesBorrowed root) (faults_in answer.new)) }
 {
     if count_fits(kind, limit, instance) {
+        return Ok(());
+    }
+    if mode == Mode::Verdict {
+        refuse(answer);
         return Ok(());
     }
     let text = count_text(alloc, kind, limit, instance)?;

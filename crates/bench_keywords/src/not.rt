@@ -12,9 +12,8 @@ ghost use Rattle.keyword_ways.specs.Items.{child_here, each_from};
 ghost use Rattle.keyword_ways.specs.Ways.{judges, noted, way_step, way_turn};
 ghost use Rattle.bench_keywords.specs.Words.{if_any, not_tally, not_text};
 
-use crate::texts::instance_text;
-use keyword_ways::answers::note;
-use keyword_ways::judging::{Judge, Judging, judge_on};
+use keyword_ways::answers::{note, refuse};
+use keyword_ways::judging::{Judge, Judging, judge_children};
 use keyword_ways::run::Progress;
 use schema_node::context::keyword::{Answer, Below, Mode, Reply, Step};
 use schema_reports::instance::Instance;
@@ -29,7 +28,7 @@ fn not_text(alloc: Global, schema: &Value, instance: Instance<'_>) -> Result<Str
 {
     let mut text = schema.to_string(alloc)?;
     text.push_str(" is not allowed for ")?;
-    let shown = instance_text(alloc, instance)?;
+    let shown = instance.text(alloc)?;
     text.push_str(shown.as_str())?;
     Ok(text)
 }
@@ -51,6 +50,10 @@ fn tell_not<'i>(
         → All (PassesBorrowed root) (faults_in answer.new)) }
 {
     if accepted == 0 {
+        return Ok(());
+    }
+    if mode == Mode::Verdict {
+        refuse(answer);
         return Ok(());
     }
     let text = not_text(alloc, schema, instance)?;
@@ -81,7 +84,7 @@ pub fn turn_not<'s, 'i>(
         enough: 1,
         shows: false,
     };
-    match judge_on(judge, run, reply) {
+    match judge_children(judge, run, reply) {
         Judging::Asks(child, asked) => Ok(Step::Ask(child, Below::Here, asked)),
         Judging::Judged(accepted) => {
             tell_not(alloc, schema, accepted, mode, instance, answer)?;

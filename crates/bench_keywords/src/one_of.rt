@@ -10,9 +10,9 @@ ghost use Rattle.keyword_ways.specs.Items.{child_here, each_from};
 ghost use Rattle.keyword_ways.specs.Ways.{judges, noted, way_step, way_turn};
 ghost use Rattle.bench_keywords.specs.Words.{many_text, none_text, one_of_tally, unless_one};
 
-use crate::texts::{instance_text, none_text};
-use keyword_ways::answers::note;
-use keyword_ways::judging::{Judge, Judging, judge_on};
+use crate::texts::none_text;
+use keyword_ways::answers::{note, refuse};
+use keyword_ways::judging::{Judge, Judging, judge_children};
 use keyword_ways::run::Progress;
 use schema_node::context::keyword::{Answer, Below, Mode, Reply, Step};
 use schema_reports::instance::Instance;
@@ -24,7 +24,7 @@ fn many_text(alloc: Global, instance: Instance<'_>) -> Result<String, OutOfMemor
     ensures text { IfOk result (λ text. subject_has_float (subject_of instance.entry) ≡ false → string_bytes text
         ≡ many_text (subject_of instance.entry)) }
 {
-    let mut text = instance_text(alloc, instance)?;
+    let mut text = instance.text(alloc)?;
     text.push_str(" is valid under more than one of the schemas listed in the 'oneOf' keyword")?;
     Ok(text)
 }
@@ -44,14 +44,18 @@ fn tell_one_of<'i>(
     ensures borrows { IfOk result (λ _. (root : Data) → All (PassesBorrowed root) (faults_in answer.old)
         → All (PassesBorrowed root) (faults_in answer.new)) }
 {
-    if accepted == 0 {
-        let text = none_text(alloc, "oneOf", instance)?;
-        return note(alloc, mode, "oneOf", text, answer);
-    }
     if accepted == 1 {
         return Ok(());
     }
-    let text = many_text(alloc, instance)?;
+    if mode == Mode::Verdict {
+        refuse(answer);
+        return Ok(());
+    }
+    let text = if accepted == 0 {
+        none_text(alloc, "oneOf", instance)?
+    } else {
+        many_text(alloc, instance)?
+    };
     note(alloc, mode, "oneOf", text, answer)
 }
 
@@ -79,7 +83,7 @@ pub fn turn_one_of<'s, 'i>(
         enough: 2,
         shows: true,
     };
-    match judge_on(judge, run, reply) {
+    match judge_children(judge, run, reply) {
         Judging::Asks(child, asked) => Ok(Step::Ask(child, Below::Here, asked)),
         Judging::Judged(accepted) => {
             tell_one_of(alloc, accepted, mode, instance, answer)?;

@@ -10,8 +10,8 @@ ghost use Rattle.bench_keywords.specs.Counts.{subject_string};
 ghost use Rattle.keyword_ways.specs.Ways.{asks_match, noted, unless, way_step, way_turn};
 ghost use Rattle.bench_keywords.specs.Words.{pattern_text, pattern_way};
 
-use crate::texts::{instance_text, text_of};
-use keyword_ways::answers::note;
+use crate::texts::text_of;
+use keyword_ways::answers::{note, refuse};
 use keyword_ways::matching::{MatchTurn, ask_match, match_on};
 use keyword_ways::run::{Progress, Stage};
 use schema_node::context::keyword::{Answer, Mode, Reply, Step};
@@ -24,7 +24,7 @@ fn pattern_text(alloc: Global, pattern: &str, instance: Instance<'_>) -> Result<
     ensures text { IfOk result (λ text. subject_has_float (subject_of instance.entry) ≡ false → string_bytes text
         ≡ pattern_text pattern.now (subject_of instance.entry)) }
 {
-    let mut text = instance_text(alloc, instance)?;
+    let mut text = instance.text(alloc)?;
     text.push_str(" does not match \"")?;
     text.push_str(pattern)?;
     text.push_str("\"")?;
@@ -47,6 +47,10 @@ fn tell_pattern<'i>(
         → All (PassesBorrowed root) (faults_in answer.new)) }
 {
     if matches {
+        return Ok(());
+    }
+    if mode == Mode::Verdict {
+        refuse(answer);
         return Ok(());
     }
     let text = pattern_text(alloc, pattern, instance)?;

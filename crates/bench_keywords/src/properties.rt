@@ -7,9 +7,10 @@ ghost use Rattle.schema_reports.specs.Instance.{to_member};
 ghost use Rattle.schema_reports.specs.Keywords.{down};
 ghost use Rattle.schema_node.specs.FaultViews.{errors_in, faults_in, PassesBorrowed};
 ghost use Rattle.schema_node.specs.KeywordViews.{answer_of, reply_of, turn_of};
-ghost use Rattle.keyword_ways.specs.Ways.{asked, nth, passes_on, way_step, way_turn};
-ghost use Rattle.keyword_ways.specs.Asking.{nth_at, stage_of};
-ghost use Rattle.keyword_ways.specs.Members.{present_from};
+ghost use Rattle.keyword_ways.specs.Somes.{question_of, some_from};
+ghost use Rattle.keyword_ways.specs.Ways.{asked, passes_some, stage_some, way_step, way_turn};
+ghost use Rattle.keyword_ways.specs.Asking.{some_at};
+ghost use Rattle.keyword_ways.specs.Members.{members_from};
 
 use keyword_ways::members::has_member;
 use keyword_ways::passing::onward;
@@ -29,69 +30,65 @@ pub fn turn_properties<'s, 'i>(
     answer: &mut Answer<'i>,
 ) -> Result<Step<'s>, OutOfMemory>
     ensures turns { IfOk result (λ _. (texts : Bool) → way_turn
-        (passes_on (present_from 0 (map string_bytes names.now) (subject_of instance.entry))) (run.old, answer_of texts answer.old)
+        (passes_some (members_from 0 (map string_bytes names.now) (subject_of instance.entry))) (run.old, answer_of texts answer.old)
         (reply_of texts reply.entry)
         ≡ (run.new, answer_of texts answer.new)) }
     ensures steps { IfOk result (λ step. (texts : Bool) → way_step
-        (passes_on (present_from 0 (map string_bytes names.now) (subject_of instance.entry))) (run.old, answer_of texts answer.old)
+        (passes_some (members_from 0 (map string_bytes names.now) (subject_of instance.entry))) (run.old, answer_of texts answer.old)
         (reply_of texts reply.entry)
         ≡ turn_of step) }
     ensures borrows { IfOk result (λ _. (root : Data) → All (BorrowsItsPlace root) (errors_in reply.entry)
         → All (PassesBorrowed root) (faults_in answer.old) → All (PassesBorrowed root) (faults_in answer.new)) }
 {
-    let place = onward(alloc, names.len(), run, reply, answer)?;
-    Ok(ask_member(names, place, run, instance))
+    let start = onward(alloc, names.len(), run, reply, answer)?;
+    Ok(ask_member(names, start, run, instance))
 }
 
-/// Asks the question of this place, if there is one, and ends the run else.
+/// Asks at the first name from this number on that is a member of the instance, if there is one, and ends the run else.
 fn ask_member<'s>(
     names: &'s [String],
-    place: Option<usize>,
+    start: Option<usize>,
     run: &mut Progress,
     instance: Instance<'_>,
 ) -> Step<'s>
     ensures stage { run.new ≡ record run.old {
-      stage = stage_of (present_from 0 (map string_bytes names.now) (subject_of instance.entry))
-          place;
+      stage = stage_some (some_at (members_from 0 (map string_bytes names.now) (subject_of instance.entry)) start);
     } }
-    ensures step { turn_of result ≡ asked run.old.mode (nth_at (present_from 0 (map string_bytes names.now) (subject_of instance.entry))
-        place) }
+    ensures step { turn_of result ≡ asked run.old.mode (question_of (some_at
+        (members_from 0 (map string_bytes names.now) (subject_of instance.entry)) start)) }
 {
-    match place {
+    match start {
         None => {
             run.stage = Stage::Ended;
             Step::Done
         }
-        Some(place) => match present_at(names, place, instance) {
+        Some(start) => match first_present(names, start, instance) {
             None => {
                 run.stage = Stage::Ended;
                 Step::Done
             }
             Some((child, name)) => {
-                run.stage = Stage::Asked(place);
+                run.stage = Stage::Asked(child);
                 Step::Ask(child, Below::Member(name), run.mode)
             }
         },
     }
 }
 
-/// The child, with its name, that is the one of this place among those whose names are members of the instance.
-fn present_at<'s>(
+/// The first child from this number on whose name is a member of the instance, with its name.
+#[tactic(auto, using(keyword_ways::proofs::NextQuestions::members_from_drop))]
+fn first_present<'s>(
     names: &'s [String],
-    place: usize,
+    start: usize,
     instance: Instance<'_>,
 ) -> Option<(usize, &'s str)>
-    ensures present { option_map (λ p. record { child = p.0; below = down (to_member p.1.now) }) result
-        ≡ nth place (present_from 0 (map string_bytes names.now) (subject_of instance.entry)) }
+    ensures present { option_map (λ p. (p.0, record { child = p.0; below = down (to_member p.1.now) })) result
+        ≡ some_from start (members_from 0 (map string_bytes names.now) (subject_of instance.entry)) }
 {
-    let mut left = place;
-    for (child, name) in names.iter().enumerate() {
-        let text = name.as_str();
-        if has_member(instance, text) {
-            if left == 0 {
-                return Some((child, text));
-            }
-            left -= 1;
+    for child in start..names.len() {
+        let name = names[child].as_str();
+        if has_member(instance, name) {
+            return Some((child, name));
         }
     }
     None

@@ -1,5 +1,6 @@
 //! `required`.
 ghost use Rattle.std.specs.Prelude.{All, ◌≡◌, ◌&&◌, not, Bool, codes, map, string_bytes, IfOk};
+ghost use Rattle.std.specs.List.{list_any};
 ghost use Rattle.serde_json.specs.Data.{Data};
 ghost use Rattle.schema_reports.specs.InstanceViews.{subject_of};
 ghost use Rattle.schema_reports.specs.ReportViews.{spoken};
@@ -9,8 +10,7 @@ ghost use Rattle.keyword_ways.specs.Members.{has_member, is_object};
 ghost use Rattle.keyword_ways.specs.Ways.{noted};
 ghost use Rattle.bench_keywords.specs.Words.{missing, required_text};
 
-use crate::texts::quoted;
-use keyword_ways::answers::note;
+use keyword_ways::answers::{note, refuse};
 use keyword_ways::members::{has_member, is_object};
 use schema_node::context::keyword::{Answer, Mode};
 use schema_reports::instance::Instance;
@@ -31,6 +31,12 @@ pub fn tell_required<'i>(
     ensures borrows { IfOk result (λ _. (root : Data) → All (PassesBorrowed root) (faults_in answer.old)
         → All (PassesBorrowed root) (faults_in answer.new)) }
 {
+    if mode == Mode::Verdict {
+        if lacks_one(names, instance) {
+            refuse(answer);
+        }
+        return Ok(());
+    }
     for name in names {
         if is_missing(name, instance) {
             let text = required_text(alloc, name.as_str())?;
@@ -38,6 +44,15 @@ pub fn tell_required<'i>(
         }
     }
     Ok(())
+}
+
+/// Whether the instance is an object that lacks one of these members.
+fn lacks_one(names: &[String], instance: Instance<'_>) -> bool
+    ensures lacks { result ≡ list_any
+        (λ k. is_object (subject_of instance.entry) && not (has_member (string_bytes k) (subject_of instance.entry)))
+        names.now }
+{
+    names.iter().any(|name| is_missing(name, instance))
 }
 
 /// Whether the instance is an object without this member.
@@ -52,7 +67,7 @@ fn is_missing(name: &String, instance: Instance<'_>) -> bool
 fn required_text(alloc: Global, name: &str) -> Result<String, OutOfMemory>
     ensures text { IfOk result (λ text. string_bytes text ≡ required_text name.now) }
 {
-    let mut text = quoted(alloc, name)?;
+    let mut text = Instance::Name(name).text(alloc)?;
     text.push_str(" is a required property")?;
     Ok(text)
 }

@@ -1,15 +1,12 @@
 //! Texts of instances.
 ghost use Rattle.std.specs.Prelude.{◌≡◌, false, IfOk, option_map, string_bytes};
-ghost use Rattle.schema_reports.specs.Instance.{a_name};
 ghost use Rattle.schema_reports.specs.InstanceViews.{subject_of};
-ghost use Rattle.schema_reports.specs.Meaning.{subject_text};
 ghost use Rattle.schema_reports.specs.InstanceTexts.{subject_has_float};
 ghost use Rattle.bench_keywords.specs.Counts.{subject_string};
 ghost use Rattle.bench_keywords.specs.Words.{none_text};
 
 use schema_reports::instance::Instance;
 use schema_reports::location::OutOfMemory;
-use serde_json::Value;
 use std::alloc::Global;
 
 /// The text that an instance is, where it is a text or a name.
@@ -22,33 +19,14 @@ pub fn text_of<'i>(instance: Instance<'i>) -> Option<&'i str>
     }
 }
 
-/// The compact text of an instance; a name is quoted.
-pub fn instance_text(alloc: Global, instance: Instance<'_>) -> Result<String, OutOfMemory>
-    ensures text { IfOk result (λ text. subject_has_float (subject_of instance.entry) ≡ false → string_bytes text
-        ≡ subject_text (subject_of instance.entry)) }
-{
-    match instance {
-        Instance::Value(value) => value.to_string(alloc),
-        Instance::Name(name) => quoted(alloc, name),
-    }
-}
-
 /// The error's text where an instance fits no schema of a list.
 pub fn none_text(alloc: Global, name: &str, instance: Instance<'_>) -> Result<String, OutOfMemory>
     ensures text { IfOk result (λ text. subject_has_float (subject_of instance.entry) ≡ false → string_bytes text
         ≡ none_text name.now (subject_of instance.entry)) }
 {
-    let mut text = instance_text(alloc, instance)?;
+    let mut text = instance.text(alloc)?;
     text.push_str(" is not valid under any of the schemas listed in the '")?;
     text.push_str(name)?;
     text.push_str("' keyword")?;
     Ok(text)
-}
-
-/// A text between quotes, as JSON has it.
-pub fn quoted(alloc: Global, text: &str) -> Result<String, OutOfMemory>
-    ensures quoted { IfOk result (λ quoted. string_bytes quoted ≡ subject_text (a_name text.now)) }
-{
-    let value = Value::String(String::from_str(alloc, text)?);
-    value.to_string(alloc)
 }

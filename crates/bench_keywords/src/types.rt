@@ -11,9 +11,8 @@ ghost use Rattle.bench_keywords.specs.TypeNames.{fits, type_name};
 ghost use Rattle.keyword_ways.specs.Ways.{noted, unless};
 ghost use Rattle.bench_keywords.specs.Words.{more_names, names_text, type_text, types_text};
 
-use crate::texts::instance_text;
 use crate::type_names::TypeName;
-use keyword_ways::answers::note;
+use keyword_ways::answers::{note, refuse};
 use schema_node::context::keyword::{Answer, Mode};
 use schema_reports::instance::Instance;
 use schema_reports::location::OutOfMemory;
@@ -36,6 +35,10 @@ pub fn tell_type<'i>(
     if name.fits(instance) {
         return Ok(());
     }
+    if mode == Mode::Verdict {
+        refuse(answer);
+        return Ok(());
+    }
     let text = type_text(alloc, name, instance)?;
     note(alloc, mode, "type", text, answer)
 }
@@ -45,7 +48,7 @@ fn type_text(alloc: Global, name: TypeName, instance: Instance<'_>) -> Result<St
     ensures text { IfOk result (λ text. subject_has_float (subject_of instance.entry) ≡ false → string_bytes text
         ≡ type_text name (subject_of instance.entry)) }
 {
-    let mut text = instance_text(alloc, instance)?;
+    let mut text = instance.text(alloc)?;
     text.push_str(" is not of type \"")?;
     text.push_str(name.as_str())?;
     text.push_str("\"")?;
@@ -70,6 +73,10 @@ pub fn tell_types<'i>(
     if fits_one(names, instance) {
         return Ok(());
     }
+    if mode == Mode::Verdict {
+        refuse(answer);
+        return Ok(());
+    }
     let text = types_text(alloc, names, instance)?;
     note(alloc, mode, "type", text, answer)
 }
@@ -78,12 +85,7 @@ pub fn tell_types<'i>(
 fn fits_one(names: &[TypeName], instance: Instance<'_>) -> bool
     ensures fits { result ≡ list_any (λ t. fits t (subject_of instance.entry)) names.now }
 {
-    for name in names {
-        if name.fits(instance) {
-            return true;
-        }
-    }
-    false
+    names.iter().any(|name| name.fits(instance))
 }
 
 /// The error's text for a list of names.
@@ -95,7 +97,7 @@ fn types_text(
     ensures text { IfOk result (λ text. subject_has_float (subject_of instance.entry) ≡ false → string_bytes text
         ≡ types_text names.now (subject_of instance.entry)) }
 {
-    let mut text = instance_text(alloc, instance)?;
+    let mut text = instance.text(alloc)?;
     text.push_str(" is not of types ")?;
     push_names(names, &mut text)?;
     Ok(text)

@@ -1,6 +1,7 @@
 pub mod Makers
 pub mod MakerViews
 pub mod MakerLaws
+pub mod ByValue
 pub mod BenchMatching
 pub mod BenchResolving
 pub mod BenchPointers

@@ -32,7 +32,7 @@ or_right : (a b : Bool) → (a || b) ≡ false → b ≡ false
 or_right true b h = cc
 or_right false b h = h
 
-member_whole : (k : Text) (ms : Members) (d : Data) → get_member k ms ≡ Some d → members_have_float ms ≡ false → has_float d ≡ false
+pub member_whole : (k : Text) (ms : Members) (d : Data) → get_member k ms ≡ Some d → members_have_float ms ≡ false → has_float d ≡ false
 member_whole k no_members d e h = cc
 member_whole k (member l c ms) d e h = first (slice_cmp nat_cmp k l) (λ q. member_whole k ms d q (or_right (has_float c) _ h)) e
   where

@@ -5,17 +5,17 @@ use Rattle.schema_reports.specs.ReportViews.{owned_error_of}
 use Rattle.schema_node.specs.MakerViews.{Waiting}
 use Rattle.bench_keywords.specs.BenchShape.{BenchShape, has_all_of, has_any_of, has_one_of, has_prefix_items}
 use Rattle.bench_parts.specs.Makers.{waiting_in}
-use Rattle.bench_keywords.specs.Shapes.{shape_of}
 use Rattle.bench_parts.specs.declared.table.maker.ListKeyword.{ListKeyword}
 use Rattle.bench_parts.specs.declared.table.maker.ListKeyword.TheVariants as list
 use Rattle.bench_parts.specs.declared.table.maker.Ending.{Ending}
 use Rattle.bench_parts.specs.declared.table.maker.Ending.TheVariants as ending
-use Rattle.bench_parts.specs.declared.table.maker.BenchMaker.{BenchMaker}
+use Rattle.bench_parts.specs.declared.table.maker.PathsMaker.{PathsMaker}
 
-abbrev pub made_of : Ending → Made BenchShape
-made_of (ending.Keyword k) = a_keyword (shape_of k) []
-made_of ending.Nothing = nothing
-made_of (ending.Refused e) = refused (owned_error_of e)
+-- `shape` says what is known of a keyword apart from its representation
+abbrev pub made_of : {C K : Type 0} → (C → K) → Ending C → Made K
+made_of shape (ending.Keyword k) = a_keyword (shape k) []
+made_of shape ending.Nothing = nothing
+made_of shape (ending.Refused e) = refused (owned_error_of e)
 
 -- what a keyword with a list of schemas is, by how many there are
 abbrev pub list_shape : ListKeyword → ℕ → BenchShape
@@ -24,5 +24,5 @@ list_shape list.AnyOf n = has_any_of n
 list_shape list.OneOf n = has_one_of n
 list_shape list.PrefixItems n = has_prefix_items n
 
-abbrev pub waiting_of : BenchMaker → Waiting BenchShape
-waiting_of m = waiting_in m.paths.items m.asked (option_map made_of m.ends)
+abbrev pub waiting_of : {C K : Type 0} → (C → K) → PathsMaker C → Waiting K
+waiting_of shape m = waiting_in m.paths.items m.asked (option_map (made_of shape) m.ends)

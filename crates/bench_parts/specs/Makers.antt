@@ -17,7 +17,7 @@ use Rattle.bench_keywords.specs.declared.counts.CountKind.{CountKind}
 use Rattle.bench_keywords.specs.declared.counts.CountKind.TheVariants.{MaxLength, MinLength, MinProperties}
 
 -- the children in order, and then the end
-abbrev pub asks_for : List Place → Made BenchShape → Script BenchShape
+abbrev pub asks_for : {K : Type 0} → List Place → Made K → Script K
 asks_for [] m = then_end m
 asks_for (p ∷ ps) m = then_compile p (asks_for ps m)
 
@@ -39,7 +39,7 @@ malformed_error name d = record {
   text = malformed_text name;
 }
 
-abbrev pub malformed : Text → Data → Script BenchShape
+abbrev pub malformed : {K : Type 0} → Text → Data → Script K
 malformed name d = then_end (refused (malformed_error name d))
 
 abbrev pub makes_if : Text → Data → Option BenchShape → Script BenchShape
@@ -209,7 +209,7 @@ bench_script false name ms draft vocabularies formats = member_script draft ms n
 
 -- ---- a maker that has made so many requests
 
-abbrev pub waiting_in : List Place → ℕ → Option (Made BenchShape) → Waiting BenchShape
+abbrev pub waiting_in : {K : Type 0} → List Place → ℕ → Option (Made K) → Waiting K
 waiting_in ps n None = ended
 waiting_in ps zero (Some m) = begun (asks_for ps m)
 waiting_in ps (suc n) (Some m) = waits n (asks_for (drop (suc n) ps) m) (asks_for (drop (suc n) ps) m)

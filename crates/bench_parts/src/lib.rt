@@ -2,6 +2,7 @@
 //! a matcher and meta validators.
 #![tactic(auto)]
 
+pub mod by_value;
 pub mod matcher;
 pub mod meta;
 pub mod resolver;

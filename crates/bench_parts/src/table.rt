@@ -5,13 +5,12 @@ ghost use Rattle.serde_json.specs.Written.{compact_text, has_float};
 ghost use Rattle.serde_json.specs.View.{members_view, view};
 ghost use Rattle.schema_reports.specs.Instance.{to_member};
 ghost use Rattle.schema_reports.specs.Pointer.{pointer_to};
-ghost use Rattle.schema_reports.specs.Making.{then_end};
 ghost use Rattle.schema_reports.specs.KeywordViews.{draft_of};
 ghost use Rattle.schema_reports.specs.ReportViews.{owned_error_of};
 ghost use Rattle.schema_node.specs.MakerViews as makers;
 ghost use Rattle.bench_parts.specs.Makers.{has_branch, if_script, items_script, later_script, list_script, makes_if, malformed_error};
 ghost use Rattle.bench_parts.specs.Makers.{malformed_text, member_script, only_child, properties_script, schema_script, value_script};
-ghost use Rattle.bench_parts.specs.MakerViews.{list_shape, made_of, waiting_of};
+ghost use Rattle.bench_parts.specs.MakerViews.{list_shape, waiting_of};
 ghost use Rattle.bench_keywords.specs.BenchShape.{has_not};
 ghost use Rattle.bench_keywords.specs.Shapes.{shape_of};
 
@@ -23,7 +22,7 @@ use crate::table::keyword_values::{
     count_keyword, items_below, names_of, pattern_keyword, required_keyword, type_keyword,
     values_below,
 };
-use crate::table::maker::{BenchMaker, Ending, ListKeyword};
+use crate::table::maker::{Ending, ListKeyword, PathsMaker, ends};
 use crate::table::schema_values::{is_older_list, items_before, push_branch, value_in, value_of};
 use bench_keywords::counts::CountKind;
 use bench_keywords::keyword::BenchKeyword;
@@ -39,17 +38,6 @@ use std::alloc::Global;
 /// A value of another shape than its keyword's is refused by an error that shows the value and stands at the keyword.
 #[derive(Drop)]
 pub struct BenchTable {}
-
-/// A maker that ends at once.
-fn ends(alloc: Global, ending: Ending) -> BenchMaker
-    ensures maker { waiting_of result ≡ makers.begun (then_end (made_of ending)) }
-{
-    BenchMaker {
-        paths: Vec::new(alloc),
-        asked: 0,
-        ends: Some(ending),
-    }
-}
 
 /// The pointer of a keyword in its object.
 #[tactic(auto, using(crate::proofs::Pointers::pointer_one))]
@@ -73,7 +61,7 @@ fn malformed_text(alloc: Global, name: &str) -> Result<String, OutOfMemory>
 }
 
 /// The error of a value of another shape than its keyword's.
-fn malformed(alloc: Global, name: &str, value: &Value) -> Result<OwnedError, OutOfMemory>
+pub(crate) fn malformed(alloc: Global, name: &str, value: &Value) -> Result<OwnedError, OutOfMemory>
     ensures error { IfOk result (λ e. owned_error_of e ≡ malformed_error name.now (view value.now)) }
 {
     Ok(OwnedError {
@@ -93,8 +81,8 @@ fn makes_if(
     name: &str,
     value: &Value,
     keyword: Option<BenchKeyword>,
-) -> Result<BenchMaker, OutOfMemory>
-    ensures maker { IfOk result (λ m. waiting_of m ≡ makers.begun (makes_if name.now (view value.now) (option_map shape_of keyword))) }
+) -> Result<PathsMaker<BenchKeyword>, OutOfMemory>
+    ensures maker { IfOk result (λ m. waiting_of shape_of m ≡ makers.begun (makes_if name.now (view value.now) (option_map shape_of keyword))) }
 {
     match keyword {
         Some(keyword) => Ok(ends(alloc, Ending::Keyword(keyword))),
@@ -106,13 +94,17 @@ fn makes_if(
 }
 
 /// The maker of `properties`.
-fn properties_maker(alloc: Global, name: &str, value: &Value) -> Result<BenchMaker, OutOfMemory>
-    ensures maker { IfOk result (λ m. waiting_of m ≡ makers.begun (properties_script name.now (view value.now))) }
+fn properties_maker(
+    alloc: Global,
+    name: &str,
+    value: &Value,
+) -> Result<PathsMaker<BenchKeyword>, OutOfMemory>
+    ensures maker { IfOk result (λ m. waiting_of shape_of m ≡ makers.begun (properties_script name.now (view value.now))) }
 {
     match value.as_object() {
         Some(members) => {
             let names = names_of(alloc, members)?;
-            Ok(BenchMaker {
+            Ok(PathsMaker {
                 paths: values_below(alloc, name, names.as_slice())?,
                 asked: 0,
                 ends: Some(Ending::Keyword(BenchKeyword::Properties(names))),
@@ -132,11 +124,11 @@ fn list_maker(
     name: &str,
     value: &Value,
     keyword: ListKeyword,
-) -> Result<BenchMaker, OutOfMemory>
-    ensures maker { IfOk result (λ m. waiting_of m ≡ makers.begun (list_script (list_shape keyword) name.now (view value.now))) }
+) -> Result<PathsMaker<BenchKeyword>, OutOfMemory>
+    ensures maker { IfOk result (λ m. waiting_of shape_of m ≡ makers.begun (list_script (list_shape keyword) name.now (view value.now))) }
 {
     match value.as_array() {
-        Some(items) => Ok(BenchMaker {
+        Some(items) => Ok(PathsMaker {
             paths: items_below(alloc, name, items.as_slice())?,
             asked: 0,
             ends: Some(Ending::Keyword(keyword.with_schemas(items.len()))),
@@ -155,8 +147,8 @@ fn items_maker(
     value: &Value,
     object: &Map<String, Value>,
     draft: Draft,
-) -> Result<BenchMaker, OutOfMemory>
-    ensures maker { IfOk result (λ m. waiting_of m
+) -> Result<PathsMaker<BenchKeyword>, OutOfMemory>
+    ensures maker { IfOk result (λ m. waiting_of shape_of m
         ≡ makers.begun (items_script (draft_of draft) (members_view object.now.entries) name.now (view value.now))) }
 {
     if is_older_list(draft, value) {
@@ -167,8 +159,12 @@ fn items_maker(
 }
 
 /// The maker of `not`.
-fn not_maker(alloc: Global, name: &str, value: &Value) -> Result<BenchMaker, OutOfMemory>
-    ensures maker { IfOk result (λ m. waiting_of m
+fn not_maker(
+    alloc: Global,
+    name: &str,
+    value: &Value,
+) -> Result<PathsMaker<BenchKeyword>, OutOfMemory>
+    ensures maker { IfOk result (λ m. waiting_of shape_of m
         ≡ makers.begun (only_child name.now (has_not (compact_text (view value.now)) (has_float (view value.now))))) }
 {
     let schema = value.clone()?;
@@ -180,8 +176,8 @@ fn if_maker(
     alloc: Global,
     name: &str,
     object: &Map<String, Value>,
-) -> Result<BenchMaker, OutOfMemory>
-    ensures maker { IfOk result (λ m. waiting_of m
+) -> Result<PathsMaker<BenchKeyword>, OutOfMemory>
+    ensures maker { IfOk result (λ m. waiting_of shape_of m
         ≡ makers.begun (if_script name.now (has_branch (codes "then") (members_view object.now.entries))
         (has_branch (codes "else") (members_view object.now.entries)))) }
 {
@@ -190,7 +186,7 @@ fn if_maker(
     let accepted = push_branch(alloc, object, "then", &mut paths, 1)?;
     let last = if accepted.is_some() { 2 } else { 1 };
     let refused = push_branch(alloc, object, "else", &mut paths, last)?;
-    Ok(BenchMaker {
+    Ok(PathsMaker {
         paths,
         asked: 0,
         ends: Some(Ending::Keyword(BenchKeyword::If(accepted, refused))),
@@ -198,12 +194,16 @@ fn if_maker(
 }
 
 /// A maker whose keyword has its own value as its only schema.
-fn only_child(alloc: Global, name: &str, keyword: BenchKeyword) -> Result<BenchMaker, OutOfMemory>
-    ensures maker { IfOk result (λ m. waiting_of m ≡ makers.begun (only_child name.now (shape_of keyword))) }
+fn only_child(
+    alloc: Global,
+    name: &str,
+    keyword: BenchKeyword,
+) -> Result<PathsMaker<BenchKeyword>, OutOfMemory>
+    ensures maker { IfOk result (λ m. waiting_of shape_of m ≡ makers.begun (only_child name.now (shape_of keyword))) }
 {
     let mut paths = Vec::new(alloc);
     paths.push(value_of(alloc, name)?)?;
-    Ok(BenchMaker {
+    Ok(PathsMaker {
         paths,
         asked: 0,
         ends: Some(Ending::Keyword(keyword)),
@@ -217,8 +217,8 @@ fn value_maker(
     value: &Value,
     object: &Map<String, Value>,
     draft: Draft,
-) -> Result<BenchMaker, OutOfMemory>
-    ensures maker { IfOk result (λ m. waiting_of m
+) -> Result<PathsMaker<BenchKeyword>, OutOfMemory>
+    ensures maker { IfOk result (λ m. waiting_of shape_of m
         ≡ makers.begun (value_script (draft_of draft) (members_view object.now.entries) name.now (view value.now))) }
 {
     if name == "type" {
@@ -242,8 +242,8 @@ fn later_maker(
     value: &Value,
     object: &Map<String, Value>,
     draft: Draft,
-) -> Result<BenchMaker, OutOfMemory>
-    ensures maker { IfOk result (λ m. waiting_of m
+) -> Result<PathsMaker<BenchKeyword>, OutOfMemory>
+    ensures maker { IfOk result (λ m. waiting_of shape_of m
         ≡ makers.begun (later_script (draft_of draft) (members_view object.now.entries) name.now (view value.now))) }
 {
     if name == "minLength" {
@@ -284,8 +284,8 @@ fn schema_maker(
     value: &Value,
     object: &Map<String, Value>,
     draft: Draft,
-) -> Result<BenchMaker, OutOfMemory>
-    ensures maker { IfOk result (λ m. waiting_of m
+) -> Result<PathsMaker<BenchKeyword>, OutOfMemory>
+    ensures maker { IfOk result (λ m. waiting_of shape_of m
         ≡ makers.begun (schema_script (draft_of draft) (members_view object.now.entries) name.now (view value.now))) }
 {
     if name == "allOf" {
@@ -321,8 +321,8 @@ fn member_maker(
     name: &str,
     object: &Map<String, Value>,
     draft: Draft,
-) -> Result<BenchMaker, OutOfMemory>
-    ensures maker { IfOk result (λ m. waiting_of m
+) -> Result<PathsMaker<BenchKeyword>, OutOfMemory>
+    ensures maker { IfOk result (λ m. waiting_of shape_of m
         ≡ makers.begun (member_script (draft_of draft) (members_view object.now.entries) name.now
         (get_member name.now (members_view object.now.entries)))) }
 {
@@ -337,13 +337,13 @@ impl KeywordTable<BenchKeyword> for BenchTable {
     ghost use Rattle.bench_parts.specs.Makers.{bench_script};
     ghost use Rattle.bench_parts.specs.MakerLaws.{makes_rightly};
 
-    type Maker = BenchMaker;
+    type Maker = PathsMaker<BenchKeyword>;
 
     ghost owned = { λ _ name. false };
 
     ghost script = { λ _. bench_script };
 
-    ghost waiting = { waiting_of };
+    ghost waiting = { waiting_of shape_of };
 
     fn owns(&self, _name: &str) -> bool {
         false
@@ -357,7 +357,7 @@ impl KeywordTable<BenchKeyword> for BenchTable {
         draft: Draft,
         _vocabularies: &VocabularySet,
         _formats: bool,
-    ) -> Result<BenchMaker, OutOfMemory> {
+    ) -> Result<PathsMaker<BenchKeyword>, OutOfMemory> {
         match origin {
             KeywordOrigin::Own(_) => Ok(ends(alloc, Ending::Nothing)),
             KeywordOrigin::Builtin(name) => member_maker(alloc, name, object, draft),
@@ -367,7 +367,7 @@ impl KeywordTable<BenchKeyword> for BenchTable {
     fn turn(
         &self,
         alloc: Global,
-        maker: &mut BenchMaker,
+        maker: &mut PathsMaker<BenchKeyword>,
         reply: MakerReply,
     ) -> Result<MakerStep<BenchKeyword>, OutOfMemory> {
         maker.turn(alloc, reply)

@@ -10,8 +10,10 @@ use Rattle.schema_node.specs.declared.context.keyword.Mode.TheVariants as mode
 use Rattle.keyword_ways.specs.declared.run.Stage.{Stage}
 use Rattle.keyword_ways.specs.declared.run.Stage.TheVariants.{Asked, Begun, Counted, Ended}
 use Rattle.keyword_ways.specs.declared.run.Progress.{Progress}
+use Rattle.keyword_ways.specs.Somes.{question_of, some_from}
 use Rattle.keyword_ways.specs.Tallies.{Tally, asked_in, says_yes, tallied, wants_units}
-use Rattle.keyword_ways.specs.Ways.{Way, asked, asks_match, branches, chosen, goes_on, judges, left_to_judge, mode_from, next_if, nth, passes_on, step_at, tells}
+use Rattle.keyword_ways.specs.Ways.{Way, asked, asks_match, branches, chosen, goes_on, judges, left_to_judge, mode_from, next_if, next_some, nth, passes_on, passes_some, step_at, tells}
+use Rattle.keyword_ways.specs.OwnWays.{own_words, spoken_ways}
 use Rattle.keyword_ways.specs.WayWords.{words_of}
 
 -- a mode that wants no units
@@ -38,6 +40,10 @@ step_unmarked (passes_on qs) mode' Begun r none = asked_unmarked mode' (nth 0 qs
 step_unmarked (passes_on qs) mode' (Asked i) r none = asked_unmarked mode' (next_if (goes_on r) (nth (i + 1) qs)) none
 step_unmarked (passes_on qs) mode' (Counted i n) r none = tt
 step_unmarked (passes_on qs) mode' Ended r none = tt
+step_unmarked (passes_some os) mode' Begun r none = asked_unmarked mode' (question_of (some_from 0 os)) none
+step_unmarked (passes_some os) mode' (Asked i) r none = asked_unmarked mode' (question_of (next_some (goes_on r) (some_from (i + 1) os))) none
+step_unmarked (passes_some os) mode' (Counted i n) r none = tt
+step_unmarked (passes_some os) mode' Ended r none = tt
 step_unmarked (judges t qs) mode' Begun r none = asked_unmarked (asked_in (wants_units t mode')) (nth 0 qs) (judge_unmarked t mode' none)
 step_unmarked (judges t qs) mode' (Asked i) r none = tt
 step_unmarked (judges t qs) mode' (Counted i n) r none = asked_unmarked (asked_in (wants_units t mode')) (left_to_judge t mode' (tallied t.enough r n) (nth (i + 1) qs)) (judge_unmarked t mode' none)
@@ -70,3 +76,7 @@ module _ {M : Type 0} (way : Bool → M → Subject → Way) where
   pub ways_take_no_marks : (texts : Bool) → TakesNoMarks (words_of way texts)
   ways_take_no_marks texts = λ m s mode' none.
       turns_unmarked texts m s ((words_of way texts).most_turns m s) ((words_of way texts).begin m s mode') no_reply (λ e. none (sym (mode-kept mode') ∙ e))
+
+-- nor do an author's own
+pub own_take_no_marks : {M : Type 0} (way : M → Subject → Way) (texts : Bool) → TakesNoMarks (own_words way texts)
+own_take_no_marks way = ways_take_no_marks (spoken_ways way)

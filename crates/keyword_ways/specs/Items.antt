@@ -1,5 +1,5 @@
 -- The items of an instance that is a list, and questions that are numbered one after the other.
-use Rattle.std.specs.Prelude.{List, None, Option, Some, [], suc, zero, ℕ, ◌+◌, ◌∷◌}
+use Rattle.std.specs.Prelude.{Bool, List, None, Option, Some, [], false, is_some, suc, zero, ℕ, ◌+◌, ◌∷◌}
 use Rattle.serde_json.specs.Data.{Items, item, no_items}
 use Rattle.serde_json.specs.Find.{as_array}
 use Rattle.schema_reports.specs.Instance.{Subject, a_name, a_value, to_item}
@@ -12,6 +12,10 @@ items_count (item d ds) = items_count ds + 1
 abbrev pub count_in : Option Items → ℕ
 count_in None = 0
 count_in (Some ds) = items_count ds
+
+abbrev pub is_list : Subject → Bool
+is_list (a_value d) = is_some (as_array d)
+is_list (a_name k) = false
 
 -- none where it is no list
 abbrev pub item_count : Subject → ℕ

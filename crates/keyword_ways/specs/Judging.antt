@@ -1,4 +1,4 @@
--- A turn of a run that judges, as the code takes it. All its questions are asked at the keyword's own place.
+-- A turn of a run that judges, as the code takes it. Its questions are numbered.
 use Rattle.std.specs.Prelude.{List, None, Option, Some, ℕ}
 use Rattle.schema_reports.specs.Keywords.{Answer, Question, Turn, ask, done}
 use Rattle.schema_node.specs.KeywordViews.{mode_of}
@@ -7,15 +7,14 @@ use Rattle.keyword_ways.specs.declared.judging.Judging.{Judging}
 use Rattle.keyword_ways.specs.declared.judging.Judging.TheVariants.{Asks, Judged, Over}
 use Rattle.keyword_ways.specs.declared.run.Stage.{Stage}
 use Rattle.keyword_ways.specs.declared.run.Stage.TheVariants.{Ended}
-use Rattle.keyword_ways.specs.Items.{child_here}
 use Rattle.keyword_ways.specs.Tallies.{Tally}
 use Rattle.keyword_ways.specs.Ways.{counted_at, noted, nth}
 
 -- the step that it is
-abbrev pub judging_turn : Judging → Turn
-judging_turn (Asks i m) = ask (child_here i) (mode_of m)
-judging_turn (Judged n) = done
-judging_turn Over = done
+abbrev pub judging_turn : (ℕ → Question) → Judging → Turn
+judging_turn f (Asks i m) = ask (f i) (mode_of m)
+judging_turn f (Judged n) = done
+judging_turn f Over = done
 
 -- what it makes of an answer
 abbrev pub judging_answer : Tally → Mode → Answer → Judging → Answer

@@ -1,6 +1,7 @@
 pub mod Members
 pub mod Items
 pub mod Tallies
+pub mod Somes
 pub mod Ways
 pub mod Asking
 pub mod Judging
@@ -11,3 +12,5 @@ pub mod WayWords
 pub mod WayLaws
 pub mod Places
 pub mod FaultLists
+pub mod OwnWays
+pub mod Plans

@@ -27,15 +27,15 @@ subject_names (a_name k) = []
 
 -- ---- questions
 
-abbrev pub kept : Bool → Question → List Question → List Question
-kept true q qs = q ∷ qs
-kept false q qs = qs
-
--- each child whose name is present, at that member
-abbrev pub present_from : ℕ → List Text → Subject → List Question
-present_from i [] s = []
-present_from i (k ∷ ks) s = kept (has_member k s) (record { child = i; below = down (to_member k) }) (present_from (i + 1) ks s)
-
 -- the only child, at a name
 abbrev pub at_name : Text → Question
 at_name k = record { child = 0; below = down (to_name k) }
+
+abbrev pub only_if : Bool → Question → Option Question
+only_if true q = Some q
+only_if false q = None
+
+-- for each child the question at the member of its name, where that is present
+abbrev pub members_from : ℕ → List Text → Subject → List (Option Question)
+members_from i [] s = []
+members_from i (k ∷ ks) s = only_if (has_member k s) (record { child = i; below = down (to_member k) }) ∷ members_from (i + 1) ks s

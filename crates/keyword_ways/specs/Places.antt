@@ -1,5 +1,5 @@
 -- Which questions are asked at places that are there.
-use Rattle.std.proofs.Common.{◌≡◌, ℕ, ◌+◌, ◌<◌, ◌∷◌, [], List, Bool, true, false, Option, Some, None, refl, ap, subst, arith, zero, suc, is_some, option_and_then, add-zero}
+use Rattle.std.proofs.Common.{◌≡◌, ℕ, ◌+◌, ◌<◌, ◌∷◌, [], List, Bool, true, false, Option, Some, None, refl, ap, subst, arith, zero, suc, is_some, min, option_and_then, add-zero, ◌-◌}
 use Rattle.std.proofs.lemmas.Slice.Eq.{bytes_eq-Decides}
 use Rattle.std.specs.Prelude.{All, bytes_eq, if◌then◌else◌, map, option_map}
 use Rattle.std.proofs.lemmas.List.Elements.{All-map, All-nil, All-cons, All-weaker}
@@ -8,8 +8,13 @@ use Rattle.serde_json.specs.Data.{Data, Items, Members, array, boolean, item, me
 use Rattle.schema_reports.specs.Keywords.{Question, down}
 use Rattle.schema_reports.specs.Laws.{IsPresent, steps_below}
 use Rattle.schema_node.specs.KeywordViews.{option_list}
-use Rattle.keyword_ways.specs.Members.{at_name, has_member, kept, names_in, present_from, subject_names}
-use Rattle.keyword_ways.specs.Items.{child_here, each_from, item_count, items_count}
+use Rattle.keyword_ways.specs.Members.{at_name, has_member, members_from, names_in, only_if, subject_names}
+use Rattle.keyword_ways.specs.Somes.{somes}
+use Rattle.keyword_ways.specs.Items.{child_at_item, child_here, each_from, first_at_item, item_count, items_count}
+
+-- each of the questions is asked at a place that is there
+abbrev pub AsksPresent : Subject → List Question → Type 0
+AsksPresent s qs = All (λ q. IsPresent s (steps_below q.below)) qs
 
 pub member_present : (k : Text) (s : Subject) → has_member k s ≡ true → IsPresent s (to_member k ∷ [])
 member_present k s h = leads (after_step (to_member k) s) h
@@ -18,14 +23,15 @@ member_present k s h = leads (after_step (to_member k) s) h
     leads None h = cc
     leads (Some t) h = refl
 
-kept_present : (b : Bool) (i : ℕ) (k : Text) (s : Subject) (qs : List Question) → has_member k s ≡ b → All (λ q. IsPresent s (steps_below q.below)) qs
-    → All (λ q. IsPresent s (steps_below q.below)) (kept b (record { child = i; below = down (to_member k) }) qs)
-kept_present true i k s qs h rest = All-cons (λ q. IsPresent s (steps_below q.below)) (record { child = i; below = down (to_member k) }) qs (member_present k s h) rest
-kept_present false i k s qs h rest = rest
+some_present : (b : Bool) (i : ℕ) (k : Text) (s : Subject) (os : List (Option Question)) → has_member k s ≡ b → AsksPresent s (somes os)
+    → AsksPresent s (somes (only_if b (record { child = i; below = down (to_member k) }) ∷ os))
+some_present true i k s os h rest = All-cons (λ q. IsPresent s (steps_below q.below)) (record { child = i; below = down (to_member k) }) (somes os) (member_present k s h) rest
+some_present false i k s os h rest = rest
 
-pub members_present : (i : ℕ) (ks : List Text) (s : Subject) → All (λ q. IsPresent s (steps_below q.below)) (present_from i ks s)
-members_present i [] s = All-nil _
-members_present i (k ∷ ks) s = kept_present (has_member k s) i k s (present_from (i + 1) ks s) refl (members_present (i + 1) ks s)
+-- the members that are there, child by child
+pub some_members_present : (i : ℕ) (ks : List Text) (s : Subject) → AsksPresent s (somes (members_from i ks s))
+some_members_present i [] s = All-nil _
+some_members_present i (k ∷ ks) s = some_present (has_member k s) i k s (members_from (i + 1) ks s) refl (some_members_present (i + 1) ks s)
 
 -- questions that are asked each at a present place
 pub each_present : (f : ℕ → Question) (s : Subject) (i n : ℕ) → ((k : ℕ) → k < n → IsPresent s (steps_below (f (i + k)).below)) → All (λ q. IsPresent s (steps_below q.below)) (each_from f i n)
@@ -91,3 +97,25 @@ names_present (a_value (string t)) = All-nil _
 names_present (a_value (array ds)) = All-nil _
 names_present (a_value (object ms)) = All-map (λ q. IsPresent (a_value (object ms)) (steps_below q.below)) at_name (names_in ms)
     (All-weaker (IsNamed ms) (λ k. IsPresent (a_value (object ms)) (to_name k ∷ [])) (λ k h. name_leads k (member_of k ms) h) (names_in ms) (each_named ms))
+
+-- ---- what an author asks
+
+-- nothing
+pub nothing_asked : (s : Subject) → AsksPresent s []
+nothing_asked s = All-nil _
+
+-- each child at the keyword's own place
+pub children_present : (s : Subject) (n : ℕ) → AsksPresent s (each_from child_here 0 n)
+children_present s n = each_present child_here s 0 n (λ k h. refl)
+
+-- the only child at each item
+pub items_present : (s : Subject) → AsksPresent s (each_from first_at_item 0 (item_count s))
+items_present s = each_present first_at_item s 0 (item_count s) (λ k h. item_present s (0 + k) (omega arith))
+
+-- the only child at each item after the first n
+pub later_items_present : (s : Subject) (n : ℕ) → AsksPresent s (each_from first_at_item n (item_count s - n))
+later_items_present s n = each_present first_at_item s n (item_count s - n) (λ k h. item_present s (n + k) (omega arith))
+
+-- each of n children at the item of its number
+pub first_items_present : (s : Subject) (n : ℕ) → AsksPresent s (each_from child_at_item 0 (min n (item_count s)))
+first_items_present s n = each_present child_at_item s 0 (min n (item_count s)) (λ k h. item_present s (0 + k) (omega arith))

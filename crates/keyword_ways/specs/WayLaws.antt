@@ -1,6 +1,6 @@
 -- The laws of a type of keywords that go about an instance in ways, proved once: what is left to show of a type is that its
 -- keywords ask the same questions whether texts are spoken of or not, and each at a place that is there.
-use Rattle.std.proofs.Common.{◌≡◌, ◌∙◌, ℕ, ◌+◌, ◌<◌, ◌⊎◌, ◌∷◌, [], List, Bool, true, false, Option, Some, None, refl, ap, subst, inl, inr, arith, length, zero, suc}
+use Rattle.std.proofs.Common.{◌≡◌, ◌∙◌, ℕ, ◌+◌, ◌<◌, ◌⊎◌, ◌∷◌, [], List, Bool, true, false, Option, Some, None, refl, ap, subst, inl, inr, arith, drop, zero, suc}
 use Rattle.std.specs.Prelude.{All, Contains, not, ◌++◌}
 use Rattle.std.proofs.lemmas.List.Elements.{Contains-append_right}
 use Rattle.schema_reports.specs.Instance.{Subject}
@@ -16,8 +16,9 @@ use Rattle.schema_node.specs.declared.context.keyword.Mode.TheVariants as mode
 use Rattle.keyword_ways.specs.declared.run.Stage.{Stage}
 use Rattle.keyword_ways.specs.declared.run.Stage.TheVariants.{Begun, Asked, Counted, Ended}
 use Rattle.keyword_ways.specs.declared.run.Progress.{Progress}
-use Rattle.keyword_ways.specs.Ways.{Way, asks_match, tells, passes_on, judges, branches, chosen, left_to_judge, questions, step_at, stage_after, mode_from, left_of, match_point, way_left, way_turns, asked, next_if, nth, goes_on}
+use Rattle.keyword_ways.specs.Ways.{Way, asks_match, tells, passes_on, passes_some, judges, branches, chosen, left_to_judge, questions, step_at, stage_after, mode_from, left_of, match_point, way_left, way_turns, asked, next_if, next_some, places, nth, goes_on}
 use Rattle.keyword_ways.specs.WayRuns.{replies_by, reply_for, end_at, fits_begun, Keeps, way_falls, way_bounded, way_keeps, way_stands, way_ends}
+use Rattle.keyword_ways.specs.Somes.{first_some, question_of, some_from, somes}
 use Rattle.keyword_ways.specs.Tallies.{asked_in, is_settled, says_yes, tallied, wants_units}
 use Rattle.keyword_ways.specs.WayReads.{way_agrees, way_holds_reads, way_faults_read, way_units_read, way_stands_inside, way_passes}
 use Rattle.keyword_ways.specs.WayWords.{left_at_most, nothing_absorbed, run_ends, run_fits, run_replies, words_of}
@@ -31,6 +32,24 @@ nth-contains (suc i) (p ∷ qs) q h = Contains-append_right (p ∷ []) qs q (nth
 next-contains : (b : Bool) (i : ℕ) (qs : List Question) (q : Question) → next_if b (nth i qs) ≡ Some q → Contains qs q
 next-contains true i qs q h = nth-contains i qs q h
 next-contains false i qs q h = cc
+
+first_some-contains : (i : ℕ) (os : List (Option Question)) (q : Question) → question_of (first_some i os) ≡ Some q → Contains (somes os) q
+first_some-contains i [] q h = cc
+first_some-contains i (None ∷ os) q h = first_some-contains (i + 1) os q h
+first_some-contains i (Some p ∷ os) q h = let e : p ≡ q = cc in (zero, omega arith, e)
+
+dropped-contains : (i : ℕ) (os : List (Option Question)) (q : Question) → Contains (somes (drop i os)) q → Contains (somes os) q
+dropped-contains zero os q h = h
+dropped-contains (suc i) [] q h = h
+dropped-contains (suc i) (None ∷ os) q h = dropped-contains i os q h
+dropped-contains (suc i) (Some p ∷ os) q h = Contains-append_right (p ∷ []) (somes os) q (dropped-contains i os q h)
+
+some-contains : (i : ℕ) (os : List (Option Question)) (q : Question) → question_of (some_from i os) ≡ Some q → Contains (somes os) q
+some-contains i os q h = dropped-contains i os q (first_some-contains i (drop i os) q h)
+
+next_some-contains : (b : Bool) (i : ℕ) (os : List (Option Question)) (q : Question) → question_of (next_some b (some_from i os)) ≡ Some q → Contains (somes os) q
+next_some-contains true i os q h = some-contains i os q h
+next_some-contains false i os q h = cc
 
 chosen-contains : (b : Bool) (q : Question) (one other : Option Question) (p : Question) → chosen b one other ≡ Some p → Contains (q ∷ (option_list one ++ option_list other)) p
 chosen-contains true q None other p h = cc
@@ -52,6 +71,10 @@ each_step P (passes_on qs) asks matched mode' Begun r = asks mode' (nth 0 qs) (n
 each_step P (passes_on qs) asks matched mode' (Asked i) r = asks mode' (next_if (goes_on r) (nth (i + 1) qs)) (next-contains (goes_on r) (i + 1) qs)
 each_step P (passes_on qs) asks matched mode' (Counted i n) r = asks mode' None (no_question (passes_on qs))
 each_step P (passes_on qs) asks matched mode' Ended r = asks mode' None (no_question (passes_on qs))
+each_step P (passes_some os) asks matched mode' Begun r = asks mode' (question_of (some_from 0 os)) (some-contains 0 os)
+each_step P (passes_some os) asks matched mode' (Asked i) r = asks mode' (question_of (next_some (goes_on r) (some_from (i + 1) os))) (next_some-contains (goes_on r) (i + 1) os)
+each_step P (passes_some os) asks matched mode' (Counted i n) r = asks mode' None (no_question (passes_some os))
+each_step P (passes_some os) asks matched mode' Ended r = asks mode' None (no_question (passes_some os))
 each_step P (judges t qs) asks matched mode' Begun r = asks (asked_in (wants_units t mode')) (nth 0 qs) (nth-contains 0 qs)
 each_step P (judges t qs) asks matched mode' (Asked i) r = asks mode' None (no_question (judges t qs))
 each_step P (judges t qs) asks matched mode' (Counted i n) r = asks (asked_in (wants_units t mode')) (left_to_judge t mode' (tallied t.enough r n) (nth (i + 1) qs))
@@ -70,9 +93,10 @@ each_step P (asks_match name a text) asks matched mode' Ended r = asks mode' Non
 fewer : (a b c d : ℕ) → a ≡ c → b ≡ d → a < b → c < d
 fewer a b c d p q h = omega arith
 
--- the questions are the same where texts are spoken of
+-- the questions and their places are the same where texts are spoken of
 abbrev pub SameQuestions : {M : Type 0} → (Bool → M → Subject → Way) → Type 0
-SameQuestions {M} way = (texts : Bool) (m : M) (s : Subject) → questions (way texts m s) ≡ questions (way false m s)
+SameQuestions {M} way = (texts : Bool) (m : M) (s : Subject)
+    → (questions (way texts m s) ≡ questions (way false m s)) × (places (way texts m s) ≡ places (way false m s))
 
 -- each is asked at a place that is there
 abbrev pub AllPresent : {M : Type 0} → (Bool → M → Subject → Way) → Type 0
@@ -80,7 +104,7 @@ AllPresent {M} way = (texts : Bool) (m : M) (s : Subject) → All (λ q. IsPrese
 
 module _ {M : Type 0} (way : Bool → M → Subject → Way) where
   same_left : SameQuestions way → (texts : Bool) (m : M) (s : Subject) (stage : Stage) → way_left (way texts m s) stage ≡ way_left (way false m s) stage
-  same_left same texts m s stage = ap (λ qs. left_of (length qs) stage) (same texts m s)
+  same_left same texts m s stage = ap (λ n. left_of n stage) (same texts m s).1
 
   bounded : SameQuestions way → (texts : Bool) (m : M) (s : Subject) → way_left (way false m s) Begun < way_turns (way texts m s)
   bounded same texts m s = subst (λ n. n < way_turns (way texts m s)) (same_left same texts m s Begun) (way_bounded (way texts m s))

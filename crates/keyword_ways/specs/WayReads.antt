@@ -9,7 +9,8 @@ use Rattle.schema_reports.specs.Matching.{Matching}
 use Rattle.schema_reports.specs.Keywords.{Answers, Fault, Question, own, passed}
 use Rattle.schema_reports.specs.Laws.{Agrees, StandsInside, PassesUnchanged}
 use Rattle.schema_node.specs.KeywordViews.{is_nil, no_gives, option_list}
-use Rattle.keyword_ways.specs.Ways.{Way, asks_match, described, is_matched, unless, tells, passes_on, judges, branches, branch, given, plain, questions, way_holds, way_faults, way_units}
+use Rattle.keyword_ways.specs.Ways.{Way, asks_match, described, is_matched, unless, tells, passes_on, passes_some, judges, branches, branch, given, plain, questions, way_holds, way_faults, way_units}
+use Rattle.keyword_ways.specs.Somes.{somes}
 use Rattle.keyword_ways.specs.Tallies.{counted, told_by, yes_count}
 
 told_agree : (name : Text) (ts : List Text) → (is_nil ts ≡ true) ↔ (map (λ t. own (plain name t)) ts ≡ [])
@@ -42,6 +43,7 @@ unless_agrees false name text = (λ h. cc, λ h. cc)
 pub way_agrees : (w : Way) (matching : Matching) (answers : Answers) → ((q : Question) → Agrees (answers q)) → (way_holds w matching (λ q. (answers q).verdict) ≡ true) ↔ (way_faults w matching answers ≡ [])
 way_agrees (tells name ts) matching answers agrees = told_agree name ts
 way_agrees (passes_on qs) matching answers agrees = (all_accept answers agrees qs, none_refuses answers agrees qs)
+way_agrees (passes_some os) matching answers agrees = (all_accept answers agrees (somes os), none_refuses answers agrees (somes os))
 way_agrees (judges t qs) matching answers agrees = told_agree t.name (told_by t (λ q. (answers q).verdict) qs)
 way_agrees (branches q one other) matching answers agrees = (all_accept answers agrees (branch (answers q).verdict one other), none_refuses answers agrees (branch (answers q).verdict one other))
 way_agrees (asks_match name p text) matching answers agrees = unless_agrees (is_matched matching p) name text
@@ -89,6 +91,7 @@ in_branches false one other q p h = Contains-append_right (q ∷ []) (option_lis
 pub way_holds_reads : (w : Way) (matching : Matching) (a b : Question → Bool) → All (λ q. a q ≡ b q) (questions w) → way_holds w matching a ≡ way_holds w matching b
 way_holds_reads (tells name ts) matching a b h = refl
 way_holds_reads (passes_on qs) matching a b h = all_same a b qs h
+way_holds_reads (passes_some os) matching a b h = all_same a b (somes os) h
 way_holds_reads (judges t qs) matching a b h = ap (λ n. is_nil (t.told (min t.enough n))) (counts_same a b qs h)
 way_holds_reads (branches q one other) matching a b h =
     ap (λ x. list_all a (branch x one other)) (All-head (λ q. a q ≡ b q) q (option_list one ++ option_list other) h)
@@ -98,6 +101,7 @@ way_holds_reads (asks_match name p text) matching a b h = refl
 pub way_faults_read : (w : Way) (matching : Matching) (a b : Answers) → All (λ q. a q ≡ b q) (questions w) → way_faults w matching a ≡ way_faults w matching b
 way_faults_read (tells name ts) matching a b h = refl
 way_faults_read (passes_on qs) matching a b h = faults_same a b qs h
+way_faults_read (passes_some os) matching a b h = faults_same a b (somes os) h
 way_faults_read (judges t qs) matching a b h = ap (λ n. map (λ x. own (plain t.name x)) (t.told (min t.enough n))) (verdicts_same a b qs h)
 way_faults_read (branches q one other) matching a b h =
     ap (λ o. flat_map (λ q. map passed (a q).errors) (branch o.verdict one other)) (All-head (λ q. a q ≡ b q) q (option_list one ++ option_list other) h)
@@ -114,6 +118,7 @@ given_same false a b qs h = refl
 pub way_units_read : (w : Way) (matching : Matching) (a b : Question → Unit_) → All (λ q. a q ≡ b q) (questions w) → way_units w matching a ≡ way_units w matching b
 way_units_read (tells name ts) matching a b h = refl
 way_units_read (passes_on qs) matching a b h = ap (λ us. record no_gives { children = us }) (units_same a b qs h)
+way_units_read (passes_some os) matching a b h = ap (λ us. record no_gives { children = us }) (units_same a b (somes os) h)
 way_units_read (judges t qs) matching a b h =
     ap (λ us. record no_gives { children = us; errors = map (described t.name) (told_by t (λ q. (report_of (a q)).valid) qs) }) (given_same t.shows a b qs h)
     ∙ ap (λ n. record no_gives { children = given t.shows b qs; errors = map (described t.name) (t.told (min t.enough n)) }) (units_counted a b qs h)
@@ -131,6 +136,7 @@ passed_stand s absorbed answers (q ∷ qs) = All-append (StandsInside s absorbed
 pub way_stands_inside : (w : Way) (matching : Matching) (s : Subject) (absorbed : List Text) (answers : Answers) → All (StandsInside s absorbed) (way_faults w matching answers)
 way_stands_inside (tells name ts) matching s absorbed answers = All-map (StandsInside s absorbed) (λ t. own (plain name t)) ts (λ k d h. (refl, ([], refl), tt))
 way_stands_inside (passes_on qs) matching s absorbed answers = passed_stand s absorbed answers qs
+way_stands_inside (passes_some os) matching s absorbed answers = passed_stand s absorbed answers (somes os)
 way_stands_inside (judges t qs) matching s absorbed answers = All-map (StandsInside s absorbed) (λ x. own (plain t.name x)) (told_by t (λ q. (answers q).verdict) qs) (λ k d h. (refl, ([], refl), tt))
 way_stands_inside (branches q one other) matching s absorbed answers = passed_stand s absorbed answers (branch (answers q).verdict one other)
 way_stands_inside (asks_match name p text) matching s absorbed answers = All-map (StandsInside s absorbed) (λ t. own (plain name t)) (unless (is_matched matching p) text) (λ k d h. (refl, ([], refl), tt))
@@ -155,6 +161,7 @@ from_branch answers b one other q (passed e) (p, there, is) = (p, in_branches b 
 pub way_passes : (w : Way) (matching : Matching) (answers : Answers) → All (PassesUnchanged answers (questions w)) (way_faults w matching answers)
 way_passes (tells name ts) matching answers = All-map (PassesUnchanged answers []) (λ t. own (plain name t)) ts (λ k d h. tt)
 way_passes (passes_on qs) matching answers = passed_unchanged answers qs
+way_passes (passes_some os) matching answers = passed_unchanged answers (somes os)
 way_passes (judges t qs) matching answers = All-map (PassesUnchanged answers qs) (λ x. own (plain t.name x)) (told_by t (λ q. (answers q).verdict) qs) (λ k d h. tt)
 way_passes (branches q one other) matching answers = All-weaker (PassesUnchanged answers (branch (answers q).verdict one other)) (PassesUnchanged answers (q ∷ (option_list one ++ option_list other)))
     (from_branch answers (answers q).verdict one other q) _ (passed_unchanged answers (branch (answers q).verdict one other))

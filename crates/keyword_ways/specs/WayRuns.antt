@@ -15,7 +15,9 @@ use Rattle.schema_node.specs.declared.context.keyword.Mode.{Mode}
 use Rattle.schema_node.specs.declared.context.keyword.Mode.TheVariants as mode
 use Rattle.keyword_ways.specs.declared.run.Stage.{Stage}
 use Rattle.keyword_ways.specs.declared.run.Stage.TheVariants.{Begun, Asked, Counted, Ended}
-use Rattle.keyword_ways.specs.Ways.{Way, asks_match, described, evaluated, is_matched, match_point, unless, tells, passes_on, judges, branches, branch, branch_number, chosen, counted_at, given, judged_at, plain, way_holds, way_faults, way_units, refused, with_first, noted, with_unit, taken, goes_on, nth, asked, stage_at, next_if, step_at, stage_after, answer_after, mode_from, way_left, way_turns, left_of}
+use Rattle.keyword_ways.specs.Ways.{Way, asks_match, described, evaluated, is_matched, match_point, unless, tells, passes_on, passes_some, judges, branches, branch, branch_number, chosen, counted_at, given, judged_at, plain, way_holds, way_faults, way_units, refused, with_first, noted, with_unit, taken, goes_on, nth, asked, stage_at, stage_some, next_if, next_some, step_at, stage_after, answer_after, mode_from, way_left, way_turns, left_of}
+use Rattle.std.proofs.lemmas.List.{drop-drop}
+use Rattle.keyword_ways.specs.Somes.{first_some, question_of, some_from, somes}
 use Rattle.keyword_ways.specs.Tallies.{Tally, asked_in, counted, is_settled, says_yes, tallied, told_by, wants_units, with_child, yes_count}
 
 -- the true reply to a question in a mode
@@ -64,6 +66,10 @@ end_at (passes_on qs) replies m Begun a = led (replies.to_question m) a qs
 end_at (passes_on qs) replies m (Asked i) a = led (replies.to_question m) a (drop i qs)
 end_at (passes_on qs) replies m (Counted i n) a = a
 end_at (passes_on qs) replies m Ended a = a
+end_at (passes_some os) replies m Begun a = led (replies.to_question m) a (somes os)
+end_at (passes_some os) replies m (Asked i) a = led (replies.to_question m) a (somes (drop i os))
+end_at (passes_some os) replies m (Counted i n) a = a
+end_at (passes_some os) replies m Ended a = a
 end_at (judges t qs) replies m Begun a = judged_on t (wants_units t m) (judge_replies t replies m) m 0 a qs
 end_at (judges t qs) replies m (Asked i) a = a
 end_at (judges t qs) replies m (Counted i n) a = judged_on t (wants_units t m) (judge_replies t replies m) m n a (drop i qs)
@@ -86,6 +92,10 @@ fits_at (passes_on qs) replies m Begun r = Unit {0}
 fits_at (passes_on qs) replies m (Asked i) r = (q : Question) × (nth i qs ≡ Some q) × (r ≡ replies.to_question m q)
 fits_at (passes_on qs) replies m (Counted i n) r = Unit {0}
 fits_at (passes_on qs) replies m Ended r = Unit {0}
+fits_at (passes_some os) replies m Begun r = Unit {0}
+fits_at (passes_some os) replies m (Asked i) r = (q : Question) × (rest : List (Option Question)) × (drop i os ≡ Some q ∷ rest) × (r ≡ replies.to_question m q)
+fits_at (passes_some os) replies m (Counted i n) r = Unit {0}
+fits_at (passes_some os) replies m Ended r = Unit {0}
 fits_at (judges t qs) replies m Begun r = Unit {0}
 fits_at (judges t qs) replies m (Asked i) r = Unit {0}
 fits_at (judges t qs) replies m (Counted i n) r = (q : Question) × (nth i qs ≡ Some q) × (r ≡ judge_replies t replies m q)
@@ -127,7 +137,83 @@ led_at : (reply : Question → Reply) (a : Answer) (i : ℕ) (qs : List Question
     → led reply a (drop i qs) ≡ either (goes_on (reply q)) (led reply (taken a (reply q)) (drop (i + 1) qs)) (taken a (reply q))
 led_at reply a i qs q h = ap (led reply a) (nth-drop i qs q h)
 
+-- ---- questions of which some are there
+
+-- a pair that is found is one pair
+abbrev number_found : ℕ × Question → ℕ
+number_found x = x.0
+
+abbrev asked_found : ℕ × Question → Question
+asked_found x = x.1
+
+one_pair : (x y : ℕ × Question) → Some x ≡ Some y → x ≡ y
+one_pair x y h = cc
+
+-- what is found is there, and nothing before it
+found : (i : ℕ) (xs : List (Option Question)) (j : ℕ) (q : Question) → first_some i xs ≡ Some (j, q)
+    → (k : ℕ) × (rest : List (Option Question)) × (j ≡ i + k) × (drop k xs ≡ Some q ∷ rest) × (somes xs ≡ q ∷ somes rest)
+found i [] j q h = cc
+found i (None ∷ xs) j q h = later i xs j q (found (i + 1) xs j q h)
+  where
+    later : (i : ℕ) (xs : List (Option Question)) (j : ℕ) (q : Question) → ((k : ℕ) × (rest : List (Option Question)) × (j ≡ (i + 1) + k) × (drop k xs ≡ Some q ∷ rest) × (somes xs ≡ q ∷ somes rest))
+        → (k : ℕ) × (rest : List (Option Question)) × (j ≡ i + k) × (drop k (None ∷ xs) ≡ Some q ∷ rest) × (somes xs ≡ q ∷ somes rest)
+    later i xs j q (k, rest, e, d, s) = (suc k, rest, omega (arith, e), d, s)
+found i (Some p ∷ xs) j q h = let e : p ≡ q = ap asked_found (one_pair (i, p) (j, q) h) in let is : i ≡ j = ap number_found (one_pair (i, p) (j, q) h) in
+    (0, xs, omega (arith, is), ap (λ x. Some x ∷ xs) e, ap (λ x. x ∷ somes xs) e)
+
+found_none : (i : ℕ) (xs : List (Option Question)) → first_some i xs ≡ None → somes xs ≡ []
+found_none i [] h = refl
+found_none i (None ∷ xs) h = found_none (i + 1) xs h
+found_none i (Some p ∷ xs) h = cc
+
+within_some : (i : ℕ) (os : List (Option Question)) (x : Option Question) (rest : List (Option Question)) → drop i os ≡ x ∷ rest → i < length os
+within_some zero [] x rest h = cc
+within_some (suc i) [] x rest h = cc
+within_some zero (y ∷ os) x rest h = omega arith
+within_some (suc i) (y ∷ os) x rest h = let r : i < length os = within_some i os x rest h in omega arith
+
+rest_suc : (i : ℕ) (os : List (Option Question)) (x : Option Question) (rest : List (Option Question)) → drop i os ≡ x ∷ rest → drop (suc i) os ≡ rest
+rest_suc zero [] x rest h = cc
+rest_suc (suc i) [] x rest h = cc
+rest_suc zero (y ∷ os) x rest h = let e : os ≡ rest = cc in e
+rest_suc (suc i) (y ∷ os) x rest h = rest_suc i os x rest h
+
+rest_after : (i : ℕ) (os : List (Option Question)) (x : Option Question) (rest : List (Option Question)) → drop i os ≡ x ∷ rest → drop (i + 1) os ≡ rest
+rest_after i os x rest h = ap (λ n. drop n os) (add-one i) ∙ rest_suc i os x rest h
+
+-- what is found from a number on
+record IsFound (os : List (Option Question)) (i j : ℕ) (q : Question) : Type 0 where
+  pub rest : List (Option Question)
+  pub here : drop j os ≡ Some q ∷ rest
+  pub same : somes (drop i os) ≡ somes (drop j os)
+  pub after : i ≤ j
+  pub within : j < length os
+
+found_from : (i : ℕ) (os : List (Option Question)) (j : ℕ) (q : Question) → some_from i os ≡ Some (j, q) → IsFound os i j q
+found_from i os j q h = from (found i (drop i os) j q h)
+  where
+    from : ((k : ℕ) × (rest : List (Option Question)) × (j ≡ i + k) × (drop k (drop i os) ≡ Some q ∷ rest) × (somes (drop i os) ≡ q ∷ somes rest)) → IsFound os i j q
+    from (k, rest, e, d, s) =
+        let here : drop j os ≡ Some q ∷ rest = ap (λ n. drop n os) e ∙ (sym (drop-drop k i os) ∙ d) in
+        record { rest = rest; here = here; same = s ∙ sym (ap somes here); after = omega (arith, e); within = within_some j os (Some q) rest here }
+
+-- one that is there leads on by its reply
+led_some : (reply : Question → Reply) (a : Answer) (i : ℕ) (os : List (Option Question)) (q : Question) (rest : List (Option Question)) → drop i os ≡ Some q ∷ rest
+    → led reply a (somes (drop i os)) ≡ either (goes_on (reply q)) (led reply (taken a (reply q)) (somes (drop (i + 1) os))) (taken a (reply q))
+led_some reply a i os q rest h = ap (λ xs. led reply a (somes xs)) h
+    ∙ ap (λ xs. either (goes_on (reply q)) (led reply (taken a (reply q)) (somes xs)) (taken a (reply q))) (sym (rest_after i os (Some q) rest h))
+
 -- ---- a turn falls
+
+falls_some_begun : (os : List (Option Question)) (m : Mode) (o : Option (ℕ × Question)) → (asked m (question_of o) ≡ done) ⊎ (left_of (length os) (stage_some o) < length os + 1)
+falls_some_begun os m None = inl refl
+falls_some_begun os m (Some (j, q)) = inr (omega arith)
+
+falls_some : (os : List (Option Question)) (m : Mode) (i : ℕ) (b : Bool) (o : Option (ℕ × Question)) → some_from (i + 1) os ≡ o
+    → (asked m (question_of (next_some b o)) ≡ done) ⊎ (left_of (length os) (stage_some (next_some b o)) < length os - i)
+falls_some os m i false o h = inl refl
+falls_some os m i true None h = inl refl
+falls_some os m i true (Some (j, q)) h = let f : IsFound os (i + 1) j q = found_from (i + 1) os j q h in inr (omega (arith, f.after, f.within))
 
 falls_begun : (qs : List Question) (m : Mode) → (asked m (nth 0 qs) ≡ done) ⊎ (way_left (passes_on qs) (stage_at 0 (nth 0 qs)) < length qs + 1)
 falls_begun [] m = inl refl
@@ -162,6 +248,10 @@ way_falls (passes_on qs) m Begun r = falls_begun qs m
 way_falls (passes_on qs) m (Asked i) r = falls_asked qs m i (goes_on r) (nth (i + 1) qs) refl
 way_falls (passes_on qs) m (Counted i n) r = inl refl
 way_falls (passes_on qs) m Ended r = inl refl
+way_falls (passes_some os) m Begun r = falls_some_begun os m (some_from 0 os)
+way_falls (passes_some os) m (Asked i) r = falls_some os m i (goes_on r) (some_from (i + 1) os) refl
+way_falls (passes_some os) m (Counted i n) r = inl refl
+way_falls (passes_some os) m Ended r = inl refl
 way_falls (judges t qs) m Begun r = falls_judging qs (asked_in (wants_units t m))
 way_falls (judges t qs) m (Asked i) r = inl refl
 way_falls (judges t qs) m (Counted i n) r = falls_counted qs (asked_in (wants_units t m)) i (tallied t.enough r n) (not (is_settled (wants_units t m) t.enough (tallied t.enough r n))) (nth (i + 1) qs) refl
@@ -214,6 +304,41 @@ keeps_asked qs replies m i a r next (q, here, true_reply) h f =
     let parts : fits_at (passes_on qs) replies m (stage_at (i + 1) (next_if (goes_on r) (nth (i + 1) qs))) next × (end_at (passes_on qs) replies m (stage_at (i + 1) (next_if (goes_on r) (nth (i + 1) qs))) (taken a (replies.to_question m q)) ≡ led (replies.to_question m) a (drop i qs))
     = asked_kept qs replies m i a q next (goes_on r) (nth (i + 1) qs) here (ap goes_on true_reply) refl h f in
     record { fits = parts.0; ends = ap (λ x. end_at (passes_on qs) replies m (stage_at (i + 1) (next_if (goes_on r) (nth (i + 1) qs))) (taken a x)) true_reply ∙ parts.1 }
+
+keeps_some_begun : (os : List (Option Question)) (replies : Replies) (m : Mode) (a : Answer) (r next : Reply) → (asked m (question_of (some_from 0 os)) ≡ done → ⊥)
+    → IsTrueNext replies (asked m (question_of (some_from 0 os))) next → Keeps (passes_some os) replies m Begun a r next
+keeps_some_begun os replies m a r next h f = let parts : fits_at (passes_some os) replies m (stage_some (some_from 0 os)) next × (end_at (passes_some os) replies m (stage_some (some_from 0 os)) a ≡ led (replies.to_question m) a (somes os))
+    = begun (some_from 0 os) refl h f in
+    record { fits = parts.0; ends = parts.1 }
+  where
+    begun : (o : Option (ℕ × Question)) → some_from 0 os ≡ o → (asked m (question_of o) ≡ done → ⊥) → IsTrueNext replies (asked m (question_of o)) next
+        → fits_at (passes_some os) replies m (stage_some o) next × (end_at (passes_some os) replies m (stage_some o) a ≡ led (replies.to_question m) a (somes os))
+    begun None e h f = absurd (h refl)
+    begun (Some (j, q)) e h f = let is : IsFound os 0 j q = found_from 0 os j q e in
+        ((q, is.rest, is.here, f q m refl), ap (led (replies.to_question m) a) (sym is.same))
+
+some_kept : (os : List (Option Question)) (replies : Replies) (m : Mode) (i : ℕ) (a : Answer) (q : Question) (rest : List (Option Question)) (next : Reply) (b : Bool) (o : Option (ℕ × Question))
+    → drop i os ≡ Some q ∷ rest → b ≡ goes_on (replies.to_question m q) → some_from (i + 1) os ≡ o
+    → (asked m (question_of (next_some b o)) ≡ done → ⊥) → IsTrueNext replies (asked m (question_of (next_some b o))) next
+    → fits_at (passes_some os) replies m (stage_some (next_some b o)) next
+    × (end_at (passes_some os) replies m (stage_some (next_some b o)) (taken a (replies.to_question m q)) ≡ led (replies.to_question m) a (somes (drop i os)))
+some_kept os replies m i a q rest next false o here goes later h f = absurd (h refl)
+some_kept os replies m i a q rest next true None here goes later h f = absurd (h refl)
+some_kept os replies m i a q rest next true (Some (j, p)) here goes later h f = let is : IsFound os (i + 1) j p = found_from (i + 1) os j p later in (
+  (p, is.rest, is.here, f p m refl),
+  sym (led_some (replies.to_question m) a i os q rest here
+      ∙ (ap (λ b. either b (led (replies.to_question m) (taken a (replies.to_question m q)) (somes (drop (i + 1) os))) (taken a (replies.to_question m q))) (sym goes)
+      ∙ ap (led (replies.to_question m) (taken a (replies.to_question m q))) is.same)),
+)
+
+keeps_some : (os : List (Option Question)) (replies : Replies) (m : Mode) (i : ℕ) (a : Answer) (r next : Reply) → fits_at (passes_some os) replies m (Asked i) r
+    → (step_at (passes_some os) m (Asked i) r ≡ done → ⊥) → IsTrueNext replies (step_at (passes_some os) m (Asked i) r) next
+    → Keeps (passes_some os) replies m (Asked i) a r next
+keeps_some os replies m i a r next (q, rest, here, true_reply) h f =
+    let parts : fits_at (passes_some os) replies m (stage_some (next_some (goes_on r) (some_from (i + 1) os))) next
+    × (end_at (passes_some os) replies m (stage_some (next_some (goes_on r) (some_from (i + 1) os))) (taken a (replies.to_question m q)) ≡ led (replies.to_question m) a (somes (drop i os)))
+    = some_kept os replies m i a q rest next (goes_on r) (some_from (i + 1) os) here (ap goes_on true_reply) refl h f in
+    record { fits = parts.0; ends = ap (λ x. end_at (passes_some os) replies m (stage_some (next_some (goes_on r) (some_from (i + 1) os))) (taken a x)) true_reply ∙ parts.1 }
 
 -- a question that is there is counted
 judged_here : (t : Tally) (units : Bool) (reply : Question → Reply) (m : Mode) (n : ℕ) (a : Answer) (i : ℕ) (qs : List Question) (q : Question) → nth i qs ≡ Some q
@@ -290,6 +415,10 @@ way_keeps (passes_on qs) replies m Begun a r next fits h f g = keeps_begun qs re
 way_keeps (passes_on qs) replies m (Asked i) a r next fits h f g = keeps_asked qs replies m i a r next fits h f
 way_keeps (passes_on qs) replies m (Counted i n) a r next fits h f g = absurd (h refl)
 way_keeps (passes_on qs) replies m Ended a r next fits h f g = absurd (h refl)
+way_keeps (passes_some os) replies m Begun a r next fits h f g = keeps_some_begun os replies m a r next h f
+way_keeps (passes_some os) replies m (Asked i) a r next fits h f g = keeps_some os replies m i a r next fits h f
+way_keeps (passes_some os) replies m (Counted i n) a r next fits h f g = absurd (h refl)
+way_keeps (passes_some os) replies m Ended a r next fits h f g = absurd (h refl)
 way_keeps (judges t qs) replies m Begun a r next fits h f g = keeps_judging t qs replies m a r next h f
 way_keeps (judges t qs) replies m (Asked i) a r next fits h f g = absurd (h refl)
 way_keeps (judges t qs) replies m (Counted i n) a r next fits h f g = keeps_counted t qs replies m i n a r next fits h f
@@ -321,6 +450,24 @@ asked_stands qs reply m i a q true (Some p) here goes later h = cc
 stands_asked : (qs : List Question) (replies : Replies) (m : Mode) (i : ℕ) (a : Answer) (r : Reply) → fits_at (passes_on qs) replies m (Asked i) r
     → step_at (passes_on qs) m (Asked i) r ≡ done → taken a r ≡ led (replies.to_question m) a (drop i qs)
 stands_asked qs replies m i a r (q, here, true_reply) h = ap (taken a) true_reply ∙ asked_stands qs (replies.to_question m) m i a q (goes_on r) (nth (i + 1) qs) here (ap goes_on true_reply) refl h
+
+stands_some_begun : (os : List (Option Question)) (reply : Question → Reply) (m : Mode) (a : Answer) (o : Option (ℕ × Question)) → some_from 0 os ≡ o → asked m (question_of o) ≡ done → a ≡ led reply a (somes os)
+stands_some_begun os reply m a None e h = ap (led reply a) (sym (found_none 0 os e))
+stands_some_begun os reply m a (Some (j, q)) e h = cc
+
+some_stands : (os : List (Option Question)) (reply : Question → Reply) (m : Mode) (i : ℕ) (a : Answer) (q : Question) (rest : List (Option Question)) (b : Bool) (o : Option (ℕ × Question))
+    → drop i os ≡ Some q ∷ rest → b ≡ goes_on (reply q) → some_from (i + 1) os ≡ o → asked m (question_of (next_some b o)) ≡ done → taken a (reply q) ≡ led reply a (somes (drop i os))
+some_stands os reply m i a q rest false o here goes later h =
+    sym (led_some reply a i os q rest here ∙ ap (λ b. either b (led reply (taken a (reply q)) (somes (drop (i + 1) os))) (taken a (reply q))) (sym goes))
+some_stands os reply m i a q rest true None here goes later h =
+    sym (led_some reply a i os q rest here ∙ (ap (λ b. either b (led reply (taken a (reply q)) (somes (drop (i + 1) os))) (taken a (reply q))) (sym goes)
+    ∙ ap (led reply (taken a (reply q))) (found_none (i + 1) (drop (i + 1) os) later)))
+some_stands os reply m i a q rest true (Some (j, p)) here goes later h = cc
+
+stands_some : (os : List (Option Question)) (replies : Replies) (m : Mode) (i : ℕ) (a : Answer) (r : Reply) → fits_at (passes_some os) replies m (Asked i) r
+    → step_at (passes_some os) m (Asked i) r ≡ done → taken a r ≡ led (replies.to_question m) a (somes (drop i os))
+stands_some os replies m i a r (q, rest, here, true_reply) h = ap (taken a) true_reply
+    ∙ some_stands os (replies.to_question m) m i a q rest (goes_on r) (some_from (i + 1) os) here (ap goes_on true_reply) refl h
 
 stands_judging : (t : Tally) (qs : List Question) (replies : Replies) (m : Mode) (a : Answer) → asked (asked_in (wants_units t m)) (nth 0 qs) ≡ done
     → judged_at t m 0 a (nth 0 qs) ≡ judged_on t (wants_units t m) (judge_replies t replies m) m 0 a qs
@@ -371,6 +518,10 @@ way_stands (passes_on qs) replies m Begun a r fits h = stands_begun qs (replies.
 way_stands (passes_on qs) replies m (Asked i) a r fits h = stands_asked qs replies m i a r fits h
 way_stands (passes_on qs) replies m (Counted i n) a r fits h = refl
 way_stands (passes_on qs) replies m Ended a r fits h = refl
+way_stands (passes_some os) replies m Begun a r fits h = stands_some_begun os (replies.to_question m) m a (some_from 0 os) refl h
+way_stands (passes_some os) replies m (Asked i) a r fits h = stands_some os replies m i a r fits h
+way_stands (passes_some os) replies m (Counted i n) a r fits h = refl
+way_stands (passes_some os) replies m Ended a r fits h = refl
 way_stands (judges t qs) replies m Begun a r fits h = stands_judging t qs replies m a h
 way_stands (judges t qs) replies m (Asked i) a r fits h = refl
 way_stands (judges t qs) replies m (Counted i n) a r fits h = stands_counted t qs replies m i n a r fits h
@@ -561,6 +712,10 @@ way_ends (passes_on qs) matching answers u valid for_verdict = led_verdict answe
 way_ends (passes_on qs) matching answers u valid for_first = led_first answers u qs fresh refl
 way_ends (passes_on qs) matching answers u valid for_all = led_all answers u qs fresh
 way_ends (passes_on qs) matching answers u valid for_units = (led_gives answers u qs fresh, led_valid answers u valid qs fresh)
+way_ends (passes_some os) matching answers u valid for_verdict = led_verdict answers u (somes os) fresh refl
+way_ends (passes_some os) matching answers u valid for_first = led_first answers u (somes os) fresh refl
+way_ends (passes_some os) matching answers u valid for_all = led_all answers u (somes os) fresh
+way_ends (passes_some os) matching answers u valid for_units = (led_gives answers u (somes os) fresh, led_valid answers u valid (somes os) fresh)
 way_ends (judges t qs) matching answers u valid for_verdict = ap (λ a. a.verdict) (judged_fresh t answers u mode.Verdict qs) ∙ noted_verdict t.name (told_by t (λ q. (answers q).verdict) qs) fresh refl
 way_ends (judges t qs) matching answers u valid for_first = ap (λ a. a.errors) (judged_fresh t answers u mode.First qs) ∙ noted_first t.name (told_by t (λ q. (answers q).verdict) qs)
 way_ends (judges t qs) matching answers u valid for_all = ap (λ a. a.errors) (judged_fresh t answers u mode.All qs) ∙ noted_all t.name (told_by t (λ q. (answers q).verdict) qs) fresh
@@ -588,6 +743,7 @@ way_ends (asks_match name p text) matching answers u valid for_units = (
 pub fits_begun : (w : Way) (replies : Replies) (m : Mode) (r : Reply) → fits_at w replies m Begun r
 fits_begun (tells name ts) replies m r = tt
 fits_begun (passes_on qs) replies m r = tt
+fits_begun (passes_some os) replies m r = tt
 fits_begun (judges t qs) replies m r = tt
 fits_begun (branches q one other) replies m r = tt
 fits_begun (asks_match name p text) replies m r = tt

@@ -15,12 +15,15 @@ use Rattle.schema_node.specs.declared.context.keyword.Mode.TheVariants as mode
 use Rattle.keyword_ways.specs.declared.run.Stage.{Stage}
 use Rattle.keyword_ways.specs.declared.run.Stage.TheVariants.{Begun, Asked, Counted, Ended}
 use Rattle.keyword_ways.specs.declared.run.Progress.{Progress}
+use Rattle.keyword_ways.specs.Somes.{question_of, some_from, somes}
 use Rattle.keyword_ways.specs.Tallies.{Tally, asked_in, is_settled, says_yes, tallied, told_by, wants_units, with_child}
 
 pub data Way : Type 0 where
   -- errors of this name with these texts
   tells : Text → List Text → Way
   passes_on : List Question → Way
+  -- for each number a question, or none: those that are there
+  passes_some : List (Option Question) → Way
   judges : Tally → List Question → Way
   -- a question, the one that follows where it accepts, and the one that follows else
   branches : Question → Option Question → Option Question → Way
@@ -49,6 +52,7 @@ described name text = record { name = name; text = text }
 abbrev pub questions : Way → List Question
 questions (tells name ts) = []
 questions (passes_on qs) = qs
+questions (passes_some os) = somes os
 questions (judges t qs) = qs
 questions (branches q one other) = q ∷ (option_list one ++ option_list other)
 questions (asks_match name a text) = []
@@ -69,6 +73,7 @@ is_matched matching a = matching.matches a.pattern a.subject
 abbrev pub way_holds : Way → Matching → (Question → Bool) → Bool
 way_holds (tells name ts) matching accepts = is_nil ts
 way_holds (passes_on qs) matching accepts = list_all accepts qs
+way_holds (passes_some os) matching accepts = list_all accepts (somes os)
 way_holds (judges t qs) matching accepts = is_nil (told_by t accepts qs)
 way_holds (branches q one other) matching accepts = list_all accepts (branch (accepts q) one other)
 way_holds (asks_match name a text) matching accepts = is_matched matching a
@@ -76,6 +81,7 @@ way_holds (asks_match name a text) matching accepts = is_matched matching a
 abbrev pub way_faults : Way → Matching → Answers → List Fault
 way_faults (tells name ts) matching answers = map (λ t. own (plain name t)) ts
 way_faults (passes_on qs) matching answers = flat_map (λ q. map passed (answers q).errors) qs
+way_faults (passes_some os) matching answers = flat_map (λ q. map passed (answers q).errors) (somes os)
 way_faults (judges t qs) matching answers = map (λ x. own (plain t.name x)) (told_by t (λ q. (answers q).verdict) qs)
 way_faults (branches q one other) matching answers = flat_map (λ q. map passed (answers q).errors) (branch (answers q).verdict one other)
 way_faults (asks_match name a text) matching answers = map (λ t. own (plain name t)) (unless (is_matched matching a) text)
@@ -83,6 +89,7 @@ way_faults (asks_match name a text) matching answers = map (λ t. own (plain nam
 abbrev pub way_units : Way → Matching → (Question → Unit_) → Gives
 way_units (tells name ts) matching unit_at = record no_gives { errors = map (described name) ts }
 way_units (passes_on qs) matching unit_at = record no_gives { children = map unit_at qs }
+way_units (passes_some os) matching unit_at = record no_gives { children = map unit_at (somes os) }
 way_units (judges t qs) matching unit_at = record no_gives { children = given t.shows unit_at qs; errors = map (described t.name) (told_by t (λ q. (report_of (unit_at q)).valid) qs) }
 way_units (branches q one other) matching unit_at = record no_gives { children = map unit_at (branch (report_of (unit_at q)).valid one other) }
 way_units (asks_match name a text) matching unit_at = record no_gives { errors = map (described name) (unless (is_matched matching a) text) }
@@ -162,6 +169,14 @@ abbrev pub next_if : Bool → Option Question → Option Question
 next_if true o = o
 next_if false o = None
 
+abbrev pub next_some : Bool → Option (ℕ × Question) → Option (ℕ × Question)
+next_some true o = o
+next_some false o = None
+
+abbrev pub stage_some : Option (ℕ × Question) → Stage
+stage_some None = Ended
+stage_some (Some p) = Asked p.0
+
 -- the questions that are left of a run that judges
 abbrev pub left_to_judge : Tally → Mode → ℕ → Option Question → Option Question
 left_to_judge t m n o = next_if (not (is_settled (wants_units t m) t.enough n)) o
@@ -200,6 +215,10 @@ step_at (passes_on qs) m Begun reply = asked m (nth 0 qs)
 step_at (passes_on qs) m (Asked i) reply = asked m (next_if (goes_on reply) (nth (i + 1) qs))
 step_at (passes_on qs) m (Counted i n) reply = done
 step_at (passes_on qs) m Ended reply = done
+step_at (passes_some os) m Begun reply = asked m (question_of (some_from 0 os))
+step_at (passes_some os) m (Asked i) reply = asked m (question_of (next_some (goes_on reply) (some_from (i + 1) os)))
+step_at (passes_some os) m (Counted i n) reply = done
+step_at (passes_some os) m Ended reply = done
 step_at (judges t qs) m Begun reply = asked (asked_in (wants_units t m)) (nth 0 qs)
 step_at (judges t qs) m (Asked i) reply = done
 step_at (judges t qs) m (Counted i n) reply = asked (asked_in (wants_units t m)) (left_to_judge t m (tallied t.enough reply n) (nth (i + 1) qs))
@@ -220,6 +239,10 @@ stage_after (passes_on qs) m Begun reply = stage_at 0 (nth 0 qs)
 stage_after (passes_on qs) m (Asked i) reply = stage_at (i + 1) (next_if (goes_on reply) (nth (i + 1) qs))
 stage_after (passes_on qs) m (Counted i n) reply = Ended
 stage_after (passes_on qs) m Ended reply = Ended
+stage_after (passes_some os) m Begun reply = stage_some (some_from 0 os)
+stage_after (passes_some os) m (Asked i) reply = stage_some (next_some (goes_on reply) (some_from (i + 1) os))
+stage_after (passes_some os) m (Counted i n) reply = Ended
+stage_after (passes_some os) m Ended reply = Ended
 stage_after (judges t qs) m Begun reply = counted_at 0 0 (nth 0 qs)
 stage_after (judges t qs) m (Asked i) reply = Ended
 stage_after (judges t qs) m (Counted i n) reply = counted_at (i + 1) (tallied t.enough reply n) (left_to_judge t m (tallied t.enough reply n) (nth (i + 1) qs))
@@ -244,6 +267,7 @@ at_first Ended told a = a
 abbrev pub told_at_once : Way → Mode → Answer → Answer
 told_at_once (tells name ts) m a = noted m name a ts
 told_at_once (passes_on qs) m a = a
+told_at_once (passes_some os) m a = a
 told_at_once (judges t qs) m a = a
 told_at_once (branches q one other) m a = a
 told_at_once (asks_match name p text) m a = a
@@ -254,6 +278,10 @@ answer_after (passes_on qs) m Begun a reply = a
 answer_after (passes_on qs) m (Asked i) a reply = taken a reply
 answer_after (passes_on qs) m (Counted i n) a reply = a
 answer_after (passes_on qs) m Ended a reply = a
+answer_after (passes_some os) m Begun a reply = a
+answer_after (passes_some os) m (Asked i) a reply = taken a reply
+answer_after (passes_some os) m (Counted i n) a reply = a
+answer_after (passes_some os) m Ended a reply = a
 answer_after (judges t qs) m Begun a reply = judged_at t m 0 a (nth 0 qs)
 answer_after (judges t qs) m (Asked i) a reply = a
 answer_after (judges t qs) m (Counted i n) a reply = judged_at t m (tallied t.enough reply n) (with_child a reply) (left_to_judge t m (tallied t.enough reply n) (nth (i + 1) qs))
@@ -277,10 +305,19 @@ way_step w r reply = step_at w r.0.mode r.0.stage reply
 abbrev pub way_turn : Way → Progress × Answer → Reply → Progress × Answer
 way_turn w r reply = (record r.0 { stage = stage_after w r.0.mode r.0.stage reply }, answer_after w r.0.mode r.0.stage r.1 reply)
 
-abbrev pub way_turns : Way → ℕ
-way_turns w = length (questions w) + 2
+-- how many places its questions have
+abbrev pub places : Way → ℕ
+places (tells name ts) = 0
+places (passes_on qs) = length qs
+places (passes_some os) = length os
+places (judges t qs) = length qs
+places (branches q one other) = length (q ∷ (option_list one ++ option_list other))
+places (asks_match name a text) = 0
 
--- the turns that are left at the most, of so many questions
+abbrev pub way_turns : Way → ℕ
+way_turns w = places w + 2
+
+-- the turns that are left at the most, of so many places
 abbrev pub left_of : ℕ → Stage → ℕ
 left_of n Begun = n + 1
 left_of n (Asked i) = n - i
@@ -288,4 +325,4 @@ left_of n (Counted i k) = n - i
 left_of n Ended = 0
 
 abbrev pub way_left : Way → Stage → ℕ
-way_left w stage = left_of (length (questions w)) stage
+way_left w stage = left_of (places w) stage

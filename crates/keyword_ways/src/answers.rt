@@ -40,10 +40,10 @@ fn refused<'i>(answer: Answer<'i>) -> Answer<'i>
 }
 
 /// The answer with this first error, where it has none.
-fn with_first<'i>(answer: Answer<'i>, fault: Fault<'i>) -> Answer<'i>
+fn with_first<'i>(answer: Answer<'i>, fault: Box<Fault<'i>>) -> Answer<'i>
     ensures first { (texts : Bool) → answer_of texts result ≡ with_first (answer_of texts answer.entry)
-        (answer_of texts answer.entry).errors (fault_of texts fault.entry) }
-    ensures faults { faults_in result ≡ first_kept (faults_in answer.entry) fault.entry }
+        (answer_of texts answer.entry).errors (fault_of texts fault.entry.value) }
+    ensures faults { faults_in result ≡ first_kept (faults_in answer.entry) fault.entry.value }
 {
     match answer {
         Answer::Verdict(_) => Answer::First(Some(fault)),
@@ -80,7 +80,7 @@ fn faults_of<'i>(alloc: Global, answer: Answer<'i>) -> Result<Vec<Fault<'i>>, Ou
         Answer::First(first) => {
             let mut faults = Vec::new(alloc);
             if let Some(fault) = first {
-                faults.push(fault)?;
+                faults.push(Box::into_inner(fault))?;
             }
             Ok(faults)
         }
@@ -118,6 +118,15 @@ fn evaluated<'i>(
     let keyword = String::from_str(alloc, keyword)?;
     errors.push(ErrorDescription { keyword, text })?;
     Ok(Answer::Evaluation(false, errors))
+}
+
+/// Makes the answer say no, with no error. Where a verdict alone is wanted, this is what a keyword does that refuses.
+pub fn refuse<'i>(answer: &mut Answer<'i>)
+    ensures refused { (texts : Bool) → answer_of texts answer.new ≡ refused (answer_of texts answer.old) }
+    ensures borrows { (root : Data) → All (PassesBorrowed root) (faults_in answer.old) → All (PassesBorrowed root) (faults_in answer.new) }
+{
+    let before = mem::replace(answer, Answer::Verdict(false));
+    *answer = refused(before);
 }
 
 /// Notes an error of the keyword's own. Where a verdict is wanted, it refuses alone; in an evaluation the error stands in
@@ -176,7 +185,7 @@ fn with_own_first<'i>(
         → All (PassesBorrowed root) (faults_in after)) }
 {
     let fault = own_fault(alloc, keyword, text)?;
-    Ok(with_first(before, fault))
+    Ok(with_first(before, Box::new(alloc, fault)?))
 }
 
 /// The answer with an error of the keyword's own after the others.
@@ -269,7 +278,10 @@ fn with_reply<'i>(
         }
         Reply::First(first) => match first {
             None => Ok(before),
-            Some(error) => Ok(with_first(before, Fault::Passed(error))),
+            Some(error) => {
+                let fault = Fault::Passed(Box::into_inner(error));
+                Ok(with_first(before, Box::new(alloc, fault)?))
+            }
         },
         Reply::All(errors) => {
             let mut faults = faults_of(alloc, before)?;

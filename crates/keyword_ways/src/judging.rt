@@ -1,6 +1,6 @@
-//! A run that judges: it asks one child after the other whether it accepts, and tells errors by how many do.
+//! A run that judges: it asks one numbered question after the other, and tells errors by how many are answered by yes.
 ghost use Rattle.std.specs.Prelude.{◌≡◌, ◌+◌, ℕ, Bool, min, not};
-ghost use Rattle.schema_reports.specs.Keywords.{Answer as AnswerOfRun};
+ghost use Rattle.schema_reports.specs.Keywords.{Answer as AnswerOfRun, Question};
 ghost use Rattle.schema_node.specs.KeywordViews.{reply_of};
 ghost use Rattle.keyword_ways.specs.Asking.{nth_at};
 ghost use Rattle.keyword_ways.specs.Items.{child_here, each_from};
@@ -15,7 +15,7 @@ use schema_node::context::keyword::{Mode, Reply};
 /// What a turn of a run that judges does.
 #[derive(Clone, Copy)]
 pub enum Judging {
-    /// It asks the child of this number, in this mode.
+    /// It asks the question of this number, in this mode.
     Asks(usize, Mode),
     /// It ends the run, in which so many accepted.
     Judged(usize),
@@ -23,8 +23,8 @@ pub enum Judging {
     Over,
 }
 
-/// How a keyword judges: how many children it has, after how many that accept further ones change nothing, and whether it
-/// gives their units.
+/// How a keyword judges: how many questions it has, after how many that are answered by yes further ones change nothing, and
+/// whether it gives their units.
 #[derive(Clone, Copy)]
 pub struct Judge {
     pub count: usize,
@@ -78,10 +78,10 @@ fn judge_at(
     units: bool,
     run: &mut Progress,
 ) -> Judging
-    ensures stage { run.new ≡ record run.old { stage = counted_of (each_from child_here 0 count) accepted place } }
-    ensures step { judging_turn result ≡ asked (asked_in units) (nth_at (each_from child_here 0 count) place) }
-    ensures answer { (t : Tally) (m : Mode) (a : AnswerOfRun) → judging_answer t m a result
-        ≡ judged_at t m accepted a (nth_at (each_from child_here 0 count) place) }
+    ensures stage { (f : ℕ → Question) → run.new ≡ record run.old { stage = counted_of (each_from f 0 count) accepted place } }
+    ensures step { (f : ℕ → Question) → judging_turn f result ≡ asked (asked_in units) (nth_at (each_from f 0 count) place) }
+    ensures answer { (f : ℕ → Question) (t : Tally) (m : Mode) (a : AnswerOfRun) → judging_answer t m a result
+        ≡ judged_at t m accepted a (nth_at (each_from f 0 count) place) }
 {
     if let Some(place) = place {
         if place < count {
@@ -96,9 +96,9 @@ fn judge_at(
 /// The place after the last, where there is one.
 #[tactic(auto, using(crate::proofs::EachQuestion::nth_each_past))]
 fn place_after(last: usize, count: usize, settled: bool) -> Option<usize>
-    ensures next { nth_at (each_from child_here 0 count) result ≡ next_if (not settled) (nth (last + 1) (each_from child_here 0 count)) }
-    ensures stage { (n : ℕ) → counted_of (each_from child_here 0 count) n result
-        ≡ counted_at (last + 1) n (next_if (not settled) (nth (last + 1) (each_from child_here 0 count))) }
+    ensures next { (f : ℕ → Question) → nth_at (each_from f 0 count) result ≡ next_if (not settled) (nth (last + 1) (each_from f 0 count)) }
+    ensures stage { (f : ℕ → Question) (n : ℕ) → counted_of (each_from f 0 count) n result
+        ≡ counted_at (last + 1) n (next_if (not settled) (nth (last + 1) (each_from f 0 count))) }
 {
     if settled {
         return None;
@@ -106,18 +106,18 @@ fn place_after(last: usize, count: usize, settled: bool) -> Option<usize>
     if last < count { Some(last + 1) } else { None }
 }
 
-/// Takes a turn of a run that judges.
+/// Takes a turn of a run that judges, whatever the question of a number is.
 pub fn judge_on(judge: Judge, run: &mut Progress, reply: Reply<'_>) -> Judging
-    ensures stage { (texts : Bool) (t : Tally) → t.enough ≡ judge.enough → t.shows ≡ judge.shows
+    ensures stage { (texts : Bool) (f : ℕ → Question) (t : Tally) → t.enough ≡ judge.enough → t.shows ≡ judge.shows
         → run.new ≡ record run.old {
-          stage = stage_after (judges t (each_from child_here 0 judge.count)) run.old.mode run.old.stage
+          stage = stage_after (judges t (each_from f 0 judge.count)) run.old.mode run.old.stage
               (reply_of texts reply.entry);
         } }
-    ensures step { (texts : Bool) (t : Tally) → t.enough ≡ judge.enough → t.shows ≡ judge.shows
-        → step_at (judges t (each_from child_here 0 judge.count)) run.old.mode run.old.stage (reply_of texts reply.entry)
-        ≡ judging_turn result }
-    ensures answer { (texts : Bool) (t : Tally) (a : AnswerOfRun) → t.enough ≡ judge.enough → t.shows ≡ judge.shows
-        → answer_after (judges t (each_from child_here 0 judge.count)) run.old.mode run.old.stage a (reply_of texts reply.entry)
+    ensures step { (texts : Bool) (f : ℕ → Question) (t : Tally) → t.enough ≡ judge.enough → t.shows ≡ judge.shows
+        → step_at (judges t (each_from f 0 judge.count)) run.old.mode run.old.stage (reply_of texts reply.entry)
+        ≡ judging_turn f result }
+    ensures answer { (texts : Bool) (f : ℕ → Question) (t : Tally) (a : AnswerOfRun) → t.enough ≡ judge.enough → t.shows ≡ judge.shows
+        → answer_after (judges t (each_from f 0 judge.count)) run.old.mode run.old.stage a (reply_of texts reply.entry)
         ≡ judging_answer t run.old.mode a result }
 {
     let units = wants_units(judge.shows, run.mode);
@@ -135,4 +135,21 @@ pub fn judge_on(judge: Judge, run: &mut Progress, reply: Reply<'_>) -> Judging
             Judging::Over
         }
     }
+}
+
+/// Takes a turn of a run that judges its children, each at the keyword's own place.
+pub fn judge_children(judge: Judge, run: &mut Progress, reply: Reply<'_>) -> Judging
+    ensures stage { (texts : Bool) (t : Tally) → t.enough ≡ judge.enough → t.shows ≡ judge.shows
+        → run.new ≡ record run.old {
+          stage = stage_after (judges t (each_from child_here 0 judge.count)) run.old.mode run.old.stage
+              (reply_of texts reply.entry);
+        } }
+    ensures step { (texts : Bool) (t : Tally) → t.enough ≡ judge.enough → t.shows ≡ judge.shows
+        → step_at (judges t (each_from child_here 0 judge.count)) run.old.mode run.old.stage (reply_of texts reply.entry)
+        ≡ judging_turn child_here result }
+    ensures answer { (texts : Bool) (t : Tally) (a : AnswerOfRun) → t.enough ≡ judge.enough → t.shows ≡ judge.shows
+        → answer_after (judges t (each_from child_here 0 judge.count)) run.old.mode run.old.stage a (reply_of texts reply.entry)
+        ≡ judging_answer t run.old.mode a result }
+{
+    judge_on(judge, run, reply)
 }

@@ -1,19 +1,27 @@
 //! The ways in which a keyword goes about an instance: it tells its errors, or passes on what children answer, or judges by how
 //! many children accept, or branches by one child's verdict, or asks whether a pattern matches.
 //!
-//! A keyword type stands on them so. A definition names the way of each of its keywords (`specs/Ways`), and what the keywords
-//! say follows from it (`words_of`, in `specs/WayWords`). Their laws are `turn_laws` and `function_laws` (`specs/WayLaws`), for
-//! which two facts are left to show: that the questions do not depend on texts, and that each is asked at a place that is there
-//! (`specs/Places` has lemmas). The run is a `Progress`, and a turn is taken by `tell_on`, by `onward` or `next_number`, by
-//! `judge_on`, by `branch_on` or by `match_on`, whose clauses speak of the way; `note` adds an error of the keyword's own.
+//! An author's keyword is an `OwnKeyword`: it says its way (`specs/Ways`) and takes its turns, and `Keyword` makes of it what the
+//! engine takes, with all laws. A keyword that asks nothing is a `LeafKeyword`, one that judges a `JudgeKeyword`; their turns are
+//! `turn_leaf` and `turn_judge`. The turns of the other ways are taken by `onward` or `next_number`, by `branch_on` or by
+//! `match_on`, whose clauses speak of the way; `note` adds an error of the keyword's own, and `refuse` says no where a verdict
+//! alone is wanted. `specs/Places` has lemmas that questions are asked at places that are there.
+//!
+//! A type that is `Validate` itself names the way of each of its keywords, and what they say follows from it (`words_of`, in
+//! `specs/WayWords`). Their laws are `turn_laws` and `function_laws` (`specs/WayLaws`), for which two facts are left to show: that
+//! the questions do not depend on texts, and that each is asked at a place that is there.
 #![tactic(auto)]
 
 pub mod answers;
 pub mod branching;
 pub mod items;
+pub mod judge;
 pub mod judging;
+pub mod leaf;
 pub mod matching;
 pub mod members;
+pub mod own;
 pub mod passing;
+pub mod planned;
 pub mod run;
 pub mod telling;

@@ -1,12 +1,12 @@
 //! A run that passes on: it asks one question after the other, and passes on what each answers.
-ghost use Rattle.std.specs.Prelude.{All, ◌≡◌, ◌≤◌, ◌+◌, ◌^◌, ◌<◌, ℕ, Bool, List, length, option_map, IfOk};
+ghost use Rattle.std.specs.Prelude.{All, ◌≡◌, ◌≤◌, ◌+◌, ◌^◌, ◌<◌, ℕ, Bool, List, Option, length, option_map, IfOk};
 ghost use Rattle.serde_json.specs.Data.{Data};
 ghost use Rattle.schema_reports.specs.ReportViews.{BorrowsItsPlace};
 ghost use Rattle.schema_reports.specs.Keywords.{Question};
 ghost use Rattle.schema_node.specs.FaultViews.{errors_in, faults_in, PassesBorrowed};
 ghost use Rattle.schema_node.specs.KeywordViews.{answer_of, reply_of, turn_of};
 ghost use Rattle.schema_node.specs.declared.context.keyword.Mode.{Mode as ModeOfRun};
-ghost use Rattle.keyword_ways.specs.Asking.{IsNext, nth_at, stage_of};
+ghost use Rattle.keyword_ways.specs.Asking.{IsNext, IsNextFrom, nth_at, stage_of};
 ghost use Rattle.keyword_ways.specs.Items.{child_here, each_from};
 ghost use Rattle.keyword_ways.specs.Ways.{answer_after, asked, passes_on, way_step, way_turn};
 
@@ -37,7 +37,8 @@ fn take_asked<'i>(
     }
 }
 
-/// Takes a reply, and says which question comes next, by its place in order. There are at most `limit` questions.
+/// Takes a reply, and says which question comes next, by its place in order; where not every number has a question, says from
+/// which number on the next one is looked for. There are at most `limit` of them.
 pub fn onward<'i>(
     alloc: Global,
     limit: usize,
@@ -49,6 +50,8 @@ pub fn onward<'i>(
         ≡ answer_after (passes_on qs) run.now.mode run.now.stage (answer_of texts answer.old) (reply_of texts reply.entry)) }
     ensures next { IfOk result (λ place. (texts : Bool) (qs : List Question) → length qs ≤ limit
         → IsNext qs run.now.stage (reply_of texts reply.entry) place) }
+    ensures next_from { IfOk result (λ start. (texts : Bool) (os : List (Option Question)) → length os ≤ limit
+        → IsNextFrom os run.now.stage (reply_of texts reply.entry) start) }
     ensures borrows { IfOk result (λ _. (root : Data) → All (BorrowsItsPlace root) (errors_in reply.entry)
         → All (PassesBorrowed root) (faults_in answer.old) → All (PassesBorrowed root) (faults_in answer.new)) }
 {

@@ -379,3 +379,12 @@ fn tells_who_accepts_null(rt: HostRuntime) {
     assert!(rt; accepts_null(&Nullable));
     assert!(rt; !accepts_null(&NotNullable));
 }
+
+#[test]
+fn orders_the_drafts(rt: HostRuntime) {
+    assert!(rt; Draft::Draft4 < Draft::Draft6);
+    assert!(rt; Draft::Draft6 < Draft::Draft7);
+    assert!(rt; Draft::Draft7 < Draft::Draft201909);
+    assert!(rt; Draft::Draft201909 < Draft::Draft202012);
+    assert!(rt; Draft::Draft202012 < Draft::Unknown);
+}

@@ -285,6 +285,10 @@ fn two_refusals<'i>(
 fn errors_in_order(rt: HostRuntime) -> Result<(), OutOfMemory> {
     let alloc = rt.alloc();
     let list = two_refusals(alloc, &Value::Null)?;
-    assert_eq!(rt; ErrorIterator::new(list).count(), 2);
+    let mut errors = ErrorIterator::new(list);
+    assert_eq!(rt; errors.size_hint(), (2, Some(2)));
+    drop(errors.next());
+    assert_eq!(rt; errors.size_hint(), (1, Some(1)));
+    assert_eq!(rt; errors.count(), 1);
     Ok(())
 }

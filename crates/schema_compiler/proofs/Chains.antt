@@ -4,6 +4,7 @@ use Rattle.std.specs.Prelude.{Option, Some, None, option_map, slice_get}
 use Rattle.std.proofs.lemmas.Bool.{eqb-true, eq-eqb}
 use Rattle.std.proofs.lemmas.List.{length-map}
 use Rattle.std.proofs.lemmas.Option.{slice_get-map, slice_get_within}
+use Rattle.schema_reports.specs.Instance.{Text}
 use Rattle.schema_reports.specs.Plan.{Key}
 use Rattle.schema_compiler.specs.KeyViews.{key_of}
 use Rattle.schema_compiler.specs.KeyHashes.{IsChained, IsLastBelow, hash_of, hash_of_parts}
@@ -57,31 +58,34 @@ module _ (hashes : List ℕ) (earlier : List (Option ℕ)) (last last' : ℕ →
 
 -- ---- a key is looked for
 
-module _ {S P : Type 0} (point : S → P) (ks : List (SchemaKey S)) (k : SchemaKey S) where
+module _ {S P : Type 0} (point : S → P) (input : S → List Text) (alike : (s t : S) → point s ≡ point t → input s ≡ input t) (ks : List (SchemaKey S)) (k : SchemaKey S) where
   -- one key has one hash
-  same_hash : (a : SchemaKey S) → key_of point a ≡ key_of point k → hash_of a ≡ hash_of k
-  same_hash a e = ap (λ (q : Key P). hash_of_parts q.target.place.document q.location q.base) e
+  same_hash : (a : SchemaKey S) → key_of point a ≡ key_of point k → hash_of input a ≡ hash_of input k
+  same_hash a e =
+      let parts : hash_of input a ≡ hash_of_parts k.place.document k.location k.base (input a.state) = ap (λ (q : Key P). hash_of_parts q.target.place.document q.location q.base (input a.state)) e in
+      let states : input a.state ≡ input k.state = alike a.state k.state (ap (λ (q : Key P). q.target.state) e) in
+      parts ∙ ap (hash_of_parts k.place.document k.location k.base) states
 
-  hash_at : (j : ℕ) → slice_get (map (key_of point) ks) j ≡ Some (key_of point k) → slice_get (map hash_of ks) j ≡ Some (hash_of k)
+  hash_at : (j : ℕ) → slice_get (map (key_of point) ks) j ≡ Some (key_of point k) → slice_get (map (hash_of input) ks) j ≡ Some (hash_of input k)
   hash_at j e =
-      let go : (o : Option (SchemaKey S)) → option_map (key_of point) o ≡ Some (key_of point k) → option_map hash_of o ≡ Some (hash_of k)
+      let go : (o : Option (SchemaKey S)) → option_map (key_of point) o ≡ Some (key_of point k) → option_map (hash_of input) o ≡ Some (hash_of input k)
       = elim [ None ↦ λ h. absurd (let g : ⊥ = cc in g) | Some a ↦ λ h. ap Some (same_hash a (some_is (key_of point a) (key_of point k) h)) ] in
-      slice_get-map hash_of ks j ∙ go (slice_get ks j) (sym (slice_get-map (key_of point) ks j) ∙ e)
+      slice_get-map (hash_of input) ks j ∙ go (slice_get ks j) (sym (slice_get-map (key_of point) ks j) ∙ e)
 
   -- the key stands nowhere above the number that comes next
   pub record Seeks (next : Option ℕ) : Type 0 where
     pub bound : ℕ
-    pub last : IsLastBelow (map hash_of ks) (hash_of k) bound next
+    pub last : IsLastBelow (map (hash_of input) ks) (hash_of input k) bound next
     pub below : (j : ℕ) → slice_get (map (key_of point) ks) j ≡ Some (key_of point k) → j < bound
 
   pub seeks_within : (m : ℕ) → Seeks (Some m) → m < length ks
-  seeks_within m s = let w = slice_get_within (map hash_of ks) m (hash_of k) s.last.1 in let l = length-map ks (λ (a : SchemaKey S). hash_of a) in omega arith
+  seeks_within m s = let w = slice_get_within (map (hash_of input) ks) m (hash_of input k) s.last.1 in let l = length-map ks (λ (a : SchemaKey S). hash_of input a) in omega arith
 
-  pub seeks_earlier : (earlier : List (Option ℕ)) (last : ℕ → Option ℕ) (m : ℕ) (o : Option ℕ) → IsChained (map hash_of ks) earlier last → Seeks (Some m) → slice_get earlier m ≡ Some o
+  pub seeks_earlier : (earlier : List (Option ℕ)) (last : ℕ → Option ℕ) (m : ℕ) (o : Option ℕ) → IsChained (map (hash_of input) ks) earlier last → Seeks (Some m) → slice_get earlier m ≡ Some o
       → (slice_get (map (key_of point) ks) m ≡ Some (key_of point k) → ⊥) → Seeks o
   seeks_earlier earlier last m o c s at differs = record {
     bound = m;
-    last = c.links m (hash_of k) o s.last.1 at;
+    last = c.links m (hash_of input k) o s.last.1 at;
     below = λ j e. elim (equal_or j m) [
       | inl same ↦ absurd (differs (subst (λ i. slice_get (map (key_of point) ks) i ≡ Some (key_of point k)) same e))
       | inr other ↦ elim (below_or j m) [ inl h ↦ h | inr h ↦ absurd (s.last.2 j (omega (arith, other)) (s.below j e) (hash_at j e)) ]

@@ -1,5 +1,6 @@
 -- Only a vocabulary that is not the standard's has to be declared.
-use Rattle.std.proofs.Common.{◌≡◌, List, [], ◌∷◌, ◌++◌, map, refl, ap}
+use Rattle.std.proofs.Common.{◌≡◌, Bool, List, [], ◌∷◌, ◌++◌, ◌||◌, map, refl, ap}
+use Rattle.std.specs.List.{list_any}
 use Rattle.std.specs.Prelude.{flat_map}
 use Rattle.schema_reports.specs.Drafts.{Vocabularies, custom_vocabulary, core_vocabulary, applicator_vocabulary, unevaluated_vocabulary, validation_vocabulary, metadata_vocabulary, format_vocabulary, format_annotation_vocabulary, format_assertion_vocabulary, content_vocabulary}
 use Rattle.schema_reports.specs.VocabularySets.{custom_of}
@@ -19,3 +20,8 @@ module _ {S K R : Type 0} (w : Parts S K R) where
   of_custom (format_annotation_vocabulary ∷ vs) = of_custom vs
   of_custom (format_assertion_vocabulary ∷ vs) = of_custom vs
   of_custom (content_vocabulary ∷ vs) = of_custom vs
+
+-- a test of what is mapped
+pub any_mapped : {A B : Type 0} (p : B → Bool) (f : A → B) (xs : List A) → list_any (λ x. p (f x)) xs ≡ list_any p (map f xs)
+any_mapped p f [] = refl
+any_mapped p f (x ∷ xs) = ap (λ b. p (f x) || b) (any_mapped p f xs)

@@ -7,7 +7,7 @@ use Rattle.schema_reports.specs.Instance.{Text}
 use Rattle.schema_reports.specs.Making.{Builtin}
 use Rattle.schema_reports.specs.Parts.{Parts}
 use Rattle.schema_reports.specs.Pointer.{joined}
-use Rattle.schema_reports.specs.Plan.{Edge, Key, Part, Plan, Reference, found, making, part, part_made, builtin_part, parts, plan_alone, plan_of, reference, reference_edge, reference_named, reference_part, sorted, these, to_ref}
+use Rattle.schema_reports.specs.Plan.{Edge, Key, Part, Plan, Reference, found, making, part, part_made, builtin_part, parts, plan_alone, plan_of, reference, reference_edge, reference_named, reference_part, sorted, these, to_ref, option_list}
 use Rattle.schema_reports.specs.Reach.{builtin_edges, lone_ref, maker_edges, members_edges, reference_edges}
 use Rattle.schema_reports.specs.Refusals.{Cause, builtin_causes, lookup_causes, maker_causes, members_causes, reference_causes, reference_not_text, schema_causes}
 use Rattle.schema_reports.specs.Units.{object_annotations, object_of, unknown}
@@ -15,7 +15,7 @@ use Rattle.schema_reports.specs.Guarded.{NodeEdge, NodePart, NodePlan, node_refe
 use Rattle.serde_json.specs.View.{view}
 use Rattle.serde_json.specs.declared.value.Value.{Value}
 use Rattle.schema_node.specs.NodeTable.{NodeEntry}
-use Rattle.schema_compiler.specs.Compiling.{member_causes, member_edges, object_edges, option_one, reference_asked}
+use Rattle.schema_compiler.specs.Compiling.{member_causes, member_edges, object_edges, reference_asked}
 use Rattle.schema_compiler.specs.Refusing.{Names, Refused}
 use Rattle.schema_compiler.specs.Filling.{IsMadePart, IsPlan, LeadsTo}
 use Rattle.schema_compiler.specs.Steps.{IsAnswered, MakesPart, MakesPlan, alone}
@@ -93,7 +93,7 @@ module _ {S K R : Type 0} (w : Parts S K R) (k : Key S) where
 
   -- ---- a reference
 
-  pub text_refused : (limit : ℕ) (keys : List (Key S)) (e : BuildError) (name : Text) (kind : Reference) (text : Text) (d : Data) → d ≡ string text → Refused w limit (option_one (reference_asked w k name kind text)) (lookup_causes w (found w k kind text)) keys e
+  pub text_refused : (limit : ℕ) (keys : List (Key S)) (e : BuildError) (name : Text) (kind : Reference) (text : Text) (d : Data) → d ≡ string text → Refused w limit (option_list (reference_asked w k name kind text)) (lookup_causes w (found w k kind text)) keys e
       → Refused w limit (reference_edges w k name kind d) (reference_causes w k name kind d) keys e
   text_refused limit keys e name kind text d is r = subst (λ x. Refused w limit (reference_edges w k name kind x) (reference_causes w k name kind x) keys e) (sym is)
       (subst (λ es. Refused w limit es (lookup_causes w (found w k kind text)) keys e) (reference_edges_of w k name kind text) r)

@@ -1,15 +1,16 @@
 -- Keywords put into their places one after another are sorted, those of one priority in the order in which they came.
-use Rattle.std.proofs.Common.{inl, inr, ℕ, zero, suc, ◌≡◌, ◌∙◌, ◌<◌, ◌≤◌, ◌++◌, Bool, true, false, cond, List, [], ◌∷◌, length, map, ap, sym, refl, subst, arith}
-use Rattle.std.specs.Prelude.{Some, nat_le, slice_get, slice_index_or, option_map, insert}
-use Rattle.std.proofs.lemmas.Option.{slice_get-map, slice_get_read, slice_get_within}
-use Rattle.std.proofs.lemmas.List.{length-map}
-use Rattle.schema_compiler.proofs.Lists.{some_is}
-use Rattle.std.proofs.lemmas.Bool.{leb-true, le-leb}
+use Rattle.std.proofs.Common.{inl, inr, ℕ, zero, suc, ◌≡◌, ◌∙◌, ◌<◌, ◌+◌, ◌++◌, Bool, true, false, cond, ltb, List, [], ◌∷◌, length, map, ap, sym, refl, subst, arith}
+use Rattle.std.specs.Prelude.{None, Some, insert, nat_le, not, unwrap_or}
+use Rattle.std.specs.List.{position_or_len}
+use Rattle.std.proofs.lemmas.List.Sums.{prefix_len-le-length}
+use Rattle.std.proofs.lemmas.Bool.{leb-true, le-leb, ltb-false, ltb-true}
 use Rattle.std.proofs.lemmas.Bool.Decides.{leb_tells}
 use Rattle.schema_reports.specs.Parts.{Parts}
 use Rattle.schema_reports.specs.Plan.{Key, Part, placed, sorted}
 use Rattle.schema_reports.specs.Guarded.{NodePart}
 use Rattle.schema_node.specs.NodeTable.{NodeEntry}
+use Rattle.schema_node.specs.NodeViews.{entry_of}
+use Rattle.schema_node.specs.declared.node.Entry.{Entry}
 use Rattle.schema_compiler.specs.Ordering.{placed_after}
 use Rattle.schema_compiler.specs.Filling.{AreParts, IsPart}
 
@@ -68,25 +69,26 @@ module _ {S K R C : Type 0} (w : Parts S K R) (shape : C → K) (keys : List (Ke
 
 -- ---- the place of a keyword
 
-pub placed_at : {K : Type 0} (xs : List (NodePart K)) (n : ℕ) (x : NodePart K)
-    → ((j : ℕ) (y : NodePart K) → j < n → slice_get xs j ≡ Some y → y.priority ≤ x.priority)
-    → ((y : NodePart K) → slice_get xs n ≡ Some y → x.priority < y.priority)
-    → n ≤ length xs → insert xs n x ≡ placed_after x xs
-placed_at [] zero x low high h = refl
-placed_at [] (suc n) x low high h = absurd (omega arith)
-placed_at (y ∷ ys) zero x low high h = let e : nat_le y.priority x.priority ≡ false = not_le y.priority x.priority (high y refl) in rw e refl
-placed_at (y ∷ ys) (suc n) x low high h =
-    let e : nat_le y.priority x.priority ≡ true = le-leb y.priority x.priority (low 0 y (omega arith) refl) in
-    rw e (ap (λ zs. y ∷ zs) (placed_at ys n x (λ j z l at. low (suc j) z (omega arith) at) (λ z at. high z at) (omega arith)))
+-- what `position` finds, or else the length
+pub first_or_end : {A : Type 0} (test : A → Bool) (xs : List A)
+    → unwrap_or (cond (ltb (position_or_len test xs) (length xs)) (Some (position_or_len test xs)) None) (length xs) ≡ position_or_len test xs
+first_or_end test xs =
+    let n = position_or_len test xs in
+    let within = prefix_len-le-length (λ x. not (test x)) xs in
+    let go : (b : Bool) → ltb n (length xs) ≡ b → unwrap_or (cond b (Some n) None) (length xs) ≡ n = elim [ true ↦ λ e. refl | false ↦ λ e. let l = ltb-false n (length xs) e in omega (arith, within) ] in
+    go (ltb n (length xs)) refl
 
--- one that is read from the list
-pub read_at : {A B : Type 0} (v : A → B) (xs : List A) (i n : ℕ) (x : A) (y : B) → n ≡ i → i < length xs → x ≡ slice_index_or xs i x → slice_get (map v xs) n ≡ Some y → v x ≡ y
-read_at v xs i n x y e h is at =
-    let here : slice_get xs i ≡ Some x = slice_get_read xs (length xs) i x refl h is in
-    some_is (v x) y (sym (ap (option_map v) here) ∙ sym (slice_get-map v xs i) ∙ sym (ap (slice_get (map v xs)) e) ∙ at)
-
-pub none_at : {A B : Type 0} (v : A → B) (xs : List A) (n : ℕ) (y : B) → length xs ≤ n → slice_get (map v xs) n ≡ Some y → ⊥
-none_at v xs n y h at = let w = slice_get_within (map v xs) n y at in let l : length (map v xs) ≡ length xs = length-map xs v in omega arith
+-- the place before the first keyword of a higher priority
+pub placed_first : {C : Type 0} (es : List (Entry C)) (x : NodePart C) → insert (map entry_of es) (position_or_len (λ e. ltb x.priority e.priority) es) x ≡ placed_after x (map entry_of es)
+placed_first [] x = refl
+placed_first (e ∷ es) x =
+    let n = position_or_len (λ (y : Entry _). ltb x.priority y.priority) es in
+    let go : (b : Bool) → ltb x.priority e.priority ≡ b
+    → insert (map entry_of (e ∷ es)) (cond (not b) (1 + n) 0) x ≡ placed_after x (map entry_of (e ∷ es)) = elim [
+      | true ↦ λ h. rw (not_le e.priority x.priority (ltb-true x.priority e.priority h)) refl
+      | false ↦ λ h. let more : 1 + n ≡ suc n = omega arith in rw (more, le-leb e.priority x.priority (ltb-false x.priority e.priority h)) (ap (λ zs. entry_of e ∷ zs) (placed_first es x))
+    ] in
+    go (ltb x.priority e.priority) refl
 
 pub mapped_insert : {A B : Type 0} (v : A → B) (xs : List A) (n : ℕ) (x : A) → map v (insert xs n x) ≡ insert (map v xs) n (v x)
 mapped_insert v xs zero x = refl

@@ -9,7 +9,7 @@ use Rattle.schema_reports.specs.Plan.{Edge, Key, Reference, found, is_self, ok_o
 use Rattle.schema_reports.specs.Reach.{Reached, reference_edges}
 use Rattle.schema_reports.specs.Refusals.{Cause, lookup_causes, request_causes, undeclared}
 use Rattle.schema_node.specs.NodeTable.{NodeEntry}
-use Rattle.schema_compiler.specs.Compiling.{IsDeclared, Settled, option_one, reference_asked, StandsBelow}
+use Rattle.schema_compiler.specs.Compiling.{IsDeclared, Settled, reference_asked, StandsBelow}
 use Rattle.schema_compiler.specs.Refusing.{IsRefusal, Names, Refused}
 use Rattle.schema_compiler.specs.Filling.{IsGrown, IsStep, IsTable, LeadsTo}
 use Rattle.schema_compiler.specs.Steps.{IsAnswered, IsEdgeTo}
@@ -47,27 +47,27 @@ module _ {S K R : Type 0} (w : Parts S K R) where
 
   pub target_refused : (limit : ℕ) (k : Key S) (name : Text) (kind : Reference) (text : Text) (edge : Edge S) (cs : List Cause) (keys : List (Key S)) (e : BuildError)
       → is_self w k kind text ≡ false → reference_edge w k name kind text ≡ Some edge → edge.is_reference ≡ true → Names (flat_map (undeclared w) edge.key.target.vocabularies) e
-      → Refused w limit (option_one (reference_asked w k name kind text)) cs keys e
+      → Refused w limit (option_list (reference_asked w k name kind text)) cs keys e
   target_refused limit k name kind text edge cs keys e self at is h =
-      subst (λ o. Refused w limit (option_one o) cs keys e) (sym (asked_edge k name kind text edge self at)) (vocabulary_refused w limit edge cs keys e is h)
+      subst (λ o. Refused w limit (option_list o) cs keys e) (sym (asked_edge k name kind text edge self at)) (vocabulary_refused w limit edge cs keys e is h)
 
   -- what a reference asks for, as the definitions have it
-  pub reference_edges_of : (k : Key S) (name : Text) (kind : Reference) (text : Text) → option_one (reference_asked w k name kind text) ≡ reference_edges w k name kind (string text)
+  pub reference_edges_of : (k : Key S) (name : Text) (kind : Reference) (text : Text) → option_list (reference_asked w k name kind text) ≡ reference_edges w k name kind (string text)
   reference_edges_of k name kind text =
-      let one : (o : Option (Edge S)) → option_one o ≡ option_list o = elim [ None ↦ refl | Some e ↦ refl ] in
-      let go : (b : Bool) → option_one (cond b None (reference_edge w k name kind text)) ≡ cond b [] (option_list (reference_edge w k name kind text)) = elim [ true ↦ refl | false ↦ one (reference_edge w k name kind text) ] in
+      let one : (o : Option (Edge S)) → option_list o ≡ option_list o = elim [ None ↦ refl | Some e ↦ refl ] in
+      let go : (b : Bool) → option_list (cond b None (reference_edge w k name kind text)) ≡ cond b [] (option_list (reference_edge w k name kind text)) = elim [ true ↦ refl | false ↦ one (reference_edge w k name kind text) ] in
       go (is_self w k kind text)
 
   module _ {C : Type 0} (shape : C → K) (limit : ℕ) where
     -- the step to what one edge leads to
     pub step_asked : (o : Option (Edge S)) (edge : Edge S) (cs : List Cause) (keys keys' : List (Key S)) (nodes nodes' : List (NodeEntry C)) → o ≡ Some edge → cs ≡ []
-        → IsTable w shape limit keys' nodes' → IsGrown (Reached w edge.key) keys keys' nodes nodes' → Settled w keys' edge → IsStep w shape limit (option_one o) cs keys keys' nodes nodes'
+        → IsTable w shape limit keys' nodes' → IsGrown (Reached w edge.key) keys keys' nodes nodes' → Settled w keys' edge → IsStep w shape limit (option_list o) cs keys keys' nodes nodes'
     step_asked o edge cs keys keys' nodes nodes' e clean t g s =
-        subst (λ q. IsStep w shape limit (option_one q) cs keys keys' nodes nodes') (sym e) (subst (λ xs. IsStep w shape limit (edge ∷ []) xs keys keys' nodes nodes') (sym clean) (step_edge w shape limit edge keys keys' nodes nodes' t g s))
+        subst (λ q. IsStep w shape limit (option_list q) cs keys keys' nodes nodes') (sym e) (subst (λ xs. IsStep w shape limit (edge ∷ []) xs keys keys' nodes nodes') (sym clean) (step_edge w shape limit edge keys keys' nodes nodes' t g s))
 
-    pub step_skipped : (o : Option (Edge S)) (cs : List Cause) (keys : List (Key S)) (nodes : List (NodeEntry C)) → o ≡ None → cs ≡ [] → IsTable w shape limit keys nodes → IsStep w shape limit (option_one o) cs keys keys nodes nodes
+    pub step_skipped : (o : Option (Edge S)) (cs : List Cause) (keys : List (Key S)) (nodes : List (NodeEntry C)) → o ≡ None → cs ≡ [] → IsTable w shape limit keys nodes → IsStep w shape limit (option_list o) cs keys keys nodes nodes
     step_skipped o cs keys nodes e clean t =
-        subst (λ q. IsStep w shape limit (option_one q) cs keys keys nodes nodes) (sym e) (subst (λ xs. IsStep w shape limit [] xs keys keys nodes nodes) (sym clean) (step_none w shape limit keys nodes t))
+        subst (λ q. IsStep w shape limit (option_list q) cs keys keys nodes nodes) (sym e) (subst (λ xs. IsStep w shape limit [] xs keys keys nodes nodes) (sym clean) (step_none w shape limit keys nodes t))
 
     -- what was asked for got the edge to its key
     pub is_answered : (o : Option (Edge S)) (edge : Edge S) (cs : List Cause) (keys keys' : List (Key S)) (nodes nodes' : List (NodeEntry C)) (e : NodeEdge) (path : Text) → o ≡ Some edge → cs ≡ [] → IsDeclared w edge → path ≡ edge.path
@@ -85,8 +85,8 @@ module _ {S K R : Type 0} (w : Parts S K R) where
         subst (λ q. IsAnswered w shape limit keys keys nodes nodes q cs None) (sym is) (record { step = step_skipped None cs keys nodes refl clean t; leads = tt; filled = tt })
 
   pub asked_refused : (limit : ℕ) (o : Option (Edge S)) (edge : Edge S) (cs : List Cause) (keys : List (Key S)) (e : BuildError) → o ≡ Some edge
-      → IsRefusal limit keys (Reached w edge.key) (StandsBelow w edge.key) e → Refused w limit (option_one o) cs keys e
-  asked_refused limit o edge cs keys e is h = subst (λ q. Refused w limit (option_one q) cs keys e) (sym is) (edge_refused w limit edge cs keys e h)
+      → IsRefusal limit keys (Reached w edge.key) (StandsBelow w edge.key) e → Refused w limit (option_list o) cs keys e
+  asked_refused limit o edge cs keys e is h = subst (λ q. Refused w limit (option_list q) cs keys e) (sym is) (edge_refused w limit edge cs keys e h)
 
   -- ---- what an edge, or none, tells of what was asked
 

@@ -6,7 +6,7 @@ use Rattle.std.proofs.lemmas.List.{append-nil}
 use Rattle.schema_reports.specs.Instance.{Text, Place}
 use Rattle.schema_reports.specs.Parts.{Parts}
 use Rattle.schema_reports.specs.Making.{Made, Making, Request, Script, a_keyword, after_request, compile, followed, nothing, refer, refused, then_compile, then_end, then_refer}
-use Rattle.schema_reports.specs.Plan.{Edge, Key, found, is_self, part_made, requested, subschema, to_ref}
+use Rattle.schema_reports.specs.Plan.{Edge, Key, found, is_self, part_made, requested, subschema, to_ref, option_list}
 use Rattle.schema_reports.specs.Reach.{maker_edges}
 use Rattle.schema_compiler.specs.declared.compiler.error.BuildError.{BuildError}
 use Rattle.schema_compiler.specs.Refusing.{Refused}
@@ -19,7 +19,7 @@ use Rattle.schema_node.specs.NodeTable.{LeadsToFilled, NodeEntry}
 use Rattle.schema_node.specs.MakerViews.{IsStepOf, TakesTurn, Told, Waiting, a_skip, begun, ended, nothing_yet, the_number, waits}
 use Rattle.schema_node.specs.declared.context.table.MakerStep.{MakerStep}
 use Rattle.schema_node.specs.declared.context.table.MakerStep.TheVariants.{Compile, Refer, Keyword, Nothing, Refuse}
-use Rattle.schema_compiler.specs.Compiling.{Each, answers, option_one, reference_asked}
+use Rattle.schema_compiler.specs.Compiling.{Each, answers, reference_asked}
 use Rattle.schema_compiler.specs.Filling.{AreChildren, IsMadePart, IsStep, IsTable, LeadsTo}
 use Rattle.schema_compiler.proofs.Lists.{each_append, length-more}
 use Rattle.schema_compiler.proofs.Growing.{children_stay, edges_stay, grown_stays, refused_first, refused_later, step_none, step_then}
@@ -104,9 +104,9 @@ filter_map-append {A} {B} f (x ∷ xs) ys =
     ] in
     go (f x) refl
 
-pub filter_map-one : {A B : Type 0} (f : A → Option B) (x : A) → filter_map f (x ∷ []) ≡ option_one (f x)
+pub filter_map-one : {A B : Type 0} (f : A → Option B) (x : A) → filter_map f (x ∷ []) ≡ option_list (f x)
 filter_map-one {A} {B} f x =
-    let go : (o : Option B) → f x ≡ o → filter_map f (x ∷ []) ≡ option_one (f x) = elim [ None ↦ λ e. rw e refl | Some b ↦ λ e. rw e refl ] in
+    let go : (o : Option B) → f x ≡ o → filter_map f (x ∷ []) ≡ option_list (f x) = elim [ None ↦ λ e. rw e refl | Some b ↦ λ e. rw e refl ] in
     go (f x) refl
 
 pub flat_map-append : {A B : Type 0} (f : A → List B) (xs ys : List A) → flat_map f (xs ++ ys) ≡ flat_map f xs ++ flat_map f ys
@@ -152,8 +152,8 @@ module _ {S K R C : Type 0} (w : Parts S K R) (shape : C → K) (limit : ℕ) (k
       → (a : Asked making waiting told es keys keys' nodes nodes')
       → followed (is_self w k to_ref) (resumed waiting told) ≡ after_request r (followed (is_self w k to_ref) (resumed waiting' told'))
       → IsDue waiting' told' (suc (length a.requests))
-      → LeadsTo w keys'' o (requested w k name r) → Each (LeadsToFilled nodes'') (option_one o)
-      → IsStep w shape limit (option_one (requested w k name r)) (request_causes w k r) keys' keys'' nodes' nodes''
+      → LeadsTo w keys'' o (requested w k name r) → Each (LeadsToFilled nodes'') (option_list o)
+      → IsStep w shape limit (option_list (requested w k name r)) (request_causes w k r) keys' keys'' nodes' nodes''
       → Asked making waiting' told' (es ++ o ∷ []) keys keys'' nodes nodes''
   asked_next making waiting waiting' told told' es keys keys' keys'' nodes nodes' nodes'' r o a e due leads edge step =
       let stays = grown_stays _ keys' keys'' nodes' nodes'' a.steps.table.lengths step.table.lengths step.grown in
@@ -164,10 +164,10 @@ module _ {S K R C : Type 0} (w : Parts S K R) (shape : C → K) (limit : ℕ) (k
         so_far = a.so_far ∙ ap (after a.requests) e ∙ ap (λ xs. record { requests = xs; ends = f.ends }) (sym (append_assoc a.requests (r ∷ []) f.requests));
         children = children_more keys'' es a.requests o r (children_stay w shape keys' keys'' nodes' nodes'' stays k name es a.requests a.children) leads;
         edges = subst (Each (LeadsToFilled nodes'')) (sym (filter_map-append (λ (x : Option NodeEdge). x) es (o ∷ []) ∙ ap (λ xs. filter_map (λ (x : Option NodeEdge). x) es ++ xs) (filter_map-one (λ (x : Option NodeEdge). x) o)))
-            (each_append (LeadsToFilled nodes'') (filter_map (λ (x : Option NodeEdge). x) es) (option_one o) (edges_stay w shape keys' keys'' nodes' nodes'' stays (filter_map (λ (x : Option NodeEdge). x) es) a.edges) edge);
+            (each_append (LeadsToFilled nodes'') (filter_map (λ (x : Option NodeEdge). x) es) (option_list o) (edges_stay w shape keys' keys'' nodes' nodes'' stays (filter_map (λ (x : Option NodeEdge). x) es) a.edges) edge);
         steps = subst (λ xs. IsStep w shape limit xs (causes_of (a.requests ++ r ∷ [])) keys keys'' nodes nodes'') (sym (filter_map-append (requested w k name) a.requests (r ∷ []) ∙ ap (λ xs. edges_of a.requests ++ xs) (filter_map-one (requested w k name) r)))
-            (subst (λ xs. IsStep w shape limit (edges_of a.requests ++ option_one (requested w k name r)) xs keys keys'' nodes nodes'') (sym (flat_map-append (request_causes w k) a.requests (r ∷ []) ∙ ap (λ xs. causes_of a.requests ++ xs) (flat_map-one (request_causes w k) r)))
-            (step_then w shape limit (edges_of a.requests) (option_one (requested w k name r)) (causes_of a.requests) (request_causes w k r) keys keys' keys'' nodes nodes' nodes'' a.steps step));
+            (subst (λ xs. IsStep w shape limit (edges_of a.requests ++ option_list (requested w k name r)) xs keys keys'' nodes nodes'') (sym (flat_map-append (request_causes w k) a.requests (r ∷ []) ∙ ap (λ xs. causes_of a.requests ++ xs) (flat_map-one (request_causes w k) r)))
+            (step_then w shape limit (edges_of a.requests) (option_list (requested w k name r)) (causes_of a.requests) (request_causes w k r) keys keys' keys'' nodes nodes' nodes'' a.steps step));
       }
 
   -- ---- the turns of a maker
@@ -175,7 +175,7 @@ module _ {S K R C : Type 0} (w : Parts S K R) (shape : C → K) (limit : ℕ) (k
   pub asked_compile : (making : Making K) (waiting waiting' : Waiting K) (told : Told) (es : Children) (keys keys' keys'' : List (Key S)) (nodes nodes' nodes'' : List (NodeEntry C)) (path : Place) (e : NodeEdge) (n : ℕ)
       → Asked making waiting told es keys keys' nodes nodes' → TakesTurn shape waiting told (Compile path) waiting' → n ≡ length es
       → LeadsTo w keys'' (Some e) (subschema w k path) → LeadsToFilled nodes'' e
-      → IsStep w shape limit (option_one (subschema w k path)) (request_causes w k (compile path)) keys' keys'' nodes' nodes''
+      → IsStep w shape limit (option_list (subschema w k path)) (request_causes w k (compile path)) keys' keys'' nodes' nodes''
       → Asked making waiting' (the_number n) (es ++ Some e ∷ []) keys keys'' nodes nodes''
   asked_compile making waiting waiting' told es keys keys' keys'' nodes nodes' nodes'' path e n a takes count leads edge step =
       let st = compile_step shape (length a.requests) (resumed waiting told) path waiting' (due_step shape waiting told (length a.requests) (Compile path) waiting' a.due takes) in
@@ -187,8 +187,8 @@ module _ {S K R C : Type 0} (w : Parts S K R) (shape : C → K) (limit : ℕ) (k
 
   pub asked_refer : (making : Making K) (waiting waiting' : Waiting K) (told told' : Told) (es : Children) (keys keys' keys'' : List (Key S)) (nodes nodes' nodes'' : List (NodeEntry C)) (text : String Global) (o : Option NodeEdge) (n : ℕ)
       → Asked making waiting told es keys keys' nodes nodes' → TakesTurn shape waiting told (Refer text) waiting' → n ≡ length es → told' ≡ answers o n
-      → LeadsTo w keys'' o (reference_asked w k name to_ref (string_bytes text)) → Each (LeadsToFilled nodes'') (option_one o)
-      → IsStep w shape limit (option_one (reference_asked w k name to_ref (string_bytes text))) (lookup_causes w (found w k to_ref (string_bytes text))) keys' keys'' nodes' nodes''
+      → LeadsTo w keys'' o (reference_asked w k name to_ref (string_bytes text)) → Each (LeadsToFilled nodes'') (option_list o)
+      → IsStep w shape limit (option_list (reference_asked w k name to_ref (string_bytes text))) (lookup_causes w (found w k to_ref (string_bytes text))) keys' keys'' nodes' nodes''
       → Asked making waiting' told' (es ++ o ∷ []) keys keys'' nodes nodes''
   asked_refer making waiting waiting' told told' es keys keys' keys'' nodes nodes' nodes'' text None n a takes count is leads edge step =
       let st = refer_step shape (length a.requests) (resumed waiting told) text waiting' (due_step shape waiting told (length a.requests) (Refer text) waiting' a.due takes) in
@@ -249,30 +249,30 @@ module _ {S K R C : Type 0} (w : Parts S K R) (shape : C → K) (limit : ℕ) (k
 
   pub ask_refused : (making : Making K) (waiting : Waiting K) (told : Told) (es : Children) (keys keys' : List (Key S)) (nodes nodes' : List (NodeEntry C)) (r : Request) (f : Making K) (e : BuildError)
       → Asked making waiting told es keys keys' nodes nodes' → followed (is_self w k to_ref) (resumed waiting told) ≡ after_request r f
-      → Refused w limit (option_one (requested w k name r)) (request_causes w k r) keys' e → Refused w limit (maker_edges w k name making) (maker_causes w k making) keys e
+      → Refused w limit (option_list (requested w k name r)) (request_causes w k r) keys' e → Refused w limit (maker_edges w k name making) (maker_causes w k making) keys e
   ask_refused making waiting told es keys keys' nodes nodes' r f e a is h =
       let rest = request_causes w k r ++ (causes_of f.requests ++ end_causes w f.ends) in
-      let later = refused_later w shape limit (edges_of a.requests) (option_one (requested w k name r) ++ edges_of f.requests) (causes_of a.requests) rest keys keys' nodes nodes' e a.steps
-      (refused_first w (option_one (requested w k name r)) (edges_of f.requests) (request_causes w k r) (causes_of f.requests ++ end_causes w f.ends) limit keys' e h) in
-      let more : edges_of (r ∷ f.requests) ≡ option_one (requested w k name r) ++ edges_of f.requests = filter_map-append (requested w k name) (r ∷ []) f.requests ∙ ap (λ xs. xs ++ edges_of f.requests) (filter_map-one (requested w k name) r) in
-      let all : edges_of (a.requests ++ r ∷ f.requests) ≡ edges_of a.requests ++ (option_one (requested w k name r) ++ edges_of f.requests) = filter_map-append (requested w k name) a.requests (r ∷ f.requests) ∙ ap (λ xs. edges_of a.requests ++ xs) more in
+      let later = refused_later w shape limit (edges_of a.requests) (option_list (requested w k name r) ++ edges_of f.requests) (causes_of a.requests) rest keys keys' nodes nodes' e a.steps
+      (refused_first w (option_list (requested w k name r)) (edges_of f.requests) (request_causes w k r) (causes_of f.requests ++ end_causes w f.ends) limit keys' e h) in
+      let more : edges_of (r ∷ f.requests) ≡ option_list (requested w k name r) ++ edges_of f.requests = filter_map-append (requested w k name) (r ∷ []) f.requests ∙ ap (λ xs. xs ++ edges_of f.requests) (filter_map-one (requested w k name) r) in
+      let all : edges_of (a.requests ++ r ∷ f.requests) ≡ edges_of a.requests ++ (option_list (requested w k name r) ++ edges_of f.requests) = filter_map-append (requested w k name) a.requests (r ∷ f.requests) ∙ ap (λ xs. edges_of a.requests ++ xs) more in
       let own : causes_of (a.requests ++ r ∷ f.requests) ++ end_causes w f.ends ≡ causes_of a.requests ++ rest
       = ap (λ xs. xs ++ end_causes w f.ends) (flat_map-append (request_causes w k) a.requests (r ∷ f.requests)) ∙ append_assoc (causes_of a.requests) (causes_of (r ∷ f.requests)) (end_causes w f.ends)
       ∙ ap (λ xs. causes_of a.requests ++ xs) (append_assoc (request_causes w k r) (causes_of f.requests) (end_causes w f.ends)) in
       subst (λ m. Refused w limit (maker_edges w k name m) (maker_causes w k m) keys e) (sym (a.so_far ∙ ap (after a.requests) is))
       (subst (λ xs. Refused w limit xs (causes_of (a.requests ++ r ∷ f.requests) ++ end_causes w f.ends) keys e) (sym all)
-      (subst (λ xs. Refused w limit (edges_of a.requests ++ (option_one (requested w k name r) ++ edges_of f.requests)) xs keys e) (sym own) later))
+      (subst (λ xs. Refused w limit (edges_of a.requests ++ (option_list (requested w k name r) ++ edges_of f.requests)) xs keys e) (sym own) later))
 
   pub compile_refused : (making : Making K) (waiting waiting' : Waiting K) (told : Told) (es : Children) (keys keys' : List (Key S)) (nodes nodes' : List (NodeEntry C)) (path : Place) (e : BuildError)
       → Asked making waiting told es keys keys' nodes nodes' → TakesTurn shape waiting told (Compile path) waiting'
-      → Refused w limit (option_one (subschema w k path)) (request_causes w k (compile path)) keys' e → Refused w limit (maker_edges w k name making) (maker_causes w k making) keys e
+      → Refused w limit (option_list (subschema w k path)) (request_causes w k (compile path)) keys' e → Refused w limit (maker_edges w k name making) (maker_causes w k making) keys e
   compile_refused making waiting waiting' told es keys keys' nodes nodes' path e a takes h =
       let st = compile_step shape (length a.requests) (resumed waiting told) path waiting' (due_step shape waiting told (length a.requests) (Compile path) waiting' a.due takes) in
       ask_refused making waiting told es keys keys' nodes nodes' (compile path) _ e a (ap (λ s. followed (is_self w k to_ref) s) st.1) h
 
   pub refer_refused : (making : Making K) (waiting waiting' : Waiting K) (told : Told) (es : Children) (keys keys' : List (Key S)) (nodes nodes' : List (NodeEntry C)) (text : String Global) (e : BuildError)
       → Asked making waiting told es keys keys' nodes nodes' → TakesTurn shape waiting told (Refer text) waiting'
-      → Refused w limit (option_one (reference_asked w k name to_ref (string_bytes text))) (lookup_causes w (found w k to_ref (string_bytes text))) keys' e → Refused w limit (maker_edges w k name making) (maker_causes w k making) keys e
+      → Refused w limit (option_list (reference_asked w k name to_ref (string_bytes text))) (lookup_causes w (found w k to_ref (string_bytes text))) keys' e → Refused w limit (maker_edges w k name making) (maker_causes w k making) keys e
   refer_refused making waiting waiting' told es keys keys' nodes nodes' text e a takes h =
       let st = refer_step shape (length a.requests) (resumed waiting told) text waiting' (due_step shape waiting told (length a.requests) (Refer text) waiting' a.due takes) in
       ask_refused making waiting told es keys keys' nodes nodes' (refer (string_bytes text)) _ e a (ap (λ s. followed (is_self w k to_ref) s) st.2) h

@@ -8,7 +8,7 @@ use Rattle.schema_reports.specs.Pointer.{joined}
 use Rattle.schema_reports.specs.Making.{Script, compile}
 use Rattle.schema_reports.specs.Resolving.{Resolver}
 use Rattle.schema_reports.specs.Parts.{Parts}
-use Rattle.schema_reports.specs.Plan.{Edge, Key, Reference, found, is_self, making, part, part_made, parts, plan, plan_of as plan_of_schema, reference_edge, reference_part, sorted, subschema}
+use Rattle.schema_reports.specs.Plan.{Edge, Key, Reference, found, is_self, making, part, part_made, parts, plan, plan_of as plan_of_schema, reference_edge, reference_part, sorted, subschema, option_list}
 use Rattle.schema_reports.specs.Reach.{Reached, asked_edges, maker_edges, members_edges, reference_edges}
 use Rattle.schema_reports.specs.Refusals.{Cause, causes, lookup_causes, maker_causes, members_causes, reference_causes, request_causes, schema_causes, undeclared}
 use Rattle.schema_reports.specs.Units.{annotations_of, object_annotations, unknown}
@@ -16,7 +16,7 @@ use Rattle.schema_reports.specs.Guarded.{NodeEdge, NodePart, NodePlan}
 use Rattle.schema_node.specs.NodeTable.{NodeEntry}
 use Rattle.schema_compiler.specs.KeyViews.{key_of}
 use Rattle.schema_compiler.specs.Options.{given_parts}
-use Rattle.schema_compiler.specs.Compiling.{StandsBelow, member_causes, member_edges, object_edges, option_one, reference_asked, resolving_parts}
+use Rattle.schema_compiler.specs.Compiling.{StandsBelow, member_causes, member_edges, object_edges, reference_asked, resolving_parts}
 use Rattle.schema_compiler.specs.Refusing.{IsRefusal, Refused}
 use Rattle.schema_compiler.specs.Filling.{IsPlanned, IsTable}
 use Rattle.schema_compiler.specs.Steps.{IsAnswered, IsEdgeTo, IsNumbered, MakesPart, MakesParts, MakesPlan}
@@ -72,7 +72,7 @@ module _ {S K C : Type 0} (g : Task S K C) where
 
   -- why no target is found, or is refused: said for whatever name and keys go with it
   abbrev pub RefusesTarget : Key S → Reference → Text → BuildError → Type 0
-  RefusesTarget k kind text e = (name : Text) (keys : List (Key S)) → Refused g.parts g.limit (option_one (reference_asked g.parts k name kind text)) (lookup_causes g.parts (found g.parts k kind text)) keys e
+  RefusesTarget k kind text e = (name : Text) (keys : List (Key S)) → Refused g.parts g.limit (option_list (reference_asked g.parts k name kind text)) (lookup_causes g.parts (found g.parts k kind text)) keys e
 
 module _ {S K C : Type 0} (g : Task S K C) (t : Table S C) where
   -- the key's form and annotations may be filled in
@@ -115,11 +115,11 @@ module _ {S K C : Type 0} (g : Task S K C) (t : Table S C) where
 
   -- why there is no edge to the subschema at a path
   abbrev pub RefusesChild : Key S → Place → BuildError → Type 0
-  RefusesChild k path = Refuses (option_one (subschema g.parts k path)) (request_causes g.parts k (compile path))
+  RefusesChild k path = Refuses (option_list (subschema g.parts k path)) (request_causes g.parts k (compile path))
 
   -- why there is no edge to a reference's target
   abbrev pub RefusesEdge : Key S → Text → Reference → Text → BuildError → Type 0
-  RefusesEdge k name kind text = Refuses (option_one (reference_asked g.parts k name kind text)) (lookup_causes g.parts (found g.parts k kind text))
+  RefusesEdge k name kind text = Refuses (option_list (reference_asked g.parts k name kind text)) (lookup_causes g.parts (found g.parts k kind text))
 
   -- why there is no reference keyword
   abbrev pub RefusesReference : Key S → Text → Reference → Data → BuildError → Type 0

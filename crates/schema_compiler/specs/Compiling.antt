@@ -24,11 +24,6 @@ abbrev pub In : {A : Type 0} → List A → A → Type 0
 In [] x = ⊥
 In (y ∷ ys) x = (y ≡ x) ⊎ In ys x
 
--- one, or nothing
-abbrev pub option_one : {A : Type 0} → Option A → List A
-option_one None = []
-option_one (Some a) = a ∷ []
-
 -- ---- what the compiler reads of the parts: no matcher, and of the keywords only how they are made
 
 abbrev pub no_matcher : Matcher

@@ -6,12 +6,12 @@ use Rattle.std.specs.Hash.FoldHasher.{finish, initial, write}
 use Rattle.schema_reports.specs.Instance.{Text}
 use Rattle.schema_compiler.specs.declared.compiler.key.SchemaKey.{SchemaKey}
 
--- the hash of a document's number, a location and a base
-unfoldable pub hash_of_parts : ℕ → Text → Text → ℕ
-hash_of_parts document location base = finish (write (write (fold write initial (usize document)) location) base)
+-- the hash of a document's number, a location, a base, and what a state gives to hashes
+unfoldable pub hash_of_parts : ℕ → Text → Text → List Text → ℕ
+hash_of_parts document location base state = finish (fold write (write (write (fold write initial (usize document)) location) base) state)
 
-abbrev pub hash_of : {S : Type 0} → SchemaKey S → ℕ
-hash_of k = hash_of_parts k.place.document k.location k.base
+abbrev pub hash_of : {S : Type 0} → (S → List Text) → SchemaKey S → ℕ
+hash_of input k = hash_of_parts k.place.document k.location k.base (input k.state)
 
 -- the last number below n with this hash; none where no number below n has it
 abbrev pub IsLastBelow : List ℕ → ℕ → ℕ → Option ℕ → Type 0

@@ -10,3 +10,4 @@ pub mod Carried
 pub mod Compilation
 pub mod Builtins
 pub mod Dialects
+pub mod Readings

@@ -3,12 +3,12 @@ use Rattle.std.specs.Prelude.{List, None, Option, Some, [], length, slice_get, �
 use Rattle.serde_json.specs.Data.{Data, Members}
 use Rattle.schema_reports.specs.Instance.{Text}
 use Rattle.schema_reports.specs.Parts.{Parts}
-use Rattle.schema_reports.specs.Plan.{Edge, Key, Part, Plan}
+use Rattle.schema_reports.specs.Plan.{Edge, Key, Part, Plan, option_list}
 use Rattle.schema_reports.specs.Reach.{Reached}
 use Rattle.schema_reports.specs.Refusals.{Cause}
 use Rattle.schema_reports.specs.Guarded.{NodeEdge, NodePart, NodePlan, node_always, node_these}
 use Rattle.schema_node.specs.NodeTable.{LeadsToFilled, NodeEntry}
-use Rattle.schema_compiler.specs.Compiling.{Each, option_one}
+use Rattle.schema_compiler.specs.Compiling.{Each}
 use Rattle.schema_compiler.specs.Filling.{AreParts, IsGrown, IsMadePart, IsPlan, IsStep, IsTable, LeadsTo}
 
 module _ {S K R C : Type 0} (w : Parts S K R) (shape : C → K) (limit : ℕ) (keys keys' : List (Key S)) (nodes nodes' : List (NodeEntry C)) where
@@ -30,9 +30,9 @@ module _ {S K R C : Type 0} (w : Parts S K R) (shape : C → K) (limit : ℕ) (k
 
   -- what was asked for has a number, and this edge leads there; no edge where nothing was asked for
   pub record IsAnswered (asked : Option (Edge S)) (cs : List Cause) (o : Option NodeEdge) : Type 0 where
-    pub step : IsStep w shape limit (option_one asked) cs keys keys' nodes nodes'
+    pub step : IsStep w shape limit (option_list asked) cs keys keys' nodes nodes'
     pub leads : LeadsTo w keys' o asked
-    pub filled : Each (LeadsToFilled nodes') (option_one o)
+    pub filled : Each (LeadsToFilled nodes') (option_list o)
 
   module _ (es : List (Edge S)) (cs : List Cause) (k : Key S) where
     -- a step that made a member's part, if it is to have one

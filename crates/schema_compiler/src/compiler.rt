@@ -12,7 +12,9 @@ ghost use Rattle.schema_reports.specs.Matching as matching;
 ghost use Rattle.schema_reports.specs.Keywords as words;
 ghost use Rattle.schema_node.specs.NodeViews.{edge_of, entry_of as entry_view, plan_of};
 ghost use Rattle.schema_compiler.specs.KeyViews.{key_of, kind_of};
+ghost use Rattle.schema_node.specs.ResolverViews.{place_of};
 ghost use Rattle.schema_compiler.specs.Builtins.{builtin};
+ghost use Rattle.schema_compiler.specs.Readings.{IsReading};
 ghost use Rattle.schema_compiler.specs.Compilation.{IsCompilation, RefusesRoot, all_parts};
 ghost use Rattle.schema_compiler.specs.Carried.{AnswersChild, AnswersReference, IsWell, LeadsToKey};
 ghost use Rattle.schema_compiler.specs.Carried.{MakesKeyword, MakesMember, MakesMembers, MakesReference};
@@ -29,6 +31,7 @@ use crate::compiler::given::{CompileOptions, Given};
 use crate::compiler::key::SchemaKey;
 use crate::compiler::keys::{Keys, find};
 use crate::compiler::makers::keep_edge;
+use crate::compiler::values::Reading;
 use crate::ref_::{ReferenceKind, reference_kind};
 use schema_node::context::keyword::Validate;
 use schema_node::context::resolver::Resolver;
@@ -55,12 +58,21 @@ pub(crate) mod text;
 mod values;
 mod vocabularies;
 
-/// Compiles all that a key reaches. Each key gets one number, the key itself the first. What is said holds whatever
-/// matcher, keywords' words, draft and base go with the parts: the compiler reads none of them.
+/// The priority of `$ref` in the table of built-in keywords, which one that stands alone has too.
+const REF_PRIORITY: u8 = 70;
+
+/// The priority of a keyword that the keyword table owns: after each built-in one.
+const OWN_PRIORITY: u8 = 80;
+
+/// Compiles the schema of a key and every schema that it reaches through subschemas and references. Returns their keys and
+/// nodes, one number for each key, the given key's being 0. A matcher, the runs of keywords, and the options' draft and base
+/// are not read, so the contract holds for all of them.
 ///
 /// # Errors
 ///
-/// A cause that stands for a key that is reached, more keys than the limit, or want of memory.
+/// Fails if a schema that is reached cannot be compiled: it is neither an object nor a boolean, a reference in it is no
+/// string or is refused by the resolver, a keyword refuses it, or a vocabulary that it requires is not declared. Fails also
+/// if more keys are reached than the limit, or out of memory.
 pub fn compile<R: Resolver, K: Validate, T: KeywordTable<K>>(
     alloc: Global,
     resolver: &R,
@@ -94,7 +106,7 @@ pub fn compile<R: Resolver, K: Validate, T: KeywordTable<K>>(
         nodes: Nodes::new(alloc),
     };
     let path = Location::new(alloc);
-    given.edge_to(&mut compiled, root, path)?;
+    given.edge_to(&mut compiled, root, Reading::Unread, path)?;
     // (the call says that the table is ranked)
     let count = compiled.nodes.len();
     let _ranked = count;
@@ -110,18 +122,21 @@ struct ObjectKeywords<K> {
 
 impl<'p, R: Resolver, T> Given<'p, R, T> {
     /// The edge to the node of a key, which is compiled first where it has no number. The edge is guarded where the node is
-    /// still being compiled.
+    /// still being compiled. The value at the key's place is read only where the node is compiled and it was not read already.
     #[cycle(compile)]
     fn edge_to<K: Validate>(
         &self,
         compiled: &mut Compiled<R::State, K>,
         key: SchemaKey<R::State>,
+        reading: Reading<'p>,
         path: Location,
     ) -> Result<Edge, BuildError>
     where
         T: KeywordTable<K>,
         requires table { IsWell (task R.resolving T.owned T.script K.shape self.now)
             (filled R.point compiled.old) }
+        requires reading { IsReading
+            ((R.resolving self.now.resolver.now).value (place_of key.place)) reading }
         ensures edge { IfOk result (λ e. LeadsToKey
             (task R.resolving T.owned T.script K.shape self.now) (filled R.point compiled.old)
             (filled R.point compiled.new) (key_of R.point key) path (edge_of e)) }
@@ -129,7 +144,7 @@ impl<'p, R: Resolver, T> Given<'p, R, T> {
             (RefusesKey (task R.resolving T.owned T.script K.shape self.now)
             (filled R.point compiled.old) (key_of R.point key)) }
     {
-        let number = self.number_of(compiled, &key);
+        let number = self.number_of(compiled, &key, reading);
         drop(key);
         Ok(compiled.edge_at(number?, path))
     }
@@ -140,11 +155,14 @@ impl<'p, R: Resolver, T> Given<'p, R, T> {
         &self,
         compiled: &mut Compiled<R::State, K>,
         key: &SchemaKey<R::State>,
+        reading: Reading<'p>,
     ) -> Result<usize, BuildError>
     where
         T: KeywordTable<K>,
         requires table { IsWell (task R.resolving T.owned T.script K.shape self.now)
             (filled R.point compiled.old) }
+        requires reading { IsReading
+            ((R.resolving self.now.resolver.now).value (place_of key.now.place)) reading }
         ensures numbered { IfOk result (Numbers (task R.resolving T.owned T.script K.shape self.now)
             (filled R.point compiled.old) (filled R.point compiled.new) (key_of R.point key.now)) }
         ensures refused { IfErr result
@@ -155,7 +173,7 @@ impl<'p, R: Resolver, T> Given<'p, R, T> {
             return Ok(number);
         }
         let number = self.reserve_within(compiled, key)?;
-        let planned = self.planned_node(compiled, key)?;
+        let planned = self.planned_node(compiled, key, reading)?;
         compiled
             .nodes
             .fill(number, planned.form, planned.annotations);
@@ -168,11 +186,14 @@ impl<'p, R: Resolver, T> Given<'p, R, T> {
         &self,
         compiled: &mut Compiled<R::State, K>,
         key: &SchemaKey<R::State>,
+        reading: Reading<'p>,
     ) -> Result<PlannedNode<K>, BuildError>
     where
         T: KeywordTable<K>,
         requires table { IsWell (task R.resolving T.owned T.script K.shape self.now)
             (filled R.point compiled.old) }
+        requires reading { IsReading
+            ((R.resolving self.now.resolver.now).value (place_of key.now.place)) reading }
         ensures planned { IfOk result (λ n. PlansNode
             (task R.resolving T.owned T.script K.shape self.now) (filled R.point compiled.old)
             (filled R.point compiled.new) (key_of R.point key.now) (plan_of n.form)
@@ -181,10 +202,15 @@ impl<'p, R: Resolver, T> Given<'p, R, T> {
             (task R.resolving T.owned T.script K.shape self.now) (filled R.point compiled.old)
             (key_of R.point key.now)) }
     {
-        match self.object_at(key) {
+        let context = Context {
+            options: self.options,
+            key,
+        };
+        let value = self.value_of(key, reading);
+        match values::object_of(value) {
             Some(members) => self.planned_object(compiled, key, members),
             None => Ok(PlannedNode {
-                form: self.form_at(key)?,
+                form: context.plain_form(value)?,
                 annotations: None,
             }),
         }
@@ -221,7 +247,7 @@ impl<'p, R: Resolver, T> Given<'p, R, T> {
                     compiled,
                     key,
                     &name,
-                    70,
+                    REF_PRIORITY,
                     ReferenceKind::Ref,
                     value,
                 )?;
@@ -293,7 +319,7 @@ impl<'p, R: Resolver, T> Given<'p, R, T> {
     {
         let text = name.as_str();
         if self.table.owns(text) {
-            return self.made_entry(compiled, key, members, true, name, 80, false);
+            return self.made_entry(compiled, key, members, true, name, OWN_PRIORITY, false);
         }
         let context = Context {
             options: self.options,
@@ -384,7 +410,8 @@ impl<'p, R: Resolver, T> Given<'p, R, T> {
     {
         let location = path.pointer(self.alloc)?;
         let below = self.subschema_key(key, path)?;
-        Ok(self.edge_to(compiled, below, location)?)
+        let reading = Reading::Read(below.1);
+        Ok(self.edge_to(compiled, below.0, reading, location)?)
     }
 
     // The edge to a reference's target; none where the reference is skipped.
@@ -413,7 +440,7 @@ impl<'p, R: Resolver, T> Given<'p, R, T> {
         match self.target_of(key, kind, text.as_str())? {
             None => Ok(None),
             Some(target) => {
-                let edge = self.edge_to(compiled, target, path)?;
+                let edge = self.edge_to(compiled, target, Reading::Unread, path)?;
                 Ok(Some(edge))
             }
         }

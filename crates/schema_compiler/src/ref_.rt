@@ -25,8 +25,11 @@ use std::alloc::Global;
 /// A reference keyword.
 #[derive(Clone, Copy)]
 pub enum ReferenceKind {
+    /// `$ref`.
     Ref,
+    /// `$dynamicRef`.
     Dynamic,
+    /// `$recursiveRef`.
     Recursive,
 }
 
@@ -126,7 +129,7 @@ impl<'p, R: Resolver, T> Given<'p, R, T> {
         if fragment.is_empty() {
             return Ok(Location::new(self.alloc));
         }
-        if fragment.as_bytes()[0] == 47 {
+        if fragment.as_bytes()[0] == b'/' {
             return decoded_pointer(self.alloc, fragment);
         }
         let root = self.resolver.resource_root(self.alloc, &target.state)?;
@@ -150,7 +153,7 @@ impl<'p, R: Resolver, T> Given<'p, R, T> {
         if fragment.is_empty() {
             return Ok(0);
         }
-        if fragment.as_bytes()[0] == 47 {
+        if fragment.as_bytes()[0] == b'/' {
             return self.start_of_target(draft, target, location);
         }
         Ok(0)

@@ -23,7 +23,8 @@ use Rattle.schema_node.specs.NodeTable.{NodeEntry, numbered}
 use Rattle.schema_node.specs.ResolverViews.{IsInside}
 use Rattle.schema_node.specs.MakerViews.{MakesRightly}
 use Rattle.schema_node.proofs.PartLaws.{values_inside, asks_below, makes_whole}
-use Rattle.schema_engine.specs.Handed.{Options, parts_of, no_matcher, no_keywords}
+use Rattle.schema_compiler.specs.Compiling.{no_keywords, no_matcher}
+use Rattle.schema_engine.specs.Handed.{Options, parts_of}
 use Rattle.schema_engine.specs.Compiled.{IsCompiled}
 use Rattle.schema_engine.proofs.OtherParts.{reached_too, numbered_too}
 

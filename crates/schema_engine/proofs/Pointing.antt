@@ -24,7 +24,8 @@ use Rattle.schema_node.proofs.PartLaws.{makes_absorbed}
 use Rattle.schema_engine.specs.Program.{Program, FromSomeDepth}
 use Rattle.schema_engine.specs.Spoken.{ErrorsAnswered, FirstAnswered, IsGiven}
 use Rattle.schema_engine.specs.ProgramOf.{IsProgramOf}
-use Rattle.schema_engine.specs.Handed.{Options, no_keywords, no_matcher, parts_of}
+use Rattle.schema_compiler.specs.Compiling.{no_keywords, no_matcher}
+use Rattle.schema_engine.specs.Handed.{Options, parts_of}
 use Rattle.schema_engine.specs.Promised.{MeansSchema, OfSchema}
 use Rattle.schema_engine.specs.Pointing.{EachPoints, FirstPoints}
 use Rattle.schema_engine.proofs.Built.{EachScript, in_map}

@@ -12,7 +12,8 @@ use Rattle.schema_reports.specs.declared.reports.ValidationError.{ValidationErro
 use Rattle.schema_node.specs.NodeTable.{NodeEntry, numbered}
 use Rattle.schema_compiler.specs.declared.compiler.error.BuildError.{BuildError}
 use Rattle.schema_engine.specs.Compiled.{IsCompiled}
-use Rattle.schema_engine.specs.Handed.{Handed, Options, no_keywords, no_matcher, parts_of}
+use Rattle.schema_compiler.specs.Compiling.{no_keywords, no_matcher}
+use Rattle.schema_engine.specs.Handed.{Handed, Options, parts_of}
 use Rattle.schema_engine.specs.Pointing.{EachPoints, FirstPoints}
 use Rattle.schema_engine.specs.Program.{FromSomeDepth, Program}
 use Rattle.schema_engine.specs.ProgramOf.{IsProgramOf}

@@ -1,13 +1,13 @@
 -- What is handed in to a build, as data: the options, the parts that options, resolver, table, matcher and keywords make
 -- together, and what the code's own values stand for.
-use Rattle.std.specs.Prelude.{ℕ, List, [], Bool, true, Option, None}
+use Rattle.std.specs.Prelude.{ℕ, List, [], Bool, Option, None}
 use Rattle.serde_json.specs.Data.{Members}
 use Rattle.schema_reports.specs.Instance.{Text}
 use Rattle.schema_reports.specs.Drafts.{Draft, Vocabularies}
 use Rattle.schema_reports.specs.Resolving.{Resolver}
 use Rattle.schema_reports.specs.Making.{Builtin, Script, Table}
-use Rattle.schema_reports.specs.Matching.{Matcher, finished}
-use Rattle.schema_reports.specs.Keywords.{Answer, Keywords, done}
+use Rattle.schema_reports.specs.Matching.{Matcher}
+use Rattle.schema_reports.specs.Keywords.{Answer, Keywords}
 use Rattle.schema_reports.specs.KeywordTable.{builtin_in}
 use Rattle.schema_reports.specs.Parts.{Parts}
 use Rattle.schema_node.specs.declared.context.keyword.Validate.{Ghosts as KeywordMembers}
@@ -41,24 +41,6 @@ parts_of resolver table matcher keywords options = record {
   base = options.base;
   formats = options.formats;
   declared = options.declared;
-}
-
--- what the compiler reads of the parts: no matcher, and of the keywords only how they are made
-abbrev pub no_matcher : Matcher
-no_matcher = record { is_match = λ pattern text. finished true; is_ecma = λ text. true }
-
-abbrev pub no_keywords : {K : Type 0} → Keywords K (Unit {0})
-no_keywords = record {
-  texts = true;
-  may_ask = λ m s. [];
-  holds = λ m s matching ask. true;
-  faults = λ m s matching answers. [];
-  units = λ m s matching ask. record { children = []; annotations = None; errors = []; absorbed = [] };
-  most_turns = λ m s. 0;
-  begin = λ m s mode. tt;
-  turn = λ m s r reply. tt;
-  step = λ m s r reply. done;
-  answer = λ r. record { verdict = true; errors = []; gives = record { children = []; annotations = None; errors = []; absorbed = [] } };
 }
 
 -- The resolver, the table and the matcher that are handed in, as data, and how keywords run; and what a keyword and a

@@ -9,7 +9,8 @@ use Rattle.schema_reports.specs.Plan.{Key}
 use Rattle.schema_reports.specs.Root.{root_draft}
 use Rattle.schema_engine.specs.Program.{Program}
 use Rattle.schema_engine.specs.Compiled.{IsWhole}
-use Rattle.schema_engine.specs.Handed.{Options, parts_of, no_matcher, no_keywords}
+use Rattle.schema_compiler.specs.Compiling.{no_keywords, no_matcher}
+use Rattle.schema_engine.specs.Handed.{Options, parts_of}
 use Rattle.schema_engine.specs.Roots.{IsRootKey}
 
 pub record IsProgramOf {S K C M : Type 0} (resolver : Resolver S) (table : Table K) (matcher : Matcher) (options : Options) (schema : Data) (shape : C → K) (matching : M → Matcher) (p : Program C M) : Type 0 where

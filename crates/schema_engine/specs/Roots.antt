@@ -10,15 +10,15 @@ use Rattle.schema_reports.specs.Plan.{Key}
 use Rattle.schema_reports.specs.Reach.{IsReach}
 use Rattle.schema_reports.specs.Refusals.{Compiles}
 use Rattle.schema_reports.specs.Root.{root_draft, base_of, key_at}
-use Rattle.schema_compiler.specs.Compiling.{no_table}
+use Rattle.schema_compiler.specs.Compiling.{no_table, no_keywords, no_matcher}
 use Rattle.schema_compiler.specs.Compilation.{RefusesRoot}
 use Rattle.schema_compiler.specs.declared.compiler.error.BuildError.{BuildError}
 use Rattle.schema_compiler.specs.declared.compiler.error.BuildError.TheVariants.{KeywordRefused, Lookup, MetaSchema, MissingRoot, NodeLimit, NotASchema, OutOfMemory, ReferenceNotText, UnsupportedVocabulary}
-use Rattle.schema_engine.specs.Handed.{Options, parts_of, no_matcher, no_keywords}
+use Rattle.schema_engine.specs.Handed.{Options, parts_of}
 
 -- what depends on the resolver and the options alone
-abbrev pub resolving_parts : {S : Type 0} → Resolver S → Options → Parts S (Unit {0}) (Unit {0})
-resolving_parts resolver options = parts_of resolver no_table no_matcher no_keywords options
+abbrev pub root_parts : {S : Type 0} → Resolver S → Options → Parts S (Unit {0}) (Unit {0})
+root_parts resolver options = parts_of resolver no_table no_matcher no_keywords options
 
 module _ {S K R : Type 0} (w : Parts S K R) (schema : Data) where
   -- the key where the document under the root's base begins, read in the root's draft; nothing is said of the value there

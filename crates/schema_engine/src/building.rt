@@ -15,19 +15,19 @@ use serde_json::Value;
 use std::alloc::Global;
 
 impl<K: Validate, M: Matcher> Validator<K, M> {
-    /// The default options: nothing is set, no vocabulary is declared, and 65,536 keys may be reached. It takes no memory.
+    /// Returns the default options: nothing is set, no vocabulary is declared, and 65,536 keys may be reached. Allocates
+    /// nothing.
     pub fn options(alloc: Global) -> ValidationOptions
         ensures defaults { result ≡ default_options }
     {
         ValidationOptions::new(alloc)
     }
 
-    /// A validator of a schema, built by the default options. It means the plain meaning of schema and parts, where no chain
-    /// of questions returns.
+    /// Builds a validator of a schema by the default options, as `ValidationOptions::build` does.
     ///
     /// # Errors
     ///
-    /// A cause that stands for the schema's root or for what it reaches, more keys than the limit, or want of memory.
+    /// Fails if the schema, or one that it reaches, is refused, if more keys are reached than the limit, or out of memory.
     pub fn new<S: Resolver, T: KeywordTable<K>>(
         alloc: Global,
         schema: &Value,

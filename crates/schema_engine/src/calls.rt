@@ -18,11 +18,12 @@ use schema_reports::reports::{ErrorIterator, ValidationError};
 use serde_json::Value;
 use std::alloc::Global;
 
-/// Whether a schema accepts the instance, under every outcome of the matches that the matcher leaves unfinished.
+/// Returns whether a schema accepts the instance. Where the matcher leaves matches unfinished, the schema has to accept it
+/// under every outcome of them, as with `Validator::is_valid`.
 ///
 /// # Errors
 ///
-/// The schema is refused, or memory is wanting, for building or for asking.
+/// Fails if the schema is refused, or out of memory.
 pub fn is_valid<S: Resolver, T: KeywordTable<K>, K: Validate, M: Matcher>(
     alloc: Global,
     schema: &Value,
@@ -46,11 +47,12 @@ pub fn is_valid<S: Resolver, T: KeywordTable<K>, K: Validate, M: Matcher>(
     Ok(validator.is_valid(alloc, instance)?)
 }
 
-/// The first error of the instance, or none where a schema accepts it, as `Validator::validate` gives it.
+/// Returns the first error of the instance as an inner `Err`, and an inner `Ok` if a schema accepts it, as
+/// `Validator::validate` does.
 ///
 /// # Errors
 ///
-/// The schema is refused, or memory is wanting, for building or for asking.
+/// Fails if the schema is refused, or out of memory.
 pub fn validate<'i, S: Resolver, T: KeywordTable<K>, K: Validate, M: Matcher>(
     alloc: Global,
     schema: &Value,
@@ -78,11 +80,11 @@ pub fn validate<'i, S: Resolver, T: KeywordTable<K>, K: Validate, M: Matcher>(
     Ok(validator.validate(alloc, instance)?)
 }
 
-/// All errors of the instance, in order; none where a schema accepts it, as `Validator::iter_errors` gives them.
+/// Returns all errors of the instance in order, and none if a schema accepts it, as `Validator::iter_errors` does.
 ///
 /// # Errors
 ///
-/// The schema is refused, or memory is wanting, for building or for asking.
+/// Fails if the schema is refused, or out of memory.
 pub fn iter_errors<'i, S: Resolver, T: KeywordTable<K>, K: Validate, M: Matcher>(
     alloc: Global,
     schema: &Value,

@@ -16,12 +16,12 @@ use schema_reports::location::OutOfMemory;
 use serde_json::Value;
 use std::alloc::Global;
 
-/// A validator of the schema at the resolver's root, of which these are the nodes, with the number of the root's node and
-/// the root's draft. Where they are compiled from each root key of the schema, the validator means the plain meaning.
+/// Builds a validator from compiled nodes, the number of the root's node and the root's draft. Where the nodes are compiled
+/// from each root key of the schema, the validator means the plain meaning. The matcher is cloned.
 ///
 /// # Errors
 ///
-/// Want of memory for the matcher's copy.
+/// Fails out of memory, for the matcher's clone.
 pub fn of_compiled<S: Resolver, T: KeywordTable<K>, K: Validate, M: Matcher>(
     schema: &Value,
     table: &T,

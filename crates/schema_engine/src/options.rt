@@ -41,7 +41,8 @@ impl Model for ValidationOptions {
 }
 
 impl ValidationOptions {
-    /// The default options: nothing is set, no vocabulary is declared, and 65,536 keys may be reached. It takes no memory.
+    /// Returns the default options: nothing is set, no vocabulary is declared, and 65,536 keys may be reached. Allocates
+    /// nothing.
     pub fn new(alloc: Global) -> ValidationOptions
         ensures defaults { result ≡ default_options }
     {
@@ -56,7 +57,7 @@ impl ValidationOptions {
         }
     }
 
-    /// The root is read in this draft, whatever the schema says. It takes no memory.
+    /// Reads the root in this draft, whatever the schema says. Allocates nothing.
     pub fn with_draft(self, draft: Draft) -> ValidationOptions
         ensures draft { result ≡ record self { draft = Some (draft_of draft) } }
     {
@@ -65,11 +66,11 @@ impl ValidationOptions {
         options
     }
 
-    /// The root's base is this URI, whatever identifier the schema has.
+    /// Makes this URI the root's base, whatever identifier the schema has.
     ///
     /// # Errors
     ///
-    /// Want of memory; the options are gone then.
+    /// Fails out of memory; the options are dropped.
     pub fn with_base_uri(self, alloc: Global, uri: &str) -> Result<ValidationOptions, OutOfMemory>
         ensures base { IfOk result (λ o. o ≡ record self { base = Some uri.now }) }
     {
@@ -78,7 +79,7 @@ impl ValidationOptions {
         Ok(options)
     }
 
-    /// So many keys may be reached. It takes no memory.
+    /// Lets so many keys be reached; one more is refused. Allocates nothing.
     pub fn with_node_limit(self, limit: usize) -> ValidationOptions
         ensures limit { result ≡ record self { limit = limit } }
     {
@@ -87,7 +88,7 @@ impl ValidationOptions {
         options
     }
 
-    /// Formats are checked, or are not, whatever draft and vocabularies say. It takes no memory.
+    /// Checks formats, or does not, whatever draft and vocabularies say. Allocates nothing.
     pub fn should_validate_formats(self, checked: bool) -> ValidationOptions
         ensures formats { result ≡ record self { formats = Some checked } }
     {
@@ -96,11 +97,11 @@ impl ValidationOptions {
         options
     }
 
-    /// The custom vocabulary of this URI is declared, after those that are.
+    /// Declares the custom vocabulary of this URI, after those that already are. A schema may then require it.
     ///
     /// # Errors
     ///
-    /// Want of memory; the options are gone then.
+    /// Fails out of memory; the options are dropped.
     pub fn with_vocabulary(self, alloc: Global, uri: &str) -> Result<ValidationOptions, OutOfMemory>
         ensures declared { IfOk result (λ o. o ≡ record self { declared = self.declared ++ uri.now ∷ [] }) }
     {

@@ -31,7 +31,7 @@ use serde_json::Value;
 use std::alloc::Global;
 use std::marker::Model;
 
-/// A schema, compiled. It is asked of many instances, and no call changes it.
+/// A compiled schema. It validates any number of instances, and no call changes it.
 #[derive(Drop)]
 pub struct Validator<K, M> {
     nodes: Nodes<K>,
@@ -79,7 +79,8 @@ fn unless_refused<'i>(error: Option<ValidationError<'i>>) -> Result<(), Validati
 }
 
 impl<K: Validate, M: Matcher> Validator<K, M> {
-    /// A validator of compiled nodes: the number of the root's node, the root's draft, and the matcher. It takes no memory.
+    /// Makes a validator of compiled nodes, the number of the root's node, the root's draft, and the matcher. Allocates
+    /// nothing.
     pub fn of_nodes(nodes: Nodes<K>, root: SchemaNode, draft: Draft, matcher: M) -> Validator<K, M>
         requires inside { root.0 < length nodes }
         ensures made { result ≡ record { nodes = nodes; root = root.0; draft = draft_of draft; matcher = matcher } }
@@ -92,21 +93,21 @@ impl<K: Validate, M: Matcher> Validator<K, M> {
         }
     }
 
-    /// The draft of the schema's root. It takes no memory.
+    /// Returns the draft of the schema's root.
     pub fn draft(&self) -> Draft
         ensures draft { draft_of result ≡ self.now.draft }
     {
         self.draft
     }
 
-    /// The number of the root's node. It takes no memory.
+    /// Returns the number of the root's node.
     pub fn root(&self) -> SchemaNode
         ensures root { result.0 ≡ self.now.root }
     {
         self.root
     }
 
-    /// The nodes. It takes no memory.
+    /// Returns the nodes.
     pub fn nodes(&self) -> &Nodes<K>
         ensures nodes { result.now ≡ self.now.nodes }
     {
@@ -200,7 +201,8 @@ impl<K: Validate, M: Matcher> Validator<K, M> {
     {
         let (met, reply) = self.asked(alloc, instance, Mode::First, MatchAssumptions::new(alloc))?;
         match reply {
-            Reply::First(error) => Ok((met, error)),
+            Reply::First(Some(error)) => Ok((met, Some(Box::into_inner(error)))),
+            Reply::First(None) => Ok((met, None)),
             _ => unreachable!(),
         }
     }
@@ -276,12 +278,12 @@ impl<K: Validate, M: Matcher> Validator<K, M> {
         Ok(shared)
     }
 
-    /// Whether the instance is accepted. Where the first run meets a match that the matcher leaves unfinished, whether all
-    /// outcomes of such matches accept it; no, where more runs are called for than a call makes.
+    /// Returns whether the instance is valid. Where the matcher leaves matches unfinished, returns whether the instance is valid
+    /// under every outcome of them, and `false` if that takes more runs than a call makes.
     ///
     /// # Errors
     ///
-    /// Want of memory.
+    /// Fails out of memory.
     pub fn is_valid(&self, alloc: Global, instance: &Value) -> Result<bool, OutOfMemory>
         requires unmarked { (texts : Bool) → TakesNoMarks (K.words texts) }
         ensures depth { IfOk result (λ valid. DecidesFromSomeDepth
@@ -292,13 +294,13 @@ impl<K: Validate, M: Matcher> Validator<K, M> {
         Ok(self.valid_under_each(alloc, instance)?)
     }
 
-    /// The first error, or none where the instance is accepted. Where the first run meets a match that the matcher leaves
-    /// unfinished, the first of the errors that all outcomes of such matches give, or one that tells of such a match, where they
-    /// give none in common and some outcome refuses, or where more runs are called for than a call makes.
+    /// Returns the first error as an inner `Err`, and an inner `Ok` if the instance is valid. Where the matcher leaves matches
+    /// unfinished, the error is the first that all outcomes of them share. It tells of such a match instead if some outcome
+    /// refuses and they share no error, or if that takes more runs than a call makes.
     ///
     /// # Errors
     ///
-    /// Want of memory.
+    /// Fails out of memory.
     pub fn validate<'i>(
         &self,
         alloc: Global,
@@ -314,13 +316,13 @@ impl<K: Validate, M: Matcher> Validator<K, M> {
         Ok(unless_refused(self.first_under_each(alloc, instance)?))
     }
 
-    /// All errors, in order; none where the instance is accepted. Where the first run meets a match that the matcher leaves
-    /// unfinished, the errors that all outcomes of such matches give, or one that tells of such a match, where they give none in
-    /// common and some outcome refuses, or where more runs are called for than a call makes.
+    /// Returns all errors in order, and none if the instance is valid. Where the matcher leaves matches unfinished, these are the
+    /// errors that all outcomes of them share. There is one error, which tells of such a match, if some outcome refuses and
+    /// they share no error, or if that takes more runs than a call makes.
     ///
     /// # Errors
     ///
-    /// Want of memory.
+    /// Fails out of memory.
     pub fn iter_errors<'i>(
         &self,
         alloc: Global,

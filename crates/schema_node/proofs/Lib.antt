@@ -15,3 +15,4 @@ pub mod RankedTable
 pub mod PartLaws
 pub mod SchemaPaths
 pub mod FilledNumbers
+pub mod Stamped

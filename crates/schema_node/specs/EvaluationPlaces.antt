@@ -2,10 +2,9 @@
 use Rattle.std.specs.Prelude.{◌++◌, ◌∷◌, []}
 use Rattle.schema_reports.specs.Instance.{Place}
 use Rattle.schema_reports.specs.InstanceViews.{step_of}
-use Rattle.schema_node.specs.declared.node.evaluation_place.EvaluationPlace.{EvaluationPlace, Given, Made, Below'}
+use Rattle.schema_node.specs.declared.node.evaluation_place.EvaluationPlace.{EvaluationPlace, Given, Below'}
 
--- the place that was given or made, with each step below it
+-- the place that was given, with each step below it
 abbrev pub steps_to : EvaluationPlace → Place
 steps_to (Given place) = place.now
-steps_to (Made place) = place
 steps_to (Below' pointer above step) = steps_to above ++ step_of step ∷ []

@@ -21,7 +21,7 @@ abbrev pub errors_in : Reply → List ValidationError
 errors_in reply.Nothing = []
 errors_in (reply.Truth b) = []
 errors_in (reply.First None) = []
-errors_in (reply.First (Some e)) = e ∷ []
+errors_in (reply.First (Some e)) = e.value ∷ []
 errors_in (reply.All es) = es.items
 
 -- the reply that an answer gives in a mode, to a keyword of this name at work there
@@ -35,7 +35,7 @@ answer_reply spec.for_units w name a = spec.no_reply
 abbrev pub faults_in : Answer → List Fault
 faults_in (answer.Verdict b) = []
 faults_in (answer.First None) = []
-faults_in (answer.First (Some f)) = f ∷ []
+faults_in (answer.First (Some f)) = f.value ∷ []
 faults_in (answer.All fs) = fs.items
 faults_in (answer.Evaluation b es) = []
 

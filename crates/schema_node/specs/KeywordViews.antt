@@ -64,7 +64,7 @@ turn_of step.Done = spec.done
 abbrev pub reply_of : Bool → Reply → spec.Reply
 reply_of texts reply.Nothing = spec.no_reply
 reply_of texts (reply.Truth b) = spec.truth b
-reply_of texts (reply.First e) = spec.first_of_it (option_map (error_of texts) e)
+reply_of texts (reply.First e) = spec.first_of_it (option_map (λ b. error_of texts b.value) e)
 reply_of texts (reply.All es) = spec.all_of_it (map (error_of texts) es.items)
 
 abbrev pub own_of : Bool → OwnError → spec.Own
@@ -98,7 +98,7 @@ described_of texts e = record { name = string_bytes e.keyword; text = spoken tex
 
 abbrev pub answer_of : Bool → Answer → spec.Answer
 answer_of texts (answer.Verdict b) = record { verdict = b; errors = []; gives = no_gives }
-answer_of texts (answer.First f) = with_errors (option_list (option_map (fault_of texts) f))
+answer_of texts (answer.First f) = with_errors (option_list (option_map (λ b. fault_of texts b.value) f))
 answer_of texts (answer.All fs) = with_errors (map (fault_of texts) fs.items)
 answer_of texts (answer.Evaluation b es) = record { verdict = b; errors = []; gives = record no_gives { errors = map (described_of texts) es.items } }
 

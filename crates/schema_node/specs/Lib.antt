@@ -13,7 +13,6 @@ pub mod FaultViews
 pub mod AnswerModes
 pub mod EvaluationPaths
 pub mod EvaluationPlaces
-pub mod PlaceForms
 pub mod NodeRuns
 pub mod RunStates
 pub mod Turning

@@ -14,6 +14,7 @@ mod question;
 mod replies;
 pub mod run;
 mod sites;
+mod spots;
 pub mod validators;
 
 use schema_reports::location::{Location, OutOfMemory};

@@ -56,3 +56,6 @@ mod SearchedFailure
 mod SearchedSays
 mod SearchedErrors
 pub mod SitesInside
+pub mod HashIndexed
+pub mod MatchesIndexed
+pub mod KeysIndexed

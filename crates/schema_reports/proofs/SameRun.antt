@@ -45,7 +45,7 @@ step_is (to_item k) (to_name n) e = absurd (true≢false (sym e))
 step_is (to_name k) (to_member n) e = absurd (true≢false (sym e))
 step_is (to_name k) (to_item n) e = absurd (true≢false (sym e))
 
-place_is : (p q : Place) → same_place p q ≡ true → p ≡ q
+pub place_is : (p q : Place) → same_place p q ≡ true → p ≡ q
 place_is [] [] e = refl
 place_is (s ∷ p) (t ∷ q) e = ap₂ (λ x xs. x ∷ xs) (step_is s t (both_left _ _ e)) (place_is p q (both_right _ _ e))
 place_is [] (t ∷ q) e = absurd (true≢false (sym e))

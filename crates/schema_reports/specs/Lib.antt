@@ -49,3 +49,4 @@ pub mod Searched
 pub mod SharedResults
 pub mod SearchGives
 pub mod Outcomes
+pub mod HashIndex

@@ -18,14 +18,15 @@ use serde_json::Value;
 use std::alloc::Global;
 use std::marker::Model;
 
-/// What is validated: a value, or the name of a member, which counts as a text.
+/// What is validated: a value, or the name of a member, which is validated as a string.
 #[derive(Clone, Copy)]
 pub enum Instance<'i> {
     Value(&'i Value),
     Name(&'i str),
 }
 
-/// From a place to one below it. Names are borrowed from the instance.
+/// A step from a place to one below it: to a member, to an item, or to the name of a member. Names are borrowed from the
+/// instance.
 #[derive(Clone, Copy)]
 pub enum InstanceStep<'i> {
     Member(&'i str),
@@ -48,7 +49,8 @@ fn named_member<'i>(value: &'i Value, name: &str) -> Option<(&'i str, &'i Value)
 }
 
 impl<'i> Instance<'i> {
-    /// The member with this name, where the instance is an object that has it, and the step there, by the object's own copy of the name.
+    /// Returns the member with this name and the step to it, which borrows the object's own copy of the name. Returns `None` if
+    /// the instance is not an object or has no such member.
     pub fn member(self, name: &str) -> Option<(Instance<'i>, InstanceStep<'i>)>
         ensures member { option_map (λ r. subject_of r.0) result ≡ after_step (to_member name.now) (subject_of self.entry) }
         ensures step { IfSome result (λ r. step_of r.1 ≡ to_member name.now) }
@@ -62,7 +64,7 @@ impl<'i> Instance<'i> {
         }
     }
 
-    /// The item at this index, where the instance is an array that has it, and the step there.
+    /// Returns the item at this index and the step to it. Returns `None` if the instance is not an array or is too short.
     pub fn item(self, index: usize) -> Option<(Instance<'i>, InstanceStep<'i>)>
         ensures item { option_map (λ r. subject_of r.0) result ≡ after_step (to_item index) (subject_of self.entry) }
         ensures step { IfSome result (λ r. step_of r.1 ≡ to_item index) }
@@ -76,7 +78,8 @@ impl<'i> Instance<'i> {
         }
     }
 
-    /// The name of a member, where the instance is an object that has it, and the step there, by the object's own copy of the name.
+    /// Returns the name of a member as an instance and the step to it, both borrowed from the object. Returns `None` if the
+    /// instance is not an object or has no such member.
     pub fn name_of(self, name: &str) -> Option<(Instance<'i>, InstanceStep<'i>)>
         ensures name { option_map (λ r. subject_of r.0) result ≡ after_step (to_name name.now) (subject_of self.entry) }
         ensures step { IfSome result (λ r. step_of r.1 ≡ to_name name.now) }
@@ -90,7 +93,8 @@ impl<'i> Instance<'i> {
         }
     }
 
-    /// The compact text, as JSON; a name is quoted. No digits are promised where a number is a float.
+    /// Returns the instance as compact JSON; a name is quoted. The digits of floats are not promised. Fails only if memory
+    /// cannot be allocated.
     pub fn text(self, alloc: Global) -> Result<String, OutOfMemory>
         ensures text { IfOk result (λ s. subject_has_float (subject_of self.entry) ≡ false
             → string_bytes s ≡ subject_text (subject_of self.entry)) }
@@ -101,7 +105,7 @@ impl<'i> Instance<'i> {
         }
     }
 
-    /// The instance as a value of its own; a name is a text.
+    /// Returns the instance as an owned value; a name becomes a string. Fails only if memory cannot be allocated.
     pub fn to_value(self, alloc: Global) -> Result<Value, OutOfMemory>
         ensures value { IfOk result (λ v. view v ≡ value_of (subject_of self.entry)) }
     {
@@ -120,7 +124,7 @@ fn quoted_text(alloc: Global, name: &str) -> Result<String, OutOfMemory>
     value.to_string(alloc)
 }
 
-/// A place of an instance: the steps from the root down.
+/// A place in an instance: the steps from the root down. Contracts see the list of steps.
 #[derive(Drop)]
 pub struct Place<'i> {
     steps: Vec<InstanceStep<'i>>,
@@ -142,7 +146,7 @@ impl<'i> Model for Place<'i> {
     ghost view = { λ p. map step_of p.steps.items };
 }
 
-/// Whether two steps are the same.
+/// Returns `true` if both are the same kind of step with the same name or index.
 pub fn same_step(a: InstanceStep<'_>, b: InstanceStep<'_>) -> bool
     ensures same { result ≡ same_step (step_of a.entry) (step_of b.entry) }
 {
@@ -169,19 +173,19 @@ fn same_steps(a: &[InstanceStep<'_>], b: &[InstanceStep<'_>]) -> bool
     true
 }
 
-// The pointer after one step more.
-fn join_step(location: Location, step: InstanceStep<'_>) -> Result<Location, OutOfMemory>
-    ensures joined { IfOk result (λ l. l ≡ location ++ step_text (step_of step.entry)) }
+// Adds one step to a pointer.
+fn push_step(pointer: &mut Location, step: InstanceStep<'_>) -> Result<(), OutOfMemory>
+    ensures pushed { IfOk result (λ _. pointer.new ≡ pointer.old ++ step_text (step_of step.entry)) }
 {
     match step {
-        InstanceStep::Member(name) => location.join(LocationSegment::Property(name)),
-        InstanceStep::Item(index) => location.join(LocationSegment::Index(index)),
-        InstanceStep::NameOf(_) => Ok(location),
+        InstanceStep::Member(name) => pointer.push(LocationSegment::Property(name)),
+        InstanceStep::Item(index) => pointer.push(LocationSegment::Index(index)),
+        InstanceStep::NameOf(_) => Ok(()),
     }
 }
 
 impl<'i> Place<'i> {
-    /// The root.
+    /// Returns the place of the root: no steps. It allocates nothing.
     pub fn root(alloc: Global) -> Place<'i>
         ensures root { result ≡ [] }
     {
@@ -190,14 +194,14 @@ impl<'i> Place<'i> {
         }
     }
 
-    /// Whether both are one place.
+    /// Returns `true` if both consist of the same steps.
     pub fn same(&self, other: &Place<'_>) -> bool
         ensures same { result ≡ same_place self.now other.now }
     {
         same_steps(self.steps.as_slice(), other.steps.as_slice())
     }
 
-    /// The same place in memory of its own.
+    /// Returns a clone of the place. Fails only if memory cannot be allocated.
     pub fn copy(&self) -> Result<Place<'i>, OutOfMemory>
         ensures same { IfOk result (λ p. p ≡ self.now) }
     {
@@ -206,7 +210,7 @@ impl<'i> Place<'i> {
         })
     }
 
-    /// The place one step below.
+    /// Returns the place one step below this one. Fails only if memory cannot be allocated.
     pub fn below(&self, step: InstanceStep<'i>) -> Result<Place<'i>, OutOfMemory>
         ensures below { IfOk result (λ p. p ≡ self.now ++ step_of step.entry ∷ []) }
     {
@@ -215,13 +219,14 @@ impl<'i> Place<'i> {
         Ok(place)
     }
 
-    /// The pointer of the place; a name's place is shown by its object's pointer.
+    /// Returns the JSON Pointer of the place. The place of a name has the pointer of its object. Fails only if memory cannot be
+    /// allocated.
     pub fn pointer(&self, alloc: Global) -> Result<Location, OutOfMemory>
         ensures pointer { IfOk result (λ l. l ≡ pointer_to self.now) }
     {
         let mut location = Location::new(alloc);
         for step in self.steps.iter() {
-            location = join_step(location, *step)?;
+            push_step(&mut location, *step)?;
         }
         Ok(location)
     }

@@ -7,7 +7,7 @@ ghost use Rattle.schema_reports.specs.LocationViews.{segment_text, segment_of};
 use std::alloc::{AllocError, Global};
 use std::marker::Model;
 
-/// Memory could not be had; it is answered only where a growth was refused.
+/// Memory could not be allocated. A function returns it only if the allocator refused to grow something.
 pub type OutOfMemory = AllocError;
 
 /// One segment of a pointer: the name of a member, or the index of an item.
@@ -17,7 +17,7 @@ pub enum LocationSegment<'a> {
     Index(usize),
 }
 
-/// The text of a JSON Pointer. Contracts see its bytes.
+/// A JSON Pointer. Contracts see its bytes.
 #[derive(Drop)]
 pub struct Location {
     text: String,
@@ -62,7 +62,7 @@ fn push_decimal(text: &mut String, index: usize) -> Result<(), OutOfMemory>
 }
 
 impl Location {
-    /// The pointer of the root, which is empty.
+    /// Returns the pointer of the root, which is empty. It allocates nothing.
     pub fn new(alloc: Global) -> Location
         ensures empty { result ≡ [] }
     {
@@ -71,7 +71,8 @@ impl Location {
         }
     }
 
-    /// The pointer with this text, taken as it is.
+    /// Returns the pointer with this text, which must already be escaped: it is taken as it is. Fails only if memory cannot be
+    /// allocated.
     pub fn from_escaped(alloc: Global, text: &str) -> Result<Location, OutOfMemory>
         ensures same { IfOk result (λ l. l ≡ text.now) }
     {
@@ -80,27 +81,35 @@ impl Location {
         })
     }
 
-    /// The text.
+    /// Returns the pointer as a string slice.
     pub fn as_str(&self) -> &str
         ensures text { result.now ≡ self.now }
     {
         self.text.as_str()
     }
 
-    /// The pointer with one segment more: `/` and the name with `~` as `~0` and `/` as `~1`, or `/` and the index in decimal.
+    /// Returns the pointer with one more segment: `/` and the name with `~` as `~0` and `/` as `~1`, or `/` and the index in
+    /// decimal. Fails only if memory cannot be allocated.
     pub fn join(&self, segment: LocationSegment<'_>) -> Result<Location, OutOfMemory>
         ensures joined { IfOk result (λ l. l ≡ self.now ++ segment_text (segment_of segment.entry)) }
     {
-        let mut text = self.text.clone()?;
-        text.push('/')?;
-        match segment {
-            LocationSegment::Property(name) => push_escaped(&mut text, name)?,
-            LocationSegment::Index(index) => push_decimal(&mut text, index)?,
-        }
-        Ok(Location { text })
+        let mut location = self.copy()?;
+        location.push(segment)?;
+        Ok(location)
     }
 
-    /// The pointer followed by another.
+    /// Appends one segment in place, as `join` writes it. On `Err` a part of the segment may have been written.
+    pub(crate) fn push(&mut self, segment: LocationSegment<'_>) -> Result<(), OutOfMemory>
+        ensures pushed { IfOk result (λ _. self.new ≡ self.old ++ segment_text (segment_of segment.entry)) }
+    {
+        self.text.push('/')?;
+        match segment {
+            LocationSegment::Property(name) => push_escaped(&mut self.text, name),
+            LocationSegment::Index(index) => push_decimal(&mut self.text, index),
+        }
+    }
+
+    /// Returns the pointer followed by another one. Fails only if memory cannot be allocated.
     pub fn append(&self, rest: &Location) -> Result<Location, OutOfMemory>
         ensures appended { IfOk result (λ l. l ≡ self.now ++ rest.now) }
     {
@@ -109,7 +118,7 @@ impl Location {
         Ok(Location { text })
     }
 
-    /// The same pointer in memory of its own.
+    /// Returns a clone of the pointer. Fails only if memory cannot be allocated.
     pub fn copy(&self) -> Result<Location, OutOfMemory>
         ensures same { IfOk result (λ l. l ≡ self.now) }
     {

@@ -1,6 +1,7 @@
 //! Errors: where the instance and the schema disagree.
-ghost use Rattle.std.specs.Prelude.{◌≡◌, List, Bool, true, false, IfOk, option_map, Some, string_bytes};
-ghost use Rattle.std.specs.Iterator.{YieldsFirst, item_count};
+ghost use Rattle.std.specs.Prelude.{◌≡◌, List, Bool, true, false, IfOk, IfSome, length, option_map, Some, string_bytes};
+ghost use Rattle.std.specs.Iterator.{UpTo, YieldsFirst, at_most, item_count};
+ghost use Rattle.std.specs.Iterator.SizeHint.{IsWithinCount};
 ghost use Rattle.schema_reports.specs.Pointer.{pointer_to};
 ghost use Rattle.schema_reports.specs.Meaning.{false_error, false_text};
 ghost use Rattle.schema_reports.specs.Owned.{owned, prefixed};
@@ -15,9 +16,9 @@ use std::fmt;
 use std::marker::Model;
 use std::vec::IntoIter;
 
-/// An error. The instance is borrowed, and stands at the place. The schema path is where the keyword stands, the evaluation
-/// path the way that led to it, by references too; both are pointers. The absolute location is a URI, none where the resource
-/// has no identifier to show.
+/// An error: an instance that a keyword refuses. The instance is borrowed, and `place` says where it is in the whole one.
+/// `schema_path` points at the keyword in its schema; `evaluation_path` is the way that led to it, through references too.
+/// `absolute_keyword_location` is the keyword's URI, `None` if its schema resource has no identifier.
 #[derive(Drop)]
 pub struct ValidationError<'i> {
     pub instance: Instance<'i>,
@@ -29,7 +30,7 @@ pub struct ValidationError<'i> {
     pub text: String,
 }
 
-/// An error that holds its instance, apart from any run. Its paths are pointers.
+/// An error that owns its instance. Its paths are JSON Pointers.
 #[derive(Drop)]
 pub struct OwnedError {
     pub instance: serde_json::Value,
@@ -79,7 +80,8 @@ fn false_text(alloc: Global, instance: Instance<'_>) -> Result<String, OutOfMemo
 }
 
 impl<'i> ValidationError<'i> {
-    /// The error of the schema `false`, which refuses each instance. Its text shows the instance, with no digits promised for a float.
+    /// Returns the error of the schema `false`, which refuses every instance. Its text shows the instance; the digits of floats
+    /// are not promised. Fails only if memory cannot be allocated.
     pub fn false_schema(
         alloc: Global,
         instance: Instance<'i>,
@@ -107,21 +109,21 @@ impl<'i> ValidationError<'i> {
         })
     }
 
-    /// The pointer of the instance's place.
+    /// Returns the JSON Pointer of the instance. Fails only if memory cannot be allocated.
     pub fn instance_path(&self, alloc: Global) -> Result<Location, OutOfMemory>
         ensures pointer { IfOk result (λ l. l ≡ pointer_to self.now.place) }
     {
         self.place.pointer(alloc)
     }
 
-    /// The name that the keyword gave: `falseSchema` for a false schema.
+    /// Returns the name that the keyword gave the error: `falseSchema` for the schema `false`.
     pub fn keyword(&self) -> &str
         ensures name { result.now ≡ string_bytes self.now.keyword }
     {
         self.keyword.as_str()
     }
 
-    /// The error with an instance of its own: a name is a text.
+    /// Returns the error with an owned copy of its instance; a name becomes a string. Fails only if memory cannot be allocated.
     pub fn to_owned(&self, alloc: Global) -> Result<OwnedError, OutOfMemory>
         ensures owned { IfOk result (λ o. owned_error_of o ≡ owned (subject_of self.now.instance) (error_of true self.now)) }
     {
@@ -138,7 +140,8 @@ impl<'i> ValidationError<'i> {
 }
 
 impl OwnedError {
-    /// The error as seen from above: the location stands before the instance path, and nothing else changes.
+    /// Puts a location before the instance path, as for an error that is seen from above; nothing else changes. Fails only if
+    /// memory cannot be allocated.
     pub fn with_instance_path_prefix(self, location: &Location) -> Result<OwnedError, OutOfMemory>
         ensures prefixed { IfOk result (λ o. owned_error_of o ≡ prefixed location.now (owned_error_of self)) }
     {
@@ -150,7 +153,7 @@ impl OwnedError {
     }
 }
 
-/// Errors in order, which end. Contracts see those that are left.
+/// An iterator over errors, in their order. Contracts see the errors that are left.
 #[derive(Drop)]
 pub struct ErrorIterator<'i> {
     errors: IntoIter<ValidationError<'i>>,
@@ -173,7 +176,7 @@ impl<'i> Model for ErrorIterator<'i> {
 }
 
 impl<'i> ErrorIterator<'i> {
-    /// These errors, in their order.
+    /// Returns an iterator over these errors, in their order.
     pub fn new(errors: Vec<ValidationError<'i>>) -> ErrorIterator<'i>
         ensures errors { result ≡ errors.entry.items }
     {
@@ -192,5 +195,15 @@ impl<'i> Iterator for ErrorIterator<'i> {
 
     fn next(&mut self) -> Option<ValidationError<'i>> {
         self.errors.next()
+    }
+
+    /// Returns the number of errors that are left, as both bounds.
+    fn size_hint(&self) -> (usize, Option<usize>)
+        ensures lower { IsWithinCount result.0 (at_most (length self.now)) }
+        ensures upper { IfSome result.1 (UpTo (at_most (length self.now))) }
+        ensures exact { result ≡ (length self.now, Some (length self.now)) }
+    {
+        let left = self.errors.len();
+        (left, Some(left))
     }
 }

@@ -5,7 +5,7 @@ use crate::location::OutOfMemory;
 use std::alloc::Global;
 use std::marker::Model;
 
-/// A text. Contracts see its bytes.
+/// A string that contracts see as its bytes.
 #[derive(Drop)]
 pub struct Text {
     string: String,
@@ -20,7 +20,7 @@ impl Model for Text {
 }
 
 impl Text {
-    /// This text in memory of its own.
+    /// Returns an owned copy of the string slice. Fails only if memory cannot be allocated.
     pub fn new(alloc: Global, text: &str) -> Result<Text, OutOfMemory>
         ensures same { IfOk result (λ t. t ≡ text.now) }
     {
@@ -28,28 +28,28 @@ impl Text {
         Ok(Text { string })
     }
 
-    /// The text.
+    /// Returns the string slice.
     pub fn as_str(&self) -> &str
         ensures text { result.now ≡ self.now }
     {
         self.string.as_str()
     }
 
-    /// The text as a string.
+    /// Returns the `String` inside.
     pub fn into_string(self) -> String
         ensures text { string_bytes result ≡ self }
     {
         self.string
     }
 
-    /// Whether it is this text.
+    /// Returns `true` if the two strings are equal.
     pub fn is(&self, text: &str) -> bool
         ensures same { result ≡ bytes_eq text.now self.now }
     {
         text == self.string.as_str()
     }
 
-    /// The same text in memory of its own.
+    /// Returns a clone of the string. Fails only if memory cannot be allocated.
     pub fn copy(&self) -> Result<Text, OutOfMemory>
         ensures same { IfOk result (λ t. t ≡ self.now) }
     {

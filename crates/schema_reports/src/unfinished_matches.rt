@@ -1,5 +1,8 @@
 //! Matches that the matcher could not finish: what a run assumes of them, and the search over what they may come out as.
 mod assumptions;
+mod keyed;
+mod located;
+mod positions;
 mod search;
 mod shared;
 mod site;

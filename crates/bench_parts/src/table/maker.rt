@@ -1,20 +1,22 @@
 //! The makers.
 ghost use Rattle.std.specs.Prelude.{◌≡◌, Some, IfOk};
-ghost use Rattle.schema_node.specs.MakerViews.{maker_reply_of, TakesTurn};
+ghost use Rattle.schema_reports.specs.Making.{then_end};
+ghost use Rattle.schema_node.specs.MakerViews.{begun, maker_reply_of, TakesTurn};
 ghost use Rattle.bench_keywords.specs.Shapes.{shape_of};
-ghost use Rattle.bench_parts.specs.MakerViews.{list_shape, waiting_of};
+ghost use Rattle.bench_parts.specs.MakerViews.{list_shape, made_of, waiting_of};
 
 use bench_keywords::keyword::BenchKeyword;
+use schema_node::context::keyword::Validate;
 use schema_node::context::schema_place::SchemaPath;
 use schema_node::context::table::{MakerReply, MakerStep};
 use schema_reports::location::OutOfMemory;
 use schema_reports::reports::OwnedError;
 use std::alloc::Global;
 
-/// How a maker ends.
+/// How a maker ends: with a keyword, with none, or with a refusal.
 #[derive(Drop)]
-pub enum Ending {
-    Keyword(BenchKeyword),
+pub enum Ending<K> {
+    Keyword(K),
     Nothing,
     Refused(OwnedError),
 }
@@ -44,20 +46,28 @@ impl ListKeyword {
 
 /// A maker: the paths of the children, in order, how many of them it has asked for, and how it ends, until it has.
 #[derive(Drop)]
-pub struct BenchMaker {
+pub struct PathsMaker<K> {
     pub paths: Vec<SchemaPath>,
     pub asked: usize,
-    pub ends: Option<Ending>,
+    pub ends: Option<Ending<K>>,
 }
 
-impl BenchMaker {
+/// A maker that ends at once.
+pub fn ends<K: Validate>(alloc: Global, ending: Ending<K>) -> PathsMaker<K>
+    ensures maker { waiting_of K.shape result ≡ begun (then_end (made_of K.shape ending)) }
+{
+    PathsMaker {
+        paths: Vec::new(alloc),
+        asked: 0,
+        ends: Some(ending),
+    }
+}
+
+impl<K: Validate> PathsMaker<K> {
     /// Takes a turn.
-    pub fn turn(
-        &mut self,
-        alloc: Global,
-        _reply: MakerReply,
-    ) -> Result<MakerStep<BenchKeyword>, OutOfMemory>
-        ensures takes { IfOk result (λ step. TakesTurn shape_of (waiting_of self.old) (maker_reply_of _reply) step (waiting_of self.new)) }
+    pub fn turn(&mut self, alloc: Global, _reply: MakerReply) -> Result<MakerStep<K>, OutOfMemory>
+        ensures takes { IfOk result (λ step. TakesTurn K.shape (waiting_of K.shape self.old) (maker_reply_of _reply) step
+            (waiting_of K.shape self.new)) }
     {
         if self.asked < self.paths.len() {
             let path = self.paths[self.asked].copy(alloc)?;

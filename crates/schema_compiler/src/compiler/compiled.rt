@@ -19,10 +19,11 @@ use schema_node::context::table::KeywordTable;
 use schema_node::node::{Edge, NodeForm, Nodes, SchemaNode};
 use schema_reports::location::{Location, OutOfMemory};
 use serde_json::Value;
+use std::hash::Hash;
 
-/// The keys that were reached, and the node of each, at the same number.
+/// The result of a compilation: the keys that were reached, and at the same numbers their nodes.
 #[derive(Drop)]
-pub struct Compiled<S, K> {
+pub struct Compiled<S: Hash, K> {
     pub keys: Keys<S>,
     pub nodes: Nodes<K>,
 }
@@ -34,7 +35,7 @@ pub(crate) struct PlannedNode<K> {
     pub annotations: Option<Value>,
 }
 
-impl<S: Drop, K: Validate> Compiled<S, K> {
+impl<S: Hash + Drop, K: Validate> Compiled<S, K> {
     /// The edge to a number that is there, which is guarded where the number is only reserved.
     pub(crate) fn edge_at(&self, number: usize, path: Location) -> Edge
         requires within { number < length self.now.nodes }

@@ -15,7 +15,7 @@ use schema_reports::keywords::{BuiltinRow, Draft, Vocabulary, builtin_row, has_v
 use schema_reports::location::{Location, LocationSegment, OutOfMemory};
 use serde_json::{Map, Value};
 
-/// Where a schema is compiled: its key, and the options. What it tells takes no memory.
+/// A schema's key together with the options of the compilation. No method allocates.
 #[derive(Clone, Copy)]
 pub struct Context<'c, S> {
     pub options: &'c CompileOptions,
@@ -23,14 +23,14 @@ pub struct Context<'c, S> {
 }
 
 impl<'c, S> Context<'c, S> {
-    /// The schema's draft.
+    /// Returns the schema's draft.
     pub fn draft(&self) -> Draft
         ensures draft { result ≡ self.now.key.now.draft }
     {
         self.key.draft
     }
 
-    /// The schema's location.
+    /// Returns the schema's location.
     pub fn location(&self) -> &Location
         ensures location { result.now ≡ self.now.key.now.location }
     {
@@ -38,7 +38,7 @@ impl<'c, S> Context<'c, S> {
     }
 
     /// The location of the schema's keyword of this name.
-    pub(crate) fn keyword_location(&self, name: &String) -> Result<Location, OutOfMemory>
+    pub(crate) fn location_of(&self, name: &String) -> Result<Location, OutOfMemory>
         ensures location { IfOk result (λ l. l ≡
             joined self.now.key.now.location (string_bytes name.now)) }
     {
@@ -46,7 +46,8 @@ impl<'c, S> Context<'c, S> {
             .join(LocationSegment::Property(name.as_str()))
     }
 
-    /// Whether a vocabulary is in force: always before 2019-09, always where it is the core, and else where it is in the set.
+    /// Returns whether a vocabulary is in force: always before draft 2019-09, always if it is the core vocabulary, and
+    /// otherwise if it is in the schema's set.
     pub fn has_vocabulary(&self, vocabulary: &Vocabulary) -> bool
         ensures in_force { result ≡ is_in_force (draft_of self.now.key.now.draft)
             self.now.key.now.vocabularies (vocabulary_of vocabulary.now) }
@@ -66,7 +67,7 @@ impl<'c, S> Context<'c, S> {
         builtin_row(self.draft(), &self.key.vocabularies, name)
     }
 
-    /// Whether keywords count beside a `$ref`: from 2019-09 on.
+    /// Returns whether keywords beside a `$ref` are applied: from draft 2019-09 on.
     pub fn supports_adjacent_validation(&self) -> bool
         ensures beside { result ≡ not (ref_stands_alone (draft_of self.now.key.now.draft)) }
     {
@@ -86,7 +87,7 @@ impl<'c, S> Context<'c, S> {
         }
     }
 
-    /// Whether a number with an integer's value, such as 1.0, is an integer: from draft 6 on.
+    /// Returns whether a number with an integer's value, such as 1.0, is an integer: from draft 6 on.
     pub fn supports_integer_valued_numbers(&self) -> bool
         ensures integers { result ≡ integer_valued_numbers (draft_of self.now.key.now.draft) }
     {
@@ -96,7 +97,7 @@ impl<'c, S> Context<'c, S> {
         }
     }
 
-    /// Whether the vocabularies say that formats are checked.
+    /// Returns whether the schema's vocabularies ask for formats to be checked.
     pub fn asserts_formats_by_dialect(&self) -> bool
         ensures asserts { result ≡ asserts_formats self.now.key.now.vocabularies }
     {
@@ -105,7 +106,8 @@ impl<'c, S> Context<'c, S> {
             || vocabularies.contains(&Vocabulary::Format)
     }
 
-    /// Whether formats are checked: by the option, or else by the vocabularies, or in drafts 4 to 7.
+    /// Returns whether formats are checked: as the option says. Where it is not set, they are in the drafts where `$ref`
+    /// stands alone, and in later ones if the schema's vocabularies ask for it.
     pub fn validates_formats_by_default(&self) -> bool
         ensures formats { result ≡ unwrap_or self.now.options.now.formats
             (ref_stands_alone (draft_of self.now.key.now.draft)
@@ -118,7 +120,7 @@ impl<'c, S> Context<'c, S> {
     }
 }
 
-// Whether `$ref` stands alone in a draft: in 4 to 7, which check formats by default.
+// Whether `$ref` stands alone in a draft: in drafts 4 to 7, which check formats by default.
 fn stands_alone(draft: Draft) -> bool
     ensures alone { result ≡ ref_stands_alone (draft_of draft) }
 {

@@ -16,14 +16,10 @@ fn place_for<K>(entries: &[Entry<K>], priority: u8) -> usize
     ensures place { (x : NodePart K) → x.priority ≡ priority →
         insert (map entry_of entries.now) result x ≡ placed_after x (map entry_of entries.now) }
 {
-    let mut place = 0;
-    for entry in entries {
-        if entry.priority > priority {
-            return place;
-        }
-        place += 1;
-    }
-    place
+    entries
+        .iter()
+        .position(|entry| entry.priority > priority)
+        .unwrap_or(entries.len())
 }
 
 /// Puts a keyword in its place.

@@ -6,33 +6,34 @@ use schema_node::context::resolver::LookupError;
 use schema_reports::location::Location;
 use schema_reports::reports::OwnedError;
 use std::alloc::{AllocError, AllocFailed};
+use std::error::Error;
 use std::fmt;
 
-/// Why a schema is refused.
+/// Why a schema was refused. `number` gives the variant's number, `Display` a message for people.
 #[derive(Drop)]
 pub enum BuildError {
     /// The value at this location is neither an object nor a boolean.
     NotASchema(Location),
-    /// The reference at this location is no text.
+    /// The reference at this location is not a string.
     ReferenceNotText(Location),
-    /// The resolver refuses, with a text of its own.
+    /// The resolver refused a reference or a subschema, with this message.
     Lookup(String),
-    /// A keyword refuses the schema.
+    /// A keyword refused the schema, with this error.
     KeywordRefused(OwnedError),
-    /// A vocabulary of this URI is required, and is not declared.
+    /// The vocabulary of this URI is required, but was not declared.
     UnsupportedVocabulary(String),
-    /// The schema is not valid by its meta-schema.
+    /// The schema is not valid against its meta-schema.
     MetaSchema(OwnedError),
-    /// There is no document under this URI.
+    /// The resolver has no document under this URI.
     MissingRoot(String),
-    /// More keys are reached than this limit.
+    /// More than this many keys are reached.
     NodeLimit(usize),
-    /// Memory could not be had.
+    /// Out of memory.
     OutOfMemory,
 }
 
 impl BuildError {
-    /// The refusal's number, from 1 to 9 in the order of the variants.
+    /// Returns the variant's number, from 1 to 9 in the order of their declaration.
     pub fn number(&self) -> u8
         ensures number { result ≡ number_of self.now }
     {
@@ -80,6 +81,15 @@ impl fmt::Display for BuildError {
         }
     }
 }
+
+/// The same text as `Display` gives.
+impl fmt::Debug for BuildError {
+    fn fmt<W: fmt::Write>(&self, f: &mut fmt::Formatter<W>) -> fmt::Result {
+        write!(f, "{self}")
+    }
+}
+
+impl Error for BuildError {}
 
 impl From<AllocError> for BuildError {
     ghost use Rattle.schema_compiler.specs.declared.compiler.error.BuildError.TheVariants as build;

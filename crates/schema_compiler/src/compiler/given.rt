@@ -4,11 +4,11 @@ use std::alloc::Global;
 /// The options that a compilation reads.
 #[derive(Drop)]
 pub struct CompileOptions {
-    /// Whether formats are checked; none leaves it to draft and vocabularies.
+    /// Whether formats are checked; `None` leaves that to the schema's draft and vocabularies.
     pub formats: Option<bool>,
-    /// The custom vocabularies that are declared.
+    /// The URIs of the custom vocabularies that a schema may require.
     pub declared: Vec<String>,
-    /// How many keys may be reached.
+    /// How many keys may be reached; one more is refused.
     pub node_limit: usize,
 }
 

@@ -10,16 +10,23 @@ use schema_reports::keywords::{Draft, VocabularySet};
 use schema_reports::location::{Location, OutOfMemory};
 use std::alloc::Global;
 
-/// A place in a schema, read in a resolver state, a draft and vocabularies, as it is reached: its location, the part of
-/// it that the last reference gave, and how much of it lies outside its resource.
+/// What a node is compiled for: a schema's place in a document, what it is read in there, and how it was reached. Two keys
+/// that are equal share one node.
 #[derive(Drop)]
 pub struct SchemaKey<S> {
+    /// Where the schema stands in its document.
     pub place: SchemaPlace,
+    /// The resolver's state there.
     pub state: S,
+    /// The draft that the schema is read in.
     pub draft: Draft,
+    /// The vocabularies in force.
     pub vocabularies: VocabularySet,
+    /// The pointer by which errors name the schema: that of the last reference, and what was passed since.
     pub location: Location,
+    /// The part of `location` that the last reference gave.
     pub base: Location,
+    /// How many bytes of `location` lie outside the schema's resource.
     pub start: usize,
 }
 

@@ -10,19 +10,19 @@ use schema_node::context::resolver::Resolver;
 use schema_reports::location::OutOfMemory;
 use std::alloc::Global;
 use std::collections::HashMap;
-use std::hash::{FoldHasher, Hasher};
+use std::hash::{FoldHasher, Hash, Hasher};
 use std::marker::Model;
 
-/// Keys by their numbers. Contracts see the list.
+/// The keys that were reached, in the order of their numbers. A contract sees them as a list.
 #[derive(Drop)]
-pub struct Keys<S> {
+pub struct Keys<S: Hash> {
     keys: Vec<SchemaKey<S>>,
     // The last number of each hash, and for each number the one before it with the same hash.
     last: HashMap<u64, usize>,
     earlier: Vec<Option<usize>>,
 }
 
-impl<S> Model for Keys<S> {
+impl<S: Hash> Model for Keys<S> {
     ghost use Rattle.std.specs.Prelude.{List, map, nat_eq};
     ghost use Rattle.std.specs.HashMap.{get};
     ghost use Rattle.schema_compiler.specs.declared.compiler.key.SchemaKey.{SchemaKey};
@@ -33,10 +33,10 @@ impl<S> Model for Keys<S> {
 
     ghost view = { λ k. k.keys.items };
 
-    ghost invariant = { λ k. IsChained (map hash_of k.keys.items) k.earlier.items (get nat_eq k.last) };
+    ghost invariant = { λ k. IsChained (map (hash_of S.hash_input) k.keys.items) k.earlier.items (get nat_eq k.last) };
 }
 
-impl<S: Drop> Keys<S> {
+impl<S: Hash + Drop> Keys<S> {
     /// No keys.
     pub(crate) fn new(alloc: Global) -> Keys<S>
         ensures none { result ≡ [] }
@@ -92,13 +92,14 @@ fn link<S>(
 
 // The hash by which a key is found.
 #[tactic(auto, unfolding(crate::specs::KeyHashes::hash_of_parts))]
-fn hash_of<S>(key: &SchemaKey<S>) -> u64
-    ensures hash { result ≡ hash_of key.now }
+fn hash_of<S: Hash>(key: &SchemaKey<S>) -> u64
+    ensures hash { result ≡ hash_of S.hash_input key.now }
 {
     let mut hasher = FoldHasher::default();
     hasher.write_usize(key.place.document);
     hasher.write(key.location.as_str().as_bytes());
     hasher.write(key.base.as_str().as_bytes());
+    key.state.hash(&mut hasher);
     hasher.finish()
 }
 

@@ -16,7 +16,7 @@ use std::alloc::Global;
 fn segment_count(location: &str) -> usize
     ensures count { result ≡ segment_count location.now }
 {
-    location.as_bytes().iter().filter(|x| **x == 47).count()
+    location.as_bytes().iter().filter(|x| **x == b'/').count()
 }
 
 // How long its first segments are.
@@ -26,7 +26,7 @@ fn segments_length(count: usize, location: &str) -> usize
     let mut left = count;
     let mut size = 0usize;
     for x in location.as_bytes() {
-        if *x == 47 {
+        if *x == b'/' {
             if left == 0 {
                 return size;
             }
@@ -48,38 +48,27 @@ fn counts_from(
       path = take (length place.now.path - segments) place.now.path;
     }) }
 {
-    let steps = place.path.len();
-    let kept = if segments < steps {
-        steps - segments
-    } else {
-        0
-    };
+    let kept = place.path.len().saturating_sub(segments);
     Ok(SchemaPlace {
         document: place.document,
         path: place.path.first(alloc, kept)?,
     })
 }
 
-impl<'p, R: Resolver, T> Given<'p, R, T> {
-    // The next place inwards, where it has an identifier, or else the one that is given.
-    fn nearer_place(
-        &self,
-        draft: Draft,
-        next: &SchemaPlace,
-        given: SchemaPlace,
-    ) -> Result<SchemaPlace, OutOfMemory>
-        ensures nearer { IfOk result (λ p. place_of p ≡
-            (if is_some ((R.resolving self.now.resolver.now).id (draft_of draft)
-            (schema_at (resolver_parts R.resolving self.now) (place_of next.now)))
-            then place_of next.now else place_of given)) }
-    {
-        if self.has_id(draft, next) {
-            next.copy(self.alloc)
-        } else {
-            Ok(given)
-        }
-    }
+// The next place inwards, where it has an identifier, or else the one that is given.
+fn nearer_place(
+    alloc: Global,
+    has_id: bool,
+    next: &SchemaPlace,
+    given: SchemaPlace,
+) -> Result<SchemaPlace, OutOfMemory>
+    ensures nearer { IfOk result (λ p. place_of p ≡
+        (if has_id then place_of next.now else place_of given)) }
+{
+    if has_id { next.copy(alloc) } else { Ok(given) }
+}
 
+impl<'p, R: Resolver, T> Given<'p, R, T> {
     // The innermost subresource with an identifier on the way from a place down to a path; else the place itself.
     fn innermost_place(
         &self,
@@ -102,8 +91,10 @@ impl<'p, R: Resolver, T> Given<'p, R, T> {
             {
                 None => return Ok(given),
                 Some(next) => {
-                    inner_draft = self.draft_at(inner_draft, &next);
-                    given = self.nearer_place(inner_draft, &next, given)?;
+                    let value = self.resolver.value(&next);
+                    inner_draft = self.detected(inner_draft, value);
+                    let has_id = self.identifies(inner_draft, value);
+                    given = nearer_place(self.alloc, has_id, &next, given)?;
                     place = next;
                 }
             }
@@ -125,11 +116,9 @@ impl<'p, R: Resolver, T> Given<'p, R, T> {
             (draft_of draft) (found_of R.point target.now) location.now) }
     {
         let from = counts_from(self.alloc, &target.place, segment_count(location.as_str()))?;
-        let inner_draft = self.draft_at(draft, &from);
+        let inner_draft = self.detected(draft, self.resolver.value(&from));
         let inner = self.innermost_place(inner_draft, &from, &target.place.path)?;
-        let outside = from.path.len();
-        let whole = inner.path.len();
-        let segments = if outside < whole { whole - outside } else { 0 };
+        let segments = inner.path.len().saturating_sub(from.path.len());
         Ok(segments_length(segments, location.as_str()))
     }
 }

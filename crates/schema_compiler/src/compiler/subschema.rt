@@ -1,5 +1,7 @@
 //! The key of a subschema, and what stands at a place in a schema.
-ghost use Rattle.std.specs.Prelude.{◌≡◌, ◌++◌, true, false, IfOk, IfErr, Some, if◌then◌else◌, is_some};
+ghost use Rattle.std.specs.Prelude.{◌≡◌, ◌++◌, true, false, IfOk, IfErr, Some, if◌then◌else◌, is_some, option_map, unwrap_or};
+ghost use Rattle.serde_json.specs.Data.{null};
+ghost use Rattle.serde_json.specs.View.{view};
 ghost use Rattle.schema_reports.specs.Pointer.{pointer_to};
 ghost use Rattle.schema_reports.specs.Making.{compile};
 ghost use Rattle.schema_reports.specs.Drafts.{same_draft, at_path};
@@ -21,21 +23,6 @@ use schema_reports::location::{Location, OutOfMemory};
 use serde_json::Value;
 use std::alloc::Global;
 
-// Whether both are one draft.
-fn is_same_draft(left: Draft, right: Draft) -> bool
-    ensures same { result ≡ same_draft (draft_of left) (draft_of right) }
-{
-    match (left, right) {
-        (Draft::Draft4, Draft::Draft4) => true,
-        (Draft::Draft6, Draft::Draft6) => true,
-        (Draft::Draft7, Draft::Draft7) => true,
-        (Draft::Draft201909, Draft::Draft201909) => true,
-        (Draft::Draft202012, Draft::Draft202012) => true,
-        (Draft::Unknown, Draft::Unknown) => true,
-        _ => false,
-    }
-}
-
 // The location of the subschema at a path below.
 fn location_inside<S>(
     alloc: Global,
@@ -49,23 +36,24 @@ fn location_inside<S>(
 }
 
 impl<'p, R: Resolver, T> Given<'p, R, T> {
-    /// Whether the schema at a place has an identifier.
-    pub(crate) fn has_id(&self, draft: Draft, place: &SchemaPlace) -> bool
+    /// Whether a value that was read has an identifier.
+    pub(crate) fn identifies(&self, draft: Draft, value: Option<&Value>) -> bool
         ensures identified { result ≡ is_some ((R.resolving self.now.resolver.now).id (draft_of draft)
-            (schema_at (resolver_parts R.resolving self.now) (place_of place.now))) }
+            (unwrap_or (option_map (λ v. view v.now) value.entry) null)) }
     {
-        match self.resolver.value(place) {
+        match value {
             Some(value) => self.resolver.id(draft, value).is_some(),
             None => self.resolver.id(draft, &Value::Null).is_some(),
         }
     }
 
-    /// The draft of the schema at a place, inside a schema of this draft.
-    pub(crate) fn draft_at(&self, draft: Draft, place: &SchemaPlace) -> Draft
-        ensures detected { draft_of result ≡ (R.resolving self.now.resolver.now).detect (draft_of draft)
-            (schema_at (resolver_parts R.resolving self.now) (place_of place.now)) }
+    /// The draft of a value that was read, inside a schema of this draft; no value counts as null.
+    pub(crate) fn detected(&self, draft: Draft, value: Option<&Value>) -> Draft
+        ensures detected { draft_of result ≡
+            (R.resolving self.now.resolver.now).detect (draft_of draft)
+            (unwrap_or (option_map (λ v. view v.now) value.entry) null) }
     {
-        match self.resolver.value(place) {
+        match value {
             Some(value) => self.resolver.detect(draft, value),
             None => self.resolver.detect(draft, &Value::Null),
         }
@@ -83,7 +71,7 @@ impl<'p, R: Resolver, T> Given<'p, R, T> {
             else (R.resolving self.now.resolver.now).find_vocabularies
             (R.point below.now.state) (draft_of below.now.draft) (place_of below.now.place))) }
     {
-        if is_same_draft(below.draft, key.draft) {
+        if below.draft == key.draft {
             key.vocabularies.duplicate()
         } else {
             self.resolver
@@ -91,14 +79,18 @@ impl<'p, R: Resolver, T> Given<'p, R, T> {
         }
     }
 
-    // The key of the subschema at a place below, in its state and draft.
+    // The key of the subschema at a place below, in its state and draft; whether it has an identifier is known.
     fn key_inside(
         &self,
         key: &SchemaKey<R::State>,
         path: &SchemaPath,
         below: Target<R::State>,
+        has_id: bool,
     ) -> Result<SchemaKey<R::State>, OutOfMemory>
         requires below { place_of below.place ≡ at_path (place_of key.now.place) path.now }
+        requires identified { has_id ≡ is_some ((R.resolving self.now.resolver.now).id
+            (draft_of below.draft)
+            (schema_at (resolver_parts R.resolving self.now) (place_of below.place))) }
         ensures inside { IfOk result (λ k. key_of R.point k ≡
             inside (resolver_parts R.resolving self.now) (key_of R.point key.now) path.now
             (R.point below.state) (draft_of below.draft)) }
@@ -106,7 +98,7 @@ impl<'p, R: Resolver, T> Given<'p, R, T> {
         let location = location_inside(self.alloc, key, path)?;
         let base = key.base.copy()?;
         let vocabularies = self.vocabularies_inside(key, &below)?;
-        let start = if self.has_id(below.draft, &below.place) {
+        let start = if has_id {
             location.as_str().len()
         } else {
             key.start
@@ -122,29 +114,33 @@ impl<'p, R: Resolver, T> Given<'p, R, T> {
         })
     }
 
-    /// The key of the subschema at a path below.
+    /// The key of the subschema at a path below, and the value that was read there.
     pub(crate) fn subschema_key(
         &self,
         key: &SchemaKey<R::State>,
         path: &SchemaPath,
-    ) -> Result<SchemaKey<R::State>, BuildError>
+    ) -> Result<(SchemaKey<R::State>, Option<&'p Value>), BuildError>
         ensures below { IfOk result (λ k.
             subschema (resolver_parts R.resolving self.now) (key_of R.point key.now) path.now ≡
-            Some (record { key = key_of R.point k; path = pointer_to path.now; is_reference = false })) }
+            Some (record { key = key_of R.point k.0; path = pointer_to path.now; is_reference = false })) }
+        ensures read { IfOk result (λ k. option_map (λ v. view v.now) k.1 ≡
+            (R.resolving self.now.resolver.now).value (place_of k.0.place)) }
         ensures refused { IfErr result (Names
             (request_causes (resolver_parts R.resolving self.now) (key_of R.point key.now)
             (compile path.now))) }
     {
         let place = key.place.below(self.alloc, path)?;
-        let draft = self.draft_at(key.draft, &place);
+        let value = self.resolver.value(&place);
+        let draft = self.detected(key.draft, value);
         let state = self
             .resolver
             .in_subresource(self.alloc, &key.state, draft, &place)?;
+        let has_id = self.identifies(draft, value);
         let below = Target {
             place,
             state,
             draft,
         };
-        Ok(self.key_inside(key, path, below)?)
+        Ok((self.key_inside(key, path, below, has_id)?, value))
     }
 }

@@ -1,14 +1,13 @@
 //! The value at a key's place, and the text of a reference.
-ghost use Rattle.std.specs.Prelude.{◌≡◌, ◌∷◌, [], Bool, IfErr, IfOk, None, Some, option_map, string_bytes};
-ghost use Rattle.serde_json.specs.Data.{string};
+ghost use Rattle.std.specs.Prelude.{◌≡◌, ◌∷◌, [], Bool, IfErr, IfOk, None, Some, option_map, string_bytes, unwrap_or};
+ghost use Rattle.serde_json.specs.Data.{null, string};
 ghost use Rattle.serde_json.specs.Find.{as_bool, as_object, as_str};
 ghost use Rattle.serde_json.specs.View.{view, members_view};
 ghost use Rattle.schema_reports.specs.Pointer.{joined};
-ghost use Rattle.schema_reports.specs.Plan.{schema_of};
 ghost use Rattle.schema_reports.specs.Refusals.{not_a_schema, reference_not_text};
 ghost use Rattle.schema_node.specs.NodeViews.{boolean_plan, plan_of};
-ghost use Rattle.schema_compiler.specs.KeyViews.{key_of};
-ghost use Rattle.schema_compiler.specs.Carried.{resolver_parts};
+ghost use Rattle.schema_node.specs.ResolverViews.{place_of};
+ghost use Rattle.schema_compiler.specs.Readings.{IsReading};
 ghost use Rattle.schema_compiler.specs.Refusing.{Names};
 
 use crate::compiler::context::Context;
@@ -19,51 +18,57 @@ use schema_node::context::resolver::Resolver;
 use schema_node::node::NodeForm;
 use serde_json::{Map, Value};
 
-impl<'p, R: Resolver, T> Given<'p, R, T> {
-    /// The members of the object at a key's place, if there is one.
-    pub(crate) fn object_at(&self, key: &SchemaKey<R::State>) -> Option<&'p Map<String, Value>>
-        ensures object { option_map (λ m. members_view m.now.entries) result ≡
-            as_object (schema_of (resolver_parts R.resolving self.now) (key_of R.point key.now)) }
-    {
-        match self.resolver.value(&key.place) {
-            Some(value) => value.as_object(),
-            None => None,
-        }
-    }
+/// What is known of the value at a key's place: it was read for the key already, or it was not.
+#[derive(Clone, Copy)]
+pub(crate) enum Reading<'p> {
+    Read(Option<&'p Value>),
+    Unread,
+}
 
-    /// What a key's value that is no object asks of an instance; only a boolean is a schema.
-    pub(crate) fn form_at<K: Drop>(
+impl<'p, R: Resolver, T> Given<'p, R, T> {
+    /// The value at a key's place, which is read where it was not read already.
+    pub(crate) fn value_of(
         &self,
         key: &SchemaKey<R::State>,
-    ) -> Result<NodeForm<K>, BuildError>
-        ensures form { IfOk result (λ form. (b : Bool) ×
-            (as_bool (schema_of (resolver_parts R.resolving self.now) (key_of R.point key.now)) ≡
-            Some b) × (plan_of form ≡ boolean_plan b)) }
-        ensures refused { IfErr result (Names (not_a_schema key.now.location ∷ [])) }
-        ensures other { IfErr result (λ _.
-            as_bool (schema_of (resolver_parts R.resolving self.now) (key_of R.point key.now)) ≡
-            None) }
+        reading: Reading<'p>,
+    ) -> Option<&'p Value>
+        requires reading { IsReading
+            ((R.resolving self.now.resolver.now).value (place_of key.now.place)) reading }
+        ensures value { option_map (λ v. view v.now) result ≡
+            (R.resolving self.now.resolver.now).value (place_of key.now.place) }
     {
-        let context = Context {
-            options: self.options,
-            key,
-        };
-        match self.resolver.value(&key.place) {
-            Some(value) => context.plain_form(value),
-            None => context.plain_form(&Value::Null),
+        match reading {
+            Reading::Read(value) => value,
+            Reading::Unread => self.resolver.value(&key.place),
         }
     }
 }
 
+/// The members of a value that was read at a place, if it is an object.
+pub(crate) fn object_of<'v>(value: Option<&'v Value>) -> Option<&'v Map<String, Value>>
+    ensures object { option_map (λ m. members_view m.now.entries) result ≡
+        as_object (unwrap_or (option_map (λ v. view v.now) value.entry) null) }
+{
+    match value {
+        Some(value) => value.as_object(),
+        None => None,
+    }
+}
+
 impl<'c, S> Context<'c, S> {
-    // What a value that is no object asks of an instance; only a boolean is a schema.
-    fn plain_form<K: Drop>(&self, value: &Value) -> Result<NodeForm<K>, BuildError>
-        ensures form { IfOk result (λ form. (b : Bool) × (as_bool (view value.now) ≡ Some b) ×
+    /// What a value that is no object asks of an instance; only a boolean is a schema.
+    pub(crate) fn plain_form<K: Drop>(
+        &self,
+        value: Option<&Value>,
+    ) -> Result<NodeForm<K>, BuildError>
+        ensures form { IfOk result (λ form. (b : Bool) ×
+            (as_bool (unwrap_or (option_map (λ v. view v.now) value.entry) null) ≡ Some b) ×
             (plan_of form ≡ boolean_plan b)) }
         ensures refused { IfErr result (Names (not_a_schema self.now.key.now.location ∷ [])) }
-        ensures other { IfErr result (λ _. as_bool (view value.now) ≡ None) }
+        ensures other { IfErr result (λ _.
+            as_bool (unwrap_or (option_map (λ v. view v.now) value.entry) null) ≡ None) }
     {
-        match value.as_bool() {
+        match value.and_then(|value| value.as_bool()) {
             Some(accepts) => Ok(form_of_boolean(accepts)),
             None => Err(BuildError::NotASchema(self.location().copy()?)),
         }
@@ -95,7 +100,7 @@ impl<'c, S> Context<'c, S> {
         ensures refused { Names (reference_not_text
             (joined self.now.key.now.location (string_bytes name.now)) ∷ []) result }
     {
-        match self.keyword_location(name) {
+        match self.location_of(name) {
             Ok(location) => BuildError::ReferenceNotText(location),
             Err(_) => BuildError::OutOfMemory,
         }

@@ -16,12 +16,7 @@ use schema_reports::keywords::VocabularySet;
 fn is_declared(declared: &[String], uri: &str) -> bool
     ensures declared { result ≡ list_any (bytes_eq uri.now) (map string_bytes declared.now) }
 {
-    for other in declared {
-        if uri == other.as_str() {
-            return true;
-        }
-    }
-    false
+    declared.iter().any(|other| uri == other.as_str())
 }
 
 impl<'p, R: Resolver, T> Given<'p, R, T> {

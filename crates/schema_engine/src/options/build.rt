@@ -19,12 +19,14 @@ use serde_json::Value;
 use std::alloc::Global;
 
 impl ValidationOptions {
-    /// A validator of a schema. The resolver has to know the schema as the document under the root's base: of that document
-    /// the validator speaks. It means the plain meaning of schema and parts, where no chain of questions returns.
+    /// Builds a validator of a schema. The resolver has to have the schema as the document under the root's base: that is
+    /// what is compiled, and what the contract speaks of. Where no chain of references returns, the validator means the plain
+    /// meaning of schema and parts.
     ///
     /// # Errors
     ///
-    /// A cause that stands for the schema's root or for what it reaches, more keys than the limit, or want of memory.
+    /// Fails if the schema's root, or a schema that it reaches, is refused, if more keys are reached than the limit, or out of
+    /// memory. The error names a cause of that refusal.
     pub fn build<S: Resolver, T: KeywordTable<K>, K: Validate, M: Matcher>(
         &self,
         alloc: Global,

@@ -6,7 +6,7 @@ ghost use Rattle.schema_reports.specs.Root.{root_draft, base_of, key_at};
 ghost use Rattle.schema_node.specs.ResolverViews.{place_of};
 ghost use Rattle.schema_compiler.specs.KeyViews.{key_of};
 ghost use Rattle.schema_compiler.specs.Compiling as compiling;
-ghost use Rattle.schema_engine.specs.Roots.{IsRootKey, RefusesKey, resolving_parts};
+ghost use Rattle.schema_engine.specs.Roots.{IsRootKey, RefusesKey, root_parts};
 
 use crate::options::ValidationOptions;
 use schema_compiler::compiler::error::BuildError;
@@ -18,13 +18,13 @@ use schema_reports::location::{Location, OutOfMemory};
 use serde_json::Value;
 use std::alloc::Global;
 
-/// The key of a schema's root: at the place where the resolver's document under the root's base begins, in the root's
-/// draft, at the empty location. The draft is the option, or what the schema asks for; the base is the option, or the
-/// schema's identifier, or `json-schema:///`.
+/// Returns the key of a schema's root: at the place where the resolver's document under the root's base begins, in the
+/// root's draft, at the empty location. The draft is the option's, or else the one that the schema asks for; the base is the
+/// option's, or else the schema's identifier, or else `json-schema:///`.
 ///
 /// # Errors
 ///
-/// The draft that the schema asks for is refused, there is no document under the base, or memory is wanting.
+/// Fails if the resolver refuses the draft that the schema asks for or has no document under the base, or out of memory.
 pub fn root_key<R: Resolver>(
     alloc: Global,
     resolver: &R,
@@ -32,11 +32,11 @@ pub fn root_key<R: Resolver>(
     schema: &Value,
 ) -> Result<SchemaKey<R::State>, BuildError>
     ensures key { IfOk result (λ k. IsRootKey
-        (resolving_parts (R.resolving resolver.now) options.now) (view schema.now) (key_of R.point k)) }
+        (root_parts (R.resolving resolver.now) options.now) (view schema.now) (key_of R.point k)) }
     ensures drafted { IfOk result (λ k. root_draft
-        (resolving_parts (R.resolving resolver.now) options.now) (view schema.now) ≡ Ok (draft_of k.draft)) }
+        (root_parts (R.resolving resolver.now) options.now) (view schema.now) ≡ Ok (draft_of k.draft)) }
     ensures refused { IfErr result (RefusesKey
-        (resolving_parts (R.resolving resolver.now) options.now) (view schema.now)) }
+        (root_parts (R.resolving resolver.now) options.now) (view schema.now)) }
 {
     let draft = options.root_draft(alloc, resolver, schema)?;
     let base = options.base_of(resolver, draft, schema);
@@ -55,9 +55,9 @@ impl ValidationOptions {
         schema: &Value,
     ) -> Result<Draft, BuildError>
         ensures drafted { IfOk result (λ d. root_draft
-            (resolving_parts (R.resolving resolver.now) self.now) (view schema.now) ≡ Ok (draft_of d)) }
+            (root_parts (R.resolving resolver.now) self.now) (view schema.now) ≡ Ok (draft_of d)) }
         ensures refused { IfErr result (RefusesKey
-            (resolving_parts (R.resolving resolver.now) self.now) (view schema.now)) }
+            (root_parts (R.resolving resolver.now) self.now) (view schema.now)) }
     {
         match self.draft {
             Some(draft) => Ok(draft),
@@ -67,7 +67,7 @@ impl ValidationOptions {
 
     // The base of a schema's root.
     fn base_of<'v, R: Resolver>(&'v self, resolver: &R, draft: Draft, schema: &'v Value) -> &'v str
-        ensures base { result.now ≡ base_of (resolving_parts (R.resolving resolver.now) self.now)
+        ensures base { result.now ≡ base_of (root_parts (R.resolving resolver.now) self.now)
             (draft_of draft) (view schema.now) }
     {
         if let Some(base) = &self.base {

@@ -73,12 +73,13 @@ pub enum Step<'s> {
     Done,
 }
 
-/// What the next turn is told: nothing, or what was asked for.
+/// What the next turn is told: nothing, or what was asked for. An error alone stands in a box, so that a reply is a few words
+/// long whatever its mode.
 #[derive(Drop)]
 pub enum Reply<'i> {
     Nothing,
     Truth(bool),
-    First(Option<ValidationError<'i>>),
+    First(Option<Box<ValidationError<'i>>>),
     All(Vec<ValidationError<'i>>),
 }
 
@@ -110,7 +111,7 @@ pub struct ErrorDescription {
 #[derive(Drop)]
 pub enum Answer<'i> {
     Verdict(bool),
-    First(Option<Fault<'i>>),
+    First(Option<Box<Fault<'i>>>),
     All(Vec<Fault<'i>>),
     Evaluation(bool, Vec<ErrorDescription>),
 }

@@ -1,19 +1,15 @@
-//! The place at which a node is asked, which takes no memory where a verdict alone is wanted.
+//! The place at which a node is asked, which takes no memory until it is asked for.
 ghost use Rattle.std.specs.Prelude.{◌≡◌, ◌++◌, ◌∷◌, [], IfOk};
 ghost use Rattle.schema_reports.specs.InstanceViews.{step_of};
 ghost use Rattle.schema_node.specs.EvaluationPlaces.{steps_to};
-ghost use Rattle.schema_node.specs.KeywordViews.{mode_of};
-ghost use Rattle.schema_node.specs.PlaceForms.{is_made, wants_more};
 
-use crate::context::keyword::Mode;
 use schema_reports::instance::{InstanceStep, Place};
 use schema_reports::location::OutOfMemory;
 
-/// A place that was given, one that was made, or the place above a step and the step.
-#[derive(Drop)]
+/// A place that was given, or the place above a step and the step.
+#[derive(Clone, Copy)]
 pub enum EvaluationPlace<'p, 'i> {
     Given(&'p Place<'i>),
-    Made(Place<'i>),
     Below(&'p EvaluationPlace<'p, 'i>, InstanceStep<'i>),
 }
 
@@ -25,21 +21,11 @@ impl<'p, 'i> EvaluationPlace<'p, 'i> {
         EvaluationPlace::Given(place)
     }
 
-    /// The place one step below. Where a verdict is wanted, it takes no memory.
-    pub fn below(
-        &'p self,
-        step: InstanceStep<'i>,
-        mode: Mode,
-    ) -> Result<EvaluationPlace<'p, 'i>, OutOfMemory>
-        ensures below { IfOk result (λ p. steps_to p ≡ steps_to self.now ++ step_of step.entry ∷ []) }
-        ensures form { IfOk result (λ p. is_made p ≡ wants_more (mode_of mode)) }
+    /// The place one step below.
+    pub fn below(&'p self, step: InstanceStep<'i>) -> EvaluationPlace<'p, 'i>
+        ensures below { steps_to result ≡ steps_to self.now ++ step_of step.entry ∷ [] }
     {
-        match mode {
-            Mode::Verdict => Ok(EvaluationPlace::Below(self, step)),
-            Mode::First => Ok(EvaluationPlace::Made(self.made_below(step)?)),
-            Mode::All => Ok(EvaluationPlace::Made(self.made_below(step)?)),
-            Mode::Evaluate => Ok(EvaluationPlace::Made(self.made_below(step)?)),
-        }
+        EvaluationPlace::Below(self, step)
     }
 
     // The place one step below, in memory of its own.
@@ -48,7 +34,6 @@ impl<'p, 'i> EvaluationPlace<'p, 'i> {
     {
         match self {
             EvaluationPlace::Given(place) => Ok(place.below(step)?),
-            EvaluationPlace::Made(place) => Ok(place.below(step)?),
             EvaluationPlace::Below(above, last) => {
                 let here = above.made_below(*last)?;
                 Ok(here.below(step)?)
@@ -62,7 +47,6 @@ impl<'p, 'i> EvaluationPlace<'p, 'i> {
     {
         match self {
             EvaluationPlace::Given(place) => Ok(place.copy()?),
-            EvaluationPlace::Made(place) => Ok(place.copy()?),
             EvaluationPlace::Below(above, last) => Ok(above.made_below(*last)?),
         }
     }

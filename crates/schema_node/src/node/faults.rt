@@ -1,7 +1,7 @@
 //! What a keyword has found, as errors at its place.
 ghost use Rattle.std.specs.Prelude.{◌≡◌, ◌++◌, IfOk, Bool, All, Some, [], map, option_map, slice_get, string_bytes, unwrap_or};
 ghost use Rattle.serde_json.specs.Data.{Data};
-ghost use Rattle.schema_reports.specs.Instance.{after_step, subject_from};
+ghost use Rattle.schema_reports.specs.Instance.{subject_from};
 ghost use Rattle.schema_reports.specs.InstanceViews.{step_of, subject_of};
 ghost use Rattle.schema_reports.specs.Laws.{IsPresent};
 ghost use Rattle.schema_reports.specs.Meaning.{fault_error};
@@ -10,7 +10,7 @@ ghost use Rattle.schema_reports.specs.ReportViews.{error_of, BorrowsItsPlace};
 ghost use Rattle.schema_node.specs.AnswerModes.{mode_in};
 ghost use Rattle.schema_node.specs.FaultViews.{answer_reply, errors_in, faults_in, FaultsLieInside, LiesInside};
 ghost use Rattle.schema_node.specs.KeywordViews.{answer_of, fault_of, fresh, mode_of, own_of, reply_of};
-ghost use Rattle.schema_reports.specs.Keywords.{own};
+ghost use Rattle.schema_reports.specs.Keywords.{for_all, for_first, own};
 ghost use Rattle.schema_node.specs.EvaluationPaths.{path_of};
 ghost use Rattle.schema_node.specs.EvaluationPlaces.{steps_to};
 ghost use Rattle.schema_node.specs.RunStates.{IsAskedOf, asking, where_asked};
@@ -19,12 +19,11 @@ ghost use Rattle.schema_node.specs.NodeViews.{node_of};
 
 use crate::context::keyword::{Answer, Fault, Mode, OwnError, Reply};
 use crate::node::Node;
-use crate::node::evaluation_path::EvaluationPath;
-use crate::node::evaluation_place::EvaluationPlace;
 use crate::node::question::Question;
 use crate::node::replies::{keyword_location, stamped_error};
+use crate::node::spots::{after, path_from, place_below};
 use schema_reports::instance::{Instance, InstanceStep, Place};
-use schema_reports::location::{Location, LocationSegment, OutOfMemory};
+use schema_reports::location::{Location, OutOfMemory};
 use schema_reports::reports::ValidationError;
 use std::alloc::Global;
 
@@ -42,21 +41,6 @@ pub fn begun<'i>(alloc: Global, mode: Mode) -> Answer<'i>
     }
 }
 
-// What a step leads to.
-fn after<'i>(instance: Instance<'i>, step: InstanceStep<'i>) -> Option<Instance<'i>>
-    ensures after { option_map subject_of result ≡ after_step (step_of step.entry) (subject_of instance.entry) }
-{
-    let found = match step {
-        InstanceStep::Member(name) => instance.member(name),
-        InstanceStep::Item(index) => instance.item(index),
-        InstanceStep::NameOf(name) => instance.name_of(name),
-    };
-    match found {
-        Some((inner, _)) => Some(inner),
-        None => None,
-    }
-}
-
 // What stands some steps below, or the instance itself where the steps lead nowhere.
 fn instance_below<'i>(instance: Instance<'i>, steps: &[InstanceStep<'i>]) -> Instance<'i>
     ensures below { IsPresent (subject_of instance.entry) (map step_of steps.now)
@@ -65,46 +49,21 @@ fn instance_below<'i>(instance: Instance<'i>, steps: &[InstanceStep<'i>]) -> Ins
     let mut found = instance;
     for step in steps {
         match after(found, *step) {
-            Some(inner) => found = inner,
+            Some((inner, _)) => found = inner,
             None => return instance,
         }
     }
     found
 }
 
-// The place some steps below.
-fn place_below<'i>(
-    place: &EvaluationPlace<'_, 'i>,
-    steps: &[InstanceStep<'i>],
-) -> Result<Place<'i>, OutOfMemory>
-    ensures below { IfOk result (λ p. p ≡ steps_to place.now ++ map step_of steps.now) }
+// The name that a path from the keyword on begins with: the keyword's own, or that of the one that it absorbs.
+fn spot_name<'n>(absorbed: &'n Option<String>, name: &'n String) -> &'n str
+    ensures name { result.now ≡ unwrap_or (option_map string_bytes absorbed.now) (string_bytes name.now) }
 {
-    let mut lower = place.made()?;
-    for step in steps {
-        lower = lower.below(*step)?;
-    }
-    Ok(lower)
-}
-
-// A path from the keyword on, or from the one that it absorbs.
-fn spot_path(
-    alloc: Global,
-    location: &Location,
-    absorbed: &Option<String>,
-    name: &String,
-    rest: &String,
-) -> Result<Location, OutOfMemory>
-    ensures path { IfOk result (λ l. l
-        ≡ joined location.now (unwrap_or (option_map string_bytes absorbed.now) (string_bytes name.now)) ++ string_bytes rest.now) }
-{
-    let name = match absorbed {
+    match absorbed {
         Some(absorbed) => absorbed.as_str(),
         None => name.as_str(),
-    };
-    let rest = Location::from_escaped(alloc, rest.as_str())?;
-    location
-        .join(LocationSegment::Property(name))?
-        .append(&rest)
+    }
 }
 
 // Where an error of the keyword's own stands.
@@ -114,22 +73,6 @@ struct ErrorPlaces<'i> {
     schema_path: Location,
     evaluation_path: Location,
     absolute_keyword_location: Option<String>,
-}
-
-// A path from the keyword on, or from the one that it absorbs, as it was evaluated.
-fn evaluated_spot_path(
-    alloc: Global,
-    path: &EvaluationPath<'_>,
-    absorbed: &Option<String>,
-    name: &String,
-    rest: &String,
-) -> Result<Location, OutOfMemory>
-    ensures path { IfOk result (λ l. l
-        ≡ joined (path_of path.now) (unwrap_or (option_map string_bytes absorbed.now) (string_bytes name.now))
-        ++ string_bytes rest.now) }
-{
-    let path = path.made(alloc)?;
-    spot_path(alloc, &path, absorbed, name, rest)
 }
 
 // The paths and the place of an error of the keyword's own.
@@ -150,14 +93,10 @@ fn error_places<'i, K>(
     ensures absolute { IfOk result (λ p. option_map string_bytes p.absolute_keyword_location
         ≡ keyword_absolute (node_of node.now) (string_bytes name.now)) }
 {
-    let schema_path = spot_path(alloc, &node.location, &found.absorbed, name, &found.path)?;
-    let evaluation_path = evaluated_spot_path(
-        alloc,
-        question.path,
-        &found.absorbed,
-        name,
-        &found.path,
-    )?;
+    let first = spot_name(&found.absorbed, name);
+    let rest = found.path.as_str();
+    let schema_path = path_from(alloc, &node.location, first, rest)?;
+    let evaluation_path = path_from(alloc, &question.path.made(alloc)?, first, rest)?;
     let absolute_keyword_location = keyword_location(alloc, node, name)?;
     let place = place_below(question.place, found.below.as_slice())?;
     Ok(ErrorPlaces {
@@ -229,7 +168,7 @@ fn errors_by<'i, K>(
     ensures borrows { IfOk result (λ es. (root : Data) → IsAskedOf root (asking question.now)
         → All (LiesInside root (subject_of question.now.instance)) faults.entry.items → All (BorrowsItsPlace root) es.items) }
 {
-    let mut errors = Vec::new(alloc);
+    let mut errors = Vec::with_capacity(alloc, faults.len())?;
     for fault in faults {
         errors.push(error_by(alloc, node, name, question, fault)?)?;
     }
@@ -257,7 +196,7 @@ fn all_faults<'i>(alloc: Global, answer: Answer<'i>) -> Result<Vec<Fault<'i>>, O
         Answer::First(found) => {
             let mut faults = Vec::new(alloc);
             match found {
-                Some(fault) => faults.push(fault)?,
+                Some(fault) => faults.push(Box::into_inner(fault))?,
                 None => {}
             }
             Ok(faults)
@@ -273,7 +212,10 @@ fn first_fault<'i>(answer: Answer<'i>) -> Option<Fault<'i>>
 {
     match answer {
         Answer::Verdict(_) => None,
-        Answer::First(found) => found,
+        Answer::First(found) => match found {
+            Some(fault) => Some(Box::into_inner(fault)),
+            None => None,
+        },
         Answer::All(mut faults) => {
             if faults.is_empty() {
                 None
@@ -283,6 +225,52 @@ fn first_fault<'i>(answer: Answer<'i>) -> Option<Fault<'i>>
         }
         Answer::Evaluation(_, _) => None,
     }
+}
+
+// The first error of an answer, as a reply. Its room on the stack is its own, so that a verdict pays nothing for it.
+#[inline(never)]
+fn first_finished<'i, K>(
+    alloc: Global,
+    node: &Node<K>,
+    name: &String,
+    question: &Question<'_, 'i>,
+    answer: Answer<'i>,
+) -> Result<Reply<'i>, OutOfMemory>
+    ensures reply { IfOk result (λ r. (texts : Bool) → reply_of texts r
+        ≡ answer_reply for_first (where_asked (node_of node.now) (asking question.now))
+        (string_bytes name.now) (answer_of texts answer.entry)) }
+    ensures borrows { IfOk result (λ r. (root : Data) → IsAskedOf root (asking question.now)
+        → FaultsLieInside for_first root (subject_of question.now.instance) answer.entry
+        → All (BorrowsItsPlace root) (errors_in r)) }
+{
+    match first_fault(answer) {
+        None => Ok(Reply::First(None)),
+        Some(fault) => {
+            let error = error_by(alloc, node, name, question, fault)?;
+            Ok(Reply::First(Some(Box::new(alloc, error)?)))
+        }
+    }
+}
+
+// All errors of an answer, as a reply. Its room on the stack is its own, too.
+#[inline(never)]
+fn all_finished<'i, K>(
+    alloc: Global,
+    node: &Node<K>,
+    name: &String,
+    question: &Question<'_, 'i>,
+    answer: Answer<'i>,
+) -> Result<Reply<'i>, OutOfMemory>
+    ensures reply { IfOk result (λ r. (texts : Bool) → reply_of texts r
+        ≡ answer_reply for_all (where_asked (node_of node.now) (asking question.now))
+        (string_bytes name.now) (answer_of texts answer.entry)) }
+    ensures borrows { IfOk result (λ r. (root : Data) → IsAskedOf root (asking question.now)
+        → FaultsLieInside for_all root (subject_of question.now.instance) answer.entry
+        → All (BorrowsItsPlace root) (errors_in r)) }
+{
+    let faults = all_faults(alloc, answer)?;
+    let errors = errors_by(alloc, node, name, question, faults)?;
+    Ok(Reply::All(errors))
 }
 
 /// What an answer says in a mode, as a reply.
@@ -302,18 +290,8 @@ pub fn finished<'i, K>(
 {
     match question.mode {
         Mode::Verdict => Ok(Reply::Truth(is_accepting(&answer))),
-        Mode::First => match first_fault(answer) {
-            None => Ok(Reply::First(None)),
-            Some(fault) => {
-                let error = error_by(alloc, node, name, question, fault)?;
-                Ok(Reply::First(Some(error)))
-            }
-        },
-        Mode::All => {
-            let faults = all_faults(alloc, answer)?;
-            let errors = errors_by(alloc, node, name, question, faults)?;
-            Ok(Reply::All(errors))
-        }
+        Mode::First => first_finished(alloc, node, name, question, answer),
+        Mode::All => all_finished(alloc, node, name, question, answer),
         Mode::Evaluate => Ok(Reply::Nothing),
     }
 }

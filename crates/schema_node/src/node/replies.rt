@@ -63,7 +63,7 @@ pub fn is_yes(reply: Reply<'_>) -> bool
 }
 
 // The first error of a reply, or else of the other one.
-fn joined_first<'i>(found: Option<ValidationError<'i>>, more: Reply<'i>) -> Reply<'i>
+fn joined_first<'i>(found: Option<Box<ValidationError<'i>>>, more: Reply<'i>) -> Reply<'i>
     ensures both { (texts : Bool)
         → Joins (reply_of texts (variant.First found.entry)) (reply_of texts more.entry) (reply_of texts result) }
     ensures borrows { (root : Data) → All (BorrowsItsPlace root) (errors_in (variant.First found.entry))
@@ -87,6 +87,9 @@ fn joined_all<'i>(
 {
     match more {
         Reply::All(mut others) => {
+            if errors.is_empty() {
+                return Ok(Reply::All(others));
+            }
             errors.append(&mut others)?;
             Ok(Reply::All(errors))
         }
@@ -120,10 +123,32 @@ pub fn keyword_location<K>(
 ) -> Result<Option<String>, OutOfMemory>
     ensures absolute { IfOk result (λ t. option_map string_bytes t ≡ keyword_absolute (node_of node.now) (string_bytes name.now)) }
 {
+    if node.base.is_none() {
+        return Ok(None);
+    }
     let location = node
         .location
         .join(LocationSegment::Property(name.as_str()))?;
     absolute_location(alloc, node, &location)
+}
+
+// Gives the error the absolute location of a keyword of the node, where it has none yet.
+fn stamp<'i, K>(
+    alloc: Global,
+    node: &Node<K>,
+    name: &String,
+    error: &mut ValidationError<'i>,
+) -> Result<(), OutOfMemory>
+    ensures stamped { IfOk result (λ _. (texts : Bool) → error_of texts error.new
+        ≡ stamped (keyword_absolute (node_of node.now) (string_bytes name.now)) (error_of texts error.old)) }
+    ensures place { IfOk result (λ _. error.new.place ≡ error.old.place) }
+    ensures instance { IfOk result (λ _. error.new.instance ≡ error.old.instance) }
+{
+    if error.absolute_keyword_location.is_none() {
+        let absolute = keyword_location(alloc, node, name)?;
+        error.absolute_keyword_location = absolute;
+    }
+    Ok(())
 }
 
 /// The error with the absolute location of a keyword of the node, where it has none yet.
@@ -131,23 +156,15 @@ pub fn stamped_error<'i, K>(
     alloc: Global,
     node: &Node<K>,
     name: &String,
-    error: ValidationError<'i>,
+    mut error: ValidationError<'i>,
 ) -> Result<ValidationError<'i>, OutOfMemory>
     ensures stamped { IfOk result (λ e. (texts : Bool) → error_of texts e
         ≡ stamped (keyword_absolute (node_of node.now) (string_bytes name.now)) (error_of texts error.entry)) }
     ensures place { IfOk result (λ e. e.place ≡ error.entry.place) }
     ensures instance { IfOk result (λ e. e.instance ≡ error.entry.instance) }
 {
-    match error.absolute_keyword_location {
-        Some(_) => Ok(error),
-        None => {
-            let absolute = keyword_location(alloc, node, name)?;
-            Ok(ValidationError {
-                absolute_keyword_location: absolute,
-                ..error
-            })
-        }
-    }
+    stamp(alloc, node, name, &mut error)?;
+    Ok(error)
 }
 
 // Each error with the absolute location of a keyword of the node, where it has none yet.
@@ -155,22 +172,23 @@ fn stamped_errors<'i, K>(
     alloc: Global,
     node: &Node<K>,
     name: &String,
-    errors: Vec<ValidationError<'i>>,
+    mut errors: Vec<ValidationError<'i>>,
 ) -> Result<Vec<ValidationError<'i>>, OutOfMemory>
     ensures stamped { IfOk result (λ es. (texts : Bool) → map (error_of texts) es.items
         ≡ map (stamped (keyword_absolute (node_of node.now) (string_bytes name.now))) (map (error_of texts) errors.entry.items)) }
     ensures borrows { IfOk result (λ es. (root : Data) → All (BorrowsItsPlace root) errors.entry.items
         → All (BorrowsItsPlace root) es.items) }
 {
-    let mut stamped = Vec::new(alloc);
-    for error in errors {
-        stamped.push(stamped_error(alloc, node, name, error)?)?;
+    for error in errors.iter_mut() {
+        stamp(alloc, node, name, error)?;
     }
-    Ok(stamped)
+    Ok(errors)
 }
 
-/// The reply with its errors stamped so.
-pub fn stamped_reply<'i, K>(
+// The reply with its errors stamped so, where there may be something to stamp. Its room on the stack is its own, so that a
+// verdict pays nothing for it.
+#[inline(never)]
+fn stamped_by_base<'i, K>(
     alloc: Global,
     node: &Node<K>,
     name: &String,
@@ -186,8 +204,8 @@ pub fn stamped_reply<'i, K>(
         Reply::Truth(yes) => Ok(Reply::Truth(yes)),
         Reply::First(found) => match found {
             None => Ok(Reply::First(None)),
-            Some(error) => {
-                let error = stamped_error(alloc, node, name, error)?;
+            Some(mut error) => {
+                stamp(alloc, node, name, &mut error)?;
                 Ok(Reply::First(Some(error)))
             }
         },
@@ -198,7 +216,26 @@ pub fn stamped_reply<'i, K>(
     }
 }
 
-/// The reply of the schema `false`.
+/// The reply with its errors stamped so.
+pub fn stamped_reply<'i, K>(
+    alloc: Global,
+    node: &Node<K>,
+    name: &String,
+    reply: Reply<'i>,
+) -> Result<Reply<'i>, OutOfMemory>
+    ensures stamped { IfOk result (λ r. (texts : Bool)
+        → Stamps (keyword_absolute (node_of node.now) (string_bytes name.now)) (reply_of texts reply.entry) (reply_of texts r)) }
+    ensures borrows { IfOk result (λ r. (root : Data) → All (BorrowsItsPlace root) (errors_in reply.entry)
+        → All (BorrowsItsPlace root) (errors_in r)) }
+{
+    if node.base.is_none() {
+        return Ok(reply);
+    }
+    stamped_by_base(alloc, node, name, reply)
+}
+
+/// The reply of the schema `false`. Its room on the stack is its own, so that what asks for it pays nothing otherwise.
+#[inline(never)]
 pub fn refused<'i, K>(
     alloc: Global,
     node: &Node<K>,
@@ -215,7 +252,7 @@ pub fn refused<'i, K>(
         Mode::Verdict => Ok(Reply::Truth(false)),
         Mode::First => {
             let error = false_error(alloc, node, question)?;
-            Ok(Reply::First(Some(error)))
+            Ok(Reply::First(Some(Box::new(alloc, error)?)))
         }
         Mode::All => {
             let mut errors = Vec::new(alloc);

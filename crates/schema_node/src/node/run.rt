@@ -28,6 +28,7 @@ use crate::node::faults::{begun, finished};
 use crate::node::matches::asked_match;
 use crate::node::question::{Engine, NamedKeyword, Question};
 use crate::node::replies::{accepted, is_settled, is_yes, joined, refused, stamped_reply};
+use crate::node::spots::after;
 use crate::node::{Edge, Entry, EntryForm, NodeForm, Nodes, SchemaNode};
 use schema_reports::instance::{Instance, InstanceStep, Place};
 use schema_reports::location::{Location, OutOfMemory};
@@ -43,13 +44,13 @@ fn one_below<'i>(
         (λ r. (below_of below.entry ≡ down (step_of r.1))
         × (after_step (step_of r.1) (subject_of instance.entry) ≡ Some (subject_of r.0))) }
 {
-    let found = match below {
+    let step = match below {
         Below::Here => return None,
-        Below::Member(name) => instance.member(name),
-        Below::Item(index) => instance.item(index),
-        Below::NameOf(name) => instance.name_of(name),
+        Below::Member(name) => InstanceStep::Member(name),
+        Below::Item(index) => InstanceStep::Item(index),
+        Below::NameOf(name) => InstanceStep::NameOf(name),
     };
-    match found {
+    match after(instance, step) {
         Some(lower) => Some(lower),
         None => unreachable!(),
     }
@@ -353,14 +354,14 @@ fn run_child<'i, K: Validate, M: Matcher>(
         Some(edge) => match one_below(question.instance, below) {
             None => run_edge(engine, edge, question, context),
             Some((inner, step)) => {
-                let lower = question.place.below(step, question.mode)?;
+                let lower = question.place.below(step);
                 let asked = Question {
                     instance: inner,
                     place: &lower,
                     path: question.path,
                     mode: question.mode,
                 };
-                Ok(run_edge(engine, edge, &asked, context)?)
+                run_edge(engine, edge, &asked, context)
             }
         },
     }
@@ -392,7 +393,7 @@ fn run_edge<'i, K: Validate, M: Matcher>(
             path: &whole,
             mode: question.mode,
         };
-        return Ok(run_node(engine, edge.node, &asked, context)?);
+        return run_node(engine, edge.node, &asked, context);
     }
     let here = question.place.made()?;
     if context.enter(edge.node, &here)? {

@@ -35,7 +35,7 @@ fn at_steps<'i>(instance: Instance<'i>, steps: &[InstanceStep<'_>]) -> Option<In
 }
 
 impl<'i> Instance<'i> {
-    /// What stands at this place of the instance, if there is one.
+    /// Returns what is at this place of the instance, or `None` if the instance has no such place.
     pub fn at(self, place: &Place<'_>) -> Option<Instance<'i>>
         ensures at { option_map subject_of result ≡ subject_from place.now (subject_of self.entry) }
     {

@@ -96,7 +96,7 @@ pub const BUILTIN_KEYWORDS: [BuiltinKeyword; 42] = [
 ];
 
 impl BuiltinKeyword {
-    /// The keyword's name, as schemas have it.
+    /// Returns the keyword's name, as it is written in schemas.
     pub fn as_str(self) -> &'static str
         ensures name { result.now ≡ builtin_text self }
     {
@@ -146,7 +146,7 @@ impl BuiltinKeyword {
         }
     }
 
-    /// The keyword of a name, if the standard has one in any draft.
+    /// Returns the keyword with this name, or `None` if no draft of the standard has one.
     pub fn named(name: &str) -> Option<BuiltinKeyword>
         ensures found { IfSome result (λ keyword. builtin_text keyword ≡ name.now) }
         ensures absent { IfNone result (row_named name.now ≡ None) }

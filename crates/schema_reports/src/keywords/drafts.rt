@@ -1,4 +1,5 @@
-/// A draft of the standard, the oldest first. What names a draft that is not known counts as 2020-12.
+/// A draft of the standard. Drafts are ordered by age, the oldest first. `Unknown` is a draft that the standard does not name;
+/// it is treated as 2020-12, and is the last in the order.
 #[derive(Clone, Copy, Debug, PartialEq, Eq, PartialOrd, Ord, Hash)]
 pub enum Draft {
     Draft4,

@@ -13,14 +13,14 @@ pub enum Keyword {
 }
 
 impl Keyword {
-    /// The user's keyword of this name.
+    /// Returns the user's keyword with this name.
     pub fn custom(name: String) -> Keyword
         ensures custom { keyword_seen result ≡ custom_name (string_bytes name) }
     {
         Keyword::Custom(name)
     }
 
-    /// The keyword's name, as schemas have it.
+    /// Returns the keyword's name, as it is written in schemas.
     pub fn as_str(&self) -> &str
         ensures name { result.now ≡ name_text (keyword_seen self.now) }
     {

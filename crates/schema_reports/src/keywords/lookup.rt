@@ -1,4 +1,4 @@
-ghost use Rattle.std.specs.Prelude.{◌≡◌, Some, option_map};
+ghost use Rattle.std.specs.Prelude.{◌≡◌, None, Some, if◌then◌else◌, option_map};
 ghost use Rattle.schema_reports.specs.KeywordTable.{builtin_in, content, entry_of, is_before_2019_09, is_in_force, plain_form, support_of};
 ghost use Rattle.schema_reports.specs.KeywordViews.{builtin_text, draft_of, entry_seen, form_of, support_seen, vocabulary_of};
 
@@ -9,8 +9,8 @@ use crate::keywords::keyword::Keyword;
 use crate::keywords::priorities::{keyword_is_leaf, keyword_priority};
 use crate::keywords::vocabularies::{Vocabulary, VocabularySet};
 
-/// The standard's keyword of a name and its form, where the draft has the keyword and the vocabulary that it needs is
-/// in force.
+/// Returns the standard's keyword with this name, and its form. Returns `None` if the draft does not have the keyword, or if
+/// the vocabulary that the keyword needs is not in force.
 pub fn get_for_draft(draft: Draft, vocabularies: &VocabularySet, name: &str) -> Option<BuiltinEntry>
     ensures entry { option_map entry_seen result ≡ entry_of (draft_of draft) vocabularies.now name.now }
 {
@@ -30,8 +30,8 @@ pub fn get_for_draft(draft: Draft, vocabularies: &VocabularySet, name: &str) -> 
     }
 }
 
-/// What the table gives a member of this name: the keyword's entry, its priority and whether it is a leaf, where
-/// [`get_for_draft`] has an entry. It takes no memory.
+/// Returns the entry that [`get_for_draft`] returns, with the keyword's priority and whether it is a leaf. Returns `None` if
+/// there is no entry. It allocates nothing.
 pub fn builtin_row(draft: Draft, vocabularies: &VocabularySet, name: &str) -> Option<BuiltinRow>
     ensures row { option_map (λ r. record { name = name.now; priority = r.priority; is_leaf = r.is_leaf }) result
         ≡ builtin_in (draft_of draft) vocabularies.now name.now }
@@ -46,22 +46,35 @@ pub fn builtin_row(draft: Draft, vocabularies: &VocabularySet, name: &str) -> Op
     })
 }
 
-/// Whether a vocabulary is in force: always before 2019-09, always where it is the core, and else where it is in the
-/// set.
+/// Returns `true` if the vocabulary is in force: always before draft 2019-09, always if it is the core vocabulary, and
+/// otherwise if it is in the set.
 pub fn has_vocabulary(draft: Draft, vocabularies: &VocabularySet, vocabulary: &Vocabulary) -> bool
     ensures in_force { result ≡ is_in_force (draft_of draft) vocabularies.now (vocabulary_of vocabulary.now) }
 {
-    has_no_vocabularies(draft)
+    is_before_2019_09(draft)
         || matches!(vocabulary, Vocabulary::Core)
         || vocabularies.contains(vocabulary)
 }
 
-fn has_no_vocabularies(draft: Draft) -> bool
+// Whether a draft has no vocabularies: those before 2019-09.
+fn is_before_2019_09(draft: Draft) -> bool
     ensures before { result ≡ is_before_2019_09 (draft_of draft) }
 {
     match draft {
         Draft::Draft4 | Draft::Draft6 | Draft::Draft7 => true,
         Draft::Draft201909 | Draft::Draft202012 | Draft::Unknown => false,
+    }
+}
+
+// What a keyword needs that no draft before 2019-09 has.
+fn since_2019_09(draft: Draft, support: Option<Support>) -> Option<Support>
+    ensures since { option_map support_seen result
+        ≡ (if is_before_2019_09 (draft_of draft) then None else option_map support_seen support) }
+{
+    if is_before_2019_09(draft) {
+        None
+    } else {
+        support
     }
 }
 
@@ -116,20 +129,14 @@ fn support(keyword: BuiltinKeyword, draft: Draft) -> Option<Support>
         | BuiltinKeyword::Required
         | BuiltinKeyword::Pattern
         | BuiltinKeyword::UniqueItems => by(Vocabulary::Validation),
-        BuiltinKeyword::DependentRequired => match draft {
-            Draft::Draft4 | Draft::Draft6 | Draft::Draft7 => None,
-            _ => by(Vocabulary::Validation),
-        },
+        BuiltinKeyword::DependentRequired => since_2019_09(draft, by(Vocabulary::Validation)),
         BuiltinKeyword::Format | BuiltinKeyword::Ref => always(KeywordForm::Plain),
         BuiltinKeyword::ContentEncoding | BuiltinKeyword::ContentMediaType => match draft {
             Draft::Draft4 => None,
             Draft::Draft6 | Draft::Draft7 => always(KeywordForm::Plain),
             _ => by_content(),
         },
-        BuiltinKeyword::ContentSchema => match draft {
-            Draft::Draft4 | Draft::Draft6 | Draft::Draft7 => None,
-            _ => by_content(),
-        },
+        BuiltinKeyword::ContentSchema => since_2019_09(draft, by_content()),
         BuiltinKeyword::Properties
         | BuiltinKeyword::PatternProperties
         | BuiltinKeyword::AdditionalProperties
@@ -148,18 +155,14 @@ fn support(keyword: BuiltinKeyword, draft: Draft) -> Option<Support>
             Draft::Draft202012 | Draft::Unknown => by(Vocabulary::Applicator),
             _ => None,
         },
-        BuiltinKeyword::DependentSchemas => match draft {
-            Draft::Draft4 | Draft::Draft6 | Draft::Draft7 => None,
-            _ => by(Vocabulary::Applicator),
-        },
+        BuiltinKeyword::DependentSchemas => since_2019_09(draft, by(Vocabulary::Applicator)),
         BuiltinKeyword::If => match draft {
             Draft::Draft4 | Draft::Draft6 => None,
             _ => by(Vocabulary::Applicator),
         },
         BuiltinKeyword::UnevaluatedProperties | BuiltinKeyword::UnevaluatedItems => match draft {
-            Draft::Draft4 | Draft::Draft6 | Draft::Draft7 => None,
-            Draft::Draft201909 => by(Vocabulary::Applicator),
             Draft::Draft202012 | Draft::Unknown => by(Vocabulary::Unevaluated),
+            _ => since_2019_09(draft, by(Vocabulary::Applicator)),
         },
         BuiltinKeyword::RecursiveRef => match draft {
             Draft::Draft201909 => always(KeywordForm::Plain),

@@ -1,12 +1,13 @@
-ghost use Rattle.std.specs.Prelude.{◌≡◌};
-ghost use Rattle.schema_reports.specs.KeywordTable.{HasFortyTwoRows, LeavesAreCheap, RowsAreInOrder, builtin_name, leaf_of, priority_of};
+ghost use Rattle.std.specs.Prelude.{◌≡◌, map};
+ghost use Rattle.schema_reports.specs.KeywordTable.{HasFortyTwoRows, LeavesAreCheap, RowsAreInOrder};
+ghost use Rattle.schema_reports.specs.KeywordTable.{builtin_name, keyword_table, leaf_of, priority_of};
 ghost use Rattle.schema_reports.specs.KeywordViews.{builtin_text, keyword_seen};
 
-use crate::keywords::builtin::BuiltinKeyword;
+use crate::keywords::builtin::{BUILTIN_KEYWORDS, BuiltinKeyword};
 use crate::keywords::keyword::Keyword;
 
-/// How late a keyword is asked: cheap assertions come first, then what applies subschemas, then references, and the
-/// user's keywords last.
+/// Returns the keyword's priority; a smaller one is evaluated earlier. Cheap assertions come first, then keywords that apply
+/// subschemas, then references, and the user's keywords last.
 pub fn keyword_priority(keyword: &Keyword) -> u8
     ensures priority { priority_of (keyword_seen keyword.now) ≡ Some result }
 {
@@ -16,7 +17,7 @@ pub fn keyword_priority(keyword: &Keyword) -> u8
     }
 }
 
-/// Whether a keyword speaks of the instance itself and applies no subschema.
+/// Returns `true` if the keyword looks at the instance itself and applies no subschema.
 pub fn keyword_is_leaf(keyword: &Keyword) -> bool
     ensures leaf { leaf_of (keyword_seen keyword.now) ≡ Some result }
 {
@@ -75,11 +76,12 @@ fn builtin_priority(keyword: BuiltinKeyword) -> u8
     }
 }
 
-/// What holds of the table: it has 42 rows of names and priorities of their own, in the order of the priorities, and
-/// its leaves are the keywords of priority below 40 other than `contentSchema`. The function does nothing when it
-/// runs.
+/// What holds of the table: it has 42 rows of names and priorities of their own, in the order of the priorities, as
+/// `BUILTIN_KEYWORDS` lists them, and its leaves are the keywords of priority below 40 other than `contentSchema`. The
+/// function does nothing when it runs.
 pub fn keyword_table_facts()
     ensures rows { HasFortyTwoRows }
     ensures order { RowsAreInOrder }
+    ensures listed { map (λ keyword. builtin_text keyword) BUILTIN_KEYWORDS ≡ map (λ row. row.name) keyword_table }
     ensures leaves { LeavesAreCheap }
 {}

@@ -4,7 +4,7 @@ ghost use Rattle.std.specs.List.{list_any};
 use std::alloc::{AllocError, Global};
 use std::marker::Model;
 
-/// A set of keywords that a meta-schema asks for: one of the standard's, or another one by its URI.
+/// A vocabulary, which a meta-schema asks for: one of the standard's, or another one by its URI.
 #[derive(Clone, Debug, PartialEq, Eq, PartialOrd, Ord, Hash, Drop)]
 pub enum Vocabulary {
     Core,
@@ -56,7 +56,7 @@ impl VocabularySet {
     ghost use Rattle.schema_reports.specs.KeywordViews.{vocabulary_of};
     ghost use Rattle.schema_reports.specs.VocabularySets.{AddsOnly, custom_of, with_uri};
 
-    /// The empty set. It takes no memory.
+    /// Returns the empty set. It allocates nothing.
     pub fn new(alloc: Global) -> VocabularySet
         ensures empty { result ≡ [] }
     {
@@ -74,7 +74,7 @@ impl VocabularySet {
         }
     }
 
-    /// Whether the vocabulary is in the set. It takes no memory.
+    /// Returns `true` if the vocabulary is in the set. It allocates nothing.
     pub fn contains(&self, vocabulary: &Vocabulary) -> bool
         ensures member { result ≡ has_vocabulary self.now (vocabulary_of vocabulary.now) }
     {
@@ -92,11 +92,11 @@ impl VocabularySet {
         }
     }
 
-    /// Puts a vocabulary into the set; one that is in it already changes nothing.
+    /// Adds a vocabulary to the set; nothing changes if it is there already.
     ///
     /// # Errors
     ///
-    /// Want of memory, which leaves the set as it was.
+    /// If memory cannot be allocated. The set is then as it was.
     pub fn add(&mut self, vocabulary: Vocabulary) -> Result<(), AllocError>
         ensures member { OnOk result (AddsOnly self.old self.new (vocabulary_of vocabulary)) }
         ensures custom { OnOk result (custom_of self.new ≡ with_uri (vocabulary_of vocabulary) (custom_of self.old)) }
@@ -121,11 +121,11 @@ impl VocabularySet {
         Ok(())
     }
 
-    /// The set with one more vocabulary.
+    /// Returns the set with one more vocabulary.
     ///
     /// # Errors
     ///
-    /// Want of memory.
+    /// If memory cannot be allocated.
     pub fn with(self, vocabulary: Vocabulary) -> Result<VocabularySet, AllocError>
         ensures member { IfOk result (λ set. AddsOnly self set (vocabulary_of vocabulary)) }
         ensures custom { IfOk result (λ set. custom_of set ≡ with_uri (vocabulary_of vocabulary) (custom_of self)) }
@@ -135,30 +135,22 @@ impl VocabularySet {
         Ok(set)
     }
 
-    /// A set of the same vocabularies.
+    /// Returns a clone of the set.
     ///
     /// # Errors
     ///
-    /// Want of memory.
+    /// If memory cannot be allocated.
     pub fn duplicate(&self) -> Result<VocabularySet, AllocError>
         ensures same { IfOk result (λ set. set ≡ self.now) }
     {
         Ok(VocabularySet {
-            core: self.core,
-            applicator: self.applicator,
-            unevaluated: self.unevaluated,
-            validation: self.validation,
-            metadata: self.metadata,
-            format: self.format,
-            format_annotation: self.format_annotation,
-            format_assertion: self.format_assertion,
-            content: self.content,
             custom: self.custom.clone()?,
+            ..*self
         })
     }
 
-    /// Whether both sets have the same vocabularies, those that are not the standard's in the same order. It takes no
-    /// memory.
+    /// Returns `true` if both sets have the same vocabularies, and those that are not the standard's in the same order. It
+    /// allocates nothing.
     pub fn same(&self, other: &VocabularySet) -> bool
         ensures same { result ≡ same_vocabularies self.now other.now }
     {
@@ -187,7 +179,7 @@ impl VocabularySet {
         own == others && self.custom == other.custom
     }
 
-    /// The URIs of the vocabularies that are not the standard's, in the order in which they came.
+    /// Returns the URIs of the vocabularies that are not the standard's, in the order in which they were added.
     pub fn custom(&self) -> &[String]
         ensures custom { map string_bytes result.now ≡ custom_of self.now }
     {

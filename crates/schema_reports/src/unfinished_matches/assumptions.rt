@@ -1,12 +1,17 @@
 //! What a run assumes, and what it remembers of the unfinished matches that it meets.
-ghost use Rattle.std.specs.Prelude.{◌≡◌, ◌∷◌, [], IfOk, IsTrue, OnErr, OnOk, is_some};
+ghost use Rattle.std.specs.Prelude.{◌≡◌, ◌∷◌, [], IfOk, IsTrue, OnErr, OnOk, is_some, map, nat_eq};
+ghost use Rattle.std.specs.HashMap.{get};
+ghost use Rattle.schema_reports.specs.HashIndex.{IsIndexed, match_hash};
 ghost use Rattle.schema_reports.specs.Matching.{assumed};
 ghost use Rattle.schema_reports.specs.MatchViews.{reason_of};
-ghost use Rattle.schema_reports.specs.Unfinished.{first_unassumed, is_known, meet, meet_known, noted, or_no, site_of, starting};
+ghost use Rattle.schema_reports.specs.Unfinished.{first_unassumed, is_known, meet, meet_known, or_no, starting};
 
-use super::site::{LocatedMatch, MatchFailure, MatchSite, Reason, UnfinishedMatch, place_of};
+use super::located::LocatedMatches;
+use super::positions::{add_position, match_hash};
+use super::site::{LocatedMatch, MatchFailure, MatchSite, Reason, UnfinishedMatch};
 use crate::location::OutOfMemory;
 use std::alloc::{AllocError, Global};
+use std::collections::HashMap;
 use std::marker::Model;
 
 /// An unfinished match, and what it is assumed to come out as.
@@ -76,7 +81,8 @@ impl AssumedOutcomes {
     pub(super) fn start<'i>(&self, alloc: Global) -> Result<MatchAssumptions<'i>, OutOfMemory>
         ensures starts { IfOk result (λ m. m ≡ starting self.now) }
     {
-        Ok(MatchAssumptions::assuming(alloc, self.copy(alloc)?))
+        let assumed = IndexedOutcomes::new(alloc, self.copy(alloc)?)?;
+        Ok(MatchAssumptions::assuming(alloc, assumed))
     }
 
     /// One match more is assumed to come out so.
@@ -111,14 +117,101 @@ fn assumed_outcome(list: &[AssumedMatch], pattern: &str, subject: &str) -> Optio
     None
 }
 
-/// What a run assumes, and what it remembers of the unfinished matches that it meets: the first one that is not assumed,
-/// and for each match the first site where it was met that has an instance path.
+/// Assumed outcomes that are found by the hash of their match. Contracts see the list.
+#[derive(Drop)]
+struct IndexedOutcomes {
+    matches: Vec<AssumedMatch>,
+    // For each hash the first position that has it.
+    positions: HashMap<u64, usize>,
+}
+
+impl Model for IndexedOutcomes {
+    ghost use Rattle.std.specs.Prelude.{List, map, nat_eq};
+    ghost use Rattle.std.specs.HashMap.{get};
+    ghost use Rattle.schema_reports.specs.Matching.{Assumed};
+    ghost use Rattle.schema_reports.specs.HashIndex.{IsIndexed, match_hash};
+
+    ghost Value = { List Assumed };
+
+    ghost view = { λ o. o.matches.items };
+
+    ghost invariant = { λ o. IsIndexed (map (λ a. match_hash a.pair) o.matches.items) (get nat_eq o.positions) };
+}
+
+// The positions of these outcomes by the hashes of their matches.
+fn indexed(alloc: Global, list: &[AssumedMatch]) -> Result<HashMap<u64, usize>, OutOfMemory>
+    ensures indexed { IfOk result (λ p. IsIndexed (map (λ a. match_hash a.pair) list.now) (get nat_eq p)) }
+{
+    let mut positions = HashMap::new(alloc);
+    for (i, one) in list.iter().enumerate() {
+        add_position(&mut positions, one.unfinished.hash(), i)?;
+    }
+    Ok(positions)
+}
+
+impl IndexedOutcomes {
+    // Nothing is assumed.
+    fn none(alloc: Global) -> IndexedOutcomes
+        ensures { result ≡ [] }
+    {
+        IndexedOutcomes {
+            matches: Vec::new(alloc),
+            positions: HashMap::new(alloc),
+        }
+    }
+
+    // These outcomes; it fails only if memory does.
+    fn new(alloc: Global, outcomes: AssumedOutcomes) -> Result<IndexedOutcomes, OutOfMemory>
+        ensures same { IfOk result (λ o. o ≡ outcomes) }
+    {
+        let matches = outcomes.matches;
+        match indexed(alloc, &matches) {
+            Ok(positions) => Ok(IndexedOutcomes { matches, positions }),
+            Err(error) => {
+                drop(matches);
+                Err(error)
+            }
+        }
+    }
+
+    // The outcome that is assumed of a match.
+    fn outcome(&self, pattern: &str, subject: &str) -> Option<bool>
+        ensures assumed { result ≡ assumed self.now (record { pattern = pattern.now; subject = subject.now }) }
+    {
+        if self.matches.is_empty() {
+            return None;
+        }
+        match self.positions.get(&match_hash(pattern, subject)) {
+            Some(position) => {
+                let one = &self.matches[*position];
+                if one.unfinished.is(pattern, subject) {
+                    Some(one.matches)
+                } else {
+                    assumed_outcome(&self.matches, pattern, subject)
+                }
+            }
+            None => None,
+        }
+    }
+
+    // The outcomes.
+    fn into_outcomes(self) -> AssumedOutcomes
+        ensures { result ≡ self }
+    {
+        AssumedOutcomes {
+            matches: self.matches,
+        }
+    }
+}
+
+/// What a run assumes of unfinished matches, and what it remembers of those that it meets: the first one that is not assumed,
+/// and for each match the first site with an instance path.
 #[derive(Drop)]
 pub struct MatchAssumptions<'i> {
     alloc: Global,
-    assumed: AssumedOutcomes,
+    assumed: IndexedOutcomes,
     unassumed: Option<MatchFailure<'i>>,
-    located: Vec<LocatedMatch<'i>>,
+    located: LocatedMatches<'i>,
 }
 
 impl<'i> Model for MatchAssumptions<'i> {
@@ -126,26 +219,26 @@ impl<'i> Model for MatchAssumptions<'i> {
 
     ghost Value = { Remembered };
 
-    ghost view = { λ a. record { assumptions = a.assumed; unassumed = a.unassumed; located = a.located.items } };
+    ghost view = { λ a. record { assumptions = a.assumed; unassumed = a.unassumed; located = a.located } };
 }
 
 impl<'i> MatchAssumptions<'i> {
-    /// What the first run of a call starts from: it assumes nothing.
+    /// Returns what the first run of a call starts from: nothing is assumed. It allocates nothing.
     pub fn new(alloc: Global) -> MatchAssumptions<'i>
         ensures starts { result ≡ starting [] }
     {
-        MatchAssumptions::assuming(alloc, AssumedOutcomes::new(alloc))
+        MatchAssumptions::assuming(alloc, IndexedOutcomes::none(alloc))
     }
 
-    /// What a run starts from that assumes these outcomes.
-    pub(super) fn assuming(alloc: Global, assumed: AssumedOutcomes) -> MatchAssumptions<'i>
+    // What a run starts from that assumes these outcomes.
+    fn assuming(alloc: Global, assumed: IndexedOutcomes) -> MatchAssumptions<'i>
         ensures starts { result ≡ starting assumed }
     {
         MatchAssumptions {
             alloc,
             assumed,
             unassumed: None,
-            located: Vec::new(alloc),
+            located: LocatedMatches::new(alloc),
         }
     }
 
@@ -161,37 +254,12 @@ impl<'i> MatchAssumptions<'i> {
         ensures unassumed { result.1 ≡ self.entry.unassumed }
         ensures located { result.2.items ≡ self.entry.located }
     {
-        (self.assumed, self.unassumed, self.located)
+        (
+            self.assumed.into_outcomes(),
+            self.unassumed,
+            self.located.into_vec(),
+        )
     }
-}
-
-// Whether one of these sites is of this match.
-fn has_site(sites: &[LocatedMatch<'_>], pattern: &str, subject: &str) -> bool
-    ensures { result ≡ is_some (site_of sites.now (record { pattern = pattern.now; subject = subject.now })) }
-{
-    place_of(sites, pattern, subject).is_some()
-}
-
-// Remembers the site, where it has an instance path and there is none of the match yet.
-fn note<'i>(
-    alloc: Global,
-    sites: &mut Vec<LocatedMatch<'i>>,
-    pattern: &str,
-    subject: &str,
-    site: &MatchSite<'i>,
-) -> Result<(), OutOfMemory>
-    ensures ok { OnOk result (sites.new.items ≡ noted sites.old.items
-        (record { pair = record { pattern = pattern.now; subject = subject.now }; site = site.now })) }
-    ensures err { OnErr result (sites.new.items ≡ sites.old.items) }
-{
-    if !site.has_place() {
-        return Ok(());
-    }
-    if has_site(sites, pattern, subject) {
-        return Ok(());
-    }
-    sites.push(LocatedMatch::met(alloc, pattern, subject, site)?)?;
-    Ok(())
 }
 
 // Keeps the failure, where nothing is assumed of its match and none is kept yet.
@@ -210,12 +278,12 @@ fn keep_first<'i>(
 }
 
 impl<'i> MatchAssumptions<'i> {
-    /// Whether the match is known to be unfinished: it is assumed, or it is the first one that was not, or a site of it is
-    /// remembered.
+    /// Returns `true` if the match is known to be unfinished: its outcome is assumed, or it was the first one without an
+    /// assumed outcome, or a site of it is remembered.
     pub fn is_unfinished(&self, pattern: &str, subject: &str) -> bool
         ensures known { result ≡ is_known self.now (record { pattern = pattern.now; subject = subject.now }) }
     {
-        if assumed_outcome(&self.assumed.matches, pattern, subject).is_some() {
+        if self.assumed.outcome(pattern, subject).is_some() {
             return true;
         }
         if let Some(first) = &self.unassumed {
@@ -223,18 +291,18 @@ impl<'i> MatchAssumptions<'i> {
                 return true;
             }
         }
-        has_site(&self.located, pattern, subject)
+        self.located.contains(pattern, subject)
     }
 
-    /// Whether an unfinished match was met that is not assumed.
+    /// Returns `true` if an unfinished match was met whose outcome is not assumed.
     pub fn met_unassumed(&self) -> bool
         ensures met { result ≡ is_some self.now.unassumed }
     {
         self.unassumed.is_some()
     }
 
-    /// What a match that the matcher left unfinished comes out as: as assumed, or no. It is remembered with its site.
-    /// Where memory is wanted, nothing is.
+    /// Returns the assumed outcome of a match that the matcher did not finish, or `false` if none is assumed, and remembers the
+    /// match with its site. Fails only if memory cannot be allocated; nothing has changed then.
     pub fn resolve(
         &mut self,
         pattern: &str,
@@ -251,15 +319,12 @@ impl<'i> MatchAssumptions<'i> {
         ensures err { OnErr result (self.new ≡ self.old) }
     {
         let failure = MatchFailure::met(self.alloc, pattern, subject, reason, site)?;
-        match note(
-            self.alloc,
-            &mut self.located,
-            pattern,
-            subject,
-            failure.site(),
-        ) {
+        match self
+            .located
+            .note(self.alloc, pattern, subject, failure.site())
+        {
             Ok(()) => {
-                let outcome = assumed_outcome(&self.assumed.matches, pattern, subject);
+                let outcome = self.assumed.outcome(pattern, subject);
                 keep_first(&mut self.unassumed, outcome, failure);
                 Ok(outcome.unwrap_or(false))
             }
@@ -270,7 +335,7 @@ impl<'i> MatchAssumptions<'i> {
         }
     }
 
-    /// The same of a match that is known to be unfinished: the matcher need not be asked again.
+    /// The same for a match that is known to be unfinished, so that the matcher need not be asked again.
     pub fn resolve_unfinished(
         &mut self,
         pattern: &str,
@@ -284,10 +349,10 @@ impl<'i> MatchAssumptions<'i> {
             (record { pair = record { pattern = pattern.now; subject = subject.now }; site = site.entry })) }
         ensures err { OnErr result (self.new ≡ self.old) }
     {
-        let noted = note(self.alloc, &mut self.located, pattern, subject, &site);
+        let noted = self.located.note(self.alloc, pattern, subject, &site);
         drop(site);
         noted?;
-        match assumed_outcome(&self.assumed.matches, pattern, subject) {
+        match self.assumed.outcome(pattern, subject) {
             Some(matches) => Ok(matches),
             None => Ok(false),
         }

@@ -9,18 +9,18 @@ use super::site::{MatchFailure, UnfinishedMatch};
 use crate::location::OutOfMemory;
 use std::alloc::Global;
 
-/// How many runs a call makes at most, the first among them: then at most 32 combinations of outcomes are told apart.
+/// How many runs a call makes at most, with the first one: at most 32 combinations of outcomes are told apart by then.
 pub const MAX_ASSUMED_RUNS: u32 = 64;
 
-/// What the runs gave, or that more of them are called for than a call makes.
+/// What a search found: the results of its runs, or that there are more combinations of outcomes than it may try.
 #[derive(Drop)]
 pub enum Outcomes<'i, T> {
-    /// One result for each combination of outcomes.
+    /// One result for each combination of outcomes, and the failure to report if they share no error.
     Assumed {
         results: Vec<T>,
         failure: MatchFailure<'i>,
     },
-    /// Too many combinations.
+    /// There are too many combinations: the failure to report.
     Undecided(MatchFailure<'i>),
 }
 
@@ -196,7 +196,9 @@ fn assume_within<
     Ok(Outcomes::Assumed { results, failure })
 }
 
-/// Makes the runs that the unfinished matches call for. The first run has been made, and met one.
+/// Runs once for each combination of outcomes of the unfinished matches, and returns the results, or `Undecided` after
+/// `MAX_ASSUMED_RUNS` runs. The first run has been made, and met such a match. Fails if a run fails, or if memory cannot be
+/// allocated.
 pub fn assume_each_outcome<
     'i,
     T: Drop,

@@ -3,9 +3,10 @@ ghost use Rattle.std.specs.Prelude.{◌≡◌, ◌++◌, ◌∷◌, [], IfOk, fi
 ghost use Rattle.std.specs.List.{list_all};
 ghost use Rattle.schema_reports.specs.Outcomes.{AreErrors, is_yes};
 ghost use Rattle.schema_reports.specs.SharedResults.{AreShared, IsSharedBy, OneError};
-ghost use Rattle.schema_reports.specs.SharedResults.{has_key, in_each_of, is_empty, or_none, same_key};
+ghost use Rattle.schema_reports.specs.SharedResults.{in_each_of, is_empty, or_none};
 ghost use Rattle.serde_json.specs.View.{view};
 
+use super::keyed::{KeyedErrors, is_in_each, keyed};
 use super::search::Outcomes;
 use super::site::MatchFailure;
 use crate::location::OutOfMemory;
@@ -25,7 +26,7 @@ fn all_valid(results: &[bool]) -> bool
     true
 }
 
-/// Whether every result is yes; where there were too many combinations, no.
+/// Returns `true` if every result is `true`, and `false` if there were too many combinations.
 pub fn validity(outcomes: Outcomes<'_, bool>) -> bool
     ensures yes { result ≡ is_yes outcomes.entry }
 {
@@ -39,58 +40,6 @@ pub fn validity(outcomes: Outcomes<'_, bool>) -> bool
             false
         }
     }
-}
-
-// Whether two errors are the same in all paths and the text.
-fn is_same_key(
-    alloc: Global,
-    one: &ValidationError<'_>,
-    other: &ValidationError<'_>,
-) -> Result<bool, OutOfMemory>
-    ensures same { IfOk result (λ b. b ≡ same_key one.now other.now) }
-{
-    let one_path = one.instance_path(alloc)?;
-    let other_path = other.instance_path(alloc)?;
-    let is_same_place = one_path.as_str() == other_path.as_str();
-    drop((one_path, other_path));
-    Ok(
-        is_same_place
-            && one.schema_path.as_str() == other.schema_path.as_str()
-            && one.evaluation_path.as_str() == other.evaluation_path.as_str()
-            && one.text.as_str() == other.text.as_str(),
-    )
-}
-
-// Whether one of the errors is the same.
-fn has_key_of(
-    alloc: Global,
-    errors: &[ValidationError<'_>],
-    error: &ValidationError<'_>,
-) -> Result<bool, OutOfMemory>
-    ensures has { IfOk result (λ b. b ≡ has_key errors.now error.now) }
-{
-    for (i, one) in errors.iter().enumerate() {
-        if is_same_key(alloc, error, one)? {
-            return Ok(true);
-        }
-    }
-    Ok(false)
-}
-
-// Whether each result has such an error.
-fn is_in_each(
-    alloc: Global,
-    results: &[Vec<ValidationError<'_>>],
-    error: &ValidationError<'_>,
-) -> Result<bool, OutOfMemory>
-    ensures each { IfOk result (λ b. b ≡ in_each_of (map (λ r. r.items) results.now) error.now) }
-{
-    for (i, one) in results.iter().enumerate() {
-        if !has_key_of(alloc, one, error)? {
-            return Ok(false);
-        }
-    }
-    Ok(true)
 }
 
 // Whether no result has an error.
@@ -110,10 +59,9 @@ fn keep_shared<'i>(
     alloc: Global,
     kept: &mut Vec<ValidationError<'i>>,
     error: ValidationError<'i>,
-    results: &[Vec<ValidationError<'i>>],
+    results: &[KeyedErrors<'i>],
 ) -> Result<(), OutOfMemory>
-    ensures kept { IfOk result (λ _. kept.new.items ≡ kept.old.items
-        ++ filter (in_each_of (map (λ r. r.items) results.now)) (error.entry ∷ [])) }
+    ensures kept { IfOk result (λ _. kept.new.items ≡ kept.old.items ++ filter (in_each_of results.now) (error.entry ∷ [])) }
 {
     if is_in_each(alloc, results, &error)? {
         kept.push(error)?;
@@ -127,9 +75,9 @@ fn keep_shared<'i>(
 fn kept<'i>(
     alloc: Global,
     errors: Vec<ValidationError<'i>>,
-    results: &[Vec<ValidationError<'i>>],
+    results: &[KeyedErrors<'i>],
 ) -> Result<Vec<ValidationError<'i>>, OutOfMemory>
-    ensures kept { IfOk result (λ k. k.items ≡ filter (in_each_of (map (λ r. r.items) results.now)) errors.entry.items) }
+    ensures kept { IfOk result (λ k. k.items ≡ filter (in_each_of results.now) errors.entry.items) }
 {
     let mut kept = Vec::new(alloc);
     let mut left = errors;
@@ -170,6 +118,7 @@ fn shared_errors<'i>(
         return Ok(Some(Vec::new(alloc)));
     };
     let empty = all_empty(&others, &last);
+    let others = keyed(alloc, others)?;
     let shared = kept(alloc, last, &others)?;
     Ok(or_none(shared, empty))
 }
@@ -211,8 +160,8 @@ fn shared_or_failure<'i>(
     }
 }
 
-/// The errors that every result has, in the order of the last one; where there is none although some result has an error, or
-/// where there were too many combinations, the failure alone.
+/// Returns the errors that every result has, in the order of the last result. If there is none although some result has an
+/// error, or if there were too many combinations, it returns the failure alone. Fails only if memory cannot be allocated.
 pub fn errors<'i>(
     alloc: Global,
     outcomes: Outcomes<'i, Vec<ValidationError<'i>>>,

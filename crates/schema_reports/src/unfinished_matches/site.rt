@@ -10,8 +10,10 @@ ghost use Rattle.schema_reports.specs.Searched.{failure_error, site_error};
 ghost use Rattle.serde_json.specs.View.{view};
 ghost use Rattle.schema_reports.specs.MatchViews.{reason_of};
 ghost use Rattle.schema_reports.specs.Runs.{Met, Site};
+ghost use Rattle.schema_reports.specs.HashIndex.{match_hash};
 ghost use Rattle.schema_reports.specs.Unfinished.{located_by, or_pattern, site_of};
 
+use super::positions::match_hash;
 use crate::instance::{Instance, Place};
 use crate::location::{Location, OutOfMemory};
 use crate::reports::ValidationError;
@@ -20,14 +22,14 @@ use serde_json::Value;
 use std::alloc::Global;
 use std::marker::Model;
 
-/// Why a match was not finished: a limit was reached, which the text tells of, or the engine failed.
+/// Why a match was not finished: a limit was reached, which the text names, or the regex engine failed.
 #[derive(Drop)]
 pub enum Reason {
     Limit(Text),
     Engine,
 }
 
-/// What a matcher says of a pattern and a subject.
+/// What a matcher answers for a pattern and a subject: whether they match, or why it did not finish.
 #[derive(Drop)]
 pub enum Match {
     Finished(bool),
@@ -84,6 +86,13 @@ impl UnfinishedMatch {
         self.subject.as_str()
     }
 
+    /// The hash by which it is found.
+    pub(super) fn hash(&self) -> u64
+        ensures hash { result ≡ match_hash self.now }
+    {
+        match_hash(self.pattern.as_str(), self.subject.as_str())
+    }
+
     /// The same match in memory of its own.
     pub(super) fn copy(&self) -> Result<UnfinishedMatch, OutOfMemory>
         ensures same { IfOk result (λ u. u ≡ self.now) }
@@ -94,8 +103,8 @@ impl UnfinishedMatch {
     }
 }
 
-/// Where a match was met: a schema path; where the run knows them, the evaluation path and the place of the subject; and
-/// the pattern as the schema has it, where it is not the compiled one.
+/// Where a match was asked for: the schema path; the evaluation path and the place of the subject, if the run knows them; and
+/// the pattern as it is written in the schema, if that is not the compiled one.
 #[derive(Drop)]
 pub struct MatchSite<'i> {
     schema_path: Location,
@@ -112,7 +121,7 @@ impl<'i> Model for MatchSite<'i> {
 }
 
 impl<'i> MatchSite<'i> {
-    /// A site with its schema path alone.
+    /// Returns a site with a schema path alone.
     pub fn schema(schema_path: Location) -> MatchSite<'i>
         ensures site { result ≡ record { schema_path = schema_path; located = None; pattern = None } }
     {
@@ -123,7 +132,7 @@ impl<'i> MatchSite<'i> {
         }
     }
 
-    /// A site with its evaluation path and its place too.
+    /// Returns a site with an evaluation path and a place too.
     pub fn located(
         schema_path: Location,
         evaluation_path: Location,
@@ -138,7 +147,7 @@ impl<'i> MatchSite<'i> {
         }
     }
 
-    /// The site with the pattern as the schema has it.
+    /// Adds the pattern as it is written in the schema. Fails only if memory cannot be allocated.
     pub fn pattern(self, alloc: Global, pattern: &str) -> Result<MatchSite<'i>, OutOfMemory>
         ensures site { IfOk result (λ s. s ≡ record self.entry { pattern = Some pattern.now }) }
     {
@@ -242,6 +251,13 @@ impl<'i> LocatedMatch<'i> {
         let unfinished = UnfinishedMatch::new(alloc, pattern, subject)?;
         let site = site.copy()?;
         Ok(LocatedMatch { unfinished, site })
+    }
+
+    /// The match.
+    pub(super) fn unfinished(&self) -> &UnfinishedMatch
+        ensures { result.now ≡ self.now.pair }
+    {
+        &self.unfinished
     }
 }
 

@@ -18,8 +18,9 @@ use crate::reports::ValidationError;
 use serde_json::Value;
 use std::alloc::Global;
 
-/// Whether every completion accepts, where the call decides; else no. The first run has been made, and met an unfinished
-/// match.
+/// Returns `true` if the instance is valid however the unfinished matches come out, and `false` if it is not, or if the call
+/// cannot decide. The first run has been made, and met an unfinished match. Fails if a run fails, or if memory cannot be
+/// allocated.
 pub fn validity_under_each<
     'i,
     F: FnMut(MatchAssumptions<'i>) -> Result<(MatchAssumptions<'i>, bool), OutOfMemory>,
@@ -36,8 +37,9 @@ pub fn validity_under_each<
     Ok(validity(assume_each_outcome(alloc, run, first)?))
 }
 
-/// The errors that all completions share, or one failure; where the call doesn't decide, one failure. The first run has
-/// been made, and met an unfinished match.
+/// Returns the errors that the instance has however the unfinished matches come out; if there is no such error although the
+/// instance is not always valid, or if the call cannot decide, it returns one failure. The first run has been made, and met an
+/// unfinished match. Fails if a run fails, or if memory cannot be allocated.
 pub fn errors_under_each<
     'i,
     F: FnMut(

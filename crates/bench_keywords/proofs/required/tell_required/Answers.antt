@@ -1,11 +1,13 @@
-use Rattle.std.proofs.Common.{◌+◌, ◌∙◌, ◌≡◌, ◌<◌, ◌∷◌, ap, codes, drop, length, map, rules, string_bytes, sym}
+use Rattle.std.proofs.Common.{true, false, ◌+◌, ◌∙◌, ◌≡◌, ◌<◌, ◌∷◌, ap, codes, drop, length, map, rules, string_bytes, sym}
+use Rattle.std.specs.List.{list_any}
+use Rattle.schema_node.specs.declared.context.keyword.Mode.TheVariants as mode
 use Rattle.schema_reports.specs.InstanceViews.{subject_of}
 use Rattle.schema_reports.specs.ReportViews.{spoken}
 use Rattle.schema_node.specs.KeywordViews.{answer_of}
 use Rattle.schema_node.proofs.NodeParts.{drop_at}
 use Rattle.keyword_ways.specs.Ways.{noted}
 use Rattle.bench_keywords.specs.Words.{missing, required_text}
-use Rattle.bench_keywords.proofs.MissingNames.{missing_later, told_missing}
+use Rattle.bench_keywords.proofs.MissingNames.{lacks_it, lacks_none, lacks_some, missing_later, told_missing}
 use Rattle.bench_keywords.proofs.required.tell_required.Goals.{then-is_missing+in_ok-text+in_ok-note, else-is_missing}
 use Rattle.bench_keywords.proofs.required.tell_required.Goals as goal
 
@@ -35,3 +37,15 @@ loop-name-preserved c = record {
     | else-is_missing w ↦ rw w.answer-is (c.loop-name.invariant.borrows root faults)
   ];
 }
+
+pub returns-then-lacks_one-clause-told : goal.returns-then-lacks_one-clause-told
+returns-then-lacks_one-clause-told c = λ texts.
+    let is : c.args.mode ≡ mode.Verdict = search rules in
+    let lacks : list_any (lacks_it string_bytes (subject_of c.args.instance)) c.args.names.now ≡ true = search rules in
+    rw is (c.refuse.ensures.refused texts ∙ sym (lacks_some string_bytes texts (subject_of c.args.instance) (answer_of texts c.args.answer.now) c.args.names.now lacks))
+
+pub returns-else-lacks_one-clause-told : goal.returns-else-lacks_one-clause-told
+returns-else-lacks_one-clause-told c = λ texts.
+    let is : c.args.mode ≡ mode.Verdict = search rules in
+    let lacks : list_any (lacks_it string_bytes (subject_of c.args.instance)) c.args.names.now ≡ false = search rules in
+    rw is (sym (lacks_none string_bytes texts (subject_of c.args.instance) (answer_of texts c.args.answer.now) c.args.names.now lacks))

@@ -1,7 +1,7 @@
 use Rattle.std.proofs.Common.{sym, subst, arith, None}
 use Rattle.schema_node.specs.KeywordViews.{reply_of}
-use Rattle.keyword_ways.specs.Asking.{IsNext}
-use Rattle.keyword_ways.proofs.NextQuestions.{ended_at_limit}
+use Rattle.keyword_ways.specs.Asking.{IsNext, IsNextFrom}
+use Rattle.keyword_ways.proofs.NextQuestions.{ended_at_limit, some_ended_at_limit}
 use Rattle.keyword_ways.proofs.passing.onward.Goals as goal
 
 pub returns-else-last-limit-clause-next : goal.returns-else-last-limit-clause-next
@@ -24,3 +24,6 @@ returns-then-last-limit-clause-answered c = λ texts qs. c.in_ok-take_asked.ensu
 
 pub returns-then-not-onward-clause-answered : goal.returns-then-not-onward-clause-answered
 returns-then-not-onward-clause-answered c = λ texts qs. c.in_ok-take_asked.ensures.answered texts qs c.args.run.now.mode
+
+pub returns-else-last-limit-clause-next_from : goal.returns-else-last-limit-clause-next_from
+returns-else-last-limit-clause-next_from c = λ texts os h. subst (λ stage. IsNextFrom os stage (reply_of texts c.args.reply) None) (sym c.in-Asked.is) (some_ended_at_limit os c.in-Asked.last (reply_of texts c.args.reply) (omega arith))

@@ -1,4 +1,4 @@
-use Rattle.std.proofs.Common.{List, map, nat_eq, length, refl, sym, ◌∙◌, subst, arith, true≢false}
+use Rattle.std.proofs.Common.{◌≡◌, List, map, nat_eq, length, refl, sym, ◌∙◌, subst, arith, true≢false}
 use Rattle.std.proofs.lemmas.List.{length-map}
 use Rattle.std.proofs.lemmas.Option.{slice_get_read}
 use Rattle.std.specs.HashMap.{get}
@@ -12,27 +12,31 @@ use Rattle.schema_compiler.proofs.compiler.keys.find.Goals as goal
 pub loop-next-preserved : goal.loop-next-preserved
 loop-next-preserved g c =
     let point = g.R.Resolver.point in
+    let input = g.R.State.Hash.hash_input in
+    let alike : (s t : g.row.R-State.Denot) → g.R.Resolver.point s ≡ g.R.Resolver.point t → g.R.State.Hash.hash_input s ≡ g.R.State.Hash.hash_input t = λ s t e. g.met.R.State.Hash.respects_eq s t ((g.met.R.Resolver.equal s t).1 e) in
     let keys = c.args.keys.now in
     let earlier = c.keys.inside.earlier.items in
     let last = get nat_eq c.keys.inside.last in
     let number = c.in-Some.number in
     let s = rw c.in-Some.is at c.loop-next.invariant in
-    let chain : IsChained (map hash_of keys) earlier last = subst (λ (ks : List (SchemaKey g.row.R-State.Denot)). IsChained (map hash_of ks) earlier last) c.keys.view_is c.keys.invariant in
-    let within = seeks_within point keys c.args.key.now number s in
-    let linked = slice_get_read earlier (length earlier) number c.index-next.result.now refl (omega (arith, chain.lengths, length-map keys (λ (a : SchemaKey g.row.R-State.Denot). hash_of a))) c.index-next.ensures in
+    let chain : IsChained (map (hash_of input) keys) earlier last = subst (λ (ks : List (SchemaKey g.row.R-State.Denot)). IsChained (map (hash_of input) ks) earlier last) c.keys.view_is c.keys.invariant in
+    let within = seeks_within point input alike keys c.args.key.now number s in
+    let linked = slice_get_read earlier (length earlier) number c.index-next.result.now refl (omega (arith, chain.lengths, length-map keys (λ (a : SchemaKey g.row.R-State.Denot). hash_of input a))) c.index-next.ensures in
     let differs = not_at (key_of point) keys number c.index.result.now _ within (rw c.keys.view_is at c.index.ensures) (λ e. true≢false (sym (c.if-same_key.ensures.same.1 e) ∙ refl)) in
-    seeks_earlier point keys c.args.key.now earlier last number c.index-next.result.now chain s linked differs
+    seeks_earlier point input alike keys c.args.key.now earlier last number c.index-next.result.now chain s linked differs
 
 pub loop-next-smaller : goal.loop-next-smaller
 loop-next-smaller g c =
+    let input = g.R.State.Hash.hash_input in
+    let alike : (s t : g.row.R-State.Denot) → g.R.Resolver.point s ≡ g.R.Resolver.point t → g.R.State.Hash.hash_input s ≡ g.R.State.Hash.hash_input t = λ s t e. g.met.R.State.Hash.respects_eq s t ((g.met.R.Resolver.equal s t).1 e) in
     let keys = c.args.keys.now in
     let earlier = c.keys.inside.earlier.items in
     let number = c.in-Some.number in
     let s = rw c.in-Some.is at c.loop-next.invariant in
-    let chain : IsChained (map hash_of keys) earlier (get nat_eq c.keys.inside.last) = subst (λ (ks : List (SchemaKey g.row.R-State.Denot)). IsChained (map hash_of ks) earlier (get nat_eq c.keys.inside.last)) c.keys.view_is c.keys.invariant in
-    let within = seeks_within g.R.Resolver.point keys c.args.key.now number s in
-    let linked = slice_get_read earlier (length earlier) number c.index-next.result.now refl (omega (arith, chain.lengths, length-map keys (λ (a : SchemaKey g.row.R-State.Denot). hash_of a))) c.index-next.ensures in
-    rw c.in-Some.is (falls (map hash_of keys) (hash_of c.args.key.now) number c.index-next.result.now (chain.links number (hash_of c.args.key.now) c.index-next.result.now s.last.1 linked))
+    let chain : IsChained (map (hash_of input) keys) earlier (get nat_eq c.keys.inside.last) = subst (λ (ks : List (SchemaKey g.row.R-State.Denot)). IsChained (map (hash_of input) ks) earlier (get nat_eq c.keys.inside.last)) c.keys.view_is c.keys.invariant in
+    let within = seeks_within g.R.Resolver.point input alike keys c.args.key.now number s in
+    let linked = slice_get_read earlier (length earlier) number c.index-next.result.now refl (omega (arith, chain.lengths, length-map keys (λ (a : SchemaKey g.row.R-State.Denot). hash_of input a))) c.index-next.ensures in
+    rw c.in-Some.is (falls (map (hash_of input) keys) (hash_of input c.args.key.now) number c.index-next.result.now (chain.links number (hash_of input c.args.key.now) c.index-next.result.now s.last.1 linked))
 
 pub returns : goal.returns
-returns g c = record { found = seeks_none g.R.Resolver.point c.args.keys.now c.args.key.now (rw c.in_default.is at c.loop-next.invariant) }
+returns g c = record { found = seeks_none g.R.Resolver.point g.R.State.Hash.hash_input (λ s t e. g.met.R.State.Hash.respects_eq s t ((g.met.R.Resolver.equal s t).1 e)) c.args.keys.now c.args.key.now (rw c.in_default.is at c.loop-next.invariant) }

@@ -6,11 +6,11 @@ use Rattle.serde_json.specs.View.{view}
 use Rattle.schema_reports.specs.KeywordTable.{builtin_in}
 use Rattle.schema_reports.specs.KeywordViews.{draft_of}
 use Rattle.schema_compiler.specs.Builtins.{builtin}
-use Rattle.schema_compiler.specs.Compiling.{no_table}
+use Rattle.schema_compiler.specs.Compiling.{no_table, no_keywords, no_matcher}
 use Rattle.schema_compiler.specs.KeyViews.{key_of}
 use Rattle.schema_compiler.specs.Compilation.{IsCompilation, RefusesRoot, all_parts}
 use Rattle.schema_engine.specs.Compiled.{IsCompiled, IsWhole}
-use Rattle.schema_engine.specs.Handed.{Options, no_keywords, no_matcher, parts_of, table_of}
+use Rattle.schema_engine.specs.Handed.{Options, parts_of, table_of}
 use Rattle.schema_engine.proofs.Compilations.{compiled_in, compiled_too, reach_in, refuses_in, whole_in, whole_too}
 use Rattle.schema_engine.proofs.RootKeys.{one_root_key, root_key_of, root_key_too}
 use Rattle.schema_engine.proofs.options.ValidationOptions.build.Goals as goal

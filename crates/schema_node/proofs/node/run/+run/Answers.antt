@@ -74,8 +74,8 @@ run_child-run_edge-requires-in-Some-one_below g t c =
     let p = steps_to c.args.question.now.place.now in
     let step = step_of c.in-Some-one_below.step in
     let es = c.args.context.now.in_progress in
-    let none : busy_at (steps_to c.in_ok-lower-in-Some-one_below.lower) es ≡ [] = ap (λ q. busy_at q es) c.in_ok-lower-in-Some-one_below.ensures.below ∙ busy-below p step es c.requires.may.above in
-    let deeper = subst (λ q. NoDeeper q es) (sym c.in_ok-lower-in-Some-one_below.ensures.below) (deeper-below p step es c.requires.may.above) in
+    let none : busy_at (steps_to c.below-lower.result) es ≡ [] = ap (λ q. busy_at q es) c.below-lower.ensures.below ∙ busy-below p step es c.requires.may.above in
+    let deeper = subst (λ q. NoDeeper q es) (sym c.below-lower.ensures.below) (deeper-below p step es c.requires.may.above) in
     let l = falls_below g.K.Validate.words g.K.Validate.is_whole ns (length c.args.engine.now.nodes.now) (settling (g.M.Matcher.matching c.args.engine.now.matcher.now) c.args.context.now.remembered.assumptions) c.requires.may.ready.ranked c.args.node.0 (subject_of c.args.question.now.instance) (subject_of c.in-Some-one_below.inner) step (busy_at p es) e c.requires.may.known k c.in-Some-one_below.ensures.below.1 in
     let n = ap (edge_needs ns (length c.args.engine.now.nodes.now) e (subject_of c.in-Some-one_below.inner)) none in
     λ κs h. (lower_edge _ _ _ t 0 n l c.decreases, (h.0, (h.1.0, (h.1.1.0, (h.1.1.1, record { known = (c.requires.may.ready.ranked c.args.node.0 c.requires.may.known e k).0; ready = c.requires.may.ready; above = deeper; wanted = c.requires.may.wanted })))))
@@ -89,8 +89,8 @@ run_child-returns-in-None-one_below-clause-says g t c =
     if_ok_mono c.run_edge.result _ _ (λ r says. child_here g.K.Validate.words g.K.Validate.is_whole ns (length c.args.engine.now.nodes.now) (settling (g.M.Matcher.matching c.args.engine.now.matcher.now) c.args.context.now.remembered.assumptions) (mode_of c.args.question.now.mode) (path_of c.args.question.now.path.now) (steps_to c.args.question.now.place.now) (busy_at (steps_to c.args.question.now.place.now) c.args.context.now.in_progress) (subject_of c.args.question.now.instance) c.args.node.0 _
     (record { child = c.args.child; below = below_of c.args.below }) r e (sym c.in-Some.ensures.edge) c.in-None-one_below.ensures.below l says) c.run_edge.ensures.says
 
-pub run_child-returns-in_ok-run_edge-in-Some-one_below-clause-says : goal.run_child-returns-in_ok-run_edge-in-Some-one_below-clause-says
-run_child-returns-in_ok-run_edge-in-Some-one_below-clause-says g t c =
+pub run_child-returns-in-Some-one_below-clause-says : goal.run_child-returns-in-Some-one_below-clause-says
+run_child-returns-in-Some-one_below-clause-says g t c =
     let ns = numbered g.K.Validate.shape c.args.engine.now.nodes.now in
     let e = edge_of c.in-Some.edge.now in
     let k = c.requires.children c.args.child e (sym c.in-Some.ensures.edge) in
@@ -99,12 +99,13 @@ run_child-returns-in_ok-run_edge-in-Some-one_below-clause-says g t c =
     let es = c.args.context.now.in_progress in
     let s = subject_of c.args.question.now.instance in
     let inner = subject_of c.in-Some-one_below.inner in
-    let none : busy_at (steps_to c.in_ok-lower-in-Some-one_below.lower) es ≡ [] = ap (λ q. busy_at q es) c.in_ok-lower-in-Some-one_below.ensures.below ∙ busy-below p step es c.requires.may.above in
+    let none : busy_at (steps_to c.below-lower.result) es ≡ [] = ap (λ q. busy_at q es) c.below-lower.ensures.below ∙ busy-below p step es c.requires.may.above in
     let l = falls_below g.K.Validate.words g.K.Validate.is_whole ns (length c.args.engine.now.nodes.now) (settling (g.M.Matcher.matching c.args.engine.now.matcher.now) c.args.context.now.remembered.assumptions) c.requires.may.ready.ranked c.args.node.0 s inner step (busy_at p es) e c.requires.may.known k c.in-Some-one_below.ensures.below.1 in
-    let answer = subst (λ busy. EdgeReplies g.K.Validate.words g.K.Validate.is_whole ns (length c.args.engine.now.nodes.now) (settling (g.M.Matcher.matching c.args.engine.now.matcher.now) c.args.context.now.remembered.assumptions) (mode_of c.args.question.now.mode) (path_of c.args.question.now.path.now) (steps_to c.in_ok-lower-in-Some-one_below.lower) busy inner e c.in_ok-run_edge-in-Some-one_below.field-0) none c.in_ok-run_edge-in-Some-one_below.ensures.says in
+    if_ok_mono c.run_edge-in-Some-one_below.result _ _ (λ r says.
+    let answer = subst (λ busy. EdgeReplies g.K.Validate.words g.K.Validate.is_whole ns (length c.args.engine.now.nodes.now) (settling (g.M.Matcher.matching c.args.engine.now.matcher.now) c.args.context.now.remembered.assumptions) (mode_of c.args.question.now.mode) (path_of c.args.question.now.path.now) (steps_to c.below-lower.result) busy inner e r) none says in
     child_below g.K.Validate.words g.K.Validate.is_whole ns (length c.args.engine.now.nodes.now) (settling (g.M.Matcher.matching c.args.engine.now.matcher.now) c.args.context.now.remembered.assumptions) (mode_of c.args.question.now.mode) (path_of c.args.question.now.path.now) p (busy_at p es) s c.args.node.0 _
-    (record { child = c.args.child; below = below_of c.args.below }) c.in_ok-run_edge-in-Some-one_below.field-0 e step (steps_to c.in_ok-lower-in-Some-one_below.lower) inner (sym c.in-Some.ensures.edge) c.in-Some-one_below.ensures.below.0
-    c.in_ok-lower-in-Some-one_below.ensures.below c.in-Some-one_below.ensures.below.1 l answer
+    (record { child = c.args.child; below = below_of c.args.below }) r e step (steps_to c.below-lower.result) inner (sym c.in-Some.ensures.edge) c.in-Some-one_below.ensures.below.0
+    c.below-lower.ensures.below c.in-Some-one_below.ensures.below.1 l answer) c.run_edge-in-Some-one_below.ensures.says
 
 pub run_edge-returns-then-branch-clause-says : goal.run_edge-returns-then-branch-clause-says
 run_edge-returns-then-branch-clause-says g t c =
@@ -424,8 +425,8 @@ run_child-returns-in-None-one_below-clause-meets g t c =
     let l = falls_here g.K.Validate.words g.K.Validate.is_whole ns (length c.args.engine.now.nodes.now) w c.requires.may.ready.ranked c.args.node.0 s busy e c.requires.may.known k in
     if_ok_mono c.run_edge.result _ _ (λ r met. meets_here g.K.Validate.words g.K.Validate.is_whole ns (length c.args.engine.now.nodes.now) w (mode_of c.args.question.now.mode) (path_of c.args.question.now.path.now) p busy s c.args.node.0 _ (record { child = c.args.child; below = below_of c.args.below }) _ _ e (sym c.in-Some.ensures.edge) c.in-None-one_below.ensures.below l met) c.run_edge.ensures.meets
 
-pub run_child-returns-in_ok-run_edge-in-Some-one_below-clause-meets : goal.run_child-returns-in_ok-run_edge-in-Some-one_below-clause-meets
-run_child-returns-in_ok-run_edge-in-Some-one_below-clause-meets g t c =
+pub run_child-returns-in-Some-one_below-clause-meets : goal.run_child-returns-in-Some-one_below-clause-meets
+run_child-returns-in-Some-one_below-clause-meets g t c =
     let ns = numbered g.K.Validate.shape c.args.engine.now.nodes.now in
     let w = settling (g.M.Matcher.matching c.args.engine.now.matcher.now) c.args.context.now.remembered.assumptions in
     let p = steps_to c.args.question.now.place.now in
@@ -436,11 +437,12 @@ run_child-returns-in_ok-run_edge-in-Some-one_below-clause-meets g t c =
     let step = step_of c.in-Some-one_below.step in
     let es = c.args.context.now.in_progress in
     let inner = subject_of c.in-Some-one_below.inner in
-    let none : busy_at (steps_to c.in_ok-lower-in-Some-one_below.lower) es ≡ [] = ap (λ q. busy_at q es) c.in_ok-lower-in-Some-one_below.ensures.below ∙ busy-below p step es c.requires.may.above in
+    let none : busy_at (steps_to c.below-lower.result) es ≡ [] = ap (λ q. busy_at q es) c.below-lower.ensures.below ∙ busy-below p step es c.requires.may.above in
     let l = falls_below g.K.Validate.words g.K.Validate.is_whole ns (length c.args.engine.now.nodes.now) w c.requires.may.ready.ranked c.args.node.0 s inner step busy e c.requires.may.known k c.in-Some-one_below.ensures.below.1 in
-    let met = subst (λ busy'. EdgeMeets g.K.Validate.words g.K.Validate.is_whole ns (length c.args.engine.now.nodes.now) w (mode_of c.args.question.now.mode) (path_of c.args.question.now.path.now) (steps_to c.in_ok-lower-in-Some-one_below.lower) busy' inner c.args.context.now.remembered c.run_edge-in-Some-one_below.new.context.remembered e) none c.in_ok-run_edge-in-Some-one_below.ensures.meets in
-    meets_below g.K.Validate.words g.K.Validate.is_whole ns (length c.args.engine.now.nodes.now) w (mode_of c.args.question.now.mode) (path_of c.args.question.now.path.now) p busy s c.args.node.0 _ (record { child = c.args.child; below = below_of c.args.below }) _ _ e step (steps_to c.in_ok-lower-in-Some-one_below.lower) inner (sym c.in-Some.ensures.edge) c.in-Some-one_below.ensures.below.0
-    c.in_ok-lower-in-Some-one_below.ensures.below c.in-Some-one_below.ensures.below.1 l met
+    if_ok_mono c.run_edge-in-Some-one_below.result _ _ (λ r says.
+    let met = subst (λ busy'. EdgeMeets g.K.Validate.words g.K.Validate.is_whole ns (length c.args.engine.now.nodes.now) w (mode_of c.args.question.now.mode) (path_of c.args.question.now.path.now) (steps_to c.below-lower.result) busy' inner c.args.context.now.remembered c.run_edge-in-Some-one_below.new.context.remembered e) none says in
+    meets_below g.K.Validate.words g.K.Validate.is_whole ns (length c.args.engine.now.nodes.now) w (mode_of c.args.question.now.mode) (path_of c.args.question.now.path.now) p busy s c.args.node.0 _ (record { child = c.args.child; below = below_of c.args.below }) _ _ e step (steps_to c.below-lower.result) inner (sym c.in-Some.ensures.edge) c.in-Some-one_below.ensures.below.0
+    c.below-lower.ensures.below c.in-Some-one_below.ensures.below.1 l met) c.run_edge-in-Some-one_below.ensures.meets
 
 pub run_form-returns-in-Keyword-clause-meets : goal.run_form-returns-in-Keyword-clause-meets
 run_form-returns-in-Keyword-clause-meets g t c = rw (c.in-Keyword.is, ← c.as_slice.ensures.value) c.run_keyword.ensures.meets

@@ -1,11 +1,12 @@
 use Rattle.std.proofs.Common.{length, ◌≡◌, ◌∷◌, [], ◌++◌, List, append_assoc, string_cmp, subst, map, refl, sym, ap, ◌∙◌, arith, Some, None, rules, true, false, true≢false}
-use Rattle.std.specs.Prelude.{IfErr, IfOk, Option, string_bytes, option_map}
+use Rattle.std.specs.Prelude.{IfErr, IfOk, Option, string_bytes, option_map, unwrap_or}
 use Rattle.std.proofs.lemmas.List.{append-nil, length-map}
 use Rattle.std.proofs.lemmas.Result.{err_from_is_err_and}
 use Rattle.std.proofs.lemmas.Grind.{common_steps}
 use Rattle.std.specs.List.Sorted.{IsStrictlySortedBy}
 use Rattle.std.specs.Map.{keys_of}
-use Rattle.serde_json.specs.Data.{Data}
+use Rattle.serde_json.specs.Data.{Data, null}
+use Rattle.serde_json.specs.Find.{as_bool, as_object}
 use Rattle.serde_json.specs.View.{view, members_view}
 use Rattle.serde_json.proofs.Views.{Entry}
 use Rattle.schema_reports.specs.Pointer.{pointer_to, joined}
@@ -37,15 +38,15 @@ child_edge-returns-in_err-edge_to-clause-refused g t c =
     let s = task g.R.Resolver.resolving g.T.KeywordTable.owned g.T.KeywordTable.script g.K.Validate.shape c.args.self.now in
     let old = filled g.R.Resolver.point c.args.compiled.now in
     let p = err_from_is_err_and c.from_residual-in_err-edge_to.result c.from_residual-in_err-edge_to.ensures.1 in
-    rw (p.1, p.2) (asked_refused s.parts s.limit _ (record { key = v c.in_ok-below.below; path = pointer_to c.args.path.now; is_reference = false }) _ old.keys _ c.in_ok-below.ensures.below c.in_err-edge_to.ensures.refused)
+    rw (p.1, p.2) (asked_refused s.parts s.limit _ (record { key = v c.in_ok-below.below.0; path = pointer_to c.args.path.now; is_reference = false }) _ old.keys _ c.in_ok-below.ensures.below c.in_err-edge_to.ensures.refused)
 
 pub child_edge-returns-clause-answered : goal.child_edge-returns-clause-answered
 child_edge-returns-clause-answered g t c =
     let v = key_of g.R.Resolver.point in
     let s = task g.R.Resolver.resolving g.T.KeywordTable.owned g.T.KeywordTable.script g.K.Validate.shape c.args.self.now in
     let old = filled g.R.Resolver.point c.args.compiled.now in
-    is_answered s.parts s.shape s.limit _ (record { key = v c.in_ok-below.below; path = pointer_to c.args.path.now; is_reference = false }) _ old.keys (map v c.edge_to.new.compiled.keys) old.nodes c.edge_to.new.compiled.nodes (edge_of c.in_ok-edge_to.field-0) _ c.in_ok-below.ensures.below
-    (compile_clean s.parts (v c.args.key.now) c.args.path.now (record { key = v c.in_ok-below.below; path = pointer_to c.args.path.now; is_reference = false }) c.in_ok-below.ensures.below) (λ f. absurd (true≢false (sym f))) c.in_ok-location.ensures.pointer c.in_ok-edge_to.ensures.edge
+    is_answered s.parts s.shape s.limit _ (record { key = v c.in_ok-below.below.0; path = pointer_to c.args.path.now; is_reference = false }) _ old.keys (map v c.edge_to.new.compiled.keys) old.nodes c.edge_to.new.compiled.nodes (edge_of c.in_ok-edge_to.field-0) _ c.in_ok-below.ensures.below
+    (compile_clean s.parts (v c.args.key.now) c.args.path.now (record { key = v c.in_ok-below.below.0; path = pointer_to c.args.path.now; is_reference = false }) c.in_ok-below.ensures.below) (λ f. absurd (true≢false (sym f))) c.in_ok-location.ensures.pointer c.in_ok-edge_to.ensures.edge
 
 pub edge_to-returns-clause-edge : goal.edge_to-returns-clause-edge
 edge_to-returns-clause-edge g t c =
@@ -615,7 +616,8 @@ planned_node-returns-in-Some-clause-refused g t c =
     let s = task g.R.Resolver.resolving g.T.KeywordTable.owned g.T.KeywordTable.script g.K.Validate.shape c.args.self.now in
     let old = filled g.R.Resolver.point c.args.compiled.now in
     let k = v c.args.key.now in
-    object_stands s.parts k (λ (es : List (Edge _)) (cs : List Cause) (q : Plan _) (a : Option Data). IfErr c.planned_object.result (Refused s.parts s.limit es cs old.keys)) (members_view c.in-Some.members.now.entries) (object_is s.parts k _ (members_view c.in-Some.members.now.entries) c.in-Some.ensures.object) c.planned_object.ensures.refused
+    let object = ap (λ (o : Option Data). as_object (unwrap_or o null)) c.value_of-value.ensures.value in
+    object_stands s.parts k (λ (es : List (Edge _)) (cs : List Cause) (q : Plan _) (a : Option Data). IfErr c.planned_object.result (Refused s.parts s.limit es cs old.keys)) (members_view c.in-Some.members.now.entries) (object_is s.parts k _ (members_view c.in-Some.members.now.entries) (c.in-Some.ensures.object ∙ object)) c.planned_object.ensures.refused
 
 pub planned_node-returns-in-Some-clause-planned : goal.planned_node-returns-in-Some-clause-planned
 planned_node-returns-in-Some-clause-planned g t c =
@@ -623,22 +625,26 @@ planned_node-returns-in-Some-clause-planned g t c =
     let s = task g.R.Resolver.resolving g.T.KeywordTable.owned g.T.KeywordTable.script g.K.Validate.shape c.args.self.now in
     let old = filled g.R.Resolver.point c.args.compiled.now in
     let k = v c.args.key.now in
-    object_stands s.parts k (λ (es : List (Edge _)) (cs : List Cause) (q : Plan _) (a : Option Data). IfOk c.planned_object.result (λ n. MakesPlan s.parts s.shape s.limit old.keys (map v c.planned_object.new.compiled.keys) old.nodes c.planned_object.new.compiled.nodes es cs k (plan_of n.form) q (option_map view n.annotations) a)) (members_view c.in-Some.members.now.entries) (object_is s.parts k _ (members_view c.in-Some.members.now.entries) c.in-Some.ensures.object) c.planned_object.ensures.planned
+    let object = ap (λ (o : Option Data). as_object (unwrap_or o null)) c.value_of-value.ensures.value in
+    object_stands s.parts k (λ (es : List (Edge _)) (cs : List Cause) (q : Plan _) (a : Option Data). IfOk c.planned_object.result (λ n. MakesPlan s.parts s.shape s.limit old.keys (map v c.planned_object.new.compiled.keys) old.nodes c.planned_object.new.compiled.nodes es cs k (plan_of n.form) q (option_map view n.annotations) a)) (members_view c.in-Some.members.now.entries) (object_is s.parts k _ (members_view c.in-Some.members.now.entries) (c.in-Some.ensures.object ∙ object)) c.planned_object.ensures.planned
 
-pub planned_node-returns-in_err-form_at-in-None-clause-refused : goal.planned_node-returns-in_err-form_at-in-None-clause-refused
-planned_node-returns-in_err-form_at-in-None-clause-refused g t c =
+pub planned_node-returns-in_err-plain_form-in-None-clause-refused : goal.planned_node-returns-in_err-plain_form-in-None-clause-refused
+planned_node-returns-in_err-plain_form-in-None-clause-refused g t c =
     let v = key_of g.R.Resolver.point in
     let s = task g.R.Resolver.resolving g.T.KeywordTable.owned g.T.KeywordTable.script g.K.Validate.shape c.args.self.now in
     let old = filled g.R.Resolver.point c.args.compiled.now in
     let k = v c.args.key.now in
+    let object = ap (λ (o : Option Data). as_object (unwrap_or o null)) c.value_of-value.ensures.value in
+    let boolean = ap (λ (o : Option Data). as_bool (unwrap_or o null)) c.value_of-value.ensures.value in
     let p = err_from_is_err_and c.from_residual.result c.from_residual.ensures.1 in
-    rw (p.1, p.2) (other_refused s.parts k s.limit old.keys _ c.in-None.ensures.object c.in_err-form_at-in-None.ensures.other c.in_err-form_at-in-None.ensures.refused)
+    rw (p.1, p.2) (other_refused s.parts k s.limit old.keys _ (c.in-None.ensures.object ∙ object) (sym boolean ∙ c.in_err-plain_form-in-None.ensures.other) c.in_err-plain_form-in-None.ensures.refused)
 
-pub planned_node-returns-in_ok-form_at-in-None-clause-planned : goal.planned_node-returns-in_ok-form_at-in-None-clause-planned
-planned_node-returns-in_ok-form_at-in-None-clause-planned g t c =
+pub planned_node-returns-in_ok-plain_form-in-None-clause-planned : goal.planned_node-returns-in_ok-plain_form-in-None-clause-planned
+planned_node-returns-in_ok-plain_form-in-None-clause-planned g t c =
     let v = key_of g.R.Resolver.point in
     let s = task g.R.Resolver.resolving g.T.KeywordTable.owned g.T.KeywordTable.script g.K.Validate.shape c.args.self.now in
     let old = filled g.R.Resolver.point c.args.compiled.now in
     let k = v c.args.key.now in
-    let f = c.in_ok-form_at-in-None.ensures.form in
-    boolean_made s.parts k s.shape s.limit f.0 (plan_of c.in_ok-form_at-in-None.field-0) old.keys old.nodes f.1 f.2 c.requires.table
+    let boolean = ap (λ (o : Option Data). as_bool (unwrap_or o null)) c.value_of-value.ensures.value in
+    let f = c.in_ok-plain_form-in-None.ensures.form in
+    boolean_made s.parts k s.shape s.limit f.0 (plan_of c.in_ok-plain_form-in-None.field-0) old.keys old.nodes (sym boolean ∙ f.1) f.2 c.requires.table

@@ -11,13 +11,14 @@ invariant_of-self-2 g c =
     let keys = c.self.inside.keys.items in
     let earlier = c.self.inside.earlier.items in
     let last = get nat_eq c.self.inside.last in
-    let hashes = map (hash_of {S = g.row.S.Denot}) keys in
-    let h = hash_of c.args.key in
+    let input = g.S.Hash.hash_input in
+    let hashes = map (hash_of input) keys in
+    let h = hash_of input c.args.key in
     let hash : c.hash_of-hash.result ≡ h = c.hash_of-hash.ensures.hash in
-    let number : length keys ≡ length hashes = omega (arith, length-map keys (λ (a : SchemaKey g.row.S.Denot). hash_of a)) in
+    let number : length keys ≡ length hashes = omega (arith, length-map keys (λ (a : SchemaKey g.row.S.Denot). hash_of input a)) in
     let updates : (q : ℕ) → get nat_eq c.link.new.last q ≡ cond (nat_eq h q) (Some (length hashes)) (last q) = λ q. c.in_ok-link.ensures.last q
     ∙ ap (λ x. cond (nat_eq x q) (Some (length keys)) (last q)) hash ∙ ap (λ n. cond (nat_eq h q) (Some n) (last q)) number in
     let pushed : c.push.new.self.items ≡ keys ++ c.args.key ∷ [] = c.in_ok-push.ensures.items ∙ ap (λ (ks : List (SchemaKey g.row.S.Denot)). ks ++ c.args.key ∷ []) c.in_ok-link.ensures.keys in
-    let pushed' : map hash_of c.push.new.self.items ≡ hashes ++ h ∷ [] = ap (map hash_of) pushed ∙ map-append hash_of keys (c.args.key ∷ []) in
+    let pushed' : map (hash_of input) c.push.new.self.items ≡ hashes ++ h ∷ [] = ap (map (hash_of input)) pushed ∙ map-append (hash_of input) keys (c.args.key ∷ []) in
     let linked : c.link.new.earlier.items ≡ earlier ++ last h ∷ [] = c.in_ok-link.ensures.linked ∙ ap (λ x. earlier ++ last x ∷ []) hash in
     rw (pushed', linked) (chained_more hashes earlier last (get nat_eq c.link.new.last) h c.self.invariant updates)

@@ -1,0 +1,37 @@
+//! Prints what is wrong with an array, by keywords and a table of its own: the engine with the example `array_keywords`.
+#![tactic(auto)]
+
+use array_keywords::{ArrayKeyword, ArrayTable};
+use bench_parts::by_value::TableByValue;
+use bench_parts::matcher::BenchMatcher;
+use bench_parts::resolver::BenchResolver;
+use keyword_ways::planned::Planned;
+use schema_engine::keywords::VocabularySet;
+use schema_engine::validator::Validator;
+use serde_json::Value;
+
+const SCHEMA: &str = r#"{"minItems": 3, "contains": {"minItems": 1}}"#;
+
+const INSTANCE: &str = r#"[[], []]"#;
+
+fn main(rt: HostRuntime) -> anyhow::Result<()> {
+    let alloc = rt.alloc();
+    let schema = Value::from_str(alloc, SCHEMA)?;
+    let instance = Value::from_str(alloc, INSTANCE)?;
+    let table = TableByValue {
+        keywords: ArrayTable {},
+    };
+    let resolver = BenchResolver::new(alloc, &schema, VocabularySet::new(alloc))?;
+    let matcher = BenchMatcher::new(Vec::new(alloc));
+    match Validator::<Planned<ArrayKeyword>, BenchMatcher>::new(
+        alloc, &schema, &table, &resolver, &matcher,
+    ) {
+        Err(refused) => println!(rt; "{refused}")?,
+        Ok(validator) => {
+            for error in validator.iter_errors(alloc, &instance)? {
+                println!(rt; "{}: {error}", error.schema_path.as_str())?;
+            }
+        }
+    }
+    Ok(())
+}

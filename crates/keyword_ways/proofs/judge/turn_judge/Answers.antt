@@ -1,0 +1,4 @@
+use Rattle.keyword_ways.proofs.judge.turn_judge.Goals as goal
+
+pub returns-in_ok-tell_judged-in-Judged-clause-borrows : goal.returns-in_ok-tell_judged-in-Judged-clause-borrows
+returns-in_ok-tell_judged-in-Judged-clause-borrows g c = λ root errors faults. c.in_ok-tell_judged-in-Judged.ensures.borrows root faults

@@ -1,0 +1,8 @@
+use Rattle.keyword_ways.proofs.planned.turn_judging.Goals.{then-accepted-least+in_ok-tell-in-Judged, else-accepted-least}
+use Rattle.keyword_ways.proofs.planned.turn_judging.Goals as goal
+
+pub returns-after-accepted-least-clause-borrows : goal.returns-after-accepted-least-clause-borrows
+returns-after-accepted-least-clause-borrows g c = λ root errors faults. elim c.if-accepted-least.branch [
+  | then-accepted-least+in_ok-tell-in-Judged w ↦ rw w.answer-is (w.in_ok-tell-in-Judged.ensures.borrows root faults)
+  | else-accepted-least w ↦ rw w.answer-is faults
+]

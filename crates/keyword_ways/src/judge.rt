@@ -1,0 +1,137 @@
+//! Keywords that judge by how many questions are answered by yes. An author says which questions it asks, of how many such answers
+//! it holds, its name and its error's text; its turns follow.
+ghost use Rattle.std.specs.Prelude.{All, ◌≡◌, ℕ, Bool, false, IfOk, map, string_bytes, true};
+ghost use Rattle.serde_json.specs.Data.{Data};
+ghost use Rattle.schema_reports.specs.Instance.{Subject, Text};
+ghost use Rattle.schema_reports.specs.InstanceTexts.{subject_has_float};
+ghost use Rattle.schema_reports.specs.InstanceViews.{subject_of};
+ghost use Rattle.schema_reports.specs.Keywords.{Question, ask};
+ghost use Rattle.schema_reports.specs.ReportViews.{BorrowsItsPlace, spoken};
+ghost use Rattle.schema_node.specs.FaultViews.{errors_in, faults_in, PassesBorrowed};
+ghost use Rattle.schema_node.specs.KeywordViews.{answer_of, mode_of, reply_of, turn_of, Tells};
+ghost use Rattle.keyword_ways.specs.Items.{each_from};
+ghost use Rattle.keyword_ways.specs.OwnWays.{judge_way, spoken_way};
+ghost use Rattle.keyword_ways.specs.Ways.{noted, unless, way_step, way_turn};
+
+use crate::answers::{note, refuse};
+use crate::judging::{Judge, Judging, judge_on};
+use crate::run::Progress;
+use schema_node::context::keyword::{Answer, Mode, Reply, Step};
+use schema_reports::instance::Instance;
+use schema_reports::location::OutOfMemory;
+use std::alloc::Global;
+
+/// A keyword that judges: it asks numbered questions, and holds of an instance by how many are answered by yes, or tells one error.
+pub trait JudgeKeyword: Drop {
+    /// What is known of the keyword apart from its representation: the keyword itself, where it owns nothing.
+    type Shape;
+
+    ghost shape: { Self → Self.Shape };
+
+    ghost called: { Self.Shape → Text };
+
+    // how many questions there are of an instance, and the question of each number
+    ghost how_many: { Self.Shape → Subject → ℕ };
+
+    ghost question: { Self.Shape → ℕ → Question };
+
+    // after how many answers by yes further ones change nothing, and whether it gives the units of its questions
+    ghost enough: { Self.Shape → ℕ };
+
+    ghost shows: { Self.Shape → Bool };
+
+    // whether it holds of an instance by so many answers by yes, and the error's text where it does not
+    ghost accepts: { Self.Shape → Subject → ℕ → Bool };
+
+    ghost error_text: { Self.Shape → Subject → ℕ → Text };
+
+    /// The keyword's name.
+    fn name(&self) -> &str
+        ensures name { result.now ≡ called (shape self.now) };
+
+    /// How it judges an instance.
+    fn judge(&self, instance: Instance<'_>) -> Judge
+        ensures count { result.count ≡ how_many (shape self.now) (subject_of instance.entry) }
+        ensures enough { result.enough ≡ enough (shape self.now) }
+        ensures shows { result.shows ≡ shows (shape self.now) };
+
+    /// The question of this number, in this mode.
+    fn ask(&self, number: usize, mode: Mode) -> Step<'_>
+        ensures question { turn_of result ≡ ask (question (shape self.now) number) (mode_of mode) };
+
+    /// Whether it holds where so many questions are answered by yes.
+    fn holds(&self, instance: Instance<'_>, accepted: usize) -> bool
+        ensures holds { result ≡ accepts (shape self.now) (subject_of instance.entry) accepted };
+
+    /// The error's text. It is asked for only where the keyword does not hold and an error is wanted.
+    fn text(
+        &self,
+        alloc: Global,
+        instance: Instance<'_>,
+        accepted: usize,
+    ) -> Result<String, OutOfMemory>
+        ensures text { IfOk result (λ text. subject_has_float (subject_of instance.entry) ≡ false → string_bytes text
+            ≡ error_text (shape self.now) (subject_of instance.entry) accepted) };
+}
+
+/// Notes the keyword's error where it does not hold.
+fn tell_judged<'i, J: JudgeKeyword>(
+    judge: &J,
+    alloc: Global,
+    accepted: usize,
+    mode: Mode,
+    instance: Instance<'i>,
+    answer: &mut Answer<'i>,
+) -> Result<(), OutOfMemory>
+    ensures told { IfOk result (λ _. (texts : Bool) → Tells texts true (subject_of instance.entry) → answer_of texts answer.new
+        ≡ noted mode (J.called (J.shape judge.now)) (answer_of texts answer.old)
+        (map (spoken texts) (unless (J.accepts (J.shape judge.now) (subject_of instance.entry) accepted)
+        (J.error_text (J.shape judge.now) (subject_of instance.entry) accepted)))) }
+    ensures borrows { IfOk result (λ _. (root : Data) → All (PassesBorrowed root) (faults_in answer.old)
+        → All (PassesBorrowed root) (faults_in answer.new)) }
+{
+    if judge.holds(instance, accepted) {
+        return Ok(());
+    }
+    if mode == Mode::Verdict {
+        refuse(answer);
+        return Ok(());
+    }
+    let text = judge.text(alloc, instance, accepted)?;
+    note(alloc, mode, judge.name(), text, answer)
+}
+
+/// Takes a turn of a keyword that judges: asks the next question, or tells its error, if it has one, where no question is left.
+pub fn turn_judge<'s, 'i, J: JudgeKeyword>(
+    keyword: &'s J,
+    alloc: Global,
+    run: &mut Progress,
+    instance: Instance<'i>,
+    reply: Reply<'i>,
+    answer: &mut Answer<'i>,
+) -> Result<Step<'s>, OutOfMemory>
+    ensures turns { IfOk result (λ _. (texts : Bool) → Tells texts true (subject_of instance.entry)
+        → way_turn (spoken_way texts (judge_way (J.called (J.shape keyword.now)) (J.enough (J.shape keyword.now))
+        (J.shows (J.shape keyword.now)) (J.accepts (J.shape keyword.now) (subject_of instance.entry))
+        (J.error_text (J.shape keyword.now) (subject_of instance.entry))
+        (each_from (J.question (J.shape keyword.now)) 0 (J.how_many (J.shape keyword.now) (subject_of instance.entry)))))
+        (run.old, answer_of texts answer.old) (reply_of texts reply.entry) ≡ (run.new, answer_of texts answer.new)) }
+    ensures steps { IfOk result (λ step. (texts : Bool)
+        → way_step (spoken_way texts (judge_way (J.called (J.shape keyword.now)) (J.enough (J.shape keyword.now))
+        (J.shows (J.shape keyword.now)) (J.accepts (J.shape keyword.now) (subject_of instance.entry))
+        (J.error_text (J.shape keyword.now) (subject_of instance.entry))
+        (each_from (J.question (J.shape keyword.now)) 0 (J.how_many (J.shape keyword.now) (subject_of instance.entry)))))
+        (run.old, answer_of texts answer.old) (reply_of texts reply.entry) ≡ turn_of step) }
+    ensures borrows { IfOk result (λ _. (root : Data) → All (BorrowsItsPlace root) (errors_in reply.entry)
+        → All (PassesBorrowed root) (faults_in answer.old) → All (PassesBorrowed root) (faults_in answer.new)) }
+{
+    let mode = run.mode;
+    match judge_on(keyword.judge(instance), run, reply) {
+        Judging::Asks(number, asked) => Ok(keyword.ask(number, asked)),
+        Judging::Judged(accepted) => {
+            tell_judged(keyword, alloc, accepted, mode, instance, answer)?;
+            Ok(Step::Done)
+        }
+        Judging::Over => Ok(Step::Done),
+    }
+}

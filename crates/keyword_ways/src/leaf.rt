@@ -1,0 +1,157 @@
+//! Keywords that ask nothing. An author says when such a keyword holds, its name and its error's text; all laws follow.
+ghost use Rattle.std.specs.Prelude.{All, ◌≡◌, Bool, false, IfOk, map, string_bytes, true};
+ghost use Rattle.serde_json.specs.Data.{Data};
+ghost use Rattle.schema_reports.specs.Instance.{Subject, Text};
+ghost use Rattle.schema_reports.specs.InstanceTexts.{subject_has_float};
+ghost use Rattle.schema_reports.specs.InstanceViews.{subject_of};
+ghost use Rattle.schema_reports.specs.Keywords.{done};
+ghost use Rattle.schema_reports.specs.ReportViews.{BorrowsItsPlace, spoken};
+ghost use Rattle.schema_node.specs.FaultViews.{errors_in, faults_in, PassesBorrowed};
+ghost use Rattle.schema_node.specs.KeywordViews.{answer_of, reply_of, turn_of, Tells};
+ghost use Rattle.keyword_ways.specs.OwnWays.{leaf_way, spoken_way};
+ghost use Rattle.keyword_ways.specs.Ways.{noted, unless, way_turn};
+
+use crate::answers::{note, refuse};
+use crate::run::Progress;
+use crate::telling::tell_on;
+use schema_node::context::keyword::{Answer, Mode, Reply, Step, Validate};
+use schema_reports::instance::Instance;
+use schema_reports::location::OutOfMemory;
+use std::alloc::Global;
+
+/// A keyword that asks nothing: it holds of an instance, or tells one error.
+pub trait LeafKeyword: Drop {
+    /// What is known of the keyword apart from its representation: the keyword itself, where it owns nothing.
+    type Shape;
+
+    ghost shape: { Self → Self.Shape };
+
+    // the keyword's name, of which instances it holds, and the error's text where it does not
+    ghost called: { Self.Shape → Text };
+
+    ghost accepts: { Self.Shape → Subject → Bool };
+
+    ghost error_text: { Self.Shape → Subject → Text };
+
+    /// The keyword's name.
+    fn name(&self) -> &str
+        ensures name { result.now ≡ called (shape self.now) };
+
+    /// Whether it holds of an instance.
+    fn holds(&self, instance: Instance<'_>) -> bool
+        ensures holds { result ≡ accepts (shape self.now) (subject_of instance.entry) };
+
+    /// The error's text. It is asked for only where the keyword does not hold and an error is wanted.
+    fn text(&self, alloc: Global, instance: Instance<'_>) -> Result<String, OutOfMemory>
+        ensures text { IfOk result (λ text. subject_has_float (subject_of instance.entry) ≡ false → string_bytes text
+            ≡ error_text (shape self.now) (subject_of instance.entry)) };
+}
+
+/// Notes the keyword's error where it does not hold.
+fn tell_leaf<'i, L: LeafKeyword>(
+    leaf: &L,
+    alloc: Global,
+    mode: Mode,
+    instance: Instance<'i>,
+    answer: &mut Answer<'i>,
+) -> Result<(), OutOfMemory>
+    ensures told { IfOk result (λ _. (texts : Bool) → Tells texts true (subject_of instance.entry) → answer_of texts answer.new
+        ≡ noted mode (L.called (L.shape leaf.now)) (answer_of texts answer.old)
+        (map (spoken texts) (unless (L.accepts (L.shape leaf.now) (subject_of instance.entry))
+        (L.error_text (L.shape leaf.now) (subject_of instance.entry))))) }
+    ensures borrows { IfOk result (λ _. (root : Data) → All (PassesBorrowed root) (faults_in answer.old)
+        → All (PassesBorrowed root) (faults_in answer.new)) }
+{
+    if leaf.holds(instance) {
+        return Ok(());
+    }
+    if mode == Mode::Verdict {
+        refuse(answer);
+        return Ok(());
+    }
+    let text = leaf.text(alloc, instance)?;
+    note(alloc, mode, leaf.name(), text, answer)
+}
+
+/// Takes a turn of a keyword that asks nothing: in the first turn it tells its error, if it has one, and the run ends.
+pub fn turn_leaf<'s, 'i, L: LeafKeyword>(
+    leaf: &L,
+    alloc: Global,
+    run: &mut Progress,
+    instance: Instance<'i>,
+    reply: Reply<'i>,
+    answer: &mut Answer<'i>,
+) -> Result<Step<'s>, OutOfMemory>
+    ensures turns { IfOk result (λ _. (texts : Bool) → Tells texts true (subject_of instance.entry)
+        → way_turn (spoken_way texts (leaf_way (L.called (L.shape leaf.now)) (L.accepts (L.shape leaf.now) (subject_of instance.entry))
+        (L.error_text (L.shape leaf.now) (subject_of instance.entry)))) (run.old, answer_of texts answer.old)
+        (reply_of texts reply.entry) ≡ (run.new, answer_of texts answer.new)) }
+    ensures step { IfOk result (λ step. turn_of step ≡ done) }
+    ensures borrows { IfOk result (λ _. (root : Data) → All (BorrowsItsPlace root) (errors_in reply.entry)
+        → All (PassesBorrowed root) (faults_in answer.old) → All (PassesBorrowed root) (faults_in answer.new)) }
+{
+    drop(reply);
+    if tell_on(run) {
+        tell_leaf(leaf, alloc, run.mode, instance, answer)?;
+    }
+    Ok(Step::Done)
+}
+
+/// A keyword that asks nothing, as the engine takes it.
+#[derive(Drop)]
+pub struct Leaf<L: LeafKeyword> {
+    pub leaf: L,
+}
+
+impl<L: LeafKeyword> Validate for Leaf<L> {
+    ghost use Rattle.std.specs.Prelude.{refl};
+    ghost use Rattle.keyword_ways.specs.OwnWays.{leaf_present, leaf_ways, own_absorbed, own_ends, own_fits, own_function_laws};
+    ghost use Rattle.keyword_ways.specs.OwnWays.{own_remaining, own_turn_laws, own_words};
+
+    type Run = Progress;
+
+    type Shape = L::Shape;
+
+    ghost words = { own_words (leaf_ways L.called L.accepts L.error_text) };
+
+    ghost shape = { λ k. L.shape k.leaf };
+
+    ghost absorbed = { own_absorbed (leaf_ways L.called L.accepts L.error_text) };
+
+    ghost is_whole = { λ _. true };
+
+    ghost remaining = { own_remaining (leaf_ways L.called L.accepts L.error_text) };
+
+    ghost ends = { own_ends (leaf_ways L.called L.accepts L.error_text) };
+
+    ghost fits = { own_fits (leaf_ways L.called L.accepts L.error_text) };
+
+    fn begin(
+        &self,
+        _alloc: Global,
+        _instance: Instance,
+        mode: Mode,
+    ) -> Result<Progress, OutOfMemory> {
+        Ok(Progress::begin(mode))
+    }
+
+    fn turn<'s, 'i: 's>(
+        &'s self,
+        alloc: Global,
+        run: &mut Progress,
+        instance: Instance<'i>,
+        reply: Reply<'i>,
+        answer: &mut Answer<'i>,
+    ) -> Result<Step<'s>, OutOfMemory> {
+        turn_leaf(&self.leaf, alloc, run, instance, reply, answer)
+    }
+
+    ghost speaks = { λ texts. refl };
+
+    ghost answers = { λ texts run a. refl };
+
+    ghost turn_laws = { own_turn_laws (leaf_ways L.called L.accepts L.error_text) };
+
+    ghost function_laws = { own_function_laws (leaf_ways L.called L.accepts L.error_text)
+        (leaf_present L.called L.accepts L.error_text) };
+}

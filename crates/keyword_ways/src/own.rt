@@ -1,0 +1,110 @@
+//! Keywords of an author's own. An author says in which way a keyword goes about an instance and takes its turns; all laws of a
+//! keyword follow.
+ghost use Rattle.std.specs.Prelude.{All, ◌≡◌, Bool, IfOk};
+ghost use Rattle.serde_json.specs.Data.{Data};
+ghost use Rattle.schema_reports.specs.Instance.{Subject};
+ghost use Rattle.schema_reports.specs.InstanceViews.{subject_of};
+ghost use Rattle.schema_reports.specs.ReportViews.{BorrowsItsPlace};
+ghost use Rattle.schema_node.specs.FaultViews.{errors_in, faults_in, PassesBorrowed};
+ghost use Rattle.schema_node.specs.KeywordViews.{answer_of, reply_of, turn_of, Tells};
+ghost use Rattle.keyword_ways.specs.OwnWays.{spoken_way, AlwaysPresent};
+ghost use Rattle.keyword_ways.specs.Ways.{Way, way_step, way_turn};
+
+use crate::run::Progress;
+use schema_node::context::keyword::{Answer, Mode, Reply, Step, Validate};
+use schema_reports::instance::Instance;
+use schema_reports::location::OutOfMemory;
+use std::alloc::Global;
+
+/// A keyword of an author's own, which goes about each instance in one of the ways.
+pub trait OwnKeyword: Drop {
+    /// What is known of the keyword apart from its representation: the keyword itself, where it owns nothing.
+    type Shape;
+
+    ghost shape: { Self → Self.Shape };
+
+    // the way in which it goes about an instance, with the texts of its errors
+    ghost way: { Self.Shape → Subject → Way };
+
+    // whether no text of an error of it shows a fraction of the schema
+    ghost is_whole: { Self.Shape → Bool };
+
+    // each question is asked at a place that is there
+    ghost present: { AlwaysPresent way };
+
+    /// Takes a turn: by `turn_leaf`, `turn_judge`, `next_number`, `branch_on` or `match_on`, as its way is.
+    fn turn<'s, 'i: 's>(
+        &'s self,
+        alloc: Global,
+        run: &mut Progress,
+        instance: Instance<'i>,
+        reply: Reply<'i>,
+        answer: &mut Answer<'i>,
+    ) -> Result<Step<'s>, OutOfMemory>
+        ensures turns { IfOk result (λ _. (texts : Bool) → Tells texts (is_whole (shape self.now)) (subject_of instance.entry)
+            → way_turn (spoken_way texts (way (shape self.now) (subject_of instance.entry))) (run.old, answer_of texts answer.old)
+            (reply_of texts reply.entry) ≡ (run.new, answer_of texts answer.new)) }
+        ensures steps { IfOk result (λ step. (texts : Bool) → Tells texts (is_whole (shape self.now)) (subject_of instance.entry)
+            → way_step (spoken_way texts (way (shape self.now) (subject_of instance.entry))) (run.old, answer_of texts answer.old)
+            (reply_of texts reply.entry) ≡ turn_of step) }
+        ensures borrows { IfOk result (λ _. (root : Data) → All (BorrowsItsPlace root) (errors_in reply.entry)
+            → All (PassesBorrowed root) (faults_in answer.old) → All (PassesBorrowed root) (faults_in answer.new)) };
+}
+
+/// An author's keyword, as the engine takes it.
+#[derive(Drop)]
+pub struct Keyword<K: OwnKeyword> {
+    pub own: K,
+}
+
+impl<K: OwnKeyword> Validate for Keyword<K> {
+    ghost use Rattle.std.specs.Prelude.{refl};
+    ghost use Rattle.keyword_ways.specs.OwnWays.{own_absorbed, own_ends, own_fits, own_function_laws, own_remaining};
+    ghost use Rattle.keyword_ways.specs.OwnWays.{own_turn_laws, own_words};
+
+    type Run = Progress;
+
+    type Shape = K::Shape;
+
+    ghost words = { own_words K.way };
+
+    ghost shape = { λ k. K.shape k.own };
+
+    ghost absorbed = { own_absorbed K.way };
+
+    ghost is_whole = { λ m. K.is_whole m };
+
+    ghost remaining = { own_remaining K.way };
+
+    ghost ends = { own_ends K.way };
+
+    ghost fits = { own_fits K.way };
+
+    fn begin(
+        &self,
+        _alloc: Global,
+        _instance: Instance,
+        mode: Mode,
+    ) -> Result<Progress, OutOfMemory> {
+        Ok(Progress::begin(mode))
+    }
+
+    fn turn<'s, 'i: 's>(
+        &'s self,
+        alloc: Global,
+        run: &mut Progress,
+        instance: Instance<'i>,
+        reply: Reply<'i>,
+        answer: &mut Answer<'i>,
+    ) -> Result<Step<'s>, OutOfMemory> {
+        self.own.turn(alloc, run, instance, reply, answer)
+    }
+
+    ghost speaks = { λ texts. refl };
+
+    ghost answers = { λ texts run a. refl };
+
+    ghost turn_laws = { own_turn_laws K.way };
+
+    ghost function_laws = { own_function_laws K.way K.present };
+}

@@ -1,0 +1,295 @@
+//! Keywords that say by a plan how they go about an instance. Their runs and their laws are the same for all of them.
+ghost use Rattle.std.specs.Prelude.{All, ◌≡◌, ◌∷◌, [], Bool, IfOk, Some, false, refl, string_bytes, true};
+ghost use Rattle.serde_json.specs.Data.{Data};
+ghost use Rattle.schema_reports.specs.Instance.{Subject, Text};
+ghost use Rattle.schema_reports.specs.InstanceTexts.{subject_has_float};
+ghost use Rattle.schema_reports.specs.InstanceViews.{subject_of};
+ghost use Rattle.schema_reports.specs.Keywords.{done};
+ghost use Rattle.schema_reports.specs.ReportViews.{BorrowsItsPlace, spoken};
+ghost use Rattle.schema_node.specs.FaultViews.{errors_in, faults_in, PassesBorrowed};
+ghost use Rattle.schema_node.specs.KeywordViews.{answer_of, reply_of, turn_of, Tells as TellsRightly};
+ghost use Rattle.keyword_ways.specs.Plans.{asks_count, asks_of, least_way, plan_ways, question_of};
+ghost use Rattle.keyword_ways.specs.OwnWays.{leaf_way, spoken_way};
+ghost use Rattle.keyword_ways.specs.Ways.{asked, noted, passes_on, way_step, way_turn};
+
+use crate::answers::{note, refuse};
+use crate::items::item_count;
+use crate::judging::{Judge, Judging, judge_on};
+use crate::passing::next_number;
+use crate::run::Progress;
+use crate::telling::tell_on;
+use schema_node::context::keyword::{Answer, Below, Mode, Reply, Step, Validate};
+use schema_reports::instance::Instance;
+use schema_reports::location::OutOfMemory;
+use std::alloc::Global;
+
+/// What a keyword asks.
+#[derive(Clone, Copy)]
+pub enum Asks {
+    /// Each of so many children, at the keyword's own place.
+    Children(usize),
+    /// The first child, at each item of the instance.
+    Items,
+}
+
+/// How a keyword goes about an instance.
+#[derive(Clone, Copy)]
+pub enum Plan {
+    /// It asks nothing, and tells its error unless this holds.
+    Tells(bool),
+    /// It passes on what its questions answer.
+    PassesOn(Asks),
+    /// It tells its error unless at least so many of its questions are answered by yes.
+    AtLeast(Asks, usize),
+}
+
+/// A keyword whose plan, name and error are functions of its shape and of the instance. `Planned` makes a keyword of the engine of
+/// it: each law follows, and nothing is left to prove but the three clauses.
+pub trait PlannedKeyword: Drop {
+    /// What is known of a keyword apart from its representation; a type that holds numbers alone is its own shape.
+    type Shape;
+
+    ghost use Rattle.keyword_ways.specs.declared.planned.Plan.{Plan};
+
+    // the shape of a keyword
+    ghost shape: { Self → Self.Shape };
+    // whether no text of it holds a fraction of the schema
+    ghost is_whole: { Self.Shape → Bool };
+    // its plan for an instance
+    ghost planned: { Self.Shape → Subject → Plan };
+    // the name that its error goes by
+    ghost named: { Self.Shape → Text };
+    // its error's text
+    ghost told: { Self.Shape → Subject → Text };
+
+    /// Returns the keyword's plan for an instance. It is asked in each turn, so it should be cheap.
+    fn plan(&self, instance: Instance<'_>) -> Plan
+        ensures plan { result ≡ planned (shape self.now) (subject_of instance.entry) };
+
+    /// Returns the keyword's name.
+    fn name(&self) -> &'static str
+        ensures name { result.now ≡ named (shape self.now) };
+
+    /// Returns the error's text. Nothing is promised of it where the instance or the keyword holds a fraction.
+    ///
+    /// # Errors
+    ///
+    /// Memory is wanting.
+    fn text(&self, alloc: Global, instance: Instance<'_>) -> Result<String, OutOfMemory>
+        ensures text { IfOk result (λ text. is_whole (shape self.now) ≡ true → subject_has_float (subject_of instance.entry) ≡ false
+            → string_bytes text ≡ told (shape self.now) (subject_of instance.entry)) };
+}
+
+/// A keyword of the engine, by its plan.
+#[derive(Drop)]
+pub struct Planned<P> {
+    pub keyword: P,
+}
+
+/// Notes the keyword's error. Where a verdict alone is wanted, no text is made.
+fn tell<'i, P: PlannedKeyword>(
+    keyword: &P,
+    alloc: Global,
+    mode: Mode,
+    instance: Instance<'i>,
+    answer: &mut Answer<'i>,
+) -> Result<(), OutOfMemory>
+    ensures told { IfOk result (λ _. (texts : Bool)
+        → TellsRightly texts (P.is_whole (P.shape keyword.now)) (subject_of instance.entry) → answer_of texts answer.new
+        ≡ noted mode (P.named (P.shape keyword.now)) (answer_of texts answer.old)
+        (spoken texts (P.told (P.shape keyword.now) (subject_of instance.entry)) ∷ [])) }
+    ensures borrows { IfOk result (λ _. (root : Data) → All (PassesBorrowed root) (faults_in answer.old)
+        → All (PassesBorrowed root) (faults_in answer.new)) }
+{
+    if mode == Mode::Verdict {
+        refuse(answer);
+        return Ok(());
+    }
+    let text = keyword.text(alloc, instance)?;
+    note(alloc, mode, keyword.name(), text, answer)
+}
+
+/// The question of a number.
+fn ask<'s>(asks: Asks, number: usize, mode: Mode) -> Step<'s>
+    ensures step { turn_of result ≡ asked mode (Some (question_of asks number)) }
+{
+    match asks {
+        Asks::Children(_) => Step::Ask(number, Below::Here, mode),
+        Asks::Items => Step::Ask(0, Below::Item(number), mode),
+    }
+}
+
+/// How many questions there are.
+fn count_of(asks: Asks, instance: Instance<'_>) -> usize
+    ensures count { result ≡ asks_count asks (subject_of instance.entry) }
+{
+    match asks {
+        Asks::Children(count) => count,
+        Asks::Items => item_count(instance),
+    }
+}
+
+/// A turn of a keyword that tells: the first one notes its error, unless it holds.
+fn turn_telling<'s, 'i, P: PlannedKeyword>(
+    keyword: &P,
+    alloc: Global,
+    holds: bool,
+    run: &mut Progress,
+    instance: Instance<'i>,
+    reply: Reply<'i>,
+    answer: &mut Answer<'i>,
+) -> Result<Step<'s>, OutOfMemory>
+    ensures turns { IfOk result (λ _. (texts : Bool)
+        → TellsRightly texts (P.is_whole (P.shape keyword.now)) (subject_of instance.entry)
+        → way_turn (spoken_way texts (leaf_way (P.named (P.shape keyword.now)) holds
+        (P.told (P.shape keyword.now) (subject_of instance.entry))))
+        (run.old, answer_of texts answer.old) (reply_of texts reply.entry) ≡ (run.new, answer_of texts answer.new)) }
+    ensures step { IfOk result (λ step. turn_of step ≡ done) }
+    ensures borrows { IfOk result (λ _. (root : Data) → All (BorrowsItsPlace root) (errors_in reply.entry)
+        → All (PassesBorrowed root) (faults_in answer.old)
+        → All (PassesBorrowed root) (faults_in answer.new)) }
+{
+    drop(reply);
+    let first = tell_on(run);
+    if first && !holds {
+        tell(keyword, alloc, run.mode, instance, answer)?;
+    }
+    Ok(Step::Done)
+}
+
+/// A turn of a keyword that passes on.
+fn turn_passing<'s, 'i>(
+    alloc: Global,
+    asks: Asks,
+    run: &mut Progress,
+    instance: Instance<'i>,
+    reply: Reply<'i>,
+    answer: &mut Answer<'i>,
+) -> Result<Step<'s>, OutOfMemory>
+    ensures turns { IfOk result (λ _. (texts : Bool) → way_turn (passes_on (asks_of asks (subject_of instance.entry)))
+        (run.old, answer_of texts answer.old) (reply_of texts reply.entry) ≡ (run.new, answer_of texts answer.new)) }
+    ensures steps { IfOk result (λ step. (texts : Bool) → way_step (passes_on (asks_of asks (subject_of instance.entry)))
+        (run.old, answer_of texts answer.old) (reply_of texts reply.entry) ≡ turn_of step) }
+    ensures borrows { IfOk result (λ _. (root : Data) → All (BorrowsItsPlace root) (errors_in reply.entry)
+        → All (PassesBorrowed root) (faults_in answer.old) → All (PassesBorrowed root) (faults_in answer.new)) }
+{
+    let mode = run.mode;
+    let count = count_of(asks, instance);
+    match next_number(alloc, 0, count, run, reply, answer)? {
+        Some(number) => Ok(ask(asks, number, mode)),
+        None => Ok(Step::Done),
+    }
+}
+
+/// A turn of a keyword that wants so many yeses.
+fn turn_judging<'s, 'i, P: PlannedKeyword>(
+    keyword: &P,
+    alloc: Global,
+    asks: Asks,
+    least: usize,
+    run: &mut Progress,
+    instance: Instance<'i>,
+    reply: Reply<'i>,
+    answer: &mut Answer<'i>,
+) -> Result<Step<'s>, OutOfMemory>
+    ensures turns { IfOk result (λ _. (texts : Bool)
+        → TellsRightly texts (P.is_whole (P.shape keyword.now)) (subject_of instance.entry)
+        → way_turn (spoken_way texts (least_way (P.named (P.shape keyword.now))
+        (P.told (P.shape keyword.now) (subject_of instance.entry)) least (asks_of asks (subject_of instance.entry))))
+        (run.old, answer_of texts answer.old) (reply_of texts reply.entry) ≡ (run.new, answer_of texts answer.new)) }
+    ensures steps { IfOk result (λ step. (texts : Bool)
+        → way_step (spoken_way texts (least_way (P.named (P.shape keyword.now))
+        (P.told (P.shape keyword.now) (subject_of instance.entry)) least (asks_of asks (subject_of instance.entry))))
+        (run.old, answer_of texts answer.old) (reply_of texts reply.entry) ≡ turn_of step) }
+    ensures borrows { IfOk result (λ _. (root : Data) → All (BorrowsItsPlace root) (errors_in reply.entry)
+        → All (PassesBorrowed root) (faults_in answer.old) → All (PassesBorrowed root) (faults_in answer.new)) }
+{
+    let mode = run.mode;
+    let judge = Judge {
+        count: count_of(asks, instance),
+        enough: least,
+        shows: true,
+    };
+    match judge_on(judge, run, reply) {
+        Judging::Asks(number, asked) => Ok(ask(asks, number, asked)),
+        Judging::Judged(accepted) => {
+            if accepted < least {
+                tell(keyword, alloc, mode, instance, answer)?;
+            }
+            Ok(Step::Done)
+        }
+        Judging::Over => Ok(Step::Done),
+    }
+}
+
+impl<P: PlannedKeyword> Validate for Planned<P> {
+    ghost use Rattle.keyword_ways.specs.OwnWays.{own_absorbed, own_ends, own_fits, own_function_laws, own_remaining, own_turn_laws, own_words};
+    ghost use Rattle.keyword_ways.specs.Plans.{plans_present};
+
+    type Run = Progress;
+
+    type Shape = P::Shape;
+
+    ghost words = { own_words (plan_ways P.planned P.named P.told) };
+
+    ghost shape = { λ k. P.shape k.keyword };
+
+    ghost absorbed = { own_absorbed (plan_ways P.planned P.named P.told) };
+
+    ghost is_whole = { P.is_whole };
+
+    ghost remaining = { own_remaining (plan_ways P.planned P.named P.told) };
+
+    ghost ends = { own_ends (plan_ways P.planned P.named P.told) };
+
+    ghost fits = { own_fits (plan_ways P.planned P.named P.told) };
+
+    fn begin(
+        &self,
+        _alloc: Global,
+        _instance: Instance,
+        mode: Mode,
+    ) -> Result<Progress, OutOfMemory> {
+        Ok(Progress::begin(mode))
+    }
+
+    fn turn<'s, 'i: 's>(
+        &'s self,
+        alloc: Global,
+        run: &mut Progress,
+        instance: Instance<'i>,
+        reply: Reply<'i>,
+        answer: &mut Answer<'i>,
+    ) -> Result<Step<'s>, OutOfMemory> {
+        match self.keyword.plan(instance) {
+            Plan::Tells(holds) => turn_telling(
+                &self.keyword,
+                alloc,
+                holds,
+                run,
+                instance,
+                reply,
+                answer,
+            ),
+            Plan::PassesOn(asks) => turn_passing(alloc, asks, run, instance, reply, answer),
+            Plan::AtLeast(asks, least) => turn_judging(
+                &self.keyword,
+                alloc,
+                asks,
+                least,
+                run,
+                instance,
+                reply,
+                answer,
+            ),
+        }
+    }
+
+    ghost speaks = { λ texts. refl };
+
+    ghost answers = { λ texts run a. refl };
+
+    ghost turn_laws = { own_turn_laws (plan_ways P.planned P.named P.told) };
+
+    ghost function_laws = { own_function_laws (plan_ways P.planned P.named P.told) (plans_present P.planned P.named P.told) };
+}

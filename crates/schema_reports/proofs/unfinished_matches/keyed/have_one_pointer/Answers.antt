@@ -1,0 +1,11 @@
+use Rattle.std.proofs.Common.{◌≡◌, ◌∙◌, ap, sym, true}
+use Rattle.std.proofs.lemmas.Slice.Eq.{bytes_eq-Decides}
+use Rattle.schema_reports.specs.Pointer.{pointer_to}
+use Rattle.schema_reports.proofs.SameRun.{place_is}
+use Rattle.schema_reports.proofs.unfinished_matches.keyed.have_one_pointer.Goals as goal
+
+pub returns-then-same : goal.returns-then-same
+returns-then-same c =
+    let found : c.same.result ≡ true = c.if-same.true in
+    let place = place_is c.args.one.now c.args.other.now (sym c.same.ensures.same ∙ found) in
+    record { same = sym ((bytes_eq-Decides (pointer_to c.args.one.now) (pointer_to c.args.other.now)).1 (ap pointer_to place)) }
