@@ -1,5 +1,5 @@
 use Rattle.bench_keywords.proofs.Unmarked.{bench_takes_no_marks}
-use Rattle.list_errors.proofs.main.Goals as goal
+use Rattle.list_errors.proofs.print_errors.Goals as goal
 
 pub iter_errors-requires : goal.iter_errors-requires
 iter_errors-requires c = record { unmarked = bench_takes_no_marks }
