@@ -25,12 +25,7 @@ fn main(rt: HostRuntime) -> anyhow::Result<()> {
 }
 
 /// Builds a validator of the schema, and prints the errors of the instance, or why the schema is refused.
-fn check(
-    rt: &impl Print,
-    alloc: Global,
-    schema: &Value,
-    instance: &Value,
-) -> anyhow::Result<()> {
+fn check(rt: &impl Print, alloc: Global, schema: &Value, instance: &Value) -> anyhow::Result<()> {
     let table = TableByValue {
         keywords: ArrayTable {},
     };

@@ -28,12 +28,7 @@ fn main(rt: HostRuntime) -> anyhow::Result<()> {
 }
 
 /// Builds a validator of the schema, and prints the errors of the instance, or why the schema is refused.
-fn check(
-    rt: &impl Print,
-    alloc: Global,
-    schema: &Value,
-    instance: &Value,
-) -> anyhow::Result<()> {
+fn check(rt: &impl Print, alloc: Global, schema: &Value, instance: &Value) -> anyhow::Result<()> {
     let table = BenchTable {};
     let resolver = BenchResolver::new(alloc, schema, VocabularySet::new(alloc))?;
     let matcher = BenchMatcher::new(Vec::new(alloc));
