@@ -62,7 +62,7 @@ fn is_shorter(path: &SchemaPath, longer: &SchemaPath) -> bool {
 
 /// Whether the copy of a path is the same.
 fn is_its_copied_path(alloc: Global, path: &SchemaPath) -> Result<bool, OutOfMemory> {
-    let copied = path.copy(alloc)?;
+    let copied = path.clone()?;
     Ok(path.same(&copied))
 }
 
@@ -102,7 +102,7 @@ fn stands_in(alloc: Global, place: &SchemaPlace, document: usize) -> Result<bool
 
 /// Whether the copy of a place is the same.
 fn is_its_copy(alloc: Global, place: &SchemaPlace) -> Result<bool, OutOfMemory> {
-    let copied = place.copy(alloc)?;
+    let copied = place.clone()?;
     Ok(place.same(&copied))
 }
 
@@ -152,7 +152,7 @@ fn pairs_in_progress(rt: HostRuntime) -> Result<(), OutOfMemory> {
 /// A copy of the root's location.
 fn copied_root(alloc: Global) -> Result<Location, OutOfMemory> {
     let here = Location::new(alloc);
-    here.copy()
+    here.clone()
 }
 
 /// The location of the member `a` of the root.

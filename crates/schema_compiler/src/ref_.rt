@@ -177,7 +177,7 @@ impl<'p, R: Resolver, T> Given<'p, R, T> {
             state: target.state,
             draft: target.draft,
             vocabularies,
-            base: location.copy()?,
+            base: location.clone()?,
             location,
             start,
         })

@@ -15,7 +15,7 @@ mod at;
 
 use crate::location::{Location, LocationSegment, OutOfMemory};
 use serde_json::Value;
-use std::alloc::Global;
+use std::alloc::{AllocError, Global};
 use std::marker::Model;
 
 /// What is validated: a value, or the name of a member, which is validated as a string.
@@ -201,20 +201,11 @@ impl<'i> Place<'i> {
         same_steps(self.steps.as_slice(), other.steps.as_slice())
     }
 
-    /// Returns a clone of the place. Fails only if memory cannot be allocated.
-    pub fn copy(&self) -> Result<Place<'i>, OutOfMemory>
-        ensures same { IfOk result (λ p. p ≡ self.now) }
-    {
-        Ok(Place {
-            steps: self.steps.clone()?,
-        })
-    }
-
     /// Returns the place one step below this one. Fails only if memory cannot be allocated.
     pub fn below(&self, step: InstanceStep<'i>) -> Result<Place<'i>, OutOfMemory>
         ensures below { IfOk result (λ p. p ≡ self.now ++ step_of step.entry ∷ []) }
     {
-        let mut place = self.copy()?;
+        let mut place = self.clone()?;
         place.steps.push(step)?;
         Ok(place)
     }
@@ -229,5 +220,16 @@ impl<'i> Place<'i> {
             push_step(&mut location, *step)?;
         }
         Ok(location)
+    }
+}
+
+impl<'i> Clone for Place<'i> {
+    ghost is_clone = { λ p copy. copy ≡ p };
+
+    /// Returns a clone of the place. Fails only if memory cannot be allocated.
+    fn clone(&self) -> Result<Place<'i>, AllocError> {
+        Ok(Place {
+            steps: self.steps.clone()?,
+        })
     }
 }

@@ -93,7 +93,7 @@ impl Location {
     pub fn join(&self, segment: LocationSegment<'_>) -> Result<Location, OutOfMemory>
         ensures joined { IfOk result (λ l. l ≡ self.now ++ segment_text (segment_of segment.entry)) }
     {
-        let mut location = self.copy()?;
+        let mut location = self.clone()?;
         location.push(segment)?;
         Ok(location)
     }
@@ -117,11 +117,13 @@ impl Location {
         text.push_str(rest.text.as_str())?;
         Ok(Location { text })
     }
+}
+
+impl Clone for Location {
+    ghost is_clone = { λ l copy. copy ≡ l };
 
     /// Returns a clone of the pointer. Fails only if memory cannot be allocated.
-    pub fn copy(&self) -> Result<Location, OutOfMemory>
-        ensures same { IfOk result (λ l. l ≡ self.now) }
-    {
+    fn clone(&self) -> Result<Location, AllocError> {
         Ok(Location {
             text: self.text.clone()?,
         })

@@ -23,16 +23,6 @@ pub fn root_place(alloc: Global) -> SchemaPlace
     }
 }
 
-/// The same step in memory of its own.
-pub fn copy_of_step(step: &SchemaStep) -> Result<SchemaStep, OutOfMemory>
-    ensures same { IfOk result (λ s. schema_step_of s ≡ schema_step_of step.now) }
-{
-    match step {
-        SchemaStep::Member(name) => Ok(SchemaStep::Member(name.clone()?)),
-        SchemaStep::Item(index) => Ok(SchemaStep::Item(*index)),
-    }
-}
-
 /// A refusal with this text.
 pub fn refusal(alloc: Global, text: &str) -> LookupError
     ensures refused { RefusesWith text.now result }

@@ -9,7 +9,7 @@ use crate::resolver::BenchState;
 use crate::resolver::drafts::detected;
 use crate::resolver::identifiers::identifier;
 use crate::resolver::on_way::is_subschema;
-use crate::resolver::places::{copy_of_step, refusal, value_below};
+use crate::resolver::places::{refusal, value_below};
 use crate::resolver::pointers::{path_of_pointer, pointer_of};
 use schema_node::context::resolver::{LookupError, Target};
 use schema_node::context::schema_place::{SchemaPath, SchemaPlace};
@@ -37,7 +37,7 @@ fn target_draft(
         let Some(below) = value_below(reached, step) else {
             return Err(refusal(alloc, "nothing stands where the reference points"));
         };
-        since.push(copy_of_step(step)?)?;
+        since.push(step.clone()?)?;
         reached = below;
         if is_subschema(&since, schema) {
             draft = detected(draft, below);

@@ -25,14 +25,14 @@ impl DraftVocabularies {
         ensures custom { IfOk result (HasCustom required) }
     {
         let of_2019_09 = required
-            .duplicate()?
+            .clone()?
             .with(Vocabulary::Content)?
             .with(Vocabulary::Metadata)?
             .with(Vocabulary::Validation)?
             .with(Vocabulary::Applicator)?
             .with(Vocabulary::Core)?;
         let late = of_2019_09
-            .duplicate()?
+            .clone()?
             .with(Vocabulary::FormatAnnotation)?
             .with(Vocabulary::Unevaluated)?;
         Ok(DraftVocabularies {
@@ -51,9 +51,9 @@ impl DraftVocabularies {
         ensures vocabularies { IfOk result (λ v. v ≡ vocabularies_in (draft_of draft) self.now) }
     {
         match draft {
-            Draft::Draft4 | Draft::Draft6 | Draft::Draft7 => self.early.duplicate(),
-            Draft::Draft201909 => self.of_2019_09.duplicate(),
-            Draft::Draft202012 | Draft::Unknown => self.late.duplicate(),
+            Draft::Draft4 | Draft::Draft6 | Draft::Draft7 => self.early.clone(),
+            Draft::Draft201909 => self.of_2019_09.clone(),
+            Draft::Draft202012 | Draft::Unknown => self.late.clone(),
         }
     }
 }

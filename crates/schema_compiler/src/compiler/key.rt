@@ -73,7 +73,7 @@ fn target_copy<R: Resolver>(
       draft = draft_of key.now.draft;
     }) }
 {
-    let place = key.place.copy(alloc)?;
+    let place = key.place.clone()?;
     Ok(Target {
         state: key.state.clone()?,
         place,
@@ -88,11 +88,11 @@ pub(crate) fn copy_of<R: Resolver>(
 ) -> Result<SchemaKey<R::State>, OutOfMemory>
     ensures same { IfOk result (λ k. key_of R.point k ≡ key_of R.point key.now) }
 {
-    let location = key.location.copy()?;
-    let base = key.base.copy()?;
+    let location = key.location.clone()?;
+    let base = key.base.clone()?;
     let target = target_copy::<R>(alloc, key)?;
     Ok(SchemaKey {
-        vocabularies: key.vocabularies.duplicate()?,
+        vocabularies: key.vocabularies.clone()?,
         place: target.place,
         state: target.state,
         draft: target.draft,

@@ -65,7 +65,7 @@ fn nearer_place(
     ensures nearer { IfOk result (λ p. place_of p ≡
         (if has_id then place_of next.now else place_of given)) }
 {
-    if has_id { next.copy(alloc) } else { Ok(given) }
+    if has_id { next.clone() } else { Ok(given) }
 }
 
 impl<'p, R: Resolver, T> Given<'p, R, T> {
@@ -82,8 +82,8 @@ impl<'p, R: Resolver, T> Given<'p, R, T> {
     {
         let mut depth = path.len();
         let mut inner_draft = draft;
-        let mut place = from.copy(self.alloc)?;
-        let mut given = from.copy(self.alloc)?;
+        let mut place = from.clone()?;
+        let mut given = from.clone()?;
         loop {
             match self
                 .resolver

@@ -60,7 +60,7 @@ fn first_on_way(
 {
     for place in places {
         if place.path.is_prefix_of(path) {
-            return Ok(Some(place.copy(alloc)?));
+            return Ok(Some(place.clone()?));
         }
     }
     Ok(None)

@@ -7,7 +7,7 @@ ghost use Rattle.schema_node.specs.SchemaViews.{schema_step_of};
 ghost use Rattle.schema_node.specs.ResolverViews.{place_of};
 
 use schema_reports::location::{Location, LocationSegment, OutOfMemory};
-use std::alloc::Global;
+use std::alloc::{AllocError, Global};
 use std::marker::Model;
 
 /// From a value of a schema to one inside it.
@@ -43,13 +43,15 @@ fn same_schema_steps(a: &[SchemaStep], b: &[SchemaStep]) -> bool
     true
 }
 
-// The same step in memory of its own.
-fn copy_of_step(step: &SchemaStep) -> Result<SchemaStep, OutOfMemory>
-    ensures same { IfOk result (λ s. schema_step_of s ≡ schema_step_of step.now) }
-{
-    match step {
-        SchemaStep::Member(name) => Ok(SchemaStep::Member(name.clone()?)),
-        SchemaStep::Item(index) => Ok(SchemaStep::Item(*index)),
+impl Clone for SchemaStep {
+    ghost is_clone = { λ s copy. schema_step_of copy ≡ schema_step_of s };
+
+    /// Returns a clone of the step. Fails only if memory cannot be allocated.
+    fn clone(&self) -> Result<SchemaStep, AllocError> {
+        match self {
+            SchemaStep::Member(name) => Ok(SchemaStep::Member(name.clone()?)),
+            SchemaStep::Item(index) => Ok(SchemaStep::Item(*index)),
+        }
     }
 }
 
@@ -59,7 +61,7 @@ fn push_steps(steps: &mut Vec<SchemaStep>, more: &[SchemaStep]) -> Result<(), Ou
         ≡ map schema_step_of steps.old.items ++ map schema_step_of more.now) }
 {
     for step in more {
-        steps.push(copy_of_step(step)?)?;
+        steps.push(step.clone()?)?;
     }
     Ok(())
 }
@@ -175,15 +177,6 @@ impl SchemaPath {
         )
     }
 
-    /// The same path in memory of its own.
-    pub fn copy(&self, alloc: Global) -> Result<SchemaPath, OutOfMemory>
-        ensures same { IfOk result (λ p. p ≡ self.now) }
-    {
-        let mut steps = Vec::new(alloc);
-        push_steps(&mut steps, self.steps.as_slice())?;
-        Ok(SchemaPath { steps })
-    }
-
     /// The first steps, or all where there are no more.
     pub fn first(&self, alloc: Global, count: usize) -> Result<SchemaPath, OutOfMemory>
         ensures first { IfOk result (λ p. p ≡ take count self.now) }
@@ -206,9 +199,10 @@ impl SchemaPath {
     pub fn append(&self, alloc: Global, rest: &SchemaPath) -> Result<SchemaPath, OutOfMemory>
         ensures appended { IfOk result (λ p. p ≡ self.now ++ rest.now) }
     {
-        let mut path = self.copy(alloc)?;
-        push_steps(&mut path.steps, rest.steps.as_slice())?;
-        Ok(path)
+        let mut steps = Vec::new(alloc);
+        push_steps(&mut steps, self.steps.as_slice())?;
+        push_steps(&mut steps, rest.steps.as_slice())?;
+        Ok(SchemaPath { steps })
     }
 
     /// The pointer of the path.
@@ -216,6 +210,17 @@ impl SchemaPath {
         ensures pointer { IfOk result (λ l. l ≡ pointer_to self.now) }
     {
         pointer_of_steps(alloc, self.steps.as_slice())
+    }
+}
+
+impl Clone for SchemaPath {
+    ghost is_clone = { λ p copy. copy ≡ p };
+
+    /// Returns a clone of the path. Fails only if memory cannot be allocated.
+    fn clone(&self) -> Result<SchemaPath, AllocError> {
+        let mut steps = Vec::new(*self.steps.allocator());
+        push_steps(&mut steps, self.steps.as_slice())?;
+        Ok(SchemaPath { steps })
     }
 }
 
@@ -234,16 +239,6 @@ impl SchemaPlace {
         self.document == other.document && self.path.same(&other.path)
     }
 
-    /// The same place in memory of its own.
-    pub fn copy(&self, alloc: Global) -> Result<SchemaPlace, OutOfMemory>
-        ensures same { IfOk result (λ p. place_of p ≡ place_of self.now) }
-    {
-        Ok(SchemaPlace {
-            document: self.document,
-            path: self.path.copy(alloc)?,
-        })
-    }
-
     /// The place at a path below.
     pub fn below(&self, alloc: Global, path: &SchemaPath) -> Result<SchemaPlace, OutOfMemory>
         ensures below { IfOk result (λ p. place_of p ≡ at_path (place_of self.now) path.now) }
@@ -251,6 +246,18 @@ impl SchemaPlace {
         Ok(SchemaPlace {
             document: self.document,
             path: self.path.append(alloc, path)?,
+        })
+    }
+}
+
+impl Clone for SchemaPlace {
+    ghost is_clone = { λ p copy. place_of copy ≡ place_of p };
+
+    /// Returns a clone of the place. Fails only if memory cannot be allocated.
+    fn clone(&self) -> Result<SchemaPlace, AllocError> {
+        Ok(SchemaPlace {
+            document: self.document,
+            path: self.path.clone()?,
         })
     }
 }

@@ -87,7 +87,7 @@ impl<'i> ValidationContext<'i> {
         if self.is_in_progress(node, place) {
             return Ok(true);
         }
-        let place = place.copy()?;
+        let place = place.clone()?;
         self.pairs.push(InProgress { node, place })?;
         Ok(false)
     }

@@ -46,7 +46,7 @@ impl<'p, 'i> EvaluationPlace<'p, 'i> {
         ensures same { IfOk result (λ p. p ≡ steps_to self.now) }
     {
         match self {
-            EvaluationPlace::Given(place) => Ok(place.copy()?),
+            EvaluationPlace::Given(place) => Ok(place.clone()?),
             EvaluationPlace::Below(above, last) => Ok(above.made_below(*last)?),
         }
     }
