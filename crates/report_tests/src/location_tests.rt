@@ -79,13 +79,13 @@ fn points(alloc: Global, place: &Place<'_>, want: &str) -> Result<bool, OutOfMem
 /// Whether the copy of a place is the same.
 fn is_its_copy(place: &Place<'_>) -> Result<bool, OutOfMemory> {
     let copied = place.clone()?;
-    Ok(place.same(&copied))
+    Ok(*place == copied)
 }
 
 /// Whether a member's name has this pointer, and is not the same place as the object.
 fn has_name_apart(alloc: Global, object: &Place<'static>, want: &str) -> Result<bool, OutOfMemory> {
     let name = object.below(InstanceStep::NameOf("c"))?;
-    let is_same = object.same(&name);
+    let is_same = *object == name;
     let has_pointer = points(alloc, &name, want);
     drop(name);
     Ok(has_pointer? && !is_same)

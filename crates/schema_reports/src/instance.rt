@@ -2,6 +2,8 @@
 ghost use Rattle.std.specs.Prelude.{◌≡◌, List, [], ◌∷◌, ◌++◌, IfOk, option_map, Option, Some, None, map, IfSome, false};
 ghost use Rattle.std.specs.Prelude.{string_bytes};
 ghost use Rattle.schema_reports.specs.Instance.{same_place, same_step, after_step, to_member, to_item, to_name};
+ghost use Rattle.std.specs.Cmp.{partial_equiv_from_equiv};
+ghost use Rattle.schema_reports.specs.SamePlaces.{places_equiv};
 ghost use Rattle.schema_reports.specs.Pointer.{pointer_to, step_text};
 ghost use Rattle.schema_reports.specs.InstanceTexts.{subject_has_float};
 ghost use Rattle.schema_reports.specs.Meaning.{subject_text};
@@ -194,13 +196,6 @@ impl<'i> Place<'i> {
         }
     }
 
-    /// Returns `true` if both consist of the same steps.
-    pub fn same(&self, other: &Place<'_>) -> bool
-        ensures same { result ≡ same_place self.now other.now }
-    {
-        same_steps(self.steps.as_slice(), other.steps.as_slice())
-    }
-
     /// Returns the place one step below this one. Fails only if memory cannot be allocated.
     pub fn below(&self, step: InstanceStep<'i>) -> Result<Place<'i>, OutOfMemory>
         ensures below { IfOk result (λ p. p ≡ self.now ++ step_of step.entry ∷ []) }
@@ -221,6 +216,21 @@ impl<'i> Place<'i> {
         }
         Ok(location)
     }
+}
+
+impl<'i> PartialEq for Place<'i> {
+    ghost eq = { same_place };
+
+    ghost laws = { partial_equiv_from_equiv places_equiv };
+
+    /// Returns `true` if both consist of the same steps.
+    fn eq(&self, other: &Place<'i>) -> bool {
+        same_steps(self.steps.as_slice(), other.steps.as_slice())
+    }
+}
+
+impl<'i> Eq for Place<'i> {
+    ghost laws = { places_equiv };
 }
 
 impl<'i> Clone for Place<'i> {

@@ -1,5 +1,7 @@
 //! Pointer texts (RFC 6901).
-ghost use Rattle.std.specs.Prelude.{◌≡◌, ℕ, List, [], ◌++◌, IfOk, string_bytes, decimal};
+ghost use Rattle.std.specs.Prelude.{◌≡◌, ℕ, List, [], ◌++◌, IfOk, bytes_eq, string_bytes, decimal};
+ghost use Rattle.std.specs.Cmp.{partial_equiv_from_equiv};
+ghost use Rattle.std.specs.Cmp.Lexicographic.{nat_list_eq_equiv};
 ghost use Rattle.std.specs.Char.{encode_utf8};
 ghost use Rattle.schema_reports.specs.Pointer.{escaped};
 ghost use Rattle.schema_reports.specs.LocationViews.{segment_text, segment_of};
@@ -117,6 +119,21 @@ impl Location {
         text.push_str(rest.text.as_str())?;
         Ok(Location { text })
     }
+}
+
+impl PartialEq for Location {
+    ghost eq = { bytes_eq };
+
+    ghost laws = { partial_equiv_from_equiv nat_list_eq_equiv };
+
+    /// Returns `true` if both pointers have the same text.
+    fn eq(&self, other: &Location) -> bool {
+        self.text == other.text
+    }
+}
+
+impl Eq for Location {
+    ghost laws = { nat_list_eq_equiv };
 }
 
 impl Clone for Location {

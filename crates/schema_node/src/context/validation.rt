@@ -70,7 +70,7 @@ impl<'i> ValidationContext<'i> {
         ensures found { result ≡ list_any (λ i. i == node.0) (busy_at place.now self.now.in_progress) }
     {
         for pair in self.pairs.iter() {
-            if pair.node == node && pair.place.same(place) {
+            if pair.node == node && pair.place == *place {
                 return true;
             }
         }
