@@ -1,9 +1,10 @@
--- Being the same is an equivalence of places, since places that are the same are equal.
+-- Being the same is an equivalence of places, since places that are the same are equal; and of places in schemas.
 use Rattle.std.proofs.Common.{◌≡◌, ◌∙◌, ◌&&◌, Bool, ap, ap₂, refl, rules, sym, true, false, true≢false, [], ◌∷◌}
 use Rattle.std.proofs.lemmas.Bool.{eqb-true}
 use Rattle.std.proofs.lemmas.Slice.Eq.{bytes_eq-Decides}
-use Rattle.std.specs.Cmp.{IsEquivalence, both_ways}
+use Rattle.std.specs.Cmp.{IsEquivalence, and_equiv, both_ways, nat_eq_equiv, on_equiv}
 use Rattle.schema_reports.specs.Instance.{Place, Step, to_member, to_item, to_name, same_step, same_place}
+use Rattle.schema_reports.specs.Drafts.{SchemaPlace, same_schema_place}
 
 step_itself : (s : Step) → same_step s s ≡ true
 step_itself (to_member k) = (bytes_eq-Decides k k).1 refl
@@ -48,3 +49,6 @@ places_equiv = record {
   symm = λ p q. both_ways (same_place p q) (same_place q p) (one_way p q) (one_way q p);
   congr = λ p q r e. ap (λ z. same_place z r) (place_equal p q e);
 }
+
+pub schema_places_equiv : IsEquivalence same_schema_place
+schema_places_equiv = and_equiv (on_equiv (λ (p : SchemaPlace). p.document) nat_eq_equiv) (on_equiv (λ (p : SchemaPlace). p.path) places_equiv)

@@ -34,7 +34,7 @@ pub struct SchemaKey<S> {
 pub(crate) fn same_key<R: Resolver>(left: &SchemaKey<R::State>, right: &SchemaKey<R::State>) -> bool
     ensures same { IsTrue result ↔ (key_of R.point left.now ≡ key_of R.point right.now) }
 {
-    if !left.place.same(&right.place) {
+    if !(left.place == right.place) {
         return false;
     }
     if !(left.state == right.state) {

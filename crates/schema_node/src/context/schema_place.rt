@@ -1,6 +1,8 @@
 //! Places in schemas.
 ghost use Rattle.std.specs.Prelude.{◌≡◌, List, [], ◌∷◌, ◌++◌, OnErr, OnOk, IfOk, length, take, drop, map};
+ghost use Rattle.std.specs.Cmp.{on, on_equiv, partial_equiv_from_equiv};
 ghost use Rattle.schema_reports.specs.Instance.{same_place, same_step};
+ghost use Rattle.schema_reports.specs.SamePlaces.{places_equiv, schema_places_equiv};
 ghost use Rattle.schema_reports.specs.Pointer.{pointer_to, step_text};
 ghost use Rattle.schema_reports.specs.Drafts.{same_schema_place, at_path};
 ghost use Rattle.schema_node.specs.SchemaViews.{schema_step_of};
@@ -160,13 +162,6 @@ impl SchemaPath {
         self.steps.len()
     }
 
-    /// Whether both are one path.
-    pub fn same(&self, other: &SchemaPath) -> bool
-        ensures same { result ≡ same_place self.now other.now }
-    {
-        same_schema_steps(self.steps.as_slice(), other.steps.as_slice())
-    }
-
     /// Whether it is the first steps of the other, or all of them.
     pub fn is_prefix_of(&self, other: &SchemaPath) -> bool
         ensures prefix { result ≡ same_place self.now (take (length self.now) other.now) }
@@ -213,6 +208,21 @@ impl SchemaPath {
     }
 }
 
+impl PartialEq for SchemaPath {
+    ghost eq = { same_place };
+
+    ghost laws = { partial_equiv_from_equiv places_equiv };
+
+    /// Returns `true` if both paths consist of the same steps.
+    fn eq(&self, other: &SchemaPath) -> bool {
+        same_schema_steps(self.steps.as_slice(), other.steps.as_slice())
+    }
+}
+
+impl Eq for SchemaPath {
+    ghost laws = { places_equiv };
+}
+
 impl Clone for SchemaPath {
     ghost is_clone = { λ p copy. copy ≡ p };
 
@@ -232,13 +242,6 @@ pub struct SchemaPlace {
 }
 
 impl SchemaPlace {
-    /// Whether both are one place.
-    pub fn same(&self, other: &SchemaPlace) -> bool
-        ensures same { result ≡ same_schema_place (place_of self.now) (place_of other.now) }
-    {
-        self.document == other.document && self.path.same(&other.path)
-    }
-
     /// The place at a path below.
     pub fn below(&self, alloc: Global, path: &SchemaPath) -> Result<SchemaPlace, OutOfMemory>
         ensures below { IfOk result (λ p. place_of p ≡ at_path (place_of self.now) path.now) }
@@ -248,6 +251,21 @@ impl SchemaPlace {
             path: self.path.append(alloc, path)?,
         })
     }
+}
+
+impl PartialEq for SchemaPlace {
+    ghost eq = { on place_of same_schema_place };
+
+    ghost laws = { partial_equiv_from_equiv (on_equiv place_of schema_places_equiv) };
+
+    /// Returns `true` if both are the same path in the same document.
+    fn eq(&self, other: &SchemaPlace) -> bool {
+        self.document == other.document && self.path == other.path
+    }
+}
+
+impl Eq for SchemaPlace {
+    ghost laws = { on_equiv place_of schema_places_equiv };
 }
 
 impl Clone for SchemaPlace {
