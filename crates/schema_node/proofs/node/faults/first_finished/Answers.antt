@@ -1,7 +1,7 @@
-use Rattle.std.proofs.Common.{◌∙◌, ap, sym, string_bytes, [], arith, Some}
+use Rattle.std.proofs.Common.{◌∙◌, ap, subst, sym, string_bytes, [], arith, Some}
 use Rattle.schema_reports.specs.InstanceViews.{subject_of}
 use Rattle.schema_reports.specs.Keywords.{first_of_it}
-use Rattle.schema_reports.specs.ReportViews.{BorrowsItsPlace}
+use Rattle.schema_reports.specs.ReportViews.{BorrowsItsPlace, error_of}
 use Rattle.schema_node.specs.EvaluationPlaces.{steps_to}
 use Rattle.schema_node.specs.EvaluationPaths.{path_of}
 use Rattle.schema_node.specs.FaultViews.{LiesInside, faults_in}
@@ -11,15 +11,16 @@ use Rattle.schema_node.proofs.Faults.{first_made, first_holds}
 use Rattle.schema_node.proofs.Replies.{all_pushed}
 use Rattle.schema_node.proofs.node.faults.first_finished.Goals as goal
 
-pub returns-in_ok-error-in-Some-clause-reply : goal.returns-in_ok-error-in-Some-clause-reply
-returns-in_ok-error-in-Some-clause-reply g c = λ texts.
+pub returns-in_ok-new-in-Some-clause-reply : goal.returns-in_ok-new-in-Some-clause-reply
+returns-in_ok-new-in-Some-clause-reply g c = λ texts.
     let w = entry_where (node_of c.args.node.now) (path_of c.args.question.now.path.now) (steps_to c.args.question.now.place.now) in
     let first = sym c.in-Some.is ∙ c.first_fault.ensures.first in
-    ap (λ e. first_of_it (Some e)) (c.in_ok-error-in-Some.ensures.error texts) ∙ ap first_of_it (sym (first_made texts w (string_bytes c.args.name.now) c.args.answer c.in-Some.fault first))
+    ap (λ e. first_of_it (Some (error_of texts e))) c.in_ok-new-in-Some.ensures.ok
+    ∙ ap (λ e. first_of_it (Some e)) (c.in_ok-error-in-Some.ensures.error texts) ∙ ap first_of_it (sym (first_made texts w (string_bytes c.args.name.now) c.args.answer c.in-Some.fault first))
 
-pub returns-in_ok-error-in-Some-clause-borrows : goal.returns-in_ok-error-in-Some-clause-borrows
-returns-in_ok-error-in-Some-clause-borrows g c = λ root at_place inside.
+pub returns-in_ok-new-in-Some-clause-borrows : goal.returns-in_ok-new-in-Some-clause-borrows
+returns-in_ok-new-in-Some-clause-borrows g c = λ root at_place inside.
     let s = subject_of c.args.question.now.instance in
     let first = sym c.in-Some.is ∙ c.first_fault.ensures.first in
-    all_pushed (BorrowsItsPlace root) [] c.in_ok-error-in-Some.error (λ i d l. absurd (omega arith))
-    (c.in_ok-error-in-Some.ensures.borrows root at_place (first_holds (LiesInside root s) (faults_in c.args.answer) c.in-Some.fault first inside))
+    let made = c.in_ok-error-in-Some.ensures.borrows root at_place (first_holds (LiesInside root s) (faults_in c.args.answer) c.in-Some.fault first inside) in
+    all_pushed (BorrowsItsPlace root) [] _ (λ i d l. absurd (omega arith)) (subst (BorrowsItsPlace root) (sym c.in_ok-new-in-Some.ensures.ok) made)
