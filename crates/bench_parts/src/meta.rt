@@ -73,7 +73,7 @@ fn member_fault<'v>(
     Ok(None)
 }
 
-/// The first error inside what stands at a place.
+/// The first error inside the value at a place.
 #[cycle(walk)]
 fn fault_in<'v>(
     alloc: Global,

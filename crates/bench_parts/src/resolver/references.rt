@@ -56,7 +56,7 @@ fn target_draft(
 /// # Errors
 ///
 /// A refusal of what is no pointer into the document, of a pointer that leads to nothing, and of one that passes through a
-/// subschema with an identifier, or ends at one; want of memory.
+/// subschema with an identifier, or ends at one; and `OutOfMemory` if memory cannot be allocated.
 pub fn looked_up(
     alloc: Global,
     base: &String,

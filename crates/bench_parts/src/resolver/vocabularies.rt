@@ -15,11 +15,11 @@ pub struct DraftVocabularies {
 }
 
 impl DraftVocabularies {
-    /// The vocabularies that each draft has of its own, and in every draft the required ones.
+    /// Returns the vocabularies that each draft has of its own, and in every draft the required ones.
     ///
     /// # Errors
     ///
-    /// Want of memory.
+    /// Fails only if memory cannot be allocated.
     pub fn with_required(required: VocabularySet) -> Result<DraftVocabularies, OutOfMemory>
         ensures drafts { IfOk result (HasDrafts required) }
         ensures custom { IfOk result (HasCustom required) }
@@ -42,11 +42,11 @@ impl DraftVocabularies {
         })
     }
 
-    /// The vocabularies in a draft, in memory of their own.
+    /// Returns the vocabularies in a draft.
     ///
     /// # Errors
     ///
-    /// Want of memory.
+    /// Fails only if memory cannot be allocated.
     pub fn in_draft(&self, draft: Draft) -> Result<VocabularySet, OutOfMemory>
         ensures vocabularies { IfOk result (λ v. v ≡ vocabularies_in (draft_of draft) self.now) }
     {

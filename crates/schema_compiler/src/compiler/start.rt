@@ -57,7 +57,6 @@ fn counts_from(
 
 // The next place inwards, where it has an identifier, or else the one that is given.
 fn nearer_place(
-    alloc: Global,
     has_id: bool,
     next: &SchemaPlace,
     given: SchemaPlace,
@@ -94,7 +93,7 @@ impl<'p, R: Resolver, T> Given<'p, R, T> {
                     let value = self.resolver.value(&next);
                     inner_draft = self.detected(inner_draft, value);
                     let has_id = self.identifies(inner_draft, value);
-                    given = nearer_place(self.alloc, has_id, &next, given)?;
+                    given = nearer_place(has_id, &next, given)?;
                     place = next;
                 }
             }

@@ -1,6 +1,7 @@
 //! Places in schemas.
 ghost use Rattle.std.specs.Prelude.{◌≡◌, List, [], ◌∷◌, ◌++◌, OnErr, OnOk, IfOk, length, take, drop, map};
-ghost use Rattle.std.specs.Cmp.{on, on_equiv, partial_equiv_from_equiv};
+ghost use Rattle.std.specs.Cmp.{on_equiv, partial_equiv_from_equiv};
+ghost use Rattle.std.specs.Ordering.{on};
 ghost use Rattle.schema_reports.specs.Instance.{same_place, same_step};
 ghost use Rattle.schema_reports.specs.SamePlaces.{places_equiv, schema_places_equiv};
 ghost use Rattle.schema_reports.specs.Pointer.{pointer_to, step_text};
@@ -12,7 +13,7 @@ use schema_reports::location::{Location, LocationSegment, OutOfMemory};
 use std::alloc::{AllocError, Global};
 use std::marker::Model;
 
-/// From a value of a schema to one inside it.
+/// A step from a value of a schema to one inside it.
 #[derive(Drop)]
 pub enum SchemaStep {
     Member(String),
@@ -130,7 +131,7 @@ impl Model for SchemaPath {
 }
 
 impl SchemaPath {
-    /// The path of the document's root.
+    /// Returns the path of the document's root.
     pub fn root(alloc: Global) -> SchemaPath
         ensures root { result ≡ [] }
     {
@@ -139,14 +140,14 @@ impl SchemaPath {
         }
     }
 
-    /// The steps, from the document's root on.
+    /// Returns the steps, from the document's root on.
     pub fn steps(&self) -> &[SchemaStep]
         ensures steps { map schema_step_of result.now ≡ self.now }
     {
         self.steps.as_slice()
     }
 
-    /// Adds a step at the end.
+    /// Adds a step at the end. On `Err` nothing has changed.
     pub fn push(&mut self, step: SchemaStep) -> Result<(), OutOfMemory>
         ensures pushed { OnOk result (self.new ≡ self.old ++ schema_step_of step ∷ []) }
         ensures unchanged { OnErr result (self.new ≡ self.old) }
@@ -155,14 +156,14 @@ impl SchemaPath {
         Ok(())
     }
 
-    /// How many steps it has.
+    /// Returns the number of steps.
     pub fn len(&self) -> usize
         ensures count { result ≡ length self.now }
     {
         self.steps.len()
     }
 
-    /// Whether it is the first steps of the other, or all of them.
+    /// Returns `true` if the other path begins with this one.
     pub fn is_prefix_of(&self, other: &SchemaPath) -> bool
         ensures prefix { result ≡ same_place self.now (take (length self.now) other.now) }
     {
@@ -172,7 +173,7 @@ impl SchemaPath {
         )
     }
 
-    /// The first steps, or all where there are no more.
+    /// Returns the first `count` steps, or all if there are fewer. Fails only if memory cannot be allocated.
     pub fn first(&self, alloc: Global, count: usize) -> Result<SchemaPath, OutOfMemory>
         ensures first { IfOk result (λ p. p ≡ take count self.now) }
     {
@@ -181,7 +182,7 @@ impl SchemaPath {
         Ok(SchemaPath { steps })
     }
 
-    /// What is left after the first steps.
+    /// Returns what is left after the first `count` steps. Fails only if memory cannot be allocated.
     pub fn after(&self, alloc: Global, count: usize) -> Result<SchemaPath, OutOfMemory>
         ensures rest { IfOk result (λ p. p ≡ drop count self.now) }
     {
@@ -190,7 +191,7 @@ impl SchemaPath {
         Ok(SchemaPath { steps })
     }
 
-    /// The path followed by another.
+    /// Returns the path followed by another. Fails only if memory cannot be allocated.
     pub fn append(&self, alloc: Global, rest: &SchemaPath) -> Result<SchemaPath, OutOfMemory>
         ensures appended { IfOk result (λ p. p ≡ self.now ++ rest.now) }
     {
@@ -200,7 +201,7 @@ impl SchemaPath {
         Ok(SchemaPath { steps })
     }
 
-    /// The pointer of the path.
+    /// Returns the JSON Pointer of the path. Fails only if memory cannot be allocated.
     pub fn pointer(&self, alloc: Global) -> Result<Location, OutOfMemory>
         ensures pointer { IfOk result (λ l. l ≡ pointer_to self.now) }
     {
@@ -242,7 +243,7 @@ pub struct SchemaPlace {
 }
 
 impl SchemaPlace {
-    /// The place at a path below.
+    /// Returns the place at a path below. Fails only if memory cannot be allocated.
     pub fn below(&self, alloc: Global, path: &SchemaPath) -> Result<SchemaPlace, OutOfMemory>
         ensures below { IfOk result (λ p. place_of p ≡ at_path (place_of self.now) path.now) }
     {

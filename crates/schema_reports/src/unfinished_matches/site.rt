@@ -393,7 +393,7 @@ fn error_at<'i>(
 }
 
 impl<'i> MatchFailure<'i> {
-    /// The failure as an error, whose instance is what stands at its place.
+    /// The failure as an error, whose instance is the one at its place.
     pub(super) fn into_error(
         self,
         alloc: Global,
