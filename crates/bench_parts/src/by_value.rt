@@ -52,7 +52,7 @@ pub trait MakesByValue<K: Validate> {
     ///
     /// # Errors
     ///
-    /// Memory is wanting.
+    /// Memory cannot be allocated.
     fn make(
         &self,
         alloc: Global,
@@ -66,7 +66,7 @@ pub trait MakesByValue<K: Validate> {
 }
 
 /// A keyword table of keywords that follow from name and value. No name is its own; a malformed value is refused by an error that
-/// shows it and stands at the keyword.
+/// shows it and is located at the keyword.
 #[derive(Drop)]
 pub struct TableByValue<T> {
     pub keywords: T,

@@ -60,12 +60,12 @@ fn member_fault<'v>(
     ensures fault { IfOk result (λ o. option_map (error_of false) o ≡ member_fault (draft_of draft) place.now name.now (view member.now)) }
 {
     if name == "minLength" && !member.is_number() {
-        return Ok(Some(mistyped(alloc, place.copy()?, member, "type \"number\"")?));
+        return Ok(Some(mistyped(alloc, place.clone()?, member, "type \"number\"")?));
     }
     if name == "items" && is_2020_12(draft) && member.is_array() {
         return Ok(Some(mistyped(
             alloc,
-            place.copy()?,
+            place.clone()?,
             member,
             "types \"boolean\", \"object\"",
         )?));
@@ -73,7 +73,7 @@ fn member_fault<'v>(
     Ok(None)
 }
 
-/// The first error inside what stands at a place.
+/// The first error inside the value at a place.
 #[cycle(walk)]
 fn fault_in<'v>(
     alloc: Global,

@@ -33,7 +33,7 @@ use serde_json::Value;
 use std::alloc::Global;
 use std::marker::Model;
 
-/// Where a run of the resolver stands: in the resource under a base URI.
+/// Where a run of the resolver is: in the resource under a base URI.
 #[derive(Clone, PartialEq, Eq, Hash, Drop)]
 pub struct BenchState {
     base: String,
@@ -53,7 +53,7 @@ impl Model for BasePoint {
 }
 
 /// A resolver of one document. It follows pointers into the document, and refuses other references and identifiers below
-/// the root. The document stands under its root's identifier without a fragment, or under `json-schema:///`.
+/// the root. The document is found under its root's identifier without a fragment, or under `json-schema:///`.
 #[derive(Drop)]
 pub struct BenchResolver<'a> {
     base: String,
@@ -86,7 +86,7 @@ impl<'a> BenchResolver<'a> {
     ///
     /// # Errors
     ///
-    /// Want of memory.
+    /// Fails only if memory cannot be allocated.
     pub fn new(
         alloc: Global,
         document: &'a Value,
@@ -107,7 +107,7 @@ impl<'a> BenchResolver<'a> {
     ///
     /// # Errors
     ///
-    /// Want of memory.
+    /// Fails only if memory cannot be allocated.
     pub fn with_draft(
         alloc: Global,
         draft: Draft,

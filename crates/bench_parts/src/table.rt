@@ -35,7 +35,7 @@ use std::alloc::Global;
 
 /// A table of some built-in keywords. No name is its own.
 ///
-/// A value of another shape than its keyword's is refused by an error that shows the value and stands at the keyword.
+/// A value of another shape than its keyword's is refused by an error that shows the value and is located at the keyword.
 #[derive(Drop)]
 pub struct BenchTable {}
 

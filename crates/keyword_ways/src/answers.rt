@@ -92,7 +92,7 @@ fn faults_of<'i>(alloc: Global, answer: Answer<'i>) -> Result<Vec<Fault<'i>>, Ou
     }
 }
 
-/// The errors of an answer that stand in its unit.
+/// The errors of an answer that are in its unit.
 fn descriptions_of(alloc: Global, answer: Answer<'_>) -> Vec<ErrorDescription>
     ensures gives { (texts : Bool) → (answer_of texts answer.entry).gives
         ≡ record no_gives { errors = map (described_of texts) result.items } }
@@ -129,7 +129,7 @@ pub fn refuse<'i>(answer: &mut Answer<'i>)
     *answer = refused(before);
 }
 
-/// Notes an error of the keyword's own. Where a verdict is wanted, it refuses alone; in an evaluation the error stands in
+/// Notes an error of the keyword's own. Where a verdict is wanted, it refuses alone; in an evaluation the error is in
 /// the unit.
 pub fn note<'i>(
     alloc: Global,

@@ -74,7 +74,7 @@ pub trait PlannedKeyword: Drop {
     ///
     /// # Errors
     ///
-    /// Memory is wanting.
+    /// Memory cannot be allocated.
     fn text(&self, alloc: Global, instance: Instance<'_>) -> Result<String, OutOfMemory>
         ensures text { IfOk result (λ text. is_whole (shape self.now) ≡ true → subject_has_float (subject_of instance.entry) ≡ false
             → string_bytes text ≡ told (shape self.now) (subject_of instance.entry)) };

@@ -5,7 +5,7 @@ ghost use Rattle.keyword_ways.specs.Ways.{way_begin};
 
 use schema_node::context::keyword::Mode;
 
-/// Where a run stands: before its first turn, after the question of this place in order, or at its end.
+/// How far a run has come: before its first turn, after the question of this place in order, or at its end.
 #[derive(Clone, Copy)]
 pub enum Stage {
     Begun,

@@ -57,13 +57,13 @@ fn parts_of_paths(rt: HostRuntime) -> Result<(), OutOfMemory> {
 
 /// Whether a path begins another, is not begun by it, and is not the same.
 fn is_shorter(path: &SchemaPath, longer: &SchemaPath) -> bool {
-    path.is_prefix_of(longer) && !longer.is_prefix_of(path) && !path.same(longer)
+    path.is_prefix_of(longer) && !longer.is_prefix_of(path) && *path != *longer
 }
 
 /// Whether the copy of a path is the same.
 fn is_its_copied_path(alloc: Global, path: &SchemaPath) -> Result<bool, OutOfMemory> {
-    let copied = path.copy(alloc)?;
-    Ok(path.same(&copied))
+    let copied = path.clone()?;
+    Ok(*path == copied)
 }
 
 #[test]
@@ -97,13 +97,13 @@ fn below_by_path(alloc: Global, root: &SchemaPlace) -> Result<SchemaPlace, OutOf
 /// Whether a place is that of the path in a document.
 fn stands_in(alloc: Global, place: &SchemaPlace, document: usize) -> Result<bool, OutOfMemory> {
     let other = a_place(alloc, document)?;
-    Ok(place.same(&other))
+    Ok(*place == other)
 }
 
 /// Whether the copy of a place is the same.
 fn is_its_copy(alloc: Global, place: &SchemaPlace) -> Result<bool, OutOfMemory> {
-    let copied = place.copy(alloc)?;
-    Ok(place.same(&copied))
+    let copied = place.clone()?;
+    Ok(*place == copied)
 }
 
 #[test]
@@ -114,7 +114,7 @@ fn schema_places(rt: HostRuntime) -> Result<(), OutOfMemory> {
         path: SchemaPath::root(alloc),
     };
     let below = below_by_path(alloc, &root)?;
-    let is_root = below.same(&root);
+    let is_root = below == root;
     drop(root);
     let in_document = stands_in(alloc, &below, 1);
     let is_copy = is_its_copy(alloc, &below);
@@ -152,7 +152,7 @@ fn pairs_in_progress(rt: HostRuntime) -> Result<(), OutOfMemory> {
 /// A copy of the root's location.
 fn copied_root(alloc: Global) -> Result<Location, OutOfMemory> {
     let here = Location::new(alloc);
-    here.copy()
+    here.clone()
 }
 
 /// The location of the member `a` of the root.

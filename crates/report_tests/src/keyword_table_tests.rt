@@ -357,7 +357,7 @@ fn keeps_vocabularies(rt: HostRuntime) -> Result<(), AllocError> {
 
 /// Whether a set is the same as its copy, and another one once the copy has one vocabulary more.
 fn is_copied(set: &VocabularySet) -> Result<bool, AllocError> {
-    let copy = set.duplicate()?;
+    let copy = set.clone()?;
     let same = copy.same(set);
     let more = copy.with(Vocabulary::FormatAnnotation)?;
     Ok(same && !more.same(set))

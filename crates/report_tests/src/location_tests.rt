@@ -32,7 +32,7 @@ fn item_points(items: &Location, number: usize, want: &str) -> Result<bool, OutO
 /// Whether the location of an item, copied, with that of the items after it, is this pointer.
 fn item_with_items_points(items: &Location, want: &str) -> Result<bool, OutOfMemory> {
     let deep = items.join(LocationSegment::Index(120))?;
-    let copied = deep.copy();
+    let copied = deep.clone();
     drop(deep);
     let appended = copied?.append(items)?;
     Ok(appended.as_str() == want)
@@ -78,14 +78,14 @@ fn points(alloc: Global, place: &Place<'_>, want: &str) -> Result<bool, OutOfMem
 
 /// Whether the copy of a place is the same.
 fn is_its_copy(place: &Place<'_>) -> Result<bool, OutOfMemory> {
-    let copied = place.copy()?;
-    Ok(place.same(&copied))
+    let copied = place.clone()?;
+    Ok(*place == copied)
 }
 
 /// Whether a member's name has this pointer, and is not the same place as the object.
 fn has_name_apart(alloc: Global, object: &Place<'static>, want: &str) -> Result<bool, OutOfMemory> {
     let name = object.below(InstanceStep::NameOf("c"))?;
-    let is_same = object.same(&name);
+    let is_same = *object == name;
     let has_pointer = points(alloc, &name, want);
     drop(name);
     Ok(has_pointer? && !is_same)

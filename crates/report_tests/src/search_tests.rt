@@ -20,7 +20,7 @@ fn error_at<'i>(
     let keyword = String::from_str(alloc, "test")?;
     let text = String::from_str(alloc, text)?;
     let schema_path = Location::from_escaped(alloc, path)?;
-    let evaluation_path = schema_path.copy()?;
+    let evaluation_path = schema_path.clone()?;
     Ok(ValidationError {
         instance: Instance::Value(root),
         place: Place::root(alloc),

@@ -58,7 +58,7 @@ pub(crate) mod text;
 mod values;
 mod vocabularies;
 
-/// The priority of `$ref` in the table of built-in keywords, which one that stands alone has too.
+/// The priority of `$ref` in the table of built-in keywords, which one that is taken alone has too.
 const REF_PRIORITY: u8 = 70;
 
 /// The priority of a keyword that the keyword table owns: after each built-in one.

@@ -68,8 +68,8 @@ fn is_skipped<R: Resolver>(
 {
     match kind {
         ReferenceKind::Recursive => false,
-        ReferenceKind::Ref => target.place.same(&key.place),
-        ReferenceKind::Dynamic => target.place.same(&key.place),
+        ReferenceKind::Ref => target.place == key.place,
+        ReferenceKind::Dynamic => target.place == key.place,
     }
 }
 
@@ -177,7 +177,7 @@ impl<'p, R: Resolver, T> Given<'p, R, T> {
             state: target.state,
             draft: target.draft,
             vocabularies,
-            base: location.copy()?,
+            base: location.clone()?,
             location,
             start,
         })

@@ -100,7 +100,7 @@ impl<K> Model for Nodes<K> {
 ghost use Rattle.std.specs.Prelude.{None};
 
 impl<K: Drop> Nodes<K> {
-    /// No node.
+    /// Returns an empty list of nodes.
     pub fn new(alloc: Global) -> Nodes<K>
         ensures empty { result ≡ [] }
     {
@@ -110,7 +110,7 @@ impl<K: Drop> Nodes<K> {
         }
     }
 
-    /// How many nodes there are, reserved ones among them.
+    /// Returns how many nodes there are, reserved ones included.
     pub fn len(&self) -> usize
         ensures count { result ≡ length self.now }
         ensures ranked { (finished : ℕ) × IsRanked self.now finished }
@@ -190,7 +190,7 @@ impl<K: Drop> Nodes<K> {
     ///
     /// # Errors
     ///
-    /// Want of memory.
+    /// Fails only if memory cannot be allocated.
     pub fn from_boolean(
         &mut self,
         location: Location,
@@ -215,7 +215,7 @@ impl<K: Drop> Nodes<K> {
     ///
     /// # Errors
     ///
-    /// Want of memory.
+    /// Fails only if memory cannot be allocated.
     pub fn from_keywords(
         &mut self,
         location: Location,
@@ -243,7 +243,7 @@ impl<K: Drop> Nodes<K> {
     ///
     /// # Errors
     ///
-    /// Want of memory.
+    /// Fails only if memory cannot be allocated.
     pub fn from_array(
         &mut self,
         location: Location,
@@ -260,7 +260,7 @@ impl<K: Drop> Nodes<K> {
         self.from_keywords(location, base, start, entries, None)
     }
 
-    /// Whether a number has its form; one that has none is reserved.
+    /// Returns `true` if the number has its form; one that has none is reserved.
     pub fn is_filled(&self, node: SchemaNode) -> bool
         requires within { node.0 < length self.now }
         ensures filled { result ≡ true → IsFilled self.now node.0 }

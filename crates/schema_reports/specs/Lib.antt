@@ -47,6 +47,7 @@ pub mod Unfinished
 pub mod Search
 pub mod Searched
 pub mod SharedResults
+pub mod SamePlaces
 pub mod SearchGives
 pub mod Outcomes
 pub mod HashIndex

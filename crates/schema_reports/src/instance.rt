@@ -2,6 +2,8 @@
 ghost use Rattle.std.specs.Prelude.{◌≡◌, List, [], ◌∷◌, ◌++◌, IfOk, option_map, Option, Some, None, map, IfSome, false};
 ghost use Rattle.std.specs.Prelude.{string_bytes};
 ghost use Rattle.schema_reports.specs.Instance.{same_place, same_step, after_step, to_member, to_item, to_name};
+ghost use Rattle.std.specs.Cmp.{partial_equiv_from_equiv};
+ghost use Rattle.schema_reports.specs.SamePlaces.{places_equiv};
 ghost use Rattle.schema_reports.specs.Pointer.{pointer_to, step_text};
 ghost use Rattle.schema_reports.specs.InstanceTexts.{subject_has_float};
 ghost use Rattle.schema_reports.specs.Meaning.{subject_text};
@@ -15,7 +17,7 @@ mod at;
 
 use crate::location::{Location, LocationSegment, OutOfMemory};
 use serde_json::Value;
-use std::alloc::Global;
+use std::alloc::{AllocError, Global};
 use std::marker::Model;
 
 /// What is validated: a value, or the name of a member, which is validated as a string.
@@ -194,27 +196,11 @@ impl<'i> Place<'i> {
         }
     }
 
-    /// Returns `true` if both consist of the same steps.
-    pub fn same(&self, other: &Place<'_>) -> bool
-        ensures same { result ≡ same_place self.now other.now }
-    {
-        same_steps(self.steps.as_slice(), other.steps.as_slice())
-    }
-
-    /// Returns a clone of the place. Fails only if memory cannot be allocated.
-    pub fn copy(&self) -> Result<Place<'i>, OutOfMemory>
-        ensures same { IfOk result (λ p. p ≡ self.now) }
-    {
-        Ok(Place {
-            steps: self.steps.clone()?,
-        })
-    }
-
     /// Returns the place one step below this one. Fails only if memory cannot be allocated.
     pub fn below(&self, step: InstanceStep<'i>) -> Result<Place<'i>, OutOfMemory>
         ensures below { IfOk result (λ p. p ≡ self.now ++ step_of step.entry ∷ []) }
     {
-        let mut place = self.copy()?;
+        let mut place = self.clone()?;
         place.steps.push(step)?;
         Ok(place)
     }
@@ -229,5 +215,31 @@ impl<'i> Place<'i> {
             push_step(&mut location, *step)?;
         }
         Ok(location)
+    }
+}
+
+impl<'i> PartialEq for Place<'i> {
+    ghost eq = { same_place };
+
+    ghost laws = { partial_equiv_from_equiv places_equiv };
+
+    /// Returns `true` if both consist of the same steps.
+    fn eq(&self, other: &Place<'i>) -> bool {
+        same_steps(self.steps.as_slice(), other.steps.as_slice())
+    }
+}
+
+impl<'i> Eq for Place<'i> {
+    ghost laws = { places_equiv };
+}
+
+impl<'i> Clone for Place<'i> {
+    ghost is_clone = { λ p copy. copy ≡ p };
+
+    /// Returns a clone of the place. Fails only if memory cannot be allocated.
+    fn clone(&self) -> Result<Place<'i>, AllocError> {
+        Ok(Place {
+            steps: self.steps.clone()?,
+        })
     }
 }

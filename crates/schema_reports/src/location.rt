@@ -1,5 +1,7 @@
 //! Pointer texts (RFC 6901).
-ghost use Rattle.std.specs.Prelude.{◌≡◌, ℕ, List, [], ◌++◌, IfOk, string_bytes, decimal};
+ghost use Rattle.std.specs.Prelude.{◌≡◌, ℕ, List, [], ◌++◌, IfOk, bytes_eq, string_bytes, decimal};
+ghost use Rattle.std.specs.Cmp.{partial_equiv_from_equiv};
+ghost use Rattle.std.specs.Cmp.Lexicographic.{nat_list_eq_equiv};
 ghost use Rattle.std.specs.Char.{encode_utf8};
 ghost use Rattle.schema_reports.specs.Pointer.{escaped};
 ghost use Rattle.schema_reports.specs.LocationViews.{segment_text, segment_of};
@@ -93,7 +95,7 @@ impl Location {
     pub fn join(&self, segment: LocationSegment<'_>) -> Result<Location, OutOfMemory>
         ensures joined { IfOk result (λ l. l ≡ self.now ++ segment_text (segment_of segment.entry)) }
     {
-        let mut location = self.copy()?;
+        let mut location = self.clone()?;
         location.push(segment)?;
         Ok(location)
     }
@@ -117,11 +119,28 @@ impl Location {
         text.push_str(rest.text.as_str())?;
         Ok(Location { text })
     }
+}
+
+impl PartialEq for Location {
+    ghost eq = { bytes_eq };
+
+    ghost laws = { partial_equiv_from_equiv nat_list_eq_equiv };
+
+    /// Returns `true` if both pointers have the same text.
+    fn eq(&self, other: &Location) -> bool {
+        self.text == other.text
+    }
+}
+
+impl Eq for Location {
+    ghost laws = { nat_list_eq_equiv };
+}
+
+impl Clone for Location {
+    ghost is_clone = { λ l copy. copy ≡ l };
 
     /// Returns a clone of the pointer. Fails only if memory cannot be allocated.
-    pub fn copy(&self) -> Result<Location, OutOfMemory>
-        ensures same { IfOk result (λ l. l ≡ self.now) }
-    {
+    fn clone(&self) -> Result<Location, AllocError> {
         Ok(Location {
             text: self.text.clone()?,
         })

@@ -56,7 +56,7 @@ pub fn depths_agree<S, K, R>()
 
 ghost use Rattle.schema_reports.specs.Means.{NumbersMean};
 
-/// Numbers that stand for keys mean the plain meaning of the root's key.
+/// Numbers in place of keys mean the plain meaning of the root's key.
 pub fn numbers_mean<S, K, R>()
     ensures { (w : Parts S K R) (keys : Numbers S) (nodes : Nodes K) → NumbersMean w keys nodes }
 {}

@@ -58,16 +58,6 @@ impl fmt::Display for OwnedError {
     }
 }
 
-// The same text, where there is one, in memory of its own.
-fn copy_text(text: &Option<String>) -> Result<Option<String>, OutOfMemory>
-    ensures same { IfOk result (λ t. option_map string_bytes t ≡ option_map string_bytes text.now) }
-{
-    match text {
-        Some(text) => Ok(Some(text.clone()?)),
-        None => Ok(None),
-    }
-}
-
 // The text of the schema `false`, which shows the instance, with no digits promised for a float.
 fn false_text(alloc: Global, instance: Instance<'_>) -> Result<String, OutOfMemory>
     ensures text { IfOk result (λ t. subject_has_float (subject_of instance.entry) ≡ false
@@ -130,9 +120,9 @@ impl<'i> ValidationError<'i> {
         Ok(OwnedError {
             instance: self.instance.to_value(alloc)?,
             instance_path: self.place.pointer(alloc)?,
-            schema_path: self.schema_path.copy()?,
-            evaluation_path: self.evaluation_path.copy()?,
-            absolute_keyword_location: copy_text(&self.absolute_keyword_location)?,
+            schema_path: self.schema_path.clone()?,
+            evaluation_path: self.evaluation_path.clone()?,
+            absolute_keyword_location: self.absolute_keyword_location.clone()?,
             keyword: self.keyword.clone()?,
             text: self.text.clone()?,
         })

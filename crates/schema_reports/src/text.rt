@@ -2,7 +2,7 @@
 ghost use Rattle.std.specs.Prelude.{◌≡◌, IfOk, bytes_eq, string_bytes};
 
 use crate::location::OutOfMemory;
-use std::alloc::Global;
+use std::alloc::{AllocError, Global};
 use std::marker::Model;
 
 /// A string that contracts see as its bytes.
@@ -48,11 +48,13 @@ impl Text {
     {
         text == self.string.as_str()
     }
+}
+
+impl Clone for Text {
+    ghost is_clone = { λ t copy. copy ≡ t };
 
     /// Returns a clone of the string. Fails only if memory cannot be allocated.
-    pub fn copy(&self) -> Result<Text, OutOfMemory>
-        ensures same { IfOk result (λ t. t ≡ self.now) }
-    {
+    fn clone(&self) -> Result<Text, AllocError> {
         let string = self.string.clone()?;
         Ok(Text { string })
     }

@@ -7,7 +7,7 @@ ghost use Rattle.bench_parts.specs.BenchResolving.{detected, draft_of_uri, text_
 use schema_reports::keywords::Draft;
 use serde_json::Value;
 
-/// The text that stands under a name.
+/// The string under a name.
 pub fn text_member<'v>(value: &'v Value, name: &str) -> Option<&'v str>
     ensures text { option_map (λ t. t.now) result ≡ text_member name.now (view value.now) }
 {

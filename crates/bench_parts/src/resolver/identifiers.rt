@@ -9,7 +9,7 @@ use crate::resolver::drafts::text_member;
 use schema_reports::keywords::Draft;
 use serde_json::Value;
 
-/// Whether a reference stands alone in the draft.
+/// Whether the draft ignores the other keywords beside a reference.
 fn ref_stands_alone(draft: Draft) -> bool
     ensures alone { result ≡ ref_stands_alone (draft_of draft) }
 {

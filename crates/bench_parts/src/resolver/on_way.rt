@@ -29,7 +29,7 @@ fn is_named(step: &SchemaStep, keyword: &str) -> bool
     }
 }
 
-/// Whether something stands there and is a schema.
+/// Whether there is a value and it is a schema.
 fn is_schema_there(value: Option<&Value>) -> bool
     ensures there { result ≡ schema_found (option_map (λ v. view v.now) value.entry) }
 {
@@ -203,7 +203,7 @@ fn steps_to_subschema(schema: &Value, steps: &[SchemaStep]) -> Option<usize>
 ///
 /// # Errors
 ///
-/// Want of memory.
+/// Fails only if memory cannot be allocated.
 pub fn subschema_on_way(
     alloc: Global,
     document: &Value,

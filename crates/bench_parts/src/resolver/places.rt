@@ -1,5 +1,5 @@
 //! Places of a document, and the values there.
-ghost use Rattle.std.specs.Prelude.{◌≡◌, IfOk, map, option_map};
+ghost use Rattle.std.specs.Prelude.{◌≡◌, map, option_map};
 ghost use Rattle.serde_json.specs.View.{view};
 ghost use Rattle.schema_reports.specs.Instance.{after_step, a_value, subject_from};
 ghost use Rattle.schema_node.specs.SchemaViews.{schema_step_of};
@@ -9,7 +9,6 @@ ghost use Rattle.bench_parts.specs.BenchAnswers.{RefusesWith};
 
 use schema_node::context::resolver::LookupError;
 use schema_node::context::schema_place::{SchemaPath, SchemaPlace, SchemaStep};
-use schema_reports::location::OutOfMemory;
 use serde_json::Value;
 use std::alloc::Global;
 
@@ -20,16 +19,6 @@ pub fn root_place(alloc: Global) -> SchemaPlace
     SchemaPlace {
         document: 0,
         path: SchemaPath::root(alloc),
-    }
-}
-
-/// The same step in memory of its own.
-pub fn copy_of_step(step: &SchemaStep) -> Result<SchemaStep, OutOfMemory>
-    ensures same { IfOk result (λ s. schema_step_of s ≡ schema_step_of step.now) }
-{
-    match step {
-        SchemaStep::Member(name) => Ok(SchemaStep::Member(name.clone()?)),
-        SchemaStep::Item(index) => Ok(SchemaStep::Item(*index)),
     }
 }
 

@@ -45,7 +45,7 @@ fn pointer_of_fragment(alloc: Global, fragment: &str) -> Result<Option<String>, 
 ///
 /// # Errors
 ///
-/// Want of memory.
+/// Fails only if memory cannot be allocated.
 pub fn pointer_of(alloc: Global, reference: &str) -> Result<Option<String>, OutOfMemory>
     ensures pointer { IfOk result (λ o. option_map string_bytes o ≡ pointer_of reference.now) }
 {
@@ -163,7 +163,7 @@ fn path_of_segments(
 ///
 /// # Errors
 ///
-/// Want of memory.
+/// Fails only if memory cannot be allocated.
 pub fn path_of_pointer(
     alloc: Global,
     pointer: &str,

@@ -9,7 +9,7 @@ use crate::resolver::BenchState;
 use crate::resolver::drafts::detected;
 use crate::resolver::identifiers::identifier;
 use crate::resolver::on_way::is_subschema;
-use crate::resolver::places::{copy_of_step, refusal, value_below};
+use crate::resolver::places::{refusal, value_below};
 use crate::resolver::pointers::{path_of_pointer, pointer_of};
 use schema_node::context::resolver::{LookupError, Target};
 use schema_node::context::schema_place::{SchemaPath, SchemaPlace};
@@ -37,7 +37,7 @@ fn target_draft(
         let Some(below) = value_below(reached, step) else {
             return Err(refusal(alloc, "nothing stands where the reference points"));
         };
-        since.push(copy_of_step(step)?)?;
+        since.push(step.clone()?)?;
         reached = below;
         if is_subschema(&since, schema) {
             draft = detected(draft, below);
@@ -56,7 +56,7 @@ fn target_draft(
 /// # Errors
 ///
 /// A refusal of what is no pointer into the document, of a pointer that leads to nothing, and of one that passes through a
-/// subschema with an identifier, or ends at one; want of memory.
+/// subschema with an identifier, or ends at one; and `OutOfMemory` if memory cannot be allocated.
 pub fn looked_up(
     alloc: Global,
     base: &String,

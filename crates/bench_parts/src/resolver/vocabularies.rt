@@ -15,24 +15,24 @@ pub struct DraftVocabularies {
 }
 
 impl DraftVocabularies {
-    /// The vocabularies that each draft has of its own, and in every draft the required ones.
+    /// Returns the vocabularies that each draft has of its own, and in every draft the required ones.
     ///
     /// # Errors
     ///
-    /// Want of memory.
+    /// Fails only if memory cannot be allocated.
     pub fn with_required(required: VocabularySet) -> Result<DraftVocabularies, OutOfMemory>
         ensures drafts { IfOk result (HasDrafts required) }
         ensures custom { IfOk result (HasCustom required) }
     {
         let of_2019_09 = required
-            .duplicate()?
+            .clone()?
             .with(Vocabulary::Content)?
             .with(Vocabulary::Metadata)?
             .with(Vocabulary::Validation)?
             .with(Vocabulary::Applicator)?
             .with(Vocabulary::Core)?;
         let late = of_2019_09
-            .duplicate()?
+            .clone()?
             .with(Vocabulary::FormatAnnotation)?
             .with(Vocabulary::Unevaluated)?;
         Ok(DraftVocabularies {
@@ -42,18 +42,18 @@ impl DraftVocabularies {
         })
     }
 
-    /// The vocabularies in a draft, in memory of their own.
+    /// Returns the vocabularies in a draft.
     ///
     /// # Errors
     ///
-    /// Want of memory.
+    /// Fails only if memory cannot be allocated.
     pub fn in_draft(&self, draft: Draft) -> Result<VocabularySet, OutOfMemory>
         ensures vocabularies { IfOk result (λ v. v ≡ vocabularies_in (draft_of draft) self.now) }
     {
         match draft {
-            Draft::Draft4 | Draft::Draft6 | Draft::Draft7 => self.early.duplicate(),
-            Draft::Draft201909 => self.of_2019_09.duplicate(),
-            Draft::Draft202012 | Draft::Unknown => self.late.duplicate(),
+            Draft::Draft4 | Draft::Draft6 | Draft::Draft7 => self.early.clone(),
+            Draft::Draft201909 => self.of_2019_09.clone(),
+            Draft::Draft202012 | Draft::Unknown => self.late.clone(),
         }
     }
 }

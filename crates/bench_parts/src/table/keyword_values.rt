@@ -79,12 +79,11 @@ pub fn type_keyword(alloc: Global, value: &Value) -> Result<Option<BenchKeyword>
     }
 }
 
-/// Adds a copy of a text.
-fn push_copy(alloc: Global, text: &str, texts: &mut Vec<String>) -> Result<(), OutOfMemory>
+/// Adds a string with this text.
+fn push_text(alloc: Global, text: &str, texts: &mut Vec<String>) -> Result<(), OutOfMemory>
     ensures pushed { IfOk result (λ _. map string_bytes texts.new.items ≡ map string_bytes texts.old.items ++ text.now ∷ []) }
 {
-    let copy = String::from_str(alloc, text)?;
-    texts.push(copy)?;
+    texts.push(String::from_str(alloc, text)?)?;
     Ok(())
 }
 
@@ -95,7 +94,7 @@ pub fn texts_of(alloc: Global, values: &[Value]) -> Result<Option<Vec<String>>, 
     let mut texts = Vec::new(alloc);
     for value in values {
         match value {
-            Value::String(text) => push_copy(alloc, text.as_str(), &mut texts)?,
+            Value::String(text) => push_text(alloc, text.as_str(), &mut texts)?,
             _ => return Ok(None),
         }
     }
@@ -134,7 +133,7 @@ pub fn names_of(alloc: Global, members: &Map<String, Value>) -> Result<Vec<Strin
 {
     let mut names = Vec::new(alloc);
     for (name, _) in members {
-        push_copy(alloc, name.as_str(), &mut names)?;
+        push_text(alloc, name.as_str(), &mut names)?;
     }
     Ok(names)
 }

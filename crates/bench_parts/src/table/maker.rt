@@ -70,7 +70,7 @@ impl<K: Validate> PathsMaker<K> {
             (waiting_of K.shape self.new)) }
     {
         if self.asked < self.paths.len() {
-            let path = self.paths[self.asked].copy(alloc)?;
+            let path = self.paths[self.asked].clone()?;
             self.asked += 1;
             return Ok(MakerStep::Compile(path));
         }

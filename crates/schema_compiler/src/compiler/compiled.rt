@@ -78,7 +78,7 @@ impl<'p, R: Resolver, T> Given<'p, R, T> {
             key.now.start ∷ []) }
         ensures number { IfOk result (λ n. n.0 ≡ length nodes.old) }
     {
-        let location = key.location.copy()?;
+        let location = key.location.clone()?;
         let base = self.shown_base_of(key)?;
         nodes.reserve(location, base, key.start)
     }
@@ -106,7 +106,7 @@ impl<'p, R: Resolver, T> Given<'p, R, T> {
         ensures memory { IfErr result (λ e. e ≡ build.OutOfMemory) }
     {
         let number = self.reserve_node(&mut compiled.nodes, key)?;
-        let own = copy_of::<R>(self.alloc, key)?;
+        let own = copy_of::<R>(key)?;
         compiled.keys.push(own)?;
         Ok(number)
     }

@@ -74,7 +74,7 @@ impl<'c, S> Context<'c, S> {
         !stands_alone(self.key.draft)
     }
 
-    /// The value of the `$ref` that stands alone in an object.
+    /// The value of the `$ref` that is taken alone in an object.
     pub(crate) fn lone_reference<'v>(&self, members: &'v Map<String, Value>) -> Option<&'v Value>
         ensures alone { option_map (λ v. view v.now) result ≡
             (if ref_stands_alone (draft_of self.now.key.now.draft) then
@@ -107,7 +107,7 @@ impl<'c, S> Context<'c, S> {
     }
 
     /// Returns whether formats are checked: as the option says. Where it is not set, they are in the drafts where `$ref`
-    /// stands alone, and in later ones if the schema's vocabularies ask for it.
+    /// is taken alone, and in later ones if the schema's vocabularies ask for it.
     pub fn validates_formats_by_default(&self) -> bool
         ensures formats { result ≡ unwrap_or self.now.options.now.formats
             (ref_stands_alone (draft_of self.now.key.now.draft)

@@ -57,7 +57,7 @@ pub(crate) fn entry_named<K: Drop>(
     })
 }
 
-/// What a keyword that stands alone asks of an instance; nothing where it is skipped.
+/// What a keyword that is taken alone asks of an instance; nothing where it is skipped.
 pub(crate) fn node_alone<K: Drop>(
     alloc: Global,
     entry: Option<Entry<K>>,

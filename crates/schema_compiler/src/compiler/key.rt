@@ -8,13 +8,12 @@ use schema_node::context::resolver::{Resolver, Target};
 use schema_node::context::schema_place::SchemaPlace;
 use schema_reports::keywords::{Draft, VocabularySet};
 use schema_reports::location::{Location, OutOfMemory};
-use std::alloc::Global;
 
 /// What a node is compiled for: a schema's place in a document, what it is read in there, and how it was reached. Two keys
 /// that are equal share one node.
 #[derive(Drop)]
 pub struct SchemaKey<S> {
-    /// Where the schema stands in its document.
+    /// The place of the schema in its document.
     pub place: SchemaPlace,
     /// The resolver's state there.
     pub state: S,
@@ -34,7 +33,7 @@ pub struct SchemaKey<S> {
 pub(crate) fn same_key<R: Resolver>(left: &SchemaKey<R::State>, right: &SchemaKey<R::State>) -> bool
     ensures same { IsTrue result ↔ (key_of R.point left.now ≡ key_of R.point right.now) }
 {
-    if !left.place.same(&right.place) {
+    if !(left.place == right.place) {
         return false;
     }
     if !(left.state == right.state) {
@@ -62,18 +61,15 @@ fn same_location(left: &Location, right: &Location) -> bool
     left.as_str() == right.as_str()
 }
 
-// The place, the state and the draft of a key, in memory of their own.
-fn target_copy<R: Resolver>(
-    alloc: Global,
-    key: &SchemaKey<R::State>,
-) -> Result<Target<R::State>, OutOfMemory>
+// Clones of the place, the state and the draft of a key.
+fn target_copy<R: Resolver>(key: &SchemaKey<R::State>) -> Result<Target<R::State>, OutOfMemory>
     ensures target { IfOk result (λ t. found_of R.point t ≡ record {
       place = place_of key.now.place;
       state = R.point key.now.state;
       draft = draft_of key.now.draft;
     }) }
 {
-    let place = key.place.copy(alloc)?;
+    let place = key.place.clone()?;
     Ok(Target {
         state: key.state.clone()?,
         place,
@@ -81,18 +77,17 @@ fn target_copy<R: Resolver>(
     })
 }
 
-/// The same key in memory of its own.
+/// Returns a clone of the key. Fails only if memory cannot be allocated.
 pub(crate) fn copy_of<R: Resolver>(
-    alloc: Global,
     key: &SchemaKey<R::State>,
 ) -> Result<SchemaKey<R::State>, OutOfMemory>
     ensures same { IfOk result (λ k. key_of R.point k ≡ key_of R.point key.now) }
 {
-    let location = key.location.copy()?;
-    let base = key.base.copy()?;
-    let target = target_copy::<R>(alloc, key)?;
+    let location = key.location.clone()?;
+    let base = key.base.clone()?;
+    let target = target_copy::<R>(key)?;
     Ok(SchemaKey {
-        vocabularies: key.vocabularies.duplicate()?,
+        vocabularies: key.vocabularies.clone()?,
         place: target.place,
         state: target.state,
         draft: target.draft,

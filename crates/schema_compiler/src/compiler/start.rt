@@ -57,7 +57,6 @@ fn counts_from(
 
 // The next place inwards, where it has an identifier, or else the one that is given.
 fn nearer_place(
-    alloc: Global,
     has_id: bool,
     next: &SchemaPlace,
     given: SchemaPlace,
@@ -65,7 +64,7 @@ fn nearer_place(
     ensures nearer { IfOk result (λ p. place_of p ≡
         (if has_id then place_of next.now else place_of given)) }
 {
-    if has_id { next.copy(alloc) } else { Ok(given) }
+    if has_id { next.clone() } else { Ok(given) }
 }
 
 impl<'p, R: Resolver, T> Given<'p, R, T> {
@@ -82,8 +81,8 @@ impl<'p, R: Resolver, T> Given<'p, R, T> {
     {
         let mut depth = path.len();
         let mut inner_draft = draft;
-        let mut place = from.copy(self.alloc)?;
-        let mut given = from.copy(self.alloc)?;
+        let mut place = from.clone()?;
+        let mut given = from.clone()?;
         loop {
             match self
                 .resolver
@@ -94,7 +93,7 @@ impl<'p, R: Resolver, T> Given<'p, R, T> {
                     let value = self.resolver.value(&next);
                     inner_draft = self.detected(inner_draft, value);
                     let has_id = self.identifies(inner_draft, value);
-                    given = nearer_place(self.alloc, has_id, &next, given)?;
+                    given = nearer_place(has_id, &next, given)?;
                     place = next;
                 }
             }

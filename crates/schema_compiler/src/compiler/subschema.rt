@@ -72,7 +72,7 @@ impl<'p, R: Resolver, T> Given<'p, R, T> {
             (R.point below.now.state) (draft_of below.now.draft) (place_of below.now.place))) }
     {
         if below.draft == key.draft {
-            key.vocabularies.duplicate()
+            key.vocabularies.clone()
         } else {
             self.resolver
                 .find_vocabularies(self.alloc, &below.state, below.draft, &below.place)
@@ -96,7 +96,7 @@ impl<'p, R: Resolver, T> Given<'p, R, T> {
             (R.point below.state) (draft_of below.draft)) }
     {
         let location = location_inside(self.alloc, key, path)?;
-        let base = key.base.copy()?;
+        let base = key.base.clone()?;
         let vocabularies = self.vocabularies_inside(key, &below)?;
         let start = if has_id {
             location.as_str().len()

@@ -13,7 +13,7 @@ pub(crate) fn fragment_of(text: &str) -> &str
     }
 }
 
-/// What stands before the first `#`, and all where there is none.
+/// Returns what comes before the first `#`, or the whole text if there is none.
 pub(crate) fn text_before_fragment(text: &str) -> &str
     ensures before { result.now ≡ without_fragment text.now }
 {

@@ -70,7 +70,7 @@ impl<'c, S> Context<'c, S> {
     {
         match value.and_then(|value| value.as_bool()) {
             Some(accepts) => Ok(form_of_boolean(accepts)),
-            None => Err(BuildError::NotASchema(self.location().copy()?)),
+            None => Err(BuildError::NotASchema(self.location().clone()?)),
         }
     }
 

@@ -46,7 +46,7 @@ pub enum Marked {
     Pending(PendingKind),
 }
 
-/// Where something stands of a keyword: a path from it on, or from one that it absorbs, and steps below its place.
+/// Where something of a keyword is: a path from it on, or from one that it absorbs, and steps below its place.
 #[derive(Clone, Copy)]
 pub struct Spot<'s> {
     pub absorbed: Option<&'s str>,
@@ -73,7 +73,7 @@ pub enum Step<'s> {
     Done,
 }
 
-/// What the next turn is told: nothing, or what was asked for. An error alone stands in a box, so that a reply is a few words
+/// What the next turn is told: nothing, or what was asked for. An error alone is in a box, so that a reply is a few words
 /// long whatever its mode.
 #[derive(Drop)]
 pub enum Reply<'i> {

@@ -22,7 +22,7 @@ pub struct Target<S> {
     pub draft: Draft,
 }
 
-/// A refusal with a text of the resolver's own, or want of memory.
+/// A refusal with a text of the resolver's own, or memory that could not be allocated.
 #[derive(Drop)]
 pub enum LookupError {
     Refused(String),
@@ -51,7 +51,6 @@ impl<T: Drop> From<AllocFailed<T>> for LookupError {
 
 // The first of these places that lies on the way to a path.
 fn first_on_way(
-    alloc: Global,
     places: &[SchemaPlace],
     path: &SchemaPath,
 ) -> Result<Option<SchemaPlace>, OutOfMemory>
@@ -60,7 +59,7 @@ fn first_on_way(
 {
     for place in places {
         if place.path.is_prefix_of(path) {
-            return Ok(Some(place.copy(alloc)?));
+            return Ok(Some(place.clone()?));
         }
     }
     Ok(None)
@@ -184,7 +183,7 @@ pub trait Resolver {
             ((resolving self.now).subresources_of (draft_of draft) (place_of place.now))) }
     {
         let below = self.subresources_of(alloc, draft, place)?;
-        first_on_way(alloc, below.as_slice(), path)
+        first_on_way(below.as_slice(), path)
     }
 
     /// Whether the draft knows a keyword of this name.

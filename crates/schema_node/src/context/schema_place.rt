@@ -1,16 +1,19 @@
 //! Places in schemas.
 ghost use Rattle.std.specs.Prelude.{◌≡◌, List, [], ◌∷◌, ◌++◌, OnErr, OnOk, IfOk, length, take, drop, map};
+ghost use Rattle.std.specs.Cmp.{on_equiv, partial_equiv_from_equiv};
+ghost use Rattle.std.specs.Ordering.{on};
 ghost use Rattle.schema_reports.specs.Instance.{same_place, same_step};
+ghost use Rattle.schema_reports.specs.SamePlaces.{places_equiv, schema_places_equiv};
 ghost use Rattle.schema_reports.specs.Pointer.{pointer_to, step_text};
 ghost use Rattle.schema_reports.specs.Drafts.{same_schema_place, at_path};
 ghost use Rattle.schema_node.specs.SchemaViews.{schema_step_of};
 ghost use Rattle.schema_node.specs.ResolverViews.{place_of};
 
 use schema_reports::location::{Location, LocationSegment, OutOfMemory};
-use std::alloc::Global;
+use std::alloc::{AllocError, Global};
 use std::marker::Model;
 
-/// From a value of a schema to one inside it.
+/// A step from a value of a schema to one inside it.
 #[derive(Drop)]
 pub enum SchemaStep {
     Member(String),
@@ -43,13 +46,15 @@ fn same_schema_steps(a: &[SchemaStep], b: &[SchemaStep]) -> bool
     true
 }
 
-// The same step in memory of its own.
-fn copy_of_step(step: &SchemaStep) -> Result<SchemaStep, OutOfMemory>
-    ensures same { IfOk result (λ s. schema_step_of s ≡ schema_step_of step.now) }
-{
-    match step {
-        SchemaStep::Member(name) => Ok(SchemaStep::Member(name.clone()?)),
-        SchemaStep::Item(index) => Ok(SchemaStep::Item(*index)),
+impl Clone for SchemaStep {
+    ghost is_clone = { λ s copy. schema_step_of copy ≡ schema_step_of s };
+
+    /// Returns a clone of the step. Fails only if memory cannot be allocated.
+    fn clone(&self) -> Result<SchemaStep, AllocError> {
+        match self {
+            SchemaStep::Member(name) => Ok(SchemaStep::Member(name.clone()?)),
+            SchemaStep::Item(index) => Ok(SchemaStep::Item(*index)),
+        }
     }
 }
 
@@ -59,7 +64,7 @@ fn push_steps(steps: &mut Vec<SchemaStep>, more: &[SchemaStep]) -> Result<(), Ou
         ≡ map schema_step_of steps.old.items ++ map schema_step_of more.now) }
 {
     for step in more {
-        steps.push(copy_of_step(step)?)?;
+        steps.push(step.clone()?)?;
     }
     Ok(())
 }
@@ -126,7 +131,7 @@ impl Model for SchemaPath {
 }
 
 impl SchemaPath {
-    /// The path of the document's root.
+    /// Returns the path of the document's root.
     pub fn root(alloc: Global) -> SchemaPath
         ensures root { result ≡ [] }
     {
@@ -135,14 +140,14 @@ impl SchemaPath {
         }
     }
 
-    /// The steps, from the document's root on.
+    /// Returns the steps, from the document's root on.
     pub fn steps(&self) -> &[SchemaStep]
         ensures steps { map schema_step_of result.now ≡ self.now }
     {
         self.steps.as_slice()
     }
 
-    /// Adds a step at the end.
+    /// Adds a step at the end. On `Err` nothing has changed.
     pub fn push(&mut self, step: SchemaStep) -> Result<(), OutOfMemory>
         ensures pushed { OnOk result (self.new ≡ self.old ++ schema_step_of step ∷ []) }
         ensures unchanged { OnErr result (self.new ≡ self.old) }
@@ -151,21 +156,14 @@ impl SchemaPath {
         Ok(())
     }
 
-    /// How many steps it has.
+    /// Returns the number of steps.
     pub fn len(&self) -> usize
         ensures count { result ≡ length self.now }
     {
         self.steps.len()
     }
 
-    /// Whether both are one path.
-    pub fn same(&self, other: &SchemaPath) -> bool
-        ensures same { result ≡ same_place self.now other.now }
-    {
-        same_schema_steps(self.steps.as_slice(), other.steps.as_slice())
-    }
-
-    /// Whether it is the first steps of the other, or all of them.
+    /// Returns `true` if the other path begins with this one.
     pub fn is_prefix_of(&self, other: &SchemaPath) -> bool
         ensures prefix { result ≡ same_place self.now (take (length self.now) other.now) }
     {
@@ -175,16 +173,7 @@ impl SchemaPath {
         )
     }
 
-    /// The same path in memory of its own.
-    pub fn copy(&self, alloc: Global) -> Result<SchemaPath, OutOfMemory>
-        ensures same { IfOk result (λ p. p ≡ self.now) }
-    {
-        let mut steps = Vec::new(alloc);
-        push_steps(&mut steps, self.steps.as_slice())?;
-        Ok(SchemaPath { steps })
-    }
-
-    /// The first steps, or all where there are no more.
+    /// Returns the first `count` steps, or all if there are fewer. Fails only if memory cannot be allocated.
     pub fn first(&self, alloc: Global, count: usize) -> Result<SchemaPath, OutOfMemory>
         ensures first { IfOk result (λ p. p ≡ take count self.now) }
     {
@@ -193,7 +182,7 @@ impl SchemaPath {
         Ok(SchemaPath { steps })
     }
 
-    /// What is left after the first steps.
+    /// Returns what is left after the first `count` steps. Fails only if memory cannot be allocated.
     pub fn after(&self, alloc: Global, count: usize) -> Result<SchemaPath, OutOfMemory>
         ensures rest { IfOk result (λ p. p ≡ drop count self.now) }
     {
@@ -202,20 +191,47 @@ impl SchemaPath {
         Ok(SchemaPath { steps })
     }
 
-    /// The path followed by another.
+    /// Returns the path followed by another. Fails only if memory cannot be allocated.
     pub fn append(&self, alloc: Global, rest: &SchemaPath) -> Result<SchemaPath, OutOfMemory>
         ensures appended { IfOk result (λ p. p ≡ self.now ++ rest.now) }
     {
-        let mut path = self.copy(alloc)?;
-        push_steps(&mut path.steps, rest.steps.as_slice())?;
-        Ok(path)
+        let mut steps = Vec::new(alloc);
+        push_steps(&mut steps, self.steps.as_slice())?;
+        push_steps(&mut steps, rest.steps.as_slice())?;
+        Ok(SchemaPath { steps })
     }
 
-    /// The pointer of the path.
+    /// Returns the JSON Pointer of the path. Fails only if memory cannot be allocated.
     pub fn pointer(&self, alloc: Global) -> Result<Location, OutOfMemory>
         ensures pointer { IfOk result (λ l. l ≡ pointer_to self.now) }
     {
         pointer_of_steps(alloc, self.steps.as_slice())
+    }
+}
+
+impl PartialEq for SchemaPath {
+    ghost eq = { same_place };
+
+    ghost laws = { partial_equiv_from_equiv places_equiv };
+
+    /// Returns `true` if both paths consist of the same steps.
+    fn eq(&self, other: &SchemaPath) -> bool {
+        same_schema_steps(self.steps.as_slice(), other.steps.as_slice())
+    }
+}
+
+impl Eq for SchemaPath {
+    ghost laws = { places_equiv };
+}
+
+impl Clone for SchemaPath {
+    ghost is_clone = { λ p copy. copy ≡ p };
+
+    /// Returns a clone of the path. Fails only if memory cannot be allocated.
+    fn clone(&self) -> Result<SchemaPath, AllocError> {
+        let mut steps = Vec::new(*self.steps.allocator());
+        push_steps(&mut steps, self.steps.as_slice())?;
+        Ok(SchemaPath { steps })
     }
 }
 
@@ -227,30 +243,40 @@ pub struct SchemaPlace {
 }
 
 impl SchemaPlace {
-    /// Whether both are one place.
-    pub fn same(&self, other: &SchemaPlace) -> bool
-        ensures same { result ≡ same_schema_place (place_of self.now) (place_of other.now) }
-    {
-        self.document == other.document && self.path.same(&other.path)
-    }
-
-    /// The same place in memory of its own.
-    pub fn copy(&self, alloc: Global) -> Result<SchemaPlace, OutOfMemory>
-        ensures same { IfOk result (λ p. place_of p ≡ place_of self.now) }
-    {
-        Ok(SchemaPlace {
-            document: self.document,
-            path: self.path.copy(alloc)?,
-        })
-    }
-
-    /// The place at a path below.
+    /// Returns the place at a path below. Fails only if memory cannot be allocated.
     pub fn below(&self, alloc: Global, path: &SchemaPath) -> Result<SchemaPlace, OutOfMemory>
         ensures below { IfOk result (λ p. place_of p ≡ at_path (place_of self.now) path.now) }
     {
         Ok(SchemaPlace {
             document: self.document,
             path: self.path.append(alloc, path)?,
+        })
+    }
+}
+
+impl PartialEq for SchemaPlace {
+    ghost eq = { on place_of same_schema_place };
+
+    ghost laws = { partial_equiv_from_equiv (on_equiv place_of schema_places_equiv) };
+
+    /// Returns `true` if both are the same path in the same document.
+    fn eq(&self, other: &SchemaPlace) -> bool {
+        self.document == other.document && self.path == other.path
+    }
+}
+
+impl Eq for SchemaPlace {
+    ghost laws = { on_equiv place_of schema_places_equiv };
+}
+
+impl Clone for SchemaPlace {
+    ghost is_clone = { λ p copy. place_of copy ≡ place_of p };
+
+    /// Returns a clone of the place. Fails only if memory cannot be allocated.
+    fn clone(&self) -> Result<SchemaPlace, AllocError> {
+        Ok(SchemaPlace {
+            document: self.document,
+            path: self.path.clone()?,
         })
     }
 }

@@ -16,7 +16,7 @@ use schema_reports::unfinished_matches::{Match, MatchAssumptions, MatchSite, Rea
 use std::alloc::Global;
 use std::marker::Model;
 
-/// A node that is asked of what stands at a place, until it has answered.
+/// A node that is asked about the instance at a place, until it has answered.
 #[derive(Drop)]
 struct InProgress<'i> {
     node: SchemaNode,
@@ -44,14 +44,14 @@ impl<'i> Model for ValidationContext<'i> {
 }
 
 impl<'i> ValidationContext<'i> {
-    /// Nothing in progress, nothing assumed.
+    /// Returns a context with nothing in progress and nothing assumed.
     pub fn new(alloc: Global) -> ValidationContext<'i>
         ensures empty { result ≡ record { in_progress = []; remembered = starting [] } }
     {
         ValidationContext::assuming(alloc, MatchAssumptions::new(alloc))
     }
 
-    /// Nothing in progress, with these assumptions and what is remembered with them.
+    /// Returns a context with nothing in progress, with these assumptions and what is remembered with them.
     pub fn assuming(alloc: Global, matches: MatchAssumptions<'i>) -> ValidationContext<'i>
         ensures assumes { result ≡ record { in_progress = []; remembered = matches.entry } }
     {
@@ -59,7 +59,7 @@ impl<'i> ValidationContext<'i> {
         ValidationContext { pairs, matches }
     }
 
-    /// What was assumed, and is remembered of the unfinished matches that were met. It takes no memory.
+    /// Returns what was assumed, and what is remembered of the unfinished matches that were met. It allocates nothing.
     pub fn into_matches(self) -> MatchAssumptions<'i>
         ensures remembered { result ≡ self.entry.remembered }
     {
@@ -70,14 +70,14 @@ impl<'i> ValidationContext<'i> {
         ensures found { result ≡ list_any (λ i. i == node.0) (busy_at place.now self.now.in_progress) }
     {
         for pair in self.pairs.iter() {
-            if pair.node == node && pair.place.same(place) {
+            if pair.node == node && pair.place == *place {
                 return true;
             }
         }
         false
     }
 
-    /// Whether the pair is in progress; it is from now on. Nothing changes where memory is wanting.
+    /// Returns `true` if the pair is already in progress; otherwise records it and returns `false`. On `Err` nothing has changed.
     pub fn enter(&mut self, node: SchemaNode, place: &Place<'i>) -> Result<bool, OutOfMemory>
         ensures enters { IfOk result (λ b. Enters node.0 place.now self.old.in_progress b self.new.in_progress) }
         ensures unchanged { IfErr result (λ _. self.new ≡ self.old) }
@@ -87,12 +87,12 @@ impl<'i> ValidationContext<'i> {
         if self.is_in_progress(node, place) {
             return Ok(true);
         }
-        let place = place.copy()?;
+        let place = place.clone()?;
         self.pairs.push(InProgress { node, place })?;
         Ok(false)
     }
 
-    /// Takes the pair away, which is the last. It takes no memory.
+    /// Removes the pair, which must be the last one entered. It allocates nothing.
     pub fn exit(&mut self, node: SchemaNode, place: &Place<'i>)
         requires last { EndsWith node.0 place.now self.old.in_progress }
         ensures left { self.old.in_progress ≡ self.new.in_progress ++ (node.0, place.now) ∷ [] }
@@ -101,8 +101,8 @@ impl<'i> ValidationContext<'i> {
         self.pairs.pop();
     }
 
-    /// Whether the subject matches the pattern. A match that the matcher leaves unfinished comes out as it is assumed to, or
-    /// else as no, and is remembered with its site. Nothing changes where memory is wanting.
+    /// Returns `true` if the subject matches the pattern. A match that the matcher leaves unfinished comes out as it is assumed to, or
+    /// else as no, and is remembered with its site. On `Err` nothing has changed.
     pub fn is_match<M: Matcher>(
         &mut self,
         alloc: Global,
@@ -127,7 +127,7 @@ impl<'i> ValidationContext<'i> {
     }
 
     /// How a match that the matcher left unfinished comes out: as it is assumed to, or else as no. It is remembered with
-    /// its site. Nothing changes where memory is wanting.
+    /// its site. On `Err` nothing has changed.
     pub(crate) fn resolve(
         &mut self,
         pattern: &str,
@@ -148,7 +148,7 @@ impl<'i> ValidationContext<'i> {
         Ok(self.matches.resolve(pattern, subject, reason, site)?)
     }
 
-    /// Whether the text is a pattern of ECMA-262, as the matcher says.
+    /// Returns `true` if the string is a pattern of ECMA-262, as the matcher says.
     pub fn is_valid_ecma_regex<M: Matcher>(
         &self,
         alloc: Global,

@@ -9,7 +9,7 @@ use percent_encoding::percent_encode_byte;
 use schema_reports::location::{Location, OutOfMemory};
 use std::alloc::Global;
 
-/// Whether a byte stands in a URI's fragment as it is (RFC 3986, 3.5), a name's escape aside.
+/// Whether a byte is written in a URI's fragment as it is (RFC 3986, 3.5), a name's escape aside.
 fn stands_plainly(byte: u8) -> bool
     ensures plain { result ≡ stands_plainly byte }
     ensures ascii { result ≡ true → byte < 128 }

@@ -1,4 +1,4 @@
-//! The path that led to a node, which takes no memory until it is asked for.
+//! The path that led to a node, which allocates nothing until it is asked for.
 ghost use Rattle.std.specs.Prelude.{◌≡◌, ◌++◌, IfOk, string_bytes};
 ghost use Rattle.schema_node.specs.EvaluationPaths.{path_of};
 
@@ -40,7 +40,7 @@ impl<'p> EvaluationPath<'p> {
         EvaluationPath::Across(self, added)
     }
 
-    /// The path in memory of its own.
+    /// Returns the path as an owned location. Fails only if memory cannot be allocated.
     pub fn made(&self, alloc: Global) -> Result<Location, OutOfMemory>
         ensures same { IfOk result (λ l. l ≡ path_of self.now) }
     {

@@ -1,4 +1,4 @@
-//! The place at which a node is asked, which takes no memory until it is asked for.
+//! The place at which a node is asked, which allocates nothing until it is asked for.
 ghost use Rattle.std.specs.Prelude.{◌≡◌, ◌++◌, ◌∷◌, [], IfOk};
 ghost use Rattle.schema_reports.specs.InstanceViews.{step_of};
 ghost use Rattle.schema_node.specs.EvaluationPlaces.{steps_to};
@@ -28,7 +28,7 @@ impl<'p, 'i> EvaluationPlace<'p, 'i> {
         EvaluationPlace::Below(self, step)
     }
 
-    // The place one step below, in memory of its own.
+    // The place one step below, as an owned one.
     fn made_below(&self, step: InstanceStep<'i>) -> Result<Place<'i>, OutOfMemory>
         ensures below { IfOk result (λ p. p ≡ steps_to self.now ++ step_of step.entry ∷ []) }
     {
@@ -41,12 +41,12 @@ impl<'p, 'i> EvaluationPlace<'p, 'i> {
         }
     }
 
-    /// The place in memory of its own.
+    /// Returns the place as an owned one. Fails only if memory cannot be allocated.
     pub fn made(&self) -> Result<Place<'i>, OutOfMemory>
         ensures same { IfOk result (λ p. p ≡ steps_to self.now) }
     {
         match self {
-            EvaluationPlace::Given(place) => Ok(place.copy()?),
+            EvaluationPlace::Given(place) => Ok((**place).clone()?),
             EvaluationPlace::Below(above, last) => Ok(above.made_below(*last)?),
         }
     }

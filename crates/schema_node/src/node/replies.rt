@@ -280,7 +280,7 @@ fn false_error<'i, K>(
         alloc,
         question.instance,
         question.place.made()?,
-        node.location.copy()?,
+        node.location.clone()?,
         question.path.made(alloc)?,
         absolute,
     )

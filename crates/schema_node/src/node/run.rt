@@ -411,7 +411,7 @@ fn run_edge<'i, K: Validate, M: Matcher>(
     Ok(reply)
 }
 
-/// What a run begins with: what stands at a place, the path that led there, and what is wanted.
+/// What a run begins with: the instance at a place, the path that led there, and what is wanted.
 #[derive(Clone, Copy)]
 pub struct FirstQuestion<'q, 'i> {
     pub instance: Instance<'i>,
@@ -421,10 +421,10 @@ pub struct FirstQuestion<'q, 'i> {
 }
 
 impl<K: Validate> Nodes<K> {
-    /// Runs a node over what stands at a place, for its verdict, its first error or all errors, with the path that led to
+    /// Runs a node over the instance at a place, for its verdict, its first error or all errors, with the path that led to
     /// it. The reply is of the mode. A match that the matcher leaves unfinished comes out as the context assumes it to, or
-    /// else as no, and the context remembers it. The pairs in progress are as before, unless memory is wanting. Each error
-    /// borrows what stands at its place.
+    /// else as no, and the context remembers it. The pairs in progress are as before, except on `Err`. Each error
+    /// borrows the instance at its place.
     pub fn run<'i, M: Matcher>(
         &self,
         alloc: Global,

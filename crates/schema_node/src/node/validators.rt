@@ -106,7 +106,7 @@ impl<K: Drop> Nodes<K> {
         }
     }
 
-    /// Where a node's schema stands.
+    /// The location of a node's schema.
     pub fn location(&self, node: SchemaNode) -> &Location
         requires known { node.0 < length self.now }
         ensures location { option_map (λ n. n.location) (slice_get self.now node.0) ≡ Some result.now }

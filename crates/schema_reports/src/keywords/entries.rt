@@ -1,7 +1,7 @@
 use crate::keywords::builtin::BuiltinKeyword;
 use crate::keywords::vocabularies::Vocabulary;
 
-/// How a keyword is taken: as it stands, with the meaning that draft 4 gives it, or as an annotation, which asserts
+/// How a keyword is taken: as it is, with the meaning that draft 4 gives it, or as an annotation, which asserts
 /// nothing.
 #[derive(Clone, Copy, Debug, PartialEq, Eq, Hash)]
 pub enum KeywordForm {

@@ -135,20 +135,6 @@ impl VocabularySet {
         Ok(set)
     }
 
-    /// Returns a clone of the set.
-    ///
-    /// # Errors
-    ///
-    /// If memory cannot be allocated.
-    pub fn duplicate(&self) -> Result<VocabularySet, AllocError>
-        ensures same { IfOk result (λ set. set ≡ self.now) }
-    {
-        Ok(VocabularySet {
-            custom: self.custom.clone()?,
-            ..*self
-        })
-    }
-
     /// Returns `true` if both sets have the same vocabularies, and those that are not the standard's in the same order. It
     /// allocates nothing.
     pub fn same(&self, other: &VocabularySet) -> bool
@@ -184,6 +170,18 @@ impl VocabularySet {
         ensures custom { map string_bytes result.now ≡ custom_of self.now }
     {
         &self.custom
+    }
+}
+
+impl Clone for VocabularySet {
+    ghost is_clone = { λ set copy. copy ≡ set };
+
+    /// Returns a clone of the set. Fails only if memory cannot be allocated.
+    fn clone(&self) -> Result<VocabularySet, AllocError> {
+        Ok(VocabularySet {
+            custom: self.custom.clone()?,
+            ..*self
+        })
     }
 }
 

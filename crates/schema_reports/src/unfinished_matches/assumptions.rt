@@ -29,11 +29,11 @@ impl Model for AssumedMatch {
     ghost view = { λ a. record { pair = a.unfinished; outcome = a.matches } };
 }
 
-impl AssumedMatch {
-    fn copy(&self) -> Result<AssumedMatch, OutOfMemory>
-        ensures { IfOk result (λ a. a ≡ self.now) }
-    {
-        let unfinished = self.unfinished.copy()?;
+impl Clone for AssumedMatch {
+    ghost is_clone = { λ a copy. copy ≡ a };
+
+    fn clone(&self) -> Result<AssumedMatch, AllocError> {
+        let unfinished = self.unfinished.clone()?;
         Ok(AssumedMatch {
             unfinished,
             matches: self.matches,
@@ -66,22 +66,11 @@ impl AssumedOutcomes {
         }
     }
 
-    /// The same in memory of its own.
-    pub(super) fn copy(&self, alloc: Global) -> Result<AssumedOutcomes, OutOfMemory>
-        ensures { IfOk result (λ a. a ≡ self.now) }
-    {
-        let mut matches = Vec::new(alloc);
-        for assumed in &self.matches {
-            matches.push(assumed.copy()?)?;
-        }
-        Ok(AssumedOutcomes { matches })
-    }
-
     /// What a run starts from that assumes these outcomes.
     pub(super) fn start<'i>(&self, alloc: Global) -> Result<MatchAssumptions<'i>, OutOfMemory>
         ensures starts { IfOk result (λ m. m ≡ starting self.now) }
     {
-        let assumed = IndexedOutcomes::new(alloc, self.copy(alloc)?)?;
+        let assumed = IndexedOutcomes::new(alloc, self.clone()?)?;
         Ok(MatchAssumptions::assuming(alloc, assumed))
     }
 
@@ -102,6 +91,16 @@ impl AssumedOutcomes {
             Ok(()) => Ok(AssumedOutcomes { matches: list }),
             Err(_) => Err(AllocError),
         }
+    }
+}
+
+impl Clone for AssumedOutcomes {
+    ghost is_clone = { λ a copy. copy ≡ a };
+
+    fn clone(&self) -> Result<AssumedOutcomes, AllocError> {
+        Ok(AssumedOutcomes {
+            matches: self.matches.clone()?,
+        })
     }
 }
 

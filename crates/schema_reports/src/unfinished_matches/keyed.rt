@@ -72,7 +72,7 @@ fn positions(
 fn have_one_pointer(alloc: Global, one: &Place<'_>, other: &Place<'_>) -> Result<bool, OutOfMemory>
     ensures same { IfOk result (λ b. b ≡ bytes_eq (pointer_to one.now) (pointer_to other.now)) }
 {
-    if one.same(other) {
+    if one == other {
         return Ok(true);
     }
     let one = one.pointer(alloc)?;

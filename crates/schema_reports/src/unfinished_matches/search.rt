@@ -35,8 +35,8 @@ fn push_one(
     ensures { IfOk result (λ _. pending.new.items
         ≡ pending.old.items ++ (record { pair = unfinished.now; outcome = matches } ∷ assumed.now) ∷ []) }
 {
-    let unfinished = unfinished.copy()?;
-    pending.push(assumed.copy(alloc)?.with(unfinished, matches)?)?;
+    let unfinished = unfinished.clone()?;
+    pending.push(assumed.clone()?.with(unfinished, matches)?)?;
     Ok(())
 }
 

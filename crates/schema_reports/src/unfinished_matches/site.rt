@@ -19,7 +19,7 @@ use crate::location::{Location, OutOfMemory};
 use crate::reports::ValidationError;
 use crate::text::Text;
 use serde_json::Value;
-use std::alloc::Global;
+use std::alloc::{AllocError, Global};
 use std::marker::Model;
 
 /// Why a match was not finished: a limit was reached, which the text names, or the regex engine failed.
@@ -92,13 +92,14 @@ impl UnfinishedMatch {
     {
         match_hash(self.pattern.as_str(), self.subject.as_str())
     }
+}
 
-    /// The same match in memory of its own.
-    pub(super) fn copy(&self) -> Result<UnfinishedMatch, OutOfMemory>
-        ensures same { IfOk result (λ u. u ≡ self.now) }
-    {
-        let pattern = self.pattern.copy()?;
-        let subject = self.subject.copy()?;
+impl Clone for UnfinishedMatch {
+    ghost is_clone = { λ u copy. copy ≡ u };
+
+    fn clone(&self) -> Result<UnfinishedMatch, AllocError> {
+        let pattern = self.pattern.clone()?;
+        let subject = self.subject.clone()?;
         Ok(UnfinishedMatch { pattern, subject })
     }
 }
@@ -160,55 +161,12 @@ impl<'i> MatchSite<'i> {
     }
 }
 
-fn copied_pattern(pattern: &Option<Text>) -> Result<Option<Text>, OutOfMemory>
-    ensures { IfOk result (λ p. p ≡ pattern.now) }
-{
-    match pattern {
-        None => Ok(None),
-        Some(pattern) => Ok(Some(pattern.copy()?)),
-    }
-}
-
-fn copied_place<'i>(
-    located: &Option<(Location, Place<'i>)>,
-) -> Result<Option<(Location, Place<'i>)>, OutOfMemory>
-    ensures { IfOk result (λ l. l ≡ located.now) }
-{
-    match located {
-        None => Ok(None),
-        Some(located) => {
-            let evaluation_path = located.0.copy()?;
-            match located.1.copy() {
-                Ok(place) => Ok(Some((evaluation_path, place))),
-                Err(error) => {
-                    drop(evaluation_path);
-                    Err(error)
-                }
-            }
-        }
-    }
-}
-
 impl<'i> MatchSite<'i> {
     /// Whether it has an instance path.
     pub(super) fn has_place(&self) -> bool
         ensures { result ≡ is_some self.now.located }
     {
         self.located.is_some()
-    }
-
-    /// The same site in memory of its own.
-    pub(super) fn copy(&self) -> Result<MatchSite<'i>, OutOfMemory>
-        ensures same { IfOk result (λ s. s ≡ self.now) }
-    {
-        let schema_path = self.schema_path.copy()?;
-        let pattern = copied_pattern(&self.pattern)?;
-        let located = copied_place(&self.located)?;
-        Ok(MatchSite {
-            schema_path,
-            located,
-            pattern,
-        })
     }
 
     // Takes over the other site, and keeps its pattern where the other has none.
@@ -220,6 +178,22 @@ impl<'i> MatchSite<'i> {
             other.pattern = self.pattern.take();
         }
         *self = other;
+    }
+}
+
+impl<'i> Clone for MatchSite<'i> {
+    ghost is_clone = { λ s copy. copy ≡ s };
+
+    /// Returns a clone of the site. Fails only if memory cannot be allocated.
+    fn clone(&self) -> Result<MatchSite<'i>, AllocError> {
+        let schema_path = self.schema_path.clone()?;
+        let pattern = self.pattern.clone()?;
+        let located = self.located.clone()?;
+        Ok(MatchSite {
+            schema_path,
+            located,
+            pattern,
+        })
     }
 }
 
@@ -249,7 +223,7 @@ impl<'i> LocatedMatch<'i> {
         ensures { IfOk result (λ l. l ≡ record { pair = record { pattern = pattern.now; subject = subject.now }; site = site.now }) }
     {
         let unfinished = UnfinishedMatch::new(alloc, pattern, subject)?;
-        let site = site.copy()?;
+        let site = site.clone()?;
         Ok(LocatedMatch { unfinished, site })
     }
 
@@ -354,7 +328,7 @@ fn place_or_root<'i>(
     match located {
         Some(located) => Ok(located),
         None => {
-            let evaluation_path = schema_path.copy()?;
+            let evaluation_path = schema_path.clone()?;
             Ok((evaluation_path, Place::root(alloc)))
         }
     }
@@ -419,7 +393,7 @@ fn error_at<'i>(
 }
 
 impl<'i> MatchFailure<'i> {
-    /// The failure as an error, whose instance is what stands at its place.
+    /// The failure as an error, whose instance is the one at its place.
     pub(super) fn into_error(
         self,
         alloc: Global,

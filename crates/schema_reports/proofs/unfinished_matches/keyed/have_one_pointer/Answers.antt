@@ -4,8 +4,8 @@ use Rattle.schema_reports.specs.Pointer.{pointer_to}
 use Rattle.schema_reports.proofs.SameRun.{place_is}
 use Rattle.schema_reports.proofs.unfinished_matches.keyed.have_one_pointer.Goals as goal
 
-pub returns-then-same : goal.returns-then-same
-returns-then-same c =
-    let found : c.same.result ≡ true = c.if-same.true in
-    let place = place_is c.args.one.now c.args.other.now (sym c.same.ensures.same ∙ found) in
+pub returns-then-eq : goal.returns-then-eq
+returns-then-eq c =
+    let found : c.eq.result ≡ true = c.if-eq.true in
+    let place = place_is c.args.one.now c.args.other.now (sym c.eq.ensures ∙ found) in
     record { same = sym ((bytes_eq-Decides (pointer_to c.args.one.now) (pointer_to c.args.other.now)).1 (ap pointer_to place)) }

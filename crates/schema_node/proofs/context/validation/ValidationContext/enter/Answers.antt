@@ -10,7 +10,7 @@ pairs_of e = ap (λ (x : Context). x.in_progress) e
 
 after : (c : In_ok-push) → map pair_of c.push.new.self.items ≡ c.args.self.now.in_progress ++ (c.args.node.0, c.args.place.now) ∷ []
 after c =
-    pushed_pairs c.self.inside.pairs.items c.push.new.self.items (record { node = c.args.node; place = c.in_ok-place.place }) c.args.place.now c.in_ok-push.ensures.items c.in_ok-place.ensures.same
+    pushed_pairs c.self.inside.pairs.items c.push.new.self.items (record { node = c.args.node; place = c.in_ok-place.place }) c.args.place.now c.in_ok-push.ensures.items c.in_ok-place.ensures.cases
     ∙ ap (λ (r : Pairs). r ++ (c.args.node.0, c.args.place.now) ∷ []) (pairs_of c.self.view_is)
 
 distinct : (c : In_ok-push) → Distinct (map pair_of c.push.new.self.items)

@@ -1,7 +1,7 @@
 use Rattle.std.specs.Prelude.{map, string_bytes, ◌≡◌}
 use Rattle.schema_reports.proofs.ClonedTexts.{cloned_texts}
-use Rattle.schema_reports.proofs.keywords.vocabularies.VocabularySet.duplicate.Goals as goal
+use Rattle.schema_reports.proofs.keywords.vocabularies.VocabularySetClone.clone.Goals as goal
 
 pub returns : goal.returns
 returns c = let texts : map string_bytes c.in_ok-clone.field-0.items ≡ map string_bytes c.self.inside.custom.items = cloned_texts c.self.inside.custom.items c.in_ok-clone.field-0.items c.in_ok-clone.ensures.cases.0 in
-    record { same = rw texts c.self.view_is }
+    record { cases = rw texts c.self.view_is }
