@@ -38,6 +38,7 @@ use schema_node::context::resolver::Resolver;
 use schema_node::context::schema_place::SchemaPath;
 use schema_node::context::table::{KeywordTable, MakerReply, MakerStep};
 use schema_node::node::{Edge, Entry, EntryForm, NodeForm, Nodes};
+use schema_reports::keywords::priorities::{CUSTOM_PRIORITY, REF_PRIORITY};
 use schema_reports::location::{Location, LocationSegment};
 use serde_json::{Map, Value};
 use std::alloc::Global;
@@ -57,12 +58,6 @@ mod targets;
 pub(crate) mod text;
 mod values;
 mod vocabularies;
-
-/// The priority of `$ref` in the table of built-in keywords, which one that is taken alone has too.
-const REF_PRIORITY: u8 = 70;
-
-/// The priority of a keyword that the keyword table owns: after each built-in one.
-const OWN_PRIORITY: u8 = 80;
 
 /// Compiles the schema of a key and every schema that it reaches through subschemas and references. Returns their keys and
 /// nodes, one number for each key, the given key's being 0. A matcher, the runs of keywords, and the options' draft and base
@@ -319,7 +314,7 @@ impl<'p, R: Resolver, T> Given<'p, R, T> {
     {
         let text = name.as_str();
         if self.table.owns(text) {
-            return self.made_entry(compiled, key, members, true, name, OWN_PRIORITY, false);
+            return self.made_entry(compiled, key, members, true, name, CUSTOM_PRIORITY, false);
         }
         let context = Context {
             options: self.options,

@@ -1,20 +1,12 @@
 //! Identifiers of schemas.
 ghost use Rattle.std.specs.Prelude.{◌≡◌, option_map};
 ghost use Rattle.serde_json.specs.View.{view};
-ghost use Rattle.schema_reports.specs.Drafts.{ref_stands_alone};
 ghost use Rattle.schema_reports.specs.KeywordViews.{draft_of};
 ghost use Rattle.bench_parts.specs.BenchResolving.{identifier, identifier_name, unless_fragment, without_fragment};
 
 use crate::resolver::drafts::text_member;
 use schema_reports::keywords::Draft;
 use serde_json::Value;
-
-/// Whether the draft ignores the other keywords beside a reference.
-fn ref_stands_alone(draft: Draft) -> bool
-    ensures alone { result ≡ ref_stands_alone (draft_of draft) }
-{
-    matches!(draft, Draft::Draft4 | Draft::Draft6 | Draft::Draft7)
-}
 
 /// The name of the keyword that identifies a schema.
 fn identifier_name(draft: Draft) -> &'static str
@@ -47,7 +39,7 @@ fn unless_fragment<'v>(text: Option<&'v str>) -> Option<&'v str>
 pub fn identifier<'v>(draft: Draft, value: &'v Value) -> Option<&'v str>
     ensures identifier { option_map (λ t. t.now) result ≡ identifier (draft_of draft) (view value.now) }
 {
-    if ref_stands_alone(draft) && value.get("$ref").is_some() {
+    if draft.is_before_2019_09() && value.get("$ref").is_some() {
         return None;
     }
     unless_fragment(text_member(value, identifier_name(draft)))

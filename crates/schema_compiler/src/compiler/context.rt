@@ -71,7 +71,7 @@ impl<'c, S> Context<'c, S> {
     pub fn supports_adjacent_validation(&self) -> bool
         ensures beside { result ≡ not (ref_stands_alone (draft_of self.now.key.now.draft)) }
     {
-        !stands_alone(self.key.draft)
+        !self.key.draft.is_before_2019_09()
     }
 
     /// The value of the `$ref` that is taken alone in an object.
@@ -115,21 +115,7 @@ impl<'c, S> Context<'c, S> {
     {
         match self.options.formats {
             Some(checked) => checked,
-            None => stands_alone(self.key.draft) || self.asserts_formats_by_dialect(),
+            None => self.key.draft.is_before_2019_09() || self.asserts_formats_by_dialect(),
         }
-    }
-}
-
-// Whether `$ref` stands alone in a draft: in drafts 4 to 7, which check formats by default.
-fn stands_alone(draft: Draft) -> bool
-    ensures alone { result ≡ ref_stands_alone (draft_of draft) }
-{
-    match draft {
-        Draft::Draft4 => true,
-        Draft::Draft6 => true,
-        Draft::Draft7 => true,
-        Draft::Draft201909 => false,
-        Draft::Draft202012 => false,
-        Draft::Unknown => false,
     }
 }

@@ -51,19 +51,9 @@ pub fn builtin_row(draft: Draft, vocabularies: &VocabularySet, name: &str) -> Op
 pub fn has_vocabulary(draft: Draft, vocabularies: &VocabularySet, vocabulary: &Vocabulary) -> bool
     ensures in_force { result ≡ is_in_force (draft_of draft) vocabularies.now (vocabulary_of vocabulary.now) }
 {
-    is_before_2019_09(draft)
+    draft.is_before_2019_09()
         || matches!(vocabulary, Vocabulary::Core)
         || vocabularies.contains(vocabulary)
-}
-
-// Whether a draft has no vocabularies: those before 2019-09.
-fn is_before_2019_09(draft: Draft) -> bool
-    ensures before { result ≡ is_before_2019_09 (draft_of draft) }
-{
-    match draft {
-        Draft::Draft4 | Draft::Draft6 | Draft::Draft7 => true,
-        Draft::Draft201909 | Draft::Draft202012 | Draft::Unknown => false,
-    }
 }
 
 // What a keyword needs that no draft before 2019-09 has.
@@ -71,7 +61,7 @@ fn since_2019_09(draft: Draft, support: Option<Support>) -> Option<Support>
     ensures since { option_map support_seen result
         ≡ (if is_before_2019_09 (draft_of draft) then None else option_map support_seen support) }
 {
-    if is_before_2019_09(draft) {
+    if draft.is_before_2019_09() {
         None
     } else {
         support

@@ -6,6 +6,12 @@ ghost use Rattle.schema_reports.specs.KeywordViews.{builtin_text, keyword_seen};
 use crate::keywords::builtin::{BUILTIN_KEYWORDS, BuiltinKeyword};
 use crate::keywords::keyword::Keyword;
 
+/// The priority of `$ref`, the first of the references.
+pub const REF_PRIORITY: u8 = 70;
+
+/// The priority of a keyword that is not the standard's: after each built-in one.
+pub const CUSTOM_PRIORITY: u8 = 80;
+
 /// Returns the keyword's priority; a smaller one is evaluated earlier. Cheap assertions come first, then keywords that apply
 /// subschemas, then references, and the user's keywords last.
 pub fn keyword_priority(keyword: &Keyword) -> u8
@@ -13,7 +19,7 @@ pub fn keyword_priority(keyword: &Keyword) -> u8
 {
     match keyword {
         Keyword::Builtin(keyword) => builtin_priority(*keyword),
-        Keyword::Custom(_) => 80,
+        Keyword::Custom(_) => CUSTOM_PRIORITY,
     }
 }
 
@@ -70,7 +76,7 @@ fn builtin_priority(keyword: BuiltinKeyword) -> u8
         BuiltinKeyword::If => 54,
         BuiltinKeyword::UnevaluatedProperties => 60,
         BuiltinKeyword::UnevaluatedItems => 61,
-        BuiltinKeyword::Ref => 70,
+        BuiltinKeyword::Ref => REF_PRIORITY,
         BuiltinKeyword::RecursiveRef => 71,
         BuiltinKeyword::DynamicRef => 72,
     }
