@@ -1,3 +1,4 @@
 pub mod PropertyCounts
 pub mod MissingNames
 pub mod Unmarked
+pub mod NamesAsked

@@ -1,54 +1,221 @@
 -- The keywords keep the laws.
-use Rattle.std.proofs.Common.{◌≡◌, List, Bool, false, Option, Some, None, refl, arith, min, ◌+◌, ◌-◌}
-use Rattle.std.specs.Prelude.{All, option_map}
-use Rattle.std.proofs.lemmas.List.Elements.{All-append, All-nil, All-cons}
-use Rattle.schema_reports.specs.Instance.{Subject, Text}
-use Rattle.schema_reports.specs.Keywords.{Answer}
-use Rattle.schema_reports.specs.Laws.{IsPresent, steps_below}
-use Rattle.schema_reports.specs.Turns.{FunctionLaws, Standing, TurnLaws}
+use Rattle.std.proofs.Common.{◌≡◌, ◌∙◌, ◌<◌, ◌∷◌, ℕ, zero, List, [], Bool, true, false, Option, Some, None, refl, sym, ap, subst, arith, min, ◌+◌, ◌-◌, is_some, map}
+use Rattle.std.specs.Prelude.{All, Contains, bytes_eq, if◌then◌else◌, option_map}
+use Rattle.std.proofs.lemmas.List.{length-map}
+use Rattle.std.proofs.lemmas.List.Elements.{All-append, All-nil, All-cons, All-contains, All-head, All-tail, Contains-append_right}
+use Rattle.std.proofs.lemmas.Slice.Eq.{bytes_eq-Decides}
+use Rattle.serde_json.specs.Data.{Members, member, no_members}
+use Rattle.serde_json.specs.Find.{as_object}
+use Rattle.schema_reports.specs.Instance.{Subject, Text, a_name, a_value, member_of}
+use Rattle.schema_reports.specs.Keywords.{Answer, Answers, Marked, Mode, Question, Turn, ask, done, ecma, for_all, for_first, for_units, for_verdict, mark, match_text, unmark}
+use Rattle.schema_reports.specs.Laws.{AsksRightly, IsPresent, IsRight, answer_in, first_fault, steps_below}
+use Rattle.schema_reports.specs.Matching.{Matching}
+use Rattle.schema_reports.specs.Reports.{Unit_}
+use Rattle.schema_reports.specs.Turns.{FunctionLaws, Standing, TurnLaws, next, reply_to, step_at}
 use Rattle.schema_node.specs.KeywordViews.{option_list}
 use Rattle.keyword_ways.specs.declared.run.Progress.{Progress}
 use Rattle.keyword_ways.specs.Items.{child_at_item, child_here, first_at_item, item_count}
-use Rattle.keyword_ways.specs.Places.{branch_present, each_present, item_present, names_present, some_members_present}
+use Rattle.keyword_ways.specs.Members.{at_name, names_in, names_of_any, only_if, subject_names}
+use Rattle.keyword_ways.specs.Places.{branch_present, each_named, each_present, item_present, names_present, some_members_present}
+use Rattle.keyword_ways.specs.Somes.{somes}
 use Rattle.keyword_ways.specs.WayLaws.{AllPresent, SameQuestions, function_laws, turn_laws}
-use Rattle.keyword_ways.specs.WayWords.{nothing_absorbed, run_ends, run_fits}
-use Rattle.keyword_ways.specs.Ways.{places, questions}
+use Rattle.keyword_ways.specs.WayRuns.{fits_at}
+use Rattle.keyword_ways.specs.WayWords.{left_at_most, nothing_absorbed, run_ends, run_fits, run_replies, words_of}
+use Rattle.keyword_ways.specs.Ways.{Way, passes_on, passes_some, places, questions, way_faults, way_holds, way_turn, way_units}
+use Rattle.bench_keywords.specs.declared.names.NamesRun.{NamesRun}
 use Rattle.bench_keywords.specs.BenchShape.{BenchShape, has_all_of, has_any_of, has_count, has_if, has_items, has_not, has_one_of, has_pattern, has_prefix_items, has_properties, has_property_names, has_type, has_types, requires}
 use Rattle.bench_keywords.specs.Counts.{subject_string}
-use Rattle.bench_keywords.specs.Words.{pattern_way, turns_left, way, words}
+use Rattle.bench_keywords.specs.Words.{ends_in, fits_in, has_name, held_way, is_named, name_asked, names_held, pattern_way, run_way, seen, turns_left, way, words}
 
+-- they absorb no other keyword
 abbrev pub none_absorbed : BenchShape → List Text
-none_absorbed = nothing_absorbed way
-
-abbrev pub ends_in : Bool → BenchShape → Standing (Progress × Answer) → Answer
-ends_in = run_ends way
-
-abbrev pub fits_in : Bool → BenchShape → Standing (Progress × Answer) → Type 0
-fits_in = run_fits way
+none_absorbed m = []
 
 same_asked : (texts : Bool) (pattern : Text) (s : Subject) (o : Option Text)
     → (questions (pattern_way texts pattern s o) ≡ questions (pattern_way false pattern s o)) × (places (pattern_way texts pattern s o) ≡ places (pattern_way false pattern s o))
 same_asked texts pattern s None = (refl, refl)
 same_asked texts pattern s (Some text) = (refl, refl)
 
-same_questions : SameQuestions way
-same_questions texts (has_type t) s = (refl, refl)
-same_questions texts (has_types ts) s = (refl, refl)
-same_questions texts (requires ks) s = (refl, refl)
-same_questions texts (has_properties ks) s = (refl, refl)
-same_questions texts (has_count kind n) s = (refl, refl)
-same_questions texts (has_pattern pattern) s = same_asked texts pattern s (subject_string s)
-same_questions texts (has_all_of n) s = (refl, refl)
-same_questions texts (has_prefix_items n) s = (refl, refl)
-same_questions texts (has_items n) s = (refl, refl)
-same_questions texts (has_any_of n) s = (refl, refl)
-same_questions texts (has_one_of n) s = (refl, refl)
-same_questions texts (has_if one other) s = (refl, refl)
-same_questions texts has_property_names s = (refl, refl)
-same_questions texts (has_not schema fraction) s = (refl, refl)
+-- ---- names that are held
+
+-- a name that a member has is asked
+named_asked : (k : Text) (ms : Members) → is_some (member_of k ms) ≡ true → Contains (map at_name (names_in ms)) (at_name k)
+named_asked k no_members h = cc
+named_asked k (member l d ms) h = at (bytes_eq k l) refl h (named_asked k ms)
+  where
+    at : (b : Bool) → bytes_eq k l ≡ b → is_some (if b then Some d else member_of k ms) ≡ true
+        → (is_some (member_of k ms) ≡ true → Contains (map at_name (names_in ms)) (at_name k)) → Contains (map at_name (names_in (member l d ms))) (at_name k)
+    at true e h later = (zero, omega arith, ap at_name (sym ((bytes_eq-Decides k l).0 e)))
+    at false e h later = Contains-append_right (at_name l ∷ []) (map at_name (names_in ms)) (at_name k) (later h)
+
+any_asked : (k : Text) (o : Option Members) → is_named k o ≡ true → Contains (map at_name (names_of_any o)) (at_name k)
+any_asked k None h = cc
+any_asked k (Some ms) h = named_asked k ms h
+
+has_asked : (k : Text) (s : Subject) → has_name k s ≡ true → Contains (map at_name (subject_names s)) (at_name k)
+has_asked k (a_name n) h = cc
+has_asked k (a_value d) h = any_asked k (as_object d) h
+
+-- whatever names are held, those that are asked are names of members
+asked_known : (s : Subject) (ks : List Text) → All (Contains (map at_name (subject_names s))) (somes (map (name_asked s) ks))
+asked_known s [] = All-nil _
+asked_known s (k ∷ ks) = at (has_name k s) refl (asked_known s ks)
+  where
+    at : (b : Bool) → has_name k s ≡ b → All (Contains (map at_name (subject_names s))) (somes (map (name_asked s) ks))
+        → All (Contains (map at_name (subject_names s))) (somes (only_if b (at_name k) ∷ map (name_asked s) ks))
+    at true e later = All-cons (Contains (map at_name (subject_names s))) (at_name k) (somes (map (name_asked s) ks)) (has_asked k s e) later
+    at false e later = later
+
+-- names of members are all asked
+all_asked : (s : Subject) (ks : List Text) → All (λ k. has_name k s ≡ true) ks → somes (map (name_asked s) ks) ≡ map at_name ks
+all_asked s [] h = refl
+all_asked s (k ∷ ks) h = ap (λ b. somes (only_if b (at_name k) ∷ map (name_asked s) ks)) (All-head (λ k. has_name k s ≡ true) k ks h)
+    ∙ ap (λ qs. at_name k ∷ qs) (all_asked s ks (All-tail (λ k. has_name k s ≡ true) k ks h))
+
+any_named : (o : Option Members) → All (λ k. is_named k o ≡ true) (names_of_any o)
+any_named None = All-nil _
+any_named (Some ms) = each_named ms
+
+all_named : (s : Subject) → All (λ k. has_name k s ≡ true) (subject_names s)
+all_named (a_name n) = All-nil _
+all_named (a_value d) = any_named (as_object d)
+
+asks_names : (s : Subject) → somes (map (name_asked s) (subject_names s)) ≡ map at_name (subject_names s)
+asks_names s = all_asked s (subject_names s) (all_named s)
+
+-- ---- the laws of the runs
+
+same_held : SameQuestions run_way
+same_held texts (has_type t, ks) s = (refl, refl)
+same_held texts (has_types ts, ks) s = (refl, refl)
+same_held texts (requires ns, ks) s = (refl, refl)
+same_held texts (has_properties ns, ks) s = (refl, refl)
+same_held texts (has_count kind n, ks) s = (refl, refl)
+same_held texts (has_pattern pattern, ks) s = same_asked texts pattern s (subject_string s)
+same_held texts (has_all_of n, ks) s = (refl, refl)
+same_held texts (has_prefix_items n, ks) s = (refl, refl)
+same_held texts (has_items n, ks) s = (refl, refl)
+same_held texts (has_any_of n, ks) s = (refl, refl)
+same_held texts (has_one_of n, ks) s = (refl, refl)
+same_held texts (has_if one other, ks) s = (refl, refl)
+same_held texts (has_property_names, ks) s = (refl, refl)
+same_held texts (has_not schema fraction, ks) s = (refl, refl)
+
+-- a keyword whose runs hold no names that count
+abbrev pub HoldsNothing : BenchShape → Type 0
+HoldsNothing m = (texts : Bool) (ks : List Text) (s : Subject) → held_way texts ks m s ≡ way texts m s
+
+-- it is the one that asks at names, or one whose runs hold none
+by_names : (P : BenchShape → Type 0) → P has_property_names → ((m : BenchShape) → HoldsNothing m → P m) → (m : BenchShape) → P m
+by_names P names other (has_type t) = other (has_type t) (λ texts ks s. refl)
+by_names P names other (has_types ts) = other (has_types ts) (λ texts ks s. refl)
+by_names P names other (requires ns) = other (requires ns) (λ texts ks s. refl)
+by_names P names other (has_properties ns) = other (has_properties ns) (λ texts ks s. refl)
+by_names P names other (has_count kind n) = other (has_count kind n) (λ texts ks s. refl)
+by_names P names other (has_pattern pattern) = other (has_pattern pattern) (λ texts ks s. refl)
+by_names P names other (has_all_of n) = other (has_all_of n) (λ texts ks s. refl)
+by_names P names other (has_prefix_items n) = other (has_prefix_items n) (λ texts ks s. refl)
+by_names P names other (has_items n) = other (has_items n) (λ texts ks s. refl)
+by_names P names other (has_any_of n) = other (has_any_of n) (λ texts ks s. refl)
+by_names P names other (has_one_of n) = other (has_one_of n) (λ texts ks s. refl)
+by_names P names other (has_if one other') = other (has_if one other') (λ texts ks s. refl)
+by_names P names other has_property_names = names
+by_names P names other (has_not schema fraction) = other (has_not schema fraction) (λ texts ks s. refl)
+
+-- what a run asks is what the keyword may ask
+may_ask_held : (texts : Bool) (m : BenchShape) (ks : List Text) (s : Subject) (q : Question) → Contains (questions (held_way texts ks m s)) q → Contains (questions (way texts m s)) q
+may_ask_held texts m ks s q = by_names (λ m. Contains (questions (held_way texts ks m s)) q → Contains (questions (way texts m s)) q)
+    (λ h. All-contains (Contains (map at_name (subject_names s))) (somes (map (name_asked s) ks)) q (asked_known s ks) h)
+    (λ m same. subst (λ w. Contains (questions w) q) (same texts ks s)) m
+
+-- two ways of one meaning
+record MeansSame (v w : Way) : Type 0 where
+  places_same : places v ≡ places w
+  holds_same : (matches : Matching) (accepts : Question → Bool) → way_holds v matches accepts ≡ way_holds w matches accepts
+  faults_same : (matches : Matching) (a : Answers) → way_faults v matches a ≡ way_faults w matches a
+  units_same : (matches : Matching) (u : Question → Unit_) → way_units v matches u ≡ way_units w matches u
+
+means_itself : (v w : Way) → v ≡ w → MeansSame v w
+means_itself v w e = record {
+  places_same = ap places e;
+  holds_same = λ matches accepts. ap (λ x. way_holds x matches accepts) e;
+  faults_same = λ matches a. ap (λ x. way_faults x matches a) e;
+  units_same = λ matches u. ap (λ x. way_units x matches u) e;
+}
+
+names_mean : (s : Subject) → MeansSame (passes_some (map (name_asked s) (subject_names s))) (passes_on (map at_name (subject_names s)))
+names_mean s = record {
+  places_same = length-map (subject_names s) (name_asked s) ∙ sym (length-map (subject_names s) at_name);
+  holds_same = λ matches accepts. ap (λ qs. way_holds (passes_on qs) matches accepts) (asks_names s);
+  faults_same = λ matches a. ap (λ qs. way_faults (passes_on qs) matches a) (asks_names s);
+  units_same = λ matches u. ap (λ qs. way_units (passes_on qs) matches u) (asks_names s);
+}
+
+-- as a run begins, it goes about the instance as the keyword means it
+begins_meant : (texts : Bool) (m : BenchShape) (s : Subject) → MeansSame (held_way texts (names_held m s) m s) (way texts m s)
+begins_meant texts m s = by_names (λ m. MeansSame (held_way texts (names_held m s) m s) (way texts m s))
+    (names_mean s)
+    (λ m same. means_itself (held_way texts (names_held m s) m s) (way texts m s) (same texts (names_held m s) s)) m
+
+asks_right : (texts : Bool) (m : BenchShape) (ks : List Text) (s : Subject) (t : Turn) → AsksRightly (words_of run_way texts) (m, ks) s [] t → AsksRightly (words texts) m s [] t
+asks_right texts m ks s (ask q mode') h = may_ask_held texts m ks s q h
+asks_right texts m ks s (match_text a point) h = h
+asks_right texts m ks s (mark i) h = tt
+asks_right texts m ks s unmark h = tt
+asks_right texts m ks s (ecma text) h = tt
+asks_right texts m ks s done h = tt
+
+is_right : (texts : Bool) (m : BenchShape) (s : Subject) (matches : Matching) (a : Answers) (u : Question → Unit_) (same : Marked → Marked → Bool) (mode' : Mode) (answer : Answer)
+    → IsRight (words_of run_way texts) (m, names_held m s) s matches a u same mode' answer → IsRight (words texts) m s matches a u same mode' answer
+is_right texts m s matches a u same for_verdict answer h = h ∙ (begins_meant texts m s).holds_same matches (λ q. (a q).verdict)
+is_right texts m s matches a u same for_first answer h = h ∙ ap first_fault ((begins_meant texts m s).faults_same matches a)
+is_right texts m s matches a u same for_all answer h = h ∙ (begins_meant texts m s).faults_same matches a
+is_right texts m s matches a u same for_units answer h = (h.0 ∙ (begins_meant texts m s).units_same matches u, h.1 ∙ (begins_meant texts m s).holds_same matches (λ q. (a q).verdict))
+
+same_answer : (texts : Bool) (m : BenchShape) (ks : List Text) (x : Standing (NamesRun × Answer)) (mode' : Mode) (q : Question)
+    → answer_in (words_of run_way texts) (m, ks) x.subject x.matches x.answers x.unit_at x.same mode' q ≡ answer_in (words texts) m x.subject x.matches x.answers x.unit_at x.same mode' q
+same_answer texts m ks x for_verdict q = refl
+same_answer texts m ks x for_first q = refl
+same_answer texts m ks x for_all q = refl
+same_answer texts m ks x for_units q = refl
+
+-- what answers a turn is the same
+same_reply : (texts : Bool) (m : BenchShape) (ks : List Text) (x : Standing (NamesRun × Answer)) (t : Turn)
+    → reply_to (words_of run_way texts) (m, ks) x.subject x.matches x.answers x.unit_at x.same x.marks t ≡ reply_to (words texts) m x.subject x.matches x.answers x.unit_at x.same x.marks t
+same_reply texts m ks x (ask q mode') = same_answer texts m ks x mode' q
+same_reply texts m ks x (match_text a point) = refl
+same_reply texts m ks x (mark i) = refl
+same_reply texts m ks x unmark = refl
+same_reply texts m ks x (ecma text) = refl
+same_reply texts m ks x done = refl
+
+-- the laws of the runs that hold these names
+held_laws : (texts : Bool) (m : BenchShape) (ks : List Text)
+    → TurnLaws (words_of run_way texts) (m, ks) (nothing_absorbed run_way (m, ks)) (left_at_most run_way (m, ks)) (run_ends run_way texts (m, ks)) (run_fits run_way texts (m, ks))
+held_laws texts m ks = turn_laws run_way same_held texts (m, ks)
+
+fewer : (a b c : ℕ) → b ≡ c → a < b + 2 → a < c + 2
+fewer a b c e h = omega arith
+
+keeps : (texts : Bool) (m : BenchShape) (x : Standing (NamesRun × Answer)) → fits_in texts m x → (step_at (words texts) m x ≡ done → ⊥)
+    → fits_in texts m (next (words texts) m x) × (ends_in texts m (next (words texts) m x) ≡ ends_in texts m x)
+keeps texts m x fits h =
+    let kept = (held_laws texts m x.state.0.names).keeps (seen x) fits h in
+    let w : Way = run_way texts (m, x.state.0.names) x.subject in
+    let after : Progress × Answer = way_turn w (x.state.0.progress, x.state.1) x.reply in
+    (subst (λ r. fits_at w (run_replies (seen x)) after.0.mode after.0.stage r) (same_reply texts m x.state.0.names x (step_at (words texts) m x)) kept.0, kept.1)
 
 pub turns_keep : (texts : Bool) (m : BenchShape) → TurnLaws (words texts) m (none_absorbed m) (turns_left m) (ends_in texts m) (fits_in texts m)
-turns_keep = turn_laws way same_questions
+turns_keep texts m = record {
+  bounded = λ s mode'. fewer _ _ _ (begins_meant texts m s).places_same ((held_laws texts m (names_held m s)).bounded s mode');
+  falls = λ s r reply. (held_laws texts m r.0.names).falls s (r.0.progress, r.1) reply;
+  asks = λ s r reply. asks_right texts m r.0.names s ((words texts).step m s r reply) ((held_laws texts m r.0.names).asks s (r.0.progress, r.1) reply);
+  begins = λ s mode' matches a u same agrees valid.
+      let begun = (held_laws texts m (names_held m s)).begins s mode' matches a u same agrees valid in
+      (begun.0, is_right texts m s matches a u same mode' _ begun.1);
+  keeps = keeps texts m;
+  stands = λ x fits h. (held_laws texts m x.state.0.names).stands (seen x) fits h;
+}
 
 pattern_present : (texts : Bool) (pattern : Text) (s : Subject) (o : Option Text) → All (λ q. IsPresent s (steps_below q.below)) (questions (pattern_way texts pattern s o))
 pattern_present texts pattern s None = All-nil _
@@ -72,4 +239,12 @@ present texts has_property_names s = names_present s
 present texts (has_not schema fraction) s = each_present child_here s 0 1 (λ k h. refl)
 
 pub functions_keep : (texts : Bool) (m : BenchShape) → FunctionLaws (words texts) m (none_absorbed m)
-functions_keep = function_laws way present
+functions_keep texts m = let laws : FunctionLaws (words_of way texts) m (nothing_absorbed way m) = function_laws way present texts m in record {
+  present = laws.present;
+  agree = laws.agree;
+  holds_reads = laws.holds_reads;
+  faults_read = laws.faults_read;
+  units_read = laws.units_read;
+  stands = laws.stands;
+  passes = laws.passes;
+}

@@ -1,20 +1,25 @@
 -- What each keyword says of an instance.
 use Rattle.std.specs.List.{list_any}
-use Rattle.std.specs.Prelude.{Bool, List, None, Option, Some, [], codes, false, filter, map, min, not, option_map, suc, true, zero, ℕ, ◌++◌, ◌-◌, ◌&&◌, ◌∷◌}
-use Rattle.schema_reports.specs.Instance.{Subject, Text, a_name}
+use Rattle.std.specs.Prelude.{Bool, List, None, Option, Some, [], codes, false, filter, is_some, map, min, not, option_map, suc, true, zero, ℕ, ◌++◌, ◌-◌, ◌&&◌, ◌∷◌}
+use Rattle.serde_json.specs.Data.{Members}
+use Rattle.serde_json.specs.Find.{as_object}
+use Rattle.schema_reports.specs.Instance.{Subject, Text, a_name, a_value, member_of}
 use Rattle.schema_reports.specs.ReportViews.{spoken}
-use Rattle.schema_reports.specs.Keywords.{Answer, Keywords}
+use Rattle.schema_reports.specs.Keywords.{Answer, Keywords, Question, Reply}
+use Rattle.schema_reports.specs.Turns.{Standing}
+use Rattle.schema_node.specs.KeywordViews.{fresh}
 use Rattle.schema_reports.specs.Meaning.{subject_text}
+use Rattle.bench_keywords.specs.declared.names.NamesRun.{NamesRun}
 use Rattle.bench_keywords.specs.declared.type_names.TypeName.{TypeName}
 use Rattle.keyword_ways.specs.declared.run.Progress.{Progress}
 use Rattle.bench_keywords.specs.TypeNames.{fits, type_name}
-use Rattle.keyword_ways.specs.Members.{at_name, has_member, is_object, members_from, subject_names}
+use Rattle.keyword_ways.specs.Members.{at_name, has_member, is_object, members_from, only_if, subject_names}
 use Rattle.bench_keywords.specs.BenchShape.{BenchShape, has_all_of, has_any_of, has_count, has_if, has_items, has_not, has_one_of, has_pattern, has_prefix_items, has_properties, has_property_names, has_type, has_types, requires}
 use Rattle.bench_keywords.specs.Counts.{count_fits, count_name, count_text, subject_string}
 use Rattle.keyword_ways.specs.Items.{child_at_item, child_here, each_from, first_at_item, item_count}
 use Rattle.keyword_ways.specs.Tallies.{Tally}
-use Rattle.keyword_ways.specs.Ways.{Way, asks_match, branches, judges, passes_on, passes_some, tells, unless}
-use Rattle.keyword_ways.specs.WayWords.{left_at_most, words_of}
+use Rattle.keyword_ways.specs.Ways.{Way, asks_match, branches, judges, passes_on, passes_some, questions, tells, unless, way_begin, way_faults, way_holds, way_step, way_turn, way_turns, way_units}
+use Rattle.keyword_ways.specs.WayWords.{left_at_most, run_ends, run_fits}
 
 -- ---- type
 
@@ -106,9 +111,76 @@ way texts (has_if accepted refused) s = branches (child_here 0) (option_map chil
 way texts has_property_names s = passes_on (map at_name (subject_names s))
 way texts (has_not schema fraction) s = judges (not_tally texts schema s) (each_from child_here 0 1)
 
-abbrev pub words : Bool → Keywords BenchShape (Progress × Answer)
-words = words_of way
+-- ---- how the runs go
+
+-- A run that asks at names holds them from its beginning on, in order. A turn looks up the next one among the members of
+-- the instance, so that it need not count through those before it.
+
+-- whether one of the members has this name
+abbrev pub is_named : Text → Option Members → Bool
+is_named k None = false
+is_named k (Some ms) = is_some (member_of k ms)
+
+abbrev pub has_name : Text → Subject → Bool
+has_name k (a_value d) = is_named k (as_object d)
+has_name k (a_name n) = false
+
+-- the only child at the name, where a member has it
+abbrev pub name_asked : Subject → Text → Option Question
+name_asked s k = only_if (has_name k s) (at_name k)
+
+-- the names that a run holds
+abbrev pub names_held : BenchShape → Subject → List Text
+names_held has_property_names s = subject_names s
+names_held m s = []
+
+-- how a run goes about an instance that holds these names
+abbrev pub held_way : Bool → List Text → BenchShape → Subject → Way
+held_way texts ks has_property_names s = passes_some (map (name_asked s) ks)
+held_way texts ks m s = way texts m s
+
+abbrev pub run_way : Bool → BenchShape × List Text → Subject → Way
+run_way texts m s = held_way texts m.1 m.0 s
+
+-- a turn leaves the names as they are
+abbrev pub run_turn : Way → NamesRun × Answer → Reply → NamesRun × Answer
+run_turn w r reply = (record r.0 { progress = (way_turn w (r.0.progress, r.1) reply).0 }, (way_turn w (r.0.progress, r.1) reply).1)
+
+abbrev pub words : Bool → Keywords BenchShape (NamesRun × Answer)
+words texts = record {
+  texts = texts;
+  may_ask = λ m s. questions (way texts m s);
+  holds = λ m s matches accepts. way_holds (way texts m s) matches accepts;
+  faults = λ m s matches answers. way_faults (way texts m s) matches answers;
+  units = λ m s matches unit_at. way_units (way texts m s) matches unit_at;
+  most_turns = λ m s. way_turns (way texts m s);
+  begin = λ m s mode. (record { progress = way_begin mode; names = names_held m s }, fresh);
+  turn = λ m s r reply. run_turn (run_way texts (m, r.0.names) s) r reply;
+  step = λ m s r reply. way_step (run_way texts (m, r.0.names) s) (r.0.progress, r.1) reply;
+  answer = λ r. r.1;
+}
 
 -- the turns that are left at the most
-abbrev pub turns_left : BenchShape → Subject → Progress × Answer → ℕ
-turns_left = left_at_most way
+abbrev pub turns_left : BenchShape → Subject → NamesRun × Answer → ℕ
+turns_left m s r = left_at_most run_way (m, r.0.names) s (r.0.progress, r.1)
+
+-- a run, seen without its names
+abbrev pub seen : Standing (NamesRun × Answer) → Standing (Progress × Answer)
+seen x = record {
+  subject = x.subject;
+  matches = x.matches;
+  answers = x.answers;
+  unit_at = x.unit_at;
+  same = x.same;
+  marks = x.marks;
+  state = (x.state.0.progress, x.state.1);
+  reply = x.reply;
+}
+
+-- the answer that a run ends in
+abbrev pub ends_in : Bool → BenchShape → Standing (NamesRun × Answer) → Answer
+ends_in texts m x = run_ends run_way texts (m, x.state.0.names) (seen x)
+
+-- what is true of a run, and of the reply that it takes next
+abbrev pub fits_in : Bool → BenchShape → Standing (NamesRun × Answer) → Type 0
+fits_in texts m x = run_fits run_way texts (m, x.state.0.names) (seen x)

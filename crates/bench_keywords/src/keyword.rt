@@ -3,17 +3,19 @@ ghost use Rattle.std.specs.Prelude.{All, ◌≡◌, true, Bool, IfOk};
 ghost use Rattle.serde_json.specs.Data.{Data};
 ghost use Rattle.schema_reports.specs.InstanceViews.{subject_of};
 ghost use Rattle.schema_node.specs.FaultViews.{errors_in, faults_in, PassesBorrowed};
-ghost use Rattle.schema_node.specs.KeywordViews.{answer_of, turn_of, Tells};
+ghost use Rattle.schema_node.specs.KeywordViews.{answer_of, reply_of, turn_of, Tells};
 ghost use Rattle.schema_reports.specs.Keywords.{done};
 ghost use Rattle.schema_reports.specs.ReportViews.{BorrowsItsPlace};
 ghost use Rattle.keyword_ways.specs.declared.run.Stage.TheVariants.{Ended};
-ghost use Rattle.keyword_ways.specs.Ways.{at_first, told_at_once};
-ghost use Rattle.bench_keywords.specs.Words.{way};
+ghost use Rattle.keyword_ways.specs.Ways.{at_first, told_at_once, way_step, way_turn};
+ghost use Rattle.bench_keywords.specs.BenchShape.{is_whole};
+ghost use Rattle.bench_keywords.specs.Words.{held_way, names_held, way};
 ghost use Rattle.bench_keywords.specs.Shapes.{shape_of};
 
 use crate::any_of::turn_any_of;
 use crate::counts::{CountKind, tell_count};
 use crate::each::{turn_all_of, turn_items, turn_prefix_items};
+use crate::names::{Names, NamesRun};
 use crate::not::turn_not;
 use crate::one_of::turn_one_of;
 use crate::pattern::turn_pattern;
@@ -126,13 +128,75 @@ fn turn_telling<'s, 'i>(
     Ok(Step::Done)
 }
 
+/// The names that a run holds from its beginning on: those of the instance's members, where the keyword asks at them. Fails
+/// only if memory cannot be allocated.
+fn names_for(
+    keyword: &BenchKeyword,
+    alloc: Global,
+    instance: Instance<'_>,
+) -> Result<Names, OutOfMemory>
+    ensures names { IfOk result (λ names. names ≡ names_held (shape_of keyword.now) (subject_of instance.entry)) }
+{
+    match keyword {
+        BenchKeyword::PropertyNames => Names::of(alloc, instance),
+        _ => Ok(Names::none(alloc)),
+    }
+}
+
+/// Takes a turn of a run that holds these names.
+fn turn_at<'s, 'i: 's>(
+    keyword: &'s BenchKeyword,
+    alloc: Global,
+    names: &Names,
+    run: &mut Progress,
+    instance: Instance<'i>,
+    reply: Reply<'i>,
+    answer: &mut Answer<'i>,
+) -> Result<Step<'s>, OutOfMemory>
+    ensures turns { IfOk result (λ _. (texts : Bool) → Tells texts (is_whole (shape_of keyword.now)) (subject_of instance.entry)
+        → way_turn (held_way texts names.now (shape_of keyword.now) (subject_of instance.entry)) (run.old, answer_of texts answer.old)
+        (reply_of texts reply.entry) ≡ (run.new, answer_of texts answer.new)) }
+    ensures steps { IfOk result (λ step. (texts : Bool) → Tells texts (is_whole (shape_of keyword.now)) (subject_of instance.entry)
+        → way_step (held_way texts names.now (shape_of keyword.now) (subject_of instance.entry)) (run.old, answer_of texts answer.old)
+        (reply_of texts reply.entry) ≡ turn_of step) }
+    ensures borrows { IfOk result (λ _. (root : Data) → All (BorrowsItsPlace root) (errors_in reply.entry)
+        → All (PassesBorrowed root) (faults_in answer.old) → All (PassesBorrowed root) (faults_in answer.new)) }
+{
+    match keyword {
+        BenchKeyword::Type(_) => turn_telling(keyword, alloc, run, instance, reply, answer),
+        BenchKeyword::Types(_) => turn_telling(keyword, alloc, run, instance, reply, answer),
+        BenchKeyword::Required(_) => turn_telling(keyword, alloc, run, instance, reply, answer),
+        BenchKeyword::Count(_, _) => turn_telling(keyword, alloc, run, instance, reply, answer),
+        BenchKeyword::Properties(children) => {
+            turn_properties(alloc, children.as_slice(), run, instance, reply, answer)
+        }
+        BenchKeyword::Pattern(pattern) => {
+            turn_pattern(alloc, pattern.as_str(), run, instance, reply, answer)
+        }
+        BenchKeyword::AllOf(count) => turn_all_of(alloc, *count, run, reply, answer),
+        BenchKeyword::PrefixItems(count) => {
+            turn_prefix_items(alloc, *count, run, instance, reply, answer)
+        }
+        BenchKeyword::Items(before) => turn_items(alloc, *before, run, instance, reply, answer),
+        BenchKeyword::AnyOf(count) => turn_any_of(alloc, *count, run, instance, reply, answer),
+        BenchKeyword::OneOf(count) => turn_one_of(alloc, *count, run, instance, reply, answer),
+        BenchKeyword::If(accepted, refused) => {
+            branch_on(alloc, *accepted, *refused, run, reply, answer)
+        }
+        BenchKeyword::PropertyNames => {
+            turn_property_names(alloc, names.as_slice(), run, instance, reply, answer)
+        }
+        BenchKeyword::Not(schema) => turn_not(alloc, schema, run, instance, reply, answer),
+    }
+}
+
 impl Validate for BenchKeyword {
     ghost use Rattle.std.specs.Prelude.{refl};
     ghost use Rattle.bench_keywords.specs.BenchShape.{is_whole};
-    ghost use Rattle.bench_keywords.specs.Words.{turns_left, words};
-    ghost use Rattle.bench_keywords.specs.Laws.{ends_in, fits_in, functions_keep, none_absorbed, turns_keep};
+    ghost use Rattle.bench_keywords.specs.Words.{ends_in, fits_in, turns_left, words};
+    ghost use Rattle.bench_keywords.specs.Laws.{functions_keep, none_absorbed, turns_keep};
 
-    type Run = Progress;
+    type Run = NamesRun;
 
     type Shape = Shape;
 
@@ -152,45 +216,34 @@ impl Validate for BenchKeyword {
 
     fn begin(
         &self,
-        _alloc: Global,
-        _instance: Instance,
+        alloc: Global,
+        instance: Instance,
         mode: Mode,
-    ) -> Result<Progress, OutOfMemory> {
-        Ok(Progress::begin(mode))
+    ) -> Result<NamesRun, OutOfMemory> {
+        let names = names_for(self, alloc, instance)?;
+        Ok(NamesRun {
+            progress: Progress::begin(mode),
+            names,
+        })
     }
 
     fn turn<'s, 'i: 's>(
         &'s self,
         alloc: Global,
-        run: &mut Progress,
+        run: &mut NamesRun,
         instance: Instance<'i>,
         reply: Reply<'i>,
         answer: &mut Answer<'i>,
     ) -> Result<Step<'s>, OutOfMemory> {
-        match self {
-            BenchKeyword::Type(_) => turn_telling(self, alloc, run, instance, reply, answer),
-            BenchKeyword::Types(_) => turn_telling(self, alloc, run, instance, reply, answer),
-            BenchKeyword::Required(_) => turn_telling(self, alloc, run, instance, reply, answer),
-            BenchKeyword::Count(_, _) => turn_telling(self, alloc, run, instance, reply, answer),
-            BenchKeyword::Properties(names) => {
-                turn_properties(alloc, names.as_slice(), run, instance, reply, answer)
-            }
-            BenchKeyword::Pattern(pattern) => {
-                turn_pattern(alloc, pattern.as_str(), run, instance, reply, answer)
-            }
-            BenchKeyword::AllOf(count) => turn_all_of(alloc, *count, run, reply, answer),
-            BenchKeyword::PrefixItems(count) => {
-                turn_prefix_items(alloc, *count, run, instance, reply, answer)
-            }
-            BenchKeyword::Items(before) => turn_items(alloc, *before, run, instance, reply, answer),
-            BenchKeyword::AnyOf(count) => turn_any_of(alloc, *count, run, instance, reply, answer),
-            BenchKeyword::OneOf(count) => turn_one_of(alloc, *count, run, instance, reply, answer),
-            BenchKeyword::If(accepted, refused) => {
-                branch_on(alloc, *accepted, *refused, run, reply, answer)
-            }
-            BenchKeyword::PropertyNames => turn_property_names(alloc, run, instance, reply, answer),
-            BenchKeyword::Not(schema) => turn_not(alloc, schema, run, instance, reply, answer),
-        }
+        turn_at(
+            self,
+            alloc,
+            &run.names,
+            &mut run.progress,
+            instance,
+            reply,
+            answer,
+        )
     }
 
     ghost speaks = { λ texts. refl };

@@ -5,6 +5,7 @@ pub mod any_of;
 pub mod counts;
 pub mod each;
 pub mod keyword;
+pub mod names;
 pub mod not;
 pub mod one_of;
 pub mod pattern;

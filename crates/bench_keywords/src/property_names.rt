@@ -1,15 +1,16 @@
 //! `propertyNames`.
-ghost use Rattle.std.specs.Prelude.{All, ◌≡◌, Bool, length, map, option_map, IfOk};
+ghost use Rattle.std.specs.Prelude.{All, ◌≡◌, Bool, Some, map, option_map, string_bytes, IfOk};
 ghost use Rattle.serde_json.specs.Data.{Data};
 ghost use Rattle.serde_json.specs.View.{members_view};
 ghost use Rattle.schema_reports.specs.ReportViews.{BorrowsItsPlace};
 ghost use Rattle.schema_reports.specs.InstanceViews.{subject_of};
 ghost use Rattle.schema_node.specs.FaultViews.{errors_in, faults_in, PassesBorrowed};
 ghost use Rattle.schema_node.specs.KeywordViews.{answer_of, reply_of, turn_of};
-ghost use Rattle.keyword_ways.specs.Asking.{nth_at, stage_of};
-ghost use Rattle.keyword_ways.specs.Members.{names_in, subject_names};
-ghost use Rattle.keyword_ways.specs.Ways.{asked, nth, passes_on, way_step, way_turn};
-ghost use Rattle.keyword_ways.specs.Members.{at_name};
+ghost use Rattle.keyword_ways.specs.Asking.{some_at};
+ghost use Rattle.keyword_ways.specs.Members.{at_name, only_if};
+ghost use Rattle.keyword_ways.specs.Somes.{question_of, some_from};
+ghost use Rattle.keyword_ways.specs.Ways.{asked, passes_some, stage_some, way_step, way_turn};
+ghost use Rattle.bench_keywords.specs.Words.{is_named, name_asked};
 
 use keyword_ways::passing::onward;
 use keyword_ways::run::{Progress, Stage};
@@ -19,70 +20,72 @@ use schema_reports::location::OutOfMemory;
 use serde_json::{Map, Value};
 use std::alloc::Global;
 
-/// How many members an object has.
-#[tactic(auto, using(keyword_ways::proofs::MemberCounts::names_in_length))]
-fn count_names(members: &Map<String, Value>) -> usize
-    ensures count { result ≡ length (names_in (members_view members.now.entries)) }
+/// The name of the member that has this name, as the object holds it.
+fn name_among<'i>(members: &'i Map<String, Value>, name: &str) -> Option<&'i str>
+    ensures name { option_map (λ k. at_name k.now) result
+        ≡ only_if (is_named name.now (Some (members_view members.now.entries))) (at_name name.now) }
 {
-    members.len()
-}
-
-/// How many members the instance has, which is none where it is no object.
-fn name_count(instance: Instance<'_>) -> usize
-    ensures count { result ≡ length (subject_names (subject_of instance.entry)) }
-{
-    match instance {
-        Instance::Name(_) => 0,
-        Instance::Value(value) => match value.as_object() {
-            Some(members) => count_names(members),
-            None => 0,
-        },
+    match members.get_key_value(name) {
+        Some((key, _)) => Some(key.as_str()),
+        None => None,
     }
 }
 
-/// The name of this place in order.
-fn nth_name<'i>(members: &'i Map<String, Value>, place: usize) -> Option<&'i str>
-    ensures name { option_map (λ k. at_name k.now) result ≡ nth place (map at_name (names_in (members_view members.now.entries))) }
-{
-    let mut left = place;
-    for (name, _) in members {
-        if left == 0 {
-            return Some(name.as_str());
-        }
-        left -= 1;
-    }
-    None
-}
-
-/// The name of this place among the members of the instance.
-fn name_at<'i>(instance: Instance<'i>, place: usize) -> Option<&'i str>
-    ensures name { option_map (λ k. at_name k.now) result ≡ nth place (map at_name (subject_names (subject_of instance.entry))) }
+/// The name of the instance's member that has this name, as the instance holds it.
+fn name_in<'i>(instance: Instance<'i>, name: &str) -> Option<&'i str>
+    ensures name { option_map (λ k. at_name k.now) result ≡ name_asked (subject_of instance.entry) name.now }
 {
     match instance {
         Instance::Name(_) => None,
         Instance::Value(value) => match value.as_object() {
-            Some(members) => nth_name(members, place),
+            Some(members) => name_among(members, name),
             None => None,
         },
     }
 }
 
-/// Asks the question of this place, if there is one, and ends the run else.
-fn ask_name<'i>(place: Option<usize>, run: &mut Progress, instance: Instance<'i>) -> Step<'i>
-    ensures stage { run.new ≡ record run.old { stage = stage_of (map at_name (subject_names (subject_of instance.entry))) place } }
-    ensures step { turn_of result ≡ asked run.old.mode (nth_at (map at_name (subject_names (subject_of instance.entry))) place) }
+/// The first name from this place on that a member of the instance has, with its place.
+#[tactic(auto, using(crate::proofs::NamesAsked::asked_drop))]
+fn first_name<'i>(
+    names: &[String],
+    start: usize,
+    instance: Instance<'i>,
+) -> Option<(usize, &'i str)>
+    ensures name { option_map (λ p. (p.0, at_name p.1.now)) result
+        ≡ some_from start (map (name_asked (subject_of instance.entry)) (map string_bytes names.now)) }
 {
-    match place {
+    for place in start..names.len() {
+        if let Some(name) = name_in(instance, names[place].as_str()) {
+            return Some((place, name));
+        }
+    }
+    None
+}
+
+/// Asks at the first name from this place on that a member of the instance has, if there is one, and ends the run else.
+fn ask_name<'i>(
+    names: &[String],
+    start: Option<usize>,
+    run: &mut Progress,
+    instance: Instance<'i>,
+) -> Step<'i>
+    ensures stage { run.new ≡ record run.old {
+      stage = stage_some (some_at (map (name_asked (subject_of instance.entry)) (map string_bytes names.now)) start);
+    } }
+    ensures step { turn_of result ≡ asked run.old.mode (question_of (some_at
+        (map (name_asked (subject_of instance.entry)) (map string_bytes names.now)) start)) }
+{
+    match start {
         None => {
             run.stage = Stage::Ended;
             Step::Done
         }
-        Some(place) => match name_at(instance, place) {
+        Some(start) => match first_name(names, start, instance) {
             None => {
                 run.stage = Stage::Ended;
                 Step::Done
             }
-            Some(name) => {
+            Some((place, name)) => {
                 run.stage = Stage::Asked(place);
                 Step::Ask(0, Below::NameOf(name), run.mode)
             }
@@ -90,23 +93,26 @@ fn ask_name<'i>(place: Option<usize>, run: &mut Progress, instance: Instance<'i>
     }
 }
 
-/// `propertyNames`: asks its child at the name of each member.
+/// `propertyNames`: asks its child at each of these names that a member of the instance has.
 pub fn turn_property_names<'i>(
     alloc: Global,
+    names: &[String],
     run: &mut Progress,
     instance: Instance<'i>,
     reply: Reply<'i>,
     answer: &mut Answer<'i>,
 ) -> Result<Step<'i>, OutOfMemory>
-    ensures turns { IfOk result (λ _. (texts : Bool) → way_turn (passes_on (map at_name (subject_names (subject_of instance.entry))))
-        (run.old, answer_of texts answer.old) (reply_of texts reply.entry)
+    ensures turns { IfOk result (λ _. (texts : Bool) → way_turn
+        (passes_some (map (name_asked (subject_of instance.entry)) (map string_bytes names.now))) (run.old, answer_of texts answer.old)
+        (reply_of texts reply.entry)
         ≡ (run.new, answer_of texts answer.new)) }
-    ensures steps { IfOk result (λ step. (texts : Bool) → way_step (passes_on (map at_name (subject_names (subject_of instance.entry))))
-        (run.old, answer_of texts answer.old) (reply_of texts reply.entry)
+    ensures steps { IfOk result (λ step. (texts : Bool) → way_step
+        (passes_some (map (name_asked (subject_of instance.entry)) (map string_bytes names.now))) (run.old, answer_of texts answer.old)
+        (reply_of texts reply.entry)
         ≡ turn_of step) }
     ensures borrows { IfOk result (λ _. (root : Data) → All (BorrowsItsPlace root) (errors_in reply.entry)
         → All (PassesBorrowed root) (faults_in answer.old) → All (PassesBorrowed root) (faults_in answer.new)) }
 {
-    let place = onward(alloc, name_count(instance), run, reply, answer)?;
-    Ok(ask_name(place, run, instance))
+    let start = onward(alloc, names.len(), run, reply, answer)?;
+    Ok(ask_name(names, start, run, instance))
 }

@@ -12,13 +12,13 @@ use Rattle.schema_reports.specs.Turns.{FunctionLaws, Standing, TurnLaws, next, r
 use Rattle.schema_node.specs.KeywordViews.{fresh}
 use Rattle.schema_node.specs.declared.context.keyword.Mode.TheVariants as mode
 use Rattle.keyword_ways.specs.declared.run.Stage.TheVariants.{Begun}
-use Rattle.keyword_ways.specs.declared.run.Progress.{Progress}
 use Rattle.bench_keywords.specs.BenchShape.{BenchShape}
+use Rattle.bench_keywords.specs.declared.names.NamesRun.{NamesRun}
 use Rattle.bench_keywords.specs.Counts.{subject_string}
-use Rattle.keyword_ways.specs.Ways.{match_point, way_begin}
+use Rattle.keyword_ways.specs.Ways.{match_point}
 use Rattle.keyword_ways.specs.WayRuns.{fits_at, fits_begun, replies_by}
-use Rattle.bench_keywords.specs.Words.{turns_left, way, words}
-use Rattle.bench_keywords.specs.Laws.{ends_in, fits_in, functions_keep, none_absorbed, turns_keep}
+use Rattle.bench_keywords.specs.Words.{ends_in, fits_in, run_way, turns_left, words}
+use Rattle.bench_keywords.specs.Laws.{functions_keep, none_absorbed, turns_keep}
 
 -- the patterns of the detour, and the keyword that it stands for
 abbrev pub Detour : Type 0
@@ -26,7 +26,7 @@ Detour = List Text × BenchShape
 
 -- how many matches of the detour are left, and the keyword's own run
 abbrev pub Detouring : Type 0
-Detouring = ℕ × Progress
+Detouring = ℕ × NamesRun
 
 -- how many matches come first
 abbrev pub matches_before : List Text → spec.Mode → ℕ
@@ -50,7 +50,7 @@ abbrev pub step_left : ℕ → Turn → (ℕ → Turn) → Turn
 step_left zero own detour = own
 step_left (suc k) own detour = detour k
 
-abbrev pub turn_left : ℕ → Progress × Answer → Progress × Answer → Detouring × Answer
+abbrev pub turn_left : ℕ → NamesRun × Answer → NamesRun × Answer → Detouring × Answer
 turn_left zero own r = ((0, own.0), own.1)
 turn_left (suc k) own r = ((k, r.0), r.1)
 
@@ -62,7 +62,7 @@ detour_words texts = record {
   faults = λ m s matches answers. (words texts).faults m.1 s matches answers;
   units = λ m s matches unit_at. (words texts).units m.1 s matches unit_at;
   most_turns = λ m s. length m.0 + (words texts).most_turns m.1 s;
-  begin = λ m s mode'. ((matches_before m.0 mode', way_begin mode'), fresh);
+  begin = λ m s mode'. ((matches_before m.0 mode', ((words texts).begin m.1 s mode').0), fresh);
   turn = λ m s r reply. turn_left r.0.0 ((words texts).turn m.1 s (r.0.1, r.1) reply) (r.0.1, r.1);
   step = λ m s r reply. step_left r.0.0 ((words texts).step m.1 s (r.0.1, r.1) reply) (match_at m.0 (text_in s));
   answer = λ r. r.1;
@@ -76,7 +76,7 @@ abbrev pub detour_left : Detour → Subject → Detouring × Answer → ℕ
 detour_left m s r = r.0.0 + turns_left m.1 s (r.0.1, r.1)
 
 -- the keyword's own run
-abbrev pub own_run : Standing (Detouring × Answer) → Standing (Progress × Answer)
+abbrev pub own_run : Standing (Detouring × Answer) → Standing (NamesRun × Answer)
 own_run x = record {
   subject = x.subject;
   matches = x.matches;
@@ -93,9 +93,9 @@ abbrev pub detour_ends : Bool → Detour → Standing (Detouring × Answer) → 
 detour_ends texts m x = ends_in texts m.1 (own_run x)
 
 -- on the detour the keyword's own run stands at its beginning
-abbrev pub fits_left : ℕ → Progress → Type 0 → Type 0
+abbrev pub fits_left : ℕ → NamesRun → Type 0 → Type 0
 fits_left zero r own = own
-fits_left (suc k) r own = r.stage ≡ Begun
+fits_left (suc k) r own = r.progress.stage ≡ Begun
 
 abbrev pub detour_fits : Bool → Detour → Standing (Detouring × Answer) → Type 0
 detour_fits texts m x = fits_left x.state.0.0 x.state.0.1 (fits_in texts m.1 (own_run x))
@@ -117,7 +117,7 @@ falls_alone a b h = omega arith
 falls_by : (k n : ℕ) → k + n < suc k + n
 falls_by k n = omega arith
 
-falls : (texts : Bool) (m : Detour) (s : Subject) (left : ℕ) (r : Progress × Answer) (reply : Reply)
+falls : (texts : Bool) (m : Detour) (s : Subject) (left : ℕ) (r : NamesRun × Answer) (reply : Reply)
     → (step_left left ((words texts).step m.1 s r reply) (match_at m.0 (text_in s)) ≡ done)
     ⊎ (detour_left m s (turn_left left ((words texts).turn m.1 s r reply) r) < left + turns_left m.1 s r)
 falls texts m s zero r reply = elim ((turns_keep texts m.1).falls s r reply) [
@@ -134,12 +134,12 @@ asks_as texts m s unmark h = tt
 asks_as texts m s (ecma text) h = tt
 asks_as texts m s done h = tt
 
-asks : (texts : Bool) (m : Detour) (s : Subject) (left : ℕ) (r : Progress × Answer) (reply : Reply)
+asks : (texts : Bool) (m : Detour) (s : Subject) (left : ℕ) (r : NamesRun × Answer) (reply : Reply)
     → AsksRightly (detour_words texts) m s [] (step_left left ((words texts).step m.1 s r reply) (match_at m.0 (text_in s)))
 asks texts m s zero r reply = asks_as texts m s ((words texts).step m.1 s r reply) ((turns_keep texts m.1).asks s r reply)
 asks texts m s (suc k) r reply = (refl, ([], refl), tt)
 
-begun_fits : (left : ℕ) (r : Progress) (own : Type 0) → r.stage ≡ Begun → own → fits_left left r own
+begun_fits : (left : ℕ) (r : NamesRun) (own : Type 0) → r.progress.stage ≡ Begun → own → fits_left left r own
 begun_fits zero r own e h = h
 begun_fits (suc k) r own e h = e
 
@@ -156,7 +156,7 @@ begins : (texts : Bool) (m : Detour) (s : Subject) (mode' : spec.Mode) (matches 
     × IsRight (detour_words texts) m s matches a u same mode' (detour_ends texts m (standing (detour_words texts) m s mode' matches a u same))
 begins texts m s mode' matches a u same agrees valid =
     let own = (turns_keep texts m.1).begins s mode' matches a u same agrees valid in
-    (begun_fits (matches_before m.0 mode') (way_begin mode') _ refl own.0, right_as texts m s matches a u same mode' _ own.1)
+    (begun_fits (matches_before m.0 mode') ((words texts).begin m.1 s mode').0 _ refl own.0, right_as texts m s matches a u same mode' _ own.1)
 
 same_reply : (texts : Bool) (m : Detour) (s : Subject) (matches : Matching) (a : Answers) (u : Question → Unit_) (same : Marked → Marked → Bool) (marks : List Marked) (t : Turn)
     → reply_to (words texts) m.1 s matches a u same marks t ≡ reply_to (detour_words texts) m s matches a u same marks t
@@ -175,9 +175,9 @@ abbrev with_left : ℕ → Standing (Detouring × Answer) → Standing (Detourin
 with_left left x = record x { state = ((left, x.state.0.1), x.state.1) }
 
 -- a reply that comes after the detour fits a run that stands at its beginning
-fits_after : (texts : Bool) (m : Detour) (x : Standing (Progress × Answer)) → x.state.0.stage ≡ Begun → fits_in texts m.1 x
-fits_after texts m x e = subst (λ stage. fits_at (way texts m.1 x.subject) (replies_by x.matches x.answers x.unit_at) x.state.0.mode stage x.reply) (sym e)
-    (fits_begun (way texts m.1 x.subject) (replies_by x.matches x.answers x.unit_at) x.state.0.mode x.reply)
+fits_after : (texts : Bool) (m : Detour) (x : Standing (NamesRun × Answer)) → x.state.0.progress.stage ≡ Begun → fits_in texts m.1 x
+fits_after texts m x e = subst (λ stage. fits_at (run_way texts (m.1, x.state.0.names) x.subject) (replies_by x.matches x.answers x.unit_at) x.state.0.progress.mode stage x.reply) (sym e)
+    (fits_begun (run_way texts (m.1, x.state.0.names) x.subject) (replies_by x.matches x.answers x.unit_at) x.state.0.progress.mode x.reply)
 
 -- a turn keeps what fits, and the end
 abbrev Kept : Bool → Detour → Standing (Detouring × Answer) → Type 0

@@ -5,9 +5,9 @@ ghost use Rattle.schema_node.specs.KeywordViews.{mode_of, turn_of};
 ghost use Rattle.engine_bench.specs.Detours.{match_at, matches_before, pattern_at, text_in};
 
 use bench_keywords::keyword::BenchKeyword;
+use bench_keywords::names::NamesRun;
 use bench_keywords::texts::text_of;
 use bench_parts::matcher::BenchMatcher;
-use keyword_ways::run::Progress;
 use schema_engine::validator::Validator;
 use schema_node::context::keyword::{Answer, MatchPoint, Mode, Reply, Spot, Step, Validate};
 use schema_node::node::{Entry, EntryForm, NodeForm, Nodes};
@@ -98,7 +98,7 @@ impl Validate for DetourKeyword {
     ghost use Rattle.engine_bench.specs.Detours.{detour_ends, detour_fits, detour_functions, detour_left, detour_turns, detour_words};
     ghost use Rattle.engine_bench.specs.Detours.{nothing_absorbed};
 
-    type Run = (usize, Progress);
+    type Run = (usize, NamesRun);
 
     type Shape = DetourShape;
 
@@ -121,7 +121,7 @@ impl Validate for DetourKeyword {
         alloc: Global,
         instance: Instance,
         mode: Mode,
-    ) -> Result<(usize, Progress), OutOfMemory> {
+    ) -> Result<(usize, NamesRun), OutOfMemory> {
         let own = self.keyword.begin(alloc, instance, mode)?;
         Ok((matches_before(self.patterns.as_slice(), mode), own))
     }
@@ -129,7 +129,7 @@ impl Validate for DetourKeyword {
     fn turn<'s, 'i: 's>(
         &'s self,
         alloc: Global,
-        run: &mut (usize, Progress),
+        run: &mut (usize, NamesRun),
         instance: Instance<'i>,
         reply: Reply<'i>,
         answer: &mut Answer<'i>,

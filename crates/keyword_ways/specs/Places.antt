@@ -79,7 +79,7 @@ named_later l k d ms h = found (bytes_eq k l)
 named_here : (k : Text) (d : Data) (ms : Members) → IsNamed (member k d ms) k
 named_here k d ms = ap (λ b. is_some (if b then Some d else member_of k ms)) ((bytes_eq-Decides k k).1 refl)
 
-each_named : (ms : Members) → All (IsNamed ms) (names_in ms)
+pub each_named : (ms : Members) → All (IsNamed ms) (names_in ms)
 each_named no_members = All-nil _
 each_named (member k d ms) = All-cons (IsNamed (member k d ms)) k (names_in ms) (named_here k d ms)
     (All-weaker (IsNamed ms) (IsNamed (member k d ms)) (λ l h. named_later k l d ms h) (names_in ms) (each_named ms))

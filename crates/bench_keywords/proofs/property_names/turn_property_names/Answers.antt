@@ -1,19 +1,18 @@
-use Rattle.std.proofs.Common.{◌≤◌, List, arith, map, length}
+use Rattle.std.proofs.Common.{◌≤◌, [], List, Option, map, length, string_bytes, arith}
 use Rattle.std.proofs.lemmas.List.{length-map}
 use Rattle.schema_reports.specs.InstanceViews.{subject_of}
 use Rattle.schema_reports.specs.Keywords.{Question}
 use Rattle.schema_node.specs.KeywordViews.{answer_of}
-use Rattle.keyword_ways.specs.Members.{subject_names}
-use Rattle.keyword_ways.specs.Members.{at_name}
-use Rattle.keyword_ways.proofs.NextQuestions.{stepped, turned}
+use Rattle.keyword_ways.proofs.NextQuestions.{some_stepped, some_turned}
+use Rattle.bench_keywords.specs.Words.{name_asked}
 use Rattle.bench_keywords.proofs.property_names.turn_property_names.Goals as goal
 
 pub returns-clause-turns : goal.returns-clause-turns
-returns-clause-turns c = λ texts. let qs : List Question = map at_name (subject_names (subject_of c.args.instance)) in
-    let within : length qs ≤ c.name_count.result = omega (arith, length-map (subject_names (subject_of c.args.instance)) at_name, c.name_count.ensures.count) in
-    turned qs c.args.run.now c.ask_name.new.run _ _ _ c.in_ok-place.place (c.in_ok-place.ensures.next texts qs within) c.ask_name.ensures.stage (c.in_ok-place.ensures.answered texts qs)
+returns-clause-turns c = λ texts. let os : List (Option Question) = map (name_asked (subject_of c.args.instance)) (map string_bytes c.args.names.now) in
+    let within : length os ≤ length c.args.names.now = omega (arith, length-map (map string_bytes c.args.names.now) (name_asked (subject_of c.args.instance)), length-map c.args.names.now string_bytes) in
+    some_turned os c.args.run.now c.ask_name.new.run _ _ _ c.in_ok-start.start (c.in_ok-start.ensures.next_from texts os within) c.ask_name.ensures.stage (c.in_ok-start.ensures.answered texts [])
 
 pub returns-clause-steps : goal.returns-clause-steps
-returns-clause-steps c = λ texts. let qs : List Question = map at_name (subject_names (subject_of c.args.instance)) in
-    let within : length qs ≤ c.name_count.result = omega (arith, length-map (subject_names (subject_of c.args.instance)) at_name, c.name_count.ensures.count) in
-    stepped qs c.args.run.now (answer_of texts c.args.answer.now) _ c.in_ok-place.place _ (c.in_ok-place.ensures.next texts qs within) c.ask_name.ensures.step
+returns-clause-steps c = λ texts. let os : List (Option Question) = map (name_asked (subject_of c.args.instance)) (map string_bytes c.args.names.now) in
+    let within : length os ≤ length c.args.names.now = omega (arith, length-map (map string_bytes c.args.names.now) (name_asked (subject_of c.args.instance)), length-map c.args.names.now string_bytes) in
+    some_stepped os c.args.run.now (answer_of texts c.args.answer.now) _ c.in_ok-start.start _ (c.in_ok-start.ensures.next_from texts os within) c.ask_name.ensures.step

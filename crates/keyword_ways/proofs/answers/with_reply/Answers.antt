@@ -5,11 +5,13 @@ use Rattle.schema_node.proofs.Replies.{all_first}
 use Rattle.keyword_ways.proofs.BorrowedFaults.{kept_borrowed, passed_borrowed}
 use Rattle.keyword_ways.proofs.answers.with_reply.Goals as goal
 
-pub returns-in-Some-clause-borrows : goal.returns-in-Some-clause-borrows
-returns-in-Some-clause-borrows c = λ root errors faults.
+pub returns-in_ok-new-in-Some-clause-borrows : goal.returns-in_ok-new-in-Some-clause-borrows
+returns-in_ok-new-in-Some-clause-borrows c = λ root errors faults.
     let replied = rw (c.in-First.is, c.in-Some.is) at errors in
+    let borrowed = all_first (BorrowsItsPlace root) _ [] replied in
+    let passed = subst (BorrowsItsPlace root) (sym c.into_inner.ensures) borrowed in
     subst (All (PassesBorrowed root)) (sym c.with_first.ensures.faults)
-    (kept_borrowed root (faults_in c.args.before) _ faults (all_first (BorrowsItsPlace root) c.in-Some.error [] replied))
+    (kept_borrowed root (faults_in c.args.before) _ faults (subst (PassesBorrowed root) (sym c.in_ok-new-in-Some.ensures.ok) passed))
 
 pub returns-in_ok-pass_all-in-All-clause-borrows : goal.returns-in_ok-pass_all-in-All-clause-borrows
 returns-in_ok-pass_all-in-All-clause-borrows c = λ root errors faults.

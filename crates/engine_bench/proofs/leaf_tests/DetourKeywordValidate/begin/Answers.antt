@@ -1,10 +1,10 @@
 use Rattle.std.proofs.Common.{ℕ, ◌≡◌}
 use Rattle.schema_reports.specs.Keywords.{Answer}
-use Rattle.keyword_ways.specs.declared.run.Progress.{Progress}
+use Rattle.bench_keywords.specs.declared.names.NamesRun.{NamesRun}
 use Rattle.engine_bench.specs.Detours.{Detouring}
 use Rattle.engine_bench.proofs.leaf_tests.DetourKeywordValidate.begin.Goals as goal
 
-both : (left before : ℕ) (run own : Progress × Answer) → before ≡ left → run ≡ own → ◌≡◌ {A = Detouring × Answer} ((left, run.0), run.1) ((before, own.0), own.1)
+both : (left before : ℕ) (run own : NamesRun × Answer) → before ≡ left → run ≡ own → ◌≡◌ {A = Detouring × Answer} ((left, run.0), run.1) ((before, own.0), own.1)
 both left before run own e f = cc
 
 pub returns : goal.returns
