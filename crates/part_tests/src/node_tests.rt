@@ -7,12 +7,13 @@ use schema_node::node::{Entry, EntryForm, NodeForm, Nodes, SchemaNode};
 use schema_reports::instance::{InstanceStep, Place};
 use schema_reports::location::{Location, LocationSegment, OutOfMemory};
 use std::alloc::Global;
+use std::rc::RcStr;
 
 // `/$defs/a~1b/2`
 fn a_path(alloc: Global) -> Result<SchemaPath, OutOfMemory> {
     let mut path = SchemaPath::root(alloc);
-    path.push(SchemaStep::Member(String::from_str(alloc, "$defs")?))?;
-    path.push(SchemaStep::Member(String::from_str(alloc, "a/b")?))?;
+    path.push(SchemaStep::Member(RcStr::from_str(alloc, "$defs")?))?;
+    path.push(SchemaStep::Member(RcStr::from_str(alloc, "a/b")?))?;
     path.push(SchemaStep::Item(2))?;
     Ok(path)
 }

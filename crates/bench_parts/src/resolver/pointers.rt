@@ -17,6 +17,7 @@ use schema_node::context::schema_place::{SchemaPath, SchemaStep};
 use schema_reports::location::OutOfMemory;
 use serde_json::Value;
 use std::alloc::Global;
+use std::rc::RcStr;
 
 /// The text that a fragment stands for.
 fn decoded(alloc: Global, fragment: &str) -> Result<String, OutOfMemory>
@@ -126,7 +127,9 @@ fn step_named(
     ensures step { IfOk result (λ o. option_map schema_step_of o ≡ step_named segment.now (view value.now)) }
 {
     match value {
-        Value::Object(_) => Ok(Some(SchemaStep::Member(unescaped(alloc, segment)?))),
+        Value::Object(_) => Ok(Some(SchemaStep::Member(RcStr::from_string(unescaped(
+            alloc, segment,
+        )?)?))),
         Value::Array(_) => match index_named(segment) {
             Some(index) => Ok(Some(SchemaStep::Item(index))),
             None => Ok(None),

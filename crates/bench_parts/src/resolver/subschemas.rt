@@ -12,6 +12,7 @@ use schema_node::context::schema_place::{SchemaPath, SchemaPlace, SchemaStep};
 use schema_reports::location::OutOfMemory;
 use serde_json::{Map, Value};
 use std::alloc::Global;
+use std::rc::RcStr;
 
 /// Whether a value is an object or a boolean.
 pub fn is_schema(value: &Value) -> bool
@@ -30,8 +31,8 @@ fn member_place(
     ensures place { IfOk result (λ p. place_of p ≡ at_path (place_of place.now) (to_member keyword.now ∷ to_member name.now ∷ [])) }
 {
     let mut path = SchemaPath::root(alloc);
-    path.push(SchemaStep::Member(String::from_str(alloc, keyword)?))?;
-    path.push(SchemaStep::Member(String::from_str(alloc, name)?))?;
+    path.push(SchemaStep::Member(RcStr::from_str(alloc, keyword)?))?;
+    path.push(SchemaStep::Member(RcStr::from_str(alloc, name)?))?;
     place.below(alloc, &path)
 }
 
@@ -45,7 +46,7 @@ fn item_place(
     ensures place { IfOk result (λ p. place_of p ≡ at_path (place_of place.now) (to_member keyword.now ∷ to_item index ∷ [])) }
 {
     let mut path = SchemaPath::root(alloc);
-    path.push(SchemaStep::Member(String::from_str(alloc, keyword)?))?;
+    path.push(SchemaStep::Member(RcStr::from_str(alloc, keyword)?))?;
     path.push(SchemaStep::Item(index))?;
     place.below(alloc, &path)
 }
@@ -59,7 +60,7 @@ fn value_place(
     ensures place { IfOk result (λ p. place_of p ≡ at_path (place_of place.now) (to_member keyword.now ∷ [])) }
 {
     let mut path = SchemaPath::root(alloc);
-    path.push(SchemaStep::Member(String::from_str(alloc, keyword)?))?;
+    path.push(SchemaStep::Member(RcStr::from_str(alloc, keyword)?))?;
     place.below(alloc, &path)
 }
 

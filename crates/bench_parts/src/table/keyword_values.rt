@@ -14,6 +14,7 @@ use schema_node::context::schema_place::{SchemaPath, SchemaStep};
 use schema_reports::location::OutOfMemory;
 use serde_json::{Map, Value};
 use std::alloc::Global;
+use std::rc::RcStr;
 
 /// The type of this name.
 fn type_named(name: &str) -> Option<TypeName>
@@ -157,7 +158,7 @@ pub fn values_below(
 fn member_below(alloc: Global, keyword: &str, name: &str) -> Result<SchemaPath, OutOfMemory>
     ensures path { IfOk result (λ path. path ≡ to_member keyword.now ∷ to_member name.now ∷ []) }
 {
-    let step = SchemaStep::Member(String::from_str(alloc, name)?);
+    let step = SchemaStep::Member(RcStr::from_str(alloc, name)?);
     let mut path = value_of(alloc, keyword)?;
     path.push(step)?;
     Ok(path)

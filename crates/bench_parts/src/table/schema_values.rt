@@ -12,6 +12,7 @@ use schema_reports::keywords::Draft;
 use schema_reports::location::OutOfMemory;
 use serde_json::{Map, Value};
 use std::alloc::Global;
+use std::rc::RcStr;
 
 /// The value of this name in an object.
 pub fn value_in<'o>(object: &'o Map<String, Value>, name: &str) -> Option<&'o Value>
@@ -24,7 +25,7 @@ pub fn value_in<'o>(object: &'o Map<String, Value>, name: &str) -> Option<&'o Va
 pub fn value_of(alloc: Global, keyword: &str) -> Result<SchemaPath, OutOfMemory>
     ensures path { IfOk result (λ path. path ≡ to_member keyword.now ∷ []) }
 {
-    let name = String::from_str(alloc, keyword)?;
+    let name = RcStr::from_str(alloc, keyword)?;
     let mut path = SchemaPath::root(alloc);
     path.push(SchemaStep::Member(name))?;
     Ok(path)

@@ -12,11 +12,12 @@ ghost use Rattle.schema_node.specs.ResolverViews.{place_of};
 use schema_reports::location::{Location, LocationSegment, OutOfMemory};
 use std::alloc::{AllocError, Global};
 use std::marker::Model;
+use std::rc::RcStr;
 
-/// A step from a value of a schema to one inside it.
+/// A step from a value of a schema to one inside it. A member's name is shared by all places below it, so that a clone costs no memory.
 #[derive(Drop)]
 pub enum SchemaStep {
-    Member(String),
+    Member(RcStr),
     Item(usize),
 }
 
