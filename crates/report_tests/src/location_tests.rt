@@ -32,7 +32,7 @@ fn item_points(items: &Location, number: usize, want: &str) -> Result<bool, OutO
 /// Whether the location of an item, copied, with that of the items after it, is this pointer.
 fn item_with_items_points(items: &Location, want: &str) -> Result<bool, OutOfMemory> {
     let deep = items.join(LocationSegment::Index(120))?;
-    let copied = deep.clone();
+    let copied: Result<Location, OutOfMemory> = deep.clone();
     drop(deep);
     let appended = copied?.append(items)?;
     Ok(appended.as_str() == want)
