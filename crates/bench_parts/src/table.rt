@@ -82,7 +82,8 @@ fn makes_if(
     value: &Value,
     keyword: Option<BenchKeyword>,
 ) -> Result<PathsMaker<BenchKeyword>, OutOfMemory>
-    ensures maker { IfOk result (λ m. waiting_of shape_of m ≡ makers.begun (makes_if name.now (view value.now) (option_map shape_of keyword))) }
+    ensures maker { IfOk result (λ m. waiting_of shape_of m
+        ≡ makers.begun (makes_if name.now (view value.now) (option_map shape_of keyword))) }
 {
     match keyword {
         Some(keyword) => Ok(ends(alloc, Ending::Keyword(keyword))),

@@ -223,7 +223,8 @@ fn turn_judging<'s, 'i, P: PlannedKeyword>(
 }
 
 impl<P: PlannedKeyword> Validate for Planned<P> {
-    ghost use Rattle.keyword_ways.specs.OwnWays.{own_absorbed, own_ends, own_fits, own_function_laws, own_remaining, own_turn_laws, own_words};
+    ghost use Rattle.keyword_ways.specs.OwnWays.{own_absorbed, own_ends, own_fits, own_remaining, own_words};
+    ghost use Rattle.keyword_ways.specs.OwnWays.{own_function_laws, own_turn_laws};
     ghost use Rattle.keyword_ways.specs.Plans.{plans_present};
 
     type Run = Progress;

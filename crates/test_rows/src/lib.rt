@@ -40,7 +40,7 @@ pub fn list_at(row: &Value, number: usize) -> &[Value]
 ///
 /// # Errors
 ///
-/// A text that is no JSON; want of memory.
+/// If the text is no JSON, or memory cannot be allocated.
 pub fn wrong_row<F: Fn(&Value) -> Result<bool, AllocError>>(
     alloc: Global,
     table: &str,

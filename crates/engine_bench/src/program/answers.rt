@@ -148,7 +148,7 @@ fn errors(
 ///
 /// # Errors
 ///
-/// Want of memory.
+/// If memory cannot be allocated.
 #[tactic(auto, using(crate::proofs::MeantAnswers::answered_plainly))]
 pub fn ask(
     alloc: Global,

@@ -10,7 +10,7 @@ const FIRST_SIZE: usize = 256;
 ///
 /// # Errors
 ///
-/// Want of memory.
+/// If memory cannot be allocated.
 pub fn given_words<R: Env>(alloc: Global, rt: &R) -> Result<Vec<Vec<u8>>, OutOfMemory> {
     let mut words = Vec::new(alloc);
     for place in 1..usize::MAX {

@@ -115,7 +115,7 @@ fn list_in(alloc: Global, text: &[u8]) -> Result<Vec<String>, Fault>
 ///
 /// # Errors
 ///
-/// The first of the faults in the words, or want of memory: a number of words other than three or four, or a MODE that is
+/// The first of the faults in the words, or that memory cannot be allocated: a number of words other than three or four, or a MODE that is
 /// none; a SCHEMA, then an INSTANCE that is not JSON; an UNFINISHED that is no list of texts.
 pub fn request_in(alloc: Global, words: &[Vec<u8>]) -> Result<Request, Fault>
     ensures holds { IfOk result
