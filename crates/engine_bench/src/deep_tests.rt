@@ -1,4 +1,8 @@
 //! An instance seventy levels deep, through a request whose path has five segments.
+ghost use Rattle.std.specs.Prelude.{◌≡◌, ◌∷◌, [], IfOk, true};
+ghost use Rattle.schema_reports.specs.Guarded.{form_edges};
+ghost use Rattle.schema_reports.specs.Instance.{Text};
+ghost use Rattle.schema_node.specs.NodeViews.{form_of};
 
 use bench_keywords::keyword::BenchKeyword;
 use bench_keywords::type_names::TypeName;
@@ -21,7 +25,10 @@ fn five_segments(alloc: Global) -> Result<Location, OutOfMemory> {
 }
 
 /// The keyword `properties`, whose child at the member `n` is the node itself.
-fn member_entry(alloc: Global, node: SchemaNode) -> Result<Entry<BenchKeyword>, OutOfMemory> {
+fn member_entry(alloc: Global, node: SchemaNode) -> Result<Entry<BenchKeyword>, OutOfMemory>
+    ensures guarded { IfOk result (λ e. (path : Text)
+        × (form_edges (form_of e.form) ≡ record { node = node.0; path = path; guarded = true } ∷ [])) }
+{
     let path = five_segments(alloc)?;
     let mut names = Vec::new(alloc);
     names.push(String::from_str(alloc, "n")?)?;
@@ -40,7 +47,9 @@ fn member_entry(alloc: Global, node: SchemaNode) -> Result<Entry<BenchKeyword>, 
 }
 
 /// The keyword `type` that asks for an object.
-fn object_entry(alloc: Global) -> Result<Entry<BenchKeyword>, OutOfMemory> {
+fn object_entry(alloc: Global) -> Result<Entry<BenchKeyword>, OutOfMemory>
+    ensures alone { IfOk result (λ e. form_edges (form_of e.form) ≡ []) }
+{
     Ok(Entry {
         name: String::from_str(alloc, "type")?,
         priority: 1,

@@ -1,4 +1,5 @@
-use Rattle.std.proofs.Common.{◌∙◌, sym, ap, string_bytes}
+use Rattle.std.proofs.Common.{◌∙◌, sym, ap}
+use Rattle.std.specs.Rc.{rc_str_bytes}
 use Rattle.std.specs.Prelude.{option_map}
 use Rattle.serde_json.specs.Find.{get}
 use Rattle.serde_json.specs.View.{members_view, view}
@@ -14,7 +15,7 @@ returns-in-Member c =
     let is = object_is value (members_view entries) (sym c.as_object.ensures ∙ ap (option_map (λ m. members_view m.now.entries)) c.in-Some.is) in
     record {
       leads = c.is_schema_there.ensures.there ∙ ap schema_found c.get.ensures ∙ ap (λ t. schema_found (get t value)) c.as_str.ensures.value
-          ∙ leads_to_the_member (string_bytes c.in-Member.name) value entries is c.len-count.ensures.ordered
+          ∙ leads_to_the_member (rc_str_bytes c.in-Member.name) value entries is c.len-count.ensures.ordered
           ∙ ap (λ s. leads_to_member (schema_step_of s) value) (sym c.in-Member.is);
     }
 
