@@ -46,7 +46,8 @@ fn print_errors(
     instance: &Value,
 ) -> anyhow::Result<()> {
     for error in validator.iter_errors(alloc, instance)? {
-        println!(rt; "{}: {error}", error.schema_path.as_str())?;
+        let path = error.schema_path.as_str();
+        println!(rt; "{path}: {error}")?;
     }
     Ok(())
 }
