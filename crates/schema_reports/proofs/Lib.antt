@@ -22,6 +22,7 @@ pub mod PlainRuns
 pub mod DepthsAgree
 pub mod TurnsGiveRuns
 mod CoversApart
+mod TakenApart
 mod SameTurns
 mod Plans
 mod Senses
@@ -50,6 +51,7 @@ pub mod Escaped
 pub mod Found
 mod Forest
 mod SearchCounts
+mod RunUses
 mod SharedLists
 mod SearchedSense
 mod SearchedFailure

@@ -10,14 +10,16 @@ pairs_of e = ap (λ (x : Context). x.in_progress) e
 
 after : (c : In_ok-push) → map pair_of c.push.new.self.items ≡ c.args.self.now.in_progress ++ (c.args.node.0, c.args.place.now) ∷ []
 after c =
-    pushed_pairs c.self.inside.pairs.items c.push.new.self.items (record { node = c.args.node; place = c.in_ok-place.place }) c.args.place.now c.in_ok-push.ensures.items c.in_ok-place.ensures.cases
+    pushed_pairs c.self.inside.pairs.items c.push.new.self.items (record { node = c.args.node; place = c.in_ok-place.place; deepest = c.max-deepest.result }) c.args.place.now c.in_ok-push.ensures.items c.in_ok-place.ensures.cases
     ∙ ap (λ (r : Pairs). r ++ (c.args.node.0, c.args.place.now) ∷ []) (pairs_of c.self.view_is)
 
 distinct : (c : In_ok-push) → Distinct (map pair_of c.push.new.self.items)
-distinct c = distinct_pushed c.args.node.0 c.args.place.now c.args.self.now.in_progress _ (after c) (subst Distinct (pairs_of c.self.view_is) c.self.invariant) (sym c.is_in_progress.ensures.found ∙ c.if-is_in_progress.false)
+distinct c = distinct_pushed c.args.node.0 c.args.place.now c.args.self.now.in_progress _ (after c) (subst Distinct (pairs_of c.self.view_is) c.self.invariant.0) (sym c.is_in_progress.ensures.found ∙ c.if-is_in_progress.false)
 
 pub invariant_of-self-2 : goal.invariant_of-self-2
-invariant_of-self-2 c = distinct c
+invariant_of-self-2 c =
+    let items = c.self.inside.pairs.items in
+    (distinct c, ?)
 
 pub returns-clause-distinct : goal.returns-clause-distinct
 returns-clause-distinct c = distinct c
