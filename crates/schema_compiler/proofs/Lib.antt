@@ -3,6 +3,7 @@ pub mod Chains
 pub mod Fragments
 pub mod Innermost
 pub mod Lists
+pub mod Guarding
 pub mod Growing
 pub mod Tables
 pub mod Members
@@ -13,5 +14,6 @@ pub mod Entries
 pub mod Forms
 pub mod MembersAsk
 pub mod Compiled
+pub mod WorkedRows
 pub mod CustomVocabularies
 mod Unknown

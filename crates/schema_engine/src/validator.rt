@@ -13,6 +13,7 @@ ghost use Rattle.schema_reports.specs.Keywords.{for_all, for_first, for_units, f
 ghost use Rattle.schema_engine.specs.Answers.{refusal_of};
 ghost use Rattle.schema_engine.specs.Asked.{DecidesFromSomeDepth, ErrorsFromSomeDepth, FirstFromSomeDepth};
 ghost use Rattle.schema_engine.specs.Asked.{DecidesInEverySense, ErrorsInEverySense, FirstInEverySense};
+ghost use Rattle.schema_engine.specs.Asked.{ErrorsPointAsNodes, FirstPointsAsNodes};
 ghost use Rattle.schema_engine.specs.Asked.{RunDecides, RunFindsFirst, RunListsErrors, RunMeets, RunReplies};
 
 use schema_node::context::keyword::{Mode, Reply, Validate};
@@ -311,6 +312,8 @@ impl<K: Validate, M: Matcher> Validator<K, M> {
             K.Validate M.Matcher.own self.now (view instance.now) (refusal_of r)) }
         ensures senses { IfOk result (λ r. FirstInEverySense
             K.Validate M.Matcher.own self.now (view instance.now) (refusal_of r)) }
+        ensures points { IfOk result (λ r. FirstPointsAsNodes
+            K.Validate M.Matcher.own self.now (view instance.now) (refusal_of r)) }
         ensures borrows { IfOk result (λ r. IfSome (refusal_of r) (BorrowsItsPlace (view instance.now))) }
     {
         Ok(unless_refused(self.first_under_each(alloc, instance)?))
@@ -332,6 +335,8 @@ impl<K: Validate, M: Matcher> Validator<K, M> {
         ensures depth { IfOk result (λ es. ErrorsFromSomeDepth
             K.Validate M.Matcher.own self.now (view instance.now) es) }
         ensures senses { IfOk result (λ es. ErrorsInEverySense
+            K.Validate M.Matcher.own self.now (view instance.now) es) }
+        ensures points { IfOk result (λ es. ErrorsPointAsNodes
             K.Validate M.Matcher.own self.now (view instance.now) es) }
         ensures borrows { IfOk result (λ es. All (BorrowsItsPlace (view instance.now)) es) }
     {

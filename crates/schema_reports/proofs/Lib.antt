@@ -36,6 +36,7 @@ mod PlanForms
 pub mod WholeNumbers
 pub mod ErrorsLead
 pub mod NodeErrorsLead
+pub mod ShownPlaces
 pub mod ListedLead
 pub mod WorkedRows
 pub mod RowsNumbered
