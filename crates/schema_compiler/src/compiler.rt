@@ -4,7 +4,8 @@
 //! What it is given is in `given`, what it fills in `compiled`; `context` says what draft, vocabularies and options decide where
 //! a schema stands. Its steps are in `vocabularies`, `values`, `makers`, `subschema`, `targets` (over the references of `ref_`
 //! and `start`), `entries` and `annotations`.
-ghost use Rattle.std.specs.Prelude.{IfErr, IfOk, Option, map, option_map, string_bytes};
+ghost use Rattle.std.specs.Prelude.{◌≡◌, IfErr, IfOk, Option, Some, map, option_map, string_bytes};
+ghost use Rattle.serde_json.specs.Data.{object};
 ghost use Rattle.serde_json.specs.View.{members_view, view};
 ghost use Rattle.schema_reports.specs.Instance.{Text};
 ghost use Rattle.schema_reports.specs.Drafts as drafts;
@@ -217,12 +218,14 @@ impl<'p, R: Resolver, T> Given<'p, R, T> {
         &self,
         compiled: &mut Compiled<R::State, K>,
         key: &SchemaKey<R::State>,
-        members: &Map<String, Value>,
+        members: &'p Map<String, Value>,
     ) -> Result<PlannedNode<K>, BuildError>
     where
         T: KeywordTable<K>,
         requires table { IsWell (task R.resolving T.owned T.script K.shape self.now)
             (filled R.point compiled.old) }
+        requires object { (R.resolving self.now.resolver.now).value (place_of key.now.place) ≡
+            Some (object (members_view members.now.entries)) }
         ensures planned { IfOk result (λ n. PlansObject
             (task R.resolving T.owned T.script K.shape self.now) (filled R.point compiled.old)
             (filled R.point compiled.new) (key_of R.point key.now) (members_view members.now.entries)
@@ -264,12 +267,14 @@ impl<'p, R: Resolver, T> Given<'p, R, T> {
         &self,
         compiled: &mut Compiled<R::State, K>,
         key: &SchemaKey<R::State>,
-        members: &Map<String, Value>,
+        members: &'p Map<String, Value>,
     ) -> Result<ObjectKeywords<K>, BuildError>
     where
         T: KeywordTable<K>,
         requires table { IsWell (task R.resolving T.owned T.script K.shape self.now)
             (filled R.point compiled.old) }
+        requires object { (R.resolving self.now.resolver.now).value (place_of key.now.place) ≡
+            Some (object (members_view members.now.entries)) }
         ensures parts { IfOk result (λ o. MakesMembers
             (task R.resolving T.owned T.script K.shape self.now) (filled R.point compiled.old)
             (filled R.point compiled.new) (key_of R.point key.now) (members_view members.now.entries)
@@ -295,7 +300,7 @@ impl<'p, R: Resolver, T> Given<'p, R, T> {
         &self,
         compiled: &mut Compiled<R::State, K>,
         key: &SchemaKey<R::State>,
-        members: &Map<String, Value>,
+        members: &'p Map<String, Value>,
         name: &String,
         value: &Value,
     ) -> Result<Option<Entry<K>>, BuildError>
@@ -303,6 +308,8 @@ impl<'p, R: Resolver, T> Given<'p, R, T> {
         T: KeywordTable<K>,
         requires table { IsWell (task R.resolving T.owned T.script K.shape self.now)
             (filled R.point compiled.old) }
+        requires object { (R.resolving self.now.resolver.now).value (place_of key.now.place) ≡
+            Some (object (members_view members.now.entries)) }
         ensures part { IfOk result (λ o. MakesMember
             (task R.resolving T.owned T.script K.shape self.now) (filled R.point compiled.old)
             (filled R.point compiled.new) (key_of R.point key.now) (members_view members.now.entries)
@@ -343,7 +350,7 @@ impl<'p, R: Resolver, T> Given<'p, R, T> {
         &self,
         compiled: &mut Compiled<R::State, K>,
         key: &SchemaKey<R::State>,
-        members: &Map<String, Value>,
+        members: &'p Map<String, Value>,
         own: bool,
         name: &String,
         priority: u8,
@@ -353,6 +360,8 @@ impl<'p, R: Resolver, T> Given<'p, R, T> {
         T: KeywordTable<K>,
         requires table { IsWell (task R.resolving T.owned T.script K.shape self.now)
             (filled R.point compiled.old) }
+        requires object { (R.resolving self.now.resolver.now).value (place_of key.now.place) ≡
+            Some (object (members_view members.now.entries)) }
         ensures part { IfOk result (λ o. MakesKeyword
             (task R.resolving T.owned T.script K.shape self.now) (filled R.point compiled.old)
             (filled R.point compiled.new) (key_of R.point key.now) (members_view members.now.entries)
@@ -367,7 +376,7 @@ impl<'p, R: Resolver, T> Given<'p, R, T> {
         loop {
             match self.table.turn(self.alloc, &mut maker, reply)? {
                 MakerStep::Compile(path) => {
-                    let edge = self.child_edge(compiled, key, &path)?;
+                    let edge = self.child_edge(compiled, key, members, &path)?;
                     reply = keep_edge(&mut children, Some(edge))?;
                 }
                 MakerStep::Refer(text) => {
@@ -390,12 +399,15 @@ impl<'p, R: Resolver, T> Given<'p, R, T> {
         &self,
         compiled: &mut Compiled<R::State, K>,
         key: &SchemaKey<R::State>,
+        members: &'p Map<String, Value>,
         path: &SchemaPath,
     ) -> Result<Edge, BuildError>
     where
         T: KeywordTable<K>,
         requires table { IsWell (task R.resolving T.owned T.script K.shape self.now)
             (filled R.point compiled.old) }
+        requires object { (R.resolving self.now.resolver.now).value (place_of key.now.place) ≡
+            Some (object (members_view members.now.entries)) }
         ensures answered { IfOk result (λ e. AnswersChild
             (task R.resolving T.owned T.script K.shape self.now) (filled R.point compiled.old)
             (filled R.point compiled.new) (key_of R.point key.now) path.now (edge_of e)) }
@@ -404,7 +416,7 @@ impl<'p, R: Resolver, T> Given<'p, R, T> {
             (key_of R.point key.now) path.now) }
     {
         let location = path.pointer(self.alloc)?;
-        let below = self.subschema_key(key, path)?;
+        let below = self.subschema_key(key, members, path)?;
         let reading = Reading::Read(below.1);
         Ok(self.edge_to(compiled, below.0, reading, location)?)
     }

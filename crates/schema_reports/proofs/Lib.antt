@@ -38,6 +38,7 @@ pub mod ErrorsLead
 pub mod NodeErrorsLead
 pub mod ListedLead
 pub mod WorkedRows
+pub mod FusedRows
 pub mod RowsNumbered
 pub mod KeywordNames
 pub mod KeywordRows

@@ -18,7 +18,7 @@ use Rattle.schema_reports.specs.Units.{no_unit, keyword_units, reference_units, 
 use Rattle.schema_reports.specs.Laws.{EachKeeps}
 use Rattle.schema_reports.specs.Runs.{Run, no_run, Met, keyword_met, plan_met, part_met, looked, run_node, run}
 use Rattle.schema_reports.specs.Cover.{plain, mode_of}
-use Rattle.schema_reports.specs.Guarded.{NodeEdge, Children, node_child, same_node, same_edge, NodeForm, node_keyword, node_reference, NodePart, NodePlan, node_always, node_never, node_these, Nodes, node_at, node_asked, node_outcome, node_part_units, node_entries_of, node_part_met, node_looked, guarded_within, guarded_node, guarded_sense}
+use Rattle.schema_reports.specs.Guarded.{NodeEdge, Children, node_child, same_node, same_edge, NodeForm, node_keyword, node_reference, NodePart, NodePlan, node_always, node_never, node_these, Nodes, node_at, node_asked, node_outcome, node_part_units, node_entries_of, node_part_met, node_looked, guarded_within, guarded_node, guarded_sense, yes_outcome, yes_run}
 use Rattle.schema_reports.specs.Numbered.{Numbers, IsNumber, SameEdge, SameForm, SamePart, SameParts, SamePlan, StandsFor, AreNumbered, Ranked, left, ValuesInside, MakersAskBelow, NumbersMeanUnfolding, NumbersMeanPlain}
 use Rattle.schema_reports.proofs.Reading.{Reads, reads_of}
 use Rattle.schema_reports.proofs.Questions.{later}
@@ -259,12 +259,12 @@ module _ {S K R : Type 0} (w : Parts S K R) (keys : Numbers S) (nodes : Nodes K)
       → guarded_sense w.keywords w.matcher nodes (subject w instance) m i ≡ plain w instance n k
   senses_agree m n low enough =
       let inner = subschemas_inside w values makers in
-      let says : (c : Completion) → guarded_within accepted (node_outcome w.keywords w.matcher nodes (subject w instance) c) m i [] [] [] ≡ unfold_ w instance c n k [] []
-      = λ c. says_unfolding w instance keys nodes inner (state_itself w states) ranked accepted (node_outcome w.keywords w.matcher nodes (subject w instance) c) (outcome_of w instance c)
+      let says : (c : Completion) → guarded_within yes_outcome (node_outcome w.keywords w.matcher nodes (subject w instance) c) m i [] [] [] ≡ unfold_ w instance c n k [] []
+      = λ c. says_unfolding w instance keys nodes inner (state_itself w states) ranked yes_outcome accepted (node_outcome w.keywords w.matcher nodes (subject w instance) c) (outcome_of w instance c)
       (λ i' k' number' path' p' f g h. outcomes_same w instance keys nodes (reads_of w.keywords laws) i' k' (numbered.stands i' k' number') path' p' c f g h)
       (record { key = k; path = []; place = [] }) none Enough on one_less m n i number low enough in
-      let runs : (as' : Assumptions) → guarded_within no_run (guarded_node w.keywords w.matcher nodes (subject w instance) as') m i [] [] [] ≡ run w instance as' n k [] []
-      = λ as'. says_unfolding w instance keys nodes inner (state_itself w states) ranked no_run (guarded_node w.keywords w.matcher nodes (subject w instance) as') (run_node w instance as')
+      let runs : (as' : Assumptions) → guarded_within (yes_run nodes) (guarded_node w.keywords w.matcher nodes (subject w instance) as') m i [] [] [] ≡ run w instance as' n k [] []
+      = λ as'. says_unfolding w instance keys nodes inner (state_itself w states) ranked (yes_run nodes) no_run (guarded_node w.keywords w.matcher nodes (subject w instance) as') (run_node w instance as')
       (λ i' k' number' path' p' f g h. runs_same w instance keys nodes (reads_of w.keywords laws) states numbered i' k' (numbered.stands i' k' number') path' p' as' f g h)
       (record { key = k; path = []; place = [] }) none Enough on one_less m n i number low enough in
       λ j. record { says = λ c. says c j; meets = λ call as'. (runs as' j).met (mode_of call as'); is_match = w.matcher.is_match }

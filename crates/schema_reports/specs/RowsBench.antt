@@ -116,6 +116,7 @@ kept_units k x = questions_of k x
 
 abbrev pub word_units : Word → Subject → Matching → (Question → Unit_) → Gives
 word_units k x m u = record {
+  valid = word_holds k x m (λ q. (report_of (u q)).valid);
   children = map u (kept_units k x);
   annotations = None;
   errors = flat_map (λ f. elim f [ own o ↦ record { name = o.name; text = o.text } ∷ [] | passed e ↦ [] ]) (own_faults k x (word_holds k x m (λ q. (report_of (u q)).valid)));
@@ -186,7 +187,7 @@ words = record {
   begin = λ k x mode. record { mode = mode; phase = starting; left = [] };
   turn = next_of;
   step = step_of;
-  answer = λ r. record { verdict = true; errors = []; gives = record { children = []; annotations = None; errors = []; absorbed = [] } };
+  answer = λ r. record { mode = r.mode; verdict = true; errors = []; gives = record { valid = true; children = []; annotations = None; errors = []; absorbed = [] } };
 }
 
 -- ---- the table

@@ -7,7 +7,7 @@ use Rattle.schema_reports.specs.Pointer.{joined}
 use Rattle.schema_reports.specs.Reports.{Described, Unit_, children_of, report_of, unit, units_of}
 use Rattle.schema_reports.specs.Drafts.{ref_stands_alone}
 use Rattle.schema_reports.specs.Matching.{Completion, Matching, matching}
-use Rattle.schema_reports.specs.Keywords.{Gives, Keywords, Question}
+use Rattle.schema_reports.specs.Keywords.{Gives, Keywords, Named, Question}
 use Rattle.schema_reports.specs.Parts.{Parts}
 use Rattle.schema_reports.specs.Plan.{Edge, Form, Key, Part, always, keyword, never, part, plan, reference, schema_of, these}
 use Rattle.schema_reports.specs.Meaning.{Where, asked, at, false_text, referred_to, subject, unfolded}
@@ -15,28 +15,30 @@ use Rattle.schema_reports.specs.Meaning.{Where, asked, at, false_text, referred_
 abbrev pub no_unit : Unit_
 no_unit = unit (record { valid = true; place = []; evaluation_path = []; schema_path = []; absolute = None; annotations = None; errors = [] }) (units_of [])
 
-abbrev pub keyword_unit : Where → Text → Bool → Gives → Unit_
-keyword_unit x name valid g = unit (record {
-  valid = valid;
+-- the unit of a keyword, or of one that is absorbed
+abbrev pub keyword_unit : Where → Named → Unit_
+keyword_unit x a = unit (record {
+  valid = a.valid;
   place = x.place;
-  evaluation_path = joined x.path name;
-  schema_path = joined x.location name;
-  absolute = x.absolute (joined x.location name);
-  annotations = g.annotations;
-  errors = g.errors;
-}) (units_of g.children)
+  evaluation_path = joined x.path a.name;
+  schema_path = joined x.location a.name;
+  absolute = x.absolute (joined x.location a.name);
+  annotations = a.annotations;
+  errors = a.errors;
+}) (units_of a.children)
 
 -- a keyword's own unit, and those that it absorbs, each with its keyword's name
 abbrev pub PartUnits : Type 0
 PartUnits = Unit_ × List (Text × Unit_)
 
+abbrev pub given_units : Where → Text → Gives → PartUnits
+given_units x name g = (
+  keyword_unit x (record { name = name; valid = g.valid; children = g.children; annotations = g.annotations; errors = g.errors }),
+  map (λ a. (a.name, keyword_unit x a)) g.absorbed,
+)
+
 abbrev pub keyword_units : {K R : Type 0} → Keywords K R → Where → Text → K → Subject → Matching → (Question → Unit_) → PartUnits
-keyword_units keywords x name m s matches answers =
-    let g = keywords.units m s matches answers in
-    let valid = keywords.holds m s matches (λ q. (report_of (answers q)).valid) in (
-      keyword_unit x name valid g,
-      map (λ a. (a.0, keyword_unit x a.0 valid (record { children = a.1; annotations = None; errors = []; absorbed = [] }))) g.absorbed,
-    )
+keyword_units keywords x name m s matches answers = given_units x name (keywords.units m s matches answers)
 
 abbrev pub reference_units : Where → Text → Unit_ → PartUnits
 reference_units x name u = (unit (record (report_of u) { evaluation_path = joined x.path name }) (children_of u), [])

@@ -28,7 +28,7 @@ returns-clause-leads g c =
     let m = g.M.Matcher.matching c.args.matcher.now in
     let k = g.K.Validate in
     let each : (texts : Bool) → EachKeepsAbsorbing (k.words texts) k.absorbed =
-    λ texts s. keeps_of_turns (k.words texts) s (k.absorbed s) (k.remaining s) (k.ends texts s) (k.fits texts s) (g.met.K.Validate.turn_laws texts s) (g.met.K.Validate.function_laws texts s) in
+    λ texts s. keeps_of_turns (k.words texts) s (k.absorbed s) (k.remaining s) (k.can_be texts s) (k.ends texts s) (k.fits texts s) (g.met.K.Validate.turn_laws texts s) (g.met.K.Validate.function_laws texts s) in
     let built = c.in_ok-validator.ensures in (
       c.in_ok-validator.validator,
       built.program,
