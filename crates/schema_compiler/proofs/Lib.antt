@@ -1,7 +1,6 @@
 pub mod SameKeys
 pub mod Chains
 pub mod Fragments
-pub mod Innermost
 pub mod Lists
 pub mod Growing
 pub mod Tables
@@ -15,3 +14,4 @@ pub mod MembersAsk
 pub mod Compiled
 pub mod CustomVocabularies
 mod Unknown
+mod Absorbed

@@ -7,10 +7,10 @@ use Rattle.schema_reports.specs.Instance.{Text}
 use Rattle.schema_reports.specs.Making.{Builtin}
 use Rattle.schema_reports.specs.Parts.{Parts}
 use Rattle.schema_reports.specs.Pointer.{joined}
-use Rattle.schema_reports.specs.Plan.{Edge, Key, Part, Plan, Reference, found, making, part, part_made, builtin_part, parts, plan_alone, plan_of, reference, reference_edge, reference_named, reference_part, sorted, these, to_ref, option_list}
+use Rattle.schema_reports.specs.Plan.{Edge, Key, Part, Plan, Reference, found, is_self, making, part, part_made, builtin_part, parts, plan_alone, plan_of, reference, reference_edge, reference_named, reference_part, sorted, these, to_ref, option_list}
 use Rattle.schema_reports.specs.Reach.{builtin_edges, lone_ref, maker_edges, members_edges, reference_edges}
 use Rattle.schema_reports.specs.Refusals.{Cause, builtin_causes, lookup_causes, maker_causes, members_causes, reference_causes, reference_not_text, schema_causes}
-use Rattle.schema_reports.specs.Units.{object_annotations, object_of, unknown}
+use Rattle.schema_reports.specs.Units.{absorbed_by, annotating, object_annotations, object_of}
 use Rattle.schema_reports.specs.Guarded.{NodeEdge, NodePart, NodePlan, node_reference}
 use Rattle.serde_json.specs.View.{view}
 use Rattle.serde_json.specs.declared.value.Value.{Value}
@@ -64,6 +64,19 @@ module _ {S K R : Type 0} (w : Parts S K R) (k : Key S) where
         → P (member_edges w k whole name value) (member_causes w k whole name value) (part w k whole name value)
     built_is b h o q x = by_name b None h o q x
 
+  -- a reference absorbs no name
+  pub reference_absorbs : (name : Text) (priority : ℕ) (kind : Reference) (value : Data) → absorbed_by (reference_part w k name priority kind value) ≡ []
+  reference_absorbs name priority kind (string text) = go (is_self w k kind text)
+    where
+      go : (b : Bool) → absorbed_by {K = K} (cond b None (Some (record { name = name; priority = priority; is_leaf = false; form = reference kind text }))) ≡ []
+      go true = refl
+      go false = refl
+  reference_absorbs name priority kind null = refl
+  reference_absorbs name priority kind (boolean b) = refl
+  reference_absorbs name priority kind (number n) = refl
+  reference_absorbs name priority kind (array ds) = refl
+  reference_absorbs name priority kind (object ms) = refl
+
   -- ---- an object: P of its edges, its causes, its plan and its annotations
 
   module _ (ms : Members) (P : List (Edge S) → List Cause → Plan K → Option Data → Type 0) where
@@ -71,14 +84,14 @@ module _ {S K R : Type 0} (w : Parts S K R) (k : Key S) where
     object_by o = P (elim o [ Some value ↦ reference_edges w k (codes "$ref") to_ref value | None ↦ members_edges w k ms ms ])
         (elim o [ Some value ↦ reference_causes w k (codes "$ref") to_ref value | None ↦ members_causes w k ms ms ])
         (elim o [ Some value ↦ plan_alone w (reference_part w k (codes "$ref") 70 to_ref value) | None ↦ these (sorted (parts w k ms ms)) ])
-        (elim o [ Some value ↦ None | None ↦ object_of (unknown w k ms ms) ])
+        (elim o [ Some value ↦ None | None ↦ object_of (annotating w k ms) ])
 
     pub lone_is : (d : Data) → Some d ≡ lone_ref w k ms
         → P (reference_edges w k (codes "$ref") to_ref d) (reference_causes w k (codes "$ref") to_ref d) (plan_alone w (reference_part w k (codes "$ref") 70 to_ref d)) None
         → P (object_edges w k ms) (schema_causes w k (object ms)) (plan_of w k (object ms)) (object_annotations w k ms)
     lone_is d h x = subst object_by h x
 
-    pub members_are : None ≡ lone_ref w k ms → P (members_edges w k ms ms) (members_causes w k ms ms) (these (sorted (parts w k ms ms))) (object_of (unknown w k ms ms))
+    pub members_are : None ≡ lone_ref w k ms → P (members_edges w k ms ms) (members_causes w k ms ms) (these (sorted (parts w k ms ms))) (object_of (annotating w k ms))
         → P (object_edges w k ms) (schema_causes w k (object ms)) (plan_of w k (object ms)) (object_annotations w k ms)
     members_are h x = subst object_by h x
 

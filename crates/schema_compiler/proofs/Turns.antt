@@ -8,6 +8,7 @@ use Rattle.schema_reports.specs.Parts.{Parts}
 use Rattle.schema_reports.specs.Making.{Made, Making, Request, Script, a_keyword, after_request, compile, followed, nothing, refer, refused, then_compile, then_end, then_refer}
 use Rattle.schema_reports.specs.Plan.{Edge, Key, found, is_self, part_made, requested, subschema, to_ref, option_list}
 use Rattle.schema_reports.specs.Reach.{maker_edges}
+use Rattle.schema_reports.specs.Units.{absorbed_by}
 use Rattle.schema_compiler.specs.declared.compiler.error.BuildError.{BuildError}
 use Rattle.schema_compiler.specs.Refusing.{Refused}
 use Rattle.schema_compiler.proofs.References.{asked_not_self, leads_none, leads_some, skipped_self}
@@ -244,6 +245,20 @@ module _ {S K R C : Type 0} (w : Parts S K R) (shape : C → K) (limit : ℕ) (k
         subst (λ f. IsMadePart w keys' shape nodes' k (Some (record { name = name; priority = priority; is_leaf = leaf; form = node_keyword m es })) (part_made w name priority leaf f)) (sym (ended_by making waiting told es keys keys' nodes nodes' _ a e))
             (record { name = refl; priority = refl; is_leaf = refl; form = (refl, a.children); edges = a.edges }),
       )
+
+  -- ---- the names that the keyword absorbs
+
+  pub absorbed_nothing : (making : Making K) (waiting waiting' : Waiting K) (told : Told) (es : Children) (keys keys' : List (Key S)) (nodes nodes' : List (NodeEntry C)) (priority : ℕ) (leaf : Bool)
+      → (a : Asked making waiting told es keys keys' nodes nodes') → TakesTurn shape waiting told Nothing waiting' → absorbed_by (part_made w name priority leaf making) ≡ []
+  absorbed_nothing making waiting waiting' told es keys keys' nodes nodes' priority leaf a takes =
+      let e = nothing_step shape (length a.requests) (resumed waiting told) waiting' (due_step shape waiting told (length a.requests) Nothing waiting' a.due takes) in
+      ap (λ f. absorbed_by (part_made w name priority leaf f)) (ended_by making waiting told es keys keys' nodes nodes' nothing a e)
+
+  pub absorbed_keyword : (making : Making K) (waiting waiting' : Waiting K) (told : Told) (es : Children) (keys keys' : List (Key S)) (nodes nodes' : List (NodeEntry C)) (priority : ℕ) (leaf : Bool) (m : C) (names : Vec (String Global) Global)
+      → (a : Asked making waiting told es keys keys' nodes nodes') → TakesTurn shape waiting told (Keyword m names) waiting' → absorbed_by (part_made w name priority leaf making) ≡ map string_bytes names.items
+  absorbed_keyword making waiting waiting' told es keys keys' nodes nodes' priority leaf m names a takes =
+      let e = keyword_step shape (length a.requests) (resumed waiting told) m names waiting' (due_step shape waiting told (length a.requests) (Keyword m names) waiting' a.due takes) in
+      ap (λ f. absorbed_by (part_made w name priority leaf f)) (ended_by making waiting told es keys keys' nodes nodes' _ a e)
 
   -- ---- refusals on the way
 

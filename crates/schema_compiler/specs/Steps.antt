@@ -40,7 +40,7 @@ module _ {S K R C : Type 0} (w : Parts S K R) (shape : C → K) (limit : ℕ) (k
       pub step : IsStep w shape limit es cs keys keys' nodes nodes'
       pub made : IsMadePart w keys' shape nodes' k o wanted
 
-    -- a step that made the parts of an object, and left the members that no part is made of
+    -- a step that made the parts of an object, and left the members that become annotations
     pub record MakesParts (xs : List (NodePart C)) (wanted : List (Part K)) (left wanted_left : Members) : Type 0 where
       pub step : IsStep w shape limit es cs keys keys' nodes nodes'
       pub entries : AreParts w keys' shape nodes' k xs wanted

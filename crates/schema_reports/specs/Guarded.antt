@@ -5,7 +5,7 @@ use Rattle.serde_json.specs.Data.{Data}
 use Rattle.schema_reports.specs.Instance.{Place, Subject, Text}
 use Rattle.schema_reports.specs.Reports.{Outcome, Unit_, accepted}
 use Rattle.schema_reports.specs.Matching.{Assumptions, Completion, Matcher, completion_of, matching}
-use Rattle.schema_reports.specs.Keywords.{Below, Keywords, Marked, Mode, Question, a_child, a_pending, down, here, same_kind}
+use Rattle.schema_reports.specs.Keywords.{Below, Keywords, Marked, Mode, Question, a_child, a_reservation, down, here}
 use Rattle.schema_reports.specs.Meaning.{Where, both, false_outcome, keyword_outcome, place_below, reference_outcome}
 use Rattle.schema_reports.specs.Units.{Entry, PartUnits, false_unit, keyword_units, no_unit, plan_unit, reference_units, true_unit}
 use Rattle.schema_reports.specs.Runs.{Looked, Met, Run, keyword_met, no_run, plan_met}
@@ -29,7 +29,7 @@ same_node _ _ = false
 
 abbrev pub same_edge : Children → Marked → Marked → Bool
 same_edge es (a_child i) (a_child j) = (i == j) || same_node (node_child es i) (node_child es j)
-same_edge es (a_pending a) (a_pending b) = same_kind a b
+same_edge es (a_reservation i) (a_reservation j) = i == j
 same_edge es _ _ = false
 
 pub data NodeForm (K : Type 0) : Type 0 where

@@ -45,19 +45,11 @@ pub record Gives : Type 0 where
 abbrev pub Answers : Type 0
 Answers = Question → Outcome
 
--- what a maker may reserve a number for
-pub data Kind : Type 0 where
-  of_properties of_items : Kind
-
--- what a run marks: a child, or the number that its maker got for a kind
+-- what a run marks: a child, or a number that its maker had reserved, each by the place of its request among those of
+-- the maker. A reservation has a key of its own, so two reservations are two, also where they are for one purpose
 pub data Marked : Type 0 where
   a_child : ℕ → Marked
-  a_pending : Kind → Marked
-
-abbrev pub same_kind : Kind → Kind → Bool
-same_kind of_properties of_properties = true
-same_kind of_items of_items = true
-same_kind _ _ = false
+  a_reservation : ℕ → Marked
 
 -- where a match is asked for: at a spot, shown with evaluation path and place or without, and the pattern as the schema has it
 pub record MatchPoint : Type 0 where

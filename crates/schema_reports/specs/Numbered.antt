@@ -168,7 +168,7 @@ NumbersMeanUnfolding {S} w keys nodes = EachKeeps w.keywords → ValuesInside w 
     → (m n : ℕ) → left nodes (length keys) i (subject w instance []) [] < m → left nodes (length keys) i (subject w instance []) [] ≤ n
     → guarded_sense w.keywords w.matcher nodes (subject w instance) m i ≡ plain w instance n k
 
--- the same at the depth of the plain meaning: the keys that are reached, times the places
+-- the same at the depth of the plain meaning: the targets that are reached, times the places, and one
 abbrev pub NumbersMeanPlain : {S K R : Type 0} → Parts S K R → Numbers S → Nodes K → Type 0
 NumbersMeanPlain {S} w keys nodes = EachKeeps w.keywords → ValuesInside w → MakersAskBelow w.table → ((a b : S) → Decides (w.resolver.same_state a b) (a ≡ b)) → AreNumbered w keys nodes → Ranked nodes (length keys)
     → (instance : Data) (i : ℕ) (k : Key S) → IsNumber keys i k → ¬ (Return w instance (record { key = k; path = []; place = [] }))

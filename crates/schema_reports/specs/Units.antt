@@ -70,6 +70,20 @@ false_unit texts x s = schema_unit x false None (record { name = codes "falseSch
 abbrev pub plan_unit : Where → Option Data → List Entry → Unit_
 plan_unit x annotations xs = schema_unit x (list_all (λ u. (report_of u).valid) (entry_units xs)) annotations [] (entry_units xs)
 
+-- the names that a part absorbs
+abbrev pub absorbed_by : {K : Type 0} → Option (Part K) → List Text
+absorbed_by None = []
+absorbed_by (Some p) = elim p.form [ keyword m requests absorbed ↦ absorbed | reference kind text ↦ [] ]
+
+-- the members without the one of a name, and without those of these names; a name stands once in an object
+abbrev pub without_name : Text → Members → Members
+without_name k no_members = no_members
+without_name k (member l d ms) = if bytes_eq k l then ms else member l d (without_name k ms)
+
+abbrev pub without : List Text → Members → Members
+without [] ms = ms
+without (k ∷ ks) ms = without ks (without_name k ms)
+
 -- members as an object, where there are any
 abbrev pub object_of : Members → Option Data
 object_of no_members = None
@@ -84,9 +98,18 @@ module _ {S K R : Type 0} (w : Parts S K R) where
     | None ↦ if w.resolver.is_known_keyword k.target.draft name then unknown k whole rest else member name value (unknown k whole rest)
   ]
 
+  -- the names that the keywords of these members absorb
+  abbrev pub absorbed_in : Key S → Members → Members → List Text
+  absorbed_in k whole no_members = []
+  absorbed_in k whole (member name value rest) = absorbed_by (part w k whole name value) ++ absorbed_in k whole rest
+
+  -- the members that become annotations: what an absorbed name holds belongs to the keyword that absorbs it
+  abbrev pub annotating : Key S → Members → Members
+  annotating k ms = without (absorbed_in k ms ms) (unknown k ms ms)
+
   -- a `$ref` that stands alone leaves none
   abbrev pub object_annotations : Key S → Members → Option Data
-  object_annotations k ms = elim (if ref_stands_alone k.target.draft then member_of (codes "$ref") ms else None) [ Some value ↦ None | None ↦ object_of (unknown k ms ms) ]
+  object_annotations k ms = elim (if ref_stands_alone k.target.draft then member_of (codes "$ref") ms else None) [ Some value ↦ None | None ↦ object_of (annotating k ms) ]
 
   abbrev pub annotations_of : Key S → Option Data
   annotations_of k = elim (schema_of w k) [ object ms ↦ object_annotations k ms | _ ↦ None ]
