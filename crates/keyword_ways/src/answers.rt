@@ -244,8 +244,31 @@ pub fn says_yes(reply: Reply<'_>) -> bool
     }
 }
 
-/// Takes what a child answered.
+/// Takes what a child answered. A verdict that lets the answer be moves nothing.
 pub fn take<'i>(alloc: Global, reply: Reply<'i>, answer: &mut Answer<'i>) -> Result<(), OutOfMemory>
+    ensures taken { IfOk result (λ _. (texts : Bool) → answer_of texts answer.new
+        ≡ taken (answer_of texts answer.old) (reply_of texts reply.entry)) }
+    ensures borrows { IfOk result (λ _. (root : Data) → All (BorrowsItsPlace root) (errors_in reply.entry)
+        → All (PassesBorrowed root) (faults_in answer.old) → All (PassesBorrowed root) (faults_in answer.new)) }
+{
+    match reply {
+        Reply::Truth(holds) => {
+            if !holds {
+                refuse(answer);
+            }
+            Ok(())
+        }
+        told => take_told(alloc, told, answer),
+    }
+}
+
+/// Takes what a child told. Its room on the stack is its own, so that a verdict pays nothing for it.
+#[inline(never)]
+fn take_told<'i>(
+    alloc: Global,
+    reply: Reply<'i>,
+    answer: &mut Answer<'i>,
+) -> Result<(), OutOfMemory>
     ensures taken { IfOk result (λ _. (texts : Bool) → answer_of texts answer.new
         ≡ taken (answer_of texts answer.old) (reply_of texts reply.entry)) }
     ensures borrows { IfOk result (λ _. (root : Data) → All (BorrowsItsPlace root) (errors_in reply.entry)

@@ -1,6 +1,6 @@
 -- What passes between the engine and a keyword, as the definitions have it.
 use Rattle.std.specs.Prelude.{◌≡◌, List, [], ◌∷◌, Bool, true, false, Option, Some, None, string_bytes, map, option_map}
-use Rattle.schema_reports.specs.Instance.{Subject, to_member, to_item, to_name}
+use Rattle.schema_reports.specs.Instance.{Subject, Text, to_member, to_item, to_name}
 use Rattle.schema_reports.specs.InstanceTexts.{subject_has_float}
 use Rattle.schema_reports.specs.InstanceViews.{step_of}
 use Rattle.schema_reports.specs.ReportViews.{spoken, error_of}
@@ -16,6 +16,7 @@ use Rattle.schema_node.specs.declared.context.keyword.Marked.{Marked}
 use Rattle.schema_node.specs.declared.context.keyword.Marked.TheVariants as marked
 use Rattle.schema_node.specs.declared.context.keyword.Spot.{Spot}
 use Rattle.schema_node.specs.declared.context.keyword.MatchPoint.{MatchPoint}
+use Rattle.schema_node.specs.declared.context.keyword.MatchPoint.TheVariants as point
 use Rattle.schema_node.specs.declared.context.keyword.Step as step_module
 use Rattle.schema_node.specs.declared.context.keyword.Step.TheVariants as step
 use Rattle.schema_node.specs.declared.context.keyword.Reply.{Reply}
@@ -48,14 +49,24 @@ marked_of (marked.Child n) = spec.a_child n
 marked_of (marked.Pending k) = spec.a_pending (kind_of k)
 
 abbrev pub spot_of : Spot → spec.Spot
-spot_of s = record { absorbed = option_map (λ t. t.now) s.absorbed; path = s.path.now; below = map step_of s.below.now }
+spot_of s = record { absorbed = option_map string_bytes s.absorbed; path = string_bytes s.path; below = map step_of s.below.items }
 
-abbrev pub point_of : MatchPoint → spec.MatchPoint
-point_of p = record { spot = spot_of p.spot; located = p.located; pattern = option_map (λ t. t.now) p.pattern }
+-- where a match of this pattern is asked for
+abbrev pub point_of : Text → MatchPoint → spec.MatchPoint
+point_of pattern (point.AtKeyword located) = record {
+  spot = record { absorbed = None; path = []; below = [] };
+  located = located;
+  pattern = Some pattern;
+}
+point_of pattern (point.AtSpot located spot) = record {
+  spot = spot_of spot.now;
+  located = located;
+  pattern = option_map string_bytes spot.now.pattern;
+}
 
 abbrev pub turn_of : step_module.Step → spec.Turn
 turn_of (step.Ask child b m) = spec.ask (record { child = child; below = below_of b }) (mode_of m)
-turn_of (step.Match pattern subject point) = spec.match_text (record { pattern = pattern.now; subject = subject.now }) (point_of point)
+turn_of (step.Match pattern subject point) = spec.match_text (record { pattern = pattern.now; subject = subject.now }) (point_of pattern.now point)
 turn_of (step.Mark m) = spec.mark (marked_of m)
 turn_of step.Unmark = spec.unmark
 turn_of (step.Ecma text) = spec.ecma text.now

@@ -1,6 +1,6 @@
 //! Instances and their places.
 ghost use Rattle.std.specs.Prelude.{◌≡◌, List, [], ◌∷◌, ◌++◌, IfOk, option_map, Option, Some, None, map, IfSome, false};
-ghost use Rattle.std.specs.Prelude.{string_bytes};
+ghost use Rattle.std.specs.Prelude.{length, string_bytes};
 ghost use Rattle.schema_reports.specs.Instance.{same_place, same_step, after_step, to_member, to_item, to_name};
 ghost use Rattle.std.specs.Cmp.{partial_equiv_from_equiv};
 ghost use Rattle.schema_reports.specs.SamePlaces.{places_equiv};
@@ -196,13 +196,21 @@ impl<'i> Place<'i> {
         }
     }
 
+    /// Returns the number of steps from the root to the place.
+    pub fn len(&self) -> usize
+        ensures count { result ≡ length self.now }
+    {
+        self.steps.len()
+    }
+
     /// Returns the place one step below this one. Fails only if memory cannot be allocated.
     pub fn below(&self, step: InstanceStep<'i>) -> Result<Place<'i>, OutOfMemory>
         ensures below { IfOk result (λ p. p ≡ self.now ++ step_of step.entry ∷ []) }
     {
-        let mut place = self.clone()?;
-        place.steps.push(step)?;
-        Ok(place)
+        let mut steps = Vec::with_capacity(*self.steps.allocator(), self.steps.len() + 1)?;
+        steps.extend_from_slice(self.steps.as_slice())?;
+        steps.push(step)?;
+        Ok(Place { steps })
     }
 
     /// Returns the JSON Pointer of the place. The place of a name has the pointer of its object. Fails only if memory cannot be
@@ -238,8 +246,7 @@ impl<'i> Clone for Place<'i> {
 
     /// Returns a clone of the place. Fails only if memory cannot be allocated.
     fn clone(&self) -> Result<Place<'i>, AllocError> {
-        Ok(Place {
-            steps: self.steps.clone()?,
-        })
+        let steps = Vec::from_slice(*self.steps.allocator(), self.steps.as_slice())?;
+        Ok(Place { steps })
     }
 }

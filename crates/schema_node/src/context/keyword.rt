@@ -46,20 +46,22 @@ pub enum Marked {
     Pending(PendingKind),
 }
 
-/// Where something of a keyword is: a path from it on, or from one that it absorbs, and steps below its place.
-#[derive(Clone, Copy)]
+/// Where a match of a keyword is that is not asked for at the keyword itself: a path from it on, or from one that it absorbs,
+/// and steps below its place. `pattern` is the schema's own.
+#[derive(Drop)]
 pub struct Spot<'s> {
-    pub absorbed: Option<&'s str>,
-    pub path: &'s str,
-    pub below: &'s [InstanceStep<'s>],
+    pub absorbed: Option<String>,
+    pub path: String,
+    pub below: Vec<InstanceStep<'s>>,
+    pub pattern: Option<String>,
 }
 
-/// Where a match is asked for; `located` says that evaluation path and place are shown, `pattern` is the schema's own.
+/// Where a match is asked for: at the keyword itself, for a pattern that is the schema's own, or at a spot. The truth value
+/// says that evaluation path and place are shown. A point is two words long, so that a step is short.
 #[derive(Clone, Copy)]
-pub struct MatchPoint<'s> {
-    pub spot: Spot<'s>,
-    pub located: bool,
-    pub pattern: Option<&'s str>,
+pub enum MatchPoint<'s> {
+    AtKeyword(bool),
+    AtSpot(bool, &'s Spot<'s>),
 }
 
 /// What a turn asks for. A child is named by the number of the request that the keyword's maker made.

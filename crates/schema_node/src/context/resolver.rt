@@ -1,7 +1,9 @@
 //! The resolver, which answers what references and identifiers lead to.
 ghost use Rattle.std.specs.Prelude.{◌≡◌, ◌↔◌, true, Some, None, Ok, IfOk, MatchResult};
 ghost use Rattle.std.specs.Prelude.{find, is_some, length, map, option_map, take};
-ghost use Rattle.serde_json.specs.View.{view};
+ghost use Rattle.serde_json.specs.Data.{object};
+ghost use Rattle.serde_json.specs.View.{members_view, view};
+ghost use Rattle.schema_reports.specs.Drafts as schemas;
 ghost use Rattle.schema_reports.specs.Resolving as spec;
 ghost use Rattle.schema_reports.specs.Instance.{same_place};
 ghost use Rattle.schema_reports.specs.KeywordViews.{draft_of};
@@ -10,7 +12,7 @@ ghost use Rattle.schema_node.specs.ResolverViews.{place_of, entrance_of, found_o
 use crate::context::schema_place::{SchemaPath, SchemaPlace};
 use schema_reports::keywords::{Draft, VocabularySet};
 use schema_reports::location::OutOfMemory;
-use serde_json::Value;
+use serde_json::{Map, Value};
 use std::alloc::{AllocError, AllocFailed, Global};
 use std::hash::Hash;
 
@@ -92,6 +94,22 @@ pub trait Resolver {
     fn value(&self, place: &SchemaPlace) -> Option<&Value>
         ensures value { option_map (λ v. view v.now) result ≡ (resolving self.now).value (place_of place.now) };
 
+    /// The value at a place that lies at a path below a schema's own, where the schema is an object with these members. It is
+    /// asked for each subschema: a resolver that finds the value from the members gives its own body.
+    fn value_below<'v>(
+        &'v self,
+        _members: &'v Map<String, Value>,
+        _path: &SchemaPath,
+        place: &SchemaPlace,
+    ) -> Option<&'v Value>
+        ensures value { (outer : schemas.SchemaPlace) →
+            place_of place.now ≡ schemas.at_path outer _path.now →
+            (resolving self.now).value outer ≡ Some (object (members_view _members.now.entries)) →
+            option_map (λ v. view v.now) result ≡ (resolving self.now).value (place_of place.now) }
+    {
+        self.value(place)
+    }
+
     /// Where a reference leads; `dynamic` says that it is a `$dynamicRef`.
     fn lookup(
         &self,
@@ -125,6 +143,24 @@ pub trait Resolver {
         ensures inside { MatchResult result
             (λ s. (resolving self.now).in_subresource (point state.now) (draft_of draft) (place_of place.now) ≡ Ok (point s))
             (Refuses ((resolving self.now).in_subresource (point state.now) (draft_of draft) (place_of place.now))) };
+
+    /// The state inside a subschema, whose value was read at its place. It is asked for each subschema: a resolver that finds
+    /// the state from the value gives its own body.
+    fn in_subresource_read(
+        &self,
+        alloc: Global,
+        state: &Self::State,
+        draft: Draft,
+        place: &SchemaPlace,
+        _value: Option<&Value>,
+    ) -> Result<Self::State, LookupError>
+        ensures inside { option_map (λ v. view v.now) _value.entry ≡ (resolving self.now).value (place_of place.now) →
+            MatchResult result
+            (λ s. (resolving self.now).in_subresource (point state.now) (draft_of draft) (place_of place.now) ≡ Ok (point s))
+            (Refuses ((resolving self.now).in_subresource (point state.now) (draft_of draft) (place_of place.now))) }
+    {
+        self.in_subresource(alloc, state, draft, place)
+    }
 
     /// The base URI.
     fn base_uri<'s>(&self, state: &'s Self::State) -> &'s str

@@ -544,7 +544,7 @@ run_turns-turns-smaller-in-Match g t c =
     let told = reply_of false c.turns.reply in
     let turn = c.in_ok-child.ensures.turns false (tells_nothing (g.K.Validate.is_whole m) s) in
     let a : Pair = record { pattern = c.in-Match.pattern.now; subject = c.in-Match.subject.now } in
-    let point = point_of c.in-Match.point in
+    let point = point_of c.in-Match.pattern.now c.in-Match.point in
     let step = rw c.in-Match.is at (c.in_ok-child.ensures.steps false (tells_nothing (g.K.Validate.is_whole m) s)) in
     falls_turned (g.K.Validate.words false) m (g.K.Validate.absorbed m) (g.K.Validate.remaining m) (g.K.Validate.ends false m) (g.K.Validate.fits false m) (g.met.K.Validate.turn_laws false m) s (c.turns.run, answer_of false c.turns.answer) (c.turn.new.run, answer_of false c.turn.new.answer) told (match_text a point) turn step (match_goes_on a point)
 
@@ -576,7 +576,7 @@ run_turns-asked_match-requires g t c =
     let told = reply_of false c.turns.reply in
     let turn = c.in_ok-child.ensures.turns false (tells_nothing (g.K.Validate.is_whole m) s) in
     let a : Pair = record { pattern = c.in-Match.pattern.now; subject = c.in-Match.subject.now } in
-    let point = point_of c.in-Match.point in
+    let point = point_of c.in-Match.pattern.now c.in-Match.point in
     let step = rw c.in-Match.is at (c.in_ok-child.ensures.steps false (tells_nothing (g.K.Validate.is_whole m) s)) in
     record { present = matches_present (g.K.Validate.words false) m (g.K.Validate.absorbed m) (g.K.Validate.remaining m) (g.K.Validate.ends false m) (g.K.Validate.fits false m) (g.met.K.Validate.turn_laws false m) s (c.turns.run, answer_of false c.turns.answer) told a point step }
 
@@ -593,7 +593,7 @@ run_turns-turns-preserved-in-Match g t c =
     let told = reply_of false c.turns.reply in
     let turn = c.in_ok-child.ensures.turns false (tells_nothing (g.K.Validate.is_whole m) s) in
     let a : Pair = record { pattern = c.in-Match.pattern.now; subject = c.in-Match.subject.now } in
-    let point = point_of c.in-Match.point in
+    let point = point_of c.in-Match.pattern.now c.in-Match.point in
     let n = node_of c.node.result.now in
     let answer = (w.matcher).is_match a.pattern a.subject in
     let step = rw c.in-Match.is at (c.in_ok-child.ensures.steps false (tells_nothing (g.K.Validate.is_whole m) s)) in
