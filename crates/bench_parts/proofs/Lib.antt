@@ -7,3 +7,4 @@ pub mod OnWay
 pub mod Indexes
 pub mod PointerTexts
 pub mod PointersLead
+pub mod Insides

@@ -2,7 +2,7 @@
 use Rattle.std.proofs.Common.{refl}
 use Rattle.std.specs.Prelude.{Bool, List, None, Option, Some, [], false, true, ℕ, ◌+◌, ◌≡◌, ◌∷◌, All}
 use Rattle.std.proofs.lemmas.List.Elements.{All-cons, All-head, All-nil, All-tail}
-use Rattle.serde_json.specs.Data.{Data, Items, Members, array, boolean, item, member, no_items, no_members, null, number, object, string}
+use Rattle.serde_json.specs.Data.{Data, Items, Members, array, boolean, item, no_items, null, number, object, string}
 use Rattle.serde_json.specs.Find.{get_member}
 use Rattle.serde_json.specs.Written.{has_float}
 use Rattle.schema_reports.specs.Instance.{Place, Text, to_member}

@@ -4,7 +4,8 @@
 //! What it is given is in `given`, what it fills in `compiled`; `context` says what draft, vocabularies and options decide where
 //! a schema stands. Its steps are in `vocabularies`, `values`, `makers`, `subschema`, `targets` (over the references of `ref_`
 //! and `start`), `entries` and `annotations`.
-ghost use Rattle.std.specs.Prelude.{IfErr, IfOk, Option, map, option_map, string_bytes};
+ghost use Rattle.std.specs.Prelude.{◌≡◌, IfErr, IfOk, Option, Some, map, option_map, string_bytes};
+ghost use Rattle.serde_json.specs.Data.{object};
 ghost use Rattle.serde_json.specs.View.{members_view, view};
 ghost use Rattle.schema_reports.specs.Instance.{Text};
 ghost use Rattle.schema_reports.specs.Drafts as drafts;
@@ -42,6 +43,7 @@ use schema_reports::keywords::priorities::{CUSTOM_PRIORITY, REF_PRIORITY};
 use schema_reports::location::{Location, LocationSegment};
 use serde_json::{Map, Value};
 use std::alloc::Global;
+use std::rc::Rc;
 
 mod annotations;
 pub mod compiled;
@@ -139,9 +141,8 @@ impl<'p, R: Resolver, T> Given<'p, R, T> {
             (RefusesKey (task R.resolving T.owned T.script K.shape self.now)
             (filled R.point compiled.old) (key_of R.point key)) }
     {
-        let number = self.number_of(compiled, &key, reading);
-        drop(key);
-        Ok(compiled.edge_at(number?, path))
+        let number = self.number_of(compiled, key, reading)?;
+        Ok(compiled.edge_at(number, path))
     }
 
     // The number of a key, which is compiled first where it has none.
@@ -149,7 +150,7 @@ impl<'p, R: Resolver, T> Given<'p, R, T> {
     fn number_of<K: Validate>(
         &self,
         compiled: &mut Compiled<R::State, K>,
-        key: &SchemaKey<R::State>,
+        key: SchemaKey<R::State>,
         reading: Reading<'p>,
     ) -> Result<usize, BuildError>
     where
@@ -157,18 +158,19 @@ impl<'p, R: Resolver, T> Given<'p, R, T> {
         requires table { IsWell (task R.resolving T.owned T.script K.shape self.now)
             (filled R.point compiled.old) }
         requires reading { IsReading
-            ((R.resolving self.now.resolver.now).value (place_of key.now.place)) reading }
+            ((R.resolving self.now.resolver.now).value (place_of key.place)) reading }
         ensures numbered { IfOk result (Numbers (task R.resolving T.owned T.script K.shape self.now)
-            (filled R.point compiled.old) (filled R.point compiled.new) (key_of R.point key.now)) }
+            (filled R.point compiled.old) (filled R.point compiled.new) (key_of R.point key)) }
         ensures refused { IfErr result
             (RefusesKey (task R.resolving T.owned T.script K.shape self.now)
-            (filled R.point compiled.old) (key_of R.point key.now)) }
+            (filled R.point compiled.old) (key_of R.point key)) }
     {
-        if let Some(number) = find::<R>(&compiled.keys, key) {
+        if let Some(number) = find::<R>(&compiled.keys, &key) {
             return Ok(number);
         }
-        let number = self.reserve_within(compiled, key)?;
-        let planned = self.planned_node(compiled, key, reading)?;
+        let shared = Rc::new(self.alloc, key)?;
+        let number = self.reserve_within(compiled, &shared)?;
+        let planned = self.planned_node(compiled, &shared, reading)?;
         compiled
             .nodes
             .fill(number, planned.form, planned.annotations);
@@ -217,12 +219,14 @@ impl<'p, R: Resolver, T> Given<'p, R, T> {
         &self,
         compiled: &mut Compiled<R::State, K>,
         key: &SchemaKey<R::State>,
-        members: &Map<String, Value>,
+        members: &'p Map<String, Value>,
     ) -> Result<PlannedNode<K>, BuildError>
     where
         T: KeywordTable<K>,
         requires table { IsWell (task R.resolving T.owned T.script K.shape self.now)
             (filled R.point compiled.old) }
+        requires object { (R.resolving self.now.resolver.now).value (place_of key.now.place) ≡
+            Some (object (members_view members.now.entries)) }
         ensures planned { IfOk result (λ n. PlansObject
             (task R.resolving T.owned T.script K.shape self.now) (filled R.point compiled.old)
             (filled R.point compiled.new) (key_of R.point key.now) (members_view members.now.entries)
@@ -264,12 +268,14 @@ impl<'p, R: Resolver, T> Given<'p, R, T> {
         &self,
         compiled: &mut Compiled<R::State, K>,
         key: &SchemaKey<R::State>,
-        members: &Map<String, Value>,
+        members: &'p Map<String, Value>,
     ) -> Result<ObjectKeywords<K>, BuildError>
     where
         T: KeywordTable<K>,
         requires table { IsWell (task R.resolving T.owned T.script K.shape self.now)
             (filled R.point compiled.old) }
+        requires object { (R.resolving self.now.resolver.now).value (place_of key.now.place) ≡
+            Some (object (members_view members.now.entries)) }
         ensures parts { IfOk result (λ o. MakesMembers
             (task R.resolving T.owned T.script K.shape self.now) (filled R.point compiled.old)
             (filled R.point compiled.new) (key_of R.point key.now) (members_view members.now.entries)
@@ -295,7 +301,7 @@ impl<'p, R: Resolver, T> Given<'p, R, T> {
         &self,
         compiled: &mut Compiled<R::State, K>,
         key: &SchemaKey<R::State>,
-        members: &Map<String, Value>,
+        members: &'p Map<String, Value>,
         name: &String,
         value: &Value,
     ) -> Result<Option<Entry<K>>, BuildError>
@@ -303,6 +309,8 @@ impl<'p, R: Resolver, T> Given<'p, R, T> {
         T: KeywordTable<K>,
         requires table { IsWell (task R.resolving T.owned T.script K.shape self.now)
             (filled R.point compiled.old) }
+        requires object { (R.resolving self.now.resolver.now).value (place_of key.now.place) ≡
+            Some (object (members_view members.now.entries)) }
         ensures part { IfOk result (λ o. MakesMember
             (task R.resolving T.owned T.script K.shape self.now) (filled R.point compiled.old)
             (filled R.point compiled.new) (key_of R.point key.now) (members_view members.now.entries)
@@ -343,7 +351,7 @@ impl<'p, R: Resolver, T> Given<'p, R, T> {
         &self,
         compiled: &mut Compiled<R::State, K>,
         key: &SchemaKey<R::State>,
-        members: &Map<String, Value>,
+        members: &'p Map<String, Value>,
         own: bool,
         name: &String,
         priority: u8,
@@ -353,6 +361,8 @@ impl<'p, R: Resolver, T> Given<'p, R, T> {
         T: KeywordTable<K>,
         requires table { IsWell (task R.resolving T.owned T.script K.shape self.now)
             (filled R.point compiled.old) }
+        requires object { (R.resolving self.now.resolver.now).value (place_of key.now.place) ≡
+            Some (object (members_view members.now.entries)) }
         ensures part { IfOk result (λ o. MakesKeyword
             (task R.resolving T.owned T.script K.shape self.now) (filled R.point compiled.old)
             (filled R.point compiled.new) (key_of R.point key.now) (members_view members.now.entries)
@@ -367,7 +377,7 @@ impl<'p, R: Resolver, T> Given<'p, R, T> {
         loop {
             match self.table.turn(self.alloc, &mut maker, reply)? {
                 MakerStep::Compile(path) => {
-                    let edge = self.child_edge(compiled, key, &path)?;
+                    let edge = self.child_edge(compiled, key, members, &path)?;
                     reply = keep_edge(&mut children, Some(edge))?;
                 }
                 MakerStep::Refer(text) => {
@@ -390,12 +400,15 @@ impl<'p, R: Resolver, T> Given<'p, R, T> {
         &self,
         compiled: &mut Compiled<R::State, K>,
         key: &SchemaKey<R::State>,
+        members: &'p Map<String, Value>,
         path: &SchemaPath,
     ) -> Result<Edge, BuildError>
     where
         T: KeywordTable<K>,
         requires table { IsWell (task R.resolving T.owned T.script K.shape self.now)
             (filled R.point compiled.old) }
+        requires object { (R.resolving self.now.resolver.now).value (place_of key.now.place) ≡
+            Some (object (members_view members.now.entries)) }
         ensures answered { IfOk result (λ e. AnswersChild
             (task R.resolving T.owned T.script K.shape self.now) (filled R.point compiled.old)
             (filled R.point compiled.new) (key_of R.point key.now) path.now (edge_of e)) }
@@ -404,7 +417,7 @@ impl<'p, R: Resolver, T> Given<'p, R, T> {
             (key_of R.point key.now) path.now) }
     {
         let location = path.pointer(self.alloc)?;
-        let below = self.subschema_key(key, path)?;
+        let below = self.subschema_key(key, members, path)?;
         let reading = Reading::Read(below.1);
         Ok(self.edge_to(compiled, below.0, reading, location)?)
     }

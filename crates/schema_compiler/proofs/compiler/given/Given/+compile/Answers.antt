@@ -72,8 +72,8 @@ number_of-returns-in-Some-clause-numbered g t c =
 
 pub number_of-returns-in_err-number-clause-refused : goal.number_of-returns-in_err-number-clause-refused
 number_of-returns-in_err-number-clause-refused g t c =
-    let p = err_from_is_err_and c.from_residual.result c.from_residual.ensures.1 in
-    rw (p.1, p.2) c.in_err-number.ensures.refused
+    let p = err_from_is_err_and c.from_residual-in_err-number.result c.from_residual-in_err-number.ensures.1 in
+    rw (p.1, p.2) (rw c.in_ok-shared.ensures.ok at c.in_err-number.ensures.refused)
 
 pub number_of-returns-in_err-planned-clause-refused : goal.number_of-returns-in_err-planned-clause-refused
 number_of-returns-in_err-planned-clause-refused g t c =
@@ -81,8 +81,8 @@ number_of-returns-in_err-planned-clause-refused g t c =
     let s = task g.R.Resolver.resolving g.T.KeywordTable.owned g.T.KeywordTable.script g.K.Validate.shape c.args.self.now in
     let old = filled g.R.Resolver.point c.args.compiled.now in
     let p = err_from_is_err_and c.from_residual-in_err-planned.result c.from_residual-in_err-planned.ensures.1 in
-    let k = v c.args.key.now in
-    rw (p.1, p.2) (refusal_map s.limit _ _ _ _ old.keys (map v c.reserve_within.new.compiled.keys) (k ∷ []) (from_key s.parts k) (blames_key s.parts k) c.in_ok-number.ensures.keys (at_first, tt) _ c.in_err-planned.ensures.refused)
+    let k = v c.args.key in
+    rw (p.1, p.2) (refusal_map s.limit _ _ _ _ old.keys (map v c.reserve_within.new.compiled.keys) (k ∷ []) (from_key s.parts k) (blames_key s.parts k) (rw c.in_ok-shared.ensures.ok at c.in_ok-number.ensures.keys) (at_first, tt) _ (rw (c.deref.ensures ∙ c.in_ok-shared.ensures.ok) at c.in_err-planned.ensures.refused))
 
 pub number_of-fill-requires-clause-reserved : goal.number_of-fill-requires-clause-reserved
 number_of-fill-requires-clause-reserved g t c =
@@ -95,7 +95,7 @@ number_of-fill-requires-clause-ready g t c =
     let v = key_of g.R.Resolver.point in
     let s = task g.R.Resolver.resolving g.T.KeywordTable.owned g.T.KeywordTable.script g.K.Validate.shape c.args.self.now in
     let m = c.in_ok-planned.ensures.planned in
-    are_filled s.parts s.shape s.limit (map v c.planned_node.new.compiled.keys) c.planned_node.new.compiled.nodes (v c.args.key.now) (plan_of c.in_ok-planned.planned.form)
+    are_filled s.parts s.shape s.limit (map v c.planned_node.new.compiled.keys) c.planned_node.new.compiled.nodes (v c.deref.result.now) (plan_of c.in_ok-planned.planned.form)
     (record { plans = m.plan; settled = m.step.settled; clean = m.step.clean })
 
 pub number_of-returns-clause-numbered : goal.number_of-returns-clause-numbered
@@ -104,8 +104,9 @@ number_of-returns-clause-numbered g t c =
     let s = task g.R.Resolver.resolving g.T.KeywordTable.owned g.T.KeywordTable.script g.K.Validate.shape c.args.self.now in
     let old = filled g.R.Resolver.point c.args.compiled.now in
     let n = c.in_ok-number.ensures.nodes in
-    let m = c.in_ok-planned.ensures.planned in
-    let k = v c.args.key.now in
+    let m = rw (c.deref.ensures ∙ c.in_ok-shared.ensures.ok) at c.in_ok-planned.ensures.planned in
+    let added = rw c.in_ok-shared.ensures.ok at c.in_ok-number.ensures.keys in
+    let k = v c.args.key in
     let i = c.in_ok-number.number.0 in
     let p = plan_of c.in_ok-planned.planned.form in
     let annotations = c.in_ok-planned.planned.annotations in
@@ -114,12 +115,12 @@ number_of-returns-clause-numbered g t c =
     let nodes' = c.reserve_within.new.compiled.nodes in
     let nodes'' = c.planned_node.new.compiled.nodes in
     let nodes-filled = c.fill.new.self in
-    let at = numbered_after old.keys reserved planned m.step.grown.added.0 k i (c.in_ok-number.ensures.number ∙ c.requires.table.lengths) c.in_ok-number.ensures.keys m.step.grown.added.1 in
+    let at = numbered_after old.keys reserved planned m.step.grown.added.0 k i (c.in_ok-number.ensures.number ∙ c.requires.table.lengths) added m.step.grown.added.1 in
     let is_reserved = reserved_after old.nodes nodes' nodes'' n.0 i c.in_ok-number.ensures.number n.1 n.2 m.step.grown.stay in
     record {
       table = finished_table s.parts s.shape s.limit planned nodes'' nodes-filled i k annotations p m.step.table at is_reserved c.fill.ensures.filled (record { plans = m.plan; settled = m.step.settled; clean = m.step.clean }) m.annotated;
       grown = finished_grown _ old.keys reserved planned planned old.nodes nodes' nodes'' nodes-filled k n.0 i
-          c.requires.table.lengths c.in_ok-number.ensures.number c.in_ok-number.ensures.keys n.1 at_first (grown_map _ _ _ _ _ _ (from_key s.parts k) m.step.grown) refl (finishes nodes'' nodes-filled i annotations p c.fill.ensures.filled);
+          c.requires.table.lengths c.in_ok-number.ensures.number added n.1 at_first (grown_map _ _ _ _ _ _ (from_key s.parts k) m.step.grown) refl (finishes nodes'' nodes-filled i annotations p c.fill.ensures.filled);
       number = at;
       fresh = λ absent. c.in_ok-number.ensures.number ∙ c.requires.table.lengths;
     }
