@@ -31,6 +31,7 @@ pub mod Means
 pub mod Fractions
 pub mod Members
 pub mod Promises
+pub mod Deciding
 pub mod ErrorsLead
 pub mod VocabularySets
 pub mod KeywordTable
