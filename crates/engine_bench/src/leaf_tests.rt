@@ -9,7 +9,7 @@ use bench_keywords::names::NamesRun;
 use bench_keywords::texts::text_of;
 use bench_parts::matcher::BenchMatcher;
 use schema_engine::validator::Validator;
-use schema_node::context::keyword::{Answer, MatchPoint, Mode, Reply, Spot, Step, Validate};
+use schema_node::context::keyword::{Answer, MatchPoint, Mode, Reply, Step, Validate};
 use schema_node::node::{Entry, EntryForm, NodeForm, Nodes};
 use schema_reports::instance::Instance;
 use schema_reports::keywords::Draft;
@@ -78,17 +78,7 @@ fn match_at<'s>(patterns: &'s [String], text: &'s str, left: usize) -> Step<'s>
     ensures asks { turn_of result ≡ match_at (map string_bytes patterns.now) text.now left }
 {
     let pattern = pattern_at(patterns, left);
-    let spot = Spot {
-        absorbed: None,
-        path: "",
-        below: &[],
-    };
-    let point = MatchPoint {
-        spot,
-        located: true,
-        pattern: Some(pattern),
-    };
-    Step::Match(pattern, text, point)
+    Step::Match(pattern, text, MatchPoint::AtKeyword(true))
 }
 
 impl Validate for DetourKeyword {
