@@ -7,3 +7,5 @@ pub mod OnWay
 pub mod Indexes
 pub mod PointerTexts
 pub mod PointersLead
+pub mod Insides
+mod Starts
