@@ -7,7 +7,15 @@ pub mod BenchResolving
 pub mod BenchPointers
 pub mod BenchPointersLead
 pub mod BenchDocuments
+pub mod BenchKeys
+pub mod BenchUris
+pub mod BenchResources
+pub mod BenchStates
+pub mod BenchLookups
+pub mod BenchRows
+pub mod BenchViews
 pub mod BenchAnswers
+pub mod BenchStart
 pub mod OnWay
 pub mod BenchMeta
 pub mod ResolverLaws
