@@ -7,3 +7,6 @@ pub mod OnWay
 pub mod Indexes
 pub mod PointerTexts
 pub mod PointersLead
+pub mod Insides
+pub mod BenchRows
+pub mod BelowPlaces
