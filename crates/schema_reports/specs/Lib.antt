@@ -38,6 +38,7 @@ pub mod KeywordTable
 pub mod KeywordViews
 pub mod RowsBench
 pub mod Rows
+pub mod RowsFused
 pub mod LocationViews
 pub mod InstanceViews
 pub mod ReportViews
