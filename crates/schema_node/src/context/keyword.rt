@@ -32,18 +32,12 @@ pub enum Below<'s> {
     NameOf(&'s str),
 }
 
-/// What a maker may have a number reserved for.
-#[derive(Clone, Copy, PartialEq, Eq)]
-pub enum PendingKind {
-    Properties,
-    Items,
-}
-
-/// What a run marks: a child by the number of its request, or the number that the maker got for a kind.
+/// What a run marks: a child, or a number that the maker had reserved, each by the number of the maker's request. Two
+/// reservations are two, also where they are for one purpose.
 #[derive(Clone, Copy)]
 pub enum Marked {
     Child(usize),
-    Pending(PendingKind),
+    Reservation(usize),
 }
 
 /// Where a match of a keyword is that is not asked for at the keyword itself: a path from it on, or from one that it absorbs,
@@ -135,14 +129,17 @@ pub trait Validate: Drop {
 
     ghost remaining: { Self.Shape → Subject → (Self.Run × spec.Answer) → ℕ };
 
+    // which states a run on an instance can be in, with the answer so far, whatever was replied
+    ghost can_be: { Bool → Self.Shape → Subject → (Self.Run × spec.Answer) → Type 0 };
+
     ghost ends: { Bool → Self.Shape → Standing (Self.Run × spec.Answer) → spec.Answer };
 
     ghost fits: { Bool → Self.Shape → Standing (Self.Run × spec.Answer) → Type 0 };
 
-    /// Begins a run. The answer begins as accepted, with no errors.
+    /// Begins a run. The answer begins as accepted, with no errors, and is of the run's mode.
     fn begin(&self, alloc: Global, instance: Instance, mode: Mode) -> Result<Self::Run, OutOfMemory>
         ensures begins { IfOk result (λ run. (texts : Bool)
-            → (words texts).begin (shape self.now) (subject_of instance.entry) (mode_of mode) ≡ (run, fresh)) };
+            → (words texts).begin (shape self.now) (subject_of instance.entry) (mode_of mode) ≡ (run, fresh (mode_of mode))) };
 
     /// Takes a turn, with what the turn before asked for. An error that it passes on borrows its place as the reply's did.
     fn turn<'s, 'i: 's>(
@@ -167,7 +164,7 @@ pub trait Validate: Drop {
     ghost answers: { (texts : Bool) (run : Self.Run) (a : spec.Answer) → (words texts).answer (run, a) ≡ a };
 
     ghost turn_laws: { (texts : Bool) (m : Self.Shape)
-        → TurnLaws (words texts) m (absorbed m) (remaining m) (ends texts m) (fits texts m) };
+        → TurnLaws (words texts) m (absorbed m) (remaining m) (can_be texts m) (ends texts m) (fits texts m) };
 
     ghost function_laws: { (texts : Bool) (m : Self.Shape) → FunctionLaws (words texts) m (absorbed m) };
 }

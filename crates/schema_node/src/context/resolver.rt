@@ -1,11 +1,10 @@
 //! The resolver, which answers what references and identifiers lead to.
 ghost use Rattle.std.specs.Prelude.{◌≡◌, ◌↔◌, true, Some, None, Ok, IfOk, MatchResult};
-ghost use Rattle.std.specs.Prelude.{find, is_some, length, map, option_map, take};
+ghost use Rattle.std.specs.Prelude.{is_some, map, option_map};
 ghost use Rattle.serde_json.specs.Data.{object};
 ghost use Rattle.serde_json.specs.View.{members_view, view};
 ghost use Rattle.schema_reports.specs.Drafts as schemas;
 ghost use Rattle.schema_reports.specs.Resolving as spec;
-ghost use Rattle.schema_reports.specs.Instance.{same_place};
 ghost use Rattle.schema_reports.specs.KeywordViews.{draft_of};
 ghost use Rattle.schema_node.specs.ResolverViews.{place_of, entrance_of, found_of, Refuses, IsInside};
 
@@ -49,22 +48,6 @@ impl<T: Drop> From<AllocFailed<T>> for LookupError {
     fn from(_refused: AllocFailed<T>) -> LookupError {
         LookupError::OutOfMemory
     }
-}
-
-// The first of these places that lies on the way to a path.
-fn first_on_way(
-    places: &[SchemaPlace],
-    path: &SchemaPath,
-) -> Result<Option<SchemaPlace>, OutOfMemory>
-    ensures first { IfOk result (λ o. option_map place_of o
-        ≡ find (λ q. same_place q.path (take (length q.path) path.now)) (map place_of places.now)) }
-{
-    for place in places {
-        if place.path.is_prefix_of(path) {
-            return Ok(Some(place.clone()?));
-        }
-    }
-    Ok(None)
 }
 
 /// Everything that the engine asks about documents. Each answer is a function of the arguments; what a state is apart
@@ -166,7 +149,8 @@ pub trait Resolver {
     fn base_uri<'s>(&self, state: &'s Self::State) -> &'s str
         ensures uri { result.now ≡ (resolving self.now).base_uri (point state.now) };
 
-    /// Where the state's resource begins.
+    /// Where the state's resource begins: the schema with the identifier that the state is read under, or the document's root.
+    /// Locations inside a reference's target count from there, where the target lies in it.
     fn resource_root(&self, alloc: Global, state: &Self::State) -> Result<SchemaPlace, OutOfMemory>
         ensures root { IfOk result (λ p. place_of p ≡ (resolving self.now).resource_root (point state.now)) };
 
@@ -204,23 +188,6 @@ pub trait Resolver {
     ) -> Result<Vec<SchemaPlace>, OutOfMemory>
         ensures places { IfOk result (λ ps. map place_of ps.items
             ≡ (resolving self.now).subresources_of (draft_of draft) (place_of place.now)) };
-
-    /// The first subschema, in order, of the schema at a place that lies on the way down to a path. It is asked for each
-    /// subschema on the way to a reference's target: a resolver that finds it without listing them all gives its own body.
-    fn subresource_on_way(
-        &self,
-        alloc: Global,
-        draft: Draft,
-        place: &SchemaPlace,
-        path: &SchemaPath,
-    ) -> Result<Option<SchemaPlace>, OutOfMemory>
-        ensures first { IfOk result (λ o. option_map place_of o
-            ≡ find (λ q. same_place q.path (take (length q.path) path.now))
-            ((resolving self.now).subresources_of (draft_of draft) (place_of place.now))) }
-    {
-        let below = self.subresources_of(alloc, draft, place)?;
-        first_on_way(below.as_slice(), path)
-    }
 
     /// Whether the draft knows a keyword of this name.
     fn is_known_keyword(&self, draft: Draft, name: &str) -> bool

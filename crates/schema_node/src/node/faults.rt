@@ -29,7 +29,7 @@ use std::alloc::Global;
 
 /// An answer that has found nothing yet.
 pub fn begun<'i>(alloc: Global, mode: Mode) -> Answer<'i>
-    ensures fresh { (texts : Bool) → answer_of texts result ≡ fresh }
+    ensures fresh { (texts : Bool) → answer_of texts result ≡ fresh (mode_of mode) }
     ensures no_faults { faults_in result ≡ [] }
     ensures form { mode_in result ≡ mode_of mode }
 {
