@@ -196,7 +196,7 @@ fn turn_at<'s, 'i: 's>(
 impl Validate for BenchKeyword {
     ghost use Rattle.std.specs.Prelude.{refl};
     ghost use Rattle.bench_keywords.specs.BenchShape.{is_whole};
-    ghost use Rattle.bench_keywords.specs.Words.{ends_in, fits_in, turns_left, words};
+    ghost use Rattle.bench_keywords.specs.Words.{any_run, ends_in, fits_in, turns_left, words};
     ghost use Rattle.bench_keywords.specs.Laws.{functions_keep, none_absorbed, turns_keep};
 
     type Run = NamesRun;
@@ -212,6 +212,8 @@ impl Validate for BenchKeyword {
     ghost is_whole = { is_whole };
 
     ghost remaining = { turns_left };
+
+    ghost can_be = { any_run };
 
     ghost ends = { ends_in };
 

@@ -8,3 +8,5 @@ pub mod Indexes
 pub mod PointerTexts
 pub mod PointersLead
 pub mod Insides
+mod Starts
+pub mod BelowPlaces

@@ -21,7 +21,6 @@ pub mod vocabularies;
 use crate::resolver::drafts::detected;
 use crate::resolver::identifiers::{identifier, without_fragment};
 use crate::resolver::known::is_known;
-use crate::resolver::on_way::subschema_on_way;
 use crate::resolver::places::{refusal, root_place, value_at, value_inside};
 use crate::resolver::references::looked_up;
 use crate::resolver::subschemas::subschemas;
@@ -311,16 +310,6 @@ impl<'a> Resolver for BenchResolver<'a> {
             Some(schema) => subschemas(alloc, place, schema),
             None => Ok(Vec::new(alloc)),
         }
-    }
-
-    fn subresource_on_way(
-        &self,
-        alloc: Global,
-        _draft: Draft,
-        place: &SchemaPlace,
-        path: &SchemaPath,
-    ) -> Result<Option<SchemaPlace>, OutOfMemory> {
-        subschema_on_way(alloc, self.document, place, path)
     }
 
     fn is_known_keyword(&self, _draft: Draft, name: &str) -> bool {

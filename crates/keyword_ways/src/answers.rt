@@ -95,7 +95,7 @@ fn faults_of<'i>(alloc: Global, answer: Answer<'i>) -> Result<Vec<Fault<'i>>, Ou
 /// The errors of an answer that are in its unit.
 fn descriptions_of(alloc: Global, answer: Answer<'_>) -> Vec<ErrorDescription>
     ensures gives { (texts : Bool) → (answer_of texts answer.entry).gives
-        ≡ record no_gives { errors = map (described_of texts) result.items } }
+        ≡ record no_gives { valid = (answer_of texts answer.entry).verdict; errors = map (described_of texts) result.items } }
 {
     match answer {
         Answer::Evaluation(_, errors) => errors,
