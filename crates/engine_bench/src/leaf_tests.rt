@@ -86,7 +86,7 @@ impl Validate for DetourKeyword {
     ghost use Rattle.bench_keywords.specs.BenchShape.{is_whole};
     ghost use Rattle.bench_keywords.specs.Shapes.{shape_of};
     ghost use Rattle.engine_bench.specs.Detours.{detour_ends, detour_fits, detour_functions, detour_left, detour_turns, detour_words};
-    ghost use Rattle.engine_bench.specs.Detours.{nothing_absorbed};
+    ghost use Rattle.engine_bench.specs.Detours.{detour_can, nothing_absorbed};
 
     type Run = (usize, NamesRun);
 
@@ -101,6 +101,8 @@ impl Validate for DetourKeyword {
     ghost is_whole = { λ m. is_whole m.1 };
 
     ghost remaining = { detour_left };
+
+    ghost can_be = { detour_can };
 
     ghost ends = { detour_ends };
 
