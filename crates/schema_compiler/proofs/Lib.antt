@@ -1,8 +1,10 @@
 pub mod SameKeys
 pub mod Chains
 pub mod Fragments
-pub mod Innermost
+pub mod Escaping
 pub mod Lists
+pub mod Guarding
+pub mod GuardsAgree
 pub mod Growing
 pub mod Tables
 pub mod Members
@@ -13,5 +15,7 @@ pub mod Entries
 pub mod Forms
 pub mod MembersAsk
 pub mod Compiled
+pub mod WorkedRows
 pub mod CustomVocabularies
 mod Unknown
+mod Absorbed
