@@ -1,4 +1,4 @@
--- What a resolver of one document says of it: places, drafts, identifiers, subschemas and vocabularies. (Core 2020-12,
+-- What the resolver says of a document: places, drafts, identifiers, subschemas and vocabularies. (Core 2020-12,
 -- 8.1 and 8.2)
 use Rattle.std.specs.List.{before_first}
 use Rattle.std.specs.Prelude.{Bool, Err, List, None, Ok, Option, Result, Some, [], bytes_eq, codes, false, flat_map, if◌then◌else◌, is_some, option_and_then, true, ℕ, ◌&&◌, ◌++◌, ◌+◌, ◌==◌, ◌||◌, ◌∷◌}
@@ -18,10 +18,7 @@ data_of None = None
 data_of (Some (a_value d)) = Some d
 data_of (Some (a_name k)) = None
 
--- the document has the number 0
-abbrev pub value_at : Data → SchemaPlace → Option Data
-value_at d p = if p.document == 0 then data_of (subject_at d p.path) else None
-
+-- the root of the first document, whose number is 0
 abbrev pub root_place : SchemaPlace
 root_place = record { document = 0; path = [] }
 

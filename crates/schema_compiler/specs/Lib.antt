@@ -3,11 +3,13 @@ pub mod KeyHashes
 pub mod Compiling
 pub mod Ordering
 pub mod Refusing
+pub mod Guarding
 pub mod Filling
 pub mod Steps
 pub mod Options
 pub mod Carried
 pub mod Compilation
+pub mod Rows
 pub mod Builtins
 pub mod Dialects
 pub mod Readings

@@ -4,7 +4,8 @@
 //! What it is given is in `given`, what it fills in `compiled`; `context` says what draft, vocabularies and options decide where
 //! a schema stands. Its steps are in `vocabularies`, `values`, `makers`, `subschema`, `targets` (over the references of `ref_`
 //! and `start`), `entries` and `annotations`.
-ghost use Rattle.std.specs.Prelude.{IfErr, IfOk, Option, map, option_map, string_bytes};
+ghost use Rattle.std.specs.Prelude.{◌≡◌, ◌++◌, IfErr, IfOk, Option, Some, map, option_map, string_bytes};
+ghost use Rattle.serde_json.specs.Data.{object};
 ghost use Rattle.serde_json.specs.View.{members_view, view};
 ghost use Rattle.schema_reports.specs.Instance.{Text};
 ghost use Rattle.schema_reports.specs.Drafts as drafts;
@@ -21,8 +22,9 @@ ghost use Rattle.schema_compiler.specs.Carried.{MakesKeyword, MakesMember, Makes
 ghost use Rattle.schema_compiler.specs.Carried.{Numbers, PlansNode, PlansObject, RefusesChild, RefusesEdge};
 ghost use Rattle.schema_compiler.specs.Carried.{RefusesKey, RefusesMaker, RefusesMember, RefusesMembers};
 ghost use Rattle.schema_compiler.specs.Carried.{RefusesNode, RefusesObject, RefusesReference, filled, task};
+ghost use Rattle.schema_compiler.specs.Carried.{keyword_absorbs, member_absorbs};
 
-use crate::compiler::annotations::object_of;
+use crate::compiler::annotations::{absorb, object_of, without};
 use crate::compiler::compiled::{Compiled, PlannedNode};
 use crate::compiler::context::Context;
 use crate::compiler::entries::{entry_named, insert_by_priority, node_alone};
@@ -42,6 +44,7 @@ use schema_reports::keywords::priorities::{CUSTOM_PRIORITY, REF_PRIORITY};
 use schema_reports::location::{Location, LocationSegment};
 use serde_json::{Map, Value};
 use std::alloc::Global;
+use std::rc::Rc;
 
 mod annotations;
 pub mod compiled;
@@ -108,11 +111,11 @@ pub fn compile<R: Resolver, K: Validate, T: KeywordTable<K>>(
     Ok(compiled)
 }
 
-// The keywords of an object, by their priorities, and the members that no keyword is made of.
+// The keywords of an object, by their priorities, and the members that become annotations.
 #[derive(Drop)]
 struct ObjectKeywords<K> {
     entries: Vec<Entry<K>>,
-    unknown: Map<String, Value>,
+    annotating: Map<String, Value>,
 }
 
 impl<'p, R: Resolver, T> Given<'p, R, T> {
@@ -139,9 +142,8 @@ impl<'p, R: Resolver, T> Given<'p, R, T> {
             (RefusesKey (task R.resolving T.owned T.script K.shape self.now)
             (filled R.point compiled.old) (key_of R.point key)) }
     {
-        let number = self.number_of(compiled, &key, reading);
-        drop(key);
-        Ok(compiled.edge_at(number?, path))
+        let number = self.number_of(compiled, key, reading)?;
+        Ok(compiled.edge_at(number, path))
     }
 
     // The number of a key, which is compiled first where it has none.
@@ -149,7 +151,7 @@ impl<'p, R: Resolver, T> Given<'p, R, T> {
     fn number_of<K: Validate>(
         &self,
         compiled: &mut Compiled<R::State, K>,
-        key: &SchemaKey<R::State>,
+        key: SchemaKey<R::State>,
         reading: Reading<'p>,
     ) -> Result<usize, BuildError>
     where
@@ -157,18 +159,19 @@ impl<'p, R: Resolver, T> Given<'p, R, T> {
         requires table { IsWell (task R.resolving T.owned T.script K.shape self.now)
             (filled R.point compiled.old) }
         requires reading { IsReading
-            ((R.resolving self.now.resolver.now).value (place_of key.now.place)) reading }
+            ((R.resolving self.now.resolver.now).value (place_of key.place)) reading }
         ensures numbered { IfOk result (Numbers (task R.resolving T.owned T.script K.shape self.now)
-            (filled R.point compiled.old) (filled R.point compiled.new) (key_of R.point key.now)) }
+            (filled R.point compiled.old) (filled R.point compiled.new) (key_of R.point key)) }
         ensures refused { IfErr result
             (RefusesKey (task R.resolving T.owned T.script K.shape self.now)
-            (filled R.point compiled.old) (key_of R.point key.now)) }
+            (filled R.point compiled.old) (key_of R.point key)) }
     {
-        if let Some(number) = find::<R>(&compiled.keys, key) {
+        if let Some(number) = find::<R>(&compiled.keys, &key) {
             return Ok(number);
         }
-        let number = self.reserve_within(compiled, key)?;
-        let planned = self.planned_node(compiled, key, reading)?;
+        let shared = Rc::new(self.alloc, key)?;
+        let number = self.reserve_within(compiled, &shared)?;
+        let planned = self.planned_node(compiled, &shared, reading)?;
         compiled
             .nodes
             .fill(number, planned.form, planned.annotations);
@@ -217,12 +220,14 @@ impl<'p, R: Resolver, T> Given<'p, R, T> {
         &self,
         compiled: &mut Compiled<R::State, K>,
         key: &SchemaKey<R::State>,
-        members: &Map<String, Value>,
+        members: &'p Map<String, Value>,
     ) -> Result<PlannedNode<K>, BuildError>
     where
         T: KeywordTable<K>,
         requires table { IsWell (task R.resolving T.owned T.script K.shape self.now)
             (filled R.point compiled.old) }
+        requires object { (R.resolving self.now.resolver.now).value (place_of key.now.place) ≡
+            Some (object (members_view members.now.entries)) }
         ensures planned { IfOk result (λ n. PlansObject
             (task R.resolving T.owned T.script K.shape self.now) (filled R.point compiled.old)
             (filled R.point compiled.new) (key_of R.point key.now) (members_view members.now.entries)
@@ -252,61 +257,76 @@ impl<'p, R: Resolver, T> Given<'p, R, T> {
                 let keywords = self.keywords_of(compiled, key, members)?;
                 Ok(PlannedNode {
                     form: NodeForm::Keywords(keywords.entries),
-                    annotations: object_of(keywords.unknown),
+                    annotations: object_of(keywords.annotating),
                 })
             }
         }
     }
 
-    // The keywords of an object, by their priorities, and the members that no keyword is made of.
+    // The keywords of an object, by their priorities, and the members that become annotations.
     #[cycle(compile)]
     fn keywords_of<K: Validate>(
         &self,
         compiled: &mut Compiled<R::State, K>,
         key: &SchemaKey<R::State>,
-        members: &Map<String, Value>,
+        members: &'p Map<String, Value>,
     ) -> Result<ObjectKeywords<K>, BuildError>
     where
         T: KeywordTable<K>,
         requires table { IsWell (task R.resolving T.owned T.script K.shape self.now)
             (filled R.point compiled.old) }
+        requires object { (R.resolving self.now.resolver.now).value (place_of key.now.place) ≡
+            Some (object (members_view members.now.entries)) }
         ensures parts { IfOk result (λ o. MakesMembers
             (task R.resolving T.owned T.script K.shape self.now) (filled R.point compiled.old)
             (filled R.point compiled.new) (key_of R.point key.now) (members_view members.now.entries)
-            (map entry_view o.entries.items) (members_view o.unknown.entries)) }
+            (map entry_view o.entries.items) (members_view o.annotating.entries)) }
         ensures refused { IfErr result (RefusesMembers
             (task R.resolving T.owned T.script K.shape self.now) (filled R.point compiled.old)
             (key_of R.point key.now) (members_view members.now.entries)) }
     {
         let mut entries = Vec::new(self.alloc);
         let mut unknown = Map::new(self.alloc);
+        let mut absorbed = Vec::new(self.alloc);
         for (name, value) in members.iter() {
-            match self.entry_of(compiled, key, members, name, value)? {
+            match self.entry_of(compiled, key, members, name, value, &mut absorbed)? {
                 Some(entry) => insert_by_priority(&mut entries, entry)?,
                 None => self.keep_unknown(key, &mut unknown, name, value)?,
             }
         }
-        Ok(ObjectKeywords { entries, unknown })
+        let annotating = without(unknown, absorbed.as_slice());
+        Ok(ObjectKeywords {
+            entries,
+            annotating,
+        })
     }
 
-    // The keyword of a member, if it is one: the table's own, or else a built-in one; references are the engine's.
+    // The keyword of a member, if it is one: the table's own, or else a built-in one; references are the engine's. The names
+    // that it absorbs are added.
     #[cycle(compile)]
     fn entry_of<K: Validate>(
         &self,
         compiled: &mut Compiled<R::State, K>,
         key: &SchemaKey<R::State>,
-        members: &Map<String, Value>,
+        members: &'p Map<String, Value>,
         name: &String,
         value: &Value,
+        absorbed: &mut Vec<String>,
     ) -> Result<Option<Entry<K>>, BuildError>
     where
         T: KeywordTable<K>,
         requires table { IsWell (task R.resolving T.owned T.script K.shape self.now)
             (filled R.point compiled.old) }
+        requires object { (R.resolving self.now.resolver.now).value (place_of key.now.place) ≡
+            Some (object (members_view members.now.entries)) }
         ensures part { IfOk result (λ o. MakesMember
             (task R.resolving T.owned T.script K.shape self.now) (filled R.point compiled.old)
             (filled R.point compiled.new) (key_of R.point key.now) (members_view members.now.entries)
             (string_bytes name.now) (view value.now) (option_map entry_view o)) }
+        ensures absorbed { IfOk result (λ _. map string_bytes absorbed.new.items ≡
+            map string_bytes absorbed.old.items ++ member_absorbs
+            (task R.resolving T.owned T.script K.shape self.now) (key_of R.point key.now)
+            (members_view members.now.entries) (string_bytes name.now) (view value.now)) }
         ensures refused { IfErr result (RefusesMember
             (task R.resolving T.owned T.script K.shape self.now) (filled R.point compiled.old)
             (key_of R.point key.now) (members_view members.now.entries) (string_bytes name.now)
@@ -314,7 +334,16 @@ impl<'p, R: Resolver, T> Given<'p, R, T> {
     {
         let text = name.as_str();
         if self.table.owns(text) {
-            return self.made_entry(compiled, key, members, true, name, CUSTOM_PRIORITY, false);
+            return self.made_entry(
+                compiled,
+                key,
+                members,
+                true,
+                name,
+                CUSTOM_PRIORITY,
+                false,
+                absorbed,
+            );
         }
         let context = Context {
             options: self.options,
@@ -332,31 +361,39 @@ impl<'p, R: Resolver, T> Given<'p, R, T> {
                     name,
                     row.priority,
                     row.is_leaf,
+                    absorbed,
                 ),
             },
         }
     }
 
-    // The keyword that a maker makes.
+    // The keyword that a maker makes. The names that it absorbs are added.
     #[cycle(compile)]
     fn made_entry<K: Validate>(
         &self,
         compiled: &mut Compiled<R::State, K>,
         key: &SchemaKey<R::State>,
-        members: &Map<String, Value>,
+        members: &'p Map<String, Value>,
         own: bool,
         name: &String,
         priority: u8,
         is_leaf: bool,
+        absorbed: &mut Vec<String>,
     ) -> Result<Option<Entry<K>>, BuildError>
     where
         T: KeywordTable<K>,
         requires table { IsWell (task R.resolving T.owned T.script K.shape self.now)
             (filled R.point compiled.old) }
+        requires object { (R.resolving self.now.resolver.now).value (place_of key.now.place) ≡
+            Some (object (members_view members.now.entries)) }
         ensures part { IfOk result (λ o. MakesKeyword
             (task R.resolving T.owned T.script K.shape self.now) (filled R.point compiled.old)
             (filled R.point compiled.new) (key_of R.point key.now) (members_view members.now.entries)
             own (string_bytes name.now) priority is_leaf (option_map entry_view o)) }
+        ensures absorbed { IfOk result (λ _. map string_bytes absorbed.new.items ≡
+            map string_bytes absorbed.old.items ++ keyword_absorbs
+            (task R.resolving T.owned T.script K.shape self.now) (key_of R.point key.now)
+            (members_view members.now.entries) own (string_bytes name.now) priority is_leaf) }
         ensures refused { IfErr result (RefusesMaker
             (task R.resolving T.owned T.script K.shape self.now) (filled R.point compiled.old)
             (key_of R.point key.now) (members_view members.now.entries) own (string_bytes name.now)) }
@@ -367,14 +404,15 @@ impl<'p, R: Resolver, T> Given<'p, R, T> {
         loop {
             match self.table.turn(self.alloc, &mut maker, reply)? {
                 MakerStep::Compile(path) => {
-                    let edge = self.child_edge(compiled, key, &path)?;
+                    let edge = self.child_edge(compiled, key, members, &path)?;
                     reply = keep_edge(&mut children, Some(edge))?;
                 }
                 MakerStep::Refer(text) => {
                     let edge = self.reference_edge(compiled, key, name, ReferenceKind::Ref, &text)?;
                     reply = keep_edge(&mut children, edge)?;
                 }
-                MakerStep::Keyword(keyword, _) => {
+                MakerStep::Keyword(keyword, names) => {
+                    absorb(absorbed, names)?;
                     let form = EntryForm::Keyword(keyword, children);
                     return Ok(Some(entry_named(name, priority, is_leaf, form)?));
                 }
@@ -390,12 +428,15 @@ impl<'p, R: Resolver, T> Given<'p, R, T> {
         &self,
         compiled: &mut Compiled<R::State, K>,
         key: &SchemaKey<R::State>,
+        members: &'p Map<String, Value>,
         path: &SchemaPath,
     ) -> Result<Edge, BuildError>
     where
         T: KeywordTable<K>,
         requires table { IsWell (task R.resolving T.owned T.script K.shape self.now)
             (filled R.point compiled.old) }
+        requires object { (R.resolving self.now.resolver.now).value (place_of key.now.place) ≡
+            Some (object (members_view members.now.entries)) }
         ensures answered { IfOk result (λ e. AnswersChild
             (task R.resolving T.owned T.script K.shape self.now) (filled R.point compiled.old)
             (filled R.point compiled.new) (key_of R.point key.now) path.now (edge_of e)) }
@@ -404,7 +445,7 @@ impl<'p, R: Resolver, T> Given<'p, R, T> {
             (key_of R.point key.now) path.now) }
     {
         let location = path.pointer(self.alloc)?;
-        let below = self.subschema_key(key, path)?;
+        let below = self.subschema_key(key, members, path)?;
         let reading = Reading::Read(below.1);
         Ok(self.edge_to(compiled, below.0, reading, location)?)
     }

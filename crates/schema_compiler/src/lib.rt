@@ -3,3 +3,4 @@
 
 pub mod compiler;
 mod ref_;
+pub mod rows;

@@ -5,7 +5,6 @@ ghost use Rattle.percent_encoding.specs.Percent.{percent_decode};
 ghost use Rattle.schema_reports.specs.Plan.{found, location_by, start_by, referred, reference_named};
 ghost use Rattle.schema_reports.specs.Plan.{referred_at};
 ghost use Rattle.schema_reports.specs.Refusals.{lookup_causes};
-ghost use Rattle.schema_reports.specs.KeywordViews.{draft_of};
 ghost use Rattle.schema_node.specs.ResolverViews.{Refuses, found_of, place_of};
 ghost use Rattle.schema_compiler.specs.KeyViews.{key_of, kind_of};
 ghost use Rattle.schema_compiler.specs.Compiling.{skips};
@@ -18,7 +17,6 @@ use crate::compiler::key::SchemaKey;
 use crate::compiler::text::fragment_of;
 use percent_encoding::{decode_utf8_lossy, percent_decode};
 use schema_node::context::resolver::{LookupError, Resolver, Target};
-use schema_reports::keywords::Draft;
 use schema_reports::location::{Location, OutOfMemory};
 use std::alloc::Global;
 
@@ -140,7 +138,6 @@ impl<'p, R: Resolver, T> Given<'p, R, T> {
     // How much of the location lies outside the target's resource; a name's location lies in it.
     fn start_of_fragment(
         &self,
-        draft: Draft,
         target: &Target<R::State>,
         fragment: &str,
         location: &Location,
@@ -148,13 +145,13 @@ impl<'p, R: Resolver, T> Given<'p, R, T> {
         requires location { location.now ≡ location_by (resolver_parts R.resolving self.now)
             (found_of R.point target.now) fragment.now }
         ensures start { IfOk result (λ n. n ≡ start_by (resolver_parts R.resolving self.now)
-            (draft_of draft) (found_of R.point target.now) fragment.now) }
+            (found_of R.point target.now) fragment.now) }
     {
         if fragment.is_empty() {
             return Ok(0);
         }
         if fragment.as_bytes()[0] == b'/' {
-            return self.start_of_target(draft, target, location);
+            return self.start_of_target(target, location);
         }
         Ok(0)
     }
@@ -186,13 +183,12 @@ impl<'p, R: Resolver, T> Given<'p, R, T> {
     // The key of a reference's target.
     fn referred_key(
         &self,
-        draft: Draft,
         target: Target<R::State>,
         kind: ReferenceKind,
         text: &str,
     ) -> Result<SchemaKey<R::State>, OutOfMemory>
         ensures key { IfOk result (λ k. key_of R.point k ≡
-            referred (resolver_parts R.resolving self.now) (draft_of draft)
+            referred (resolver_parts R.resolving self.now)
             (found_of R.point target) (kind_of kind) text.now) }
     {
         if let ReferenceKind::Recursive = kind {
@@ -200,7 +196,7 @@ impl<'p, R: Resolver, T> Given<'p, R, T> {
         }
         let fragment = fragment_of(text);
         let location = self.location_of_target(&target, fragment)?;
-        let start = self.start_of_fragment(draft, &target, fragment, &location)?;
+        let start = self.start_of_fragment(&target, fragment, &location)?;
         self.key_at(target, location, start)
     }
 
@@ -221,6 +217,6 @@ impl<'p, R: Resolver, T> Given<'p, R, T> {
         if is_skipped::<R>(key, kind, &target) {
             return Ok(None);
         }
-        Ok(Some(self.referred_key(key.draft, target, kind, text)?))
+        Ok(Some(self.referred_key(target, kind, text)?))
     }
 }

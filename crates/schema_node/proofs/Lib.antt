@@ -1,4 +1,5 @@
 pub mod Pairs
+pub mod Depths
 pub mod Matches
 pub mod NodeMeets
 pub mod KeywordMeets

@@ -1,5 +1,5 @@
 -- The plain run under assumptions speaks, in each mode, for every completion that extends them.
-use Rattle.std.proofs.Common.{◌≡◌, ℕ, zero, suc, List, [], ◌∷◌, ◌++◌, refl, ap, ap₂, sym, ◌∙◌, Bool, true, false, map}
+use Rattle.std.proofs.Common.{◌≡◌, ℕ, zero, suc, List, [], ◌∷◌, ◌++◌, refl, ap, sym, ◌∙◌, Bool, true, false, map}
 use Rattle.std.specs.Prelude.{Option, Some, None, option_map}
 use Rattle.serde_json.specs.Data.{Data}
 use Rattle.schema_reports.specs.Instance.{Text, Place}
@@ -7,20 +7,16 @@ use Rattle.schema_reports.specs.Pointer.{joined}
 use Rattle.schema_reports.specs.Reports.{Error, Unit_, Outcome, accepted}
 use Rattle.schema_reports.specs.Parts.{Parts}
 use Rattle.schema_reports.specs.Matching.{Completion, Assumptions, matching, completion_of, Extends}
-use Rattle.schema_reports.specs.Keywords.{Gives, Mode, for_verdict, for_first, for_all, for_units}
+use Rattle.schema_reports.specs.Keywords.{Mode, for_verdict, for_first, for_all, for_units}
 use Rattle.schema_reports.specs.Plan.{Key, Edge, height, Part, Form, keyword, reference, Plan, always, never, these, plan, child, reference_edge, same_child, absolute_of}
-use Rattle.schema_reports.specs.Meaning.{Where, at, subject, asked, referred_to, within, unfold_, part_outcome, parts_outcome, outcome_of, false_outcome, stamped}
-use Rattle.schema_reports.specs.Units.{Entry, PartUnits, plain_units, part_units, entries_of, unit_of, keyword_unit, reference_units, no_unit, annotations_of, true_unit, false_unit, plan_unit}
+use Rattle.schema_reports.specs.Meaning.{at, subject, asked, referred_to, within, unfold_, part_outcome, parts_outcome, outcome_of, false_outcome, stamped}
+use Rattle.schema_reports.specs.Units.{Entry, PartUnits, plain_units, part_units, entries_of, unit_of, given_units, reference_units, no_unit, annotations_of, true_unit, false_unit, plan_unit}
 use Rattle.schema_reports.specs.Runs.{Run, looked, plan_met, part_met, no_run, run_node, run, first_error}
 use Rattle.schema_reports.specs.Laws.{Agrees, KeepsLaws}
 use Rattle.schema_reports.specs.Members.{AllAssumed, SameIn, Speaks}
 use Rattle.schema_reports.proofs.SameTurns.{assumed_front, assumed_back, keyword_same, same_units}
 use Rattle.schema_reports.proofs.Plans.{Along, ends, goes, along_in_mode, same_itself_in, first_stamped}
-use Rattle.schema_reports.proofs.Valid.{part_agrees, node_agrees, node_valid, form_valid}
-
--- a keyword's units, by what it gives and its verdict
-abbrev pub given_units : Where → Text → Gives → Bool → PartUnits
-given_units x name g valid = (keyword_unit x name valid g, map (λ (a : Text × List Unit_). (a.0, keyword_unit x a.0 valid (record { children = a.1; annotations = None; errors = []; absorbed = [] }))) g.absorbed)
+use Rattle.schema_reports.proofs.Valid.{part_agrees, node_agrees, node_valid}
 
 -- one more entry of the same units
 pub one_more_entry : (priority : ℕ) {x y : PartUnits} {xs ys : List Entry} → x ≡ y → xs ≡ ys
@@ -95,9 +91,7 @@ module _ {S K R : Type 0} (w : Parts S K R) (instance : Data) (absorbs : K → L
         (asked w instance no_run k name requests p f) (asked w instance accepted k name requests p g1) (asked w instance accepted k name requests p g)
         (asked w instance no_unit k name requests p u1) (asked w instance no_unit k name requests p u) (same_child w k name requests) name m
         (λ q. option_outcome (child w k name requests q.child) _) (λ q. option_units (child w k name requests q.child) _) (λ q. option_speaks (child w k name requests q.child) _) (absorbs m) (laws m) e in
-        let own_valid = form_valid w instance absorbs laws (completion_of as') k path p g1 u1 (λ e q. (speaks e q).run_agrees) (λ e q. (speaks e q).run_valid) name (keyword m requests absorbed) in
-        let its_valid = form_valid w instance absorbs laws c k path p g u (λ e q. (speaks e q).agrees) (λ e q. (speaks e q).valid) name (keyword m requests absorbed) in
-        ap₂ (given_units (at w instance k path p) name) same.0 (own_valid ∙ (same.1 ∙ sym its_valid))
+        ap (given_units (at w instance k path p) name) same.0
     form_units name (reference kind text) e =
         ap (reference_units (at w instance k path p) name)
         (sym (option_units (reference_edge w k name kind text) p) ∙ (option_speaks (reference_edge w k name kind text) p).units e)

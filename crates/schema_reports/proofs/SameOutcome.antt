@@ -13,7 +13,7 @@ use Rattle.schema_reports.specs.Plan.{Key, Edge, Part, Form, keyword, reference,
 use Rattle.schema_reports.specs.Meaning.{subject, Where, at, place_below, asked, referred_to, keyword_outcome, reference_outcome, false_outcome, fault_error, both, part_outcome, parts_outcome, outcome_of}
 use Rattle.schema_reports.specs.Paths.{edges, part_edges}
 use Rattle.schema_reports.specs.Laws.{IsPresent, steps_below}
-use Rattle.schema_reports.specs.Guarded.{NodeEdge, Children, node_child, NodeForm, node_keyword, node_reference, NodePart, NodePlan, node_always, node_never, node_these, Nodes, form_edges, node_edges, node_at, node_asked, node_part, node_parts, node_outcome}
+use Rattle.schema_reports.specs.Guarded.{NodeEdge, Children, node_child, NodeForm, node_keyword, node_reference, NodePart, NodePlan, node_always, node_never, node_these, Nodes, form_edges, node_edges, node_at, node_asked, node_part, node_parts, node_outcome, yes_outcome}
 use Rattle.schema_reports.specs.Numbered.{Numbers, IsNumber, SameEdge, SameForm, SamePart, SameParts, SamePlan, StandsFor, NumbersSayUnfolding}
 use Rattle.schema_reports.proofs.Reading.{Reads, reads_of}
 use Rattle.schema_reports.proofs.Questions.{later, in_flat_map, PartAsks, by_keyword, by_reference, Asks}
@@ -147,7 +147,7 @@ module _ {S K R : Type 0} (w : Parts S K R) (instance : Data) (keys : Numbers S)
 
 pub numbers_say_unfolding : {S K R : Type 0} (w : Parts S K R) (keys : Numbers S) (nodes : Nodes K) → NumbersSayUnfolding w keys nodes
 numbers_say_unfolding w keys nodes laws values makers state numbered ranked instance c i k path p number none m n low low' =
-    says_unfolding w instance keys nodes (subschemas_inside w values makers) state ranked accepted (node_outcome w.keywords w.matcher nodes (subject w instance) c) (outcome_of w instance c)
+    says_unfolding w instance keys nodes (subschemas_inside w values makers) state ranked yes_outcome accepted (node_outcome w.keywords w.matcher nodes (subject w instance) c) (outcome_of w instance c)
     (λ i' k' number' path' p' f g h. outcomes_same w instance keys nodes (reads_of w.keywords laws) i' k' (numbered.stands i' k' number') path' p' c f g h)
     (record { key = k; path = path; place = p }) none (ByMeasure w instance keys nodes) (measure_on w instance keys nodes) (measure_less w instance keys nodes) m n i number low
     (measure_first w instance keys nodes n i (record { key = k; path = path; place = p }) low')

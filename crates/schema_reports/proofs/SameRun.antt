@@ -7,7 +7,7 @@ use Rattle.serde_json.specs.Data.{Data}
 use Rattle.schema_reports.specs.Instance.{Text, Place, Step, to_member, to_item, to_name, same_step, same_place, Subject}
 use Rattle.schema_reports.specs.Reports.{accepted, Unit_}
 use Rattle.schema_reports.specs.Drafts.{Draft, draft_4, draft_6, draft_7, draft_2019_09, draft_2020_12, draft_unknown, SchemaPlace, same_draft}
-use Rattle.schema_reports.specs.Keywords.{Marked, a_child, a_pending, Below, Mode}
+use Rattle.schema_reports.specs.Keywords.{Marked, a_child, a_reservation, Below, Mode}
 use Rattle.schema_reports.specs.Matching.{Completion, Assumptions, matching, completion_of}
 use Rattle.schema_reports.specs.Parts.{Parts}
 use Rattle.schema_reports.specs.Making.{Request}
@@ -16,16 +16,17 @@ use Rattle.schema_reports.specs.Meaning.{subject, Where, at, place_below, outcom
 use Rattle.schema_reports.specs.Returns.{Asked, questions, Return}
 use Rattle.schema_reports.specs.Units.{no_unit, keyword_units, reference_units, Entry, true_unit, false_unit, plan_unit, annotations_of, part_units, entries_of}
 use Rattle.schema_reports.specs.Laws.{EachKeeps}
+use Rattle.schema_reports.specs.Reach.{targets_of}
 use Rattle.schema_reports.specs.Runs.{Run, no_run, Met, keyword_met, plan_met, part_met, looked, run_node, run}
 use Rattle.schema_reports.specs.Cover.{plain, mode_of}
-use Rattle.schema_reports.specs.Guarded.{NodeEdge, Children, node_child, same_node, same_edge, NodeForm, node_keyword, node_reference, NodePart, NodePlan, node_always, node_never, node_these, Nodes, node_at, node_asked, node_outcome, node_part_units, node_entries_of, node_part_met, node_looked, guarded_within, guarded_node, guarded_sense}
+use Rattle.schema_reports.specs.Guarded.{NodeEdge, Children, node_child, same_node, same_edge, NodeForm, node_keyword, node_reference, NodePart, NodePlan, node_always, node_never, node_these, Nodes, node_at, node_asked, node_outcome, node_part_units, node_entries_of, node_part_met, node_looked, guarded_within, guarded_node, guarded_sense, yes_outcome, yes_run}
 use Rattle.schema_reports.specs.Numbered.{Numbers, IsNumber, SameEdge, SameForm, SamePart, SameParts, SamePlan, StandsFor, AreNumbered, Ranked, left, ValuesInside, MakersAskBelow, NumbersMeanUnfolding, NumbersMeanPlain}
 use Rattle.schema_reports.proofs.Reading.{Reads, reads_of}
 use Rattle.schema_reports.proofs.Questions.{later}
 use Rattle.schema_reports.proofs.RunsRead.{met_reads, units_read}
 use Rattle.schema_reports.proofs.Depths.{ByMeasure, measure_on, measure_less, measure_first, ByTrail, trail_on, trail_less, trail_first}
 use Rattle.schema_reports.proofs.AtPlaces.{at_places}
-use Rattle.schema_reports.proofs.Reaching.{at_keys}
+use Rattle.schema_reports.proofs.Reaching.{at_targets}
 use Rattle.schema_reports.proofs.Inside.{subschemas_inside}
 use Rattle.schema_reports.proofs.Products.{both_left, both_right}
 use Rattle.schema_reports.proofs.SameVocabularies.{vocabularies_is}
@@ -96,6 +97,10 @@ module _ {S K R : Type 0} (w : Parts S K R) (states : (a b : S) → Decides (w.r
   key_itself : (k : Key S) → same_key w k k ≡ true
   key_itself k = both_true _ _ (both_true _ _ (both_true _ _ (target_itself w state_itself k.target) (same_text k.location)) (same_text k.base)) (same_number k.start)
 
+  -- a target that is the same as one that is the same as a third is the same as that
+  pub same_through : (a b c : Target S) → same_target w a b ≡ true → same_target w b c ≡ true → same_target w a c ≡ true
+  same_through a b c e f = subst (λ x. same_target w x c ≡ true) (sym (same_target_is a b e)) f
+
   -- targets that are the same as one are the same
   pub one_target : (a b k : Target S) → same_target w a k ≡ true → same_target w b k ≡ true → same_target w a b ≡ true
   one_target a b k e f = subst (λ x. same_target w a x ≡ true) (same_target_is a k e ∙ sym (same_target_is b k f)) (target_itself w state_itself a)
@@ -118,9 +123,9 @@ module _ {S K R : Type 0} (w : Parts S K R) (instance : Data) (keys : Numbers S)
   -- two children have one number where they have one key
   same_children : (name : Text) (m : K) (es : Children) (m' : K) (requests : List Request) (absorbed : List Text) → SameForm w keys nodes k name (node_keyword m es) (keyword m' requests absorbed)
       → (a b : Marked) → same_edge es a b ≡ same_child w k name requests a b
-  same_children name m es m' requests absorbed s (a_pending a) (a_pending b) = refl
-  same_children name m es m' requests absorbed s (a_pending a) (a_child b) = refl
-  same_children name m es m' requests absorbed s (a_child a) (a_pending b) = refl
+  same_children name m es m' requests absorbed s (a_reservation a) (a_reservation b) = refl
+  same_children name m es m' requests absorbed s (a_reservation a) (a_child b) = refl
+  same_children name m es m' requests absorbed s (a_child a) (a_reservation b) = refl
   same_children name m es m' requests absorbed s (a_child a) (a_child b) = ap (λ t. (a == b) || t) (go (node_child es a) (child w k name requests a) (node_child es b) (child w k name requests b) (s.1 a) (s.1 b))
     where
       inner : (e : NodeEdge) (edge : Edge S) → IsNumber keys e.node edge.key → (o : Option NodeEdge) (o' : Option (Edge S)) → SameEdge w keys nodes o o' → same_node (Some e) o ≡ same_edge_key w (Some edge) o'
@@ -259,12 +264,12 @@ module _ {S K R : Type 0} (w : Parts S K R) (keys : Numbers S) (nodes : Nodes K)
       → guarded_sense w.keywords w.matcher nodes (subject w instance) m i ≡ plain w instance n k
   senses_agree m n low enough =
       let inner = subschemas_inside w values makers in
-      let says : (c : Completion) → guarded_within accepted (node_outcome w.keywords w.matcher nodes (subject w instance) c) m i [] [] [] ≡ unfold_ w instance c n k [] []
-      = λ c. says_unfolding w instance keys nodes inner (state_itself w states) ranked accepted (node_outcome w.keywords w.matcher nodes (subject w instance) c) (outcome_of w instance c)
+      let says : (c : Completion) → guarded_within yes_outcome (node_outcome w.keywords w.matcher nodes (subject w instance) c) m i [] [] [] ≡ unfold_ w instance c n k [] []
+      = λ c. says_unfolding w instance keys nodes inner (state_itself w states) ranked yes_outcome accepted (node_outcome w.keywords w.matcher nodes (subject w instance) c) (outcome_of w instance c)
       (λ i' k' number' path' p' f g h. outcomes_same w instance keys nodes (reads_of w.keywords laws) i' k' (numbered.stands i' k' number') path' p' c f g h)
       (record { key = k; path = []; place = [] }) none Enough on one_less m n i number low enough in
-      let runs : (as' : Assumptions) → guarded_within no_run (guarded_node w.keywords w.matcher nodes (subject w instance) as') m i [] [] [] ≡ run w instance as' n k [] []
-      = λ as'. says_unfolding w instance keys nodes inner (state_itself w states) ranked no_run (guarded_node w.keywords w.matcher nodes (subject w instance) as') (run_node w instance as')
+      let runs : (as' : Assumptions) → guarded_within (yes_run nodes) (guarded_node w.keywords w.matcher nodes (subject w instance) as') m i [] [] [] ≡ run w instance as' n k [] []
+      = λ as'. says_unfolding w instance keys nodes inner (state_itself w states) ranked (yes_run nodes) no_run (guarded_node w.keywords w.matcher nodes (subject w instance) as') (run_node w instance as')
       (λ i' k' number' path' p' f g h. runs_same w instance keys nodes (reads_of w.keywords laws) states numbered i' k' (numbered.stands i' k' number') path' p' as' f g h)
       (record { key = k; path = []; place = [] }) none Enough on one_less m n i number low enough in
       λ j. record { says = λ c. says c j; meets = λ call as'. (runs as' j).met (mode_of call as'); is_match = w.matcher.is_match }
@@ -276,9 +281,10 @@ numbers_mean_unfolding w keys nodes laws values makers states numbered ranked in
 
 pub numbers_mean_plain : {S K R : Type 0} (w : Parts S K R) (keys : Numbers S) (nodes : Nodes K) → NumbersMeanPlain w keys nodes
 numbers_mean_plain {S} w keys nodes laws values makers states numbered ranked instance i k number none reached reach m n low enough =
-    let at_reached = at_keys w instance k reached reach in
+    let at_reached = at_targets w instance k (same_through w states) reached reach in
+    let targets = targets_of w reached in
     let root : Asked w instance = record { key = k; path = []; place = [] } in
     let there = at_places w instance (reads_of w.keywords laws) k in
-    senses_agree w keys nodes laws values makers states numbered ranked instance i k number none (ByTrail w instance keys nodes root none reached at_reached there (one_target w states) one_place)
-    (trail_on w instance keys nodes root none reached at_reached there (one_target w states) one_place) (trail_less w instance keys nodes root none reached at_reached there (one_target w states) one_place) m n low
-    (trail_first w instance keys nodes root none reached at_reached there (one_target w states) one_place n i (omega arith))
+    senses_agree w keys nodes laws values makers states numbered ranked instance i k number none (ByTrail w instance keys nodes root none targets at_reached there (one_target w states) one_place)
+    (trail_on w instance keys nodes root none targets at_reached there (one_target w states) one_place) (trail_less w instance keys nodes root none targets at_reached there (one_target w states) one_place) m n low
+    (trail_first w instance keys nodes root none targets at_reached there (one_target w states) one_place n i (omega arith))

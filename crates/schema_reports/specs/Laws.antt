@@ -5,7 +5,7 @@ use Rattle.schema_reports.specs.Instance.{Place, Subject, Text, subject_from}
 use Rattle.schema_reports.specs.Pointer.{pointer_to}
 use Rattle.schema_reports.specs.Reports.{Outcome, Unit_, report_of}
 use Rattle.schema_reports.specs.Matching.{Matching}
-use Rattle.schema_reports.specs.Keywords.{Answer, Answers, Below, Fault, Keywords, Marked, Mode, Question, Reply, Spot, Turn, all_of_it, ask, done, down, ecma, first_of_it, for_all, for_first, for_units, for_verdict, here, mark, match_text, no_reply, own, passed, truth, unit_of_it, unmark}
+use Rattle.schema_reports.specs.Keywords.{Answer, Answers, Below, Fault, Keywords, Marked, Mode, Question, Reply, Spot, Turn, all_of_it, ask, done, down, ecma, all_valid, first_of_it, for_all, for_first, for_units, for_verdict, here, mark, match_text, no_reply, own, passed, truth, unit_of_it, unmark}
 use Rattle.schema_reports.specs.Runs.{first_error}
 
 -- the verdict is yes exactly where there is no error
@@ -97,6 +97,9 @@ pub record KeepsLaws {K R : Type 0} (keywords : Keywords K R) (m : K) (absorbed 
       → EndsRightly keywords m s matches a u same mode
   pub agree : (s : Subject) (matches : Matching) (a : Answers) → ((q : Question) → Agrees (a q))
       → (keywords.holds m s matches (λ q. (a q).verdict) ≡ true) ↔ (keywords.faults m s matches a ≡ [])
+  -- its own unit and all that it absorbs are valid exactly where it holds
+  pub units_valid : (s : Subject) (matches : Matching) (u : Question → Unit_)
+      → all_valid (keywords.units m s matches u) ≡ keywords.holds m s matches (λ q. (report_of (u q)).valid)
   pub holds_reads : (s : Subject) (matches : Matching) (a b : Question → Bool) → All (λ q. a q ≡ b q) (keywords.may_ask m s)
       → keywords.holds m s matches a ≡ keywords.holds m s matches b
   pub faults_read : (s : Subject) (matches : Matching) (a b : Answers) → All (λ q. a q ≡ b q) (keywords.may_ask m s)

@@ -1,5 +1,5 @@
 -- What a cover's members say, and so what the four calls answer where they decide.
-use Rattle.std.specs.Prelude.{Contains, List, None, Option, Some, [], length, map, ℕ, ◌*◌, ◌+◌, ◌++◌, ◌<◌, ◌↔◌, ◌∷◌, ◌≡◌, ◌≤◌}
+use Rattle.std.specs.Prelude.{Contains, List, None, Option, Some, [], length, map, ℕ, ◌*◌, ◌+◌, ◌++◌, ◌<◌, ◌↔◌, ◌∷◌, ◌≡◌, ◌≤◌, ◌⊎◌}
 use Rattle.serde_json.specs.Data.{Data}
 use Rattle.schema_reports.specs.Instance.{Place, Subject, Text}
 use Rattle.schema_reports.specs.Reports.{Error}
@@ -70,6 +70,14 @@ OneCover = (v : Sense) (call : Call) (ms ns : List Assumptions) → Cover v call
 -- a call doesn't decide where a part of its cover has more than 32 lists
 abbrev pub UndecidedPast : Type 0
 UndecidedPast = (v : Sense) (call : Call) (n : ℕ) → Partly v call [] n → 32 < n → ¬ (Decides v call)
+
+-- a call's cover has at most 32 members, or it has not
+abbrev pub DecidesOrNot : Type 0
+DecidesOrNot = (v : Sense) (call : Call) → Decides v call ⊎ ¬ (Decides v call)
+
+-- where `validate` decides, its answer is none exactly where every completion accepts
+abbrev pub NoneWhereAccepted : Type 0
+NoneWhereAccepted = (v : Sense) → Follows v → (o : Option Error) → FirstSays v o → Decides v validate → (o ≡ None) ↔ EachAccepts v
 
 -- no error is listed exactly where every completion accepts
 abbrev pub NoneListed : Type 0

@@ -10,7 +10,7 @@ ghost use Rattle.schema_compiler.specs.declared.compiler.error.BuildError.TheVar
 
 use crate::compiler::error::BuildError;
 use crate::compiler::given::Given;
-use crate::compiler::key::{SchemaKey, copy_of};
+use crate::compiler::key::SchemaKey;
 use crate::compiler::keys::Keys;
 use crate::compiler::text::{has_own_scheme, text_before_fragment};
 use schema_node::context::keyword::Validate;
@@ -20,6 +20,7 @@ use schema_node::node::{Edge, NodeForm, Nodes, SchemaNode};
 use schema_reports::location::{Location, OutOfMemory};
 use serde_json::Value;
 use std::hash::Hash;
+use std::rc::Rc;
 
 /// The result of a compilation: the keys that were reached, and at the same numbers their nodes.
 #[derive(Drop)]
@@ -87,26 +88,26 @@ impl<'p, R: Resolver, T> Given<'p, R, T> {
     fn reserve<K: Validate>(
         &self,
         compiled: &mut Compiled<R::State, K>,
-        key: &SchemaKey<R::State>,
+        key: &Rc<SchemaKey<R::State>>,
     ) -> Result<SchemaNode, BuildError>
     where
         T: KeywordTable<K>,
         requires table { IsWell (task R.resolving T.owned T.script K.shape self.now)
             (filled R.point compiled.old) }
         requires absent { (i : ℕ) → slice_get (map (key_of R.point) compiled.old.keys) i ≢
-            Some (key_of R.point key.now) }
+            Some (key_of R.point key.now.value) }
         requires room { length compiled.old.keys < self.now.options.now.node_limit }
         ensures table { OnOk result (IsWell (task R.resolving T.owned T.script K.shape self.now)
             (filled R.point compiled.new)) }
         ensures keys { OnOk result (map (key_of R.point) compiled.new.keys ≡
-            map (key_of R.point) compiled.old.keys ++ key_of R.point key.now ∷ []) }
+            map (key_of R.point) compiled.old.keys ++ key_of R.point key.now.value ∷ []) }
         ensures nodes { OnOk result ((n : NodeEntry K) ×
             (compiled.new.nodes ≡ compiled.old.nodes ++ n ∷ []) × (n.plan ≡ None)) }
         ensures number { IfOk result (λ n. n.0 ≡ length compiled.old.nodes) }
         ensures memory { IfErr result (λ e. e ≡ build.OutOfMemory) }
     {
         let number = self.reserve_node(&mut compiled.nodes, key)?;
-        let own = copy_of::<R>(key)?;
+        let own = key.clone()?;
         compiled.keys.push(own)?;
         Ok(number)
     }
@@ -115,24 +116,24 @@ impl<'p, R: Resolver, T> Given<'p, R, T> {
     pub(crate) fn reserve_within<K: Validate>(
         &self,
         compiled: &mut Compiled<R::State, K>,
-        key: &SchemaKey<R::State>,
+        key: &Rc<SchemaKey<R::State>>,
     ) -> Result<SchemaNode, BuildError>
     where
         T: KeywordTable<K>,
         requires table { IsWell (task R.resolving T.owned T.script K.shape self.now)
             (filled R.point compiled.old) }
         requires absent { (i : ℕ) → slice_get (map (key_of R.point) compiled.old.keys) i ≢
-            Some (key_of R.point key.now) }
+            Some (key_of R.point key.now.value) }
         ensures table { OnOk result (IsWell (task R.resolving T.owned T.script K.shape self.now)
             (filled R.point compiled.new)) }
         ensures keys { OnOk result (map (key_of R.point) compiled.new.keys ≡
-            map (key_of R.point) compiled.old.keys ++ key_of R.point key.now ∷ []) }
+            map (key_of R.point) compiled.old.keys ++ key_of R.point key.now.value ∷ []) }
         ensures nodes { OnOk result ((n : NodeEntry K) ×
             (compiled.new.nodes ≡ compiled.old.nodes ++ n ∷ []) × (n.plan ≡ None)) }
         ensures number { IfOk result (λ n. n.0 ≡ length compiled.old.nodes) }
         ensures refused { IfErr result
             (RefusesKey (task R.resolving T.owned T.script K.shape self.now)
-            (filled R.point compiled.old) (key_of R.point key.now)) }
+            (filled R.point compiled.old) (key_of R.point key.now.value)) }
     {
         if compiled.keys.len() >= self.options.node_limit {
             return Err(BuildError::NodeLimit(self.options.node_limit));

@@ -1,14 +1,14 @@
 //! The key of a subschema, and what stands at a place in a schema.
-ghost use Rattle.std.specs.Prelude.{◌≡◌, ◌++◌, true, false, IfOk, IfErr, Some, if◌then◌else◌, is_some, option_map, unwrap_or};
-ghost use Rattle.serde_json.specs.Data.{null};
-ghost use Rattle.serde_json.specs.View.{view};
+ghost use Rattle.std.specs.Prelude.{◌≡◌, ◌++◌, true, false, IfOk, IfErr, MatchResult, Ok, Some, if◌then◌else◌, is_some, option_map, unwrap_or};
+ghost use Rattle.serde_json.specs.Data.{null, object};
+ghost use Rattle.serde_json.specs.View.{members_view, view};
 ghost use Rattle.schema_reports.specs.Pointer.{pointer_to};
 ghost use Rattle.schema_reports.specs.Making.{compile};
 ghost use Rattle.schema_reports.specs.Drafts.{same_draft, at_path};
 ghost use Rattle.schema_reports.specs.Plan.{subschema, inside, schema_at};
 ghost use Rattle.schema_reports.specs.Refusals.{request_causes};
 ghost use Rattle.schema_reports.specs.KeywordViews.{draft_of};
-ghost use Rattle.schema_node.specs.ResolverViews.{place_of};
+ghost use Rattle.schema_node.specs.ResolverViews.{Refuses, place_of};
 ghost use Rattle.schema_compiler.specs.KeyViews.{key_of};
 ghost use Rattle.schema_compiler.specs.Carried.{resolver_parts};
 ghost use Rattle.schema_compiler.specs.Refusing.{Names};
@@ -16,11 +16,11 @@ ghost use Rattle.schema_compiler.specs.Refusing.{Names};
 use crate::compiler::error::BuildError;
 use crate::compiler::given::Given;
 use crate::compiler::key::SchemaKey;
-use schema_node::context::resolver::{Resolver, Target};
+use schema_node::context::resolver::{LookupError, Resolver, Target};
 use schema_node::context::schema_place::{SchemaPath, SchemaPlace};
 use schema_reports::keywords::{Draft, VocabularySet};
 use schema_reports::location::{Location, OutOfMemory};
-use serde_json::Value;
+use serde_json::{Map, Value};
 use std::alloc::Global;
 
 // The location of the subschema at a path below.
@@ -114,12 +114,52 @@ impl<'p, R: Resolver, T> Given<'p, R, T> {
         })
     }
 
-    /// The key of the subschema at a path below, and the value that was read there.
+    // The value at a place below a key's schema, which is an object with these members.
+    fn value_inside(
+        &self,
+        _key: &SchemaKey<R::State>,
+        members: &'p Map<String, Value>,
+        path: &SchemaPath,
+        place: &SchemaPlace,
+    ) -> Option<&'p Value>
+        requires object { (R.resolving self.now.resolver.now).value (place_of _key.now.place) ≡
+            Some (object (members_view members.now.entries)) }
+        requires below { place_of place.now ≡ at_path (place_of _key.now.place) path.now }
+        ensures read { option_map (λ v. view v.now) result ≡
+            (R.resolving self.now.resolver.now).value (place_of place.now) }
+    {
+        self.resolver.value_below(members, path, place)
+    }
+
+    // The state at a place whose value was read.
+    fn state_inside(
+        &self,
+        key: &SchemaKey<R::State>,
+        draft: Draft,
+        place: &SchemaPlace,
+        value: Option<&Value>,
+    ) -> Result<R::State, LookupError>
+        requires read { option_map (λ v. view v.now) value ≡
+            (R.resolving self.now.resolver.now).value (place_of place.now) }
+        ensures inside { MatchResult result
+            (λ s. (R.resolving self.now.resolver.now).in_subresource (R.point key.now.state)
+            (draft_of draft) (place_of place.now) ≡ Ok (R.point s))
+            (Refuses ((R.resolving self.now.resolver.now).in_subresource (R.point key.now.state)
+            (draft_of draft) (place_of place.now))) }
+    {
+        self.resolver
+            .in_subresource_read(self.alloc, &key.state, draft, place, value)
+    }
+
+    /// The key of the subschema at a path below, and the value that was read there. The key's schema is an object with these members.
     pub(crate) fn subschema_key(
         &self,
         key: &SchemaKey<R::State>,
+        members: &'p Map<String, Value>,
         path: &SchemaPath,
     ) -> Result<(SchemaKey<R::State>, Option<&'p Value>), BuildError>
+        requires object { (R.resolving self.now.resolver.now).value (place_of key.now.place) ≡
+            Some (object (members_view members.now.entries)) }
         ensures below { IfOk result (λ k.
             subschema (resolver_parts R.resolving self.now) (key_of R.point key.now) path.now ≡
             Some (record { key = key_of R.point k.0; path = pointer_to path.now; is_reference = false })) }
@@ -130,11 +170,9 @@ impl<'p, R: Resolver, T> Given<'p, R, T> {
             (compile path.now))) }
     {
         let place = key.place.below(self.alloc, path)?;
-        let value = self.resolver.value(&place);
+        let value = self.value_inside(key, members, path, &place);
         let draft = self.detected(key.draft, value);
-        let state = self
-            .resolver
-            .in_subresource(self.alloc, &key.state, draft, &place)?;
+        let state = self.state_inside(key, draft, &place, value)?;
         let has_id = self.identifies(draft, value);
         let below = Target {
             place,

@@ -1,0 +1,10 @@
+use Rattle.bench_parts.proofs.resolver.resources.add_all_embedded.Goals as goal
+
+pub loop-i-init : goal.loop-i-init
+loop-i-init c = ?
+
+pub loop-i-preserved : goal.loop-i-preserved
+loop-i-preserved c = let inv = c.loop-i.invariant in ?
+
+pub returns : goal.returns
+returns c = let inv = c.loop-i.invariant in ?
