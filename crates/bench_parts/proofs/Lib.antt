@@ -7,3 +7,6 @@ pub mod OnWay
 pub mod Indexes
 pub mod PointerTexts
 pub mod PointersLead
+pub mod Insides
+mod Starts
+pub mod BelowPlaces

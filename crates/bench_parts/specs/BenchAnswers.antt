@@ -70,10 +70,13 @@ root_target base default_draft document = record { place = root_place; state = b
 -- ---- states, each the base URI of a resource
 
 -- below the root an identifier is refused
+abbrev pub entered_below : Text → Draft → Option Data → Result Text Text
+entered_below s d None = Ok s
+entered_below s d (Some v) = if is_some (identifier d v) then Err inner_identifier else Ok s
+
 abbrev pub entered : Text → Draft → Place → Option Data → Result Text Text
 entered s d [] v = Ok s
-entered s d (step ∷ path) None = Ok s
-entered s d (step ∷ path) (Some v) = if is_some (identifier d v) then Err inner_identifier else Ok s
+entered s d (step ∷ path) v = entered_below s d v
 
 abbrev pub entrance : Text → Text → Option (Entrance Text)
 entrance base uri = if bytes_eq (without_fragment uri) base then Some (record { place = root_place; state = base }) else None

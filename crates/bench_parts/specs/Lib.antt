@@ -8,6 +8,7 @@ pub mod BenchPointers
 pub mod BenchPointersLead
 pub mod BenchDocuments
 pub mod BenchAnswers
+pub mod BenchStart
 pub mod OnWay
 pub mod BenchMeta
 pub mod ResolverLaws

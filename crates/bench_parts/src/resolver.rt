@@ -1,11 +1,12 @@
 //! The resolver.
-ghost use Rattle.std.specs.Prelude.{◌≡◌, string_bytes, IfOk, IsSome, Some};
+ghost use Rattle.std.specs.Prelude.{◌≡◌, string_bytes, IfOk, IsSome, MatchResult, Ok, Some, option_map};
 ghost use Rattle.serde_json.specs.View.{view};
 ghost use Rattle.schema_reports.specs.Drafts.{draft_2020_12};
 ghost use Rattle.schema_reports.specs.KeywordViews.{draft_of};
+ghost use Rattle.schema_node.specs.ResolverViews.{Refuses};
 ghost use Rattle.bench_parts.specs.BenchResolving.{root_place};
 ghost use Rattle.bench_parts.specs.BenchDocuments.{HasCustom, HasDrafts};
-ghost use Rattle.bench_parts.specs.BenchAnswers.{base_of, bench_resolving};
+ghost use Rattle.bench_parts.specs.BenchAnswers.{base_of, bench_resolving, entered_below};
 
 pub mod drafts;
 pub mod identifiers;
@@ -20,8 +21,7 @@ pub mod vocabularies;
 use crate::resolver::drafts::detected;
 use crate::resolver::identifiers::{identifier, without_fragment};
 use crate::resolver::known::is_known;
-use crate::resolver::on_way::subschema_on_way;
-use crate::resolver::places::{refusal, root_place, value_at};
+use crate::resolver::places::{refusal, root_place, value_at, value_inside};
 use crate::resolver::references::looked_up;
 use crate::resolver::subschemas::subschemas;
 use crate::resolver::vocabularies::DraftVocabularies;
@@ -29,7 +29,7 @@ use schema_node::context::resolver::{LookupError, Resolver, Target};
 use schema_node::context::schema_place::{SchemaPath, SchemaPlace};
 use schema_reports::keywords::{Draft, VocabularySet};
 use schema_reports::location::OutOfMemory;
-use serde_json::Value;
+use serde_json::{Map, Value};
 use std::alloc::Global;
 use std::marker::Model;
 
@@ -37,6 +37,33 @@ use std::marker::Model;
 #[derive(Clone, PartialEq, Eq, Hash, Drop)]
 pub struct BenchState {
     base: String,
+}
+
+impl BenchState {
+    // The state inside a value below the root, which has no identifier.
+    fn entered(
+        &self,
+        alloc: Global,
+        draft: Draft,
+        value: Option<&Value>,
+    ) -> Result<BenchState, LookupError>
+        ensures entered { MatchResult result
+            (λ s. entered_below (string_bytes self.now.base) (draft_of draft) (option_map (λ v. view v.now) value.entry)
+            ≡ Ok (string_bytes s.base))
+            (Refuses (entered_below (string_bytes self.now.base) (draft_of draft)
+            (option_map (λ v. view v.now) value.entry))) }
+    {
+        match value {
+            Some(value) => {
+                if identifier(draft, value).is_some() {
+                    Err(refusal(alloc, "this resolver knows no identifier below the root"))
+                } else {
+                    Ok(self.clone()?)
+                }
+            }
+            None => Ok(self.clone()?),
+        }
+    }
 }
 
 /// A state apart from its representation; it holds no value.
@@ -167,6 +194,15 @@ impl<'a> Resolver for BenchResolver<'a> {
         value_at(self.document, place)
     }
 
+    fn value_below<'v>(
+        &'v self,
+        members: &'v Map<String, Value>,
+        path: &SchemaPath,
+        place: &SchemaPlace,
+    ) -> Option<&'v Value> {
+        value_inside(self.document, members, path, place)
+    }
+
     fn lookup(
         &self,
         alloc: Global,
@@ -207,16 +243,21 @@ impl<'a> Resolver for BenchResolver<'a> {
         if place.path.len() == 0 {
             return Ok(state.clone()?);
         }
-        match value_at(self.document, place) {
-            Some(value) => {
-                if identifier(draft, value).is_some() {
-                    Err(refusal(alloc, "this resolver knows no identifier below the root"))
-                } else {
-                    Ok(state.clone()?)
-                }
-            }
-            None => Ok(state.clone()?),
+        state.entered(alloc, draft, value_at(self.document, place))
+    }
+
+    fn in_subresource_read(
+        &self,
+        alloc: Global,
+        state: &BenchState,
+        draft: Draft,
+        place: &SchemaPlace,
+        value: Option<&Value>,
+    ) -> Result<BenchState, LookupError> {
+        if place.path.len() == 0 {
+            return Ok(state.clone()?);
         }
+        state.entered(alloc, draft, value)
     }
 
     fn base_uri<'s>(&self, state: &'s BenchState) -> &'s str {
@@ -269,16 +310,6 @@ impl<'a> Resolver for BenchResolver<'a> {
             Some(schema) => subschemas(alloc, place, schema),
             None => Ok(Vec::new(alloc)),
         }
-    }
-
-    fn subresource_on_way(
-        &self,
-        alloc: Global,
-        _draft: Draft,
-        place: &SchemaPlace,
-        path: &SchemaPath,
-    ) -> Result<Option<SchemaPlace>, OutOfMemory> {
-        subschema_on_way(alloc, self.document, place, path)
     }
 
     fn is_known_keyword(&self, _draft: Draft, name: &str) -> bool {

@@ -1,7 +1,10 @@
 //! Places of a document, and the values there.
-ghost use Rattle.std.specs.Prelude.{◌≡◌, map, option_map};
-ghost use Rattle.serde_json.specs.View.{view};
+ghost use Rattle.std.specs.Prelude.{◌≡◌, ◌<◌, Some, length, map, option_map};
+ghost use Rattle.serde_json.specs.Data.{object};
+ghost use Rattle.serde_json.specs.View.{members_view, view};
 ghost use Rattle.schema_reports.specs.Instance.{after_step, a_value, subject_from};
+ghost use Rattle.schema_reports.specs.Drafts as schemas;
+ghost use Rattle.schema_reports.specs.Drafts.{at_path};
 ghost use Rattle.schema_node.specs.SchemaViews.{schema_step_of};
 ghost use Rattle.schema_node.specs.ResolverViews.{place_of};
 ghost use Rattle.bench_parts.specs.BenchResolving.{root_place, value_at};
@@ -9,7 +12,7 @@ ghost use Rattle.bench_parts.specs.BenchAnswers.{RefusesWith};
 
 use schema_node::context::resolver::LookupError;
 use schema_node::context::schema_place::{SchemaPath, SchemaPlace, SchemaStep};
-use serde_json::Value;
+use serde_json::{Map, Value};
 use std::alloc::Global;
 
 /// The root of the document.
@@ -54,6 +57,51 @@ fn value_after<'v>(value: &'v Value, steps: &[SchemaStep]) -> Option<&'v Value>
         }
     }
     Some(reached)
+}
+
+/// The value one step below an object with these members.
+fn member_below<'v>(members: &'v Map<String, Value>, step: &SchemaStep) -> Option<&'v Value>
+    ensures below { option_map (λ v. a_value (view v.now)) result
+        ≡ after_step (schema_step_of step.now) (a_value (object (members_view members.now.entries))) }
+{
+    match step {
+        SchemaStep::Member(name) => members.get(name.as_str()),
+        SchemaStep::Item(_) => None,
+    }
+}
+
+/// The value at the end of some steps, at least one, from an object with these members.
+fn value_after_member<'v>(
+    members: &'v Map<String, Value>,
+    steps: &[SchemaStep],
+) -> Option<&'v Value>
+    requires step { 0 < length steps.now }
+    ensures after { option_map (λ v. a_value (view v.now)) result
+        ≡ subject_from (map schema_step_of steps.now) (a_value (object (members_view members.now.entries))) }
+{
+    match member_below(members, &steps[0]) {
+        Some(value) => value_after(value, &steps[1..]),
+        None => None,
+    }
+}
+
+/// The value at a place of a document that lies at a path below an object with these members: the walk begins at the members.
+pub fn value_inside<'v>(
+    document: &'v Value,
+    members: &'v Map<String, Value>,
+    path: &SchemaPath,
+    place: &SchemaPlace,
+) -> Option<&'v Value>
+    ensures value { (outer : schemas.SchemaPlace) →
+        place_of place.now ≡ at_path outer path.now →
+        value_at (view document.now) outer ≡ Some (object (members_view members.now.entries)) →
+        option_map (λ v. view v.now) result ≡ value_at (view document.now) (place_of place.now) }
+{
+    let steps = path.steps();
+    if steps.len() == 0 {
+        return value_at(document, place);
+    }
+    value_after_member(members, steps)
 }
 
 /// The value at a place of a document, whose number is 0.

@@ -4,6 +4,9 @@ ghost use Rattle.serde_json.specs.View.{view};
 ghost use Rattle.schema_reports.specs.KeywordViews.{draft_of};
 ghost use Rattle.schema_node.specs.ResolverViews.{found_of, Refuses};
 ghost use Rattle.bench_parts.specs.BenchAnswers.{looked_up, target_draft};
+ghost use Rattle.schema_reports.specs.Instance.{Text};
+ghost use Rattle.schema_reports.specs.Parts.{Parts};
+ghost use Rattle.bench_parts.specs.BenchStart.{StartsAtInnermost};
 
 use crate::resolver::BenchState;
 use crate::resolver::drafts::detected;
@@ -87,3 +90,9 @@ pub fn looked_up(
         draft,
     })
 }
+
+/// What lies outside the resource of a target is the pointer's part up to the innermost listed subschema with an identifier
+/// that the pointer passes into. The function does nothing when it runs.
+pub fn starts_at_the_innermost_resource<K, R>()
+    ensures starts { (w : Parts Text K R) → StartsAtInnermost w }
+{}
