@@ -2,12 +2,13 @@
 use Rattle.std.proofs.Common.{◌≡◌, ◌∙◌, ◌∷◌, ◌&&◌, ◌||◌, [], List, Bool, true, false, ap, codes, map, not, refl, sym}
 use Rattle.std.specs.List.{list_any}
 use Rattle.schema_reports.specs.Instance.{Subject, Text}
-use Rattle.schema_reports.specs.Keywords.{Answer, own}
+use Rattle.schema_reports.specs.Keywords.{Answer, Fault, for_all, for_first, for_units, for_verdict, own}
+use Rattle.schema_reports.specs.Keywords as spec
 use Rattle.schema_reports.specs.ReportViews.{spoken}
 use Rattle.schema_node.specs.declared.context.keyword.Mode.{Mode}
 use Rattle.schema_node.specs.declared.context.keyword.Mode.TheVariants as mode
 use Rattle.keyword_ways.specs.Members.{has_member, is_object}
-use Rattle.keyword_ways.specs.Ways.{noted, noted_one, plain, refused}
+use Rattle.keyword_ways.specs.Ways.{noted, noted_one, plain, refused, refused_mode}
 use Rattle.bench_keywords.specs.Words.{missing, required_text}
 
 missing_first : (k : Text) (ks : List Text) (s : Subject) → (is_object s && not (has_member k s)) ≡ true → missing (k ∷ ks) s ≡ k ∷ missing ks s
@@ -22,9 +23,20 @@ pub told_missing : (texts : Bool) (m : Mode) (a b : Answer) (k : Text) (ks : Lis
 told_missing texts m a b k ks s h e = ap (λ l. noted m (codes "required") a (map (λ k. spoken texts (required_text k)) l)) (missing_first k ks s h)
     ∙ ap (λ x. noted m (codes "required") x (map (λ k. spoken texts (required_text k)) (missing ks s))) (sym e)
 
+mode_twice : (m : spec.Mode) (fs : List Fault) → refused_mode (refused_mode m fs) fs ≡ refused_mode m fs
+mode_twice for_verdict fs = refl
+mode_twice for_first [] = refl
+mode_twice for_first (f ∷ fs) = refl
+mode_twice for_all [] = refl
+mode_twice for_all (f ∷ fs) = refl
+mode_twice for_units fs = refl
+
+refused_twice : (a : Answer) → refused (refused a) ≡ refused a
+refused_twice a = ap (λ m. record (refused a) { mode = m }) (mode_twice a.mode a.errors)
+
 refused_each : (name : Text) (a : Answer) (ts : List Text) → noted mode.Verdict name (refused a) ts ≡ refused a
 refused_each name a [] = refl
-refused_each name a (t ∷ ts) = refused_each name a ts
+refused_each name a (t ∷ ts) = refused_each name (refused a) ts ∙ refused_twice a
 
 abbrev pub lacks_it : {X : Type 0} → (X → Text) → Subject → X → Bool
 lacks_it text_of s k = is_object s && not (has_member (text_of k) s)

@@ -20,12 +20,12 @@ use Rattle.keyword_ways.specs.Places.{branch_present, each_named, each_present, 
 use Rattle.keyword_ways.specs.Somes.{somes}
 use Rattle.keyword_ways.specs.WayLaws.{AllPresent, SameQuestions, function_laws, turn_laws}
 use Rattle.keyword_ways.specs.WayRuns.{fits_at}
-use Rattle.keyword_ways.specs.WayWords.{left_at_most, nothing_absorbed, run_ends, run_fits, run_replies, words_of}
+use Rattle.keyword_ways.specs.WayWords.{any_state, left_at_most, nothing_absorbed, run_ends, run_fits, run_replies, words_of}
 use Rattle.keyword_ways.specs.Ways.{Way, passes_on, passes_some, places, questions, way_faults, way_holds, way_turn, way_units}
 use Rattle.bench_keywords.specs.declared.names.NamesRun.{NamesRun}
 use Rattle.bench_keywords.specs.BenchShape.{BenchShape, has_all_of, has_any_of, has_count, has_if, has_items, has_not, has_one_of, has_pattern, has_prefix_items, has_properties, has_property_names, has_type, has_types, requires}
 use Rattle.bench_keywords.specs.Counts.{subject_string}
-use Rattle.bench_keywords.specs.Words.{ends_in, fits_in, has_name, held_way, is_named, name_asked, names_held, pattern_way, run_way, seen, turns_left, way, words}
+use Rattle.bench_keywords.specs.Words.{any_run, ends_in, fits_in, has_name, held_way, is_named, name_asked, names_held, pattern_way, run_way, seen, turns_left, way, words}
 
 -- they absorb no other keyword
 abbrev pub none_absorbed : BenchShape → List Text
@@ -191,7 +191,7 @@ same_reply texts m ks x done = refl
 
 -- the laws of the runs that hold these names
 held_laws : (texts : Bool) (m : BenchShape) (ks : List Text)
-    → TurnLaws (words_of run_way texts) (m, ks) (nothing_absorbed run_way (m, ks)) (left_at_most run_way (m, ks)) (run_ends run_way texts (m, ks)) (run_fits run_way texts (m, ks))
+    → TurnLaws (words_of run_way texts) (m, ks) (nothing_absorbed run_way (m, ks)) (left_at_most run_way (m, ks)) (any_state run_way (m, ks)) (run_ends run_way texts (m, ks)) (run_fits run_way texts (m, ks))
 held_laws texts m ks = turn_laws run_way same_held texts (m, ks)
 
 fewer : (a b c : ℕ) → b ≡ c → a < b + 2 → a < c + 2
@@ -205,13 +205,15 @@ keeps texts m x fits h =
     let after : Progress × Answer = way_turn w (x.state.0.progress, x.state.1) x.reply in
     (subst (λ r. fits_at w (run_replies (seen x)) after.0.mode after.0.stage r) (same_reply texts m x.state.0.names x (step_at (words texts) m x)) kept.0, kept.1)
 
-pub turns_keep : (texts : Bool) (m : BenchShape) → TurnLaws (words texts) m (none_absorbed m) (turns_left m) (ends_in texts m) (fits_in texts m)
+pub turns_keep : (texts : Bool) (m : BenchShape) → TurnLaws (words texts) m (none_absorbed m) (turns_left m) (any_run texts m) (ends_in texts m) (fits_in texts m)
 turns_keep texts m = record {
   bounded = λ s mode'. fewer _ _ _ (begins_meant texts m s).places_same ((held_laws texts m (names_held m s)).bounded s mode');
-  falls = λ s r reply. (held_laws texts m r.0.names).falls s (r.0.progress, r.1) reply;
-  asks = λ s r reply. asks_right texts m r.0.names s ((words texts).step m s r reply) ((held_laws texts m r.0.names).asks s (r.0.progress, r.1) reply);
-  begins = λ s mode' matches a u same agrees valid.
-      let begun = (held_laws texts m (names_held m s)).begins s mode' matches a u same agrees valid in
+  starts = λ s mode'. tt;
+  goes_on = λ s r reply can. tt;
+  falls = λ s r reply can. (held_laws texts m r.0.names).falls s (r.0.progress, r.1) reply tt;
+  asks = λ s r reply can. asks_right texts m r.0.names s ((words texts).step m s r reply) ((held_laws texts m r.0.names).asks s (r.0.progress, r.1) reply tt);
+  begins = λ s mode' matches a u same agrees valid alike.
+      let begun = (held_laws texts m (names_held m s)).begins s mode' matches a u same agrees valid alike in
       (begun.0, is_right texts m s matches a u same mode' _ begun.1);
   keeps = keeps texts m;
   stands = λ x fits h. (held_laws texts m x.state.0.names).stands (seen x) fits h;
@@ -242,6 +244,7 @@ pub functions_keep : (texts : Bool) (m : BenchShape) → FunctionLaws (words tex
 functions_keep texts m = let laws : FunctionLaws (words_of way texts) m (nothing_absorbed way m) = function_laws way present texts m in record {
   present = laws.present;
   agree = laws.agree;
+  units_valid = laws.units_valid;
   holds_reads = laws.holds_reads;
   faults_read = laws.faults_read;
   units_read = laws.units_read;

@@ -3,13 +3,14 @@ ghost use Rattle.std.specs.Prelude.{All, ◌≡◌, true, Bool, IfOk};
 ghost use Rattle.serde_json.specs.Data.{Data};
 ghost use Rattle.schema_reports.specs.InstanceViews.{subject_of};
 ghost use Rattle.schema_node.specs.FaultViews.{errors_in, faults_in, PassesBorrowed};
-ghost use Rattle.schema_node.specs.KeywordViews.{answer_of, reply_of, turn_of, Tells};
+ghost use Rattle.schema_node.specs.KeywordViews.{answer_of, mode_of, reply_of, turn_of, Tells};
 ghost use Rattle.schema_reports.specs.Keywords.{done};
 ghost use Rattle.schema_reports.specs.ReportViews.{BorrowsItsPlace};
 ghost use Rattle.keyword_ways.specs.declared.run.Stage.TheVariants.{Ended};
-ghost use Rattle.keyword_ways.specs.Ways.{at_first, told_at_once, way_step, way_turn};
+ghost use Rattle.keyword_ways.specs.Members.{subject_names};
+ghost use Rattle.keyword_ways.specs.Ways.{at_first, told_at_once, way_begin, way_step, way_turn};
 ghost use Rattle.bench_keywords.specs.BenchShape.{is_whole};
-ghost use Rattle.bench_keywords.specs.Words.{held_way, names_held, way};
+ghost use Rattle.bench_keywords.specs.Words.{held_way, way};
 ghost use Rattle.bench_keywords.specs.Shapes.{shape_of};
 
 use crate::any_of::turn_any_of;
@@ -121,26 +122,28 @@ fn turn_telling<'s, 'i>(
     ensures borrows { IfOk result (λ _. (root : Data) → All (BorrowsItsPlace root) (errors_in reply.entry)
         → All (PassesBorrowed root) (faults_in answer.old) → All (PassesBorrowed root) (faults_in answer.new)) }
 {
-    drop(reply);
     if tell_on(run) {
         tell(keyword, alloc, run.mode, instance, answer)?;
     }
     Ok(Step::Done)
 }
 
-/// The names that a run holds from its beginning on: those of the instance's members, where the keyword asks at them. Fails
-/// only if memory cannot be allocated.
-fn names_for(
-    keyword: &BenchKeyword,
+/// The run of a keyword that asks at the names of the instance's members, which it holds from its beginning on. Fails only if
+/// memory cannot be allocated. Its room on the stack is its own, so that other runs pay nothing for it.
+#[inline(never)]
+fn begin_at_names(
     alloc: Global,
     instance: Instance<'_>,
-) -> Result<Names, OutOfMemory>
-    ensures names { IfOk result (λ names. names ≡ names_held (shape_of keyword.now) (subject_of instance.entry)) }
+    mode: Mode,
+) -> Result<NamesRun, OutOfMemory>
+    ensures begins { IfOk result (λ run. way_begin (mode_of mode) ≡ run.progress) }
+    ensures names { IfOk result (λ run. run.names ≡ subject_names (subject_of instance.entry)) }
 {
-    match keyword {
-        BenchKeyword::PropertyNames => Names::of(alloc, instance),
-        _ => Ok(Names::none(alloc)),
-    }
+    let names = Names::of(alloc, instance)?;
+    Ok(NamesRun {
+        progress: Progress::begin(mode),
+        names,
+    })
 }
 
 /// Takes a turn of a run that holds these names.
@@ -163,10 +166,10 @@ fn turn_at<'s, 'i: 's>(
         → All (PassesBorrowed root) (faults_in answer.old) → All (PassesBorrowed root) (faults_in answer.new)) }
 {
     match keyword {
-        BenchKeyword::Type(_) => turn_telling(keyword, alloc, run, instance, reply, answer),
-        BenchKeyword::Types(_) => turn_telling(keyword, alloc, run, instance, reply, answer),
-        BenchKeyword::Required(_) => turn_telling(keyword, alloc, run, instance, reply, answer),
-        BenchKeyword::Count(_, _) => turn_telling(keyword, alloc, run, instance, reply, answer),
+        BenchKeyword::Type(_)
+        | BenchKeyword::Types(_)
+        | BenchKeyword::Required(_)
+        | BenchKeyword::Count(_, _) => turn_telling(keyword, alloc, run, instance, reply, answer),
         BenchKeyword::Properties(children) => {
             turn_properties(alloc, children.as_slice(), run, instance, reply, answer)
         }
@@ -193,7 +196,7 @@ fn turn_at<'s, 'i: 's>(
 impl Validate for BenchKeyword {
     ghost use Rattle.std.specs.Prelude.{refl};
     ghost use Rattle.bench_keywords.specs.BenchShape.{is_whole};
-    ghost use Rattle.bench_keywords.specs.Words.{ends_in, fits_in, turns_left, words};
+    ghost use Rattle.bench_keywords.specs.Words.{any_run, ends_in, fits_in, turns_left, words};
     ghost use Rattle.bench_keywords.specs.Laws.{functions_keep, none_absorbed, turns_keep};
 
     type Run = NamesRun;
@@ -210,6 +213,8 @@ impl Validate for BenchKeyword {
 
     ghost remaining = { turns_left };
 
+    ghost can_be = { any_run };
+
     ghost ends = { ends_in };
 
     ghost fits = { fits_in };
@@ -220,11 +225,13 @@ impl Validate for BenchKeyword {
         instance: Instance,
         mode: Mode,
     ) -> Result<NamesRun, OutOfMemory> {
-        let names = names_for(self, alloc, instance)?;
-        Ok(NamesRun {
-            progress: Progress::begin(mode),
-            names,
-        })
+        match self {
+            BenchKeyword::PropertyNames => begin_at_names(alloc, instance, mode),
+            _ => Ok(NamesRun {
+                progress: Progress::begin(mode),
+                names: Names::none(alloc),
+            }),
+        }
     }
 
     fn turn<'s, 'i: 's>(

@@ -7,3 +7,13 @@ pub mod OnWay
 pub mod Indexes
 pub mod PointerTexts
 pub mod PointersLead
+pub mod Insides
+pub mod BenchRows
+pub mod BelowPlaces
+pub mod Arrivals
+pub mod Fragments
+pub mod Numbers
+pub mod Resources
+pub mod Walks
+pub mod DocumentLists
+pub mod Starts

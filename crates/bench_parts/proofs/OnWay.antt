@@ -1,28 +1,25 @@
 -- One or two steps, and the subschemas of a schema that they lead to.
-use Rattle.std.proofs.Common.{◌≡◌, ◌∙◌, ℕ, zero, suc, ◌+◌, ◌<◌, ◌==◌, ◌&&◌, Bool, true, false, cond, List, [], ◌∷◌, ◌++◌, Option, Some, None, Ordering, Less, Equal, Greater, String, Global, get_or, length, take, drop, map, refl, sym, ap, subst, string_bytes, string_cmp, nat_cmp, is_eq, bytes_eq, true≢false, arith}
-use Rattle.std.specs.Prelude.{◌||◌, find, flat_map, option_map}
+use Rattle.std.proofs.Common.{◌≡◌, ◌∙◌, ℕ, zero, suc, ◌+◌, ◌<◌, ◌==◌, ◌&&◌, Bool, true, false, List, [], ◌∷◌, ◌++◌, Option, Some, None, Ordering, Less, Equal, Greater, String, Global, get_or, length, take, map, refl, sym, ap, subst, string_bytes, string_cmp, nat_cmp, is_eq, bytes_eq, arith}
+use Rattle.std.specs.Prelude.{◌||◌, flat_map}
 use Rattle.std.specs.List.{AllByRecursion, list_any}
 use Rattle.std.specs.List.Sorted.{IsStrictlySortedBy}
 use Rattle.std.specs.Map.{keys_of}
-use Rattle.std.specs.Option.{option_or}
 use Rattle.std.specs.Ordering.{match_ordering}
 use Rattle.std.specs.Cmp.Lexicographic.{slice_cmp}
 use Rattle.std.proofs.lemmas.Bool.{eq-eqb, ne_eqb}
 use Rattle.std.proofs.lemmas.List.{length-map}
-use Rattle.std.proofs.lemmas.List.Folds.{find-append, list_any-append}
+use Rattle.std.proofs.lemmas.List.Folds.{list_any-append}
 use Rattle.std.proofs.lemmas.Map.Text.{is_eq-slice_cmp}
 use Rattle.serde_json.specs.Data.{Data, Items, Members, array, boolean, item, member, no_items, no_members, null, number, object, string}
 use Rattle.serde_json.specs.Find.{as_object, at, get, get_item, get_member}
 use Rattle.serde_json.specs.View.{members_view, view}
 use Rattle.serde_json.proofs.Views.{Entry}
 use Rattle.schema_reports.specs.Instance.{Place, Step, Text, same_place, same_step, to_item, to_member}
-use Rattle.schema_reports.specs.Drafts.{SchemaPlace, at_path}
 use Rattle.schema_reports.proofs.Found.{same-from-equal}
 use Rattle.schema_reports.proofs.Places.{differ_in_length}
-use Rattle.schema_node.proofs.Pairs.{place_equal, same_place-self}
-use Rattle.bench_parts.specs.BenchResolving.{below_list, below_object, below_value, is_schema, items_below, members_below, names_of_lists, names_of_objects, names_of_values, place_if, subschemas, subschemas_of}
-use Rattle.bench_parts.specs.BenchAnswers.{is_subschema}
-use Rattle.bench_parts.specs.OnWay.{item_among, leads_to_item, leads_to_member, member_among, on_way, pairs_below, schema_found, singles_below}
+use Rattle.bench_parts.specs.BenchResolving.{below_list, below_object, below_value, is_schema, items_below, members_below, names_of_lists, names_of_objects, names_of_values, place_if}
+use Rattle.bench_parts.specs.BenchLookups.{is_subschema}
+use Rattle.bench_parts.specs.OnWay.{item_among, leads_to_item, leads_to_member, member_among, pairs_below, schema_found, singles_below}
 
 -- ---- tests
 
@@ -201,7 +198,7 @@ leads_to_the_item n (object ms) = refl
 
 -- ---- how long the paths of subschemas are
 
-abbrev Long : ℕ → List Place → Type 0
+abbrev pub Long : ℕ → List Place → Type 0
 Long n [] = Unit {0}
 Long n (p ∷ ps) = (length p ≡ n) × Long n ps
 
@@ -255,10 +252,10 @@ long_value k (Some d) = go (is_schema d)
     go true = (refl, tt)
     go false = tt
 
-long_pairs : (d : Data) → Long 2 (pairs_below d)
+pub long_pairs : (d : Data) → Long 2 (pairs_below d)
 long_pairs d = long-append 2 _ _ (long-flat 2 (λ k. below_object k (get k d)) (λ k. long_object k (get k d)) names_of_objects) (long-flat 2 (λ k. below_list k (get k d)) (λ k. long_list k (get k d)) names_of_lists)
 
-long_singles : (d : Data) → Long 1 (singles_below d)
+pub long_singles : (d : Data) → Long 1 (singles_below d)
 long_singles d = long-flat 1 (λ k. below_value k (get k d)) (λ k. long_value k (get k d)) names_of_values
 
 -- a path of another length is none of them
@@ -282,40 +279,6 @@ is_neither f xs d g h =
     list_any-append (same_place path) (pairs_below d) (singles_below d)
     ∙ rw (none_of_length path 2 (pairs_below d) (long_pairs d) (λ e. h (sym (length-map xs f) ∙ e)), none_of_length path 1 (singles_below d) (long_singles d) (λ e. g (sym (length-map xs f) ∙ e))) refl
 
--- ---- the first on the way
-
--- of paths that are n steps long, the first on the way is the way's first n steps
-first_of_length : (path : Place) (n : ℕ) (ps : List Place) → Long n ps → find (on_way path) ps ≡ cond (list_any (same_place (take n path)) ps) (Some (take n path)) None
-first_of_length path n [] l = refl
-first_of_length path n (p ∷ ps) l =
-    ap (λ m. cond (same_place p (take m path)) (Some p) (find (on_way path) ps)) l.0
-    ∙ go (same_place p (take n path)) (same_place (take n path) p) (place_equal p (take n path)) (place_equal (take n path) p) refl refl (first_of_length path n ps l.1)
-  where
-    go : (a b : Bool) → (same_place p (take n path) ≡ true → p ≡ take n path) → (same_place (take n path) p ≡ true → take n path ≡ p)
-        → same_place p (take n path) ≡ a → same_place (take n path) p ≡ b
-        → find (on_way path) ps ≡ cond (list_any (same_place (take n path)) ps) (Some (take n path)) None
-        → cond a (Some p) (find (on_way path) ps) ≡ cond (b || list_any (same_place (take n path)) ps) (Some (take n path)) None
-    go true true f g e h r = ap Some (f e)
-    go true false f g e h r = absurd (true≢false (sym (ap (λ q. same_place q p) (sym (f e)) ∙ same_place-self p) ∙ h))
-    go false true f g e h r = absurd (true≢false (sym (ap (λ q. same_place p q) (g h) ∙ same_place-self p) ∙ e))
-    go false false f g e h r = r
-
-pub first_on_way : (path : Place) (d : Data) → find (on_way path) (subschemas d)
-    ≡ option_or (cond (list_any (same_place (take 2 path)) (pairs_below d)) (Some (take 2 path)) None) (cond (list_any (same_place (take 1 path)) (singles_below d)) (Some (take 1 path)) None)
-first_on_way path d = find-append (on_way path) (pairs_below d) (singles_below d)
-    ∙ ap (λ o. option_or o (find (on_way path) (singles_below d))) (first_of_length path 2 (pairs_below d) (long_pairs d))
-    ∙ ap (λ o. option_or (cond (list_any (same_place (take 2 path)) (pairs_below d)) (Some (take 2 path)) None) o) (first_of_length path 1 (singles_below d) (long_singles d))
-
--- a shorter path has no pair of first steps, and the empty one no first step
-pub no_pair : {A : Type 0} (f : A → Step) (xs : List A) (d : Data) → length xs < 2 → list_any (same_place (take 2 (map f xs))) (pairs_below d) ≡ false
-no_pair f [] d l = none_of_length [] 2 (pairs_below d) (long_pairs d) (λ e. absurd (omega arith))
-no_pair f (x ∷ []) d l = none_of_length (f x ∷ []) 2 (pairs_below d) (long_pairs d) (λ e. absurd (omega arith))
-no_pair f (x ∷ y ∷ xs) d l = absurd (omega arith)
-
-pub no_single : {A : Type 0} (f : A → Step) (xs : List A) (d : Data) → length xs ≡ 0 → list_any (same_place (take 1 (map f xs))) (singles_below d) ≡ false
-no_single f [] d l = none_of_length [] 1 (singles_below d) (long_singles d) (λ e. absurd (omega arith))
-no_single f (x ∷ xs) d l = absurd (omega arith)
-
 -- the first steps, as they are read from the list
 module _ {A B : Type 0} (f : A → B) where
   pub first_step : (xs : List A) (a : A) → 0 < length xs → a ≡ get_or xs 0 a → take 1 (map f xs) ≡ f a ∷ []
@@ -332,41 +295,3 @@ module _ {A B : Type 0} (f : A → B) where
   whole n [] h = rw (sym h) refl
   whole zero (x ∷ xs) h = absurd (omega arith)
   whole (suc n) (x ∷ xs) h = ap (λ ys. f x ∷ ys) (whole n xs (omega arith))
-
--- ---- below a place
-
-split_way : (p r path : Place) → same_place (p ++ r) (take (length (p ++ r)) path) ≡ (same_place p (take (length p) path) && on_way (drop (length p) path) r)
-split_way [] r path = refl
-split_way (s ∷ p) r [] = refl
-split_way (s ∷ p) r (t ∷ path) = go (same_step s t) (split_way p r path)
-  where
-    go : (b : Bool) → same_place (p ++ r) (take (length (p ++ r)) path) ≡ (same_place p (take (length p) path) && on_way (drop (length p) path) r)
-        → (b && same_place (p ++ r) (take (length (p ++ r)) path)) ≡ ((b && same_place p (take (length p) path)) && on_way (drop (length p) path) r)
-    go true e = e
-    go false e = refl
-
-pub below_elsewhere : (at : SchemaPlace) (path : Place) (ps : List Place) → same_place at.path (take (length at.path) path) ≡ false
-    → find (λ (q : SchemaPlace). same_place q.path (take (length q.path) path)) (map (at_path at) ps) ≡ None
-below_elsewhere at path [] h = refl
-below_elsewhere at path (r ∷ ps) h =
-    ap (λ b. cond b (Some (at_path at r)) (find (λ (q : SchemaPlace). same_place q.path (take (length q.path) path)) (map (at_path at) ps))) (split_way at.path r path ∙ ap (λ b. b && on_way (drop (length at.path) path) r) h)
-    ∙ below_elsewhere at path ps h
-
-pub below_there : (at : SchemaPlace) (path : Place) (ps : List Place) → same_place at.path (take (length at.path) path) ≡ true
-    → find (λ (q : SchemaPlace). same_place q.path (take (length q.path) path)) (map (at_path at) ps) ≡ option_map (at_path at) (find (on_way (drop (length at.path) path)) ps)
-below_there at path [] h = refl
-below_there at path (r ∷ ps) h =
-    ap (λ b. cond b (Some (at_path at r)) (find (λ (q : SchemaPlace). same_place q.path (take (length q.path) path)) (map (at_path at) ps))) (split_way at.path r path ∙ ap (λ b. b && on_way (drop (length at.path) path) r) h)
-    ∙ go (on_way (drop (length at.path) path) r) (below_there at path ps h)
-  where
-    go : (b : Bool) → find (λ (q : SchemaPlace). same_place q.path (take (length q.path) path)) (map (at_path at) ps) ≡ option_map (at_path at) (find (on_way (drop (length at.path) path)) ps)
-        → cond b (Some (at_path at r)) (find (λ (q : SchemaPlace). same_place q.path (take (length q.path) path)) (map (at_path at) ps)) ≡ option_map (at_path at) (cond b (Some r) (find (on_way (drop (length at.path) path)) ps))
-    go true e = refl
-    go false e = e
-
-pub found_there : (at : SchemaPlace) (path rest : Place) (o : Option Data) (d : Data) (r : Option ℕ) → o ≡ Some d → same_place at.path (take (length at.path) path) ≡ true → rest ≡ drop (length at.path) path
-    → option_map (λ n. take n rest) r ≡ find (on_way rest) (subschemas d)
-    → find (λ (q : SchemaPlace). same_place q.path (take (length q.path) path)) (map (at_path at) (subschemas_of o)) ≡ option_map (at_path at) (option_map (λ n. take n rest) r)
-found_there at path rest o d r stands h is first =
-    ap (λ x. find (λ (q : SchemaPlace). same_place q.path (take (length q.path) path)) (map (at_path at) (subschemas_of x))) stands
-    ∙ below_there at path (subschemas d) h ∙ ap (λ x. option_map (at_path at) (find (on_way x) (subschemas d))) (sym is) ∙ ap (option_map (at_path at)) (sym first)

@@ -2,7 +2,7 @@
 use Rattle.std.proofs.Common.{refl}
 use Rattle.std.specs.Prelude.{Bool, List, None, Option, Some, [], false, true, ℕ, ◌+◌, ◌≡◌, ◌∷◌, All}
 use Rattle.std.proofs.lemmas.List.Elements.{All-cons, All-head, All-nil, All-tail}
-use Rattle.serde_json.specs.Data.{Data, Items, Members, array, boolean, item, member, no_items, no_members, null, number, object, string}
+use Rattle.serde_json.specs.Data.{Data, Items, Members, array, boolean, item, no_items, null, number, object, string}
 use Rattle.serde_json.specs.Find.{get_member}
 use Rattle.serde_json.specs.Written.{has_float}
 use Rattle.schema_reports.specs.Instance.{Place, Text, to_member}
@@ -90,7 +90,7 @@ module _ {K : Type 0} (absorbed : K → List Text) (is_whole : K → Bool) where
 
   member_rightly : (owner : Members) (name : Text) (d : Data) → get_member name owner ≡ Some d → (m : MemberKeyword K) → IsRightMember absorbed is_whole d m
       → MakesRightly absorbed is_whole owner (script_of name d m)
-  member_rightly owner name d here (member_is.Keyword m c) right = asked_rightly owner (a_keyword m []) (right.0, λ h. right.1 (member_whole name owner d here h))
+  member_rightly owner name d here (member_is.Keyword m c) right = asked_rightly owner (a_keyword m []) (right.0, (λ h. right.1 (member_whole name owner d here h)), tt)
       (children_of c name d) (children_lie_below c name d)
   member_rightly owner name d here member_is.Nothing right = tt
   member_rightly owner name d here member_is.Malformed right = tt

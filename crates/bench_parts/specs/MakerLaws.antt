@@ -42,7 +42,7 @@ member_whole k (member l c ms) d e h = first (slice_cmp nat_cmp k l) (λ q. memb
     first Greater later e = later e
 
 asked_rightly : (owner : Members) (name : Text) (ks : List Text) (m : BenchShape) → is_whole m ≡ true → Rightly owner (asks_for (values_below name ks) (a_keyword m []))
-asked_rightly owner name [] m w = (refl, λ h. w)
+asked_rightly owner name [] m w = (refl, (λ h. w), tt)
 asked_rightly owner name (k ∷ ks) m w = (tt, asked_rightly owner name ks m w)
 
 -- a shape that holds no value of the schema
@@ -52,7 +52,7 @@ IsWholeIf (Some m) = is_whole m ≡ true
 
 made_rightly : (owner : Members) (name : Text) (d : Data) (m : Option BenchShape) → IsWholeIf m → Rightly owner (makes_if name d m)
 made_rightly owner name d None w = tt
-made_rightly owner name d (Some m) w = (refl, λ h. w)
+made_rightly owner name d (Some m) w = (refl, (λ h. w), tt)
 
 type_whole : (o : Option TypeName) → IsWholeIf (option_map has_type o)
 type_whole None = tt
@@ -103,7 +103,7 @@ properties_rightly owner name (string t) = tt
 properties_rightly owner name (array ds) = tt
 
 items_rightly : (owner : Members) (name : Text) (i : ℕ) (ds : Items) (m : BenchShape) → is_whole m ≡ true → Rightly owner (asks_for (items_from name i ds) (a_keyword m []))
-items_rightly owner name i no_items m w = (refl, λ h. w)
+items_rightly owner name i no_items m w = (refl, (λ h. w), tt)
 items_rightly owner name i (item d ds) m w = (tt, items_rightly owner name (i + 1) ds m w)
 
 list_rightly : (owner : Members) (shape : ℕ → BenchShape) (name : Text) (d : Data) → ((n : ℕ) → is_whole (shape n) ≡ true) → Rightly owner (list_script shape name d)
@@ -119,13 +119,13 @@ one_of owner true x y p q = p
 one_of owner false x y p q = q
 
 items_made_rightly : (owner : Members) (draft : Draft) (ms : Members) (name : Text) (d : Data) → Rightly owner (items_script draft ms name d)
-items_made_rightly owner draft ms name d = one_of owner (is_older_list draft d) _ _ tt (tt, (refl, λ h. refl))
+items_made_rightly owner draft ms name d = one_of owner (is_older_list draft d) _ _ tt (tt, (refl, (λ h. refl), tt))
 
 if_rightly : (owner : Members) (name : Text) (has_then has_else : Bool) → Rightly owner (if_script name has_then has_else)
-if_rightly owner name true true = (tt, (tt, (tt, (refl, λ h. refl))))
-if_rightly owner name true false = (tt, (tt, (refl, λ h. refl)))
-if_rightly owner name false true = (tt, (tt, (refl, λ h. refl)))
-if_rightly owner name false false = (tt, (refl, λ h. refl))
+if_rightly owner name true true = (tt, (tt, (tt, (refl, (λ h. refl), tt))))
+if_rightly owner name true false = (tt, (tt, (refl, (λ h. refl), tt)))
+if_rightly owner name false true = (tt, (tt, (refl, (λ h. refl), tt)))
+if_rightly owner name false false = (tt, (refl, (λ h. refl), tt))
 
 -- the object is the owner, whose member is made
 schema_rightly : (owner : Members) (draft : Draft) (name : Text) (d : Data) → get_member name owner ≡ Some d → Rightly owner (schema_script draft owner name d)
@@ -135,8 +135,8 @@ schema_rightly owner draft name d here =
     (one_of owner (bytes_eq name (codes "oneOf")) _ _ (list_rightly owner has_one_of name d (λ n. refl))
     (one_of owner (bytes_eq name (codes "prefixItems")) _ _ (list_rightly owner has_prefix_items name d (λ n. refl))
     (one_of owner (bytes_eq name (codes "items")) _ _ (items_made_rightly owner draft owner name d)
-    (one_of owner (bytes_eq name (codes "not")) _ _ (tt, (refl, λ h. ap not (member_whole name owner d here h)))
-    (one_of owner (bytes_eq name (codes "propertyNames")) _ _ (tt, (refl, λ h. refl))
+    (one_of owner (bytes_eq name (codes "not")) _ _ (tt, (refl, (λ h. ap not (member_whole name owner d here h)), tt))
+    (one_of owner (bytes_eq name (codes "propertyNames")) _ _ (tt, (refl, (λ h. refl), tt))
     (one_of owner (bytes_eq name (codes "if")) _ _ (if_rightly owner name (has_branch (codes "then") owner) (has_branch (codes "else") owner)) tt)))))))
 
 value_rightly : (owner : Members) (draft : Draft) (name : Text) (d : Data) → get_member name owner ≡ Some d → Rightly owner (value_script draft owner name d)

@@ -1,14 +1,10 @@
--- A subschema lies on the way to a path where its own path is the first steps of that path: so one or two steps say whether
--- there is one, and no list of all subschemas is needed. (Core 2020-12, 8.2 and 9.2; RFC 6901)
-use Rattle.std.specs.Prelude.{Bool, List, None, Option, Some, false, flat_map, length, take, ℕ, ◌&&◌, ◌++◌, ◌+◌, ◌||◌}
+-- A subschema lies one or two steps below its schema: so these steps say whether a path leads to one, and no list of all
+-- subschemas is needed. (Core 2020-12, 8.2 and 9.2; RFC 6901)
+use Rattle.std.specs.Prelude.{Bool, List, None, Option, Some, false, flat_map, ℕ, ◌&&◌, ◌++◌, ◌+◌, ◌||◌}
 use Rattle.serde_json.specs.Data.{Data, Items, Members, array, item, member, no_items, no_members, object}
 use Rattle.serde_json.specs.Find.{get}
-use Rattle.schema_reports.specs.Instance.{Place, Step, same_place, same_step, to_item, to_member}
+use Rattle.schema_reports.specs.Instance.{Place, Step, same_step, to_item, to_member}
 use Rattle.bench_parts.specs.BenchResolving.{below_list, below_object, below_value, is_schema, names_of_lists, names_of_objects, names_of_values}
-
--- whether the inner path is the first steps of the path
-abbrev pub on_way : Place → Place → Bool
-on_way path inner = same_place inner (take (length inner) path)
 
 -- the subschemas that lie two steps below a schema, and those that lie one step below
 abbrev pub pairs_below : Data → List Place

@@ -1,8 +1,10 @@
 //! The meta validators.
-ghost use Rattle.std.specs.Prelude.{◌≡◌, IfOk, false, option_map};
+ghost use Rattle.std.specs.Prelude.{◌≡◌, ◌++◌, ◌∷◌, [], IfOk, IfSome, Some, false, option_map};
+ghost use Rattle.serde_json.specs.Data.{Data, array, object};
 ghost use Rattle.serde_json.specs.View.{items_view, members_view, view};
+ghost use Rattle.schema_reports.specs.Instance.{a_value, subject_at};
 ghost use Rattle.schema_reports.specs.KeywordViews.{draft_of};
-ghost use Rattle.schema_reports.specs.ReportViews.{error_of};
+ghost use Rattle.schema_reports.specs.ReportViews.{BorrowsItsPlace, error_of};
 ghost use Rattle.bench_parts.specs.BenchMeta.{fault_in, fault_in_items, fault_in_members, is_2020_12, member_fault, mistyped};
 
 use crate::resolver::subschemas::is_schema;
@@ -26,6 +28,8 @@ fn mistyped<'v>(
     types: &str,
 ) -> Result<ValidationError<'v>, OutOfMemory>
     ensures error { IfOk result (λ e. error_of false e ≡ mistyped place.entry) }
+    ensures borrows { IfOk result (λ e. (root : Data) → subject_at root place.entry ≡ Some (a_value (view value.now))
+        → BorrowsItsPlace root e) }
 {
     let instance = Instance::Value(value);
     let mut text = instance.text(alloc)?;
@@ -58,6 +62,8 @@ fn member_fault<'v>(
     member: &'v Value,
 ) -> Result<Option<ValidationError<'v>>, OutOfMemory>
     ensures fault { IfOk result (λ o. option_map (error_of false) o ≡ member_fault (draft_of draft) place.now name.now (view member.now)) }
+    ensures borrows { IfOk result (λ o. (root : Data) → subject_at root place.now ≡ Some (a_value (view member.now))
+        → IfSome o (BorrowsItsPlace root)) }
 {
     if name == "minLength" && !member.is_number() {
         return Ok(Some(mistyped(alloc, place.clone()?, member, "type \"number\"")?));
@@ -82,6 +88,8 @@ fn fault_in<'v>(
     value: &'v Value,
 ) -> Result<Option<ValidationError<'v>>, OutOfMemory>
     ensures fault { IfOk result (λ o. option_map (error_of false) o ≡ fault_in (draft_of draft) place.now (view value.now)) }
+    ensures borrows { IfOk result (λ o. (root : Data) → subject_at root place.now ≡ Some (a_value (view value.now))
+        → IfSome o (BorrowsItsPlace root)) }
 {
     match value {
         Value::Array(items) => fault_in_items(alloc, draft, place, items),
@@ -100,6 +108,8 @@ fn fault_in_items<'v>(
 ) -> Result<Option<ValidationError<'v>>, OutOfMemory>
     ensures fault { IfOk result (λ o. option_map (error_of false) o
         ≡ fault_in_items (draft_of draft) place.now 0 (items_view items.now.items)) }
+    ensures borrows { IfOk result (λ o. (root : Data)
+        → subject_at root place.now ≡ Some (a_value (array (items_view items.now.items))) → IfSome o (BorrowsItsPlace root)) }
 {
     for (index, item) in items.iter().enumerate() {
         let below = place.below(InstanceStep::Item(index))?;
@@ -120,8 +130,10 @@ fn fault_in_members<'v>(
 ) -> Result<Option<ValidationError<'v>>, OutOfMemory>
     ensures fault { IfOk result (λ o. option_map (error_of false) o
         ≡ fault_in_members (draft_of draft) place.now (members_view members.now.entries)) }
+    ensures borrows { IfOk result (λ o. (root : Data)
+        → subject_at root place.now ≡ Some (a_value (object (members_view members.now.entries))) → IfSome o (BorrowsItsPlace root)) }
 {
-    for (name, member) in members {
+    for (name, member) in members.iter() {
         let below = place.below(InstanceStep::Member(name.as_str()))?;
         if let Some(error) = member_fault(alloc, draft, &below, name.as_str(), member)? {
             return Ok(Some(error));

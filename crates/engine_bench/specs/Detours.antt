@@ -7,7 +7,7 @@ use Rattle.schema_reports.specs.Reports.{Unit_, report_of}
 use Rattle.schema_reports.specs.Matching.{Matching}
 use Rattle.schema_reports.specs.Keywords.{Answer, Answers, Keywords, Marked, Question, Reply, Turn, ask, done, ecma, mark, match_text, unmark, for_all, for_first, for_units, for_verdict}
 use Rattle.schema_reports.specs.Keywords as spec
-use Rattle.schema_reports.specs.Laws.{Agrees, AsksRightly, IsRight}
+use Rattle.schema_reports.specs.Laws.{Agrees, AnsweredAlike, AsksRightly, IsRight}
 use Rattle.schema_reports.specs.Turns.{FunctionLaws, Standing, TurnLaws, next, reply_to, standing, step_at, turned}
 use Rattle.schema_node.specs.KeywordViews.{fresh}
 use Rattle.schema_node.specs.declared.context.keyword.Mode.TheVariants as mode
@@ -62,7 +62,7 @@ detour_words texts = record {
   faults = λ m s matches answers. (words texts).faults m.1 s matches answers;
   units = λ m s matches unit_at. (words texts).units m.1 s matches unit_at;
   most_turns = λ m s. length m.0 + (words texts).most_turns m.1 s;
-  begin = λ m s mode'. ((matches_before m.0 mode', ((words texts).begin m.1 s mode').0), fresh);
+  begin = λ m s mode'. ((matches_before m.0 mode', ((words texts).begin m.1 s mode').0), fresh mode');
   turn = λ m s r reply. turn_left r.0.0 ((words texts).turn m.1 s (r.0.1, r.1) reply) (r.0.1, r.1);
   step = λ m s r reply. step_left r.0.0 ((words texts).step m.1 s (r.0.1, r.1) reply) (match_at m.0 (text_in s));
   answer = λ r. r.1;
@@ -74,6 +74,10 @@ nothing_absorbed m = []
 -- the turns that are left at the most
 abbrev pub detour_left : Detour → Subject → Detouring × Answer → ℕ
 detour_left m s r = r.0.0 + turns_left m.1 s (r.0.1, r.1)
+
+-- a run can be in any state
+abbrev pub detour_can : Bool → Detour → Subject → Detouring × Answer → Type 0
+detour_can texts m s r = Unit {0}
 
 -- the keyword's own run
 abbrev pub own_run : Standing (Detouring × Answer) → Standing (NamesRun × Answer)
@@ -120,7 +124,7 @@ falls_by k n = omega arith
 falls : (texts : Bool) (m : Detour) (s : Subject) (left : ℕ) (r : NamesRun × Answer) (reply : Reply)
     → (step_left left ((words texts).step m.1 s r reply) (match_at m.0 (text_in s)) ≡ done)
     ⊎ (detour_left m s (turn_left left ((words texts).turn m.1 s r reply) r) < left + turns_left m.1 s r)
-falls texts m s zero r reply = elim ((turns_keep texts m.1).falls s r reply) [
+falls texts m s zero r reply = elim ((turns_keep texts m.1).falls s r reply tt) [
   | inl h ↦ inl h
   | inr h ↦ inr (falls_alone _ _ h)
 ]
@@ -136,7 +140,7 @@ asks_as texts m s done h = tt
 
 asks : (texts : Bool) (m : Detour) (s : Subject) (left : ℕ) (r : NamesRun × Answer) (reply : Reply)
     → AsksRightly (detour_words texts) m s [] (step_left left ((words texts).step m.1 s r reply) (match_at m.0 (text_in s)))
-asks texts m s zero r reply = asks_as texts m s ((words texts).step m.1 s r reply) ((turns_keep texts m.1).asks s r reply)
+asks texts m s zero r reply = asks_as texts m s ((words texts).step m.1 s r reply) ((turns_keep texts m.1).asks s r reply tt)
 asks texts m s (suc k) r reply = (refl, ([], refl), tt)
 
 begun_fits : (left : ℕ) (r : NamesRun) (own : Type 0) → r.progress.stage ≡ Begun → own → fits_left left r own
@@ -151,11 +155,11 @@ right_as texts m s matches a u same for_all answer h = h
 right_as texts m s matches a u same for_units answer h = h
 
 begins : (texts : Bool) (m : Detour) (s : Subject) (mode' : spec.Mode) (matches : Matching) (a : Answers) (u : Question → Unit_) (same : Marked → Marked → Bool)
-    → ((q : Question) → Agrees (a q)) → ((q : Question) → (report_of (u q)).valid ≡ (a q).verdict)
+    → ((q : Question) → Agrees (a q)) → ((q : Question) → (report_of (u q)).valid ≡ (a q).verdict) → AnsweredAlike same a
     → detour_fits texts m (standing (detour_words texts) m s mode' matches a u same)
     × IsRight (detour_words texts) m s matches a u same mode' (detour_ends texts m (standing (detour_words texts) m s mode' matches a u same))
-begins texts m s mode' matches a u same agrees valid =
-    let own = (turns_keep texts m.1).begins s mode' matches a u same agrees valid in
+begins texts m s mode' matches a u same agrees valid alike =
+    let own = (turns_keep texts m.1).begins s mode' matches a u same agrees valid alike in
     (begun_fits (matches_before m.0 mode') ((words texts).begin m.1 s mode').0 _ refl own.0, right_as texts m s matches a u same mode' _ own.1)
 
 same_reply : (texts : Bool) (m : Detour) (s : Subject) (matches : Matching) (a : Answers) (u : Question → Unit_) (same : Marked → Marked → Bool) (marks : List Marked) (t : Turn)
@@ -198,11 +202,13 @@ stands : (texts : Bool) (m : Detour) (left : ℕ) (x : Standing (Detouring × An
 stands texts m zero x fits h = (turns_keep texts m.1).stands (own_run x) fits h
 stands texts m (suc k) x fits h = cc
 
-pub detour_turns : (texts : Bool) (m : Detour) → TurnLaws (detour_words texts) m (nothing_absorbed m) (detour_left m) (detour_ends texts m) (detour_fits texts m)
+pub detour_turns : (texts : Bool) (m : Detour) → TurnLaws (detour_words texts) m (nothing_absorbed m) (detour_left m) (detour_can texts m) (detour_ends texts m) (detour_fits texts m)
 detour_turns texts m = record {
   bounded = λ s mode'. bounded_by _ _ _ _ (few_before m.0 mode') ((turns_keep texts m.1).bounded s mode');
-  falls = λ s r reply. falls texts m s r.0.0 (r.0.1, r.1) reply;
-  asks = λ s r reply. asks texts m s r.0.0 (r.0.1, r.1) reply;
+  starts = λ s mode'. tt;
+  goes_on = λ s r reply can. tt;
+  falls = λ s r reply can. falls texts m s r.0.0 (r.0.1, r.1) reply;
+  asks = λ s r reply can. asks texts m s r.0.0 (r.0.1, r.1) reply;
   begins = begins texts m;
   keeps = λ x fits h. keeps texts m x.state.0.0 x fits h;
   stands = λ x fits h. stands texts m x.state.0.0 x fits h;
@@ -214,6 +220,7 @@ detour_functions texts m =
     record {
       present = own.present;
       agree = own.agree;
+      units_valid = own.units_valid;
       holds_reads = own.holds_reads;
       faults_read = own.faults_read;
       units_read = own.units_read;

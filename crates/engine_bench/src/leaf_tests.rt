@@ -9,7 +9,7 @@ use bench_keywords::names::NamesRun;
 use bench_keywords::texts::text_of;
 use bench_parts::matcher::BenchMatcher;
 use schema_engine::validator::Validator;
-use schema_node::context::keyword::{Answer, MatchPoint, Mode, Reply, Spot, Step, Validate};
+use schema_node::context::keyword::{Answer, MatchPoint, Mode, Reply, Step, Validate};
 use schema_node::node::{Entry, EntryForm, NodeForm, Nodes};
 use schema_reports::instance::Instance;
 use schema_reports::keywords::Draft;
@@ -78,17 +78,7 @@ fn match_at<'s>(patterns: &'s [String], text: &'s str, left: usize) -> Step<'s>
     ensures asks { turn_of result ≡ match_at (map string_bytes patterns.now) text.now left }
 {
     let pattern = pattern_at(patterns, left);
-    let spot = Spot {
-        absorbed: None,
-        path: "",
-        below: &[],
-    };
-    let point = MatchPoint {
-        spot,
-        located: true,
-        pattern: Some(pattern),
-    };
-    Step::Match(pattern, text, point)
+    Step::Match(pattern, text, MatchPoint::AtKeyword(true))
 }
 
 impl Validate for DetourKeyword {
@@ -96,7 +86,7 @@ impl Validate for DetourKeyword {
     ghost use Rattle.bench_keywords.specs.BenchShape.{is_whole};
     ghost use Rattle.bench_keywords.specs.Shapes.{shape_of};
     ghost use Rattle.engine_bench.specs.Detours.{detour_ends, detour_fits, detour_functions, detour_left, detour_turns, detour_words};
-    ghost use Rattle.engine_bench.specs.Detours.{nothing_absorbed};
+    ghost use Rattle.engine_bench.specs.Detours.{detour_can, nothing_absorbed};
 
     type Run = (usize, NamesRun);
 
@@ -111,6 +101,8 @@ impl Validate for DetourKeyword {
     ghost is_whole = { λ m. is_whole m.1 };
 
     ghost remaining = { detour_left };
+
+    ghost can_be = { detour_can };
 
     ghost ends = { detour_ends };
 

@@ -11,7 +11,7 @@ use Rattle.keyword_ways.specs.Places.{AsksPresent}
 use Rattle.keyword_ways.specs.Tallies.{Tally}
 use Rattle.keyword_ways.specs.Ways.{Way, asks_match, branches, judges, passes_on, passes_some, places, questions, tells, unless}
 use Rattle.keyword_ways.specs.WayLaws.{AllPresent, SameQuestions, function_laws, turn_laws}
-use Rattle.keyword_ways.specs.WayWords.{left_at_most, nothing_absorbed, run_ends, run_fits, words_of}
+use Rattle.keyword_ways.specs.WayWords.{any_state, left_at_most, nothing_absorbed, run_ends, run_fits, words_of}
 
 abbrev pub spoken_tally : Bool → Tally → Tally
 spoken_tally texts t = record t { told = λ n. map (spoken texts) (t.told n) }
@@ -61,6 +61,9 @@ module _ {M : Type 0} (way : M → Subject → Way) where
   abbrev pub own_remaining : M → Subject → Progress × Answer → ℕ
   own_remaining = left_at_most spoken_ways
 
+  abbrev pub own_can_be : Bool → M → Subject → Progress × Answer → Type 0
+  own_can_be texts = any_state spoken_ways
+
   abbrev pub own_ends : Bool → M → Standing (Progress × Answer) → Answer
   own_ends = run_ends spoken_ways
 
@@ -76,7 +79,7 @@ module _ {M : Type 0} (way : M → Subject → Way) where
   own_present : AlwaysPresent → AllPresent spoken_ways
   own_present present texts m s = subst (AsksPresent s) (sym (same_questions texts (way m s))) (present m s)
 
-  pub own_turn_laws : (texts : Bool) (m : M) → TurnLaws (own_words texts) m (own_absorbed m) (own_remaining m) (own_ends texts m) (own_fits texts m)
+  pub own_turn_laws : (texts : Bool) (m : M) → TurnLaws (own_words texts) m (own_absorbed m) (own_remaining m) (own_can_be texts m) (own_ends texts m) (own_fits texts m)
   own_turn_laws = turn_laws spoken_ways own_same
 
   pub own_function_laws : AlwaysPresent → (texts : Bool) (m : M) → FunctionLaws (own_words texts) m (own_absorbed m)

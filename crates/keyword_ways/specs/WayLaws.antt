@@ -20,8 +20,8 @@ use Rattle.keyword_ways.specs.Ways.{Way, asks_match, tells, passes_on, passes_so
 use Rattle.keyword_ways.specs.WayRuns.{replies_by, reply_for, end_at, fits_begun, Keeps, way_falls, way_bounded, way_keeps, way_stands, way_ends}
 use Rattle.keyword_ways.specs.Somes.{first_some, question_of, some_from, somes}
 use Rattle.keyword_ways.specs.Tallies.{asked_in, is_settled, says_yes, tallied, wants_units}
-use Rattle.keyword_ways.specs.WayReads.{way_agrees, way_holds_reads, way_faults_read, way_units_read, way_stands_inside, way_passes}
-use Rattle.keyword_ways.specs.WayWords.{left_at_most, nothing_absorbed, run_ends, run_fits, run_replies, words_of}
+use Rattle.keyword_ways.specs.WayReads.{way_agrees, way_units_valid, way_holds_reads, way_faults_read, way_units_read, way_stands_inside, way_passes}
+use Rattle.keyword_ways.specs.WayWords.{any_state, left_at_most, nothing_absorbed, run_ends, run_fits, run_replies, words_of}
 
 nth-contains : (i : ℕ) (qs : List Question) (q : Question) → nth i qs ≡ Some q → Contains qs q
 nth-contains zero [] q h = cc
@@ -126,7 +126,7 @@ module _ {M : Type 0} (way : Bool → M → Subject → Way) where
 
   ends_rightly : (texts : Bool) (m : M) (s : Subject) (mode' : spec.Mode) (matches : Matching) (a : Answers) (u : Question → Unit_) (same : Marked → Marked → Bool)
       → ((q : Question) → (report_of (u q)).valid ≡ (a q).verdict)
-      → IsRight (words_of way texts) m s matches a u same mode' (end_at (way texts m s) (replies_by matches a u) (mode_from mode') Begun fresh)
+      → IsRight (words_of way texts) m s matches a u same mode' (end_at (way texts m s) (replies_by matches a u) (mode_from mode') Begun (fresh mode'))
   ends_rightly texts m s for_verdict matches a u same valid = way_ends (way texts m s) matches a u valid for_verdict
   ends_rightly texts m s for_first matches a u same valid = way_ends (way texts m s) matches a u valid for_first
   ends_rightly texts m s for_all matches a u same valid = way_ends (way texts m s) matches a u valid for_all
@@ -145,12 +145,14 @@ module _ {M : Type 0} (way : Bool → M → Subject → Way) where
       (λ q m' e. ap (reply_to (words_of way texts) m x.subject x.matches x.answers x.unit_at x.same x.marks) e ∙ same_reply texts m x.subject x.matches x.answers x.unit_at x.same m' q)
       (λ p point e. ap (reply_to (words_of way texts) m x.subject x.matches x.answers x.unit_at x.same x.marks) e)
 
-  pub turn_laws : SameQuestions way → (texts : Bool) (m : M) → TurnLaws (words_of way texts) m (nothing_absorbed way m) (left_at_most way m) (run_ends way texts m) (run_fits way texts m)
+  pub turn_laws : SameQuestions way → (texts : Bool) (m : M) → TurnLaws (words_of way texts) m (nothing_absorbed way m) (left_at_most way m) (any_state way m) (run_ends way texts m) (run_fits way texts m)
   turn_laws same texts m = record {
     bounded = λ s mode'. bounded same texts m s;
-    falls = λ s r reply. falls same texts m s r.0.mode r.0.stage reply;
-    asks = λ s r reply. asks texts m s r.0.mode r.0.stage reply;
-    begins = λ s mode' matches a u same' agrees valid. (fits_begun (way texts m s) (replies_by matches a u) (mode_from mode') spec.no_reply, ends_rightly texts m s mode' matches a u same' valid);
+    starts = λ s mode'. tt;
+    goes_on = λ s r reply can. tt;
+    falls = λ s r reply can. falls same texts m s r.0.mode r.0.stage reply;
+    asks = λ s r reply can. asks texts m s r.0.mode r.0.stage reply;
+    begins = λ s mode' matches a u same' agrees valid alike. (fits_begun (way texts m s) (replies_by matches a u) (mode_from mode') spec.no_reply, ends_rightly texts m s mode' matches a u same' valid);
     keeps = λ x fits h. let k : Keeps (way texts m x.subject) (run_replies x) x.state.0.mode x.state.0.stage x.state.1 x.reply (next (words_of way texts) m x).reply = keeps texts m x fits h in (k.fits, k.ends);
     stands = λ x fits h. way_stands (way texts m x.subject) (run_replies x) x.state.0.mode x.state.0.stage x.state.1 x.reply fits h;
   }
@@ -159,6 +161,7 @@ module _ {M : Type 0} (way : Bool → M → Subject → Way) where
   function_laws present texts m = record {
     present = present texts m;
     agree = λ s matches a agrees. way_agrees (way texts m s) matches a agrees;
+    units_valid = λ s matches u. way_units_valid (way texts m s) matches u;
     holds_reads = λ s matches a b h. way_holds_reads (way texts m s) matches a b h;
     faults_read = λ s matches a b h. way_faults_read (way texts m s) matches a b h;
     units_read = λ s matches a b h. way_units_read (way texts m s) matches a b h;

@@ -1,17 +1,21 @@
 -- A way's functions agree, read no more than they ask, and stay where they are.
-use Rattle.std.proofs.Common.{◌≡◌, ◌∙◌, zero, ◌&&◌, ◌++◌, ◌∷◌, [], List, Bool, true, false, refl, ap, arith, map}
+use Rattle.std.proofs.Common.{◌≡◌, ◌∙◌, zero, ◌&&◌, ◌++◌, ◌∷◌, [], List, Bool, true, false, refl, ap, ap₂, arith, map}
 use Rattle.std.specs.List.{list_all}
 use Rattle.std.specs.Prelude.{All, Contains, Option, None, Some, flat_map, min, ◌↔◌}
 use Rattle.std.proofs.lemmas.List.Elements.{All-nil, All-head, All-tail, All-append, All-map, All-cons, All-weaker, All-contains_itself, Contains-append_left, Contains-append_right}
 use Rattle.schema_reports.specs.Instance.{Text, Subject}
 use Rattle.schema_reports.specs.Reports.{Unit_, Error, report_of}
 use Rattle.schema_reports.specs.Matching.{Matching}
-use Rattle.schema_reports.specs.Keywords.{Answers, Fault, Question, own, passed}
+use Rattle.schema_reports.specs.Keywords.{Answers, Fault, Gives, Question, all_valid, own, passed}
 use Rattle.schema_reports.specs.Laws.{Agrees, StandsInside, PassesUnchanged}
 use Rattle.schema_node.specs.KeywordViews.{is_nil, no_gives, option_list}
 use Rattle.keyword_ways.specs.Ways.{Way, asks_match, described, is_matched, unless, tells, passes_on, passes_some, judges, branches, branch, given, plain, questions, way_holds, way_faults, way_units}
 use Rattle.keyword_ways.specs.Somes.{somes}
 use Rattle.keyword_ways.specs.Tallies.{counted, told_by, yes_count}
+
+and_true : (b : Bool) → (b && true) ≡ b
+and_true true = refl
+and_true false = refl
 
 told_agree : (name : Text) (ts : List Text) → (is_nil ts ≡ true) ↔ (map (λ t. own (plain name t)) ts ≡ [])
 told_agree name [] = (λ h. refl, λ h. refl)
@@ -115,16 +119,36 @@ given_same : (shows : Bool) (a b : Question → Unit_) (qs : List Question) → 
 given_same true a b qs h = units_same a b qs h
 given_same false a b qs h = refl
 
+-- a unit of its own, and no absorbed one, is valid where the way holds
+pub way_units_valid : (w : Way) (matching : Matching) (u : Question → Unit_) → all_valid (way_units w matching u) ≡ way_holds w matching (λ q. (report_of (u q)).valid)
+way_units_valid (tells name ts) matching u = and_true _
+way_units_valid (passes_on qs) matching u = and_true _
+way_units_valid (passes_some os) matching u = and_true _
+way_units_valid (judges t qs) matching u = and_true _
+way_units_valid (branches q one other) matching u = and_true _
+way_units_valid (asks_match name p text) matching u = and_true _
+
+-- units that are the same have one verdict
+valid_same : (a b : Question → Unit_) (qs : List Question) → All (λ q. a q ≡ b q) qs → All (λ q. (report_of (a q)).valid ≡ (report_of (b q)).valid) qs
+valid_same a b qs h = All-weaker (λ q. a q ≡ b q) (λ q. (report_of (a q)).valid ≡ (report_of (b q)).valid) (λ q e. ap (λ u. (report_of u).valid) e) qs h
+
+all_valid_same : (a b : Question → Unit_) (qs : List Question) → All (λ q. a q ≡ b q) qs → list_all (λ q. (report_of (a q)).valid) qs ≡ list_all (λ q. (report_of (b q)).valid) qs
+all_valid_same a b qs h = all_same (λ q. (report_of (a q)).valid) (λ q. (report_of (b q)).valid) qs (valid_same a b qs h)
+
+passed_units : (a b : Question → Unit_) (qs : List Question) → All (λ q. a q ≡ b q) qs
+    → ◌≡◌ {A = Gives} (record no_gives { valid = list_all (λ q. (report_of (a q)).valid) qs; children = map a qs }) (record no_gives { valid = list_all (λ q. (report_of (b q)).valid) qs; children = map b qs })
+passed_units a b qs h = ap₂ (λ v us. record no_gives { valid = v; children = us }) (all_valid_same a b qs h) (units_same a b qs h)
+
 pub way_units_read : (w : Way) (matching : Matching) (a b : Question → Unit_) → All (λ q. a q ≡ b q) (questions w) → way_units w matching a ≡ way_units w matching b
 way_units_read (tells name ts) matching a b h = refl
-way_units_read (passes_on qs) matching a b h = ap (λ us. record no_gives { children = us }) (units_same a b qs h)
-way_units_read (passes_some os) matching a b h = ap (λ us. record no_gives { children = us }) (units_same a b (somes os) h)
+way_units_read (passes_on qs) matching a b h = passed_units a b qs h
+way_units_read (passes_some os) matching a b h = passed_units a b (somes os) h
 way_units_read (judges t qs) matching a b h =
-    ap (λ us. record no_gives { children = us; errors = map (described t.name) (told_by t (λ q. (report_of (a q)).valid) qs) }) (given_same t.shows a b qs h)
-    ∙ ap (λ n. record no_gives { children = given t.shows b qs; errors = map (described t.name) (t.told (min t.enough n)) }) (units_counted a b qs h)
+    ap (λ us. record no_gives { valid = is_nil (told_by t (λ q. (report_of (a q)).valid) qs); children = us; errors = map (described t.name) (told_by t (λ q. (report_of (a q)).valid) qs) }) (given_same t.shows a b qs h)
+    ∙ ap (λ n. record no_gives { valid = is_nil (t.told (min t.enough n)); children = given t.shows b qs; errors = map (described t.name) (t.told (min t.enough n)) }) (units_counted a b qs h)
 way_units_read (branches q one other) matching a b h =
-    ap (λ u. record no_gives { children = map a (branch (report_of u).valid one other) }) (All-head (λ q. a q ≡ b q) q (option_list one ++ option_list other) h)
-    ∙ ap (λ us. record no_gives { children = us }) (units_same a b (branch (report_of (b q)).valid one other) (of_branch (λ q. a q ≡ b q) (report_of (b q)).valid one other (All-tail (λ q. a q ≡ b q) q (option_list one ++ option_list other) h)))
+    ap (λ u. record no_gives { valid = list_all (λ q. (report_of (a q)).valid) (branch (report_of u).valid one other); children = map a (branch (report_of u).valid one other) }) (All-head (λ q. a q ≡ b q) q (option_list one ++ option_list other) h)
+    ∙ passed_units a b (branch (report_of (b q)).valid one other) (of_branch (λ q. a q ≡ b q) (report_of (b q)).valid one other (All-tail (λ q. a q ≡ b q) q (option_list one ++ option_list other) h))
 way_units_read (asks_match name p text) matching a b h = refl
 
 passed_stand : (s : Subject) (absorbed : List Text) (answers : Answers) (qs : List Question) → All (StandsInside s absorbed) (flat_map (λ q. map passed (answers q).errors) qs)

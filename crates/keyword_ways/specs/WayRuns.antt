@@ -1,5 +1,5 @@
 -- A way's runs end as it says: the turn by turn laws.
-use Rattle.std.proofs.Common.{◌≡◌, ◌∙◌, ℕ, zero, suc, ◌+◌, ◌<◌, ◌&&◌, ◌⊎◌, ◌++◌, ◌∷◌, [], List, Bool, true, false, Option, Some, None, refl, sym, ap, inl, inr, arith, length, drop, map, ◌-◌, append_assoc, append-nil, add-one, min, subst, ◌≤◌}
+use Rattle.std.proofs.Common.{◌≡◌, ◌∙◌, ℕ, zero, suc, ◌+◌, ◌<◌, ◌&&◌, ◌⊎◌, ◌++◌, ◌∷◌, [], List, Bool, true, false, Option, Some, None, refl, sym, ap, ap₂, inl, inr, arith, length, drop, map, ◌-◌, append_assoc, append-nil, add-one, min, subst, ◌≤◌}
 use Rattle.std.specs.List.{list_all}
 use Rattle.std.specs.Prelude.{flat_map, if◌then◌else◌, nat_le, not}
 use Rattle.std.proofs.lemmas.Bool.{leb-true}
@@ -543,13 +543,13 @@ noted_kept : (name : Text) (ts : List Text) (a : Answer) (f : Fault) (fs : List 
 noted_kept name [] a f fs h = refl
 noted_kept name (t ∷ ts) a f fs h = ap (λ es. noted mode.First name (with_first a es (own (plain name t))) ts) h ∙ noted_kept name ts a f fs h
 
-noted_first : (name : Text) (ts : List Text) → (noted mode.First name fresh ts).errors ≡ first_fault (map (λ t. own (plain name t)) ts)
-noted_first name [] = refl
-noted_first name (t ∷ ts) = ap (λ a. a.errors) (noted_kept name ts (with_errors (own (plain name t) ∷ [])) (own (plain name t)) [] refl)
+noted_first : (k : spec.Mode) (name : Text) (ts : List Text) → (noted mode.First name (fresh k) ts).errors ≡ first_fault (map (λ t. own (plain name t)) ts)
+noted_first k name [] = refl
+noted_first k name (t ∷ ts) = ap (λ a. a.errors) (noted_kept name ts (with_errors for_first (own (plain name t) ∷ [])) (own (plain name t)) [] refl)
 
 noted_all : (name : Text) (ts : List Text) (a : Answer) → (noted mode.All name a ts).errors ≡ a.errors ++ map (λ t. own (plain name t)) ts
 noted_all name [] a = sym (append-nil a.errors)
-noted_all name (t ∷ ts) a = noted_all name ts (with_errors (a.errors ++ own (plain name t) ∷ [])) ∙ append_assoc a.errors (own (plain name t) ∷ []) (map (λ t. own (plain name t)) ts)
+noted_all name (t ∷ ts) a = noted_all name ts (with_errors for_all (a.errors ++ own (plain name t) ∷ [])) ∙ append_assoc a.errors (own (plain name t) ∷ []) (map (λ t. own (plain name t)) ts)
 
 noted_no : (name : Text) (ts : List Text) (a : Answer) → a.verdict ≡ false → (noted mode.Verdict name a ts).verdict ≡ false
 noted_no name [] a h = h
@@ -560,10 +560,18 @@ noted_verdict name [] a h = h
 noted_verdict name (t ∷ ts) a h = noted_no name ts (refused a) refl
 
 -- in an evaluation the errors stand in the unit
-evaluated_gives : (name : Text) (ts : List Text) (a : Answer) → (noted mode.Evaluate name a ts).gives ≡ record a.gives { errors = a.gives.errors ++ map (described name) ts }
-evaluated_gives name [] a = ap (λ es. record a.gives { errors = es }) (sym (append-nil a.gives.errors))
+and_false : (b : Bool) → false ≡ (b && false)
+and_false true = refl
+and_false false = refl
+
+and_true : (b : Bool) → b ≡ b && true
+and_true true = refl
+and_true false = refl
+
+evaluated_gives : (name : Text) (ts : List Text) (a : Answer) → (noted mode.Evaluate name a ts).gives ≡ record a.gives { valid = a.gives.valid && is_nil ts; errors = a.gives.errors ++ map (described name) ts }
+evaluated_gives name [] a = ap₂ (λ v es. record a.gives { valid = v; errors = es }) (and_true a.gives.valid) (sym (append-nil a.gives.errors))
 evaluated_gives name (t ∷ ts) a = evaluated_gives name ts (evaluated a (own (plain name t)))
-    ∙ ap (λ es. record a.gives { errors = es }) (append_assoc a.gives.errors (described name t ∷ []) (map (described name) ts))
+    ∙ ap₂ (λ v es. record a.gives { valid = v; errors = es }) (and_false a.gives.valid) (append_assoc a.gives.errors (described name t ∷ []) (map (described name) ts))
 
 evaluated_no : (name : Text) (ts : List Text) (a : Answer) → a.verdict ≡ false → (noted mode.Evaluate name a ts).verdict ≡ false
 evaluated_no name [] a h = h
@@ -599,22 +607,19 @@ led_first answers u (q ∷ qs) a none = first_step (reply_for mode.First answers
 led_all : (answers : Answers) (u : Question → Unit_) (qs : List Question) (a : Answer)
     → (led (reply_for mode.All answers u) a qs).errors ≡ a.errors ++ flat_map (λ q. map passed (answers q).errors) qs
 led_all answers u [] a = sym (append-nil a.errors)
-led_all answers u (q ∷ qs) a = led_all answers u qs (with_errors (a.errors ++ map passed (answers q).errors)) ∙ append_assoc a.errors (map passed (answers q).errors) _
-
--- in evaluation every unit becomes a child
-led_gives : (answers : Answers) (u : Question → Unit_) (qs : List Question) (a : Answer)
-    → (led (reply_for mode.Evaluate answers u) a qs).gives ≡ record a.gives { children = a.gives.children ++ map u qs }
-led_gives answers u [] a = ap (λ us. record a.gives { children = us }) (sym (append-nil a.gives.children))
-led_gives answers u (q ∷ qs) a = led_gives answers u qs (with_unit a (u q)) ∙ ap (λ us. record a.gives { children = us }) (append_assoc a.gives.children (u q ∷ []) (map u qs))
+led_all answers u (q ∷ qs) a = led_all answers u qs (with_errors for_all (a.errors ++ map passed (answers q).errors)) ∙ append_assoc a.errors (map passed (answers q).errors) _
 
 valid_step : (b accepted all : Bool) → (if b then accepted else false) && all ≡ accepted && (b && all)
 valid_step true accepted all = refl
 valid_step false true all = refl
 valid_step false false all = refl
 
-and_true : (b : Bool) → b ≡ b && true
-and_true true = refl
-and_true false = refl
+-- in evaluation every unit becomes a child
+led_gives : (answers : Answers) (u : Question → Unit_) (qs : List Question) (a : Answer)
+    → (led (reply_for mode.Evaluate answers u) a qs).gives ≡ record a.gives { valid = a.gives.valid && list_all (λ q. (report_of (u q)).valid) qs; children = a.gives.children ++ map u qs }
+led_gives answers u [] a = ap₂ (λ v us. record a.gives { valid = v; children = us }) (and_true a.gives.valid) (sym (append-nil a.gives.children))
+led_gives answers u (q ∷ qs) a = led_gives answers u qs (with_unit a (u q))
+    ∙ ap₂ (λ v us. record a.gives { valid = v; children = us }) (valid_step (report_of (u q)).valid a.gives.valid (list_all (λ q. (report_of (u q)).valid) qs)) (append_assoc a.gives.children (u q ∷ []) (map u qs))
 
 led_valid : (answers : Answers) (u : Question → Unit_) → ((q : Question) → (report_of (u q)).valid ≡ (answers q).verdict) → (qs : List Question) (a : Answer)
     → (led (reply_for mode.Evaluate answers u) a qs).verdict ≡ (a.verdict && list_all (λ q. (answers q).verdict) qs)
@@ -673,19 +678,19 @@ from_zero : (n : ℕ) → 0 + n ≡ n
 from_zero n = omega arith
 
 -- from the beginning
-judged_fresh : (t : Tally) (answers : Answers) (u : Question → Unit_) (m : Mode) (qs : List Question)
-    → judged_on t false (reply_for mode.Verdict answers u) m 0 fresh qs ≡ noted m t.name fresh (told_by t (λ q. (answers q).verdict) qs)
-judged_fresh t answers u m qs = judged_verdicts t answers u m qs 0 fresh (omega arith) ∙ ap (λ x. noted m t.name fresh (t.told (min t.enough x))) (from_zero _)
+judged_fresh : (k : spec.Mode) (t : Tally) (answers : Answers) (u : Question → Unit_) (m : Mode) (qs : List Question)
+    → judged_on t false (reply_for mode.Verdict answers u) m 0 (fresh k) qs ≡ noted m t.name (fresh k) (told_by t (λ q. (answers q).verdict) qs)
+judged_fresh k t answers u m qs = judged_verdicts t answers u m qs 0 (fresh k) (omega arith) ∙ ap (λ x. noted m t.name (fresh k) (t.told (min t.enough x))) (from_zero _)
 
-judged_given : (t : Tally) (answers : Answers) (u : Question → Unit_) → ((q : Question) → (report_of (u q)).valid ≡ (answers q).verdict) → (m : Mode) (qs : List Question)
-    → judged_on t true (reply_for mode.Evaluate answers u) m 0 fresh qs ≡ noted m t.name (with_children fresh (map u qs)) (told_by t (λ q. (answers q).verdict) qs)
-judged_given t answers u valid m qs = judged_units t answers u m qs 0 fresh (omega arith)
-    ∙ ap (λ x. noted m t.name (with_children fresh (map u qs)) (t.told (min t.enough x))) (from_zero _ ∙ same_count (λ q. (report_of (u q)).valid) (λ q. (answers q).verdict) valid qs)
+judged_given : (k : spec.Mode) (t : Tally) (answers : Answers) (u : Question → Unit_) → ((q : Question) → (report_of (u q)).valid ≡ (answers q).verdict) → (m : Mode) (qs : List Question)
+    → judged_on t true (reply_for mode.Evaluate answers u) m 0 (fresh k) qs ≡ noted m t.name (with_children (fresh k) (map u qs)) (told_by t (λ q. (answers q).verdict) qs)
+judged_given k t answers u valid m qs = judged_units t answers u m qs 0 (fresh k) (omega arith)
+    ∙ ap (λ x. noted m t.name (with_children (fresh k) (map u qs)) (t.told (min t.enough x))) (from_zero _ ∙ same_count (λ q. (report_of (u q)).valid) (λ q. (answers q).verdict) valid qs)
 
-judged_evaluation : (t : Tally) (answers : Answers) (u : Question → Unit_) → ((q : Question) → (report_of (u q)).valid ≡ (answers q).verdict) → (qs : List Question) (b : Bool)
-    → judged_on t b (reply_for (asked_in b) answers u) mode.Evaluate 0 fresh qs ≡ noted mode.Evaluate t.name (with_children fresh (given b u qs)) (told_by t (λ q. (answers q).verdict) qs)
-judged_evaluation t answers u valid qs true = judged_given t answers u valid mode.Evaluate qs
-judged_evaluation t answers u valid qs false = judged_fresh t answers u mode.Evaluate qs
+judged_evaluation : (k : spec.Mode) (t : Tally) (answers : Answers) (u : Question → Unit_) → ((q : Question) → (report_of (u q)).valid ≡ (answers q).verdict) → (qs : List Question) (b : Bool)
+    → judged_on t b (reply_for (asked_in b) answers u) mode.Evaluate 0 (fresh k) qs ≡ noted mode.Evaluate t.name (with_children (fresh k) (given b u qs)) (told_by t (λ q. (answers q).verdict) qs)
+judged_evaluation k t answers u valid qs true = judged_given k t answers u valid mode.Evaluate qs
+judged_evaluation k t answers u valid qs false = judged_fresh k t answers u mode.Evaluate qs
 
 -- what is wanted of the end, by mode
 abbrev pub IsEnd : Way → Matching → Answers → (Question → Unit_) → spec.Mode → Answer → Type 0
@@ -694,49 +699,47 @@ IsEnd w matching answers u for_first a = a.errors ≡ first_fault (way_faults w 
 IsEnd w matching answers u for_all a = a.errors ≡ way_faults w matching answers
 IsEnd w matching answers u for_units a = (a.gives ≡ way_units w matching u) × (a.verdict ≡ way_holds w matching (λ q. (answers q).verdict))
 
-branch_valid : (answers : Answers) (u : Question → Unit_) (one other : Option Question) (a b : Bool) → a ≡ b → map u (branch b one other) ≡ map u (branch a one other)
-branch_valid answers u one other a b h = ap (λ x. map u (branch x one other)) (sym h)
-
 nil_unless : (b : Bool) (text : Text) → is_nil (unless b text) ≡ b
 nil_unless true text = refl
 nil_unless false text = refl
 
 pub way_ends : (w : Way) (matching : Matching) (answers : Answers) (u : Question → Unit_) → ((q : Question) → (report_of (u q)).valid ≡ (answers q).verdict) → (m : spec.Mode)
-    → IsEnd w matching answers u m (end_at w (replies_by matching answers u) (mode_from m) Begun fresh)
-way_ends (tells name ts) matching answers u valid for_verdict = noted_verdict name ts fresh refl
-way_ends (tells name ts) matching answers u valid for_first = noted_first name ts
-way_ends (tells name ts) matching answers u valid for_all = noted_all name ts fresh
+    → IsEnd w matching answers u m (end_at w (replies_by matching answers u) (mode_from m) Begun (fresh m))
+way_ends (tells name ts) matching answers u valid for_verdict = noted_verdict name ts (fresh for_verdict) refl
+way_ends (tells name ts) matching answers u valid for_first = noted_first for_first name ts
+way_ends (tells name ts) matching answers u valid for_all = noted_all name ts (fresh for_all)
 way_ends (tells name ts) matching answers u valid for_units =
-    (evaluated_gives name ts fresh, evaluated_verdict name ts fresh refl)
-way_ends (passes_on qs) matching answers u valid for_verdict = led_verdict answers u qs fresh refl
-way_ends (passes_on qs) matching answers u valid for_first = led_first answers u qs fresh refl
-way_ends (passes_on qs) matching answers u valid for_all = led_all answers u qs fresh
-way_ends (passes_on qs) matching answers u valid for_units = (led_gives answers u qs fresh, led_valid answers u valid qs fresh)
-way_ends (passes_some os) matching answers u valid for_verdict = led_verdict answers u (somes os) fresh refl
-way_ends (passes_some os) matching answers u valid for_first = led_first answers u (somes os) fresh refl
-way_ends (passes_some os) matching answers u valid for_all = led_all answers u (somes os) fresh
-way_ends (passes_some os) matching answers u valid for_units = (led_gives answers u (somes os) fresh, led_valid answers u valid (somes os) fresh)
-way_ends (judges t qs) matching answers u valid for_verdict = ap (λ a. a.verdict) (judged_fresh t answers u mode.Verdict qs) ∙ noted_verdict t.name (told_by t (λ q. (answers q).verdict) qs) fresh refl
-way_ends (judges t qs) matching answers u valid for_first = ap (λ a. a.errors) (judged_fresh t answers u mode.First qs) ∙ noted_first t.name (told_by t (λ q. (answers q).verdict) qs)
-way_ends (judges t qs) matching answers u valid for_all = ap (λ a. a.errors) (judged_fresh t answers u mode.All qs) ∙ noted_all t.name (told_by t (λ q. (answers q).verdict) qs) fresh
+    (evaluated_gives name ts (fresh for_units), evaluated_verdict name ts (fresh for_units) refl)
+way_ends (passes_on qs) matching answers u valid for_verdict = led_verdict answers u qs (fresh for_verdict) refl
+way_ends (passes_on qs) matching answers u valid for_first = led_first answers u qs (fresh for_first) refl
+way_ends (passes_on qs) matching answers u valid for_all = led_all answers u qs (fresh for_all)
+way_ends (passes_on qs) matching answers u valid for_units = (led_gives answers u qs (fresh for_units), led_valid answers u valid qs (fresh for_units))
+way_ends (passes_some os) matching answers u valid for_verdict = led_verdict answers u (somes os) (fresh for_verdict) refl
+way_ends (passes_some os) matching answers u valid for_first = led_first answers u (somes os) (fresh for_first) refl
+way_ends (passes_some os) matching answers u valid for_all = led_all answers u (somes os) (fresh for_all)
+way_ends (passes_some os) matching answers u valid for_units = (led_gives answers u (somes os) (fresh for_units), led_valid answers u valid (somes os) (fresh for_units))
+way_ends (judges t qs) matching answers u valid for_verdict = ap (λ a. a.verdict) (judged_fresh for_verdict t answers u mode.Verdict qs) ∙ noted_verdict t.name (told_by t (λ q. (answers q).verdict) qs) (fresh for_verdict) refl
+way_ends (judges t qs) matching answers u valid for_first = ap (λ a. a.errors) (judged_fresh for_first t answers u mode.First qs) ∙ noted_first for_first t.name (told_by t (λ q. (answers q).verdict) qs)
+way_ends (judges t qs) matching answers u valid for_all = ap (λ a. a.errors) (judged_fresh for_all t answers u mode.All qs) ∙ noted_all t.name (told_by t (λ q. (answers q).verdict) qs) (fresh for_all)
 way_ends (judges t qs) matching answers u valid for_units = (
-  ap (λ a. a.gives) (judged_evaluation t answers u valid qs t.shows) ∙ (evaluated_gives t.name (told_by t (λ q. (answers q).verdict) qs) (with_children fresh (given t.shows u qs))
-      ∙ ap (λ n. record no_gives { children = given t.shows u qs; errors = map (described t.name) (t.told (min t.enough n)) }) (sym (same_count (λ q. (report_of (u q)).valid) (λ q. (answers q).verdict) valid qs))),
-  ap (λ a. a.verdict) (judged_evaluation t answers u valid qs t.shows) ∙ evaluated_verdict t.name (told_by t (λ q. (answers q).verdict) qs) (with_children fresh (given t.shows u qs)) refl,
+  ap (λ a. a.gives) (judged_evaluation for_units t answers u valid qs t.shows) ∙ (evaluated_gives t.name (told_by t (λ q. (answers q).verdict) qs) (with_children (fresh for_units) (given t.shows u qs))
+      ∙ ap (λ n. record no_gives { valid = is_nil (t.told (min t.enough n)); children = given t.shows u qs; errors = map (described t.name) (t.told (min t.enough n)) }) (sym (same_count (λ q. (report_of (u q)).valid) (λ q. (answers q).verdict) valid qs))),
+  ap (λ a. a.verdict) (judged_evaluation for_units t answers u valid qs t.shows) ∙ evaluated_verdict t.name (told_by t (λ q. (answers q).verdict) qs) (with_children (fresh for_units) (given t.shows u qs)) refl,
 )
-way_ends (branches q one other) matching answers u valid for_verdict = led_verdict answers u (branch (answers q).verdict one other) fresh refl
-way_ends (branches q one other) matching answers u valid for_first = led_first answers u (branch (answers q).verdict one other) fresh refl
-way_ends (branches q one other) matching answers u valid for_all = led_all answers u (branch (answers q).verdict one other) fresh
+way_ends (branches q one other) matching answers u valid for_verdict = led_verdict answers u (branch (answers q).verdict one other) (fresh for_verdict) refl
+way_ends (branches q one other) matching answers u valid for_first = led_first answers u (branch (answers q).verdict one other) (fresh for_first) refl
+way_ends (branches q one other) matching answers u valid for_all = led_all answers u (branch (answers q).verdict one other) (fresh for_all)
 way_ends (branches q one other) matching answers u valid for_units = (
-  led_gives answers u (branch (answers q).verdict one other) fresh ∙ ap (λ us. record no_gives { children = us }) (branch_valid answers u one other (report_of (u q)).valid (answers q).verdict (valid q)),
-  led_valid answers u valid (branch (answers q).verdict one other) fresh,
+  led_gives answers u (branch (answers q).verdict one other) (fresh for_units)
+      ∙ ap (λ b. record no_gives { valid = list_all (λ p. (report_of (u p)).valid) (branch b one other); children = map u (branch b one other) }) (sym (valid q)),
+  led_valid answers u valid (branch (answers q).verdict one other) (fresh for_units),
 )
-way_ends (asks_match name p text) matching answers u valid for_verdict = noted_verdict name (unless (is_matched matching p) text) fresh refl ∙ nil_unless (is_matched matching p) text
-way_ends (asks_match name p text) matching answers u valid for_first = noted_first name (unless (is_matched matching p) text)
-way_ends (asks_match name p text) matching answers u valid for_all = noted_all name (unless (is_matched matching p) text) fresh
+way_ends (asks_match name p text) matching answers u valid for_verdict = noted_verdict name (unless (is_matched matching p) text) (fresh for_verdict) refl ∙ nil_unless (is_matched matching p) text
+way_ends (asks_match name p text) matching answers u valid for_first = noted_first for_first name (unless (is_matched matching p) text)
+way_ends (asks_match name p text) matching answers u valid for_all = noted_all name (unless (is_matched matching p) text) (fresh for_all)
 way_ends (asks_match name p text) matching answers u valid for_units = (
-  evaluated_gives name (unless (is_matched matching p) text) fresh,
-  evaluated_verdict name (unless (is_matched matching p) text) fresh refl ∙ nil_unless (is_matched matching p) text,
+  evaluated_gives name (unless (is_matched matching p) text) (fresh for_units) ∙ ap (λ v. record no_gives { valid = v; errors = map (described name) (unless (is_matched matching p) text) }) (nil_unless (is_matched matching p) text),
+  evaluated_verdict name (unless (is_matched matching p) text) (fresh for_units) refl ∙ nil_unless (is_matched matching p) text,
 )
 
 -- any reply fits a run that begins

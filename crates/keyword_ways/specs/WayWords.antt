@@ -22,7 +22,7 @@ module _ {M : Type 0} (way : Bool → M → Subject → Way) where
     faults = λ m s matches answers. way_faults (way texts m s) matches answers;
     units = λ m s matches unit_at. way_units (way texts m s) matches unit_at;
     most_turns = λ m s. way_turns (way texts m s);
-    begin = λ m s mode. (way_begin mode, fresh);
+    begin = λ m s mode. (way_begin mode, fresh mode);
     turn = λ m s. way_turn (way texts m s);
     step = λ m s. way_step (way texts m s);
     answer = λ r. r.1;
@@ -35,6 +35,10 @@ module _ {M : Type 0} (way : Bool → M → Subject → Way) where
   -- the turns that are left at the most
   abbrev pub left_at_most : M → Subject → Progress × Answer → ℕ
   left_at_most m s r = way_left (way false m s) r.0.stage
+
+  -- a run can be in any state
+  abbrev pub any_state : M → Subject → Progress × Answer → Type 0
+  any_state m s r = Unit {0}
 
   -- the answer that a run ends in
   abbrev pub run_ends : Bool → M → Standing (Progress × Answer) → Answer

@@ -87,33 +87,42 @@ way_faults (branches q one other) matching answers = flat_map (λ q. map passed 
 way_faults (asks_match name a text) matching answers = map (λ t. own (plain name t)) (unless (is_matched matching a) text)
 
 abbrev pub way_units : Way → Matching → (Question → Unit_) → Gives
-way_units (tells name ts) matching unit_at = record no_gives { errors = map (described name) ts }
-way_units (passes_on qs) matching unit_at = record no_gives { children = map unit_at qs }
-way_units (passes_some os) matching unit_at = record no_gives { children = map unit_at (somes os) }
-way_units (judges t qs) matching unit_at = record no_gives { children = given t.shows unit_at qs; errors = map (described t.name) (told_by t (λ q. (report_of (unit_at q)).valid) qs) }
-way_units (branches q one other) matching unit_at = record no_gives { children = map unit_at (branch (report_of (unit_at q)).valid one other) }
-way_units (asks_match name a text) matching unit_at = record no_gives { errors = map (described name) (unless (is_matched matching a) text) }
+way_units (tells name ts) matching unit_at = record no_gives { valid = is_nil ts; errors = map (described name) ts }
+way_units (passes_on qs) matching unit_at = record no_gives { valid = list_all (λ q. (report_of (unit_at q)).valid) qs; children = map unit_at qs }
+way_units (passes_some os) matching unit_at = record no_gives { valid = list_all (λ q. (report_of (unit_at q)).valid) (somes os); children = map unit_at (somes os) }
+way_units (judges t qs) matching unit_at = record no_gives { valid = is_nil (told_by t (λ q. (report_of (unit_at q)).valid) qs); children = given t.shows unit_at qs; errors = map (described t.name) (told_by t (λ q. (report_of (unit_at q)).valid) qs) }
+way_units (branches q one other) matching unit_at = record no_gives { valid = list_all (λ q. (report_of (unit_at q)).valid) (branch (report_of (unit_at q)).valid one other); children = map unit_at (branch (report_of (unit_at q)).valid one other) }
+way_units (asks_match name a text) matching unit_at = record no_gives { valid = is_matched matching a; errors = map (described name) (unless (is_matched matching a) text) }
 
 -- ---- what stands in an answer
 
+-- the mode that an answer shows once it refuses: a no without an error is a verdict alone
+abbrev pub refused_mode : spec.Mode → List Fault → spec.Mode
+refused_mode for_verdict fs = for_verdict
+refused_mode for_first [] = for_verdict
+refused_mode for_first (f ∷ fs) = for_first
+refused_mode for_all [] = for_verdict
+refused_mode for_all (f ∷ fs) = for_all
+refused_mode for_units fs = for_units
+
 abbrev pub refused : Answer → Answer
-refused a = record a { verdict = false }
+refused a = record a { mode = refused_mode a.mode a.errors; verdict = false; gives = record a.gives { valid = false } }
 
 -- the first error stays
 abbrev pub with_first : Answer → List Fault → Fault → Answer
-with_first a [] f = with_errors (f ∷ [])
+with_first a [] f = with_errors for_first (f ∷ [])
 with_first a (g ∷ gs) f = a
 
 -- refused in an evaluation: an error of the keyword's own stands in its unit
 abbrev pub evaluated : Answer → Fault → Answer
-evaluated a (own o) = record { verdict = false; errors = []; gives = record a.gives { errors = a.gives.errors ++ described o.name o.text ∷ [] } }
+evaluated a (own o) = record { mode = for_units; verdict = false; errors = []; gives = record a.gives { valid = false; errors = a.gives.errors ++ described o.name o.text ∷ [] } }
 evaluated a (passed e) = refused a
 
 -- with one fault more
 abbrev pub noted_one : Mode → Answer → Fault → Answer
 noted_one mode.Verdict a f = refused a
 noted_one mode.First a f = with_first a a.errors f
-noted_one mode.All a f = with_errors (a.errors ++ f ∷ [])
+noted_one mode.All a f = with_errors for_all (a.errors ++ f ∷ [])
 noted_one mode.Evaluate a f = evaluated a f
 
 abbrev pub noted : Mode → Text → Answer → List Text → Answer
@@ -121,7 +130,7 @@ noted m name a [] = a
 noted m name a (t ∷ ts) = noted m name (noted_one m a (own (plain name t))) ts
 
 abbrev pub with_unit : Answer → Unit_ → Answer
-with_unit a u = record a { verdict = if (report_of u).valid then a.verdict else false; gives = record a.gives { children = a.gives.children ++ u ∷ [] } }
+with_unit a u = record a { verdict = if (report_of u).valid then a.verdict else false; gives = record a.gives { valid = if (report_of u).valid then a.gives.valid else false; children = a.gives.children ++ u ∷ [] } }
 
 -- with what a child answered
 abbrev pub taken : Answer → Reply → Answer
@@ -130,7 +139,7 @@ taken a (truth true) = a
 taken a (truth false) = refused a
 taken a (first_of_it None) = a
 taken a (first_of_it (Some e)) = with_first a a.errors (passed e)
-taken a (all_of_it es) = with_errors (a.errors ++ map passed es)
+taken a (all_of_it es) = with_errors for_all (a.errors ++ map passed es)
 taken a (unit_of_it u) = with_unit a u
 
 -- a verdict ends at the first no, a first error at the first

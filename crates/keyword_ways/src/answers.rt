@@ -95,7 +95,7 @@ fn faults_of<'i>(alloc: Global, answer: Answer<'i>) -> Result<Vec<Fault<'i>>, Ou
 /// The errors of an answer that are in its unit.
 fn descriptions_of(alloc: Global, answer: Answer<'_>) -> Vec<ErrorDescription>
     ensures gives { (texts : Bool) → (answer_of texts answer.entry).gives
-        ≡ record no_gives { errors = map (described_of texts) result.items } }
+        ≡ record no_gives { valid = (answer_of texts answer.entry).verdict; errors = map (described_of texts) result.items } }
 {
     match answer {
         Answer::Evaluation(_, errors) => errors,
@@ -244,8 +244,31 @@ pub fn says_yes(reply: Reply<'_>) -> bool
     }
 }
 
-/// Takes what a child answered.
+/// Takes what a child answered. A verdict that lets the answer be moves nothing.
 pub fn take<'i>(alloc: Global, reply: Reply<'i>, answer: &mut Answer<'i>) -> Result<(), OutOfMemory>
+    ensures taken { IfOk result (λ _. (texts : Bool) → answer_of texts answer.new
+        ≡ taken (answer_of texts answer.old) (reply_of texts reply.entry)) }
+    ensures borrows { IfOk result (λ _. (root : Data) → All (BorrowsItsPlace root) (errors_in reply.entry)
+        → All (PassesBorrowed root) (faults_in answer.old) → All (PassesBorrowed root) (faults_in answer.new)) }
+{
+    match reply {
+        Reply::Truth(holds) => {
+            if !holds {
+                refuse(answer);
+            }
+            Ok(())
+        }
+        told => take_told(alloc, told, answer),
+    }
+}
+
+/// Takes what a child told. Its room on the stack is its own, so that a verdict pays nothing for it.
+#[inline(never)]
+fn take_told<'i>(
+    alloc: Global,
+    reply: Reply<'i>,
+    answer: &mut Answer<'i>,
+) -> Result<(), OutOfMemory>
     ensures taken { IfOk result (λ _. (texts : Bool) → answer_of texts answer.new
         ≡ taken (answer_of texts answer.old) (reply_of texts reply.entry)) }
     ensures borrows { IfOk result (λ _. (root : Data) → All (BorrowsItsPlace root) (errors_in reply.entry)

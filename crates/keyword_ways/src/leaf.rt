@@ -106,7 +106,7 @@ pub struct Leaf<L: LeafKeyword> {
 impl<L: LeafKeyword> Validate for Leaf<L> {
     ghost use Rattle.std.specs.Prelude.{refl};
     ghost use Rattle.keyword_ways.specs.OwnWays.{leaf_present, leaf_ways, own_absorbed, own_ends, own_fits, own_function_laws};
-    ghost use Rattle.keyword_ways.specs.OwnWays.{own_remaining, own_turn_laws, own_words};
+    ghost use Rattle.keyword_ways.specs.OwnWays.{own_can_be, own_remaining, own_turn_laws, own_words};
 
     type Run = Progress;
 
@@ -121,6 +121,8 @@ impl<L: LeafKeyword> Validate for Leaf<L> {
     ghost is_whole = { λ _. true };
 
     ghost remaining = { own_remaining (leaf_ways L.called L.accepts L.error_text) };
+
+    ghost can_be = { own_can_be (leaf_ways L.called L.accepts L.error_text) };
 
     ghost ends = { own_ends (leaf_ways L.called L.accepts L.error_text) };
 

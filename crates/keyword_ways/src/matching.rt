@@ -9,7 +9,7 @@ ghost use Rattle.keyword_ways.specs.Ways.{asks_match, match_point, way_step, way
 
 use crate::answers::says_yes;
 use crate::run::{Progress, Stage};
-use schema_node::context::keyword::{MatchPoint, Mode, Reply, Spot, Step};
+use schema_node::context::keyword::{MatchPoint, Mode, Reply, Step};
 
 /// What a turn of a run that asks a match does.
 #[derive(Clone, Copy)]
@@ -51,22 +51,13 @@ pub fn match_on(run: &mut Progress, reply: Reply<'_>) -> MatchTurn
 pub fn ask_match<'s>(pattern: &'s str, text: &'s str, mode: Mode) -> Step<'s>
     ensures step { turn_of result ≡ match_text (record { pattern = pattern.now; subject = text.now }) (match_point mode pattern.now) }
 {
-    Step::Match(pattern, text, match_point(mode, pattern))
+    Step::Match(pattern, text, match_point(mode))
 }
 
 /// Where a match is asked for in a run in this mode: at the keyword, and without evaluation path and place where a verdict
 /// alone is wanted.
-fn match_point(mode: Mode, pattern: &str) -> MatchPoint<'_>
-    ensures point { point_of result ≡ match_point mode pattern.now }
+fn match_point<'s>(mode: Mode) -> MatchPoint<'s>
+    ensures point { (pattern : Text) → point_of pattern result ≡ match_point mode pattern }
 {
-    let spot = Spot {
-        absorbed: None,
-        path: "",
-        below: &[],
-    };
-    MatchPoint {
-        spot,
-        located: mode != Mode::Verdict,
-        pattern: Some(pattern),
-    }
+    MatchPoint::AtKeyword(mode != Mode::Verdict)
 }

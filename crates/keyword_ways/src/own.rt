@@ -59,7 +59,7 @@ pub struct Keyword<K: OwnKeyword> {
 
 impl<K: OwnKeyword> Validate for Keyword<K> {
     ghost use Rattle.std.specs.Prelude.{refl};
-    ghost use Rattle.keyword_ways.specs.OwnWays.{own_absorbed, own_ends, own_fits, own_function_laws, own_remaining};
+    ghost use Rattle.keyword_ways.specs.OwnWays.{own_absorbed, own_can_be, own_ends, own_fits, own_function_laws, own_remaining};
     ghost use Rattle.keyword_ways.specs.OwnWays.{own_turn_laws, own_words};
 
     type Run = Progress;
@@ -75,6 +75,8 @@ impl<K: OwnKeyword> Validate for Keyword<K> {
     ghost is_whole = { λ m. K.is_whole m };
 
     ghost remaining = { own_remaining K.way };
+
+    ghost can_be = { own_can_be K.way };
 
     ghost ends = { own_ends K.way };
 

@@ -224,7 +224,7 @@ fn turn_judging<'s, 'i, P: PlannedKeyword>(
 
 impl<P: PlannedKeyword> Validate for Planned<P> {
     ghost use Rattle.keyword_ways.specs.OwnWays.{own_absorbed, own_ends, own_fits, own_remaining, own_words};
-    ghost use Rattle.keyword_ways.specs.OwnWays.{own_function_laws, own_turn_laws};
+    ghost use Rattle.keyword_ways.specs.OwnWays.{own_can_be, own_function_laws, own_turn_laws};
     ghost use Rattle.keyword_ways.specs.Plans.{plans_present};
 
     type Run = Progress;
@@ -240,6 +240,8 @@ impl<P: PlannedKeyword> Validate for Planned<P> {
     ghost is_whole = { P.is_whole };
 
     ghost remaining = { own_remaining (plan_ways P.planned P.named P.told) };
+
+    ghost can_be = { own_can_be (plan_ways P.planned P.named P.told) };
 
     ghost ends = { own_ends (plan_ways P.planned P.named P.told) };
 

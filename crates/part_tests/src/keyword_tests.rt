@@ -1,7 +1,9 @@
 //! Texts of errors, made and run through the traits' bounds.
 use bench_keywords::keyword::BenchKeyword;
 use bench_parts::table::BenchTable;
-use schema_node::context::keyword::{Answer, ErrorDescription, Fault, Mode, Reply, Step, Validate};
+use schema_node::context::keyword::{
+    Answer, ErrorDescription, Fault, MatchPoint, Mode, Reply, Step, Validate,
+};
 use schema_node::context::table::{KeywordOrigin, KeywordTable, MakerReply, MakerStep};
 use schema_reports::instance::Instance;
 use schema_reports::keywords::{Draft, VocabularySet};
@@ -133,6 +135,14 @@ fn push_match(
     log.push_str(if located { " located " } else { " bare " })
 }
 
+/// Says whether a match is asked with its evaluation path and its place.
+fn is_located(point: MatchPoint<'_>) -> bool {
+    match point {
+        MatchPoint::AtKeyword(located) => located,
+        MatchPoint::AtSpot(located, _) => located,
+    }
+}
+
 /// The mode in which a turn with this reply asks a question, where it asks one: it adds `!` for one that asks a verdict,
 /// `?` for another, and for a match its pattern, its subject and `located` or `bare`.
 fn asks<'i, K: Validate>(
@@ -150,7 +160,7 @@ fn asks<'i, K: Validate>(
             Ok(Some(mode))
         }
         Step::Match(pattern, subject, point) => {
-            push_match(pattern, subject, point.located, log)?;
+            push_match(pattern, subject, is_located(point), log)?;
             Ok(Some(Mode::Verdict))
         }
         _ => Ok(None),

@@ -322,6 +322,15 @@ fn a_set(alloc: Global) -> Result<VocabularySet, AllocError> {
     set.with(Vocabulary::FormatAssertion)
 }
 
+/// The same set, its vocabularies added in another order.
+fn turned(alloc: Global) -> Result<VocabularySet, AllocError> {
+    let mut set = VocabularySet::new(alloc).with(Vocabulary::FormatAssertion)?;
+    for uri in ["http://v/x", "http://v/y"] {
+        add_custom(alloc, &mut set, uri)?;
+    }
+    Ok(set)
+}
+
 fn add_custom(alloc: Global, set: &mut VocabularySet, uri: &str) -> Result<(), AllocError> {
     set.add(custom_vocabulary(alloc, uri)?)
 }
@@ -342,7 +351,7 @@ fn has_those(set: &VocabularySet, custom: &Vocabulary) -> bool {
         && set.contains(&Vocabulary::FormatAssertion)
         && !set.contains(&Vocabulary::FormatAnnotation)
         && uris.len() == 2
-        && uris.first().map(|uri| uri.as_str()) == Some("http://v/y")
+        && uris.first().map(|uri| uri.as_str()) == Some("http://v/x")
 }
 
 #[test]
@@ -361,6 +370,14 @@ fn is_copied(set: &VocabularySet) -> Result<bool, AllocError> {
     let same = copy.same(set);
     let more = copy.with(Vocabulary::FormatAnnotation)?;
     Ok(same && !more.same(set))
+}
+
+#[test]
+fn vocabularies_have_no_order(rt: HostRuntime) -> Result<(), AllocError> {
+    let set = a_set(rt.alloc())?;
+    let other = turned(rt.alloc())?;
+    assert!(rt; set.same(&other));
+    Ok(())
 }
 
 #[test]

@@ -91,6 +91,26 @@ fn has_name_apart(alloc: Global, object: &Place<'static>, want: &str) -> Result<
     Ok(has_pointer? && !is_same)
 }
 
+/// Whether a member's name is shown at the object.
+fn is_shown_at(object: &Place<'static>) -> Result<bool, OutOfMemory> {
+    let name = object.below(InstanceStep::NameOf("c"))?;
+    let shown = name.shown();
+    Ok(*object == shown)
+}
+
+#[test]
+fn names_are_shown_at_their_objects(rt: HostRuntime) -> Result<(), OutOfMemory> {
+    let alloc = rt.alloc();
+    let root = Place::root(alloc);
+    let item = item_of_member(&root);
+    drop(root);
+    let item = item?;
+    let is_shown = is_shown_at(&item);
+    drop(item);
+    assert!(rt; is_shown?);
+    Ok(())
+}
+
 #[test]
 fn places(rt: HostRuntime) -> Result<(), OutOfMemory> {
     let alloc = rt.alloc();

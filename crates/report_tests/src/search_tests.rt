@@ -113,7 +113,8 @@ fn a_failure<'i>(alloc: Global, reason: Reason) -> Result<Option<MatchFailure<'i
         met?;
         return Ok(None);
     }
-    let outcomes = assume_each_outcome(alloc, |matches| Ok((matches, true)), (first, true))?;
+    let mut run = |matches| Ok((matches, true));
+    let outcomes = assume_each_outcome(alloc, &mut run, (first, true))?;
     Ok(Some(failure_of(outcomes)))
 }
 
@@ -274,7 +275,8 @@ fn one_outcome_for_both(rt: HostRuntime) -> Result<(), OutOfMemory> {
     let first = meet_twice(alloc, MatchAssumptions::new(alloc))?;
     assert!(rt; !first.0.is_unfinished("q", "abc") && !first.0.is_unfinished("p", "ab"));
     assert!(rt; first.0.met_unassumed());
-    assert!(rt; validity(assume_each_outcome(alloc, |met| meet_twice(alloc, met), first)?));
+    let mut run = |met| meet_twice(alloc, met);
+    assert!(rt; validity(assume_each_outcome(alloc, &mut run, first)?));
     Ok(())
 }
 

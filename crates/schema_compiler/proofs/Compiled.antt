@@ -22,6 +22,9 @@ use Rattle.schema_node.specs.NodeTable.{IsRanked, NodeEntry, absolute_in, number
 use Rattle.schema_node.proofs.RankedTable.{ranked_table}
 use Rattle.schema_compiler.specs.Compiling.{Each, In, Settled, StandsBelow, parts_of}
 use Rattle.schema_compiler.specs.Refusing.{AreDistinct, IsRefusal, Names}
+use Rattle.schema_compiler.specs.Guarding.{GoesDown, GuardsWaysBack, LeadsBack, LeadsDown, goes_on, stays}
+use Rattle.schema_compiler.proofs.Guarding.{guards_whole}
+use Rattle.schema_compiler.proofs.GuardsAgree.{guards_agree}
 use Rattle.schema_compiler.specs.Filling.{AreChildren, AreParts, IsForm, IsGrown, IsNode, IsPlan, IsPlanned, IsTable, LeadsTo, shown_base}
 use Rattle.schema_compiler.specs.Compilation.{IsCompilation, RefusesRoot, all_parts}
 use Rattle.schema_compiler.specs.declared.compiler.error.BuildError.{BuildError}
@@ -163,6 +166,20 @@ module _ {S K R : Type 0} (resolver : Resolver S) (table : Table K) (formats : O
         let go : (x : Bool) → option_map (λ base. base ++ (35 ∷ encoded (drop k.start t))) (cond x None (Some (without_fragment uri))) ≡ cond x None (Some (without_fragment uri ++ (35 ∷ encoded (drop k.start t)))) = elim [ true ↦ refl | false ↦ refl ] in
         ap (λ n'. option_map (λ base. base ++ (35 ∷ encoded (drop n' t))) n.base) s ∙ ap (option_map (λ base. base ++ (35 ∷ encoded (drop k.start t)))) b ∙ go (starts_with (λ x y. x == y) uri (codes "json-schema:"))
 
+    -- steps down
+    step_too : {i j : ℕ} → GoesDown w keys nodes i j → GoesDown whole keys nodes i j
+    step_too h = record { key = h.key; edge = h.edge; at = h.at; asks = h.asks; to = h.to; there = h.there; lower = h.lower }
+
+    down_too : {i j : ℕ} → LeadsDown w keys nodes i j → LeadsDown whole keys nodes i j
+    down_too stays = stays
+    down_too (goes_on before step) = goes_on (down_too before) (step_too step)
+
+    back_too : (t i : ℕ) → LeadsBack w keys nodes t i → LeadsBack whole keys nodes t i
+    back_too t i h = record { upper = h.upper; lower = h.lower; ranks = h.ranks; down = down_too h.down }
+
+    guards_too : GuardsWaysBack w keys nodes 0 → GuardsWaysBack whole keys nodes 0
+    guards_too g = record { down = λ i lt. down_too (g.down i lt); back = λ i n p e at formed inside guarded. back_too e.node i (g.back i n p e at formed inside guarded) }
+
     module _ (limit : ℕ) (root : Key S) (t : IsTable w shape limit keys nodes) (g : IsGrown (Reached w root) [] keys [] nodes) (at_root : (i : ℕ) × (slice_get keys i ≡ Some root)) where
       planned_at : (i : ℕ) (k : Key S) → slice_get keys i ≡ Some k → (n : NodeEntry C) × (p : NodePlan C) × (slice_get nodes i ≡ Some n) × (n.plan ≡ Some p) × IsNode w shape keys nodes k n
       planned_at i k at =
@@ -211,18 +228,23 @@ module _ {S K R : Type 0} (resolver : Resolver S) (table : Table K) (formats : O
           let s = each_in (Settled w keys) (asked_edges w q) edge p.1.settled (in_of _ edge asks) in
           subst (λ cs. In cs cause) (s.declared is) (in_of _ cause has)
 
-      pub compiled : (finished : ℕ) → IsRanked nodes finished → flat_map (undeclared w) root.target.vocabularies ≡ [] → slice_get keys 0 ≡ Some root → IsCompilation whole shape limit root keys nodes
-      compiled finished ranked clean first = record {
-        first = first;
-        numbers = record { stands = stands_for; once = λ i j k a b. t.distinct i j k (key_of i k a) (key_of j k b) };
-        ranked = subst (Ranked table_of) t.lengths (ranked_table shape nodes finished ranked);
-        filled = λ i n at. g.filled i n (omega arith) at;
-        lengths = t.lengths;
-        whole = λ k r. numbered_key (from_whole r);
-        sound = all_of (Reached whole root) keys (each_map (Reached w root) (Reached whole root) keys (λ k r. to_whole r) (subst (Each (Reached w root)) (sym g.added.1) g.added.2));
-        within = t.within;
-        compiles = no_cause clean;
-      }
+      pub compiled : (finished : ℕ) → IsRanked nodes finished → flat_map (undeclared w) root.target.vocabularies ≡ [] → slice_get keys 0 ≡ Some root
+          → ((i : ℕ) → i < length keys → LeadsDown w keys nodes 0 i) → IsCompilation whole shape limit root keys nodes
+      compiled finished ranked clean first down =
+          let back = guards_whole w keys nodes (λ i n at. g.filled i n (omega arith) at) t.guards 0 (λ i lt. down i (let e = t.lengths in omega arith)) in
+          let within : (i : ℕ) (k : Key S) → slice_get keys i ≡ Some k → i < length nodes = λ i k at. let l = slice_get_within keys i k at in let e = t.lengths in omega arith in
+          record {
+            first = first;
+            numbers = record { stands = stands_for; once = λ i j k a b. t.distinct i j k (key_of i k a) (key_of j k b); guards = λ i k is. guards_agree w keys nodes shape 0 finished ranked back i (within i k (key_of i k is)) };
+            ranked = subst (Ranked table_of) t.lengths (ranked_table shape nodes finished ranked);
+            filled = λ i n at. g.filled i n (omega arith) at;
+            lengths = t.lengths;
+            whole = λ k r. numbered_key (from_whole r);
+            sound = all_of (Reached whole root) keys (each_map (Reached w root) (Reached whole root) keys (λ k r. to_whole r) (subst (Each (Reached w root)) (sym g.added.1) g.added.2));
+            within = t.within;
+            compiles = no_cause clean;
+            guards = guards_too back;
+          }
 
 pub none_in_none : {S : Type 0} (i : ℕ) (k : Key S) → slice_get [] i ≡ Some k → ⊥
 none_in_none i k e = let g : ⊥ = cc in g

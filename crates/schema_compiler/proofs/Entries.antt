@@ -1,6 +1,6 @@
 -- The keywords of an object, member by member.
-use Rattle.std.proofs.Common.{◌≡◌, ℕ, List, [], ◌++◌, refl, sym, ◌∙◌, subst, append_assoc}
-use Rattle.std.specs.Prelude.{Option, Some, None}
+use Rattle.std.proofs.Common.{◌≡◌, ℕ, Bool, true, false, cond, List, [], ◌∷◌, ◌++◌, refl, sym, ◌∙◌, subst, append_assoc}
+use Rattle.std.specs.Prelude.{Option, Some, None, nat_le}
 use Rattle.std.proofs.lemmas.List.{append-nil}
 use Rattle.serde_json.specs.Data.{Data, Members, member, no_members}
 use Rattle.schema_reports.specs.Instance.{Text}
@@ -8,15 +8,30 @@ use Rattle.schema_reports.specs.Parts.{Parts}
 use Rattle.schema_reports.specs.Plan.{Edge, Key, Part, option_list, part, parts, sorted}
 use Rattle.schema_reports.specs.Reach.{members_edges}
 use Rattle.schema_reports.specs.Refusals.{Cause, members_causes}
-use Rattle.schema_reports.specs.Guarded.{NodePart}
+use Rattle.schema_reports.specs.Guarded.{NodeEdge, NodePart, form_edges, node_edges, node_these}
 use Rattle.schema_node.specs.NodeTable.{NodeEntry}
-use Rattle.schema_compiler.specs.Compiling.{member_causes, member_edges}
+use Rattle.schema_compiler.specs.Compiling.{Each, member_causes, member_edges}
 use Rattle.schema_compiler.specs.Ordering.{placed_after}
 use Rattle.schema_compiler.specs.Refusing.{Refused}
+use Rattle.schema_compiler.specs.Guarding.{WaitsIfGuarded}
+use Rattle.schema_compiler.specs.Steps.{part_edges}
+use Rattle.schema_compiler.proofs.Guarding.{waits_stay}
+use Rattle.schema_compiler.proofs.Lists.{each_append, each_first, each_rest}
 use Rattle.schema_compiler.specs.Filling.{AreParts, IsMadePart, IsStep, IsTable}
 use Rattle.schema_compiler.specs.declared.compiler.error.BuildError.{BuildError}
 use Rattle.schema_compiler.proofs.Growing.{grown_stays, parts_stay, refused_first, refused_later, step_none, step_then}
 use Rattle.schema_compiler.proofs.Placing.{one_placed}
+
+-- the edges of parts with one more in its place
+placed_edges : {C : Type 0} (P : NodeEdge → Type 0) (x : NodePart C) (es : List (NodePart C)) → Each P (form_edges x.form) → Each P (node_edges (node_these es)) → Each P (node_edges (node_these (placed_after x es)))
+placed_edges P x [] h hs = each_append P (form_edges x.form) [] h tt
+placed_edges P x (y ∷ ys) h hs =
+    let mine = each_first P (form_edges y.form) (node_edges (node_these ys)) hs in
+    let rest = each_rest P (form_edges y.form) (node_edges (node_these ys)) hs in
+    let later = each_append P (form_edges y.form) (node_edges (node_these (placed_after x ys))) mine (placed_edges P x ys h rest) in
+    let first = each_append P (form_edges x.form) (node_edges (node_these (y ∷ ys))) h hs in
+    let go : (b : Bool) → Each P (node_edges (node_these (cond b (y ∷ placed_after x ys) (x ∷ y ∷ ys)))) = elim [ true ↦ later | false ↦ first ] in
+    go (nat_le y.priority x.priority)
 
 module _ {S K R C : Type 0} (w : Parts S K R) (shape : C → K) (limit : ℕ) (k : Key S) (whole : Members) where
   -- the members before `rest` are done
@@ -29,9 +44,10 @@ module _ {S K R C : Type 0} (w : Parts S K R) (shape : C → K) (limit : ℕ) (k
     pub all_parts : parts w k whole whole ≡ made ++ parts w k whole rest
     pub steps : IsStep w shape limit edges causes keys keys' nodes nodes'
     pub entries : AreParts w keys' shape nodes' k es (sorted made)
+    pub waits : Each (WaitsIfGuarded nodes') (node_edges (node_these es))
 
   pub so_far_none : (keys : List (Key S)) (nodes : List (NodeEntry C)) → IsTable w shape limit keys nodes → SoFar whole [] keys keys nodes nodes
-  so_far_none keys nodes t = record { edges = []; causes = []; made = []; all_edges = refl; all_causes = refl; all_parts = refl; steps = step_none w shape limit keys nodes t; entries = tt }
+  so_far_none keys nodes t = record { edges = []; causes = []; made = []; all_edges = refl; all_causes = refl; all_parts = refl; steps = step_none w shape limit keys nodes t; entries = tt; waits = tt }
 
   -- the entries with one more, if it is one
   abbrev pub with_one : Option (NodePart C) → List (NodePart C) → List (NodePart C)
@@ -45,12 +61,16 @@ module _ {S K R C : Type 0} (w : Parts S K R) (shape : C → K) (limit : ℕ) (k
   more_entries keys nodes None (Some y) es ps h hs = absurd h
   more_entries keys nodes (Some x) None es ps h hs = absurd h
 
+  more_waits : (nodes : List (NodeEntry C)) (o : Option (NodePart C)) (es : List (NodePart C)) → Each (WaitsIfGuarded nodes) (part_edges o) → Each (WaitsIfGuarded nodes) (node_edges (node_these es)) → Each (WaitsIfGuarded nodes) (node_edges (node_these (with_one o es)))
+  more_waits nodes None es h hs = hs
+  more_waits nodes (Some x) es h hs = placed_edges (WaitsIfGuarded nodes) x es h hs
+
   pub so_far_more : (name : Text) (value : Data) (rest : Members) (o : Option (NodePart C)) (es : List (NodePart C)) (keys keys' keys'' : List (Key S)) (nodes nodes' nodes'' : List (NodeEntry C))
       → SoFar (member name value rest) es keys keys' nodes nodes'
       → IsStep w shape limit (member_edges w k whole name value) (member_causes w k whole name value) keys' keys'' nodes' nodes''
-      → IsMadePart w keys'' shape nodes'' k o (part w k whole name value)
+      → IsMadePart w keys'' shape nodes'' k o (part w k whole name value) → Each (WaitsIfGuarded nodes'') (part_edges o)
       → SoFar rest (with_one o es) keys keys'' nodes nodes''
-  so_far_more name value rest o es keys keys' keys'' nodes nodes' nodes'' a step made =
+  so_far_more name value rest o es keys keys' keys'' nodes nodes' nodes'' a step made wait =
       let stays = grown_stays _ keys' keys'' nodes' nodes'' a.steps.table.lengths step.table.lengths step.grown in
       record {
         edges = a.edges ++ member_edges w k whole name value;
@@ -61,6 +81,7 @@ module _ {S K R C : Type 0} (w : Parts S K R) (shape : C → K) (limit : ℕ) (k
         all_parts = a.all_parts ∙ sym (append_assoc a.made (option_list (part w k whole name value)) (parts w k whole rest));
         steps = step_then w shape limit a.edges (member_edges w k whole name value) a.causes (member_causes w k whole name value) keys keys' keys'' nodes nodes' nodes'' a.steps step;
         entries = more_entries keys'' nodes'' o (part w k whole name value) es a.made made (parts_stay w shape keys' keys'' nodes' nodes'' stays k es (sorted a.made) a.entries);
+        waits = more_waits nodes'' o es wait (waits_stay nodes' nodes'' step.grown.stay (node_edges (node_these es)) a.waits);
       }
 
   -- when none is left

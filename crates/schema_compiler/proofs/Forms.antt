@@ -7,10 +7,11 @@ use Rattle.schema_reports.specs.Plan.{Edge, Key, Plan, plan, plan_of, schema_of}
 use Rattle.schema_reports.specs.Reach.{asked_edges}
 use Rattle.schema_reports.specs.Refusals.{Cause, causes, not_a_schema, schema_causes}
 use Rattle.schema_reports.specs.Units.{annotations_of, object_annotations}
-use Rattle.schema_reports.specs.Guarded.{NodePlan}
+use Rattle.schema_reports.specs.Guarded.{NodePlan, node_edges}
 use Rattle.schema_node.specs.NodeTable.{NodeEntry}
 use Rattle.schema_node.specs.NodeViews.{boolean_plan}
-use Rattle.schema_compiler.specs.Compiling.{object_edges}
+use Rattle.schema_compiler.specs.Compiling.{Each, object_edges}
+use Rattle.schema_compiler.specs.Guarding.{WaitsIfGuarded}
 use Rattle.schema_compiler.specs.Refusing.{Names, Refused}
 use Rattle.schema_compiler.specs.Filling.{IsPlan, IsTable}
 use Rattle.schema_compiler.specs.Steps.{MakesPlan}
@@ -52,11 +53,15 @@ module _ {S K R : Type 0} (w : Parts S K R) (k : Key S) where
   one_plan shape keys nodes true = tt
   one_plan shape keys nodes false = tt
 
+  no_waits : {C : Type 0} (nodes : List (NodeEntry C)) (b : Bool) → Each (WaitsIfGuarded nodes) (node_edges (boolean_plan {K = C} b))
+  no_waits nodes true = tt
+  no_waits nodes false = tt
+
   pub boolean_made : {C : Type 0} (shape : C → K) (limit : ℕ) (b : Bool) (p : NodePlan C) (keys : List (Key S)) (nodes : List (NodeEntry C)) → as_bool (schema_of w k) ≡ Some b → p ≡ boolean_plan b → IsTable w shape limit keys nodes
       → MakesPlan w shape limit keys keys nodes nodes (asked_edges w k) (causes w k) k p (plan w k) None (annotations_of w k)
   boolean_made shape limit b p keys nodes is e t =
       subst (λ d. MakesPlan w shape limit keys keys nodes nodes (edges_at d) (schema_causes w k d) k p (plan_of w k d) None (annotations_at d)) (sym (bool_is (schema_of w k) b is))
-      (record { step = step_none w shape limit keys nodes t; plan = subst (λ x. IsPlan w keys shape nodes k x (plan_of w k (boolean b))) (sym e) (one_plan shape keys nodes b); annotated = refl })
+      (record { step = step_none w shape limit keys nodes t; plan = subst (λ x. IsPlan w keys shape nodes k x (plan_of w k (boolean b))) (sym e) (one_plan shape keys nodes b); waits = subst (λ x. Each (WaitsIfGuarded nodes) (node_edges x)) (sym e) (no_waits nodes b); annotated = refl })
 
   no_schema : (d : Data) → ◌≡◌ {A = Option Members} None (as_object d) → as_bool d ≡ None → schema_causes w k d ≡ not_a_schema k.location ∷ []
   no_schema null h i = refl

@@ -16,6 +16,8 @@ use Rattle.schema_compiler.specs.Refusing.{AreDistinct, IsRefusal, Names, Refuse
 use Rattle.schema_compiler.specs.Filling.{AreChildren, AreParts, IsForm, IsGrown, IsNode, IsPart, IsPlan, IsPlanned, IsStep, IsTable, LeadsTo}
 use Rattle.schema_compiler.specs.declared.compiler.error.BuildError.{BuildError}
 use Rattle.schema_compiler.specs.declared.compiler.error.BuildError.TheVariants.{KeywordRefused, Lookup, MetaSchema, MissingRoot, NodeLimit, NotASchema, OutOfMemory, ReferenceNotText, UnsupportedVocabulary}
+use Rattle.schema_compiler.specs.Guarding.{LeadsDown}
+use Rattle.schema_compiler.proofs.Guarding.{Keeps, from_first as down_first, from_later as down_later, from_stays}
 use Rattle.schema_compiler.proofs.Lists.{below_or, contains_of, each_append, each_map, get-append, in_left, in_right, longer, there}
 
 -- a key of an edge stands among the edges' keys
@@ -161,6 +163,12 @@ grown_stays {S} P keys keys' nodes nodes' e e' g = record {
   filled = λ i f. (f.0, f.1, g.stay i f.0 f.2, f.3);
 }
 
+pub grown_keeps : {S C : Type 0} (P : Key S → Type 0) (keys keys' : List (Key S)) (nodes nodes' : List (NodeEntry C)) → IsGrown P keys keys' nodes nodes' → Keeps keys keys' nodes nodes'
+grown_keeps {S} P keys keys' nodes nodes' g = record {
+  numbers = λ i k h. subst (λ (ks : List (Key S)). slice_get ks i ≡ Some k) (sym g.added.1) (get-append keys g.added.0 i k h);
+  forms = λ i n p at formed. g.stay i n at;
+}
+
 module _ {S K R C : Type 0} (w : Parts S K R) (shape : C → K) (keys keys' : List (Key S)) (nodes nodes' : List (NodeEntry C)) (s : Stays keys keys' nodes nodes') where
   pub leads_stay : (o : Option NodeEdge) (e : Option (Edge S)) → LeadsTo w keys o e → LeadsTo w keys' o e
   leads_stay None None h = tt
@@ -228,7 +236,7 @@ module _ {S K R C : Type 0} (w : Parts S K R) (shape : C → K) (keys keys' : Li
 
 module _ {S K R C : Type 0} (w : Parts S K R) (shape : C → K) (limit : ℕ) where
   pub step_none : (keys : List (Key S)) (nodes : List (NodeEntry C)) → IsTable w shape limit keys nodes → IsStep w shape limit [] [] keys keys nodes nodes
-  step_none keys nodes t = record { table = t; grown = grown_none (ReachedFrom w []) keys nodes t.lengths; settled = tt; clean = refl }
+  step_none keys nodes t = record { table = t; grown = grown_none (ReachedFrom w []) keys nodes t.lengths; settled = tt; clean = refl; down = λ i le lt. absurd (omega arith) }
 
   pub step_then : (es es' : List (Edge S)) (cs cs' : List Cause) (keys keys' keys'' : List (Key S)) (nodes nodes' nodes'' : List (NodeEntry C))
       → IsStep w shape limit es cs keys keys' nodes nodes' → IsStep w shape limit es' cs' keys' keys'' nodes' nodes''
@@ -242,15 +250,20 @@ module _ {S K R C : Type 0} (w : Parts S K R) (shape : C → K) (limit : ℕ) wh
             (grown_map (ReachedFrom w es') (ReachedFrom w (es ++ es')) keys' keys'' nodes' nodes'' (from_later w es es' cs cs') b.grown);
         settled = each_append (Settled w keys'') es es' (settled_stay w shape keys' keys'' nodes' nodes'' stays es a.settled) b.settled;
         clean = ap (λ xs. xs ++ cs') a.clean ∙ b.clean;
+        down = λ i le lt. elim (below_or i (length keys')) [
+          | inl before ↦ down_first w keys'' nodes'' es es' i (from_stays w keys' keys'' nodes' nodes'' (grown_keeps (ReachedFrom w es') keys' keys'' nodes' nodes'' b.grown) es i (a.down i le before))
+          | inr later ↦ down_later w keys'' nodes'' es es' i (b.down i later lt)
+        ];
       }
 
   pub step_edge : (edge : Edge S) (keys keys' : List (Key S)) (nodes nodes' : List (NodeEntry C)) → IsTable w shape limit keys' nodes' → IsGrown (Reached w edge.key) keys keys' nodes nodes'
-      → Settled w keys' edge → IsStep w shape limit (edge ∷ []) [] keys keys' nodes nodes'
-  step_edge edge keys keys' nodes nodes' t g s = record {
+      → (s : Settled w keys' edge) → ((i : ℕ) → length keys ≤ i → i < length keys' → LeadsDown w keys' nodes' s.numbered.0 i) → IsStep w shape limit (edge ∷ []) [] keys keys' nodes nodes'
+  step_edge edge keys keys' nodes nodes' t g s d = record {
     table = t;
     grown = grown_map (Reached w edge.key) (ReachedFrom w (edge ∷ [])) keys keys' nodes nodes' (λ k r. (edge, inl refl, r)) g;
     settled = (s, tt);
     clean = refl;
+    down = λ i le lt. (edge, inl refl, s.numbered.0, s.numbered.1, d i le lt);
   }
 
   -- a refusal after a step

@@ -1,8 +1,9 @@
 pub mod SameKeys
 pub mod Chains
 pub mod Fragments
-pub mod Innermost
 pub mod Lists
+pub mod Guarding
+pub mod GuardsAgree
 pub mod Growing
 pub mod Tables
 pub mod Members
@@ -13,5 +14,7 @@ pub mod Entries
 pub mod Forms
 pub mod MembersAsk
 pub mod Compiled
+pub mod WorkedRows
 pub mod CustomVocabularies
 mod Unknown
+mod Absorbed

@@ -9,6 +9,14 @@ module _ {A : Type 0} where
   each_append P [] ys h k = k
   each_append P (x ∷ xs) ys h k = (h.0, each_append P xs ys h.1 k)
 
+  pub each_first : (P : A → Type 0) (xs ys : List A) → Each P (xs ++ ys) → Each P xs
+  each_first P [] ys h = tt
+  each_first P (x ∷ xs) ys h = (h.0, each_first P xs ys h.1)
+
+  pub each_rest : (P : A → Type 0) (xs ys : List A) → Each P (xs ++ ys) → Each P ys
+  each_rest P [] ys h = h
+  each_rest P (x ∷ xs) ys h = each_rest P xs ys h.1
+
   pub each_map : (P Q : A → Type 0) (xs : List A) → ((x : A) → P x → Q x) → Each P xs → Each Q xs
   each_map P Q [] f h = tt
   each_map P Q (x ∷ xs) f h = (f x h.0, each_map P Q xs f h.1)

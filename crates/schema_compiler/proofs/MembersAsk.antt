@@ -7,18 +7,20 @@ use Rattle.schema_reports.specs.Instance.{Text}
 use Rattle.schema_reports.specs.Making.{Builtin}
 use Rattle.schema_reports.specs.Parts.{Parts}
 use Rattle.schema_reports.specs.Pointer.{joined}
-use Rattle.schema_reports.specs.Plan.{Edge, Key, Part, Plan, Reference, found, making, part, part_made, builtin_part, parts, plan_alone, plan_of, reference, reference_edge, reference_named, reference_part, sorted, these, to_ref, option_list}
+use Rattle.schema_reports.specs.Plan.{Edge, Key, Part, Plan, Reference, found, is_self, making, part, part_made, builtin_part, parts, plan_alone, plan_of, reference, reference_edge, reference_named, reference_part, sorted, these, to_ref, option_list}
 use Rattle.schema_reports.specs.Reach.{builtin_edges, lone_ref, maker_edges, members_edges, reference_edges}
 use Rattle.schema_reports.specs.Refusals.{Cause, builtin_causes, lookup_causes, maker_causes, members_causes, reference_causes, reference_not_text, schema_causes}
-use Rattle.schema_reports.specs.Units.{object_annotations, object_of, unknown}
-use Rattle.schema_reports.specs.Guarded.{NodeEdge, NodePart, NodePlan, node_reference}
+use Rattle.schema_reports.specs.Units.{absorbed_by, annotating, object_annotations, object_of}
+use Rattle.schema_reports.specs.Guarded.{NodeEdge, NodePart, NodePlan, form_edges, node_edges, node_reference}
 use Rattle.serde_json.specs.View.{view}
 use Rattle.serde_json.specs.declared.value.Value.{Value}
 use Rattle.schema_node.specs.NodeTable.{NodeEntry}
-use Rattle.schema_compiler.specs.Compiling.{member_causes, member_edges, object_edges, reference_asked}
+use Rattle.schema_compiler.specs.Compiling.{Each, member_causes, member_edges, object_edges, reference_asked}
 use Rattle.schema_compiler.specs.Refusing.{Names, Refused}
 use Rattle.schema_compiler.specs.Filling.{IsMadePart, IsPlan, LeadsTo}
-use Rattle.schema_compiler.specs.Steps.{IsAnswered, MakesPart, MakesPlan, alone}
+use Rattle.schema_compiler.specs.Steps.{IsAnswered, MakesPart, MakesPlan, alone, part_edges}
+use Rattle.schema_compiler.specs.Guarding.{WaitsIfGuarded}
+use Rattle.schema_compiler.proofs.Lists.{each_append}
 use Rattle.schema_compiler.specs.declared.compiler.error.BuildError.{BuildError}
 use Rattle.schema_compiler.proofs.Growing.{names_refused}
 use Rattle.schema_compiler.proofs.References.{asked_not_self, leads_none, leads_some, reference_edges_of, skipped_self}
@@ -64,6 +66,19 @@ module _ {S K R : Type 0} (w : Parts S K R) (k : Key S) where
         → P (member_edges w k whole name value) (member_causes w k whole name value) (part w k whole name value)
     built_is b h o q x = by_name b None h o q x
 
+  -- a reference absorbs no name
+  pub reference_absorbs : (name : Text) (priority : ℕ) (kind : Reference) (value : Data) → absorbed_by (reference_part w k name priority kind value) ≡ []
+  reference_absorbs name priority kind (string text) = go (is_self w k kind text)
+    where
+      go : (b : Bool) → absorbed_by {K = K} (cond b None (Some (record { name = name; priority = priority; is_leaf = false; form = reference kind text }))) ≡ []
+      go true = refl
+      go false = refl
+  reference_absorbs name priority kind null = refl
+  reference_absorbs name priority kind (boolean b) = refl
+  reference_absorbs name priority kind (number n) = refl
+  reference_absorbs name priority kind (array ds) = refl
+  reference_absorbs name priority kind (object ms) = refl
+
   -- ---- an object: P of its edges, its causes, its plan and its annotations
 
   module _ (ms : Members) (P : List (Edge S) → List Cause → Plan K → Option Data → Type 0) where
@@ -71,14 +86,14 @@ module _ {S K R : Type 0} (w : Parts S K R) (k : Key S) where
     object_by o = P (elim o [ Some value ↦ reference_edges w k (codes "$ref") to_ref value | None ↦ members_edges w k ms ms ])
         (elim o [ Some value ↦ reference_causes w k (codes "$ref") to_ref value | None ↦ members_causes w k ms ms ])
         (elim o [ Some value ↦ plan_alone w (reference_part w k (codes "$ref") 70 to_ref value) | None ↦ these (sorted (parts w k ms ms)) ])
-        (elim o [ Some value ↦ None | None ↦ object_of (unknown w k ms ms) ])
+        (elim o [ Some value ↦ None | None ↦ object_of (annotating w k ms) ])
 
     pub lone_is : (d : Data) → Some d ≡ lone_ref w k ms
         → P (reference_edges w k (codes "$ref") to_ref d) (reference_causes w k (codes "$ref") to_ref d) (plan_alone w (reference_part w k (codes "$ref") 70 to_ref d)) None
         → P (object_edges w k ms) (schema_causes w k (object ms)) (plan_of w k (object ms)) (object_annotations w k ms)
     lone_is d h x = subst object_by h x
 
-    pub members_are : None ≡ lone_ref w k ms → P (members_edges w k ms ms) (members_causes w k ms ms) (these (sorted (parts w k ms ms))) (object_of (unknown w k ms ms))
+    pub members_are : None ≡ lone_ref w k ms → P (members_edges w k ms ms) (members_causes w k ms ms) (these (sorted (parts w k ms ms))) (object_of (annotating w k ms))
         → P (object_edges w k ms) (schema_causes w k (object ms)) (plan_of w k (object ms)) (object_annotations w k ms)
     members_are h x = subst object_by h x
 
@@ -126,13 +141,17 @@ module _ {S K R : Type 0} (w : Parts S K R) (k : Key S) where
         subst (λ b. IsMadePart w keys' shape nodes' k (Some (reference_node name priority e)) (cond b None (Some (record { name = name; priority = priority; is_leaf = false; form = reference kind text })))) (sym self)
         (record { name = refl; priority = refl; is_leaf = refl; form = leads; edges = a.filled })
 
+    waits_of : (name : Text) (priority : ℕ) (o : Option NodeEdge) → Each (WaitsIfGuarded nodes') (option_list o) → Each (WaitsIfGuarded nodes') (part_edges (option_map (reference_node name priority) o))
+    waits_of name priority None h = tt
+    waits_of name priority (Some e) h = h
+
     pub reference_made : (name : Text) (kind : Reference) (text : Text) (d : Data) (priority : ℕ) (o : Option NodeEdge) → d ≡ string text
         → IsAnswered w shape limit keys keys' nodes nodes' (reference_asked w k name kind text) (lookup_causes w (found w k kind text)) o
         → MakesPart w shape limit keys keys' nodes nodes' (reference_edges w k name kind d) (reference_causes w k name kind d) k (option_map (reference_node name priority) o) (reference_part w k name priority kind d)
     reference_made name kind text d priority o is a =
         subst (λ x. MakesPart w shape limit keys keys' nodes nodes' (reference_edges w k name kind x) (reference_causes w k name kind x) k (option_map (reference_node name priority) o) (reference_part w k name priority kind x)) (sym is)
         (subst (λ es. MakesPart w shape limit keys keys' nodes nodes' es (lookup_causes w (found w k kind text)) k (option_map (reference_node name priority) o) (reference_part w k name priority kind (string text))) (reference_edges_of w k name kind text)
-        (record { step = a.step; made = made_of name kind text priority o a }))
+        (record { step = a.step; made = made_of name kind text priority o a; waits = waits_of name priority o a.waits }))
 
     made_alone : (o : Option (NodePart C)) (p : Option (Part K)) → IsMadePart w keys' shape nodes' k o p → IsPlan w keys' shape nodes' k (alone o) (plan_alone w p)
     made_alone None None h = tt
@@ -140,7 +159,11 @@ module _ {S K R : Type 0} (w : Parts S K R) (k : Key S) where
     made_alone None (Some y) h = absurd h
     made_alone (Some x) None h = absurd h
 
+    waits_alone : (o : Option (NodePart C)) → Each (WaitsIfGuarded nodes') (part_edges o) → Each (WaitsIfGuarded nodes') (node_edges (alone o))
+    waits_alone None h = tt
+    waits_alone (Some x) h = each_append (WaitsIfGuarded nodes') (form_edges x.form) [] h tt
+
     -- the plan of a part that stands alone
     pub planned_alone : (es : List (Edge S)) (cs : List Cause) (o : Option (NodePart C)) (p : Option (Part K)) (n : NodePlan C) (annotations : Option Value) → n ≡ alone o → annotations ≡ None
         → MakesPart w shape limit keys keys' nodes nodes' es cs k o p → MakesPlan w shape limit keys keys' nodes nodes' es cs k n (plan_alone w p) (option_map view annotations) None
-    planned_alone es cs o p n annotations is none m = record { step = m.step; plan = subst (λ x. IsPlan w keys' shape nodes' k x (plan_alone w p)) (sym is) (made_alone o p m.made); annotated = ap (option_map view) none }
+    planned_alone es cs o p n annotations is none m = record { step = m.step; plan = subst (λ x. IsPlan w keys' shape nodes' k x (plan_alone w p)) (sym is) (made_alone o p m.made); waits = subst (λ x. Each (WaitsIfGuarded nodes') (node_edges x)) (sym is) (waits_alone o m.waits); annotated = ap (option_map view) none }

@@ -1,7 +1,8 @@
 -- Equality of the parts of a key, by their tests.
-use Rattle.std.proofs.Common.{◌≡◌, ℕ, ◌&&◌, ◌==◌, Bool, true, false, List, [], ◌∷◌, refl, sym, ap, true≢false, ◌∙◌, ◌<◌, length, map, get_or}
-use Rattle.std.specs.Prelude.{Some, slice_get}
+use Rattle.std.proofs.Common.{◌≡◌, ℕ, ◌&&◌, ◌==◌, Bool, true, false, List, [], ◌∷◌, refl, sym, ap, arith, true≢false, ◌∙◌, ◌<◌, length, map, get_or}
+use Rattle.std.specs.Prelude.{Some, option_map, slice_get}
 use Rattle.std.proofs.lemmas.Bool.{eqb-true, eq-eqb}
+use Rattle.std.proofs.lemmas.List.{length-map}
 use Rattle.std.proofs.lemmas.Slice.Eq.{bytes_eq-Decides}
 use Rattle.std.proofs.lemmas.Option.{slice_get-map, slice_get_read}
 use Rattle.schema_reports.specs.Instance.{Place, Step, same_place, same_step, to_member, to_item, to_name}
@@ -132,11 +133,16 @@ vocabularies_differ {S} a b h e = true≢false (sym (vocabularies_itself a.targe
 
 -- ---- looking for one in a list
 
+-- what is shared at a number, as far as it is seen
+pub shared_at : {A B : Type 0} (u : B → A) (rs : List B) (xs : List A) (n : ℕ) (r : B) → map u rs ≡ xs → n < length xs → r ≡ get_or rs n r → slice_get xs n ≡ Some (u r)
+shared_at {A} u rs xs n r is h at =
+    let longs : length (map u rs) ≡ length xs = ap (λ (ys : List A). length ys) is in
+    let within : n < length rs = omega (arith, longs, length-map rs u) in
+    ap (λ (ys : List A). slice_get ys n) (sym is) ∙ slice_get-map u rs n ∙ ap (option_map u) (slice_get_read rs (length rs) n r refl within at)
+
 -- an element that is not the one looked for
-pub not_at : {A B : Type 0} (v : A → B) (xs : List A) (n : ℕ) (x : A) (b : B) → n < length xs → x ≡ get_or xs n x → (v x ≡ b → ⊥)
-    → slice_get (map v xs) n ≡ Some b → ⊥
-not_at v xs n x b h is differs e =
-    let at : slice_get xs n ≡ Some x = slice_get_read xs (length xs) n x refl h is in
+pub not_at : {A B : Type 0} (v : A → B) (xs : List A) (n : ℕ) (x : A) (b : B) → slice_get xs n ≡ Some x → (v x ≡ b → ⊥) → slice_get (map v xs) n ≡ Some b → ⊥
+not_at v xs n x b at differs e =
     let same : Some (v x) ≡ Some b = rw (slice_get-map v xs n, at) at e in
     let same' : v x ≡ b = cc in
     differs same'

@@ -1,5 +1,5 @@
 -- The table where a number is reserved, and where it gets its form.
-use Rattle.std.proofs.Common.{◌≡◌, ◌≢◌, ℕ, suc, ◌<◌, inl, inr, List, [], ◌∷◌, ◌++◌, length, refl, ap, sym, ◌∙◌, subst, arith, append_assoc}
+use Rattle.std.proofs.Common.{◌≡◌, ◌≢◌, ℕ, suc, ◌<◌, ◌≤◌, inl, inr, List, [], ◌∷◌, ◌++◌, length, refl, ap, sym, ◌∙◌, subst, arith, append_assoc}
 use Rattle.std.specs.Prelude.{Option, Some, None, option_map, slice_get}
 use Rattle.std.proofs.lemmas.Option.{slice_get_within}
 use Rattle.serde_json.specs.View.{view}
@@ -7,12 +7,15 @@ use Rattle.serde_json.specs.declared.value.Value.{Value}
 use Rattle.schema_reports.specs.Parts.{Parts}
 use Rattle.schema_reports.specs.Units.{annotations_of}
 use Rattle.schema_reports.specs.Plan.{Key, Part, Plan, always, never, plan, these}
-use Rattle.schema_reports.specs.Guarded.{NodePart, NodePlan, form_edges, node_always, node_edges, node_never, node_these}
-use Rattle.schema_node.specs.NodeTable.{AreFilled, Fills, IsReserved, LeadsToFilled, NodeEntry, filled}
-use Rattle.schema_compiler.specs.Compiling.{Each}
+use Rattle.schema_reports.specs.Reach.{asked_edges}
+use Rattle.schema_reports.specs.Guarded.{NodeEdge, NodePart, NodePlan, form_edges, node_always, node_edges, node_never, node_these}
+use Rattle.schema_node.specs.NodeTable.{AreFilled, Fills, IsFilled, IsReserved, LeadsToFilled, NodeEntry, RanksLast, filled}
+use Rattle.schema_compiler.specs.Compiling.{Each, In}
+use Rattle.schema_compiler.specs.Guarding.{DownFrom, GuardsSoFar, LeadsBack, LeadsDown, WaitsIfGuarded, goes_on, stays as none_down}
+use Rattle.schema_compiler.proofs.Guarding.{Keeps, back_stays, down_filled, down_stays, down_then}
 use Rattle.schema_compiler.specs.Refusing.{AreDistinct}
 use Rattle.schema_compiler.specs.Filling.{AreParts, Finishes, IsGrown, IsNode, IsPlan, IsPlanned, IsTable, shown_base}
-use Rattle.schema_compiler.proofs.Lists.{all_of, each_append, equal_or, get-append, get-end, get-pushed, get-set_other, get-set_same, length-more, set-length, some_is}
+use Rattle.schema_compiler.proofs.Lists.{all_of, below_or, each_append, each_in, equal_or, get-append, get-end, get-pushed, get-set_other, get-set_same, length-more, set-length, some_is, there}
 use Rattle.schema_compiler.proofs.Growing.{Stays, node_stays}
 
 pub pushed_distinct : {S : Type 0} (keys : List (Key S)) (k : Key S) → AreDistinct keys → ((i : ℕ) → slice_get keys i ≢ Some k) → AreDistinct (keys ++ k ∷ [])
@@ -35,6 +38,9 @@ module _ {S K R C : Type 0} (w : Parts S K R) (shape : C → K) (limit : ℕ) wh
     filled = λ i f. (f.0, f.1, get-append nodes (n ∷ []) i f.0 f.2, f.3);
   }
 
+  reserved_keeps : (keys : List (Key S)) (k : Key S) (nodes : List (NodeEntry C)) (n : NodeEntry C) → Keeps keys (keys ++ k ∷ []) nodes (nodes ++ n ∷ [])
+  reserved_keeps keys k nodes n = record { numbers = λ i q h. get-append keys (k ∷ []) i q h; forms = λ i m p at formed. get-append nodes (n ∷ []) i m at }
+
   pub reserved_table : (keys keys' : List (Key S)) (nodes nodes' : List (NodeEntry C)) (k : Key S) (n : NodeEntry C) → IsTable w shape limit keys nodes
       → ((i : ℕ) → slice_get keys i ≢ Some k) → length keys < limit → keys' ≡ keys ++ k ∷ [] → nodes' ≡ nodes ++ n ∷ []
       → n.plan ≡ None → n.location ≡ k.location → n.base ≡ shown_base w k → n.start ≡ k.start → IsTable w shape limit keys' nodes'
@@ -44,6 +50,13 @@ module _ {S K R C : Type 0} (w : Parts S K R) (shape : C → K) (limit : ℕ) wh
         lengths = length-more nodes n ∙ ap suc t.lengths ∙ sym (length-more keys k);
         within = let l = length-more keys k in omega arith;
         distinct = pushed_distinct keys k t.distinct absent;
+        guards = λ i m p d at formed inside guarded. elim (get-pushed nodes n i m at) [
+          | inl h ↦ elim (t.guards i m p d h formed inside guarded) [
+            | inl waits ↦ inl (waits.0, get-append nodes (n ∷ []) d.node waits.0 waits.1, waits.2)
+            | inr back ↦ inr (back_stays w keys (keys ++ k ∷ []) nodes (nodes ++ n ∷ []) (reserved_keeps keys k nodes n) d.node i back)
+          ]
+          | inr h ↦ let same = ap (λ (x : NodeEntry C). x.plan) h.1 in absurd (let g : ⊥ = cc in g)
+        ];
         stands = λ i q m at at'. elim (get-pushed nodes n i m at') [
           | inl h' ↦ elim (get-pushed keys k i q at) [
             | inl h ↦ node_stays w shape keys (keys ++ k ∷ []) nodes (nodes ++ n ∷ []) (reserved_stays keys k nodes n) q m (t.stands i q m h h')
@@ -88,8 +101,82 @@ module _ {S K R C : Type 0} (w : Parts S K R) (shape : C → K) (limit : ℕ) wh
       ];
     }
 
-    pub finished_table : IsPlanned w shape keys nodes k p → option_map view annotations ≡ annotations_of w k → IsTable w shape limit keys nodes'
-    finished_table planned annotated = record {
+    keeps : Keeps keys keys nodes nodes'
+    keeps = record {
+      numbers = λ j q h. h;
+      forms = λ j m q here formed. elim (equal_or j i) [
+        | inl e ↦
+            let is : fills.0 ≡ m = some_is fills.0 m (sym fills.2 ∙ sym (ap (slice_get nodes) e) ∙ here) in
+            let same = ap (λ (x : NodeEntry C). x.plan) is in
+            let unformed = none in
+            absurd (let g : ⊥ = cc in g)
+        | inr ne ↦ others j ne ∙ here
+      ];
+    }
+
+    -- ---- and leads down to what came after it, and guarded edges lead back
+
+    module _ (last : RanksLast nodes i nodes') (formed : (j : ℕ) → i < j → j < length nodes → IsFilled nodes j) (down : (j : ℕ) → i < j → j < length nodes → DownFrom w keys nodes (asked_edges w k) j) where
+      down_from : (j : ℕ) → IsFilled nodes j → DownFrom w keys nodes (asked_edges w k) j → LeadsDown w keys nodes' i j
+      down_from j f h =
+          let first = down_filled w h.4 f in
+          down_then w (goes_on none_down (record {
+            key = k;
+            edge = h.0;
+            at = at;
+            asks = h.1;
+            to = h.3;
+            there = (now, p, now_at, refl);
+            lower = (first.0, first.1, keeps.forms h.2 first.0 first.1 first.2 first.3, first.3, last h.2 first.0 first.1 now first.2 first.3 now_at);
+          })) (down_stays w keys keys nodes nodes' keeps h.4)
+
+      pub down_to : (j : ℕ) → i ≤ j → j < length nodes → LeadsDown w keys nodes' i j
+      down_to j le lt = elim (equal_or j i) [
+        | inl e ↦ subst (λ l. LeadsDown w keys nodes' i l) (sym e) none_down
+        | inr ne ↦ let more : i < j = omega (arith, ne) in down_from j (formed j more lt) (down j more lt)
+      ]
+
+      waits_now : (l : ℕ) → IsReserved nodes l → l ≢ i → IsReserved nodes' l
+      waits_now l r ne = (r.0, others l ne ∙ r.1, r.2)
+
+      -- a guarded edge to the number itself
+      back_to : (j : ℕ) (m : NodeEntry C) (q : NodePlan C) → i ≤ j → slice_get nodes' j ≡ Some m → m.plan ≡ Some q → m.rank ≤ now.rank → LeadsBack w keys nodes' i j
+      back_to j m q le here is ranks = record {
+        upper = (now, p, now_at, refl);
+        lower = (m, q, here, is);
+        ranks = ranks;
+        down = down_to j le (let a = slice_get_within nodes' j m here in let b = same_length in omega arith);
+      }
+
+      pub guards_now : Each (WaitsIfGuarded nodes) (node_edges p)
+          → ((j : ℕ) (m : NodeEntry C) (q : NodePlan C) (e : NodeEdge) → j < i → slice_get nodes j ≡ Some m → m.plan ≡ Some q → In (node_edges q) e → e.node < i)
+          → GuardsSoFar w keys nodes'
+      guards_now waits older j m q e here is inside guarded = elim (equal_or j i) [
+        | inl same ↦
+            let m-is : now ≡ m = some_is now m (sym now_at ∙ sym (ap (slice_get nodes') same) ∙ here) in
+            let q-is : p ≡ q = some_is p q (ap (λ (x : NodeEntry C). x.plan) m-is ∙ is) in
+            let r = each_in (WaitsIfGuarded nodes) (node_edges p) e waits (subst (λ x. In (node_edges x) e) (sym q-is) inside) guarded in
+            elim (equal_or e.node i) [
+              | inl self ↦ inr (subst (λ l. LeadsBack w keys nodes' l j) (sym self) (back_to j m q (omega (arith, same)) here is (let a = ap (λ (x : NodeEntry C). x.rank) m-is in omega arith)))
+              | inr other ↦ inl (waits_now e.node r other)
+            ]
+        | inr ne ↦
+            let before = sym (others j ne) ∙ here in
+            elim (t.guards j m q e before is inside guarded) [
+              | inl r ↦ elim (equal_or e.node i) [
+                | inl self ↦ elim (below_or j i) [
+                  | inl lower ↦ let l = older j m q e lower before is inside in absurd (let a = self in omega arith)
+                  | inr upper ↦ inr (subst (λ l. LeadsBack w keys nodes' l j) (sym self) (back_to j m q upper here is (let a = last j m q now before is now_at in omega arith)))
+                ]
+                | inr other ↦ inl (waits_now e.node r other)
+              ]
+              | inr back ↦ inr (back_stays w keys keys nodes nodes' keeps e.node j back)
+            ]
+      ]
+
+    pub finished_table : IsPlanned w shape keys nodes k p → option_map view annotations ≡ annotations_of w k → GuardsSoFar w keys nodes' → IsTable w shape limit keys nodes'
+    finished_table planned annotated guards = record {
+      guards = guards;
       lengths = same_length ∙ t.lengths;
       within = t.within;
       distinct = t.distinct;
@@ -121,6 +208,23 @@ module _ {S K R C : Type 0} (w : Parts S K R) (shape : C → K) (limit : ℕ) wh
 
   pub are_filled : (keys : List (Key S)) (nodes : List (NodeEntry C)) (k : Key S) (p : NodePlan C) → IsPlanned w shape keys nodes k p → AreFilled nodes p
   are_filled keys nodes k p h = all_of (LeadsToFilled nodes) (node_edges p) (plan_edges keys nodes k p (plan w k) h.plans)
+
+-- the edges of a table lead to numbers of the table, and those of numbers that were there still do
+module _ {S K R C : Type 0} (w : Parts S K R) (shape : C → K) (limit : ℕ) where
+  edges_within : (keys : List (Key S)) (nodes : List (NodeEntry C)) → IsTable w shape limit keys nodes → (j : ℕ) (m : NodeEntry C) (q : NodePlan C) (e : NodeEdge) → slice_get nodes j ≡ Some m → m.plan ≡ Some q → In (node_edges q) e → e.node < length nodes
+  edges_within keys nodes t j m q e at formed inside =
+      let l = t.lengths in
+      let k = there keys j (let a = slice_get_within nodes j m at in omega arith) in
+      (each_in (LeadsToFilled nodes) (node_edges q) e (plan_edges w shape limit keys nodes k.0 q (plan w k.0) ((t.stands j k.0 m k.1 at).planned q formed).plans) inside).within
+
+  pub edges_older : (keys : List (Key S)) (nodes nodes' nodes'' : List (NodeEntry C)) (n : NodeEntry C) → IsTable w shape limit keys nodes → nodes' ≡ nodes ++ n ∷ []
+      → ((j : ℕ) (m : NodeEntry C) → slice_get nodes' j ≡ Some m → slice_get nodes'' j ≡ Some m)
+      → (j : ℕ) (m : NodeEntry C) (q : NodePlan C) (e : NodeEdge) → j < length nodes → slice_get nodes'' j ≡ Some m → m.plan ≡ Some q → In (node_edges q) e → e.node < length nodes
+  edges_older keys nodes nodes' nodes'' n t added stay j m q e lt at formed inside =
+      let old = there nodes j lt in
+      let kept = stay j old.0 (subst (λ (ns : List (NodeEntry C)). slice_get ns j ≡ Some old.0) (sym added) (get-append nodes (n ∷ []) j old.0 old.1)) in
+      let same : old.0 ≡ m = some_is old.0 m (sym kept ∙ at) in
+      edges_within keys nodes t j m q e (old.1 ∙ ap Some same) formed inside
 
 -- the number of a key that was reserved
 pub numbered_after : {S : Type 0} (keys keys' keys'' added : List (Key S)) (k : Key S) (n : ℕ) → n ≡ length keys → keys' ≡ keys ++ k ∷ [] → keys'' ≡ keys' ++ added → slice_get keys'' n ≡ Some k

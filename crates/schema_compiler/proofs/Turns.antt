@@ -8,6 +8,7 @@ use Rattle.schema_reports.specs.Parts.{Parts}
 use Rattle.schema_reports.specs.Making.{Made, Making, Request, Script, a_keyword, after_request, compile, followed, nothing, refer, refused, then_compile, then_end, then_refer}
 use Rattle.schema_reports.specs.Plan.{Edge, Key, found, is_self, part_made, requested, subschema, to_ref, option_list}
 use Rattle.schema_reports.specs.Reach.{maker_edges}
+use Rattle.schema_reports.specs.Units.{absorbed_by}
 use Rattle.schema_compiler.specs.declared.compiler.error.BuildError.{BuildError}
 use Rattle.schema_compiler.specs.Refusing.{Refused}
 use Rattle.schema_compiler.proofs.References.{asked_not_self, leads_none, leads_some, skipped_self}
@@ -20,6 +21,8 @@ use Rattle.schema_node.specs.MakerViews.{IsStepOf, TakesTurn, Told, Waiting, a_s
 use Rattle.schema_node.specs.declared.context.table.MakerStep.{MakerStep}
 use Rattle.schema_node.specs.declared.context.table.MakerStep.TheVariants.{Compile, Refer, Keyword, Nothing, Refuse}
 use Rattle.schema_compiler.specs.Compiling.{Each, answers, reference_asked}
+use Rattle.schema_compiler.specs.Guarding.{WaitsIfGuarded}
+use Rattle.schema_compiler.proofs.Guarding.{waits_stay}
 use Rattle.schema_compiler.specs.Filling.{AreChildren, IsMadePart, IsStep, IsTable, LeadsTo}
 use Rattle.schema_compiler.proofs.Lists.{each_append, length-more}
 use Rattle.schema_compiler.proofs.Growing.{children_stay, edges_stay, grown_stays, refused_first, refused_later, step_none, step_then}
@@ -142,20 +145,21 @@ module _ {S K R C : Type 0} (w : Parts S K R) (shape : C → K) (limit : ℕ) (k
     pub so_far : making ≡ after requests (followed (is_self w k to_ref) (resumed waiting told))
     pub children : AreChildren w keys' k name es requests
     pub edges : Each (LeadsToFilled nodes') (filter_map (λ (o : Option NodeEdge). o) es)
+    pub waits : Each (WaitsIfGuarded nodes') (filter_map (λ (o : Option NodeEdge). o) es)
     pub steps : IsStep w shape limit (edges_of requests) (causes_of requests) keys keys' nodes nodes'
 
   pub asked_begun : (making : Making K) (s : Script K) (waiting : Waiting K) (keys : List (Key S)) (nodes : List (NodeEntry C)) → making ≡ followed (is_self w k to_ref) s → waiting ≡ begun s → IsTable w shape limit keys nodes
       → Asked making waiting nothing_yet [] keys keys nodes nodes
-  asked_begun making s waiting keys nodes e f t = rw f (record { requests = []; due = refl; so_far = e; children = tt; edges = tt; steps = step_none w shape limit keys nodes t })
+  asked_begun making s waiting keys nodes e f t = rw f (record { requests = []; due = refl; so_far = e; children = tt; edges = tt; waits = tt; steps = step_none w shape limit keys nodes t })
 
   pub asked_next : (making : Making K) (waiting waiting' : Waiting K) (told told' : Told) (es : Children) (keys keys' keys'' : List (Key S)) (nodes nodes' nodes'' : List (NodeEntry C)) (r : Request) (o : Option NodeEdge)
       → (a : Asked making waiting told es keys keys' nodes nodes')
       → followed (is_self w k to_ref) (resumed waiting told) ≡ after_request r (followed (is_self w k to_ref) (resumed waiting' told'))
       → IsDue waiting' told' (suc (length a.requests))
-      → LeadsTo w keys'' o (requested w k name r) → Each (LeadsToFilled nodes'') (option_list o)
+      → LeadsTo w keys'' o (requested w k name r) → Each (LeadsToFilled nodes'') (option_list o) → Each (WaitsIfGuarded nodes'') (option_list o)
       → IsStep w shape limit (option_list (requested w k name r)) (request_causes w k r) keys' keys'' nodes' nodes''
       → Asked making waiting' told' (es ++ o ∷ []) keys keys'' nodes nodes''
-  asked_next making waiting waiting' told told' es keys keys' keys'' nodes nodes' nodes'' r o a e due leads edge step =
+  asked_next making waiting waiting' told told' es keys keys' keys'' nodes nodes' nodes'' r o a e due leads edge wait step =
       let stays = grown_stays _ keys' keys'' nodes' nodes'' a.steps.table.lengths step.table.lengths step.grown in
       let f = followed (is_self w k to_ref) (resumed waiting' told') in
       record {
@@ -165,6 +169,8 @@ module _ {S K R C : Type 0} (w : Parts S K R) (shape : C → K) (limit : ℕ) (k
         children = children_more keys'' es a.requests o r (children_stay w shape keys' keys'' nodes' nodes'' stays k name es a.requests a.children) leads;
         edges = subst (Each (LeadsToFilled nodes'')) (sym (filter_map-append (λ (x : Option NodeEdge). x) es (o ∷ []) ∙ ap (λ xs. filter_map (λ (x : Option NodeEdge). x) es ++ xs) (filter_map-one (λ (x : Option NodeEdge). x) o)))
             (each_append (LeadsToFilled nodes'') (filter_map (λ (x : Option NodeEdge). x) es) (option_list o) (edges_stay w shape keys' keys'' nodes' nodes'' stays (filter_map (λ (x : Option NodeEdge). x) es) a.edges) edge);
+        waits = subst (Each (WaitsIfGuarded nodes'')) (sym (filter_map-append (λ (x : Option NodeEdge). x) es (o ∷ []) ∙ ap (λ xs. filter_map (λ (x : Option NodeEdge). x) es ++ xs) (filter_map-one (λ (x : Option NodeEdge). x) o)))
+            (each_append (WaitsIfGuarded nodes'') (filter_map (λ (x : Option NodeEdge). x) es) (option_list o) (waits_stay nodes' nodes'' step.grown.stay (filter_map (λ (x : Option NodeEdge). x) es) a.waits) wait);
         steps = subst (λ xs. IsStep w shape limit xs (causes_of (a.requests ++ r ∷ [])) keys keys'' nodes nodes'') (sym (filter_map-append (requested w k name) a.requests (r ∷ []) ∙ ap (λ xs. edges_of a.requests ++ xs) (filter_map-one (requested w k name) r)))
             (subst (λ xs. IsStep w shape limit (edges_of a.requests ++ option_list (requested w k name r)) xs keys keys'' nodes nodes'') (sym (flat_map-append (request_causes w k) a.requests (r ∷ []) ∙ ap (λ xs. causes_of a.requests ++ xs) (flat_map-one (request_causes w k) r)))
             (step_then w shape limit (edges_of a.requests) (option_list (requested w k name r)) (causes_of a.requests) (request_causes w k r) keys keys' keys'' nodes nodes' nodes'' a.steps step));
@@ -174,23 +180,23 @@ module _ {S K R C : Type 0} (w : Parts S K R) (shape : C → K) (limit : ℕ) (k
 
   pub asked_compile : (making : Making K) (waiting waiting' : Waiting K) (told : Told) (es : Children) (keys keys' keys'' : List (Key S)) (nodes nodes' nodes'' : List (NodeEntry C)) (path : Place) (e : NodeEdge) (n : ℕ)
       → Asked making waiting told es keys keys' nodes nodes' → TakesTurn shape waiting told (Compile path) waiting' → n ≡ length es
-      → LeadsTo w keys'' (Some e) (subschema w k path) → LeadsToFilled nodes'' e
+      → LeadsTo w keys'' (Some e) (subschema w k path) → LeadsToFilled nodes'' e → WaitsIfGuarded nodes'' e
       → IsStep w shape limit (option_list (subschema w k path)) (request_causes w k (compile path)) keys' keys'' nodes' nodes''
       → Asked making waiting' (the_number n) (es ++ Some e ∷ []) keys keys'' nodes nodes''
-  asked_compile making waiting waiting' told es keys keys' keys'' nodes nodes' nodes'' path e n a takes count leads edge step =
+  asked_compile making waiting waiting' told es keys keys' keys'' nodes nodes' nodes'' path e n a takes count leads edge wait step =
       let st = compile_step shape (length a.requests) (resumed waiting told) path waiting' (due_step shape waiting told (length a.requests) (Compile path) waiting' a.due takes) in
       let same : n ≡ length a.requests = count ∙ children_length keys' es a.requests a.children in
       asked_next making waiting waiting' told (the_number n) es keys keys' keys'' nodes nodes' nodes'' (compile path) (Some e) a
       (ap (λ s. followed (is_self w k to_ref) s) st.1 ∙ ap (λ x. after_request (compile path) (followed (is_self w k to_ref) (resumed x (the_number n)))) (sym st.2))
       (subst (λ x. IsDue x (the_number n) (suc (length a.requests))) (sym st.2) (same, refl))
-      leads (edge, tt) step
+      leads (edge, tt) (wait, tt) step
 
   pub asked_refer : (making : Making K) (waiting waiting' : Waiting K) (told told' : Told) (es : Children) (keys keys' keys'' : List (Key S)) (nodes nodes' nodes'' : List (NodeEntry C)) (text : String Global) (o : Option NodeEdge) (n : ℕ)
       → Asked making waiting told es keys keys' nodes nodes' → TakesTurn shape waiting told (Refer text) waiting' → n ≡ length es → told' ≡ answers o n
-      → LeadsTo w keys'' o (reference_asked w k name to_ref (string_bytes text)) → Each (LeadsToFilled nodes'') (option_list o)
+      → LeadsTo w keys'' o (reference_asked w k name to_ref (string_bytes text)) → Each (LeadsToFilled nodes'') (option_list o) → Each (WaitsIfGuarded nodes'') (option_list o)
       → IsStep w shape limit (option_list (reference_asked w k name to_ref (string_bytes text))) (lookup_causes w (found w k to_ref (string_bytes text))) keys' keys'' nodes' nodes''
       → Asked making waiting' told' (es ++ o ∷ []) keys keys'' nodes nodes''
-  asked_refer making waiting waiting' told told' es keys keys' keys'' nodes nodes' nodes'' text None n a takes count is leads edge step =
+  asked_refer making waiting waiting' told told' es keys keys' keys'' nodes nodes' nodes'' text None n a takes count is leads edge wait step =
       let st = refer_step shape (length a.requests) (resumed waiting told) text waiting' (due_step shape waiting told (length a.requests) (Refer text) waiting' a.due takes) in
       let self = skipped_self w k name to_ref (string_bytes text) step.clean (leads_none w keys'' _ leads) in
       subst (λ t. Asked making waiting' t (es ++ None ∷ []) keys keys'' nodes nodes'') (sym is) (asked_next making waiting waiting' told a_skip es keys keys' keys'' nodes nodes' nodes'' (refer (string_bytes text)) None a
@@ -198,8 +204,8 @@ module _ {S K R C : Type 0} (w : Parts S K R) (shape : C → K) (limit : ℕ) (k
       ∙ ap (λ b. after_request (refer (string_bytes text)) (cond b (followed (is_self w k to_ref) st.1) (followed (is_self w k to_ref) st.0))) self
       ∙ ap (λ x. after_request (refer (string_bytes text)) (followed (is_self w k to_ref) (resumed x a_skip))) (sym st.3))
       (subst (λ x. IsDue x a_skip (suc (length a.requests))) (sym st.3) refl)
-      leads edge step)
-  asked_refer making waiting waiting' told told' es keys keys' keys'' nodes nodes' nodes'' text (Some e) n a takes count is leads edge step =
+      leads edge wait step)
+  asked_refer making waiting waiting' told told' es keys keys' keys'' nodes nodes' nodes'' text (Some e) n a takes count is leads edge wait step =
       let st = refer_step shape (length a.requests) (resumed waiting told) text waiting' (due_step shape waiting told (length a.requests) (Refer text) waiting' a.due takes) in
       let same : n ≡ length a.requests = count ∙ children_length keys' es a.requests a.children in
       let self = asked_not_self w k name to_ref (string_bytes text) (leads_some w keys'' e _ leads) in
@@ -208,7 +214,7 @@ module _ {S K R C : Type 0} (w : Parts S K R) (shape : C → K) (limit : ℕ) (k
       ∙ ap (λ b. after_request (refer (string_bytes text)) (cond b (followed (is_self w k to_ref) st.1) (followed (is_self w k to_ref) st.0))) self
       ∙ ap (λ x. after_request (refer (string_bytes text)) (followed (is_self w k to_ref) (resumed x (the_number n)))) (sym st.3))
       (subst (λ x. IsDue x (the_number n) (suc (length a.requests))) (sym st.3) (same, refl))
-      leads edge step)
+      leads edge wait step)
 
   -- ---- how a maker ends
 
@@ -244,6 +250,20 @@ module _ {S K R C : Type 0} (w : Parts S K R) (shape : C → K) (limit : ℕ) (k
         subst (λ f. IsMadePart w keys' shape nodes' k (Some (record { name = name; priority = priority; is_leaf = leaf; form = node_keyword m es })) (part_made w name priority leaf f)) (sym (ended_by making waiting told es keys keys' nodes nodes' _ a e))
             (record { name = refl; priority = refl; is_leaf = refl; form = (refl, a.children); edges = a.edges }),
       )
+
+  -- ---- the names that the keyword absorbs
+
+  pub absorbed_nothing : (making : Making K) (waiting waiting' : Waiting K) (told : Told) (es : Children) (keys keys' : List (Key S)) (nodes nodes' : List (NodeEntry C)) (priority : ℕ) (leaf : Bool)
+      → (a : Asked making waiting told es keys keys' nodes nodes') → TakesTurn shape waiting told Nothing waiting' → absorbed_by (part_made w name priority leaf making) ≡ []
+  absorbed_nothing making waiting waiting' told es keys keys' nodes nodes' priority leaf a takes =
+      let e = nothing_step shape (length a.requests) (resumed waiting told) waiting' (due_step shape waiting told (length a.requests) Nothing waiting' a.due takes) in
+      ap (λ f. absorbed_by (part_made w name priority leaf f)) (ended_by making waiting told es keys keys' nodes nodes' nothing a e)
+
+  pub absorbed_keyword : (making : Making K) (waiting waiting' : Waiting K) (told : Told) (es : Children) (keys keys' : List (Key S)) (nodes nodes' : List (NodeEntry C)) (priority : ℕ) (leaf : Bool) (m : C) (names : Vec (String Global) Global)
+      → (a : Asked making waiting told es keys keys' nodes nodes') → TakesTurn shape waiting told (Keyword m names) waiting' → absorbed_by (part_made w name priority leaf making) ≡ map string_bytes names.items
+  absorbed_keyword making waiting waiting' told es keys keys' nodes nodes' priority leaf m names a takes =
+      let e = keyword_step shape (length a.requests) (resumed waiting told) m names waiting' (due_step shape waiting told (length a.requests) (Keyword m names) waiting' a.due takes) in
+      ap (λ f. absorbed_by (part_made w name priority leaf f)) (ended_by making waiting told es keys keys' nodes nodes' _ a e)
 
   -- ---- refusals on the way
 

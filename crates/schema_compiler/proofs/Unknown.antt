@@ -1,5 +1,5 @@
 -- The members that no keyword is made of, gathered one by one in the order of their names.
-use Rattle.std.proofs.Common.{◌≡◌, Bool, true, false, List, [], ◌∷◌, ◌++◌, Less, Greater, string_bytes, string_cmp, nat_cmp, cond, refl, sym, ap, ◌∙◌}
+use Rattle.std.proofs.Common.{◌≡◌, Bool, true, false, List, [], ◌∷◌, ◌++◌, Less, Greater, string_bytes, string_cmp, nat_cmp, cond, refl, sym, ap, ◌∙◌, append_assoc}
 use Rattle.std.specs.Prelude.{Option, Some, None}
 use Rattle.std.specs.List.{AllByRecursion}
 use Rattle.std.specs.List.Sorted.{IsStrictlySortedBy}
@@ -7,13 +7,14 @@ use Rattle.std.specs.Map.{keys_of}
 use Rattle.std.specs.Cmp.Lexicographic.{slice_cmp}
 use Rattle.std.specs.Ordering.{ordering_reverse}
 use Rattle.std.proofs.lemmas.Cmp.{nat_list_cmp_total}
+use Rattle.std.proofs.lemmas.List.{append-nil}
 use Rattle.serde_json.specs.Data.{Data, Members, no_members, member, put}
 use Rattle.serde_json.specs.View.{view, members_view}
 use Rattle.serde_json.proofs.Views.{Entry}
 use Rattle.schema_reports.specs.Instance.{Text}
 use Rattle.schema_reports.specs.Parts.{Parts}
 use Rattle.schema_reports.specs.Plan.{Key, Part, part}
-use Rattle.schema_reports.specs.Units.{unknown}
+use Rattle.schema_reports.specs.Units.{absorbed_by, absorbed_in, unknown}
 use Rattle.schema_reports.specs.Guarded.{NodePart}
 use Rattle.schema_node.specs.NodeTable.{NodeEntry}
 use Rattle.schema_compiler.specs.Filling.{IsMadePart}
@@ -51,6 +52,16 @@ module _ {S K R : Type 0} (w : Parts S K R) (k : Key S) (whole : Members) where
       let b = known (string_bytes first.0) in
       put_over o b (string_bytes first.0) (string_bytes e.0) (view first.1) (view e.1) (unknown w k whole (members_view done)) above
       ∙ ap (with_member o b (string_bytes first.0) (view first.1)) (unknown_last done e more h.1 is)
+
+  -- the names that are absorbed, with one member more
+  absorbed_more : (done : List Entry) (e : Entry) → absorbed_in w k whole (members_view (done ++ e ∷ [])) ≡ absorbed_in w k whole (members_view done) ++ absorbed_by (part w k whole (string_bytes e.0) (view e.1))
+  absorbed_more [] e = append-nil (absorbed_by (part w k whole (string_bytes e.0) (view e.1)))
+  absorbed_more (first ∷ done) e = let own = absorbed_by (part w k whole (string_bytes first.0) (view first.1)) in
+      ap (λ (names : List Text). own ++ names) (absorbed_more done e) ∙ sym (append_assoc own (absorbed_in w k whole (members_view done)) (absorbed_by (part w k whole (string_bytes e.0) (view e.1))))
+
+  pub more_absorbed : (done : List Entry) (e : Entry) (old new : List Text) → old ≡ absorbed_in w k whole (members_view done)
+      → new ≡ old ++ absorbed_by (part w k whole (string_bytes e.0) (view e.1)) → new ≡ absorbed_in w k whole (members_view (done ++ e ∷ []))
+  more_absorbed done e old new is added = added ∙ ap (λ (names : List Text). names ++ absorbed_by (part w k whole (string_bytes e.0) (view e.1))) is ∙ sym (absorbed_more done e)
 
   -- a member that is made into a keyword is none of them
   pub made_known : {C : Type 0} (shape : C → K) (keys : List (Key S)) (nodes : List (NodeEntry C)) (x : NodePart C) (done : List Entry) (e : Entry) (old : Members)

@@ -11,12 +11,12 @@ use Rattle.schema_reports.specs.Parts.{Parts}
 use Rattle.schema_reports.specs.Plan.{Edge, Key, Reference, found, is_self, making, part, part_made, parts, plan, plan_of as plan_of_schema, reference_edge, reference_part, sorted, subschema, option_list}
 use Rattle.schema_reports.specs.Reach.{Reached, asked_edges, maker_edges, members_edges, reference_edges}
 use Rattle.schema_reports.specs.Refusals.{Cause, causes, lookup_causes, maker_causes, members_causes, reference_causes, request_causes, schema_causes, undeclared}
-use Rattle.schema_reports.specs.Units.{annotations_of, object_annotations, unknown}
+use Rattle.schema_reports.specs.Units.{absorbed_by, annotating, annotations_of, object_annotations}
 use Rattle.schema_reports.specs.Guarded.{NodeEdge, NodePart, NodePlan}
 use Rattle.schema_node.specs.NodeTable.{NodeEntry}
 use Rattle.schema_compiler.specs.KeyViews.{key_of}
 use Rattle.schema_compiler.specs.Options.{given_parts}
-use Rattle.schema_compiler.specs.Compiling.{StandsBelow, member_causes, member_edges, object_edges, reference_asked, resolving_parts}
+use Rattle.schema_compiler.specs.Compiling.{StandsBelow, member_causes, member_edges, object_edges, reference_asked}
 use Rattle.schema_compiler.specs.Refusing.{IsRefusal, Refused}
 use Rattle.schema_compiler.specs.Filling.{IsPlanned, IsTable}
 use Rattle.schema_compiler.specs.Steps.{IsAnswered, IsEdgeTo, IsNumbered, MakesPart, MakesParts, MakesPlan}
@@ -44,10 +44,6 @@ task resolving owned script shape g = record {
   limit = g.options.now.node_limit;
 }
 
--- what is given, as far as the resolver alone decides it
-abbrev pub resolver_parts : {R T S : Type 0} → (R → Resolver S) → Given R T → Parts S (Unit {0}) (Unit {0})
-resolver_parts resolving g = resolving_parts (resolving g.resolver.now)
-
 -- a reference leads to this key; to none where it is skipped
 abbrev pub LeadsBy : {S K R P : Type 0} → Parts S K R → (P → S) → Key S → Reference → Text → Option (SchemaKey P) → Type 0
 LeadsBy w point k kind text o = MatchOption o (is_self w k kind text ≡ true)
@@ -69,6 +65,13 @@ module _ {S K C : Type 0} (g : Task S K C) where
       (λ t. (is_self g.parts k kind text ≡ false)
       × ((name : Text) → reference_edge g.parts k name kind text ≡ Some (record { key = key_of point t; path = joined [] name; is_reference = true }))
       × (lacking t.vocabularies ≡ []))
+
+  -- the names that a member's keyword absorbs, and those that the keyword which a maker makes absorbs
+  abbrev pub member_absorbs : Key S → Members → Text → Data → List Text
+  member_absorbs k ms name value = absorbed_by (part g.parts k ms name value)
+
+  abbrev pub keyword_absorbs : Key S → Members → Bool → Text → ℕ → Bool → List Text
+  keyword_absorbs k ms own name priority is_leaf = absorbed_by (part_made g.parts name priority is_leaf (making g.parts k ms own name))
 
   -- why no target is found, or is refused: said for whatever name and keys go with it
   abbrev pub RefusesTarget : Key S → Reference → Text → BuildError → Type 0
@@ -144,9 +147,9 @@ module _ {S K C : Type 0} (g : Task S K C) (t : Table S C) where
     abbrev pub PlansObject : Members → NodePlan C → Option Data → Type 0
     PlansObject ms p annotations = MakesPlan g.parts g.shape g.limit t.keys t'.keys t.nodes t'.nodes (object_edges g.parts k ms) (schema_causes g.parts k (object ms)) k p (plan_of_schema g.parts k (object ms)) annotations (object_annotations g.parts k ms)
 
-    -- these are the keywords of the members, and those of which no keyword is made
+    -- these are the keywords of the members, and those that become annotations
     abbrev pub MakesMembers : Members → List (NodePart C) → Members → Type 0
-    MakesMembers ms xs left = MakesParts g.parts g.shape g.limit t.keys t'.keys t.nodes t'.nodes (members_edges g.parts k ms ms) (members_causes g.parts k ms ms) k xs (sorted (parts g.parts k ms ms)) left (unknown g.parts k ms ms)
+    MakesMembers ms xs left = MakesParts g.parts g.shape g.limit t.keys t'.keys t.nodes t'.nodes (members_edges g.parts k ms ms) (members_causes g.parts k ms ms) k xs (sorted (parts g.parts k ms ms)) left (annotating g.parts k ms)
 
     -- this is the keyword of one member, if it is one
     abbrev pub MakesMember : Members → Text → Data → Option (NodePart C) → Type 0

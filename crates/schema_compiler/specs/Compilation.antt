@@ -15,6 +15,7 @@ use Rattle.schema_reports.specs.ReportViews.{owned_error_of}
 use Rattle.schema_reports.specs.Guarded.{NodePlan}
 use Rattle.schema_reports.specs.Numbered.{AreNumbered, Ranked}
 use Rattle.schema_node.specs.NodeTable.{NodeEntry, numbered}
+use Rattle.schema_compiler.specs.Guarding.{GuardsWaysBack}
 use Rattle.schema_compiler.specs.declared.compiler.error.BuildError.{BuildError}
 use Rattle.schema_compiler.specs.declared.compiler.error.BuildError.TheVariants.{KeywordRefused, Lookup, MetaSchema, MissingRoot, NodeLimit, NotASchema, OutOfMemory, ReferenceNotText, UnsupportedVocabulary}
 
@@ -47,6 +48,8 @@ module _ {S K R : Type 0} (w : Parts S K R) where
     pub sound : All (Reached w root) keys
     pub within : length keys ≤ limit
     pub compiles : Compiles w root
+    -- the root's number leads down to every number, and a guarded edge leads back up
+    pub guards : GuardsWaysBack w keys nodes 0
 
   -- a refusal shows a cause that stands; one for the limit says that more keys are reached; want of memory says nothing
   abbrev pub RefusesRoot : ℕ → Key S → BuildError → Type 0

@@ -5,7 +5,7 @@ use Rattle.schema_reports.specs.Instance.{Text}
 use Rattle.schema_reports.specs.Matching.{Matcher, finished}
 use Rattle.schema_reports.specs.Resolving.{Resolver}
 use Rattle.schema_reports.specs.Making.{Table, nothing, then_end}
-use Rattle.schema_reports.specs.Keywords.{Keywords, done}
+use Rattle.schema_reports.specs.Keywords.{Keywords, done, for_verdict}
 use Rattle.schema_reports.specs.Parts.{Parts}
 use Rattle.schema_reports.specs.Guarded.{NodeEdge}
 use Rattle.schema_node.specs.MakerViews.{Told, a_skip, the_number}
@@ -35,12 +35,12 @@ no_keywords = record {
   may_ask = λ m s. [];
   holds = λ m s matching ask. true;
   faults = λ m s matching answers. [];
-  units = λ m s matching ask. record { children = []; annotations = None; errors = []; absorbed = [] };
+  units = λ m s matching ask. record { valid = true; children = []; annotations = None; errors = []; absorbed = [] };
   most_turns = λ m s. 0;
   begin = λ m s mode. tt;
   turn = λ m s r reply. tt;
   step = λ m s r reply. done;
-  answer = λ r. record { verdict = true; errors = []; gives = record { children = []; annotations = None; errors = []; absorbed = [] } };
+  answer = λ r. record { mode = for_verdict; verdict = true; errors = []; gives = record { valid = true; children = []; annotations = None; errors = []; absorbed = [] } };
 }
 
 abbrev pub parts_of : {S K : Type 0} → Resolver S → Table K → Option Bool → List Text → Parts S K (Unit {0})

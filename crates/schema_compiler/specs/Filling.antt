@@ -1,6 +1,6 @@
 -- The table of keys and nodes while it is filled: what a number's node says of its key, and how the table grows.
 use Rattle.std.specs.List.{starts_with}
-use Rattle.std.specs.Prelude.{List, None, Option, Some, [], codes, if◌then◌else◌, length, option_map, slice_get, slice_set, ℕ, ◌++◌, ◌==◌, ◌∷◌, ◌≡◌, ◌≤◌}
+use Rattle.std.specs.Prelude.{List, None, Option, Some, [], codes, if◌then◌else◌, length, option_map, slice_get, slice_set, ℕ, ◌++◌, ◌==◌, ◌∷◌, ◌≡◌, ◌<◌, ◌≤◌}
 use Rattle.schema_reports.specs.Instance.{Text}
 use Rattle.schema_reports.specs.Parts.{Parts}
 use Rattle.schema_reports.specs.Plan.{Edge, Form, Key, Part, Plan, always, keyword, never, plan, reference, reference_edge, these, without_fragment, requested}
@@ -12,6 +12,7 @@ use Rattle.schema_reports.specs.Refusals.{Cause, causes}
 use Rattle.schema_reports.specs.Guarded.{NodeEdge, NodeForm, NodePart, NodePlan, form_edges, node_always, node_keyword, node_never, node_reference, node_these, Children}
 use Rattle.schema_node.specs.NodeTable.{LeadsToFilled, NodeEntry}
 use Rattle.schema_compiler.specs.Compiling.{Each, ReachedFrom, Settled}
+use Rattle.schema_compiler.specs.Guarding.{DownFrom, GuardsSoFar}
 use Rattle.schema_compiler.specs.Refusing.{AreDistinct}
 
 module _ {S K R : Type 0} (w : Parts S K R) where
@@ -87,6 +88,8 @@ module _ {S K R : Type 0} (w : Parts S K R) where
       pub within : length keys ≤ limit
       pub distinct : AreDistinct keys
       pub stands : (i : ℕ) (k : Key S) (n : NodeEntry C) → slice_get keys i ≡ Some k → slice_get nodes i ≡ Some n → IsNode keys nodes k n
+      -- a guarded edge leads to a number that waits for its form, or back up
+      pub guards : GuardsSoFar w keys nodes
 
 -- numbers stay, a node that has its form keeps it, and what came since has its form and is one of these keys
 pub record IsGrown {S C : Type 0} (P : Key S → Type 0) (keys keys' : List (Key S)) (nodes nodes' : List (NodeEntry C)) : Type 0 where
@@ -100,6 +103,8 @@ pub record IsStep {S K R C : Type 0} (w : Parts S K R) (shape : C → K) (limit 
   pub grown : IsGrown (ReachedFrom w es) keys keys' nodes nodes'
   pub settled : Each (Settled w keys') es
   pub clean : cs ≡ []
+  -- what these edges ask for leads down to each number that came
+  pub down : (i : ℕ) → length keys ≤ i → i < length keys' → DownFrom w keys' nodes' es i
 
 -- a number has got a form, and nothing else has changed
 abbrev pub Finishes : {C : Type 0} → List (NodeEntry C) → ℕ → List (NodeEntry C) → Type 0

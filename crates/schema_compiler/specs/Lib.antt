@@ -1,13 +1,16 @@
 pub mod KeyViews
 pub mod KeyHashes
 pub mod Compiling
+pub mod Referring
 pub mod Ordering
 pub mod Refusing
+pub mod Guarding
 pub mod Filling
 pub mod Steps
 pub mod Options
 pub mod Carried
 pub mod Compilation
+pub mod Rows
 pub mod Builtins
 pub mod Dialects
 pub mod Readings

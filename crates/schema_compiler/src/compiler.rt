@@ -4,7 +4,8 @@
 //! What it is given is in `given`, what it fills in `compiled`; `context` says what draft, vocabularies and options decide where
 //! a schema stands. Its steps are in `vocabularies`, `values`, `makers`, `subschema`, `targets` (over the references of `ref_`
 //! and `start`), `entries` and `annotations`.
-ghost use Rattle.std.specs.Prelude.{IfErr, IfOk, Option, map, option_map, string_bytes};
+ghost use Rattle.std.specs.Prelude.{◌≡◌, ◌++◌, IfErr, IfOk, Option, Some, map, option_map, string_bytes};
+ghost use Rattle.serde_json.specs.Data.{object};
 ghost use Rattle.serde_json.specs.View.{members_view, view};
 ghost use Rattle.schema_reports.specs.Instance.{Text};
 ghost use Rattle.schema_reports.specs.Drafts as drafts;
@@ -17,19 +18,20 @@ ghost use Rattle.schema_compiler.specs.Builtins.{builtin};
 ghost use Rattle.schema_compiler.specs.Readings.{IsReading};
 ghost use Rattle.schema_compiler.specs.Compilation.{IsCompilation, RefusesRoot, all_parts};
 ghost use Rattle.schema_compiler.specs.Carried.{AnswersChild, AnswersReference, IsWell, LeadsToKey};
-ghost use Rattle.schema_compiler.specs.Carried.{MakesKeyword, MakesMember, MakesMembers, MakesReference};
+ghost use Rattle.schema_compiler.specs.Carried.{MakesKeyword, MakesMember, MakesMembers};
 ghost use Rattle.schema_compiler.specs.Carried.{Numbers, PlansNode, PlansObject, RefusesChild, RefusesEdge};
 ghost use Rattle.schema_compiler.specs.Carried.{RefusesKey, RefusesMaker, RefusesMember, RefusesMembers};
-ghost use Rattle.schema_compiler.specs.Carried.{RefusesNode, RefusesObject, RefusesReference, filled, task};
+ghost use Rattle.schema_compiler.specs.Carried.{RefusesNode, RefusesObject, filled, task};
+ghost use Rattle.schema_compiler.specs.Carried.{keyword_absorbs, member_absorbs};
 
-use crate::compiler::annotations::object_of;
+use crate::compiler::annotations::{absorb, object_of, without};
 use crate::compiler::compiled::{Compiled, PlannedNode};
 use crate::compiler::context::Context;
 use crate::compiler::entries::{entry_named, insert_by_priority, node_alone};
 use crate::compiler::error::BuildError;
 use crate::compiler::given::{CompileOptions, Given};
 use crate::compiler::key::SchemaKey;
-use crate::compiler::keys::{Keys, find};
+use crate::compiler::keys::find;
 use crate::compiler::makers::keep_edge;
 use crate::compiler::values::Reading;
 use crate::ref_::{ReferenceKind, reference_kind};
@@ -37,16 +39,17 @@ use schema_node::context::keyword::Validate;
 use schema_node::context::resolver::Resolver;
 use schema_node::context::schema_place::SchemaPath;
 use schema_node::context::table::{KeywordTable, MakerReply, MakerStep};
-use schema_node::node::{Edge, Entry, EntryForm, NodeForm, Nodes};
+use schema_node::node::{Edge, Entry, EntryForm, NodeForm};
 use schema_reports::keywords::priorities::{CUSTOM_PRIORITY, REF_PRIORITY};
 use schema_reports::location::{Location, LocationSegment};
 use serde_json::{Map, Value};
 use std::alloc::Global;
+use std::rc::Rc;
 
 mod annotations;
 pub mod compiled;
 pub mod context;
-mod entries;
+pub(crate) mod entries;
 pub mod error;
 pub mod given;
 pub mod key;
@@ -96,10 +99,7 @@ pub fn compile<R: Resolver, K: Validate, T: KeywordTable<K>>(
         options,
     };
     given.check_declared(&root.vocabularies)?;
-    let mut compiled = Compiled {
-        keys: Keys::new(alloc),
-        nodes: Nodes::new(alloc),
-    };
+    let mut compiled = Compiled::new(alloc);
     let path = Location::new(alloc);
     given.edge_to(&mut compiled, root, Reading::Unread, path)?;
     // (the call says that the table is ranked)
@@ -108,11 +108,11 @@ pub fn compile<R: Resolver, K: Validate, T: KeywordTable<K>>(
     Ok(compiled)
 }
 
-// The keywords of an object, by their priorities, and the members that no keyword is made of.
+// The keywords of an object, by their priorities, and the members that become annotations.
 #[derive(Drop)]
 struct ObjectKeywords<K> {
     entries: Vec<Entry<K>>,
-    unknown: Map<String, Value>,
+    annotating: Map<String, Value>,
 }
 
 impl<'p, R: Resolver, T> Given<'p, R, T> {
@@ -139,9 +139,8 @@ impl<'p, R: Resolver, T> Given<'p, R, T> {
             (RefusesKey (task R.resolving T.owned T.script K.shape self.now)
             (filled R.point compiled.old) (key_of R.point key)) }
     {
-        let number = self.number_of(compiled, &key, reading);
-        drop(key);
-        Ok(compiled.edge_at(number?, path))
+        let number = self.number_of(compiled, key, reading)?;
+        Ok(compiled.edge_at(number, path))
     }
 
     // The number of a key, which is compiled first where it has none.
@@ -149,7 +148,7 @@ impl<'p, R: Resolver, T> Given<'p, R, T> {
     fn number_of<K: Validate>(
         &self,
         compiled: &mut Compiled<R::State, K>,
-        key: &SchemaKey<R::State>,
+        key: SchemaKey<R::State>,
         reading: Reading<'p>,
     ) -> Result<usize, BuildError>
     where
@@ -157,18 +156,19 @@ impl<'p, R: Resolver, T> Given<'p, R, T> {
         requires table { IsWell (task R.resolving T.owned T.script K.shape self.now)
             (filled R.point compiled.old) }
         requires reading { IsReading
-            ((R.resolving self.now.resolver.now).value (place_of key.now.place)) reading }
+            ((R.resolving self.now.resolver.now).value (place_of key.place)) reading }
         ensures numbered { IfOk result (Numbers (task R.resolving T.owned T.script K.shape self.now)
-            (filled R.point compiled.old) (filled R.point compiled.new) (key_of R.point key.now)) }
+            (filled R.point compiled.old) (filled R.point compiled.new) (key_of R.point key)) }
         ensures refused { IfErr result
             (RefusesKey (task R.resolving T.owned T.script K.shape self.now)
-            (filled R.point compiled.old) (key_of R.point key.now)) }
+            (filled R.point compiled.old) (key_of R.point key)) }
     {
-        if let Some(number) = find::<R>(&compiled.keys, key) {
+        if let Some(number) = find::<R>(&compiled.keys, &key) {
             return Ok(number);
         }
-        let number = self.reserve_within(compiled, key)?;
-        let planned = self.planned_node(compiled, key, reading)?;
+        let shared = Rc::new(self.alloc, key)?;
+        let number = self.reserve_within(compiled, &shared)?;
+        let planned = self.planned_node(compiled, &shared, reading)?;
         compiled
             .nodes
             .fill(number, planned.form, planned.annotations);
@@ -198,6 +198,8 @@ impl<'p, R: Resolver, T> Given<'p, R, T> {
             (key_of R.point key.now)) }
     {
         let context = Context {
+            alloc: self.alloc,
+            resolver: self.resolver,
             options: self.options,
             key,
         };
@@ -217,12 +219,14 @@ impl<'p, R: Resolver, T> Given<'p, R, T> {
         &self,
         compiled: &mut Compiled<R::State, K>,
         key: &SchemaKey<R::State>,
-        members: &Map<String, Value>,
+        members: &'p Map<String, Value>,
     ) -> Result<PlannedNode<K>, BuildError>
     where
         T: KeywordTable<K>,
         requires table { IsWell (task R.resolving T.owned T.script K.shape self.now)
             (filled R.point compiled.old) }
+        requires object { (R.resolving self.now.resolver.now).value (place_of key.now.place) ≡
+            Some (object (members_view members.now.entries)) }
         ensures planned { IfOk result (λ n. PlansObject
             (task R.resolving T.owned T.script K.shape self.now) (filled R.point compiled.old)
             (filled R.point compiled.new) (key_of R.point key.now) (members_view members.now.entries)
@@ -232,81 +236,91 @@ impl<'p, R: Resolver, T> Given<'p, R, T> {
             (key_of R.point key.now) (members_view members.now.entries)) }
     {
         let context = Context {
+            alloc: self.alloc,
+            resolver: self.resolver,
             options: self.options,
             key,
         };
         match context.lone_reference(members) {
             Some(value) => {
                 let name = String::from_str(self.alloc, "$ref")?;
-                let entry = self.reference_entry(
-                    compiled,
-                    key,
-                    &name,
-                    REF_PRIORITY,
-                    ReferenceKind::Ref,
-                    value,
-                )?;
+                let entry = self.compile_ref(compiled, key, &name, REF_PRIORITY, value)?;
                 Ok(node_alone(self.alloc, entry)?)
             }
             None => {
                 let keywords = self.keywords_of(compiled, key, members)?;
                 Ok(PlannedNode {
                     form: NodeForm::Keywords(keywords.entries),
-                    annotations: object_of(keywords.unknown),
+                    annotations: object_of(keywords.annotating),
                 })
             }
         }
     }
 
-    // The keywords of an object, by their priorities, and the members that no keyword is made of.
+    // The keywords of an object, by their priorities, and the members that become annotations.
     #[cycle(compile)]
     fn keywords_of<K: Validate>(
         &self,
         compiled: &mut Compiled<R::State, K>,
         key: &SchemaKey<R::State>,
-        members: &Map<String, Value>,
+        members: &'p Map<String, Value>,
     ) -> Result<ObjectKeywords<K>, BuildError>
     where
         T: KeywordTable<K>,
         requires table { IsWell (task R.resolving T.owned T.script K.shape self.now)
             (filled R.point compiled.old) }
+        requires object { (R.resolving self.now.resolver.now).value (place_of key.now.place) ≡
+            Some (object (members_view members.now.entries)) }
         ensures parts { IfOk result (λ o. MakesMembers
             (task R.resolving T.owned T.script K.shape self.now) (filled R.point compiled.old)
             (filled R.point compiled.new) (key_of R.point key.now) (members_view members.now.entries)
-            (map entry_view o.entries.items) (members_view o.unknown.entries)) }
+            (map entry_view o.entries.items) (members_view o.annotating.entries)) }
         ensures refused { IfErr result (RefusesMembers
             (task R.resolving T.owned T.script K.shape self.now) (filled R.point compiled.old)
             (key_of R.point key.now) (members_view members.now.entries)) }
     {
         let mut entries = Vec::new(self.alloc);
         let mut unknown = Map::new(self.alloc);
+        let mut absorbed = Vec::new(self.alloc);
         for (name, value) in members.iter() {
-            match self.entry_of(compiled, key, members, name, value)? {
+            match self.entry_of(compiled, key, members, name, value, &mut absorbed)? {
                 Some(entry) => insert_by_priority(&mut entries, entry)?,
                 None => self.keep_unknown(key, &mut unknown, name, value)?,
             }
         }
-        Ok(ObjectKeywords { entries, unknown })
+        let annotating = without(unknown, absorbed.as_slice());
+        Ok(ObjectKeywords {
+            entries,
+            annotating,
+        })
     }
 
-    // The keyword of a member, if it is one: the table's own, or else a built-in one; references are the engine's.
+    // The keyword of a member, if it is one: the table's own, or else a built-in one; references are the engine's. The names
+    // that it absorbs are added.
     #[cycle(compile)]
     fn entry_of<K: Validate>(
         &self,
         compiled: &mut Compiled<R::State, K>,
         key: &SchemaKey<R::State>,
-        members: &Map<String, Value>,
+        members: &'p Map<String, Value>,
         name: &String,
         value: &Value,
+        absorbed: &mut Vec<String>,
     ) -> Result<Option<Entry<K>>, BuildError>
     where
         T: KeywordTable<K>,
         requires table { IsWell (task R.resolving T.owned T.script K.shape self.now)
             (filled R.point compiled.old) }
+        requires object { (R.resolving self.now.resolver.now).value (place_of key.now.place) ≡
+            Some (object (members_view members.now.entries)) }
         ensures part { IfOk result (λ o. MakesMember
             (task R.resolving T.owned T.script K.shape self.now) (filled R.point compiled.old)
             (filled R.point compiled.new) (key_of R.point key.now) (members_view members.now.entries)
             (string_bytes name.now) (view value.now) (option_map entry_view o)) }
+        ensures absorbed { IfOk result (λ _. map string_bytes absorbed.new.items ≡
+            map string_bytes absorbed.old.items ++ member_absorbs
+            (task R.resolving T.owned T.script K.shape self.now) (key_of R.point key.now)
+            (members_view members.now.entries) (string_bytes name.now) (view value.now)) }
         ensures refused { IfErr result (RefusesMember
             (task R.resolving T.owned T.script K.shape self.now) (filled R.point compiled.old)
             (key_of R.point key.now) (members_view members.now.entries) (string_bytes name.now)
@@ -314,9 +328,20 @@ impl<'p, R: Resolver, T> Given<'p, R, T> {
     {
         let text = name.as_str();
         if self.table.owns(text) {
-            return self.made_entry(compiled, key, members, true, name, CUSTOM_PRIORITY, false);
+            return self.made_entry(
+                compiled,
+                key,
+                members,
+                true,
+                name,
+                CUSTOM_PRIORITY,
+                false,
+                absorbed,
+            );
         }
         let context = Context {
+            alloc: self.alloc,
+            resolver: self.resolver,
             options: self.options,
             key,
         };
@@ -332,31 +357,39 @@ impl<'p, R: Resolver, T> Given<'p, R, T> {
                     name,
                     row.priority,
                     row.is_leaf,
+                    absorbed,
                 ),
             },
         }
     }
 
-    // The keyword that a maker makes.
+    // The keyword that a maker makes. The names that it absorbs are added.
     #[cycle(compile)]
     fn made_entry<K: Validate>(
         &self,
         compiled: &mut Compiled<R::State, K>,
         key: &SchemaKey<R::State>,
-        members: &Map<String, Value>,
+        members: &'p Map<String, Value>,
         own: bool,
         name: &String,
         priority: u8,
         is_leaf: bool,
+        absorbed: &mut Vec<String>,
     ) -> Result<Option<Entry<K>>, BuildError>
     where
         T: KeywordTable<K>,
         requires table { IsWell (task R.resolving T.owned T.script K.shape self.now)
             (filled R.point compiled.old) }
+        requires object { (R.resolving self.now.resolver.now).value (place_of key.now.place) ≡
+            Some (object (members_view members.now.entries)) }
         ensures part { IfOk result (λ o. MakesKeyword
             (task R.resolving T.owned T.script K.shape self.now) (filled R.point compiled.old)
             (filled R.point compiled.new) (key_of R.point key.now) (members_view members.now.entries)
             own (string_bytes name.now) priority is_leaf (option_map entry_view o)) }
+        ensures absorbed { IfOk result (λ _. map string_bytes absorbed.new.items ≡
+            map string_bytes absorbed.old.items ++ keyword_absorbs
+            (task R.resolving T.owned T.script K.shape self.now) (key_of R.point key.now)
+            (members_view members.now.entries) own (string_bytes name.now) priority is_leaf) }
         ensures refused { IfErr result (RefusesMaker
             (task R.resolving T.owned T.script K.shape self.now) (filled R.point compiled.old)
             (key_of R.point key.now) (members_view members.now.entries) own (string_bytes name.now)) }
@@ -367,14 +400,15 @@ impl<'p, R: Resolver, T> Given<'p, R, T> {
         loop {
             match self.table.turn(self.alloc, &mut maker, reply)? {
                 MakerStep::Compile(path) => {
-                    let edge = self.child_edge(compiled, key, &path)?;
+                    let edge = self.child_edge(compiled, key, members, &path)?;
                     reply = keep_edge(&mut children, Some(edge))?;
                 }
                 MakerStep::Refer(text) => {
                     let edge = self.reference_edge(compiled, key, name, ReferenceKind::Ref, &text)?;
                     reply = keep_edge(&mut children, edge)?;
                 }
-                MakerStep::Keyword(keyword, _) => {
+                MakerStep::Keyword(keyword, names) => {
+                    absorb(absorbed, names)?;
                     let form = EntryForm::Keyword(keyword, children);
                     return Ok(Some(entry_named(name, priority, is_leaf, form)?));
                 }
@@ -390,12 +424,15 @@ impl<'p, R: Resolver, T> Given<'p, R, T> {
         &self,
         compiled: &mut Compiled<R::State, K>,
         key: &SchemaKey<R::State>,
+        members: &'p Map<String, Value>,
         path: &SchemaPath,
     ) -> Result<Edge, BuildError>
     where
         T: KeywordTable<K>,
         requires table { IsWell (task R.resolving T.owned T.script K.shape self.now)
             (filled R.point compiled.old) }
+        requires object { (R.resolving self.now.resolver.now).value (place_of key.now.place) ≡
+            Some (object (members_view members.now.entries)) }
         ensures answered { IfOk result (λ e. AnswersChild
             (task R.resolving T.owned T.script K.shape self.now) (filled R.point compiled.old)
             (filled R.point compiled.new) (key_of R.point key.now) path.now (edge_of e)) }
@@ -404,14 +441,20 @@ impl<'p, R: Resolver, T> Given<'p, R, T> {
             (key_of R.point key.now) path.now) }
     {
         let location = path.pointer(self.alloc)?;
-        let below = self.subschema_key(key, path)?;
+        let context = Context {
+            alloc: self.alloc,
+            resolver: self.resolver,
+            options: self.options,
+            key,
+        };
+        let below = context.in_subresource(members, path)?;
         let reading = Reading::Read(below.1);
         Ok(self.edge_to(compiled, below.0, reading, location)?)
     }
 
-    // The edge to a reference's target; none where the reference is skipped.
+    /// The edge to a reference's target; none where the reference is skipped.
     #[cycle(compile)]
-    fn reference_edge<K: Validate>(
+    pub(crate) fn reference_edge<K: Validate>(
         &self,
         compiled: &mut Compiled<R::State, K>,
         key: &SchemaKey<R::State>,
@@ -437,43 +480,6 @@ impl<'p, R: Resolver, T> Given<'p, R, T> {
             Some(target) => {
                 let edge = self.edge_to(compiled, target, Reading::Unread, path)?;
                 Ok(Some(edge))
-            }
-        }
-    }
-
-    // The reference under a keyword of this name; none where it is skipped.
-    #[cycle(compile)]
-    fn reference_entry<K: Validate>(
-        &self,
-        compiled: &mut Compiled<R::State, K>,
-        key: &SchemaKey<R::State>,
-        name: &String,
-        priority: u8,
-        kind: ReferenceKind,
-        value: &Value,
-    ) -> Result<Option<Entry<K>>, BuildError>
-    where
-        T: KeywordTable<K>,
-        requires table { IsWell (task R.resolving T.owned T.script K.shape self.now)
-            (filled R.point compiled.old) }
-        ensures part { IfOk result (λ o. MakesReference
-            (task R.resolving T.owned T.script K.shape self.now) (filled R.point compiled.old)
-            (filled R.point compiled.new) (key_of R.point key.now) (string_bytes name.now) priority
-            (kind_of kind) (view value.now) (option_map entry_view o)) }
-        ensures refused { IfErr result (RefusesReference
-            (task R.resolving T.owned T.script K.shape self.now) (filled R.point compiled.old)
-            (key_of R.point key.now) (string_bytes name.now) (kind_of kind) (view value.now)) }
-    {
-        let context = Context {
-            options: self.options,
-            key,
-        };
-        let text = context.text_of(name, value)?;
-        match self.reference_edge(compiled, key, name, kind, text)? {
-            None => Ok(None),
-            Some(edge) => {
-                let form = EntryForm::Reference(edge);
-                Ok(Some(entry_named(name, priority, false, form)?))
             }
         }
     }

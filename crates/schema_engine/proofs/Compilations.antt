@@ -21,7 +21,7 @@ use Rattle.schema_compiler.specs.declared.compiler.error.BuildError.{BuildError}
 use Rattle.schema_engine.specs.Handed.{Options, parts_of, table_of}
 use Rattle.schema_engine.specs.Compiled.{IsCompiled, IsWhole}
 use Rattle.schema_engine.proofs.Reaches.{reach_of}
-use Rattle.schema_engine.proofs.OtherParts.{reached_too, stands_too, numbered_too}
+use Rattle.schema_engine.proofs.OtherParts.{guards_too, reached_too, stands_too, numbered_too}
 
 index_of : {A : Type 0} (xs : List A) (i : ℕ) (x d : A) → slice_get xs i ≡ Some x → slice_index_or xs i d ≡ x
 index_of [] i x d e = absurd (let f : ⊥ = cc in f)
@@ -49,7 +49,7 @@ compiled_nodes w shape limit root keys nodes c = record {
 
 whole_nodes : {S K R C : Type 0} (w : Parts S K R) (shape : C → K) (limit : ℕ) (root : Key S) (keys : List (Key S)) (nodes : List (NodeEntry C)) → IsCompilation w shape limit root keys nodes → IsWhole w shape root nodes 0
 unfolding compiled_nodes
-whole_nodes w shape limit root keys nodes c = record { compiled = compiled_nodes w shape limit root keys nodes c; filled = c.filled; whole = c.whole }
+whole_nodes w shape limit root keys nodes c = record { compiled = compiled_nodes w shape limit root keys nodes c; filled = c.filled; whole = c.whole; guards = c.guards }
 
 module _ {S K R R' : Type 0} (resolver : Resolver S) (table : Table K) (matcher matcher' : Matcher) (keywords : Keywords K R) (keywords' : Keywords K R') (options : Options) where
   abbrev w : Parts S K R
@@ -75,6 +75,7 @@ module _ {S K R R' : Type 0} (resolver : Resolver S) (table : Table K) (matcher 
     compiled = compiled_too shape root nodes number c.compiled;
     filled = c.filled;
     whole = λ k r. c.whole k (reached_too resolver table matcher' matcher keywords' keywords options r);
+    guards = guards_too resolver table matcher matcher' keywords keywords' options c.compiled.keys nodes number c.guards;
   }
 
 -- what is said of the compiler's table is said of the standard's

@@ -12,7 +12,7 @@ use Rattle.schema_reports.specs.Keywords.{Keywords, for_all, for_first}
 use Rattle.schema_reports.specs.Runs.{Met, Run, first_error}
 use Rattle.schema_reports.specs.Unfinished.{Failure, Remembered, starting}
 use Rattle.schema_reports.specs.Cover.{Call, Cover, Decides, Sense, branch_at, iter_errors, mode_of, validate, whole}
-use Rattle.schema_reports.specs.Headline.{ErrorsSay, FirstSays, IsFailure, OneFailure, VerdictSays}
+use Rattle.schema_reports.specs.Headline.{ErrorsSay, FirstSays, IsFailure, OneFailure, VerdictSays, shown_at}
 use Rattle.schema_reports.specs.Laws.{Agrees, EachKeeps}
 use Rattle.schema_reports.specs.Members.{Follows, is_nil, verdict_of}
 use Rattle.schema_reports.specs.Shared.{errors_of}
@@ -25,6 +25,7 @@ use Rattle.schema_reports.specs.ReportViews.{BorrowsItsPlace, error_of}
 use Rattle.schema_reports.specs.declared.reports.ValidationError.{ValidationError}
 use Rattle.schema_reports.proofs.CoverCounts.{pairs_differ}
 use Rattle.schema_reports.proofs.ErrorsLead.{Stands}
+use Rattle.schema_reports.proofs.ShownPlaces.{shown_stands}
 use Rattle.schema_reports.proofs.Sentences.{errors_say, first_says, listed_alone, verdict_says}
 use Rattle.schema_reports.proofs.SitesInside.{MetInside, sites_inside}
 use Rattle.schema_node.specs.Matches.{MeetsEach}
@@ -90,12 +91,12 @@ from_some : (o : Option Subject) (x d : Subject) → is_some o ≡ true → x �
 from_some None x d h e = absurd (cc h)
 from_some (Some y) x d h e = ap Some (sym e)
 
-failure_stands : (instance : Data) (met : Met) → MetInside instance met → (path : Text) (place : Place) → ◌≡◌ {A = Text × Place} (path, place) (unwrap_or met.site.located (met.site.schema_path, [])) → Stands instance place
+failure_stands : (instance : Data) (met : Met) → MetInside instance met → (path : Text) (place : Place) → ◌≡◌ {A = Text × Place} (path, place) (shown_at (unwrap_or met.site.located (met.site.schema_path, []))) → Stands instance place
 failure_stands instance met inside path place e = go met.site.located refl e
   where
-    go : (o : Option (Text × Place)) → met.site.located ≡ o → ◌≡◌ {A = Text × Place} (path, place) (unwrap_or o (met.site.schema_path, [])) → Stands instance place
+    go : (o : Option (Text × Place)) → met.site.located ≡ o → ◌≡◌ {A = Text × Place} (path, place) (shown_at (unwrap_or o (met.site.schema_path, []))) → Stands instance place
     go None is e' = subst (Stands instance) (sym (ap (λ (l : Text × Place). l.1) e')) refl
-    go (Some l) is e' = inside path place (is ∙ ap Some (sym e'))
+    go (Some l) is e' = subst (Stands instance) (sym (ap (λ (x : Text × Place). x.1) e')) (shown_stands instance l.1 (inside l.0 l.1 is))
 
 module _ {K R : Type 0} (keywords : Keywords K R) (each : EachKeeps keywords) (matcher : Matcher) (nodes : Nodes K) (instance : Data) (root n : ℕ) where
   abbrev v : Sense

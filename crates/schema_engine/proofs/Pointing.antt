@@ -1,16 +1,18 @@
 -- The errors of a validator that is compiled from the schema's root point at keywords and at values.
-use Rattle.std.proofs.Common.{◌≡◌, ◌∙◌, ℕ, sym, ap, subst, Bool, true, false, List, map, Some, None, inl, inr}
-use Rattle.std.proofs.lemmas.List.Elements.{All-contains, All-map, All-weaker}
-use Rattle.std.specs.Prelude.{Option}
+use Rattle.std.proofs.Common.{◌≡◌, ◌∙◌, ℕ, sym, ap, subst, Bool, true, false, List, [], ◌∷◌, map, Some, None, inl, inr}
+use Rattle.std.proofs.lemmas.List.Elements.{All-cons, All-contains, All-contains_itself, All-head, All-map, All-nil, All-tail, All-weaker}
+use Rattle.std.specs.Prelude.{All, Contains, Option, ◌⊎◌}
 use Rattle.serde_json.specs.Data.{Data}
 use Rattle.schema_reports.specs.Instance.{Text}
-use Rattle.schema_reports.specs.Matching.{Matcher}
+use Rattle.schema_reports.specs.Reports.{Error}
+use Rattle.schema_reports.specs.Matching.{Completion, Matcher, all_match}
 use Rattle.schema_reports.specs.Resolving.{Resolver}
 use Rattle.schema_reports.specs.Making.{Table}
 use Rattle.schema_reports.specs.Keywords.{Keywords}
 use Rattle.schema_reports.specs.Parts.{Parts}
 use Rattle.schema_reports.specs.Plan.{Key}
-use Rattle.schema_reports.specs.Cover.{Sense}
+use Rattle.schema_reports.specs.Cover.{Sense, iter_errors, validate}
+use Rattle.schema_reports.specs.Headline.{FirstShared, IsFailure, IsFirst, OneFailure}
 use Rattle.schema_reports.specs.ReportViews.{error_of}
 use Rattle.schema_reports.specs.declared.reports.ValidationError.{ValidationError}
 use Rattle.schema_reports.specs.ErrorsLead.{EachKeepsAbsorbing, EachLeads, MakesAbsorbing, PointsAt}
@@ -18,75 +20,109 @@ use Rattle.schema_reports.specs.Means as means
 use Rattle.schema_reports.specs.Guarded.{guarded_sense}
 use Rattle.schema_reports.specs.Numbered.{subject_in}
 use Rattle.schema_reports.proofs.NodeErrorsLead.{node_errors_lead}
-use Rattle.schema_reports.proofs.ListedLead.{first_leads, listed_lead, of_failure}
+use Rattle.schema_reports.proofs.ListedLead.{of_failure, of_first, of_found, of_lists}
 use Rattle.schema_node.specs.NodeTable.{numbered}
 use Rattle.schema_node.proofs.PartLaws.{makes_absorbed}
 use Rattle.schema_engine.specs.Program.{Program, FromSomeDepth}
-use Rattle.schema_engine.specs.Spoken.{ErrorsAnswered, FirstAnswered, IsGiven}
+use Rattle.schema_engine.specs.Spoken.{EachIsGiven, ErrorsAnswered, FirstAnswered, FirstIsGiven, IsGiven}
 use Rattle.schema_engine.specs.ProgramOf.{IsProgramOf}
 use Rattle.schema_compiler.specs.Compiling.{no_keywords, no_matcher}
 use Rattle.schema_engine.specs.Handed.{Options, parts_of}
-use Rattle.schema_engine.specs.Promised.{MeansSchema, OfSchema}
+use Rattle.schema_engine.specs.Promised.{MeansSchema, OfSchema, PointsIntoSchema}
 use Rattle.schema_engine.specs.Pointing.{EachPoints, FirstPoints}
 use Rattle.schema_engine.proofs.Built.{EachScript, in_map}
 use Rattle.schema_engine.proofs.OtherParts.{numbered_too}
 use Rattle.schema_engine.proofs.RootKeys.{one_root_key, root_key_of, root_key_too}
 
+-- ---- where the errors of a call come from
+
+module _ (v : Sense) where
+  -- some completion gives the error
+  abbrev Given : Error → Type 0
+  Given e = (c : Completion) × Contains (v.says c).errors e
+
+  all_given : All Given (v.says all_match).errors
+  all_given = All-weaker (Contains (v.says all_match).errors) Given (λ e h. (all_match, h)) (v.says all_match).errors (All-contains_itself (v.says all_match).errors)
+
+  of_mapped : (P : Error → Type 0) (f : ValidationError → Error) (es : List ValidationError) → All P (map f es) → All (λ e. P (f e)) es
+  of_mapped P f [] h = All-nil (λ e. P (f e))
+  of_mapped P f (e ∷ es) h = All-cons (λ x. P (f x)) e es (All-head P (f e) (map f es) h) (of_mapped P f es (All-tail P (f e) (map f es) h))
+
+  pub each_is_given : (texts : Bool) (es : List ValidationError) → ErrorsAnswered v texts es → EachIsGiven v texts es
+  each_is_given true es says = (
+    λ decides. elim (of_lists Given v iter_errors (map (error_of true) es) all_given (says.0 decides)) [ inl all ↦ inl (of_mapped Given (error_of true) es all) | inr failure ↦ inr failure ],
+    says.1,
+  )
+  each_is_given false es says = (λ decides. says.given, says.undecided)
+
+  first_given : (o : Option Error) (e : Error) → FirstShared v (v.says all_match).errors o → IsFirst v o (Some e) → Given e ⊎ IsFailure v validate e
+  first_given o e found is = of_found Given v o e (of_first Given v found all_given) is
+
+  pub first_is_given : (texts : Bool) (o : Option ValidationError) → FirstAnswered v texts o → FirstIsGiven v texts o
+  first_is_given texts None says = tt
+  first_is_given true (Some e) says = (λ decides. let f = says.0 decides in first_given f.0 (error_of true e) f.1 f.2, λ not. of_failure Given v (error_of true e) (says.1 not))
+  first_is_given false (Some e) says = (λ decides. says.given, λ not. of_failure Given v (error_of true e) (says.undecided not))
+
+-- ---- where the errors of compiled nodes point
+
 makers : {K : Type 0} (absorbed : K → List Text) (is_whole : K → Bool) (table : Table K) → EachScript absorbed is_whole table → MakesAbsorbing absorbed table
 makers absorbed is_whole table scripts custom name whole draft vocabularies formats is_self m names ends =
     makes_absorbed absorbed is_whole whole is_self (table.script custom name whole draft vocabularies formats) (scripts custom name whole draft vocabularies formats) m names ends
 
-module _ {S K R C M : Type 0} (resolver : Resolver S) (table : Table K) (matcher : Matcher) (words : Bool → Keywords K R) (options : Options) (schema : Data) (absorbed : K → List Text) (is_whole : K → Bool)
-    (each : (texts : Bool) → EachKeepsAbsorbing (words texts) absorbed) (scripts : EachScript absorbed is_whole table) (shape : C → K) (matching : M → Matcher) (p : Program C M)
-    (program : IsProgramOf resolver table matcher options schema shape matching p) (meant : MeansSchema resolver table matcher words options schema shape is_whole matching p) (instance : Data) where
-  module _ (texts : Bool) (root : Key S) where
-    abbrev w : Parts S K R
-    w = parts_of resolver table matcher (words texts) options
+module _ {S K R C M : Type 0} (resolver : Resolver S) (table : Table K) (matcher : Matcher) (words : Bool → Keywords K R) (options : Options) (schema : Data) (shape : C → K) (matching : M → Matcher) (p : Program C M) where
+  abbrev w : Bool → Parts S K R
+  w texts = parts_of resolver table matcher (words texts) options
 
-    abbrev w0 : Parts S K (Unit {0})
-    w0 = parts_of resolver table no_matcher no_keywords options
+  abbrev w0 : Parts S K (Unit {0})
+  w0 = parts_of resolver table no_matcher no_keywords options
 
-    abbrev sense_at : Matcher → (n : ℕ) → Sense
-    sense_at m n = guarded_sense (words texts) m (numbered shape p.nodes) (subject_in instance) n p.root
+  abbrev sense_at : Bool → Data → Matcher → (n : ℕ) → Sense
+  sense_at texts instance m n = guarded_sense (words texts) m (numbered shape p.nodes) (subject_in instance) n p.root
 
-    leads : program.root ≡ root → (n : ℕ) → EachLeads w root instance (sense_at (matching p.matcher) n)
-    leads same n = subst (λ m. EachLeads w root instance (sense_at m n)) (sym program.matcher_is) (λ c.
-        node_errors_lead w absorbed (map Some program.compiled.compiled.keys) (numbered shape p.nodes) (each texts) (makers absorbed is_whole table scripts)
+  module _ (absorbed : K → List Text) (is_whole : K → Bool) (each : (texts : Bool) → EachKeepsAbsorbing (words texts) absorbed) (scripts : EachScript absorbed is_whole table)
+      (program : IsProgramOf resolver table matcher options schema shape matching p) where
+    leads : (texts : Bool) (instance : Data) (root : Key S) → program.root ≡ root → (n : ℕ) → EachLeads (w texts) root instance (sense_at texts instance (matching p.matcher) n)
+    leads texts instance root same n = subst (λ m. EachLeads (w texts) root instance (sense_at texts instance m n)) (sym program.matcher_is) (λ c.
+        node_errors_lead (w texts) absorbed (map Some program.compiled.compiled.keys) (numbered shape p.nodes) (each texts) (makers absorbed is_whole table scripts)
         (numbered_too resolver table no_matcher matcher no_keywords (words texts) options (map Some program.compiled.compiled.keys) (numbered shape p.nodes) program.compiled.compiled.numbers)
         instance c n p.root root (in_map program.compiled.compiled.keys p.root root (program.compiled.compiled.is_root ∙ ap Some same)))
 
-  -- an error that a completion gives points at keyword and value
-  given_points : (texts : Bool) (root : Key S) (v : Sense) → EachLeads (w texts root) root instance v → (e : ValidationError) → IsGiven v texts e → PointsAt (w texts root) root instance (error_of texts e)
-  given_points texts root v lead e given = All-contains (PointsAt (w texts root) root instance) (v.says given.0).errors (error_of texts e) (lead given.0) given.1
+    pub points_into : PointsIntoSchema resolver table matcher words options schema shape matching p
+    points_into = λ instance texts root is_root speaks n.
+        let same = one_root_key w0 schema program.root root program.is_root (root_key_too resolver table table matcher no_matcher (words texts) no_keywords options schema root (root_key_of (w texts) schema root is_root)) in
+        leads texts instance root same n
 
-  each_points_at : (texts : Bool) (root : Key S) (v : Sense) → EachLeads (w texts root) root instance v → (es : List ValidationError) → ErrorsAnswered v texts es → EachPoints (w texts root) root instance v texts es
-  each_points_at true root v lead es says = listed_lead (w true root) root instance v lead (map (error_of true) es) says
-  each_points_at false root v lead es says = (
-    λ decides. elim says.given [
-      | inl all ↦ inl (All-map (PointsAt (w false root) root instance) (error_of false) es (All-weaker (IsGiven v false) (λ e. PointsAt (w false root) root instance (error_of false e)) (given_points false root v lead) es all))
-      | inr failure ↦ inr failure
-    ],
-    says.undecided,
-  )
+  -- ---- what a build and a call say, together
 
-  pub each_points : (es : List ValidationError) → FromSomeDepth shape words is_whole matching p instance (λ texts v. ErrorsAnswered v texts es)
-      → OfSchema resolver table matcher words options schema instance (λ texts w root. means.FromSomeDepth (words texts) (matching p.matcher) (numbered shape p.nodes) p.root instance (λ v. EachPoints w root instance v texts es))
-  each_points es says = λ texts root is_root speaks.
-      let same = one_root_key (w0 texts root) schema program.root root program.is_root (root_key_too resolver table table matcher no_matcher (words texts) no_keywords options schema root (root_key_of (w texts root) schema root is_root)) in
-      let deep = says texts (meant instance texts root is_root speaks).0 in
-      (deep.0, λ n more. each_points_at texts root (sense_at texts root (matching p.matcher) n) (leads texts root same n) es (deep.1 n more))
+  module _ (is_whole : K → Bool) (meant : MeansSchema resolver table matcher words options schema shape is_whole matching p) (points : PointsIntoSchema resolver table matcher words options schema shape matching p) (instance : Data) where
+    -- an error that a completion gives points at keyword and value
+    given_points : (texts : Bool) (root : Key S) (v : Sense) → EachLeads (w texts) root instance v → (e : ValidationError) → IsGiven v texts e → PointsAt (w texts) root instance (error_of texts e)
+    given_points texts root v lead e given = All-contains (PointsAt (w texts) root instance) (v.says given.0).errors (error_of texts e) (lead given.0) given.1
 
-  first_points_at : (texts : Bool) (root : Key S) (v : Sense) → EachLeads (w texts root) root instance v → (o : Option ValidationError) → FirstAnswered v texts o → FirstPoints (w texts root) root instance v texts o
-  first_points_at texts root v lead None says = tt
-  first_points_at true root v lead (Some e) says = first_leads (w true root) root instance v lead (error_of true e) says
-  first_points_at false root v lead (Some e) says = (
-    λ decides. elim says.given [ inl given ↦ inl (given_points false root v lead e given) | inr failure ↦ inr failure ],
-    λ not. of_failure (PointsAt (w false root) root instance) v (error_of true e) (says.undecided not),
-  )
+    each_points_at : (texts : Bool) (root : Key S) (v : Sense) → EachLeads (w texts) root instance v → (es : List ValidationError) → EachIsGiven v texts es → EachPoints (w texts) root instance v texts es
+    each_points_at texts root v lead es says = (
+      λ decides. elim (says.0 decides) [
+        | inl all ↦ inl (All-map (PointsAt (w texts) root instance) (error_of texts) es (All-weaker (IsGiven v texts) (λ e. PointsAt (w texts) root instance (error_of texts e)) (given_points texts root v lead) es all))
+        | inr failure ↦ inr failure
+      ],
+      says.1,
+    )
 
-  pub first_points : (o : Option ValidationError) → FromSomeDepth shape words is_whole matching p instance (λ texts v. FirstAnswered v texts o)
-      → OfSchema resolver table matcher words options schema instance (λ texts w root. means.FromSomeDepth (words texts) (matching p.matcher) (numbered shape p.nodes) p.root instance (λ v. FirstPoints w root instance v texts o))
-  first_points o says = λ texts root is_root speaks.
-      let same = one_root_key (w0 texts root) schema program.root root program.is_root (root_key_too resolver table table matcher no_matcher (words texts) no_keywords options schema root (root_key_of (w texts root) schema root is_root)) in
-      let deep = says texts (meant instance texts root is_root speaks).0 in
-      (deep.0, λ n more. first_points_at texts root (sense_at texts root (matching p.matcher) n) (leads texts root same n) o (deep.1 n more))
+    pub each_points : (es : List ValidationError) → FromSomeDepth shape words is_whole matching p instance (λ texts v. EachIsGiven v texts es)
+        → OfSchema resolver table matcher words options schema instance (λ texts w root. means.FromSomeDepth (words texts) (matching p.matcher) (numbered shape p.nodes) p.root instance (λ v. EachPoints w root instance v texts es))
+    each_points es says = λ texts root is_root speaks.
+        let deep = says texts (meant instance texts root is_root speaks).0 in
+        (deep.0, λ n more. each_points_at texts root (sense_at texts instance (matching p.matcher) n) (points instance texts root is_root speaks n) es (deep.1 n more))
+
+    first_points_at : (texts : Bool) (root : Key S) (v : Sense) → EachLeads (w texts) root instance v → (o : Option ValidationError) → FirstIsGiven v texts o → FirstPoints (w texts) root instance v texts o
+    first_points_at texts root v lead None says = tt
+    first_points_at texts root v lead (Some e) says = (
+      λ decides. elim (says.0 decides) [ inl given ↦ inl (given_points texts root v lead e given) | inr failure ↦ inr failure ],
+      says.1,
+    )
+
+    pub first_points : (o : Option ValidationError) → FromSomeDepth shape words is_whole matching p instance (λ texts v. FirstIsGiven v texts o)
+        → OfSchema resolver table matcher words options schema instance (λ texts w root. means.FromSomeDepth (words texts) (matching p.matcher) (numbered shape p.nodes) p.root instance (λ v. FirstPoints w root instance v texts o))
+    first_points o says = λ texts root is_root speaks.
+        let deep = says texts (meant instance texts root is_root speaks).0 in
+        (deep.0, λ n more. first_points_at texts root (sense_at texts instance (matching p.matcher) n) (points instance texts root is_root speaks n) o (deep.1 n more))

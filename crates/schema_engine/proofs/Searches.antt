@@ -5,14 +5,14 @@ use Rattle.serde_json.specs.Data.{Data}
 use Rattle.schema_reports.specs.Reports.{Error, Outcome}
 use Rattle.schema_reports.specs.Matching.{Assumptions, Extends, Matcher, completion_of}
 use Rattle.schema_reports.specs.Keywords.{Keywords, Mode, all_of_it, first_of_it, for_verdict, truth}
-use Rattle.schema_reports.specs.Runs.{Run, no_run}
+use Rattle.schema_reports.specs.Runs.{Run}
 use Rattle.schema_reports.specs.Unfinished.{Failure, Remembered, starting}
 use Rattle.schema_reports.specs.Cover.{Call, Cover, Sense, branch_at, is_valid, mode_of, whole}
 use Rattle.schema_reports.specs.Headline.{VerdictSays}
 use Rattle.schema_reports.specs.Members.{Follows, verdict_of}
 use Rattle.schema_reports.specs.Searched.{IsRunOf, Reaches, here, next}
 use Rattle.schema_reports.specs.Laws.{EachKeeps}
-use Rattle.schema_reports.specs.Guarded.{Nodes, guarded_node, guarded_sense, guarded_within}
+use Rattle.schema_reports.specs.Guarded.{Nodes, guarded_node, guarded_sense, guarded_within, yes_run}
 use Rattle.schema_reports.specs.Numbered.{subject_in}
 use Rattle.schema_reports.proofs.CoverCounts.{pairs_differ}
 use Rattle.schema_reports.proofs.GuardedSense.{all_nodes_follow}
@@ -26,7 +26,7 @@ module _ {K R : Type 0} (keywords : Keywords K R) (each : EachKeeps keywords) (m
   sense = guarded_sense keywords matcher nodes (subject_in instance) n root
 
   abbrev pub run_with : Assumptions → Run
-  run_with as' = guarded_within no_run (guarded_node keywords matcher nodes (subject_in instance) as') n root [] [] []
+  run_with as' = guarded_within (yes_run nodes) (guarded_node keywords matcher nodes (subject_in instance) as') n root [] [] []
 
   pub outcome : (as' : Assumptions) → (run_with as').outcome tt ≡ sense.says (completion_of as')
   outcome as' = (runs_say_outcomes keywords matcher nodes (subject_in instance) as' n root [] [] []).0

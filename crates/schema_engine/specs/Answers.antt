@@ -4,10 +4,10 @@ use Rattle.serde_json.specs.Data.{Data}
 use Rattle.schema_reports.specs.Matching.{Assumptions, Extends, Matcher, completion_of}
 use Rattle.schema_reports.specs.Keywords.{Keywords}
 use Rattle.schema_reports.specs.Keywords as wanted
-use Rattle.schema_reports.specs.Runs.{Run, first_error, reply_in, no_run}
+use Rattle.schema_reports.specs.Runs.{Run, first_error, reply_in}
 use Rattle.schema_reports.specs.Unfinished.{Remembered}
 use Rattle.schema_node.specs.Matches.{MeetsEach}
-use Rattle.schema_reports.specs.Guarded.{guarded_within, guarded_node}
+use Rattle.schema_reports.specs.Guarded.{guarded_within, guarded_node, yes_run}
 use Rattle.schema_reports.specs.Numbered.{left, subject_in}
 use Rattle.schema_reports.specs.ReportViews.{error_of}
 use Rattle.schema_reports.specs.declared.reports.ValidationError.{ValidationError}
@@ -20,7 +20,7 @@ use Rattle.schema_engine.specs.Program.{Program, Speaks}
 module _ {K S R M : Type 0} (shape : K → S) (words : Bool → Keywords S R) (is_whole : S → Bool) (matching : M → Matcher) (p : Program K M) (instance : Data) where
   -- the run of the root's node under assumptions, with questions of a depth
   abbrev pub run_under : Bool → Assumptions → ℕ → Run
-  run_under texts as' n = guarded_within no_run (guarded_node (words texts) (matching p.matcher) (numbered shape p.nodes) (subject_in instance) as') n p.root [] [] []
+  run_under texts as' n = guarded_within (yes_run (numbered shape p.nodes)) (guarded_node (words texts) (matching p.matcher) (numbered shape p.nodes) (subject_in instance) as') n p.root [] [] []
 
   -- a fact about the run under assumptions that assume no match twice, at every great enough depth
   abbrev pub OfRun : Assumptions → (Bool → Run → Type 0) → Type 0

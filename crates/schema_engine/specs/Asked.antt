@@ -14,7 +14,7 @@ use Rattle.schema_node.specs.declared.context.keyword.Validate.{Ghosts as Keywor
 use Rattle.schema_node.specs.declared.context.matcher.Matcher.{Ghosts as MatcherMembers}
 use Rattle.schema_engine.specs.Answers.{MeetsMatches, SaysErrors, SaysFirst, SaysReply, SaysVerdict}
 use Rattle.schema_engine.specs.Program.{FromSomeDepth, OfEverySense, Program}
-use Rattle.schema_engine.specs.Spoken.{ErrorsAnswered, FirstAnswered}
+use Rattle.schema_engine.specs.Spoken.{EachIsGiven, ErrorsAnswered, FirstAnswered, FirstIsGiven}
 
 -- C is a keyword of the code, K what is known of it, M a matcher of the code
 module _ {C Run K M : Type 0} (keywords : KeywordMembers C Run K) (matchers : MatcherMembers M) (p : Program C M) (instance : Data) where
@@ -53,6 +53,14 @@ module _ {C Run K M : Type 0} (keywords : KeywordMembers C Run K) (matchers : Ma
   -- the errors are those that all outcomes share, or one that tells of such a match
   abbrev pub ErrorsFromSomeDepth : List ValidationError → Type 0
   ErrorsFromSomeDepth es = FromSomeDepth keywords.shape keywords.words keywords.is_whole matchers.matching p instance (λ texts v. ErrorsAnswered v texts es)
+
+  -- each error is one that the nodes give under some outcome of the unfinished matches, so that it points where these point; or the call gives its one failure
+  abbrev pub ErrorsPointAsNodes : List ValidationError → Type 0
+  ErrorsPointAsNodes es = FromSomeDepth keywords.shape keywords.words keywords.is_whole matchers.matching p instance (λ texts v. EachIsGiven v texts es)
+
+  -- so is the first error, where there is one
+  abbrev pub FirstPointsAsNodes : Option ValidationError → Type 0
+  FirstPointsAsNodes o = FromSomeDepth keywords.shape keywords.words keywords.is_whole matchers.matching p instance (λ texts v. FirstIsGiven v texts o)
 
   -- ---- the same of every sense that the nodes mean, which there is where no chain of references returns
 

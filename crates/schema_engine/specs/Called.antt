@@ -17,7 +17,7 @@ use Rattle.schema_engine.specs.Handed.{Handed, Options, parts_of}
 use Rattle.schema_engine.specs.Pointing.{EachPoints, FirstPoints}
 use Rattle.schema_engine.specs.Program.{FromSomeDepth, Program}
 use Rattle.schema_engine.specs.ProgramOf.{IsProgramOf}
-use Rattle.schema_engine.specs.Promised.{MeansSchema, OfSchema}
+use Rattle.schema_engine.specs.Promised.{MeansSchema, OfSchema, PointsIntoSchema}
 use Rattle.schema_engine.specs.Roots.{Builds, RefusesBuild}
 use Rattle.schema_engine.specs.Spoken.{ErrorsAnswered, FirstAnswered}
 
@@ -29,7 +29,13 @@ module _ {S K R C M : Type 0} (h : Handed S K R C M) (options : Options) (schema
   abbrev pub MeansPlainly : Program C M → Type 0
   MeansPlainly p = MeansSchema h.resolver h.table h.matcher h.words options schema h.shape h.is_whole h.matching p
 
-  -- its nodes correspond one to one to the keys that the root's key reaches, its draft is the root's, and its matcher answers
+  -- each error that its nodes give points at a keyword of the schema that its evaluation path leads to, and at a value inside the instance
+  abbrev pub PointsPlainly : Program C M → Type 0
+  PointsPlainly p = PointsIntoSchema h.resolver h.table h.matcher h.words options schema h.shape h.matching p
+
+  -- its nodes correspond one to one to the keys that the root's key reaches, its guarded edges are those that lead back up
+  -- (a guarded edge's target does not rank lower than its source and leads down to it by edges that nothing guards, as the
+  -- root's number leads down to every number), its draft is the root's, and its matcher answers
   -- as the one that is handed in
   abbrev pub IsCompiledFrom : Program C M → Type 0
   IsCompiledFrom p = IsProgramOf h.resolver h.table h.matcher options schema h.shape h.matching p

@@ -7,6 +7,7 @@ use Rattle.schema_reports.specs.Refusals.{Compiles}
 use Rattle.schema_reports.specs.Guarded.{NodePlan}
 use Rattle.schema_reports.specs.Numbered.{AreNumbered, Ranked}
 use Rattle.schema_node.specs.NodeTable.{NodeEntry, numbered}
+use Rattle.schema_compiler.specs.Guarding.{GuardsWaysBack}
 
 pub record IsCompiled {S K R C : Type 0} (w : Parts S K R) (shape : C → K) (root : Key S) (nodes : List (NodeEntry C)) (number : ℕ) : Type 0 where
   pub keys : List (Key S)
@@ -17,8 +18,11 @@ pub record IsCompiled {S K R C : Type 0} (w : Parts S K R) (shape : C → K) (ro
   pub reached : (i : ℕ) (k : Key S) → slice_get keys i ≡ Some k → Reached w root k
   pub compiles : Compiles w root
 
--- and numbers and keys correspond one to one: every number has its form, and every key that the root reaches has a number
+-- and numbers and keys correspond one to one: every number has its form, and every key that the root reaches has a number;
+-- and which edges are guarded: the root's number leads down to every number, by what keys ask for as far as ranks fall, and a
+-- guarded edge's target does not rank lower than its source and leads down to it
 pub record IsWhole {S K R C : Type 0} (w : Parts S K R) (shape : C → K) (root : Key S) (nodes : List (NodeEntry C)) (number : ℕ) : Type 0 where
   pub compiled : IsCompiled w shape root nodes number
   pub filled : (i : ℕ) (n : NodeEntry C) → slice_get nodes i ≡ Some n → (p : NodePlan C) × (n.plan ≡ Some p)
   pub whole : (k : Key S) → Reached w root k → (i : ℕ) × (slice_get compiled.keys i ≡ Some k)
+  pub guards : GuardsWaysBack w compiled.keys nodes number

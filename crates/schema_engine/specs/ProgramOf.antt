@@ -1,5 +1,5 @@
 -- A validator that is compiled from a schema's root: its nodes correspond one to one to the keys that the root's key reaches,
--- its draft is the root's, and its matcher answers as the one that was handed in.
+-- its guarded edges are those that lead back up, its draft is the root's, and its matcher answers as the one that was handed in.
 use Rattle.std.specs.Prelude.{◌≡◌, Ok}
 use Rattle.serde_json.specs.Data.{Data}
 use Rattle.schema_reports.specs.Matching.{Matcher}

@@ -1,6 +1,7 @@
 -- What a build promises: for every root key of the schema and every instance, the validator means the plain meaning of
--- schema and parts, where no chain of questions returns.
-use Rattle.std.specs.Prelude.{Bool}
+-- schema and parts, where no chain of questions returns; and returns or none, the errors of its nodes point at keywords
+-- and values of these.
+use Rattle.std.specs.Prelude.{Bool, ℕ}
 use Rattle.serde_json.specs.Data.{Data}
 use Rattle.schema_reports.specs.Matching.{Matcher}
 use Rattle.schema_reports.specs.Resolving.{Resolver}
@@ -10,6 +11,10 @@ use Rattle.schema_reports.specs.Parts.{Parts}
 use Rattle.schema_reports.specs.Plan.{Key}
 use Rattle.schema_reports.specs.Root.{IsRoot}
 use Rattle.schema_reports.specs.Headline.{SpeaksRightly, Plainly}
+use Rattle.schema_reports.specs.ErrorsLead.{EachLeads}
+use Rattle.schema_reports.specs.Guarded.{guarded_sense}
+use Rattle.schema_reports.specs.Numbered.{subject_in}
+use Rattle.schema_node.specs.NodeTable.{numbered}
 use Rattle.schema_engine.specs.Program.{Program, Speaks, Means}
 use Rattle.schema_engine.specs.Handed.{Options, parts_of}
 
@@ -23,3 +28,8 @@ module _ {S K R : Type 0} (resolver : Resolver S) (table : Table K) (matcher : M
   abbrev pub MeansSchema : {C M : Type 0} → (C → K) → (K → Bool) → (M → Matcher) → Program C M → Type 0
   MeansSchema shape is_whole matching p = (instance : Data)
       → OfSchema instance (λ texts w root. Speaks shape words is_whole matching p instance texts × Plainly w root instance (Means shape words is_whole matching p instance texts))
+
+  -- with questions of any depth and under every completion, each error of the root's node points at a keyword of the schema that its evaluation path leads to, and at a value inside the instance
+  abbrev pub PointsIntoSchema : {C M : Type 0} → (C → K) → (M → Matcher) → Program C M → Type 0
+  PointsIntoSchema shape matching p = (instance : Data)
+      → OfSchema instance (λ texts w root. (n : ℕ) → EachLeads w root instance (guarded_sense (words texts) (matching p.matcher) (numbered shape p.nodes) (subject_in instance) n p.root))

@@ -1,11 +1,12 @@
 -- What `validate` and `iter_errors` are said to answer. Where texts of errors are spoken of, their sentences are said. Where
 -- the instance or a keyword holds a fraction, texts are not spoken of, and so it is not known which errors all completions
 -- share: then the verdict is said, where each error comes from, and the sentences where the first run meets no unfinished match.
+-- Where errors come from is said by itself too: what is known of all errors of a sense is then known of those that are given.
 use Rattle.std.specs.Prelude.{All, Bool, Contains, IfSome, List, None, Option, Some, [], false, is_none, map, option_map, true, ◌≡◌, ◌⊎◌}
 use Rattle.schema_reports.specs.Reports.{Error}
 use Rattle.schema_reports.specs.Matching.{Completion}
 use Rattle.schema_reports.specs.Cover.{Decides, Sense, branch_at, iter_errors, validate}
-use Rattle.schema_reports.specs.Headline.{ErrorsSay, FirstSays, IsFailure, OneFailure, VerdictSays}
+use Rattle.schema_reports.specs.Headline.{Either, ErrorsSay, FirstSays, IsFailure, OneFailure, VerdictSays}
 use Rattle.schema_reports.specs.ReportViews.{error_of}
 use Rattle.schema_reports.specs.SharedResults.{is_empty}
 use Rattle.schema_reports.specs.declared.reports.ValidationError.{ValidationError}
@@ -28,6 +29,15 @@ module _ (v : Sense) where
     pub given : IfSome o (λ e. IsGiven false e ⊎ IsFailure v validate (error_of true e))
     pub undecided : ¬ (Decides v validate) → (e : Error) × IsFailure v validate e × (option_map (error_of true) o ≡ Some e)
     pub alone : branch_at v validate [] ≡ None → FirstSays v (option_map (error_of false) o)
+
+  -- where errors come from, whatever they point at: each is one that some completion gives, or the call gives its one failure; the latter where it doesn't decide
+  abbrev pub EachIsGiven : Bool → List ValidationError → Type 0
+  EachIsGiven texts es = Either (Decides v iter_errors) (All (IsGiven texts) es ⊎ OneFailure v iter_errors (map (error_of true) es)) (OneFailure v iter_errors (map (error_of true) es))
+
+  -- the same of a first error
+  abbrev pub FirstIsGiven : Bool → Option ValidationError → Type 0
+  FirstIsGiven texts None = Unit {0}
+  FirstIsGiven texts (Some e) = Either (Decides v validate) (IsGiven texts e ⊎ IsFailure v validate (error_of true e)) (IsFailure v validate (error_of true e))
 
   -- what the contracts of the two calls cite, texts being spoken of or not
   abbrev pub ErrorsAnswered : Bool → List ValidationError → Type 0

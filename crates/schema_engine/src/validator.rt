@@ -13,6 +13,7 @@ ghost use Rattle.schema_reports.specs.Keywords.{for_all, for_first, for_units, f
 ghost use Rattle.schema_engine.specs.Answers.{refusal_of};
 ghost use Rattle.schema_engine.specs.Asked.{DecidesFromSomeDepth, ErrorsFromSomeDepth, FirstFromSomeDepth};
 ghost use Rattle.schema_engine.specs.Asked.{DecidesInEverySense, ErrorsInEverySense, FirstInEverySense};
+ghost use Rattle.schema_engine.specs.Asked.{ErrorsPointAsNodes, FirstPointsAsNodes};
 ghost use Rattle.schema_engine.specs.Asked.{RunDecides, RunFindsFirst, RunListsErrors, RunMeets, RunReplies};
 
 use schema_node::context::keyword::{Mode, Reply, Validate};
@@ -296,7 +297,8 @@ impl<K: Validate, M: Matcher> Validator<K, M> {
 
     /// Returns the first error as an inner `Err`, and an inner `Ok` if the instance is valid. Where the matcher leaves matches
     /// unfinished, the error is the first that all outcomes of them share. It tells of such a match instead if some outcome
-    /// refuses and they share no error, or if that takes more runs than a call makes.
+    /// refuses and they share no error, or if that takes more runs than a call makes. Any other error is one that the nodes give
+    /// under some outcome, so it points at keyword and value as the build promises of these.
     ///
     /// # Errors
     ///
@@ -311,6 +313,8 @@ impl<K: Validate, M: Matcher> Validator<K, M> {
             K.Validate M.Matcher.own self.now (view instance.now) (refusal_of r)) }
         ensures senses { IfOk result (λ r. FirstInEverySense
             K.Validate M.Matcher.own self.now (view instance.now) (refusal_of r)) }
+        ensures points { IfOk result (λ r. FirstPointsAsNodes
+            K.Validate M.Matcher.own self.now (view instance.now) (refusal_of r)) }
         ensures borrows { IfOk result (λ r. IfSome (refusal_of r) (BorrowsItsPlace (view instance.now))) }
     {
         Ok(unless_refused(self.first_under_each(alloc, instance)?))
@@ -318,7 +322,8 @@ impl<K: Validate, M: Matcher> Validator<K, M> {
 
     /// Returns all errors in order, and none if the instance is valid. Where the matcher leaves matches unfinished, these are the
     /// errors that all outcomes of them share. There is one error, which tells of such a match, if some outcome refuses and
-    /// they share no error, or if that takes more runs than a call makes.
+    /// they share no error, or if that takes more runs than a call makes. Any other error is one that the nodes give under some
+    /// outcome, so it points at keyword and value as the build promises of these.
     ///
     /// # Errors
     ///
@@ -332,6 +337,8 @@ impl<K: Validate, M: Matcher> Validator<K, M> {
         ensures depth { IfOk result (λ es. ErrorsFromSomeDepth
             K.Validate M.Matcher.own self.now (view instance.now) es) }
         ensures senses { IfOk result (λ es. ErrorsInEverySense
+            K.Validate M.Matcher.own self.now (view instance.now) es) }
+        ensures points { IfOk result (λ es. ErrorsPointAsNodes
             K.Validate M.Matcher.own self.now (view instance.now) es) }
         ensures borrows { IfOk result (λ es. All (BorrowsItsPlace (view instance.now)) es) }
     {

@@ -27,18 +27,18 @@ use Rattle.schema_node.specs.declared.context.keyword.Fault.TheVariants as fault
 use Rattle.schema_node.specs.declared.context.keyword.Answer as code_answer
 use Rattle.schema_node.proofs.Faults.{errors_of_faults}
 
-module _ {K R : Type 0} (keywords : Keywords K R) (m : K) (absorbed : List Text) (remaining : Subject → R → ℕ) (end_of : Standing R → Answer) (Fits : Standing R → Type 0)
-    (laws : TurnLaws keywords m absorbed remaining end_of Fits) where
+module _ {K R : Type 0} (keywords : Keywords K R) (m : K) (absorbed : List Text) (remaining : Subject → R → ℕ) (can_be : Subject → R → Type 0) (end_of : Standing R → Answer) (Fits : Standing R → Type 0)
+    (laws : TurnLaws keywords m absorbed remaining can_be end_of Fits) where
   -- ---- in a reading
 
   module _ (s : Subject) (x : Reading) (mode : Mode) (answers : Answers) where
     abbrev OnWay : R → Reply → Type 0
-    OnWay = OnItsWay keywords m end_of Fits s x mode answers
+    OnWay = OnItsWay keywords m can_be end_of Fits s x mode answers
 
     pub begins : (r : R) → ((q : Question) → Agrees (answers q)) → keywords.begin m s mode ≡ r → OnWay r no_reply
     begins r agree e =
-        let h = laws.begins s mode (matching x.matcher x.completion) answers (λ q. unit_with (answers q)) (λ a b. false) agree (λ q. refl) in
-        subst (λ u. OnWay u no_reply) e (record { fits = h.0; right = h.1 })
+        let h = laws.begins s mode (matching x.matcher x.completion) answers (λ q. unit_with (answers q)) (λ a b. false) agree (λ q. refl) (λ i j e below. absurd (cc e)) in
+        subst (λ u. OnWay u no_reply) e (record { can = laws.starts s mode; fits = h.0; right = h.1 })
 
     -- a reply in a mode is the true one
     true_reply : (q : Question) (w : Mode) → ¬ (w ≡ for_units) → reply_by w (answers q) ≡ answer_in keywords m s (matching x.matcher x.completion) answers (λ q. unit_with (answers q)) (λ a b. false) w q
@@ -62,7 +62,7 @@ module _ {K R : Type 0} (keywords : Keywords K R) (m : K) (absorbed : List Text)
         let replied : To (keywords.step m s r reply) ≡ reply' = ap To e ∙ told in
         let there : next keywords m st ≡ stands_at s x answers r' reply'
         = λ i. record { subject = s; matches = matching x.matcher x.completion; answers = answers; unit_at = λ q. unit_with (answers q); same = λ a b. false; marks = marks i; state = is i; reply = replied i } in
-        record { fits = subst Fits there k.0; right = subst (IsRight keywords m s (matching x.matcher x.completion) answers (λ q. unit_with (answers q)) (λ a b. false) mode) (sym k.1 ∙ ap end_of there) way.right }
+        record { can = subst (can_be s) is (laws.goes_on s r reply way.can); fits = subst Fits there k.0; right = subst (IsRight keywords m s (matching x.matcher x.completion) answers (λ q. unit_with (answers q)) (λ a b. false) mode) (sym k.1 ∙ ap end_of there) way.right }
 
     pub asked : (r r' : R) (reply reply' : Reply) (q : Question) (w : Mode) → ¬ (w ≡ for_units) → OnWay r reply → keywords.turn m s r reply ≡ r' → keywords.step m s r reply ≡ ask q w → reply' ≡ reply_by w (answers q) → OnWay r' reply'
     asked r r' reply reply' q w less way t e a = went r r' reply reply' (ask q w) way t e (λ f. cc f) refl (sym (true_reply q w less) ∙ sym a)
@@ -84,38 +84,41 @@ module _ {K R : Type 0} (keywords : Keywords K R) (m : K) (absorbed : List Text)
 
   module _ (s : Subject) where
     abbrev Unmarked : R → Reply → Type 0
-    Unmarked = StaysUnmarked keywords m s (remaining s)
+    Unmarked = StaysUnmarked keywords m s (remaining s) (can_be s)
 
     pub unmarked_first : (mode : Mode) (r : R) → AlwaysUnmarked keywords m s (keywords.most_turns m s) (keywords.begin m s mode) no_reply → keywords.begin m s mode ≡ r → Unmarked r no_reply
-    unmarked_first mode r h e = (keywords.most_turns m s, subst (λ u. remaining s u < keywords.most_turns m s) e (laws.bounded s mode), subst (λ u. AlwaysUnmarked keywords m s (keywords.most_turns m s) u no_reply) e h)
+    unmarked_first mode r h e = (keywords.most_turns m s, subst (λ u. remaining s u < keywords.most_turns m s) e (laws.bounded s mode), subst (λ u. AlwaysUnmarked keywords m s (keywords.most_turns m s) u no_reply) e h, subst (can_be s) e (laws.starts s mode))
 
     pub is_unmarked : (r : R) (reply : Reply) → Unmarked r reply → IsUnmarked (keywords.step m s r reply)
-    is_unmarked r reply (zero, l, h) = absurd (omega arith)
-    is_unmarked r reply (suc n, l, h) = h.0
+    is_unmarked r reply (zero, l, h, can) = absurd (omega arith)
+    is_unmarked r reply (suc n, l, h, can) = h.0
 
-    pub falls_turned : (r r' : R) (reply : Reply) (t : Turn) → keywords.turn m s r reply ≡ r' → keywords.step m s r reply ≡ t → ¬ (t ≡ done) → remaining s r' < remaining s r
-    falls_turned r r' reply t is e more = go (laws.falls s r reply)
+    pub can_be_in : (r : R) (reply : Reply) → Unmarked r reply → can_be s r
+    can_be_in r reply (n, l, h, can) = can
+
+    pub falls_turned : (r r' : R) (reply : Reply) (t : Turn) → can_be s r → keywords.turn m s r reply ≡ r' → keywords.step m s r reply ≡ t → ¬ (t ≡ done) → remaining s r' < remaining s r
+    falls_turned r r' reply t can is e more = go (laws.falls s r reply can)
       where
         go : (keywords.step m s r reply ≡ done) ⊎ (remaining s (keywords.turn m s r reply) < remaining s r) → remaining s r' < remaining s r
         go (inl d) = absurd (more (sym e ∙ d))
         go (inr l) = subst (λ u. remaining s u < remaining s r) is l
 
     pub unmarked_after : (r r' : R) (reply reply' : Reply) (t : Turn) → Unmarked r reply → keywords.turn m s r reply ≡ r' → keywords.step m s r reply ≡ t → ¬ (t ≡ done) → Unmarked r' reply'
-    unmarked_after r r' reply reply' t (zero, l, h) is e more = absurd (omega arith)
-    unmarked_after r r' reply reply' t (suc n, l, h) is e more =
-        let f = falls_turned r r' reply t is e more in
-        (n, omega arith, subst (λ u. AlwaysUnmarked keywords m s n u reply') is (h.1 reply'))
+    unmarked_after r r' reply reply' t (zero, l, h, can) is e more = absurd (omega arith)
+    unmarked_after r r' reply reply' t (suc n, l, h, can) is e more =
+        let f = falls_turned r r' reply t can is e more in
+        (n, omega arith, subst (λ u. AlwaysUnmarked keywords m s n u reply') is (h.1 reply'), subst (can_be s) is (laws.goes_on s r reply can))
 
     -- a question is asked of what is there, and of less than units
     pub asks_less : (r : R) (reply : Reply) (q : Question) (w : Mode) → Unmarked r reply → keywords.step m s r reply ≡ ask q w → ¬ (w ≡ for_units)
     asks_less r reply q w h e = subst IsUnmarked e (is_unmarked r reply h)
 
-    pub asks_present : (r : R) (reply : Reply) (q : Question) (w : Mode) → All (λ q. IsPresent s (steps_below q.below)) (keywords.may_ask m s) → keywords.step m s r reply ≡ ask q w → IsPresent s (steps_below q.below)
-    asks_present r reply q w h e = All-contains (λ q. IsPresent s (steps_below q.below)) (keywords.may_ask m s) q h (subst (AsksRightly keywords m s absorbed) e (laws.asks s r reply))
+    pub asks_present : (r : R) (reply : Reply) (q : Question) (w : Mode) → Unmarked r reply → All (λ q. IsPresent s (steps_below q.below)) (keywords.may_ask m s) → keywords.step m s r reply ≡ ask q w → IsPresent s (steps_below q.below)
+    asks_present r reply q w on h e = All-contains (λ q. IsPresent s (steps_below q.below)) (keywords.may_ask m s) q h (subst (AsksRightly keywords m s absorbed) e (laws.asks s r reply (can_be_in r reply on)))
 
     -- and a match is asked for inside the instance
-    pub matches_present : (r : R) (reply : Reply) (a : Pair) (point : MatchPoint) → keywords.step m s r reply ≡ match_text a point → IsPresent s point.spot.below
-    matches_present r reply a point e = let inside : SpotInside s absorbed point.spot = subst (AsksRightly keywords m s absorbed) e (laws.asks s r reply) in inside.0
+    pub matches_present : (r : R) (reply : Reply) (a : Pair) (point : MatchPoint) → Unmarked r reply → keywords.step m s r reply ≡ match_text a point → IsPresent s point.spot.below
+    matches_present r reply a point on e = let inside : SpotInside s absorbed point.spot = subst (AsksRightly keywords m s absorbed) e (laws.asks s r reply (can_be_in r reply on)) in inside.0
 
 -- ---- what the answer says at the end
 

@@ -1,4 +1,5 @@
 pub mod Pairs
+pub mod Depths
 pub mod Matches
 pub mod NodeMeets
 pub mod KeywordMeets
@@ -16,3 +17,4 @@ pub mod PartLaws
 pub mod SchemaPaths
 pub mod FilledNumbers
 pub mod Stamped
+pub mod Escaping

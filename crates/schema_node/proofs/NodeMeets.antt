@@ -10,7 +10,7 @@ use Rattle.schema_reports.specs.Keywords.{Below, Keywords, Mode, Question, down,
 use Rattle.schema_reports.specs.Meaning.{both}
 use Rattle.schema_reports.specs.Runs.{Looked, Met, Run, first_error, no_run, plan_met, reply_in}
 use Rattle.schema_reports.specs.Laws.{Agrees}
-use Rattle.schema_reports.specs.Guarded.{Children, NodeEdge, NodeForm, NodePart, NodePlan, Nodes, node_always, node_child, node_never, node_part, node_reference, node_these}
+use Rattle.schema_reports.specs.Guarded.{Children, NodeEdge, NodeForm, NodePart, NodePlan, Nodes, node_always, node_child, node_never, node_part, node_reference, node_these, yes_run}
 use Rattle.schema_reports.specs.Numbered.{left, subject_in}
 use Rattle.schema_reports.specs.Unfinished.{Remembered}
 use Rattle.schema_reports.proofs.Falls.{from_below}
@@ -35,13 +35,13 @@ module _ {K R : Type 0} (words : Bool → Keywords K R) (is_whole : K → Bool) 
 
     pub meets_busy : e.guarded ≡ true → list_any (λ i. i == e.node) busy ≡ true → old ≡ new → EdgeMeets words is_whole nodes count w mode path p busy s old new e
     meets_busy g t same texts root depth reads l =
-        let is = busy_case e.guarded (list_any (λ i. i == e.node) busy) (deep_run words nodes w texts root depth e.node (path ++ e.path) p busy) (deep_run words nodes w texts root depth e.node (path ++ e.path) p (e.node ∷ busy)) no_run g t in
+        let is = busy_case e.guarded (list_any (λ i. i == e.node) busy) (deep_run words nodes w texts root depth e.node (path ++ e.path) p busy) (deep_run words nodes w texts root depth e.node (path ++ e.path) p (e.node ∷ busy)) (yes_run nodes e.node (path ++ e.path) p) g t in
         meets_same w.matcher old new [] _ (ap (λ (r : Run). r.met mode) (sym is)) same
 
     pub meets_entered : e.guarded ≡ true → list_any (λ i. i == e.node) busy ≡ false → NodeMeets words is_whole nodes count w mode (path ++ e.path) p (e.node ∷ busy) s old new e.node → EdgeMeets words is_whole nodes count w mode path p busy s old new e
     meets_entered g t h texts root depth reads l =
         let n = needs_of_entered g t in
-        let is = entered_case e.guarded (list_any (λ i. i == e.node) busy) (deep_run words nodes w texts root depth e.node (path ++ e.path) p busy) (deep_run words nodes w texts root depth e.node (path ++ e.path) p (e.node ∷ busy)) no_run g t in
+        let is = entered_case e.guarded (list_any (λ i. i == e.node) busy) (deep_run words nodes w texts root depth e.node (path ++ e.path) p busy) (deep_run words nodes w texts root depth e.node (path ++ e.path) p (e.node ∷ busy)) (yes_run nodes e.node (path ++ e.path) p) g t in
         meets_same w.matcher old new _ _ (ap (λ (r : Run). r.met mode) (sym is)) (h texts root depth reads (omega (arith, n, l)))
 
   -- ---- children
@@ -175,12 +175,12 @@ no_leaf for_all l e = by l.is_leaf e
     by true h = absurd (true≢false h)
     by false h = refl
 
--- an entry that is no leaf, and any entry whose verdict alone is wanted
-pub other_entry : (mode : Mode) (l : Looked) → (¬ (mode ≡ for_verdict) → l.is_leaf ≡ false) → l.met mode ≡ entry_met mode l
+-- an entry that is no leaf, and any entry whose verdict alone is wanted, or its units
+pub other_entry : (mode : Mode) (l : Looked) → (¬ (mode ≡ for_verdict) → ¬ (mode ≡ for_units) → l.is_leaf ≡ false) → l.met mode ≡ entry_met mode l
 other_entry for_units l h = refl
 other_entry for_verdict l h = refl
-other_entry for_first l h = no_leaf for_first l (h (λ e. cc e))
-other_entry for_all l h = no_leaf for_all l (h (λ e. cc e))
+other_entry for_first l h = no_leaf for_first l (h (λ e. cc e) (λ e. cc e))
+other_entry for_all l h = no_leaf for_all l (h (λ e. cc e) (λ e. cc e))
 
 -- ---- what is settled
 

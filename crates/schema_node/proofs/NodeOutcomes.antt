@@ -1,30 +1,31 @@
 -- A run's outcome is the one that its nodes have under its completion.
-use Rattle.std.proofs.Common.{◌≡◌, ◌∙◌, ℕ, zero, suc, ◌==◌, Bool, true, false, List, refl, sym, ap}
+use Rattle.std.proofs.Common.{◌≡◌, ◌∙◌, ℕ, zero, suc, ◌==◌, Bool, true, false, List, ◌++◌, refl, sym, ap}
 use Rattle.std.specs.List.{list_any}
 use Rattle.schema_reports.specs.Instance.{Place, Subject, Text}
-use Rattle.schema_reports.specs.Reports.{Outcome, accepted}
+use Rattle.schema_reports.specs.Reports.{Outcome}
 use Rattle.schema_reports.specs.Matching.{Assumptions, Matcher, completion_of}
 use Rattle.schema_reports.specs.Keywords.{Below, Keywords, Mode, for_all, for_first, for_units, for_verdict}
-use Rattle.schema_reports.specs.Runs.{Run, no_run, reply_in}
-use Rattle.schema_reports.specs.Guarded.{NodeEdge, Nodes, across, guarded_node, guarded_within, node_outcome, progress_below}
+use Rattle.schema_reports.specs.Meaning.{place_below}
+use Rattle.schema_reports.specs.Runs.{Run, reply_in}
+use Rattle.schema_reports.specs.Guarded.{NodeEdge, Nodes, across, guarded_node, guarded_within, node_outcome, progress_below, yes_outcome, yes_run}
 use Rattle.schema_node.specs.NodeRuns.{reply_by}
 
 module _ {K R : Type 0} (keywords : Keywords K R) (matcher : Matcher) (nodes : Nodes K) (subject_of : Place → Subject) (as' : Assumptions) where
   abbrev runs : ℕ → ℕ → Text → Place → List ℕ → Run
-  runs = guarded_within no_run (guarded_node keywords matcher nodes subject_of as')
+  runs = guarded_within (yes_run nodes) (guarded_node keywords matcher nodes subject_of as')
 
   abbrev says : ℕ → ℕ → Text → Place → List ℕ → Outcome
-  says = guarded_within accepted (node_outcome keywords matcher nodes subject_of (completion_of as'))
+  says = guarded_within yes_outcome (node_outcome keywords matcher nodes subject_of (completion_of as'))
 
-  by_guard : (g t : Bool) (u v : Run) (u' v' : Outcome) → u.outcome tt ≡ u' → v.outcome tt ≡ v'
-      → ◌≡◌ {A = Outcome} ((elim g as (λ g. Run) [ false ↦ u | true ↦ elim t as (λ t. Run) [ true ↦ no_run | false ↦ v ] ]).outcome tt) (elim g [ false ↦ u' | true ↦ elim t [ true ↦ accepted | false ↦ v' ] ])
-  by_guard false t u v u' v' h k = h
-  by_guard true true u v u' v' h k = refl
-  by_guard true false u v u' v' h k = k
+  by_guard : (g t : Bool) (y u v : Run) (y' u' v' : Outcome) → y.outcome tt ≡ y' → u.outcome tt ≡ u' → v.outcome tt ≡ v'
+      → ◌≡◌ {A = Outcome} ((elim g as (λ g. Run) [ false ↦ u | true ↦ elim t as (λ t. Run) [ true ↦ y | false ↦ v ] ]).outcome tt) (elim g [ false ↦ u' | true ↦ elim t [ true ↦ y' | false ↦ v' ] ])
+  by_guard false t y u v y' u' v' f h k = h
+  by_guard true true y u v y' u' v' f h k = f
+  by_guard true false y u v y' u' v' f h k = k
 
   pub across_is : (n : ℕ) → ((i : ℕ) (path : Text) (p : Place) (busy : List ℕ) → (runs n i path p busy).outcome tt ≡ says n i path p busy) → (path : Text) (p : Place) (busy : List ℕ) (e : NodeEdge) (b : Below)
-      → (across no_run (guarded_node keywords matcher nodes subject_of as') (runs n) path p busy e b).outcome tt ≡ across accepted (node_outcome keywords matcher nodes subject_of (completion_of as')) (says n) path p busy e b
-  across_is n h path p busy e b = by_guard e.guarded (list_any (λ i. i == e.node) (progress_below busy b)) _ _ _ _ (h e.node _ _ _) (h e.node _ _ _)
+      → (across (yes_run nodes) (guarded_node keywords matcher nodes subject_of as') (runs n) path p busy e b).outcome tt ≡ across yes_outcome (node_outcome keywords matcher nodes subject_of (completion_of as')) (says n) path p busy e b
+  across_is n h path p busy e b = by_guard e.guarded (list_any (λ i. i == e.node) (progress_below busy b)) (yes_run nodes e.node (path ++ e.path) (place_below p b)) _ _ (yes_outcome e.node (path ++ e.path) (place_below p b)) _ _ refl (h e.node _ _ _) (h e.node _ _ _)
 
   pub outcome_is : (n i : ℕ) (path : Text) (p : Place) (busy : List ℕ) → (runs n i path p busy).outcome tt ≡ says n i path p busy
   outcome_is zero i path p busy = refl

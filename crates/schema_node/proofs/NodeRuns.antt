@@ -11,7 +11,7 @@ use Rattle.schema_reports.specs.Meaning.{both, fault_error, false_outcome}
 use Rattle.schema_reports.specs.Pointer.{joined}
 use Rattle.schema_reports.specs.Runs.{first_error}
 use Rattle.schema_reports.specs.Laws.{Agrees}
-use Rattle.schema_reports.specs.Guarded.{Children, NodeEdge, NodeForm, NodePart, NodePlan, Nodes, across, guarded_within, node_always, node_asked, node_at, node_child, node_edges, node_keyword, node_never, node_part, node_parts, node_reference, node_these}
+use Rattle.schema_reports.specs.Guarded.{Children, NodeEdge, NodeForm, NodePart, NodePlan, Nodes, across, guarded_within, node_always, node_asked, node_at, node_child, node_edges, node_keyword, node_never, node_part, node_parts, node_reference, node_these, yes_outcome}
 use Rattle.schema_reports.specs.Numbered.{Ranked, left, subject_in}
 use Rattle.schema_reports.specs.ReportViews.{BorrowsItsPlace}
 use Rattle.schema_reports.proofs.Falls.{from_below, left_below, left_entered, left_lower, step_falls}
@@ -228,7 +228,7 @@ module _ {K R : Type 0} (words : Bool → Keywords K R) (nodes : Nodes K)
       back v w (y ∷ es) fs h k e = absurd (let q : ⊥ = cc in q)
 
   agrees_edge : (go : ℕ → Text → Place → List ℕ → Outcome) → ((i : ℕ) (path : Text) (p : Place) (busy : List ℕ) → Agrees (go i path p busy)) → (path : Text) (p : Place) (busy : List ℕ) (e : NodeEdge) (b : Below)
-      → Agrees (across accepted (node_says words nodes x) go path p busy e b)
+      → Agrees (across yes_outcome (node_says words nodes x) go path p busy e b)
   agrees_edge go h path p busy e b = by e.guarded (list_any (λ i. i == e.node) _) _ _ (h e.node _ _ _) (h e.node _ _ _)
     where
       by : (g t : Bool) (u v : Outcome) → Agrees u → Agrees v → Agrees (elim g [ false ↦ u | true ↦ elim t [ true ↦ accepted | false ↦ v ] ])
@@ -259,7 +259,7 @@ module _ {K R : Type 0} (words : Bool → Keywords K R) (nodes : Nodes K)
     agrees_plan node_never = (λ e. absurd (true≢false (sym e)), λ e. absurd (let q : ⊥ = cc in q))
     agrees_plan (node_these xs) = agrees_parts xs
 
-  pub agrees_deep : (n i : ℕ) (path : Text) (p : Place) (busy : List ℕ) → Agrees (guarded_within accepted (node_says words nodes x) n i path p busy)
+  pub agrees_deep : (n i : ℕ) (path : Text) (p : Place) (busy : List ℕ) → Agrees (guarded_within yes_outcome (node_says words nodes x) n i path p busy)
   agrees_deep zero i path p busy = agrees_accepted
   agrees_deep (suc n) i path p busy = agrees_plan _ (λ e b. agrees_edge _ (agrees_deep n) path p busy e b) i path p (nodes.entries i)
 

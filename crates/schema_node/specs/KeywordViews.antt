@@ -1,6 +1,6 @@
 -- What passes between the engine and a keyword, as the definitions have it.
 use Rattle.std.specs.Prelude.{◌≡◌, List, [], ◌∷◌, Bool, true, false, Option, Some, None, string_bytes, map, option_map}
-use Rattle.schema_reports.specs.Instance.{Subject, to_member, to_item, to_name}
+use Rattle.schema_reports.specs.Instance.{Subject, Text, to_member, to_item, to_name}
 use Rattle.schema_reports.specs.InstanceTexts.{subject_has_float}
 use Rattle.schema_reports.specs.InstanceViews.{step_of}
 use Rattle.schema_reports.specs.ReportViews.{spoken, error_of}
@@ -10,12 +10,11 @@ use Rattle.schema_node.specs.declared.context.keyword.Mode.{Mode}
 use Rattle.schema_node.specs.declared.context.keyword.Mode.TheVariants as mode
 use Rattle.schema_node.specs.declared.context.keyword.Below.{Below}
 use Rattle.schema_node.specs.declared.context.keyword.Below.TheVariants as below
-use Rattle.schema_node.specs.declared.context.keyword.PendingKind.{PendingKind}
-use Rattle.schema_node.specs.declared.context.keyword.PendingKind.TheVariants as kind
 use Rattle.schema_node.specs.declared.context.keyword.Marked.{Marked}
 use Rattle.schema_node.specs.declared.context.keyword.Marked.TheVariants as marked
 use Rattle.schema_node.specs.declared.context.keyword.Spot.{Spot}
 use Rattle.schema_node.specs.declared.context.keyword.MatchPoint.{MatchPoint}
+use Rattle.schema_node.specs.declared.context.keyword.MatchPoint.TheVariants as point
 use Rattle.schema_node.specs.declared.context.keyword.Step as step_module
 use Rattle.schema_node.specs.declared.context.keyword.Step.TheVariants as step
 use Rattle.schema_node.specs.declared.context.keyword.Reply.{Reply}
@@ -39,23 +38,29 @@ below_of (below.Member k) = spec.down (to_member k.now)
 below_of (below.Item n) = spec.down (to_item n)
 below_of (below.NameOf k) = spec.down (to_name k.now)
 
-abbrev pub kind_of : PendingKind → spec.Kind
-kind_of kind.Properties = spec.of_properties
-kind_of kind.Items = spec.of_items
-
 abbrev pub marked_of : Marked → spec.Marked
 marked_of (marked.Child n) = spec.a_child n
-marked_of (marked.Pending k) = spec.a_pending (kind_of k)
+marked_of (marked.Reservation n) = spec.a_reservation n
 
 abbrev pub spot_of : Spot → spec.Spot
-spot_of s = record { absorbed = option_map (λ t. t.now) s.absorbed; path = s.path.now; below = map step_of s.below.now }
+spot_of s = record { absorbed = option_map string_bytes s.absorbed; path = string_bytes s.path; below = map step_of s.below.items }
 
-abbrev pub point_of : MatchPoint → spec.MatchPoint
-point_of p = record { spot = spot_of p.spot; located = p.located; pattern = option_map (λ t. t.now) p.pattern }
+-- where a match of this pattern is asked for
+abbrev pub point_of : Text → MatchPoint → spec.MatchPoint
+point_of pattern (point.AtKeyword located) = record {
+  spot = record { absorbed = None; path = []; below = [] };
+  located = located;
+  pattern = Some pattern;
+}
+point_of pattern (point.AtSpot located spot) = record {
+  spot = spot_of spot.now;
+  located = located;
+  pattern = option_map string_bytes spot.now.pattern;
+}
 
 abbrev pub turn_of : step_module.Step → spec.Turn
 turn_of (step.Ask child b m) = spec.ask (record { child = child; below = below_of b }) (mode_of m)
-turn_of (step.Match pattern subject point) = spec.match_text (record { pattern = pattern.now; subject = subject.now }) (point_of point)
+turn_of (step.Match pattern subject point) = spec.match_text (record { pattern = pattern.now; subject = subject.now }) (point_of pattern.now point)
 turn_of (step.Mark m) = spec.mark (marked_of m)
 turn_of step.Unmark = spec.unmark
 turn_of (step.Ecma text) = spec.ecma text.now
@@ -79,7 +84,7 @@ fault_of texts (fault.Own e) = spec.own (own_of texts e)
 fault_of texts (fault.Passed e) = spec.passed (error_of texts e)
 
 abbrev pub no_gives : spec.Gives
-no_gives = record { children = []; annotations = None; errors = []; absorbed = [] }
+no_gives = record { valid = true; children = []; annotations = None; errors = []; absorbed = [] }
 
 abbrev pub is_nil : {A : Type 0} → List A → Bool
 is_nil [] = true
@@ -89,22 +94,23 @@ abbrev pub option_list : {A : Type 0} → Option A → List A
 option_list None = []
 option_list (Some a) = a ∷ []
 
--- an answer with these errors, which accepts where there are none
-abbrev pub with_errors : List spec.Fault → spec.Answer
-with_errors fs = record { verdict = is_nil fs; errors = fs; gives = no_gives }
+-- an answer of a mode with these errors, which accepts where there are none
+abbrev pub with_errors : spec.Mode → List spec.Fault → spec.Answer
+with_errors m fs = record { mode = m; verdict = is_nil fs; errors = fs; gives = record no_gives { valid = is_nil fs } }
 
 abbrev pub described_of : Bool → ErrorDescription → Described
 described_of texts e = record { name = string_bytes e.keyword; text = spoken texts (string_bytes e.text) }
 
+-- an answer shows its mode; a keyword that absorbs none has its own verdict in its unit
 abbrev pub answer_of : Bool → Answer → spec.Answer
-answer_of texts (answer.Verdict b) = record { verdict = b; errors = []; gives = no_gives }
-answer_of texts (answer.First f) = with_errors (option_list (option_map (λ b. fault_of texts b.value) f))
-answer_of texts (answer.All fs) = with_errors (map (fault_of texts) fs.items)
-answer_of texts (answer.Evaluation b es) = record { verdict = b; errors = []; gives = record no_gives { errors = map (described_of texts) es.items } }
+answer_of texts (answer.Verdict b) = record { mode = spec.for_verdict; verdict = b; errors = []; gives = record no_gives { valid = b } }
+answer_of texts (answer.First f) = with_errors spec.for_first (option_list (option_map (λ b. fault_of texts b.value) f))
+answer_of texts (answer.All fs) = with_errors spec.for_all (map (fault_of texts) fs.items)
+answer_of texts (answer.Evaluation b es) = record { mode = spec.for_units; verdict = b; errors = []; gives = record no_gives { valid = b; errors = map (described_of texts) es.items } }
 
--- how an answer begins
-abbrev pub fresh : spec.Answer
-fresh = with_errors []
+-- how an answer of a mode begins
+abbrev pub fresh : spec.Mode → spec.Answer
+fresh m = with_errors m []
 
 -- texts are spoken of only where neither the keyword nor the instance holds a fraction
 pub record Tells (texts is_whole : Bool) (s : Subject) : Type 0 where

@@ -1,8 +1,8 @@
 -- How a maker's turns follow its script.
-use Rattle.std.specs.Prelude.{◌≡◌, ℕ, suc, List, [], ◌∷◌, Bool, true, false, map, string_bytes}
+use Rattle.std.specs.Prelude.{◌≡◌, ℕ, suc, List, [], ◌∷◌, Bool, true, false, is_some, map, string_bytes}
 use Rattle.serde_json.specs.Data.{Members}
 use Rattle.serde_json.specs.Written.{members_have_float}
-use Rattle.schema_reports.specs.Instance.{Text, Place}
+use Rattle.schema_reports.specs.Instance.{Text, Place, member_of}
 use Rattle.schema_reports.specs.Making as spec
 use Rattle.schema_reports.specs.ReportViews.{owned_error_of}
 use Rattle.schema_node.specs.declared.context.table.KeywordOrigin.{KeywordOrigin}
@@ -59,9 +59,14 @@ abbrev pub IsStrictlyBelow : Place → Type 0
 IsStrictlyBelow [] = ⊥
 IsStrictlyBelow (s ∷ path) = Unit {0}
 
--- a keyword is handed on with the names that it absorbs, and is whole where the object holds no fraction
+-- these are names of members of the object
+abbrev pub AreMembers : Members → List Text → Type 0
+AreMembers object [] = Unit {0}
+AreMembers object (name ∷ names) = (is_some (member_of name object) ≡ true) × AreMembers object names
+
+-- a keyword is handed on with the names that it absorbs, which the object has, and is whole where the object holds no fraction
 abbrev pub IsMade : {K : Type 0} → (K → List Text) → (K → Bool) → Members → spec.Made K → Type 0
-IsMade absorbed is_whole object (spec.a_keyword m names) = (names ≡ absorbed m) × (members_have_float object ≡ false → is_whole m ≡ true)
+IsMade absorbed is_whole object (spec.a_keyword m names) = (names ≡ absorbed m) × (members_have_float object ≡ false → is_whole m ≡ true) × AreMembers object names
 IsMade absorbed is_whole object spec.nothing = Unit {0}
 IsMade absorbed is_whole object (spec.refused e) = Unit {0}
 

@@ -5,7 +5,7 @@ use Rattle.schema_reports.specs.Instance.{Place, Subject, Text}
 use Rattle.schema_reports.specs.Matching.{completion_of}
 use Rattle.schema_reports.specs.Keywords.{Below, Keywords, Mode, Question, for_all, for_first, for_units, for_verdict, here}
 use Rattle.schema_reports.specs.Runs.{Looked, Met, Run, no_run, plan_met}
-use Rattle.schema_reports.specs.Guarded.{Children, NodeEdge, NodeForm, NodePart, Nodes, across, guarded_node, guarded_within, node_asked, node_looked, node_part, node_part_met}
+use Rattle.schema_reports.specs.Guarded.{Children, NodeEdge, NodeForm, NodePart, Nodes, across, guarded_node, guarded_within, node_asked, node_looked, node_part, node_part_met, yes_run}
 use Rattle.schema_reports.specs.Numbered.{left, subject_in}
 use Rattle.schema_reports.specs.Unfinished.{Remembered}
 use Rattle.schema_node.specs.Matches.{MeetsEach, Settling}
@@ -28,10 +28,10 @@ module _ {K R : Type 0} (words : Bool → Keywords K R) (nodes : Nodes K) (w : S
   node_run = guarded_node (words texts) w.matcher nodes (subject_in root) w.assumptions
 
   abbrev pub deep_run : ℕ → Text → Place → List ℕ → Run
-  deep_run = guarded_within no_run node_run depth
+  deep_run = guarded_within (yes_run nodes) node_run depth
 
   abbrev pub edge_run : Text → Place → List ℕ → NodeEdge → Below → Run
-  edge_run = across no_run node_run deep_run
+  edge_run = across (yes_run nodes) node_run deep_run
 
   abbrev pub child_run : Text → Place → List ℕ → Children → Question → Run
   child_run path p busy es = node_asked (words texts) w.matcher nodes (subject_in root) no_run es (edge_run path p busy)

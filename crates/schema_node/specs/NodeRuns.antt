@@ -10,7 +10,7 @@ use Rattle.schema_reports.specs.Keywords.{Below, Keywords, Mode, Question, Reply
 use Rattle.schema_reports.specs.Meaning.{Where, both, stamped}
 use Rattle.schema_reports.specs.Runs.{first_error}
 use Rattle.schema_reports.specs.Unfinished.{or_no}
-use Rattle.schema_reports.specs.Guarded.{Children, NodeEdge, NodeForm, NodePart, Nodes, across, guarded_within, node_asked, node_child, node_edges, node_outcome, node_part, node_parts, node_these}
+use Rattle.schema_reports.specs.Guarded.{Children, NodeEdge, NodeForm, NodePart, Nodes, across, guarded_within, node_asked, node_child, node_edges, node_outcome, node_part, node_parts, node_these, yes_outcome}
 use Rattle.schema_reports.specs.Fractions.{AreWhole}
 use Rattle.schema_reports.specs.Numbered.{Ranked, left, subject_in}
 use Rattle.schema_reports.specs.ReportViews.{BorrowsItsPlace}
@@ -88,10 +88,10 @@ module _ {K R : Type 0} (words : Bool → Keywords K R) (nodes : Nodes K) (x : R
   node_says = node_outcome (words x.texts) x.matcher nodes (subject_in x.root) x.completion
 
   abbrev pub deep : ℕ → Text → Place → List ℕ → Outcome
-  deep = guarded_within accepted node_says x.depth
+  deep = guarded_within yes_outcome node_says x.depth
 
   abbrev pub edge_says : Text → Place → List ℕ → NodeEdge → Below → Outcome
-  edge_says = across accepted node_says deep
+  edge_says = across yes_outcome node_says deep
 
   abbrev pub child_says : Text → Place → List ℕ → Children → Question → Outcome
   child_says path p busy es = node_asked (words x.texts) x.matcher nodes (subject_in x.root) accepted es (edge_says path p busy)

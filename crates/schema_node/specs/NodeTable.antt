@@ -101,3 +101,7 @@ Adds old n annotations plan new = (rank : ℕ) × (new ≡ old ++ filled n rank 
 -- a reserved number has got its form, and nothing else has changed
 abbrev pub Fills : {K : Type 0} → List (NodeEntry K) → ℕ → Option Value → NodePlan K → List (NodeEntry K) → Type 0
 Fills {K} old i annotations plan new = (n : NodeEntry K) × (rank : ℕ) × (slice_get old i ≡ Some n) × (new ≡ slice_set old i (filled n rank annotations plan))
+
+-- the number ranks above every other that had its form
+abbrev pub RanksLast : {K : Type 0} → List (NodeEntry K) → ℕ → List (NodeEntry K) → Type 0
+RanksLast {K} old i new = (j : ℕ) (m : NodeEntry K) (plan : NodePlan K) (n : NodeEntry K) → slice_get old j ≡ Some m → m.plan ≡ Some plan → slice_get new i ≡ Some n → m.rank < n.rank

@@ -9,8 +9,8 @@ use Rattle.schema_reports.specs.Meaning.{Where}
 use Rattle.schema_reports.specs.Matching.{Extends, Matcher, completion_of, matching}
 use Rattle.schema_reports.specs.Reports.{Outcome}
 use Rattle.schema_reports.specs.ReportViews.{BorrowsItsPlace}
-use Rattle.schema_reports.specs.Runs.{Run, no_run, reply_in}
-use Rattle.schema_reports.specs.Guarded.{Children, NodeEdge, NodeForm, NodePart, Nodes, guarded_node, guarded_within, node_keyword}
+use Rattle.schema_reports.specs.Runs.{Run, reply_in}
+use Rattle.schema_reports.specs.Guarded.{Children, NodeEdge, NodeForm, NodePart, Nodes, guarded_node, guarded_within, node_keyword, yes_run}
 use Rattle.schema_reports.specs.Numbered.{left, subject_in}
 use Rattle.schema_node.specs.EvaluationPaths.{path_of}
 use Rattle.schema_node.specs.EvaluationPlaces.{steps_to}
@@ -125,7 +125,7 @@ module _ {K R : Type 0} (g : Setting K R) (q : Asking) (c : Context) where
 
   -- the run in a reading, with questions of a depth
   abbrev pub whole_run : Bool → Data → ℕ → ℕ → Run
-  whole_run texts root n i = guarded_within no_run (guarded_node (g.words texts) g.matcher g.nodes (subject_in root) c.remembered.assumptions) n i q.path q.place busy
+  whole_run texts root n i = guarded_within (yes_run g.nodes) (guarded_node (g.words texts) g.matcher g.nodes (subject_in root) c.remembered.assumptions) n i q.path q.place busy
 
   -- a fact about it in every reading, where nothing is assumed twice, at every depth that is enough
   abbrev pub OfWholeRun : ℕ → (Bool → Run → Type 0) → Type 0

@@ -26,11 +26,12 @@ stands_at s x answers r reply = record {
   reply = reply;
 }
 
--- it stands well, and ends in what is right
-pub record OnItsWay {K R : Type 0} (keywords : Keywords K R) (m : K) (end_of : Standing R → Answer) (Fits : Standing R → Type 0) (s : Subject) (x : Reading) (mode : Mode) (answers : Answers) (r : R) (reply : Reply) : Type 0 where
+-- it stands well, in a state that a run can be in, and ends in what is right
+pub record OnItsWay {K R : Type 0} (keywords : Keywords K R) (m : K) (can_be : Subject → R → Type 0) (end_of : Standing R → Answer) (Fits : Standing R → Type 0) (s : Subject) (x : Reading) (mode : Mode) (answers : Answers) (r : R) (reply : Reply) : Type 0 where
+  pub can : can_be s r
   pub fits : Fits (stands_at s x answers r reply)
   pub right : IsRight keywords m s (matching x.matcher x.completion) answers (λ q. unit_with (answers q)) (λ a b. false) mode (end_of (stands_at s x answers r reply))
 
--- for more turns than are left it takes no marks
-abbrev pub StaysUnmarked : {K R : Type 0} → Keywords K R → K → Subject → (R → ℕ) → R → Reply → Type 0
-StaysUnmarked keywords m s remaining r reply = (n : ℕ) × (remaining r < n) × AlwaysUnmarked keywords m s n r reply
+-- for more turns than are left it takes no marks, from a state that a run can be in
+abbrev pub StaysUnmarked : {K R : Type 0} → Keywords K R → K → Subject → (R → ℕ) → (R → Type 0) → R → Reply → Type 0
+StaysUnmarked keywords m s remaining can_be r reply = (n : ℕ) × (remaining r < n) × AlwaysUnmarked keywords m s n r reply × can_be r

@@ -3,9 +3,9 @@ ghost use Rattle.std.specs.Prelude.{◌≡◌, ◌++◌, ◌∷◌, ◌<◌, [],
 ghost use Rattle.std.specs.Prelude.{length, map, option_map, slice_get, string_bytes};
 ghost use Rattle.schema_node.specs.NodeViews.{boolean_plan, entry_of, plan_of, reserved_node, node_of};
 ghost use Rattle.schema_reports.specs.Guarded.{node_these};
-ghost use Rattle.schema_node.specs.NodeTable.{NodeEntry, IsReserved, IsFilled, AreFilled, Adds, Fills, IsRanked};
+ghost use Rattle.schema_node.specs.NodeTable.{NodeEntry, IsReserved, IsFilled, AreFilled, Adds, Fills, IsRanked, RanksLast};
 
-mod absolute;
+pub mod absolute;
 mod evaluation_path;
 mod evaluation_place;
 mod faults;
@@ -149,11 +149,12 @@ impl<K: Drop> Nodes<K> {
         Ok(SchemaNode(number))
     }
 
-    /// Gives a reserved number its form and its annotations.
+    /// Gives a reserved number its form and its annotations. It ranks above every number that had its form.
     pub fn fill(&mut self, node: SchemaNode, form: NodeForm<K>, annotations: Option<Value>)
         requires reserved { IsReserved self.old node.0 }
         requires ready { AreFilled self.old (plan_of form) }
         ensures filled { Fills self.old node.0 annotations (plan_of form) self.new }
+        ensures last { RanksLast self.old node.0 self.new }
     {
         // (the call says that a count of nodes fits the type)
         let count = self.nodes.len();

@@ -1,4 +1,4 @@
--- The keys reached times the places are deep enough.
+-- The targets reached times the places are deep enough.
 use Rattle.std.proofs.Common.{◌≡◌, ℕ, ◌*◌, ◌≤◌, List, length, sym, ◌∙◌, true, arith}
 use Rattle.std.specs.List.{list_any}
 use Rattle.serde_json.specs.Data.{Data}
@@ -7,7 +7,7 @@ use Rattle.schema_reports.specs.Parts.{Parts}
 use Rattle.schema_reports.specs.Plan.{Target, Key, Edge, same_target}
 use Rattle.schema_reports.specs.Returns.{Asked, LeadsTo, Return}
 use Rattle.schema_reports.specs.Meaning.{unfolded}
-use Rattle.schema_reports.specs.Reach.{deep_enough}
+use Rattle.schema_reports.specs.Reach.{deep_enough, targets_of}
 use Rattle.schema_reports.proofs.Questions.{Asks}
 use Rattle.schema_reports.proofs.Deep.{no_return_stable}
 use Rattle.schema_reports.proofs.Trails.{test, grid, length-grid, on_grid, tells}
@@ -16,25 +16,25 @@ use Rattle.schema_reports.proofs.Products.{index, index_below}
 module _ {S K R : Type 0} (w : Parts S K R) (instance : Data) {X : Type 0} (last : X) (node : Key S → Text → Place → (Edge S → Place → X) → X)
     (local : (k : Key S) (path : Text) (p : Place) (f g : Edge S → Place → X) → ((edge : Edge S) (q : Place) → Asks w instance k p edge q → f edge q ≡ g edge q) → node k path p f ≡ node k path p g)
     (root : Asked w instance) (none : ¬ (Return w instance root)) (keys : List (Key S))
-    (at_keys : (a : Asked w instance) → LeadsTo w instance root a → list_any (λ k. same_target w a.key.target k.target) keys ≡ true)
+    (at_targets : (a : Asked w instance) → LeadsTo w instance root a → list_any (same_target w a.key.target) (targets_of w keys) ≡ true)
     (at_places : (a : Asked w instance) → LeadsTo w instance root a → list_any (same_place a.place) (places instance) ≡ true)
     (one_target : (a b k : Target S) → same_target w a k ≡ true → same_target w b k ≡ true → same_target w a b ≡ true)
     (one_place : (a b p : Place) → same_place a p ≡ true → same_place b p ≡ true → same_place a b ≡ true) where
-  cells : List (Key S × Place)
-  cells = grid w instance root none keys at_keys at_places one_target one_place
+  cells : List (Target S × Place)
+  cells = grid w instance root none (targets_of w keys) at_targets at_places one_target one_place
 
   cell_of : Asked w instance → ℕ
-  cell_of a = index (test w instance root none keys at_keys at_places one_target one_place a) cells
+  cell_of a = index (test w instance root none (targets_of w keys) at_targets at_places one_target one_place a) cells
 
-  count : length cells ≡ length keys * length (places instance)
+  count : length cells ≡ length (targets_of w keys) * length (places instance)
   unfolding cells
-  count = length-grid w instance root none keys at_keys at_places one_target one_place
+  count = length-grid w instance root none (targets_of w keys) at_targets at_places one_target one_place
 
   at_least : (j : ℕ) → length cells ≤ j → unfolded w instance last node j root.key root.path root.place ≡ unfolded w instance last node (length cells) root.key root.path root.place
   unfolding cells cell_of
   at_least = no_return_stable w instance last node local root none (length cells) cell_of
-      (λ a l. index_below (test w instance root none keys at_keys at_places one_target one_place a) cells (on_grid w instance root none keys at_keys at_places one_target one_place a l))
-      (tells w instance root none keys at_keys at_places one_target one_place)
+      (λ a l. index_below (test w instance root none (targets_of w keys) at_targets at_places one_target one_place a) cells (on_grid w instance root none (targets_of w keys) at_targets at_places one_target one_place a l))
+      (tells w instance root none (targets_of w keys) at_targets at_places one_target one_place)
 
   -- every two depths that are enough give the same
   pub enough_agree : (m n : ℕ) → deep_enough w keys instance ≤ m → deep_enough w keys instance ≤ n

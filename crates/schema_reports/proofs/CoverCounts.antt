@@ -1,14 +1,14 @@
 -- A completion extends one member of a cover; the runs of a cover are counted; branches are on distinct pairs.
-use Rattle.std.proofs.Common.{arith, ◌≡◌, ℕ, zero, suc, List, [], ◌∷◌, ◌++◌, ◌+◌, ◌*◌, length, map, refl, ap, sym, subst, ◌∙◌, ◌⊎◌, inl, inr, cond}
-use Rattle.std.specs.Prelude.{Bool, Contains, Some, None, false, find, option_map, slice_get, true}
+use Rattle.std.proofs.Common.{arith, ◌≡◌, zero, suc, List, [], ◌∷◌, ◌++◌, ◌+◌, ◌*◌, length, map, refl, ap, sym, subst, ◌∙◌, ◌⊎◌, inl, inr, cond}
+use Rattle.std.specs.Prelude.{Bool, Contains, Some, None, false, find, option_map, true}
 use Rattle.std.proofs.lemmas.List.{length-append}
 use Rattle.std.proofs.lemmas.List.Elements.{Contains-append_left, Contains-append_right, Contains-append_cases}
-use Rattle.std.proofs.lemmas.Option.{get_or_from_slice_get, slice_get_within}
-use Rattle.schema_reports.specs.Matching.{Assumptions, Completion, Extends, Pair, assumed, completed, completion_of, same_pair}
+use Rattle.schema_reports.specs.Matching.{Assumptions, Completion, Extends, Pair, assumed, completion_of, same_pair}
 use Rattle.schema_reports.specs.Runs.{Met}
 use Rattle.schema_reports.specs.Cover.{Call, Cover, IsRun, Sense, assuming, branch_at, first_run, further, split, whole}
-use Rattle.schema_reports.specs.Members.{ExtendsAt, RunsAre, StandOnce}
-use Rattle.schema_reports.proofs.CoversApart.{Some-is, answers, extended, only_one, same_is, same_itself, unassumed, up}
+use Rattle.schema_reports.specs.Members.{RunsAre, StandOnce}
+use Rattle.schema_reports.proofs.CoversApart.{Some-is, only_one, same_is, same_itself, unassumed}
+use Rattle.schema_reports.proofs.TakenApart.{EitherSide, ExtendsOne, Taken, get_cases, in_list, one_list, one_taken, two_sides}
 use Rattle.schema_reports.proofs.Senses.{own_extended}
 
 -- ---- positions of a list
@@ -22,31 +22,6 @@ Contains-later x xs y (i, is, at_i) = (suc i, omega arith, at_i)
 Contains-cases : {A : Type 0} (x : A) (xs : List A) (y : A) → Contains (x ∷ xs) y → (x ≡ y) ⊎ Contains xs y
 Contains-cases x xs y (zero, is, at_i) = inl at_i
 Contains-cases x xs y (suc i, is, at_i) = inr (i, omega arith, at_i)
-
-in_list : {A : Type 0} (xs : List A) (i : ℕ) (x : A) → slice_get xs i ≡ Some x → Contains xs x
-in_list xs i x e = (i, slice_get_within xs i x e, get_or_from_slice_get xs i x x e)
-
-get_left : {A : Type 0} (xs ys : List A) (i : ℕ) (x : A) → slice_get xs i ≡ Some x → slice_get (xs ++ ys) i ≡ Some x
-get_left [] ys i x e = absurd (cc e)
-get_left (y ∷ xs) ys zero x e = e
-get_left (y ∷ xs) ys (suc i) x e = get_left xs ys i x e
-
-get_right : {A : Type 0} (xs ys : List A) (i j : ℕ) (x : A) → j ≡ length xs + i → slice_get ys i ≡ Some x → slice_get (xs ++ ys) j ≡ Some x
-get_right [] ys i j x is e = let same : i ≡ j = omega arith in subst (λ k. slice_get ys k ≡ Some x) same e
-get_right (y ∷ xs) ys i zero x is e = absurd (omega arith)
-get_right (y ∷ xs) ys i (suc j) x is e = get_right xs ys i j x (omega arith) e
-
-abbrev EitherSide : {A : Type 0} → List A → List A → ℕ → A → Type 0
-EitherSide xs ys j x = (slice_get xs j ≡ Some x) ⊎ ((i : ℕ) × (j ≡ length xs + i) × (slice_get ys i ≡ Some x))
-
-get_cases : {A : Type 0} (xs ys : List A) (j : ℕ) (x : A) → slice_get (xs ++ ys) j ≡ Some x → EitherSide xs ys j x
-get_cases [] ys j x e = inr (j, omega arith, e)
-get_cases (y ∷ xs) ys zero x e = inl e
-get_cases (y ∷ xs) ys (suc j) x e = go (get_cases xs ys j x e)
-  where
-    go : EitherSide xs ys j x → EitherSide (y ∷ xs) ys (suc j) x
-    go (inl at_j) = inl at_j
-    go (inr (i, is, at_i)) = inr (i, omega arith, at_i)
 
 once_cons : {A : Type 0} (x : A) (xs : List A) → (Contains xs x → ⊥) → StandOnce xs → StandOnce (x ∷ xs)
 once_cons x xs new once zero zero y e f = refl
@@ -78,36 +53,12 @@ not_listed (x ∷ xs) a e here = go (same_pair a x.pair) refl e (Contains-cases 
 module _ (v : Sense) (call : Call) where
   -- ---- each completion extends one member
 
-  abbrev ExtendsOne : Completion → List Assumptions → Type 0
-  ExtendsOne c ms = (i : ℕ) × ExtendsAt c ms i × ((j : ℕ) → ExtendsAt c ms j → j ≡ i)
+  taken_of : {as' : Assumptions} {ms : List Assumptions} → Cover v call as' ms → Taken as' ms
+  taken_of (whole e) = one_list
+  taken_of {as'} (split m e s t) = two_sides m (unassumed v call as' m e) (taken_of s) (taken_of t)
 
   pub one_member : {as' : Assumptions} {ms : List Assumptions} (c : Completion) → Cover v call as' ms → Extends c as' → ExtendsOne c ms
-  one_member {as'} c (whole e) h = (0, (as', refl, h), first)
-    where
-      first : (j : ℕ) → ExtendsAt c (as' ∷ []) j → j ≡ 0
-      first zero at_j = refl
-      first (suc j) (m, at_j, ext) = absurd (cc at_j)
-  one_member {as'} c (split {no = ns} {yes = ys} m e s t) h = go (completed c m.pair) refl (one_member c s) (one_member c t)
-    where
-      says_no : (j : ℕ) (x : Assumptions) → slice_get ns j ≡ Some x → Extends c x → completed c m.pair ≡ false
-      says_no j x at_j ext = answers v call c as' m false (up v call c x s (in_list ns j x at_j) ext)
-
-      says_yes : (j : ℕ) (x : Assumptions) → slice_get ys j ≡ Some x → Extends c x → completed c m.pair ≡ true
-      says_yes j x at_j ext = answers v call c as' m true (up v call c x t (in_list ys j x at_j) ext)
-
-      go : (b : Bool) → completed c m.pair ≡ b → (Extends c (assuming m false as') → ExtendsOne c ns) → (Extends c (assuming m true as') → ExtendsOne c ys) → ExtendsOne c (ns ++ ys)
-      go false is no_side yes_side = let (i, (x, at_i, ext), only) = no_side (extended c as' m false h is) in
-          (i, (x, get_left ns ys i x at_i, ext), λ j (y, at_j, ext'). by i only j y ext' (get_cases ns ys j y at_j))
-        where
-          by : (i : ℕ) → ((j : ℕ) → ExtendsAt c ns j → j ≡ i) → (j : ℕ) (y : Assumptions) → Extends c y → EitherSide ns ys j y → j ≡ i
-          by i only j y ext' (inl at_j) = only j (y, at_j, ext')
-          by i only j y ext' (inr (n, same, at_n)) = absurd (cc (is, says_yes n y at_n ext'))
-      go true is no_side yes_side = let (i, (x, at_i, ext), only) = yes_side (extended c as' m true h is) in
-          (length ns + i, (x, get_right ns ys i (length ns + i) x refl at_i, ext), λ j (y, at_j, ext'). by i only j y ext' (get_cases ns ys j y at_j))
-        where
-          by : (i : ℕ) → ((j : ℕ) → ExtendsAt c ys j → j ≡ i) → (j : ℕ) (y : Assumptions) → Extends c y → EitherSide ns ys j y → j ≡ length ns + i
-          by i only j y ext' (inl at_j) = absurd (cc (is, says_no j y at_j ext'))
-          by i only j y ext' (inr (n, same, at_n)) = let it : n ≡ i = only n (y, at_n, ext') in omega arith
+  one_member c cover h = one_taken c (taken_of cover) h
 
   -- ---- the runs of a cover, in the order in which they are made
 

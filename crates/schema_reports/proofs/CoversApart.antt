@@ -1,8 +1,8 @@
 -- A cover takes the completions apart, and so which errors all completions share is decided by its members.
-use Rattle.std.proofs.Common.{◌≡◌, zero, suc, List, [], ◌∷◌, ◌++◌, refl, ap, sym, subst, ◌∙◌, Bool, true, false, ◌&&◌, arith, cond, not, ◌⊎◌, inl, inr}
+use Rattle.std.proofs.Common.{◌≡◌, zero, suc, List, [], ◌∷◌, ◌++◌, refl, ap, sym, subst, ◌∙◌, Bool, true, false, ◌&&◌, arith, cond, not}
 use Rattle.std.specs.Prelude.{All, Contains, Option, Some, None, find, option_map, is_some, Decides, filter}
 use Rattle.std.specs.List.{list_any}
-use Rattle.std.proofs.lemmas.List.Elements.{Contains-append_left, Contains-append_right, Contains-append_cases, All-contains}
+use Rattle.std.proofs.lemmas.List.Elements.{Contains-append_left, Contains-append_right, All-contains}
 use Rattle.std.proofs.lemmas.List.Sums.{AllPass-from_list_all, list_all-from_AllPass}
 use Rattle.std.proofs.lemmas.Slice.Eq.{bytes_eq-Decides}
 use Rattle.schema_reports.specs.Reports.{Error, same_error}
@@ -94,27 +94,9 @@ only_one y x (zero, is, e) = e
 only_one y x (suc i, is, e) = absurd (omega arith)
 
 module _ (v : Sense) (call : Call) where
-  pub answers : (c : Completion) (as' : Assumptions) (m : Met) (b : Bool) → Extends c (assuming m b as') → completed c m.pair ≡ b
-  answers c as' m b h = h m.pair b (rw (same_itself m.pair))
-
   pub unassumed : (as' : Assumptions) (m : Met) → branch_at v call as' ≡ Some m → assumed as' m.pair ≡ None
   unassumed as' m e = go (assumed as' m.pair) (find_passes (λ x. not (is_some (assumed as' x.pair))) (v.meets call as') m e)
     where
       go : (o : Option Bool) → not (is_some o) ≡ true → o ≡ None
       go None e' = refl
       go (Some b) e' = absurd (cc e')
-
-  shorter : (c : Completion) (as' : Assumptions) (m : Met) (b : Bool) → branch_at v call as' ≡ Some m → Extends c (assuming m b as') → Extends c as'
-  shorter c as' m b e h a b' is = go (same_pair a m.pair) refl (h a b')
-    where
-      go : (t : Bool) → same_pair a m.pair ≡ t → (option_map (λ x. x.outcome) (cond t (Some (record { pair = m.pair; outcome = b })) (find (λ x. same_pair a x.pair) as')) ≡ Some b' → completed c a ≡ b') → completed c a ≡ b'
-      go true s k = absurd (cc (sym is, ap (assumed as') (same_is a m.pair s), unassumed as' m e))
-      go false s k = k is
-
-  pub up : {as' : Assumptions} {ms : List Assumptions} (c : Completion) (x : Assumptions) → Cover v call as' ms → Contains ms x → Extends c x → Extends c as'
-  up c x (whole e) in_it h = subst (Extends c) (sym (only_one _ x in_it)) h
-  up {as'} c x (split {no = ns} {yes = ys} m e s t) in_it h = go (Contains-append_cases ns ys x in_it) (λ k. up c x s k h) (λ k. up c x t k h)
-    where
-      go : Contains ns x ⊎ Contains ys x → (Contains ns x → Extends c (assuming m false as')) → (Contains ys x → Extends c (assuming m true as')) → Extends c as'
-      go (inl k) f g = shorter c as' m false e (f k)
-      go (inr k) f g = shorter c as' m true e (g k)

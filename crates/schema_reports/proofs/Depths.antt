@@ -5,7 +5,7 @@ use Rattle.std.specs.List.{list_any}
 use Rattle.serde_json.specs.Data.{Data}
 use Rattle.schema_reports.specs.Instance.{Place, same_place, places}
 use Rattle.schema_reports.specs.Parts.{Parts}
-use Rattle.schema_reports.specs.Plan.{Target, Key, same_target}
+use Rattle.schema_reports.specs.Plan.{Target, same_target}
 use Rattle.schema_reports.specs.Meaning.{subject}
 use Rattle.schema_reports.specs.Returns.{Asked, questions, LeadsTo, Return}
 use Rattle.schema_reports.specs.Guarded.{Nodes}
@@ -31,8 +31,8 @@ module _ {S K R : Type 0} (w : Parts S K R) (instance : Data) (keys : Numbers S)
   unfolding ByMeasure
   measure_first n i root h = h
 
-  module _ (root : Asked w instance) (none : ¬ (Return w instance root)) (reached : List (Key S))
-      (at_keys : (a : Asked w instance) → LeadsTo w instance root a → list_any (λ k. same_target w a.key.target k.target) reached ≡ true)
+  module _ (root : Asked w instance) (none : ¬ (Return w instance root)) (reached : List (Target S))
+      (at_targets : (a : Asked w instance) → LeadsTo w instance root a → list_any (same_target w a.key.target) reached ≡ true)
       (at_places : (a : Asked w instance) → LeadsTo w instance root a → list_any (same_place a.place) (places instance) ≡ true)
       (one_target : (a b k : Target S) → same_target w a k ≡ true → same_target w b k ≡ true → same_target w a b ≡ true)
       (one_place : (a b p : Place) → same_place a p ≡ true → same_place b p ≡ true → same_place a b ≡ true) where
@@ -47,7 +47,7 @@ module _ {S K R : Type 0} (w : Parts S K R) (instance : Data) (keys : Numbers S)
     pub trail_less : (n i j : ℕ) (busy busy' : List ℕ) (a c : Asked w instance) → Contains (questions w instance a) c → left nodes (length keys) j (subject w instance c.place) busy' < left nodes (length keys) i (subject w instance a.place) busy
         → ByTrail n i busy a → (n' : ℕ) × (n ≡ suc n') × ByTrail n' j busy' c
     unfolding ByTrail
-    trail_less zero i j busy busy' a c q falls (seen, t, h) = let l = grid_short w instance root none reached at_keys at_places one_target one_place t in absurd (omega arith)
+    trail_less zero i j busy busy' a c q falls (seen, t, h) = let l = grid_short w instance root none reached at_targets at_places one_target one_place t in absurd (omega arith)
     trail_less (suc n) i j busy busy' a c q falls (seen, t, h) = (n, refl, (a ∷ seen, goes t q, omega arith))
 
     pub trail_first : (n i : ℕ) → length reached * length (places instance) ≤ n → ByTrail n i [] root

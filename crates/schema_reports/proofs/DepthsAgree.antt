@@ -1,4 +1,4 @@
--- Every depth from the keys reached times the places on gives one meaning, where no question returns.
+-- Every depth from the targets reached times the places on gives one meaning, where no question returns.
 use Rattle.std.proofs.Common.{◌≡◌, ℕ, List, [], ◌≤◌}
 use Rattle.std.specs.Prelude.{Decides}
 use Rattle.serde_json.specs.Data.{Data}
@@ -21,9 +21,9 @@ use Rattle.schema_reports.proofs.Counted.{enough_agree}
 use Rattle.schema_reports.proofs.Local.{outcome_local}
 use Rattle.schema_reports.proofs.PlainRuns.{run_local, unit_local}
 use Rattle.schema_reports.proofs.Questions.{Asks}
-use Rattle.schema_reports.proofs.Reaching.{at_keys}
+use Rattle.schema_reports.proofs.Reaching.{at_targets}
 use Rattle.schema_reports.proofs.Reading.{Reads, reads_of}
-use Rattle.schema_reports.proofs.SameRun.{one_place, one_target}
+use Rattle.schema_reports.proofs.SameRun.{one_place, one_target, same_through}
 
 module _ {S K R : Type 0} (w : Parts S K R) (laws : EachKeeps w.keywords) (states : (a b : S) → Decides (w.resolver.same_state a b) (a ≡ b))
     (instance : Data) (root : Key S) (none : ¬ (Return w instance (at_root w root instance))) (keys : List (Key S)) (reach : IsReach w root keys) where
@@ -33,7 +33,7 @@ module _ {S K R : Type 0} (w : Parts S K R) (laws : EachKeeps w.keywords) (state
   agree : {X : Type 0} (last : X) (node : Key S → Text → Place → (Edge S → Place → X) → X)
       → ((k : Key S) (path : Text) (p : Place) (f g : Edge S → Place → X) → ((edge : Edge S) (q : Place) → Asks w instance k p edge q → f edge q ≡ g edge q) → node k path p f ≡ node k path p g)
       → (m n : ℕ) → deep_enough w keys instance ≤ m → deep_enough w keys instance ≤ n → unfolded w instance last node m root [] [] ≡ unfolded w instance last node n root [] []
-  agree last node local = enough_agree w instance last node local (at_root w root instance) none keys (at_keys w instance root keys reach) (at_places w instance reads root) (one_target w states) one_place
+  agree last node local = enough_agree w instance last node local (at_root w root instance) none keys (at_targets w instance root (same_through w states) keys reach) (at_places w instance reads root) (one_target w states) one_place
 
   pub same_depths : (m n : ℕ) → deep_enough w keys instance ≤ m → deep_enough w keys instance ≤ n → SameDepths w instance root m n
   same_depths m n a b =

@@ -4,7 +4,7 @@ use Rattle.std.proofs.lemmas.List.{append-nil, reverse-append}
 use Rattle.schema_reports.specs.Matching.{Assumptions}
 use Rattle.schema_reports.specs.Runs.{Met}
 use Rattle.schema_reports.specs.Cover.{assuming}
-use Rattle.schema_reports.specs.Unfinished.{Failure, Remembered, located_by, located_by_all, starting}
+use Rattle.schema_reports.specs.Unfinished.{Failure, FirstIsNew, Remembered, located_by, located_by_all, starting}
 use Rattle.schema_reports.specs.Search.{Grows, GrowsFrom, Tree, branch, member, results_of, runs, sites, unrun, waiting}
 
 module _ {S T : Type 0} (Step : S → Remembered → Remembered → T → S → Type 0) where
@@ -65,29 +65,29 @@ module _ {S T : Type 0} (Step : S → Remembered → Remembered → T → S → 
     failure_is = w.failure_is ∙ e4;
   }
 
-  pub completes_first : first.unassumed ≡ Some u → Completes (assuming u.met false first.assumptions ∷ assuming u.met true first.assumptions ∷ []) start [] 1 (located_by u first.located)
-  completes_first is [] end g = absurd g
-  completes_first is (a ∷ []) end g = absurd g.2
-  completes_first is (a ∷ b ∷ []) end g = record {
+  pub completes_first : first.unassumed ≡ Some u → FirstIsNew first → Completes (assuming u.met false first.assumptions ∷ assuming u.met true first.assumptions ∷ []) start [] 1 (located_by u first.located)
+  completes_first is new [] end g = absurd g
+  completes_first is new (a ∷ []) end g = absurd g.2
+  completes_first is new (a ∷ b ∷ []) end g = record {
     tree = branch first u a b;
-    grows = (g.0, refl, is, g.1, subst (λ e. Grows Step (assuming u.met true first.assumptions) g.0 b e) g.2.2 g.2.1);
+    grows = (g.0, refl, is, g.1, subst (λ e. Grows Step (assuming u.met true first.assumptions) g.0 b e) g.2.2 g.2.1, new u is);
     results_are = ap (λ x. results_of a ++ x) (sym (append-nil (results_of b)));
     runs_are = omega arith;
     waiting_are = omega arith;
     failure_is = ap (λ x. located_by_all (located_by u first.located) (sites a ++ x)) (sym (append-nil (sites b)));
   }
-  completes_first is (a ∷ b ∷ c ∷ cs) end g = absurd g.2.2
+  completes_first is new (a ∷ b ∷ c ∷ cs) end g = absurd g.2.2
 
   pub completes_member : (lists : List Assumptions) (a : Assumptions) (s : S) (results : List T) (count : ℕ) (failure : Failure) (met : Remembered) (result : T) (s' : S) → Completes (a ∷ lists) s results count failure → Step s (starting a) met result s' → met.unassumed ≡ None → Completes lists s' (results ++ result ∷ []) (count + 1) (located_by failure met.located)
   completes_member lists a s results count failure met result s' h step none cs end g =
       Grown-same (h (member met result ∷ cs) end (s', (step, none), g))
       (sym (append_assoc results (result ∷ []) (results_all cs))) (omega arith) (omega arith) refl
 
-  pub completes_branch : (lists : List Assumptions) (a : Assumptions) (s : S) (results : List T) (count : ℕ) (failure : Failure) (met : Remembered) (result : T) (v : Failure) (s' : S) → Completes (a ∷ lists) s results count failure → Step s (starting a) met result s' → met.unassumed ≡ Some v → Completes (assuming v.met false a ∷ assuming v.met true a ∷ lists) s' results (count + 1) (located_by failure met.located)
-  completes_branch lists a s results count failure met result v s' h step some [] end g = absurd g
-  completes_branch lists a s results count failure met result v s' h step some (x ∷ []) end g = absurd g.2
-  completes_branch lists a s results count failure met result v s' h step some (x ∷ y ∷ cs) end g =
-      Grown-same (h (branch met v x y ∷ cs) end (g.2.0, (result, s', g.0, step, some, g.1, g.2.1), g.2.2))
+  pub completes_branch : (lists : List Assumptions) (a : Assumptions) (s : S) (results : List T) (count : ℕ) (failure : Failure) (met : Remembered) (result : T) (v : Failure) (s' : S) → Completes (a ∷ lists) s results count failure → Step s (starting a) met result s' → met.unassumed ≡ Some v → FirstIsNew met → Completes (assuming v.met false a ∷ assuming v.met true a ∷ lists) s' results (count + 1) (located_by failure met.located)
+  completes_branch lists a s results count failure met result v s' h step some new [] end g = absurd g
+  completes_branch lists a s results count failure met result v s' h step some new (x ∷ []) end g = absurd g.2
+  completes_branch lists a s results count failure met result v s' h step some new (x ∷ y ∷ cs) end g =
+      Grown-same (h (branch met v x y ∷ cs) end (g.2.0, (result, s', g.0, step, some, g.1, g.2.1, new v some), g.2.2))
       (ap (λ z. results ++ z) (append_assoc (results_of x) (results_of y) (results_all cs))) (omega arith) (omega arith)
       (ap (λ z. located_by_all (located_by failure met.located) z) (append_assoc (sites x) (sites y) (sites_all cs)))
 
@@ -131,29 +131,29 @@ module _ {S T : Type 0} (Step : S → Remembered → Remembered → T → S → 
       (ap (λ z. located_by_all failure z) (waits_sites lists))
 
   -- the same of the stack, whose last list is run first
-  pub stack_first : first.unassumed ≡ Some u → (items : List Assumptions) (results : List T) (failure : Failure) → items ≡ [] ++ assuming u.met true first.assumptions ∷ [] ++ assuming u.met false first.assumptions ∷ [] → results ≡ [] → failure ≡ located_by u first.located → Completes (reverse items) start results 1 failure
-  stack_first is items results failure e er ef =
-      let q = ap reverse e ∙ reverse-push_two [] _ _ in rw (q, er, ef) (completes_first is)
+  pub stack_first : first.unassumed ≡ Some u → FirstIsNew first → (items : List Assumptions) (results : List T) (failure : Failure) → items ≡ [] ++ assuming u.met true first.assumptions ∷ [] ++ assuming u.met false first.assumptions ∷ [] → results ≡ [] → failure ≡ located_by u first.located → Completes (reverse items) start results 1 failure
+  stack_first is new items results failure e er ef =
+      let q = ap reverse e ∙ reverse-push_two [] _ _ in rw (q, er, ef) (completes_first is new)
 
   pub stack_member : (stack items : List Assumptions) (a : Assumptions) (s : S) (results : List T) (count : ℕ) (failure : Failure) (met : Remembered) (result : T) (s' : S) (results' : List T) (failure' : Failure) → stack ≡ items ++ a ∷ [] → Completes (reverse stack) s results count failure → Step s (starting a) met result s' → met.unassumed ≡ None → results' ≡ results ++ result ∷ [] → failure' ≡ located_by failure met.located → Completes (reverse items) s' results' (count + 1) failure'
   stack_member stack items a s results count failure met result s' results' failure' e h step none er ef =
       let q = ap reverse e ∙ reverse-push items a in
       rw (er, ef) (completes_member (reverse items) a s results count failure met result s' (subst (λ z. Completes z s results count failure) q h) step none)
 
-  pub stack_branch : (stack items items' : List Assumptions) (a : Assumptions) (s : S) (results : List T) (count : ℕ) (failure : Failure) (met : Remembered) (result : T) (v : Failure) (s' : S) (failure' : Failure) → stack ≡ items ++ a ∷ [] → Completes (reverse stack) s results count failure → Step s (starting a) met result s' → met.unassumed ≡ Some v → items' ≡ items ++ assuming v.met true a ∷ [] ++ assuming v.met false a ∷ [] → failure' ≡ located_by failure met.located → Completes (reverse items') s' results (count + 1) failure'
-  stack_branch stack items items' a s results count failure met result v s' failure' e h step some ei ef =
+  pub stack_branch : (stack items items' : List Assumptions) (a : Assumptions) (s : S) (results : List T) (count : ℕ) (failure : Failure) (met : Remembered) (result : T) (v : Failure) (s' : S) (failure' : Failure) → stack ≡ items ++ a ∷ [] → Completes (reverse stack) s results count failure → Step s (starting a) met result s' → met.unassumed ≡ Some v → FirstIsNew met → items' ≡ items ++ assuming v.met true a ∷ [] ++ assuming v.met false a ∷ [] → failure' ≡ located_by failure met.located → Completes (reverse items') s' results (count + 1) failure'
+  stack_branch stack items items' a s results count failure met result v s' failure' e h step some new ei ef =
       let q = ap reverse e ∙ reverse-push items a in
       let q' = ap reverse ei ∙ reverse-push_two items (assuming v.met true a) (assuming v.met false a) in
-      rw (q', ef) (completes_branch (reverse items) a s results count failure met result v s' (subst (λ z. Completes z s results count failure) q h) step some)
+      rw (q', ef) (completes_branch (reverse items) a s results count failure met result v s' (subst (λ z. Completes z s results count failure) q h) step some new)
 
   -- either of them, as the run met a match that it did not assume
-  pub stack_taken : (stack items items' : List Assumptions) (a : Assumptions) (s : S) (results results' : List T) (count : ℕ) (failure failure' : Failure) (met : Remembered) (result : T) (s' : S) (unassumed : Option Failure) → met.unassumed ≡ unassumed → stack ≡ items ++ a ∷ [] → Completes (reverse stack) s results count failure → Step s (starting a) met result s' → failure' ≡ located_by failure met.located → (met.unassumed ≡ None → (items' ≡ items) × (results' ≡ results ++ result ∷ [])) → ((v : Failure) → met.unassumed ≡ Some v → (items' ≡ items ++ assuming v.met true a ∷ [] ++ assuming v.met false a ∷ []) × (results' ≡ results)) → Completes (reverse items') s' results' (count + 1) failure'
-  stack_taken stack items items' a s results results' count failure failure' met result s' None none e h step ef whole branches =
+  pub stack_taken : (stack items items' : List Assumptions) (a : Assumptions) (s : S) (results results' : List T) (count : ℕ) (failure failure' : Failure) (met : Remembered) (result : T) (s' : S) (unassumed : Option Failure) → met.unassumed ≡ unassumed → stack ≡ items ++ a ∷ [] → Completes (reverse stack) s results count failure → Step s (starting a) met result s' → FirstIsNew met → failure' ≡ located_by failure met.located → (met.unassumed ≡ None → (items' ≡ items) × (results' ≡ results ++ result ∷ [])) → ((v : Failure) → met.unassumed ≡ Some v → (items' ≡ items ++ assuming v.met true a ∷ [] ++ assuming v.met false a ∷ []) × (results' ≡ results)) → Completes (reverse items') s' results' (count + 1) failure'
+  stack_taken stack items items' a s results results' count failure failure' met result s' None none e h step new ef whole branches =
       let w = whole none in
       subst (λ z. Completes (reverse z) s' results' (count + 1) failure') (sym w.0) (stack_member stack items a s results count failure met result s' results' failure' e h step none w.1 ef)
-  stack_taken stack items items' a s results results' count failure failure' met result s' (Some v) some e h step ef whole branches =
+  stack_taken stack items items' a s results results' count failure failure' met result s' (Some v) some e h step new ef whole branches =
       let w = branches v some in
-      subst (λ z. Completes (reverse items') s' z (count + 1) failure') (sym w.1) (stack_branch stack items items' a s results count failure met result v s' failure' e h step some w.0 ef)
+      subst (λ z. Completes (reverse items') s' z (count + 1) failure') (sym w.1) (stack_branch stack items items' a s results count failure met result v s' failure' e h step some new w.0 ef)
 
   pub stack_end : (stack : List Assumptions) (s : S) (results : List T) (count : ℕ) (failure : Failure) → stack ≡ [] → Completes (reverse stack) s results count failure → Grown s results count 0 failure
   stack_end stack s results count failure e h =

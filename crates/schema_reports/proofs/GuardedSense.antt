@@ -1,24 +1,63 @@
 -- What numbered nodes say under guards is a plain run's too.
-use Rattle.std.proofs.Common.{◌≡◌, ℕ, zero, suc, List, [], ◌∷◌, ◌++◌, refl, ap, ap₂, sym, subst, ◌∙◌, Bool, true, false, ◌==◌, map}
+use Rattle.std.proofs.Common.{◌≡◌, ℕ, zero, suc, List, [], ◌∷◌, ◌++◌, refl, ap, sym, subst, ◌∙◌, Bool, true, false, ◌==◌, map}
 use Rattle.std.specs.Prelude.{Option, Some, None, option_map}
-use Rattle.std.specs.List.{list_all, list_any}
+use Rattle.std.specs.List.{list_any}
 use Rattle.schema_reports.specs.Instance.{Text, Place, Subject}
 use Rattle.schema_reports.specs.Pointer.{joined}
 use Rattle.schema_reports.specs.Reports.{Error, Unit_, report_of, Outcome, accepted}
 use Rattle.schema_reports.specs.Keywords.{Keywords, Question, Below, here, Mode, for_verdict, for_first, for_all, for_units}
 use Rattle.schema_reports.specs.Matching.{Matcher, Completion, Assumptions, matching, completion_of, Extends}
 use Rattle.schema_reports.specs.Meaning.{place_below, stamped, false_outcome}
-use Rattle.schema_reports.specs.Units.{PartUnits, no_unit, reference_units, true_unit, false_unit, plan_unit}
+use Rattle.schema_reports.specs.Units.{PartUnits, given_units, no_unit, reference_units, true_unit, false_unit, plan_unit}
 use Rattle.schema_reports.specs.Runs.{Run, Looked, Met, no_run, plan_met}
 use Rattle.schema_reports.specs.Cover.{mode_of}
-use Rattle.schema_reports.specs.Guarded.{Children, NodeEdge, node_child, same_edge, Nodes, NodePart, NodeForm, node_keyword, node_reference, NodePlan, node_always, node_never, node_these, node_at, node_asked, node_part, node_parts, node_outcome, node_part_units, node_entries_of, node_unit, node_part_met, node_looked, guarded_node, guarded_within, guarded_sense, progress_below}
+use Rattle.schema_reports.specs.Guarded.{Children, NodeEdge, node_child, same_edge, Nodes, NodePart, NodeForm, node_keyword, node_reference, NodePlan, node_always, node_never, node_these, node_at, node_asked, node_part, node_parts, node_outcome, node_part_units, node_entries_of, node_unit, node_part_met, node_looked, guarded_node, across, guarded_within, guarded_sense, progress_below, yes_outcome, yes_run, yes_unit}
 use Rattle.schema_reports.specs.Laws.{Agrees, KeepsLaws}
 use Rattle.schema_reports.specs.Members.{AllAssumed, SameIn, Speaks, Follows}
 use Rattle.schema_reports.specs.Promises.{NodesFollow}
 use Rattle.schema_reports.proofs.SameTurns.{assumed_front, assumed_back, keyword_same, same_units}
 use Rattle.schema_reports.proofs.Plans.{Along, ends, goes, along_in_mode, same_itself_in, first_stamped, agrees_both}
-use Rattle.schema_reports.proofs.Valid.{EntriesValid, none_left, one_more, entries_valid, absorbed_held, mapped_agrees, held}
-use Rattle.schema_reports.proofs.Runs.{given_units, one_more_entry}
+use Rattle.schema_reports.proofs.Valid.{EntriesValid, EntryValid, and_true, entries_valid, given_valid, mapped_agrees, none_left, one_more}
+use Rattle.schema_reports.proofs.Runs.{one_more_entry}
+use Rattle.schema_reports.proofs.Alike.{EdgesAlike, children_alike, edges_alike}
+
+module _ {K R : Type 0} (keywords : Keywords K R) (matcher : Matcher) (nodes : Nodes K) (subject_of : Place → Subject) (as' : Assumptions) where
+  by_kind : (t : Bool) (r r' : Run) (x x' : Outcome) → r.outcome tt ≡ x → r'.outcome tt ≡ x'
+      → (let z : Run = elim t [ true ↦ r | false ↦ r' ] in z.outcome tt) ≡ (elim t [ true ↦ x | false ↦ x' ])
+  by_kind true r r' x x' e e' = e
+  by_kind false r r' x x' e e' = e'
+
+  abbrev RunsWithin : ℕ → ℕ → Text → Place → List ℕ → Run
+  RunsWithin = guarded_within (yes_run nodes) (guarded_node keywords matcher nodes subject_of as')
+
+  abbrev SaysWithin : ℕ → ℕ → Text → Place → List ℕ → Outcome
+  SaysWithin = guarded_within yes_outcome (node_outcome keywords matcher nodes subject_of (completion_of as'))
+
+  -- the outcomes of what its edges answer
+  abbrev RunsAcross : ℕ → Text → Place → List ℕ → NodeEdge → Below → Outcome
+  RunsAcross n path p busy e b = (across (yes_run nodes) (guarded_node keywords matcher nodes subject_of as') (RunsWithin n) path p busy e b).outcome tt
+
+  abbrev SaysAcross : ℕ → Text → Place → List ℕ → NodeEdge → Below → Outcome
+  SaysAcross n = across yes_outcome (node_outcome keywords matcher nodes subject_of (completion_of as')) (SaysWithin n)
+
+  across_outcome : (n : ℕ) → ((i : ℕ) (path : Text) (p : Place) (busy : List ℕ) → (RunsWithin n i path p busy).outcome tt ≡ SaysWithin n i path p busy)
+      → (path : Text) (p : Place) (busy : List ℕ) → RunsAcross n path p busy ≡ SaysAcross n path p busy
+  across_outcome n each path p busy =
+      let Busy : Below → List ℕ = λ b. progress_below busy b in
+      let Go : NodeEdge → Below → List ℕ → Run = λ e b l. RunsWithin n e.node (path ++ e.path) (place_below p b) l in
+      λ j e b. by_kind e.guarded
+      (elim (list_any (λ k. k == e.node) (Busy b)) [ true ↦ yes_run nodes e.node (path ++ e.path) (place_below p b) | false ↦ Go e b (e.node ∷ Busy b) ]) (Go e b (Busy b)) _ _
+      (by_kind (list_any (λ k. k == e.node) (Busy b)) (yes_run nodes e.node (path ++ e.path) (place_below p b)) (Go e b (e.node ∷ Busy b)) accepted _ refl (each e.node (path ++ e.path) (place_below p b) (e.node ∷ Busy b)))
+      (each e.node (path ++ e.path) (place_below p b) (Busy b)) j
+
+  pub guarded_outcome : (n i : ℕ) (path : Text) (p : Place) (busy : List ℕ)
+      → (guarded_within (yes_run nodes) (guarded_node keywords matcher nodes subject_of as') n i path p busy).outcome tt ≡ guarded_within yes_outcome (node_outcome keywords matcher nodes subject_of (completion_of as')) n i path p busy
+  guarded_outcome zero i path p busy = refl
+  guarded_outcome (suc n) i path p busy = ap (node_outcome keywords matcher nodes subject_of (completion_of as') i path p) (across_outcome n (guarded_outcome n) path p busy)
+
+  -- so they are alike as the outcomes are
+  runs_alike : (n : ℕ) (path : Text) (p : Place) (busy : List ℕ) → EdgesAlike (RunsAcross n path p busy)
+  runs_alike n path p busy = subst EdgesAlike (sym (across_outcome n (guarded_outcome n) path p busy)) (edges_alike keywords matcher nodes subject_of (completion_of as') n path p busy)
 
 module _ {K R : Type 0} (keywords : Keywords K R) (matcher : Matcher) (nodes : Nodes K) (subject_of : Place → Subject) (absorbs : K → List Text) (laws : (m : K) → KeepsLaws keywords m (absorbs m)) where
   -- ---- under one completion
@@ -43,15 +82,15 @@ module _ {K R : Type 0} (keywords : Keywords K R) (matcher : Matcher) (nodes : N
     part_agrees name (node_keyword m es) = mapped_agrees _ _ _ ((laws m).agree (subject_of p) (matching matcher c) (node_asked keywords matcher nodes subject_of accepted es g) (λ q. option_agrees (node_child es q.child) q.below))
     part_agrees name (node_reference e) = mapped_agrees _ _ _ (agrees e here)
 
-    form_valid : (name : Text) (form : NodeForm K) → (report_of (Units_of name form).0).valid ≡ (Out name form).verdict
-    form_valid name (node_keyword m es) = ap (keywords.holds m (subject_of p) (matching matcher c)) (λ j q. option_valid (node_child es q.child) q.below j)
-    form_valid name (node_reference e) = valid e here
-
-    form_absorbed : (name : Text) (form : NodeForm K) → (Out name form).verdict ≡ true → list_all held (Units_of name form).1 ≡ true
-    form_absorbed name (node_keyword m es) e =
-        absorbed_held (node_at keywords matcher nodes subject_of i path p) (keywords.holds m (subject_of p) (matching matcher c) (λ q. (report_of (node_asked keywords matcher nodes subject_of no_unit es u q)).valid))
-        (keywords.units m (subject_of p) (matching matcher c) (node_asked keywords matcher nodes subject_of no_unit es u)).absorbed (form_valid name (node_keyword m es) ∙ e)
-    form_absorbed name (node_reference e) h = refl
+    form_valid : (name : Text) (form : NodeForm K) → EntryValid (Units_of name form) (Out name form)
+    form_valid name (node_keyword m es) =
+        let answers : Question → Unit_ = node_asked keywords matcher nodes subject_of no_unit es u in
+        record {
+          all = given_valid (node_at keywords matcher nodes subject_of i path p) name (keywords.units m (subject_of p) (matching matcher c) answers)
+              ∙ ((laws m).units_valid (subject_of p) (matching matcher c) answers
+              ∙ ap (keywords.holds m (subject_of p) (matching matcher c)) (λ j q. option_valid (node_child es q.child) q.below j));
+        }
+    form_valid name (node_reference e) = record { all = and_true _ ∙ valid e here }
 
     parts_agree : (xs : List (NodePart K)) → Agrees (node_parts keywords matcher nodes subject_of c i path p g xs)
     parts_agree [] = (λ e. refl, λ e. refl)
@@ -59,7 +98,7 @@ module _ {K R : Type 0} (keywords : Keywords K R) (matcher : Matcher) (nodes : N
 
     parts_valid : (xs : List (NodePart K)) → EntriesValid (node_entries_of keywords matcher nodes subject_of c i path p u xs) (node_parts keywords matcher nodes subject_of c i path p g xs)
     parts_valid [] = none_left
-    parts_valid (x ∷ xs) = one_more (record { own = form_valid x.name x.form; more = form_absorbed x.name x.form }) (parts_valid xs)
+    parts_valid (x ∷ xs) = one_more (form_valid x.name x.form) (parts_valid xs)
 
     pub node_agrees : Agrees (node_outcome keywords matcher nodes subject_of c i path p g)
     node_agrees = go (nodes.entries i)
@@ -88,8 +127,11 @@ module _ {K R : Type 0} (keywords : Keywords K R) (matcher : Matcher) (nodes : N
     yes_speaks : Speaks as' no_run accepted no_unit
     yes_speaks = record { run_agrees = (λ e. refl, λ e. refl); agrees = (λ e. refl, λ e. refl); run_valid = refl; valid = refl; in_mode = λ mode e. same_itself_in mode accepted; units = λ e. refl }
 
+    progress_speaks : (i : ℕ) (path : Text) (p : Place) → Speaks as' (yes_run nodes i path p) (yes_outcome i path p) (yes_unit nodes i path p)
+    progress_speaks i path p = record { run_agrees = (λ e. refl, λ e. refl); agrees = (λ e. refl, λ e. refl); run_valid = refl; valid = refl; in_mode = λ mode e. same_itself_in mode accepted; units = λ e. refl }
+
     module _ (i : ℕ) (path : Text) (p : Place) (f : NodeEdge → Below → Run) (g : NodeEdge → Below → Outcome) (u : NodeEdge → Below → Unit_)
-        (speaks : (e : NodeEdge) (b : Below) → Speaks as' (f e b) (g e b) (u e b)) where
+        (speaks : (e : NodeEdge) (b : Below) → Speaks as' (f e b) (g e b) (u e b)) (alike_run : EdgesAlike (λ e b. (f e b).outcome tt)) (alike : EdgesAlike g) where
       abbrev g1 : NodeEdge → Below → Outcome
       g1 e b = (f e b).outcome tt
 
@@ -131,7 +173,8 @@ module _ {K R : Type 0} (keywords : Keywords K R) (matcher : Matcher) (nodes : N
           → SameIn mode (Own name form) (Its name form)
       in_form name (node_keyword m es) mode e = keyword_same keywords matcher as' c mine ext (node_at keywords matcher nodes subject_of i path p) (subject_of p)
           (Asked no_run es f) (Asked accepted es g1) (Asked accepted es g) (Asked no_unit es u1) (Asked no_unit es u) (same_edge es) name m
-          (λ q. option_outcome (node_child es q.child) _) (λ q. option_units (node_child es q.child) _) (λ q. option_speaks (node_child es q.child) _) (absorbs m) (laws m) mode e
+          (λ q. option_outcome (node_child es q.child) _) (λ q. option_units (node_child es q.child) _) (λ q. option_speaks (node_child es q.child) _)
+          (children_alike keywords matcher nodes subject_of es g1 alike_run) (children_alike keywords matcher nodes subject_of es g alike) (absorbs m) (laws m) mode e
       in_form name (node_reference e) mode h = by mode ((speaks e here).in_mode mode h)
         where
           by : (mode : Mode) → SameIn mode ((f e here).outcome tt) (g e here) → SameIn mode (Own name (node_reference e)) (Its name (node_reference e))
@@ -163,10 +206,9 @@ module _ {K R : Type 0} (keywords : Keywords K R) (matcher : Matcher) (nodes : N
           × ((Own name (node_keyword m es)).verdict ≡ (Its name (node_keyword m es)).verdict)
           = same_units keywords matcher as' c mine ext (node_at keywords matcher nodes subject_of i path p) (subject_of p)
           (Asked no_run es f) (Asked accepted es g1) (Asked accepted es g) (Asked no_unit es u1) (Asked no_unit es u) (same_edge es) name m
-          (λ q. option_outcome (node_child es q.child) _) (λ q. option_units (node_child es q.child) _) (λ q. option_speaks (node_child es q.child) _) (absorbs m) (laws m) e in
-          let own_valid = form_valid (completion_of as') i path p g1 u1 (λ e b. (speaks e b).run_agrees) (λ e b. (speaks e b).run_valid) name (node_keyword m es) in
-          let its_valid = form_valid c i path p g u (λ e b. (speaks e b).agrees) (λ e b. (speaks e b).valid) name (node_keyword m es) in
-          ap₂ (given_units (node_at keywords matcher nodes subject_of i path p) name) same.0 (own_valid ∙ (same.1 ∙ sym its_valid))
+          (λ q. option_outcome (node_child es q.child) _) (λ q. option_units (node_child es q.child) _) (λ q. option_speaks (node_child es q.child) _)
+          (children_alike keywords matcher nodes subject_of es g1 alike_run) (children_alike keywords matcher nodes subject_of es g alike) (absorbs m) (laws m) e in
+          ap (given_units (node_at keywords matcher nodes subject_of i path p) name) same.0
       form_units name (node_reference e) h = ap (reference_units (node_at keywords matcher nodes subject_of i path p) name) ((speaks e here).units h)
 
       entries_same : (xs : List (NodePart K)) → AllAssumed as' (plan_met for_units (Look xs))
@@ -205,39 +247,22 @@ module _ {K R : Type 0} (keywords : Keywords K R) (matcher : Matcher) (nodes : N
     by false x y = y
 
     pub guarded_speaks : (n i : ℕ) (path : Text) (p : Place) (busy : List ℕ)
-        → Speaks as' (guarded_within no_run (guarded_node keywords matcher nodes subject_of as') n i path p busy)
-        (guarded_within accepted (node_outcome keywords matcher nodes subject_of c) n i path p busy)
-        (guarded_within no_unit (node_unit keywords matcher nodes subject_of c) n i path p busy)
-    guarded_speaks zero i path p busy = yes_speaks
+        → Speaks as' (guarded_within (yes_run nodes) (guarded_node keywords matcher nodes subject_of as') n i path p busy)
+        (guarded_within yes_outcome (node_outcome keywords matcher nodes subject_of c) n i path p busy)
+        (guarded_within (yes_unit nodes) (node_unit keywords matcher nodes subject_of c) n i path p busy)
+    guarded_speaks zero i path p busy = progress_speaks i path p
     guarded_speaks (suc n) i path p busy = node_speaks i path p _ _ _ (λ e b.
         by e.guarded
-        (by (list_any (λ j. j == e.node) (progress_below busy b)) yes_speaks
+        (by (list_any (λ j. j == e.node) (progress_below busy b)) (progress_speaks e.node (path ++ e.path) (place_below p b))
         (guarded_speaks n e.node (path ++ e.path) (place_below p b) (e.node ∷ progress_below busy b)))
         (guarded_speaks n e.node (path ++ e.path) (place_below p b) (progress_below busy b)))
-
-module _ {K R : Type 0} (keywords : Keywords K R) (matcher : Matcher) (nodes : Nodes K) (subject_of : Place → Subject) (as' : Assumptions) where
-  by_kind : (t : Bool) (r r' : Run) (x x' : Outcome) → r.outcome tt ≡ x → r'.outcome tt ≡ x'
-      → (let z : Run = elim t [ true ↦ r | false ↦ r' ] in z.outcome tt) ≡ (elim t [ true ↦ x | false ↦ x' ])
-  by_kind true r r' x x' e e' = e
-  by_kind false r r' x x' e e' = e'
-
-  pub guarded_outcome : (n i : ℕ) (path : Text) (p : Place) (busy : List ℕ)
-      → (guarded_within no_run (guarded_node keywords matcher nodes subject_of as') n i path p busy).outcome tt ≡ guarded_within accepted (node_outcome keywords matcher nodes subject_of (completion_of as')) n i path p busy
-  guarded_outcome zero i path p busy = refl
-  guarded_outcome (suc n) i path p busy =
-      let Busy : Below → List ℕ = λ b. progress_below busy b in
-      let Go : NodeEdge → Below → List ℕ → Run = λ e b l. guarded_within no_run (guarded_node keywords matcher nodes subject_of as') n e.node (path ++ e.path) (place_below p b) l in
-      ap (node_outcome keywords matcher nodes subject_of (completion_of as') i path p)
-      (λ j e b. by_kind e.guarded
-      (elim (list_any (λ k. k == e.node) (Busy b)) [ true ↦ no_run | false ↦ Go e b (e.node ∷ Busy b) ]) (Go e b (Busy b)) _ _
-      (by_kind (list_any (λ k. k == e.node) (Busy b)) no_run (Go e b (e.node ∷ Busy b)) accepted _ refl (guarded_outcome n e.node (path ++ e.path) (place_below p b) (e.node ∷ Busy b)))
-      (guarded_outcome n e.node (path ++ e.path) (place_below p b) (Busy b)) j)
+        (runs_alike keywords matcher nodes subject_of as' n path p busy) (edges_alike keywords matcher nodes subject_of c n path p busy)
 
 pub guarded_follows : {K R : Type 0} (keywords : Keywords K R) (matcher : Matcher) (nodes : Nodes K) (subject_of : Place → Subject) (absorbs : K → List Text) (laws : (m : K) → KeepsLaws keywords m (absorbs m)) (n i : ℕ)
     → Follows (guarded_sense keywords matcher nodes subject_of n i)
 guarded_follows keywords matcher nodes subject_of absorbs laws n i = record {
   agrees = λ c. (guarded_speaks keywords matcher nodes subject_of absorbs laws [] c (λ a b is. absurd (cc is)) (λ a b is. absurd (cc is)) n i [] [] []).agrees;
-  speaks = λ call as' c mine ext e. subst (λ o. SameIn (mode_of call as') o (guarded_within accepted (node_outcome keywords matcher nodes subject_of c) n i [] [] []))
+  speaks = λ call as' c mine ext e. subst (λ o. SameIn (mode_of call as') o (guarded_within yes_outcome (node_outcome keywords matcher nodes subject_of c) n i [] [] []))
       (guarded_outcome keywords matcher nodes subject_of as' n i [] [] [])
       ((guarded_speaks keywords matcher nodes subject_of absorbs laws as' c mine ext n i [] [] []).in_mode (mode_of call as') e);
 }

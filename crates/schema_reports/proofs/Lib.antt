@@ -22,7 +22,11 @@ pub mod PlainRuns
 pub mod DepthsAgree
 pub mod TurnsGiveRuns
 mod CoversApart
+mod TakenApart
 mod SameTurns
+pub mod Alike
+mod Steps
+mod KeysAlike
 mod Plans
 mod Senses
 pub mod Sentences
@@ -36,12 +40,16 @@ mod PlanForms
 pub mod WholeNumbers
 pub mod ErrorsLead
 pub mod NodeErrorsLead
+pub mod ShownPlaces
 pub mod ListedLead
 pub mod WorkedRows
+pub mod FusedRows
 pub mod RowsNumbered
 pub mod KeywordNames
 pub mod KeywordRows
 pub mod VocabularyLists
+mod RisingTexts
+mod PlacedTexts
 pub mod SameVocabularies
 pub mod AnyLeft
 pub mod ClonedTexts
@@ -50,6 +58,7 @@ pub mod Escaped
 pub mod Found
 mod Forest
 mod SearchCounts
+mod RunUses
 mod SharedLists
 mod SearchedSense
 mod SearchedFailure

@@ -24,11 +24,11 @@ module _ (P : Error → Type 0) (v : Sense) where
   of_lists call [] h ([], kept, accepts) = inl (All-nil P)
   of_lists call (e ∷ es) h ([], kept, (refuses, failure, is)) = inr (e, failure, ap (λ (xs : List Error). e ∷ xs) is)
 
-  abbrev OfOption : Option Error → Type 0
+  abbrev pub OfOption : Option Error → Type 0
   OfOption None = Unit {0}
   OfOption (Some e) = P e
 
-  of_first : {es : List Error} {o : Option Error} → FirstShared v es o → All P es → OfOption o
+  pub of_first : {es : List Error} {o : Option Error} → FirstShared v es o → All P es → OfOption o
   of_first headline.none h = tt
   of_first (here {e = e} {es = es} is) h = All-head P e es h
   of_first (later {e = e} {es = es} is k) h = of_first k (All-tail P e es h)

@@ -12,7 +12,7 @@ use Rattle.schema_reports.specs.Keywords.{Below, here}
 use Rattle.schema_reports.specs.Plan.{Key, Edge, Part, Form, keyword, reference, Plan, always, never, these, plan, child, requested, reference_edge}
 use Rattle.schema_reports.specs.Meaning.{Where, at, place_below, stamped, false_outcome, keyword_outcome, reference_outcome}
 use Rattle.schema_reports.specs.Paths.{part_edges}
-use Rattle.schema_reports.specs.Guarded.{NodeEdge, node_child, NodeForm, node_keyword, node_reference, NodePart, NodePlan, node_always, node_never, node_these, Nodes, progress_below, across, guarded_within, node_at, node_asked, node_part, node_parts, node_outcome}
+use Rattle.schema_reports.specs.Guarded.{NodeEdge, node_child, NodeForm, node_keyword, node_reference, NodePart, NodePlan, node_always, node_never, node_these, Nodes, progress_below, across, guarded_within, node_at, node_asked, node_part, node_parts, node_outcome, yes_outcome}
 use Rattle.schema_reports.specs.Numbered.{Numbers, IsNumber, SameEdge, SameForm, SamePart, SameParts, SamePlan, StandsFor, AreNumbered, subject_in}
 use Rattle.schema_reports.specs.ErrorsLead.{EachKeepsAbsorbing, MakesAbsorbing, keyword_location, Passes, begins, passes, NodeErrorsLead}
 use Rattle.schema_reports.proofs.Questions.{later}
@@ -93,12 +93,12 @@ module _ {S K R : Type 0} (w : Parts S K R) (absorbs : K → List Text) (laws : 
   by_guard true false locations x y f g = g
 
   guarded_leads : AreNumbered w keys nodes → (c : Completion) (n i : ℕ) (k : Key S) → IsNumber keys i k → (path : Text) (locations : List (Option Text)) → Passes w root path k locations → (p : Place) → Stands instance p → (busy : List ℕ)
-      → Lead locations (guarded_within accepted (node_outcome w.keywords w.matcher nodes (subject_in instance) c) n i path p busy)
+      → Lead locations (guarded_within yes_outcome (node_outcome w.keywords w.matcher nodes (subject_in instance) c) n i path p busy)
   guarded_leads numbered c zero i k number path locations way p there busy = nothing_leads locations
   guarded_leads numbered c (suc n) i k number path locations way p there busy =
-      let say : ℕ → Text → Place → List ℕ → Outcome = guarded_within accepted (node_outcome w.keywords w.matcher nodes (subject_in instance) c) n in
+      let say : ℕ → Text → Place → List ℕ → Outcome = guarded_within yes_outcome (node_outcome w.keywords w.matcher nodes (subject_in instance) c) n in
       outcome_leads c i k (numbered.stands i k number) path locations way p there
-      (across accepted (node_outcome w.keywords w.matcher nodes (subject_in instance) c) say path p busy)
+      (across yes_outcome (node_outcome w.keywords w.matcher nodes (subject_in instance) c) say path p busy)
       (λ x edge e b number' same_path way' at_b.
       let above : List (Option Text) = keyword_location w k x.name ∷ locations in
       let way'' : Passes w root (path ++ e.path) edge.key above = subst (λ (t : Text). Passes w root (path ++ t) edge.key above) (sym same_path) way' in
@@ -109,5 +109,5 @@ module _ {S K R : Type 0} (w : Parts S K R) (absorbs : K → List Text) (laws : 
 
 pub node_errors_lead : {S K R : Type 0} (w : Parts S K R) (absorbs : K → List Text) (keys : Numbers S) (nodes : Nodes K) → NodeErrorsLead w absorbs keys nodes
 node_errors_lead w absorbs keys nodes laws makers numbered instance c n i root number =
-    at_root w absorbs laws makers root instance (guarded_within accepted (node_outcome w.keywords w.matcher nodes (subject_in instance) c) n i [] [] [])
+    at_root w absorbs laws makers root instance (guarded_within yes_outcome (node_outcome w.keywords w.matcher nodes (subject_in instance) c) n i [] [] [])
     (guarded_leads w absorbs laws makers keys nodes root instance numbered c n i root number [] [] begins [] refl [])

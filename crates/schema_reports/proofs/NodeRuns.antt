@@ -5,7 +5,7 @@ use Rattle.std.specs.List.{list_any}
 use Rattle.std.proofs.lemmas.List.Elements.{All-contains}
 use Rattle.serde_json.specs.Data.{Data}
 use Rattle.schema_reports.specs.Instance.{Text, Place, Subject}
-use Rattle.schema_reports.specs.Reports.{Unit_, accepted}
+use Rattle.schema_reports.specs.Reports.{Unit_}
 use Rattle.schema_reports.specs.Matching.{Assumptions, Completion, Matcher, completion_of, matching}
 use Rattle.schema_reports.specs.Keywords.{Below, Keywords, Mode, Question, here}
 use Rattle.schema_reports.specs.Meaning.{place_below}
@@ -13,7 +13,7 @@ use Rattle.schema_reports.specs.Units.{Entry, false_unit, no_unit, plan_unit, re
 use Rattle.schema_reports.specs.Runs.{Looked, Met, Run, no_run, plan_met}
 use Rattle.schema_reports.specs.Cover.{mode_of}
 use Rattle.schema_reports.specs.Laws.{IsPresent, steps_below}
-use Rattle.schema_reports.specs.Guarded.{Children, NodeEdge, NodeForm, NodePart, NodePlan, Nodes, across, form_edges, guarded_node, guarded_within, node_always, node_asked, node_at, node_child, node_edges, node_entries_of, node_keyword, node_looked, node_never, node_outcome, node_part_met, node_part_units, node_reference, node_these, node_unit, progress_below, same_edge}
+use Rattle.schema_reports.specs.Guarded.{Children, NodeEdge, NodeForm, NodePart, NodePlan, Nodes, across, form_edges, guarded_node, guarded_within, node_always, node_asked, node_at, node_child, node_edges, node_entries_of, node_keyword, node_looked, node_never, node_outcome, node_part_met, node_part_units, node_reference, node_these, node_unit, progress_below, same_edge, yes_outcome, yes_run, yes_unit}
 use Rattle.schema_reports.specs.Numbered.{GuardedRunsSettle, GuardedSenseSettles, RunsSayOutcomes, subject_in}
 use Rattle.schema_reports.proofs.Reading.{Reads, reads_of}
 use Rattle.schema_reports.proofs.Questions.{later, in_flat_map}
@@ -118,36 +118,36 @@ module _ {K R : Type 0} (keywords : Keywords K R) (matcher : Matcher) (instance 
 module _ {K R : Type 0} (keywords : Keywords K R) where
   pub guarded_runs_settle : GuardedRunsSettle keywords
   guarded_runs_settle laws matcher nodes count ranked instance as' i path p busy l m n a b =
-      settles instance nodes count ranked no_run (guarded_node keywords matcher nodes (subject_in instance) as') (λ j path' q f g h. run_local keywords matcher instance nodes (reads_of keywords laws) j path' q as' f g h) m n i path p busy l a b
+      settles instance nodes count ranked (yes_run nodes) (guarded_node keywords matcher nodes (subject_in instance) as') (λ j path' q f g h. run_local keywords matcher instance nodes (reads_of keywords laws) j path' q as' f g h) m n i path p busy l a b
 
   pub guarded_sense_settles : GuardedSenseSettles keywords
   guarded_sense_settles laws matcher nodes count ranked instance i l m n a b =
-      let says : (c : Completion) → guarded_within accepted (node_outcome keywords matcher nodes (subject_in instance) c) m i [] [] [] ≡ guarded_within accepted (node_outcome keywords matcher nodes (subject_in instance) c) n i [] [] []
-      = λ c. settles instance nodes count ranked accepted (node_outcome keywords matcher nodes (subject_in instance) c) (node_local keywords matcher instance nodes (reads_of keywords laws) c) m n i [] [] [] l a b in
+      let says : (c : Completion) → guarded_within yes_outcome (node_outcome keywords matcher nodes (subject_in instance) c) m i [] [] [] ≡ guarded_within yes_outcome (node_outcome keywords matcher nodes (subject_in instance) c) n i [] [] []
+      = λ c. settles instance nodes count ranked yes_outcome (node_outcome keywords matcher nodes (subject_in instance) c) (node_local keywords matcher instance nodes (reads_of keywords laws) c) m n i [] [] [] l a b in
       let runs = λ (as' : Assumptions). guarded_runs_settle laws matcher nodes count ranked instance as' i [] [] [] l m n a b in
       λ j. record { says = λ c. says c j; meets = λ call as'. (runs as' j).met (mode_of call as'); is_match = matcher.is_match }
 
 -- ---- a run's outcome and units, whatever is in progress
 
-module _ {X Y : Type 0} (part : X → Y) (yes : X) (node : ℕ → Text → Place → (NodeEdge → Below → X) → X) (yes' : Y) (node' : ℕ → Text → Place → (NodeEdge → Below → Y) → Y)
-    (first : part yes ≡ yes') (step : (i : ℕ) (path : Text) (p : Place) (f : NodeEdge → Below → X) → part (node i path p f) ≡ node' i path p (λ e b. part (f e b))) where
+module _ {X Y : Type 0} (part : X → Y) (yes : ℕ → Text → Place → X) (node : ℕ → Text → Place → (NodeEdge → Below → X) → X) (yes' : ℕ → Text → Place → Y) (node' : ℕ → Text → Place → (NodeEdge → Below → Y) → Y)
+    (first : (i : ℕ) (path : Text) (p : Place) → part (yes i path p) ≡ yes' i path p) (step : (i : ℕ) (path : Text) (p : Place) (f : NodeEdge → Below → X) → part (node i path p f) ≡ node' i path p (λ e b. part (f e b))) where
   across_part : (go : ℕ → Text → Place → List ℕ → X) (go' : ℕ → Text → Place → List ℕ → Y) → ((i : ℕ) (path : Text) (p : Place) (busy : List ℕ) → part (go i path p busy) ≡ go' i path p busy)
       → (path : Text) (p : Place) (busy : List ℕ) (e : NodeEdge) (b : Below) → part (across yes node go path p busy e b) ≡ across yes' node' go' path p busy e b
-  across_part go go' h path p busy e b = by_guard e.guarded (list_any (λ i. i == e.node) (progress_below busy b)) _ _ _ _
+  across_part go go' h path p busy e b = by_guard e.guarded (list_any (λ i. i == e.node) (progress_below busy b)) _ _ _ _ _ _ (first e.node (path ++ e.path) (place_below p b))
       (h e.node (path ++ e.path) (place_below p b) (progress_below busy b)) (h e.node (path ++ e.path) (place_below p b) (e.node ∷ progress_below busy b))
     where
-      by_guard : (g t : Bool) (x y : X) (x' y' : Y) → part x ≡ x' → part y ≡ y'
-          → ◌≡◌ {A = Y} (part (elim g [ false ↦ x | true ↦ elim t [ true ↦ yes | false ↦ y ] ])) (elim g [ false ↦ x' | true ↦ elim t [ true ↦ yes' | false ↦ y' ] ])
-      by_guard false t x y x' y' q r = q
-      by_guard true true x y x' y' q r = first
-      by_guard true false x y x' y' q r = r
+      by_guard : (g t : Bool) (u x y : X) (u' x' y' : Y) → part u ≡ u' → part x ≡ x' → part y ≡ y'
+          → ◌≡◌ {A = Y} (part (elim g [ false ↦ x | true ↦ elim t [ true ↦ u | false ↦ y ] ])) (elim g [ false ↦ x' | true ↦ elim t [ true ↦ u' | false ↦ y' ] ])
+      by_guard false t u x y u' x' y' s q r = q
+      by_guard true true u x y u' x' y' s q r = s
+      by_guard true false u x y u' x' y' s q r = r
 
   pub within_part : (n i : ℕ) (path : Text) (p : Place) (busy : List ℕ) → part (guarded_within yes node n i path p busy) ≡ guarded_within yes' node' n i path p busy
-  within_part zero i path p busy = first
+  within_part zero i path p busy = first i path p
   within_part (suc n) i path p busy = step i path p _ ∙ (λ j. node' i path p (λ e b. across_part (guarded_within yes node n) (guarded_within yes' node' n) (within_part n) path p busy e b j))
 
 pub runs_say_outcomes : {K R : Type 0} (keywords : Keywords K R) → RunsSayOutcomes keywords
 runs_say_outcomes keywords matcher nodes subject_of as' n i path p busy = (
-  within_part (λ (r : Run). r.outcome tt) no_run (guarded_node keywords matcher nodes subject_of as') accepted (node_outcome keywords matcher nodes subject_of (completion_of as')) refl (λ j path' q f. refl) n i path p busy,
-  within_part (λ (r : Run). r.units tt) no_run (guarded_node keywords matcher nodes subject_of as') no_unit (node_unit keywords matcher nodes subject_of (completion_of as')) refl (λ j path' q f. refl) n i path p busy,
+  within_part (λ (r : Run). r.outcome tt) (yes_run nodes) (guarded_node keywords matcher nodes subject_of as') yes_outcome (node_outcome keywords matcher nodes subject_of (completion_of as')) (λ j path' q. refl) (λ j path' q f. refl) n i path p busy,
+  within_part (λ (r : Run). r.units tt) (yes_run nodes) (guarded_node keywords matcher nodes subject_of as') (yes_unit nodes) (node_unit keywords matcher nodes subject_of (completion_of as')) (λ j path' q. refl) (λ j path' q f. refl) n i path p busy,
 )

@@ -8,15 +8,15 @@ use Rattle.schema_reports.specs.Instance.{Text, member_of}
 use Rattle.schema_reports.specs.Parts.{Parts}
 use Rattle.schema_reports.specs.Keywords.{Question}
 use Rattle.schema_reports.specs.Making.{Request, Making, Made, a_keyword, nothing, refused, Builtin}
-use Rattle.schema_reports.specs.Plan.{Key, Part, Form, keyword, reference, Reference, to_ref, reference_named, Plan, always, never, these, Edge, plan, plan_of, plan_alone, parts, part, builtin_part, part_made, reference_part, making, option_list, sorted, placed, requested, child, reference_edge, is_self, schema_of, same_target, same_key}
+use Rattle.schema_reports.specs.Plan.{Target, Key, Part, Form, keyword, reference, Reference, to_ref, reference_named, Plan, always, never, these, Edge, plan, plan_of, plan_alone, parts, part, builtin_part, part_made, reference_part, making, option_list, sorted, placed, requested, child, reference_edge, is_self, schema_of, same_target, same_key}
 use Rattle.schema_reports.specs.Drafts.{ref_stands_alone}
 use Rattle.schema_reports.specs.Meaning.{subject, place_below}
 use Rattle.schema_reports.specs.Returns.{Asked, part_questions, questions, LeadsTo, stays, asks}
-use Rattle.schema_reports.specs.Reach.{maker_edges, reference_edges, builtin_edges, members_edges, asked_edges, asked_for, Reached, at_first, asked_by, IsReach}
+use Rattle.schema_reports.specs.Reach.{maker_edges, reference_edges, builtin_edges, members_edges, asked_edges, asked_for, Reached, at_first, asked_by, IsReach, targets_of}
 use Rattle.schema_reports.specs.Paths.{part_edges}
 use Rattle.schema_reports.proofs.Questions.{later}
 use Rattle.schema_reports.proofs.Settles.{picked}
-use Rattle.schema_reports.proofs.Products.{both_left, or_left, or_right}
+use Rattle.schema_reports.proofs.Products.{both_left, in_either, or_left, or_right}
 
 In : {A : Type 0} → List A → List A → Type 0
 In {A} xs ys = (x : A) → Contains xs x → Contains ys x
@@ -197,6 +197,26 @@ module _ {S K R : Type 0} (w : Parts S K R) (instance : Data) (root : Key S) whe
       go true s k f = or_left (same_target w a.target l.target) _ (both_left _ _ (both_left _ _ (both_left _ _ s)))
       go false s k f = or_right (same_target w a.target l.target) _ (f k)
 
-  pub at_keys : (keys : List (Key S)) → IsReach w root keys → (a : Asked w instance) → LeadsTo w instance (record { key = root; path = []; place = [] }) a
+  -- a target that is the same as one of the keys' is the same as one of the list that has each once
+  among : ((a b c : Target S) → same_target w a b ≡ true → same_target w b c ≡ true → same_target w a c ≡ true)
+      → (t : Target S) (keys : List (Key S)) → list_any (λ l. same_target w t l.target) keys ≡ true → list_any (same_target w t) (targets_of w keys) ≡ true
+  among through t [] e = absurd (cc e)
+  among through t (l ∷ keys) e = go (list_any (same_target w l.target) (targets_of w keys)) refl (λ h. among through t keys h)
+    where
+      onto : (ts : List (Target S)) → same_target w t l.target ≡ true → list_any (same_target w l.target) ts ≡ true → list_any (same_target w t) ts ≡ true
+      onto [] s f = absurd (cc f)
+      onto (x ∷ ts) s f = in_either (same_target w l.target x) (list_any (same_target w l.target) ts) (λ h. or_left (same_target w t x) _ (through t l.target x s h)) (λ h. or_right (same_target w t x) _ (onto ts s h)) f
+
+      go : (b : Bool) → list_any (same_target w l.target) (targets_of w keys) ≡ b → (list_any (λ l'. same_target w t l'.target) keys ≡ true → list_any (same_target w t) (targets_of w keys) ≡ true)
+          → list_any (same_target w t) (cond b (targets_of w keys) (l.target ∷ targets_of w keys)) ≡ true
+      go true is rest = in_either (same_target w t l.target) (list_any (λ l'. same_target w t l'.target) keys) (λ s. onto (targets_of w keys) s is) rest e
+      go false is rest = in_either (same_target w t l.target) (list_any (λ l'. same_target w t l'.target) keys) (λ s. or_left (same_target w t l.target) _ s) (λ h. or_right (same_target w t l.target) _ (rest h)) e
+
+  at_keys : (keys : List (Key S)) → IsReach w root keys → (a : Asked w instance) → LeadsTo w instance (record { key = root; path = []; place = [] }) a
       → list_any (λ l. same_target w a.key.target l.target) keys ≡ true
   at_keys keys reach a l = any_target a.key keys (reach.whole a.key (leads_reached (record { key = root; path = []; place = [] }) a at_first l))
+
+  pub at_targets : ((a b c : Target S) → same_target w a b ≡ true → same_target w b c ≡ true → same_target w a c ≡ true)
+      → (keys : List (Key S)) → IsReach w root keys → (a : Asked w instance) → LeadsTo w instance (record { key = root; path = []; place = [] }) a
+      → list_any (same_target w a.key.target) (targets_of w keys) ≡ true
+  at_targets through keys reach a l = among through a.key.target keys (at_keys keys reach a l)

@@ -1,6 +1,6 @@
 -- Two numbers for a schema whose `not` refers to the root.
 use Rattle.std.proofs.Common.{ap, arith, subst, sym, ◌∙◌}
-use Rattle.std.specs.Prelude.{[], Option, Some, codes, false, length, refl, suc, zero, ℕ, ◌<◌, ◌≡◌, ◌∷◌}
+use Rattle.std.specs.Prelude.{[], Contains, Option, Some, codes, false, length, refl, suc, true, zero, ℕ, ◌<◌, ◌≡◌, ◌∷◌}
 use Rattle.std.specs.Str.Lossy.{utf8_lossy, utf8_valid_len}
 use Rattle.std.specs.Str.{chars, is_utf8}
 use lib.Utf8.{encode}
@@ -8,7 +8,7 @@ use Rattle.percent_encoding.specs.Percent.{percent_decode}
 use Rattle.schema_reports.specs.Instance.{Text, to_member}
 use Rattle.schema_reports.specs.Making.{compile}
 use Rattle.schema_reports.specs.Plan.{Key, child, plan}
-use Rattle.schema_reports.specs.Guarded.{node_child}
+use Rattle.schema_reports.specs.Guarded.{NodeEdge, node_child, node_edges}
 use Rattle.schema_reports.specs.Numbered.{IsNumber, Numbers, Ranked, SameEdge, SamePlan, StandsFor}
 use Rattle.schema_reports.specs.RowsBench.{bench}
 use Rattle.schema_reports.specs.Rows.{TurningIsNumbered, turning_child, turning_keys, turning_nodes, turning_root, turning_schema}
@@ -53,8 +53,21 @@ ranked (suc j) l e (suc i, is, at_e) = absurd (omega arith)
 differ : turning_root ≡ turning_child → ⊥
 differ e = let h : length turning_root.location ≡ length turning_child.location = ap (λ k. length k.location) e in omega arith
 
+-- the edges of a number that lead to one number are guarded alike: each number has one edge
+abbrev Guards : ℕ → Key Text → Type 0
+Guards i k = (a b : NodeEdge) → Contains (node_edges (turning_nodes.entries i)) a → Contains (node_edges (turning_nodes.entries i)) b → a.node ≡ b.node → a.guarded ≡ b.guarded
+
+only : (x a : NodeEdge) → Contains (x ∷ []) a → x ≡ a
+only x a (zero, is, at_i) = at_i
+only x a (suc i, is, at_i) = absurd (omega arith)
+
+guards : (i : ℕ) (k : Key Text) → IsNumber turning_keys i k → Guards i k
+guards = number_cases Guards
+    (λ a b in_a in_b one. let x : NodeEdge = record { node = 1; path = codes "/not"; guarded = false } in ap (λ e. e.guarded) (sym (only x a in_a) ∙ only x b in_b))
+    (λ a b in_a in_b one. let x : NodeEdge = record { node = 0; path = codes "/$ref"; guarded = true } in ap (λ e. e.guarded) (sym (only x a in_a) ∙ only x b in_b))
+
 pub turning_is_numbered : TurningIsNumbered
-turning_is_numbered = (record { stands = all_stand; once = once }, ranked)
+turning_is_numbered = (record { stands = all_stand; once = once; guards = guards }, ranked)
   where
     once : (i j : ℕ) (k : Key Text) → IsNumber turning_keys i k → IsNumber turning_keys j k → i ≡ j
     once zero zero k a b = refl

@@ -1,39 +1,75 @@
--- The plain run under assumptions speaks, in each mode, for every completion that extends them.
-use Rattle.std.proofs.Common.{◌≡◌, ℕ, zero, suc, List, [], ◌∷◌, ◌++◌, refl, ap, ap₂, sym, ◌∙◌, Bool, true, false, map}
-use Rattle.std.specs.Prelude.{Option, Some, None, option_map}
+-- The plain run under assumptions speaks, in each mode, for every completion that extends them, where no question returns.
+use Rattle.std.proofs.Common.{◌≡◌, ℕ, zero, suc, ◌≤◌, List, [], ◌∷◌, ◌++◌, refl, ap, sym, subst, ◌∙◌, Bool, true, false, map, arith}
+use Rattle.std.specs.Prelude.{Decides, Option, Some, None, option_map}
 use Rattle.serde_json.specs.Data.{Data}
 use Rattle.schema_reports.specs.Instance.{Text, Place}
 use Rattle.schema_reports.specs.Pointer.{joined}
 use Rattle.schema_reports.specs.Reports.{Error, Unit_, Outcome, accepted}
 use Rattle.schema_reports.specs.Parts.{Parts}
 use Rattle.schema_reports.specs.Matching.{Completion, Assumptions, matching, completion_of, Extends}
-use Rattle.schema_reports.specs.Keywords.{Gives, Mode, for_verdict, for_first, for_all, for_units}
+use Rattle.schema_reports.specs.Keywords.{Mode, for_verdict, for_first, for_all, for_units}
 use Rattle.schema_reports.specs.Plan.{Key, Edge, height, Part, Form, keyword, reference, Plan, always, never, these, plan, child, reference_edge, same_child, absolute_of}
-use Rattle.schema_reports.specs.Meaning.{Where, at, subject, asked, referred_to, within, unfold_, part_outcome, parts_outcome, outcome_of, false_outcome, stamped}
-use Rattle.schema_reports.specs.Units.{Entry, PartUnits, plain_units, part_units, entries_of, unit_of, keyword_unit, reference_units, no_unit, annotations_of, true_unit, false_unit, plan_unit}
+use Rattle.schema_reports.specs.Meaning.{at, subject, asked, referred_to, within, unfold_, unfolded, part_outcome, parts_outcome, outcome_of, false_outcome, stamped}
+use Rattle.schema_reports.specs.Units.{Entry, PartUnits, plain_units, part_units, entries_of, unit_of, given_units, reference_units, no_unit, annotations_of, true_unit, false_unit, plan_unit}
 use Rattle.schema_reports.specs.Runs.{Run, looked, plan_met, part_met, no_run, run_node, run, first_error}
-use Rattle.schema_reports.specs.Laws.{Agrees, KeepsLaws}
+use Rattle.schema_reports.specs.Laws.{Agrees, EachKeeps, KeepsLaws}
+use Rattle.schema_reports.specs.Returns.{Return}
+use Rattle.schema_reports.specs.Reach.{IsReach, deep_enough, targets_of}
+use Rattle.schema_reports.specs.Headline.{at_root}
+use Rattle.schema_reports.specs.Numbered.{MakersAskBelow, ValuesInside}
 use Rattle.schema_reports.specs.Members.{AllAssumed, SameIn, Speaks}
 use Rattle.schema_reports.proofs.SameTurns.{assumed_front, assumed_back, keyword_same, same_units}
 use Rattle.schema_reports.proofs.Plans.{Along, ends, goes, along_in_mode, same_itself_in, first_stamped}
-use Rattle.schema_reports.proofs.Valid.{part_agrees, node_agrees, node_valid, form_valid}
-
--- a keyword's units, by what it gives and its verdict
-abbrev pub given_units : Where → Text → Gives → Bool → PartUnits
-given_units x name g valid = (keyword_unit x name valid g, map (λ (a : Text × List Unit_). (a.0, keyword_unit x a.0 valid (record { children = a.1; annotations = None; errors = []; absorbed = [] }))) g.absorbed)
+use Rattle.schema_reports.proofs.Valid.{part_agrees, node_agrees, node_valid}
+use Rattle.schema_reports.proofs.Reading.{reads_of}
+use Rattle.schema_reports.proofs.Questions.{Asks}
+use Rattle.schema_reports.proofs.Local.{outcome_local}
+use Rattle.schema_reports.proofs.PlainRuns.{run_local, unit_local}
+use Rattle.schema_reports.proofs.AtPlaces.{at_places}
+use Rattle.schema_reports.proofs.Reaching.{at_targets}
+use Rattle.schema_reports.proofs.Inside.{subschemas_inside}
+use Rattle.schema_reports.proofs.SameRun.{one_place, one_target, same_through}
+use Rattle.schema_reports.proofs.Steps.{in_steps, steps_unfold}
+use Rattle.schema_reports.proofs.KeysAlike.{KeysAlike, keys_answered, steps_alike}
 
 -- one more entry of the same units
 pub one_more_entry : (priority : ℕ) {x y : PartUnits} {xs ys : List Entry} → x ≡ y → xs ≡ ys
     → ◌≡◌ {A = List Entry} (record { priority = priority; units = x } ∷ xs) (record { priority = priority; units = y } ∷ ys)
 one_more_entry priority e es = λ i. record { priority = priority; units = e i } ∷ es i
 
-module _ {S K R : Type 0} (w : Parts S K R) (instance : Data) (absorbs : K → List Text) (laws : (m : K) → KeepsLaws w.keywords m (absorbs m))
+-- ---- a run's outcome is that of its own completion
+
+module _ {S K R : Type 0} (w : Parts S K R) (instance : Data) (as' : Assumptions) where
+  by_kind : {X : Type 0} (f : Run → X) (t : Bool) (r r' : Run) (x x' : X) → f r ≡ x → f r' ≡ x' → f (elim t [ true ↦ r | false ↦ r' ]) ≡ (elim t [ true ↦ x | false ↦ x' ])
+  by_kind f true r r' x x' e e' = e
+  by_kind f false r r' x x' e e' = e'
+
+  within_outcome : (a : Key S → Text → Place → Run) (b : Key S → Text → Place → Outcome) → ((k : Key S) (path : Text) (p : Place) → (a k path p).outcome tt ≡ b k path p)
+      → (h : ℕ) (k : Key S) (path : Text) (p : Place) → (within w instance no_run (run_node w instance as') a h k path p).outcome tt ≡ within w instance accepted (outcome_of w instance (completion_of as')) b h k path p
+  within_outcome a b s zero k path p = refl
+  within_outcome a b s (suc h) k path p = ap (outcome_of w instance (completion_of as') k path p)
+      (λ i edge q. by_kind (λ r. r.outcome tt) edge.is_reference (a edge.key (path ++ edge.path) q) (within w instance no_run (run_node w instance as') a h edge.key (path ++ edge.path) q) _ _ (s edge.key (path ++ edge.path) q) (within_outcome a b s h edge.key (path ++ edge.path) q) i)
+
+  pub run_outcome : (n : ℕ) (k : Key S) (path : Text) (p : Place) → (run w instance as' n k path p).outcome tt ≡ unfold_ w instance (completion_of as') n k path p
+  run_outcome zero k path p = within_outcome (λ k' path' p'. no_run) (λ k' path' p'. accepted) (λ k' path' p'. refl) (height w k) k path p
+  run_outcome (suc n) k path p = within_outcome (run w instance as' n) (unfold_ w instance (completion_of as') n) (run_outcome n) (height w k) k path p
+
+  steps_outcome : (n : ℕ) (k : Key S) (path : Text) (p : Place) → (in_steps w instance no_run (run_node w instance as') n k path p).outcome tt ≡ in_steps w instance accepted (outcome_of w instance (completion_of as')) n k path p
+  steps_outcome zero k path p = refl
+  steps_outcome (suc n) k path p = ap (outcome_of w instance (completion_of as') k path p) (λ j e q. steps_outcome n e.key (path ++ e.path) q j)
+
+  runs_alike : (n : ℕ) (path : Text) → KeysAlike (λ e q. (in_steps w instance no_run (run_node w instance as') n e.key (path ++ e.path) q).outcome tt)
+  runs_alike n path = subst KeysAlike (λ j e q. sym (steps_outcome n e.key (path ++ e.path) q) j) (steps_alike w instance (completion_of as') n path)
+
+-- ---- a run speaks
+
+module _ {S K R : Type 0} (w : Parts S K R) (instance : Data) (absorbs : K → List Text) (laws : (m : K) → KeepsLaws w.keywords m (absorbs m)) (states : (a b : S) → Decides (w.resolver.same_state a b) (a ≡ b))
     (as' : Assumptions) (c : Completion) (mine : Extends (completion_of as') as') (ext : Extends c as') where
   no_run_speaks : Speaks as' no_run accepted no_unit
   no_run_speaks = record { run_agrees = (λ e. refl, λ e. refl); agrees = (λ e. refl, λ e. refl); run_valid = refl; valid = refl; in_mode = λ mode e. same_itself_in mode accepted; units = λ e. refl }
 
   module _ (k : Key S) (path : Text) (p : Place) (f : Edge S → Place → Run) (g : Edge S → Place → Outcome) (u : Edge S → Place → Unit_)
-      (speaks : (e : Edge S) (q : Place) → Speaks as' (f e q) (g e q) (u e q)) where
+      (speaks : (e : Edge S) (q : Place) → Speaks as' (f e q) (g e q) (u e q)) (alike_run : KeysAlike (λ e q. (f e q).outcome tt)) (alike : KeysAlike g) where
     abbrev g1 : Edge S → Place → Outcome
     g1 e q = (f e q).outcome tt
 
@@ -72,7 +108,8 @@ module _ {S K R : Type 0} (w : Parts S K R) (instance : Data) (absorbs : K → L
     in_form name (keyword m requests absorbed) mode e = keyword_same w.keywords w.matcher as' c mine ext (at w instance k path p) (subject w instance p)
         (asked w instance no_run k name requests p f) (asked w instance accepted k name requests p g1) (asked w instance accepted k name requests p g)
         (asked w instance no_unit k name requests p u1) (asked w instance no_unit k name requests p u) (same_child w k name requests) name m
-        (λ q. option_outcome (child w k name requests q.child) _) (λ q. option_units (child w k name requests q.child) _) (λ q. option_speaks (child w k name requests q.child) _) (absorbs m) (laws m) mode e
+        (λ q. option_outcome (child w k name requests q.child) _) (λ q. option_units (child w k name requests q.child) _) (λ q. option_speaks (child w k name requests q.child) _)
+        (keys_answered w instance states k name requests p g1 alike_run) (keys_answered w instance states k name requests p g alike) (absorbs m) (laws m) mode e
     in_form name (reference kind text) mode e = by mode ((option_speaks (reference_edge w k name kind text) p).in_mode mode e)
       where
         by : (mode : Mode) → SameIn mode (let r : Run = referred_to w instance no_run k name kind text p f in r.outcome tt) (referred_to w instance accepted k name kind text p g)
@@ -94,10 +131,9 @@ module _ {S K R : Type 0} (w : Parts S K R) (instance : Data) (absorbs : K → L
         = same_units w.keywords w.matcher as' c mine ext (at w instance k path p) (subject w instance p)
         (asked w instance no_run k name requests p f) (asked w instance accepted k name requests p g1) (asked w instance accepted k name requests p g)
         (asked w instance no_unit k name requests p u1) (asked w instance no_unit k name requests p u) (same_child w k name requests) name m
-        (λ q. option_outcome (child w k name requests q.child) _) (λ q. option_units (child w k name requests q.child) _) (λ q. option_speaks (child w k name requests q.child) _) (absorbs m) (laws m) e in
-        let own_valid = form_valid w instance absorbs laws (completion_of as') k path p g1 u1 (λ e q. (speaks e q).run_agrees) (λ e q. (speaks e q).run_valid) name (keyword m requests absorbed) in
-        let its_valid = form_valid w instance absorbs laws c k path p g u (λ e q. (speaks e q).agrees) (λ e q. (speaks e q).valid) name (keyword m requests absorbed) in
-        ap₂ (given_units (at w instance k path p) name) same.0 (own_valid ∙ (same.1 ∙ sym its_valid))
+        (λ q. option_outcome (child w k name requests q.child) _) (λ q. option_units (child w k name requests q.child) _) (λ q. option_speaks (child w k name requests q.child) _)
+        (keys_answered w instance states k name requests p g1 alike_run) (keys_answered w instance states k name requests p g alike) (absorbs m) (laws m) e in
+        ap (given_units (at w instance k path p) name) same.0
     form_units name (reference kind text) e =
         ap (reference_units (at w instance k path p) name)
         (sym (option_units (reference_edge w k name kind text) p) ∙ (option_speaks (reference_edge w k name kind text) p).units e)
@@ -132,38 +168,30 @@ module _ {S K R : Type 0} (w : Parts S K R) (instance : Data) (absorbs : K → L
       units = units_in_plan (plan w k);
     }
 
-  -- ---- unfolding
+  -- ---- questions at most n deep
 
-  within_speaks : (a : Key S → Text → Place → Run) (b : Key S → Text → Place → Outcome) (d : Key S → Text → Place → Unit_)
-      → ((k : Key S) (path : Text) (p : Place) → Speaks as' (a k path p) (b k path p) (d k path p))
-      → (h : ℕ) (k : Key S) (path : Text) (p : Place)
-      → Speaks as' (within w instance no_run (run_node w instance as') a h k path p)
-      (within w instance accepted (outcome_of w instance c) b h k path p) (within w instance no_unit (unit_of w instance c) d h k path p)
-  within_speaks a b d s zero k path p = no_run_speaks
-  within_speaks a b d s (suc h) k path p = node_speaks k path p _ _ _ (λ edge q. by edge.is_reference (s edge.key (path ++ edge.path) q) (within_speaks a b d s h edge.key (path ++ edge.path) q))
-    where
-      by : {r r' : Run} {o o' : Outcome} {v v' : Unit_} (t : Bool) → Speaks as' r o v → Speaks as' r' o' v'
-          → Speaks as' (elim t [ true ↦ r | false ↦ r' ]) (elim t [ true ↦ o | false ↦ o' ]) (elim t [ true ↦ v | false ↦ v' ])
-      by true x y = x
-      by false x y = y
+  steps_speak : (n : ℕ) (k : Key S) (path : Text) (p : Place)
+      → Speaks as' (in_steps w instance no_run (run_node w instance as') n k path p) (in_steps w instance accepted (outcome_of w instance c) n k path p) (in_steps w instance no_unit (unit_of w instance c) n k path p)
+  steps_speak zero k path p = no_run_speaks
+  steps_speak (suc n) k path p = node_speaks k path p _ _ _ (λ e q. steps_speak n e.key (path ++ e.path) q) (runs_alike w instance as' n path) (steps_alike w instance c n path)
 
-  pub run_speaks : (n : ℕ) (k : Key S) (path : Text) (p : Place) → Speaks as' (run w instance as' n k path p) (unfold_ w instance c n k path p) (plain_units w instance c n k path p)
-  run_speaks zero k path p = within_speaks (λ k' path' p'. no_run) (λ k' path' p'. accepted) (λ k' path' p'. no_unit) (λ k' path' p'. no_run_speaks) (height w k) k path p
-  run_speaks (suc n) k path p = within_speaks (run w instance as' n) (unfold_ w instance c n) (plain_units w instance c n) (run_speaks n) (height w k) k path p
+-- the plain run of a root speaks at every depth that is enough, where no question returns
+module _ {S K R : Type 0} (w : Parts S K R) (each : EachKeeps w.keywords) (values : ValuesInside w) (makers : MakersAskBelow w.table) (states : (a b : S) → Decides (w.resolver.same_state a b) (a ≡ b))
+    (instance : Data) (root : Key S) (none : ¬ (Return w instance (at_root w root instance))) (keys : List (Key S)) (reach : IsReach w root keys) (n : ℕ) (enough : deep_enough w keys instance ≤ n) where
+  in_steps_is : {X : Type 0} (last : X) (node : Key S → Text → Place → (Edge S → Place → X) → X)
+      → ((k : Key S) (path : Text) (p : Place) (f g : Edge S → Place → X) → ((edge : Edge S) (q : Place) → Asks w instance k p edge q → f edge q ≡ g edge q) → node k path p f ≡ node k path p g)
+      → in_steps w instance last node n root [] [] ≡ unfolded w instance last node n root [] []
+  in_steps_is last node local = steps_unfold w instance last node (subschemas_inside w values makers) local (at_root w root instance) none (targets_of w keys)
+      (at_targets w instance root (same_through w states) keys reach) (at_places w instance (reads_of w.keywords each) root) (one_target w states) one_place n n (omega arith) (omega arith)
 
--- ---- a run's outcome and units are those of its own completion
-
-module _ {S K R : Type 0} (w : Parts S K R) (instance : Data) (as' : Assumptions) where
-  by_kind : {X : Type 0} (f : Run → X) (t : Bool) (r r' : Run) (x x' : X) → f r ≡ x → f r' ≡ x' → f (elim t [ true ↦ r | false ↦ r' ]) ≡ (elim t [ true ↦ x | false ↦ x' ])
-  by_kind f true r r' x x' e e' = e
-  by_kind f false r r' x x' e e' = e'
-
-  within_outcome : (a : Key S → Text → Place → Run) (b : Key S → Text → Place → Outcome) → ((k : Key S) (path : Text) (p : Place) → (a k path p).outcome tt ≡ b k path p)
-      → (h : ℕ) (k : Key S) (path : Text) (p : Place) → (within w instance no_run (run_node w instance as') a h k path p).outcome tt ≡ within w instance accepted (outcome_of w instance (completion_of as')) b h k path p
-  within_outcome a b s zero k path p = refl
-  within_outcome a b s (suc h) k path p = ap (outcome_of w instance (completion_of as') k path p)
-      (λ i edge q. by_kind (λ r. r.outcome tt) edge.is_reference (a edge.key (path ++ edge.path) q) (within w instance no_run (run_node w instance as') a h edge.key (path ++ edge.path) q) _ _ (s edge.key (path ++ edge.path) q) (within_outcome a b s h edge.key (path ++ edge.path) q) i)
-
-  pub run_outcome : (n : ℕ) (k : Key S) (path : Text) (p : Place) → (run w instance as' n k path p).outcome tt ≡ unfold_ w instance (completion_of as') n k path p
-  run_outcome zero k path p = within_outcome (λ k' path' p'. no_run) (λ k' path' p'. accepted) (λ k' path' p'. refl) (height w k) k path p
-  run_outcome (suc n) k path p = within_outcome (run w instance as' n) (unfold_ w instance (completion_of as') n) (run_outcome n) (height w k) k path p
+  pub run_speaks : (as' : Assumptions) (c : Completion) → Extends (completion_of as') as' → Extends c as'
+      → Speaks as' (run w instance as' n root [] []) (unfold_ w instance c n root [] []) (plain_units w instance c n root [] [])
+  run_speaks as' c mine ext =
+      let reads = reads_of w.keywords each in
+      let runs : in_steps w instance no_run (run_node w instance as') n root [] [] ≡ run w instance as' n root [] [] = in_steps_is no_run (run_node w instance as') (λ k path p f g h. run_local w instance reads k path p as' f g h) in
+      let says : in_steps w instance accepted (outcome_of w instance c) n root [] [] ≡ unfold_ w instance c n root [] [] = in_steps_is accepted (outcome_of w instance c) (outcome_local w instance c reads) in
+      let units : in_steps w instance no_unit (unit_of w instance c) n root [] [] ≡ plain_units w instance c n root [] [] = in_steps_is no_unit (unit_of w instance c) (λ k path p f g h. unit_local w instance reads k path p c f g h) in
+      subst (λ r. Speaks as' r (unfold_ w instance c n root [] []) (plain_units w instance c n root [] [])) runs
+      (subst (λ o. Speaks as' (in_steps w instance no_run (run_node w instance as') n root [] []) o (plain_units w instance c n root [] [])) says
+      (subst (λ u. Speaks as' (in_steps w instance no_run (run_node w instance as') n root [] []) (in_steps w instance accepted (outcome_of w instance c) n root [] []) u) units
+      (steps_speak w instance (λ m. (each m).0) (λ m. (each m).1) states as' c mine ext n root [] [])))

@@ -1,13 +1,13 @@
 -- What a keyword says, gives and meets reads its answers only where it may ask.
-use Rattle.std.proofs.Common.{◌≡◌, ℕ, zero, suc, List, [], ◌∷◌, ◌++◌, refl, ap, ap₂, ◌∙◌, Bool}
-use Rattle.std.specs.Prelude.{Contains, None, map}
+use Rattle.std.proofs.Common.{◌≡◌, ℕ, zero, suc, List, [], ◌∷◌, ◌++◌, refl, ap, ◌∙◌, Bool}
+use Rattle.std.specs.Prelude.{Contains}
 use Rattle.std.specs.List.{list_any}
 use Rattle.schema_reports.specs.Instance.{Text, Subject}
-use Rattle.schema_reports.specs.Reports.{Unit_, report_of}
+use Rattle.schema_reports.specs.Reports.{Unit_}
 use Rattle.schema_reports.specs.Matching.{Assumptions, Match, Matcher, Matching, completed, completion_of, finished, unfinished}
-use Rattle.schema_reports.specs.Keywords.{Gives, Keywords, Marked, Mode, Question, Reply, Turn, ask, done, ecma, mark, match_text, no_reply, truth, unmark}
+use Rattle.schema_reports.specs.Keywords.{Keywords, Marked, Mode, Question, Reply, Turn, ask, done, ecma, mark, match_text, no_reply, truth, unmark}
 use Rattle.schema_reports.specs.Meaning.{Where}
-use Rattle.schema_reports.specs.Units.{PartUnits, keyword_unit, keyword_units}
+use Rattle.schema_reports.specs.Units.{given_units, keyword_units}
 use Rattle.schema_reports.specs.Runs.{Met, Run, keyword_met, reply_in, site_at, turns}
 use Rattle.schema_reports.specs.Laws.{AlwaysAsksRightly, AsksRightly}
 use Rattle.schema_reports.proofs.Reading.{Reads}
@@ -52,15 +52,9 @@ module _ {K R : Type 0} (keywords : Keywords K R) (matcher : Matcher) (as' : Ass
 -- ---- a keyword
 
 module _ {K R : Type 0} (keywords : Keywords K R) (reads : Reads keywords) (x : Where) (name : Text) (m : K) (s : Subject) where
-  units_same : (a b : Gives) (u v : Bool) → a ≡ b → u ≡ v
-      → ◌≡◌ {A = PartUnits} (keyword_unit x name u a, map (λ z. (z.0, keyword_unit x z.0 u (record { children = z.1; annotations = None; errors = []; absorbed = [] }))) a.absorbed)
-      (keyword_unit x name v b, map (λ z. (z.0, keyword_unit x z.0 v (record { children = z.1; annotations = None; errors = []; absorbed = [] }))) b.absorbed)
-  units_same a b u v e h = ap₂ (λ (y : Gives) (t : Bool). (keyword_unit x name t y, map (λ z. (z.0, keyword_unit x z.0 t (record { children = z.1; annotations = None; errors = []; absorbed = [] }))) y.absorbed)) e h
-
   pub units_read : (matches : Matching) (f g : Question → Unit_) → ((q : Question) → Contains (keywords.may_ask m s) q → f q ≡ g q) → keyword_units keywords x name m s matches f ≡ keyword_units keywords x name m s matches g
-  units_read matches f g h = let qs : List Question = keywords.may_ask m s in units_same _ _ _ _
-      (reads.units_read m s matches _ _ (each_asked _ qs h))
-      (reads.holds_reads m s matches _ _ (each_asked _ qs (λ q is. ap (λ u. (report_of u).valid) (h q is))))
+  units_read matches f g h = let qs : List Question = keywords.may_ask m s in
+      ap (given_units x name) (reads.units_read m s matches _ _ (each_asked _ qs h))
 
   pub met_reads : (matcher : Matcher) (as' : Assumptions) (same : Marked → Marked → Bool) (mode : Mode) (f g : Question → Run) → ((q : Question) → Contains (keywords.may_ask m s) q → f q ≡ g q)
       → keyword_met keywords matcher as' x s f same name m mode ≡ keyword_met keywords matcher as' x s g same name m mode

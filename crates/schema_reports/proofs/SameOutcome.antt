@@ -13,7 +13,7 @@ use Rattle.schema_reports.specs.Plan.{Key, Edge, Part, Form, keyword, reference,
 use Rattle.schema_reports.specs.Meaning.{subject, Where, at, place_below, asked, referred_to, keyword_outcome, reference_outcome, false_outcome, fault_error, both, part_outcome, parts_outcome, outcome_of}
 use Rattle.schema_reports.specs.Paths.{edges, part_edges}
 use Rattle.schema_reports.specs.Laws.{IsPresent, steps_below}
-use Rattle.schema_reports.specs.Guarded.{NodeEdge, Children, node_child, NodeForm, node_keyword, node_reference, NodePart, NodePlan, node_always, node_never, node_these, Nodes, form_edges, node_edges, node_at, node_asked, node_part, node_parts, node_outcome}
+use Rattle.schema_reports.specs.Guarded.{NodeEdge, Children, node_child, NodeForm, node_keyword, node_reference, NodePart, NodePlan, node_always, node_never, node_these, Nodes, form_edges, node_edges, node_at, node_asked, node_part, node_parts, node_outcome, yes_outcome}
 use Rattle.schema_reports.specs.Numbered.{Numbers, IsNumber, SameEdge, SameForm, SamePart, SameParts, SamePlan, StandsFor, NumbersSayUnfolding}
 use Rattle.schema_reports.proofs.Reading.{Reads, reads_of}
 use Rattle.schema_reports.proofs.Questions.{later, in_flat_map, PartAsks, by_keyword, by_reference, Asks}
@@ -26,7 +26,7 @@ use Rattle.schema_reports.proofs.Local.{same_outcome, each_asked}
 pub in_option_list : {A : Type 0} (o : Option A) (x : A) → o ≡ Some x → Contains (option_list o) x
 in_option_list o x e = subst (λ u. Contains (option_list u) x) (sym e) (zero, omega arith, refl)
 
-module _ {S K R : Type 0} (w : Parts S K R) (instance : Data) (keys : Numbers S) (nodes : Nodes K) where
+module _ {S K R : Type 0} (w : Parts S K R) (instance : Data) where
   -- what may be asked is an edge
   pub asks_edge : (k : Key S) (p : Place) (edge : Edge S) (q : Place) → Asks w instance k p edge q → Contains (edges w k) edge
   asks_edge k p edge q h = subst (λ (o : Plan K). Contains {X = Edge S} (elim o [ always ↦ [] | never ↦ [] | these xs ↦ flat_map (λ x. part_edges w k x.name x.form) xs ]) edge) (sym h.is_plan)
@@ -36,6 +36,7 @@ module _ {S K R : Type 0} (w : Parts S K R) (instance : Data) (keys : Numbers S)
       go name (keyword m requests absorbed) _ (by_keyword q is at_edge) = picked (requested w k name) requests q.child edge at_edge
       go name (reference kind text) _ (by_reference is) = in_option_list (reference_edge w k name kind text) edge is
 
+module _ {S K R : Type 0} (w : Parts S K R) (instance : Data) (keys : Numbers S) (nodes : Nodes K) where
   module _ (reads : Reads w.keywords) (i : ℕ) (k : Key S) (stands : StandsFor w keys nodes i k) (path : Text) (p : Place) where
     -- the same question of a part of both
     pub record FormsAsk (name : Text) (x : NodeForm K) (y : Form K) (e : NodeEdge) (b : Below) (edge : Edge S) : Type 0 where
@@ -92,7 +93,7 @@ module _ {S K R : Type 0} (w : Parts S K R) (instance : Data) (keys : Numbers S)
             number = pair.number;
             path = pair.same_path;
             asks = asks;
-            is_edge = asks_edge k p edge (place_below p b) asks;
+            is_edge = asks_edge w instance k p edge (place_below p b) asks;
             node_asks = record { edge = subst (λ o. Contains (node_edges o) e) (sym is_xs) (in_flat_map (λ z. form_edges z.form) xs x e in_xs pair.node_edge); present = pair.present };
           })
 
@@ -147,7 +148,7 @@ module _ {S K R : Type 0} (w : Parts S K R) (instance : Data) (keys : Numbers S)
 
 pub numbers_say_unfolding : {S K R : Type 0} (w : Parts S K R) (keys : Numbers S) (nodes : Nodes K) → NumbersSayUnfolding w keys nodes
 numbers_say_unfolding w keys nodes laws values makers state numbered ranked instance c i k path p number none m n low low' =
-    says_unfolding w instance keys nodes (subschemas_inside w values makers) state ranked accepted (node_outcome w.keywords w.matcher nodes (subject w instance) c) (outcome_of w instance c)
+    says_unfolding w instance keys nodes (subschemas_inside w values makers) state ranked yes_outcome accepted (node_outcome w.keywords w.matcher nodes (subject w instance) c) (outcome_of w instance c)
     (λ i' k' number' path' p' f g h. outcomes_same w instance keys nodes (reads_of w.keywords laws) i' k' (numbered.stands i' k' number') path' p' c f g h)
     (record { key = k; path = path; place = p }) none (ByMeasure w instance keys nodes) (measure_on w instance keys nodes) (measure_less w instance keys nodes) m n i number low
     (measure_first w instance keys nodes n i (record { key = k; path = path; place = p }) low')

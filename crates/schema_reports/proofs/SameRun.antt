@@ -7,7 +7,7 @@ use Rattle.serde_json.specs.Data.{Data}
 use Rattle.schema_reports.specs.Instance.{Text, Place, Step, to_member, to_item, to_name, same_step, same_place, Subject}
 use Rattle.schema_reports.specs.Reports.{accepted, Unit_}
 use Rattle.schema_reports.specs.Drafts.{Draft, draft_4, draft_6, draft_7, draft_2019_09, draft_2020_12, draft_unknown, SchemaPlace, same_draft}
-use Rattle.schema_reports.specs.Keywords.{Marked, a_child, a_pending, Below, Mode}
+use Rattle.schema_reports.specs.Keywords.{Marked, a_child, a_reservation, Below, Mode}
 use Rattle.schema_reports.specs.Matching.{Completion, Assumptions, matching, completion_of}
 use Rattle.schema_reports.specs.Parts.{Parts}
 use Rattle.schema_reports.specs.Making.{Request}
@@ -16,19 +16,22 @@ use Rattle.schema_reports.specs.Meaning.{subject, Where, at, place_below, outcom
 use Rattle.schema_reports.specs.Returns.{Asked, questions, Return}
 use Rattle.schema_reports.specs.Units.{no_unit, keyword_units, reference_units, Entry, true_unit, false_unit, plan_unit, annotations_of, part_units, entries_of}
 use Rattle.schema_reports.specs.Laws.{EachKeeps}
+use Rattle.schema_reports.specs.Reach.{targets_of}
 use Rattle.schema_reports.specs.Runs.{Run, no_run, Met, keyword_met, plan_met, part_met, looked, run_node, run}
 use Rattle.schema_reports.specs.Cover.{plain, mode_of}
-use Rattle.schema_reports.specs.Guarded.{NodeEdge, Children, node_child, same_node, same_edge, NodeForm, node_keyword, node_reference, NodePart, NodePlan, node_always, node_never, node_these, Nodes, node_at, node_asked, node_outcome, node_part_units, node_entries_of, node_part_met, node_looked, guarded_within, guarded_node, guarded_sense}
+use Rattle.schema_reports.specs.Guarded.{NodeEdge, Children, node_child, same_node, same_edge, form_edges, node_edges, NodeForm, node_keyword, node_reference, NodePart, NodePlan, node_always, node_never, node_these, Nodes, node_at, node_asked, node_outcome, node_part_units, node_entries_of, node_part_met, node_looked, guarded_within, guarded_node, guarded_sense, yes_outcome, yes_run}
 use Rattle.schema_reports.specs.Numbered.{Numbers, IsNumber, SameEdge, SameForm, SamePart, SameParts, SamePlan, StandsFor, AreNumbered, Ranked, left, ValuesInside, MakersAskBelow, NumbersMeanUnfolding, NumbersMeanPlain}
 use Rattle.schema_reports.proofs.Reading.{Reads, reads_of}
-use Rattle.schema_reports.proofs.Questions.{later}
+use Rattle.schema_reports.proofs.Questions.{later, in_flat_map}
 use Rattle.schema_reports.proofs.RunsRead.{met_reads, units_read}
 use Rattle.schema_reports.proofs.Depths.{ByMeasure, measure_on, measure_less, measure_first, ByTrail, trail_on, trail_less, trail_first}
 use Rattle.schema_reports.proofs.AtPlaces.{at_places}
-use Rattle.schema_reports.proofs.Reaching.{at_keys}
+use Rattle.schema_reports.proofs.Reaching.{at_targets}
 use Rattle.schema_reports.proofs.Inside.{subschemas_inside}
 use Rattle.schema_reports.proofs.Products.{both_left, both_right}
 use Rattle.schema_reports.proofs.SameVocabularies.{vocabularies_is}
+use Rattle.schema_reports.proofs.Settles.{picked}
+use Rattle.schema_reports.proofs.Alike.{guard_same}
 use Rattle.schema_reports.proofs.Simulates.{BothAsk, one_key, same_text, same_number, both_true, place_itself, target_itself, says_unfolding}
 use Rattle.schema_reports.proofs.SameOutcome.{FormsAsk, at_same, keyword_asked, reference_asked, whole_asks, part_same, outcomes_same}
 
@@ -83,7 +86,7 @@ module _ {S K R : Type 0} (w : Parts S K R) (states : (a b : S) → Decides (w.r
       target_is a b (schema_place_is a.place b.place (eqb-true _ _ (both_left _ _ e3)) (place_is _ _ (both_right _ _ e3)))
       ((states a.state b.state).0 (both_right _ _ e2)) (draft_is a.draft b.draft (both_right _ _ e1)) (vocabularies_is _ _ (both_right _ _ e))
 
-  same_key_is : (a b : Key S) → same_key w a b ≡ true → a ≡ b
+  pub same_key_is : (a b : Key S) → same_key w a b ≡ true → a ≡ b
   same_key_is a b e =
       let e1 = both_left _ _ e in
       let e2 = both_left _ _ e1 in
@@ -95,6 +98,10 @@ module _ {S K R : Type 0} (w : Parts S K R) (states : (a b : S) → Decides (w.r
 
   key_itself : (k : Key S) → same_key w k k ≡ true
   key_itself k = both_true _ _ (both_true _ _ (both_true _ _ (target_itself w state_itself k.target) (same_text k.location)) (same_text k.base)) (same_number k.start)
+
+  -- a target that is the same as one that is the same as a third is the same as that
+  pub same_through : (a b c : Target S) → same_target w a b ≡ true → same_target w b c ≡ true → same_target w a c ≡ true
+  same_through a b c e f = subst (λ x. same_target w x c ≡ true) (sym (same_target_is a b e)) f
 
   -- targets that are the same as one are the same
   pub one_target : (a b k : Target S) → same_target w a k ≡ true → same_target w b k ≡ true → same_target w a b ≡ true
@@ -108,34 +115,41 @@ one_truth false false f g = refl
 
 module _ {S K R : Type 0} (w : Parts S K R) (instance : Data) (keys : Numbers S) (nodes : Nodes K) (reads : Reads w.keywords)
     (states : (a b : S) → Decides (w.resolver.same_state a b) (a ≡ b)) (numbered : AreNumbered w keys nodes)
-    (i : ℕ) (k : Key S) (stands : StandsFor w keys nodes i k) (path : Text) (p : Place) where
+    (i : ℕ) (k : Key S) (number : IsNumber keys i k) (stands : StandsFor w keys nodes i k) (path : Text) (p : Place) where
   Here : Text → NodeForm K → Form K → NodeEdge → Below → Edge S → Type 0
   Here = FormsAsk w instance keys nodes reads i k stands path p
 
   x-at : ◌≡◌ {A = Where} (node_at w.keywords w.matcher nodes (subject w instance) i path p) (at w instance k path p)
   x-at = at_same w instance keys nodes reads i k stands path p
 
-  -- two children have one number where they have one key
-  same_children : (name : Text) (m : K) (es : Children) (m' : K) (requests : List Request) (absorbed : List Text) → SameForm w keys nodes k name (node_keyword m es) (keyword m' requests absorbed)
-      → (a b : Marked) → same_edge es a b ≡ same_child w k name requests a b
-  same_children name m es m' requests absorbed s (a_pending a) (a_pending b) = refl
-  same_children name m es m' requests absorbed s (a_pending a) (a_child b) = refl
-  same_children name m es m' requests absorbed s (a_child a) (a_pending b) = refl
-  same_children name m es m' requests absorbed s (a_child a) (a_child b) = ap (λ t. (a == b) || t) (go (node_child es a) (child w k name requests a) (node_child es b) (child w k name requests b) (s.1 a) (s.1 b))
-    where
-      inner : (e : NodeEdge) (edge : Edge S) → IsNumber keys e.node edge.key → (o : Option NodeEdge) (o' : Option (Edge S)) → SameEdge w keys nodes o o' → same_node (Some e) o ≡ same_edge_key w (Some edge) o'
-      inner e edge h None None t = refl
-      inner e edge h (Some e') (Some edge') t = one_truth _ _
-          (λ is. subst (λ l. same_key w edge.key l ≡ true) (one_key keys e.node edge.key edge'.key h (subst (λ n. IsNumber keys n edge'.key) (sym (eqb-true e.node e'.node is)) t.0)) (key_itself w states edge.key))
-          (λ is. subst (λ n. (e.node == n) ≡ true) (numbered.once e.node e'.node edge.key h (subst (λ l. IsNumber keys e'.node l) (sym (same_key_is w states edge.key edge'.key is)) t.0)) (same_number e.node))
-      inner e edge h None (Some edge') t = absurd t
-      inner e edge h (Some e') None t = absurd t
+  abbrev IsEdge : NodeEdge → Type 0
+  IsEdge e = Contains (node_edges (nodes.entries i)) e
 
-      go : (o : Option NodeEdge) (o' : Option (Edge S)) (u : Option NodeEdge) (u' : Option (Edge S)) → SameEdge w keys nodes o o' → SameEdge w keys nodes u u' → same_node o u ≡ same_edge_key w o' u'
-      go None None u u' t t' = refl
-      go (Some e) (Some edge) u u' t t' = inner e edge t.0 u u' t'
-      go None (Some edge) u u' t t' = absurd t
-      go (Some e) None u u' t t' = absurd t
+  -- two children have one number, and are guarded alike, where they have one key
+  same_children : (name : Text) (m : K) (es : Children) (m' : K) (requests : List Request) (absorbed : List Text) → SameForm w keys nodes k name (node_keyword m es) (keyword m' requests absorbed)
+      → ((e : NodeEdge) → Contains (form_edges (node_keyword m es)) e → IsEdge e) → (a b : Marked) → same_edge es a b ≡ same_child w k name requests a b
+  same_children name m es m' requests absorbed s there (a_reservation a) (a_reservation b) = refl
+  same_children name m es m' requests absorbed s there (a_reservation a) (a_child b) = refl
+  same_children name m es m' requests absorbed s there (a_child a) (a_reservation b) = refl
+  same_children name m es m' requests absorbed s there (a_child a) (a_child b) = ap (λ t. (a == b) || t)
+      (go (node_child es a) (child w k name requests a) (node_child es b) (child w k name requests b) (λ e is. there e (picked (λ o. o) es a e is)) (λ e is. there e (picked (λ o. o) es b e is)) (s.1 a) (s.1 b))
+    where
+      inner : (e : NodeEdge) (edge : Edge S) → IsEdge e → IsNumber keys e.node edge.key → (o : Option NodeEdge) (o' : Option (Edge S)) → ((d : NodeEdge) → o ≡ Some d → IsEdge d) → SameEdge w keys nodes o o'
+          → same_node (Some e) o ≡ same_edge_key w (Some edge) o'
+      inner e edge in_e h None None in_o t = refl
+      inner e edge in_e h (Some e') (Some edge') in_o t = one_truth _ _
+          (λ is. subst (λ l. same_key w edge.key l ≡ true) (one_key keys e.node edge.key edge'.key h (subst (λ n. IsNumber keys n edge'.key) (sym (eqb-true e.node e'.node (both_left _ _ is))) t.0)) (key_itself w states edge.key))
+          (λ is. let one : e.node ≡ e'.node = numbered.once e.node e'.node edge.key h (subst (λ l. IsNumber keys e'.node l) (sym (same_key_is w states edge.key edge'.key is)) t.0) in
+          both_true _ _ (subst (λ n. (e.node == n) ≡ true) one (same_number e.node)) (guard_same e e' (numbered.guards i k number e e' in_e (in_o e' refl) one)))
+      inner e edge in_e h None (Some edge') in_o t = absurd t
+      inner e edge in_e h (Some e') None in_o t = absurd t
+
+      go : (o : Option NodeEdge) (o' : Option (Edge S)) (u : Option NodeEdge) (u' : Option (Edge S)) → ((d : NodeEdge) → o ≡ Some d → IsEdge d) → ((d : NodeEdge) → u ≡ Some d → IsEdge d)
+          → SameEdge w keys nodes o o' → SameEdge w keys nodes u u' → same_node o u ≡ same_edge_key w o' u'
+      go None None u u' in_o in_u t t' = refl
+      go (Some e) (Some edge) u u' in_o in_u t t' = inner e edge (in_o e refl) t.0 u u' in_u t'
+      go None (Some edge) u u' in_o in_u t t' = absurd t
+      go (Some e) None u u' in_o in_u t t' = absurd t
 
   -- ---- units
 
@@ -192,34 +206,34 @@ module _ {S K R : Type 0} (w : Parts S K R) (instance : Data) (keys : Numbers S)
   -- ---- what is met
 
   module _ (as' : Assumptions) (f : NodeEdge → Below → Run) (g : Edge S → Place → Run) where
-    form_met : (name : Text) (x : NodeForm K) (y : Form K) → SameForm w keys nodes k name x y
+    form_met : (name : Text) (x : NodeForm K) (y : Form K) → SameForm w keys nodes k name x y → ((e : NodeEdge) → Contains (form_edges x) e → IsEdge e)
         → ((e : NodeEdge) (b : Below) (edge : Edge S) → Here name x y e b edge → f e b ≡ g edge (place_below p b))
         → (mode : Mode) → node_part_met w.keywords w.matcher nodes (subject w instance) as' i path p f name x mode ≡ part_met w instance as' k path p g name y mode
     unfolding Here
-    form_met name (node_keyword m es) (keyword m' requests absorbed) s h mode =
+    form_met name (node_keyword m es) (keyword m' requests absorbed) s there h mode =
         let t : Subject = subject w instance p in
         let each = keyword_asked w instance keys nodes reads i k stands path p no_run f g name m es m' requests absorbed s h in
-        let same = same_children name m es m' requests absorbed s in
+        let same = same_children name m es m' requests absorbed s there in
         (λ j. keyword_met w.keywords w.matcher as' (x-at j) t (node_asked w.keywords w.matcher nodes (subject w instance) no_run es f) (λ a b. same a b j) name (s.0 j) mode)
         ∙ met_reads w.keywords reads (at w instance k path p) name m' t w.matcher as' (same_child w k name requests) mode _ _ each
-    form_met name (node_reference e) (reference kind text) s h mode = ap (λ r. r.met mode) (reference_asked w instance keys nodes reads i k stands path p no_run f g name e kind text s h)
-    form_met name (node_keyword m es) (reference kind text) s h mode = absurd s
-    form_met name (node_reference e) (keyword m' requests absorbed) s h mode = absurd s
+    form_met name (node_reference e) (reference kind text) s there h mode = ap (λ r. r.met mode) (reference_asked w instance keys nodes reads i k stands path p no_run f g name e kind text s h)
+    form_met name (node_keyword m es) (reference kind text) s there h mode = absurd s
+    form_met name (node_reference e) (keyword m' requests absorbed) s there h mode = absurd s
 
-    looked_same : (xs : List (NodePart K)) (ys : List (Part K)) → SameParts w keys nodes k xs ys
+    looked_same : (xs : List (NodePart K)) (ys : List (Part K)) → SameParts w keys nodes k xs ys → ((x : NodePart K) → Contains xs x → (e : NodeEdge) → Contains (form_edges x.form) e → IsEdge e)
         → ((x : NodePart K) (y : Part K) → Contains xs x → Contains ys y → (e : NodeEdge) (b : Below) (edge : Edge S) → Here y.name x.form y.form e b edge → f e b ≡ g edge (place_below p b))
         → node_looked w.keywords w.matcher nodes (subject w instance) as' i path p f xs ≡ looked w instance as' k path p g ys
     unfolding Here
-    looked_same [] [] s h = refl
-    looked_same (x ∷ xs) (y ∷ ys) s h =
+    looked_same [] [] s there h = refl
+    looked_same (x ∷ xs) (y ∷ ys) s there h =
         let first = h x y (zero, omega arith, refl) (zero, omega arith, refl) in
         let outcome = part_same w instance keys nodes reads i k stands path p (completion_of as') (λ e b. (f e b).outcome tt) (λ e q. (g e q).outcome tt) x y s.0 (λ e b edge a. ap (λ r. r.outcome tt) (first e b edge a)) in
         let met : (mode : Mode) → node_part_met w.keywords w.matcher nodes (subject w instance) as' i path p f x.name x.form mode ≡ part_met w instance as' k path p g y.name y.form mode
-        = λ mode. ap (λ n. node_part_met w.keywords w.matcher nodes (subject w instance) as' i path p f n x.form mode) s.0.name ∙ form_met y.name x.form y.form s.0.form first mode in
-        let rest = looked_same xs ys s.1 (λ x' y' in_x in_y. h x' y' (later x xs x' in_x) (later y ys y' in_y)) in
+        = λ mode. ap (λ n. node_part_met w.keywords w.matcher nodes (subject w instance) as' i path p f n x.form mode) s.0.name ∙ form_met y.name x.form y.form s.0.form (there x (zero, omega arith, refl)) first mode in
+        let rest = looked_same xs ys s.1 (λ x' in_x. there x' (later x xs x' in_x)) (λ x' y' in_x in_y. h x' y' (later x xs x' in_x) (later y ys y' in_y)) in
         λ j. record { is_leaf = s.0.is_leaf j; holds = (outcome j).verdict; met = λ mode. met mode j } ∷ rest j
-    looked_same [] (y ∷ ys) s h = absurd s
-    looked_same (x ∷ xs) [] s h = absurd s
+    looked_same [] (y ∷ ys) s there h = absurd s
+    looked_same (x ∷ xs) [] s there h = absurd s
 
     plan_meets : (mode : Mode) (n : NodePlan K) (o : Plan K) → nodes.entries i ≡ n → plan w k ≡ o → SamePlan w keys nodes k n o
         → ((e : NodeEdge) (b : Below) (edge : Edge S) → BothAsk w instance keys nodes i k p e b edge → f e b ≡ g edge (place_below p b))
@@ -228,7 +242,8 @@ module _ {S K R : Type 0} (w : Parts S K R) (instance : Data) (keys : Numbers S)
     unfolding Here
     plan_meets mode node_always always is_n is_o s h = refl
     plan_meets mode node_never never is_n is_o s h = refl
-    plan_meets mode (node_these xs) (these ys) is_n is_o s h = ap (plan_met mode) (looked_same xs ys s (whole_asks w instance keys nodes reads i k stands path p no_run f g xs ys is_n is_o h))
+    plan_meets mode (node_these xs) (these ys) is_n is_o s h = ap (plan_met mode)
+        (looked_same xs ys s (λ x in_xs e in_x. subst (λ o. Contains (node_edges o) e) (sym is_n) (in_flat_map (λ z. form_edges z.form) xs x e in_xs in_x)) (whole_asks w instance keys nodes reads i k stands path p no_run f g xs ys is_n is_o h))
     plan_meets mode node_always never is_n is_o s h = absurd s
     plan_meets mode node_always (these ys) is_n is_o s h = absurd s
     plan_meets mode node_never always is_n is_o s h = absurd s
@@ -259,13 +274,13 @@ module _ {S K R : Type 0} (w : Parts S K R) (keys : Numbers S) (nodes : Nodes K)
       → guarded_sense w.keywords w.matcher nodes (subject w instance) m i ≡ plain w instance n k
   senses_agree m n low enough =
       let inner = subschemas_inside w values makers in
-      let says : (c : Completion) → guarded_within accepted (node_outcome w.keywords w.matcher nodes (subject w instance) c) m i [] [] [] ≡ unfold_ w instance c n k [] []
-      = λ c. says_unfolding w instance keys nodes inner (state_itself w states) ranked accepted (node_outcome w.keywords w.matcher nodes (subject w instance) c) (outcome_of w instance c)
+      let says : (c : Completion) → guarded_within yes_outcome (node_outcome w.keywords w.matcher nodes (subject w instance) c) m i [] [] [] ≡ unfold_ w instance c n k [] []
+      = λ c. says_unfolding w instance keys nodes inner (state_itself w states) ranked yes_outcome accepted (node_outcome w.keywords w.matcher nodes (subject w instance) c) (outcome_of w instance c)
       (λ i' k' number' path' p' f g h. outcomes_same w instance keys nodes (reads_of w.keywords laws) i' k' (numbered.stands i' k' number') path' p' c f g h)
       (record { key = k; path = []; place = [] }) none Enough on one_less m n i number low enough in
-      let runs : (as' : Assumptions) → guarded_within no_run (guarded_node w.keywords w.matcher nodes (subject w instance) as') m i [] [] [] ≡ run w instance as' n k [] []
-      = λ as'. says_unfolding w instance keys nodes inner (state_itself w states) ranked no_run (guarded_node w.keywords w.matcher nodes (subject w instance) as') (run_node w instance as')
-      (λ i' k' number' path' p' f g h. runs_same w instance keys nodes (reads_of w.keywords laws) states numbered i' k' (numbered.stands i' k' number') path' p' as' f g h)
+      let runs : (as' : Assumptions) → guarded_within (yes_run nodes) (guarded_node w.keywords w.matcher nodes (subject w instance) as') m i [] [] [] ≡ run w instance as' n k [] []
+      = λ as'. says_unfolding w instance keys nodes inner (state_itself w states) ranked (yes_run nodes) no_run (guarded_node w.keywords w.matcher nodes (subject w instance) as') (run_node w instance as')
+      (λ i' k' number' path' p' f g h. runs_same w instance keys nodes (reads_of w.keywords laws) states numbered i' k' number' (numbered.stands i' k' number') path' p' as' f g h)
       (record { key = k; path = []; place = [] }) none Enough on one_less m n i number low enough in
       λ j. record { says = λ c. says c j; meets = λ call as'. (runs as' j).met (mode_of call as'); is_match = w.matcher.is_match }
 
@@ -276,9 +291,10 @@ numbers_mean_unfolding w keys nodes laws values makers states numbered ranked in
 
 pub numbers_mean_plain : {S K R : Type 0} (w : Parts S K R) (keys : Numbers S) (nodes : Nodes K) → NumbersMeanPlain w keys nodes
 numbers_mean_plain {S} w keys nodes laws values makers states numbered ranked instance i k number none reached reach m n low enough =
-    let at_reached = at_keys w instance k reached reach in
+    let at_reached = at_targets w instance k (same_through w states) reached reach in
+    let targets = targets_of w reached in
     let root : Asked w instance = record { key = k; path = []; place = [] } in
     let there = at_places w instance (reads_of w.keywords laws) k in
-    senses_agree w keys nodes laws values makers states numbered ranked instance i k number none (ByTrail w instance keys nodes root none reached at_reached there (one_target w states) one_place)
-    (trail_on w instance keys nodes root none reached at_reached there (one_target w states) one_place) (trail_less w instance keys nodes root none reached at_reached there (one_target w states) one_place) m n low
-    (trail_first w instance keys nodes root none reached at_reached there (one_target w states) one_place n i (omega arith))
+    senses_agree w keys nodes laws values makers states numbered ranked instance i k number none (ByTrail w instance keys nodes root none targets at_reached there (one_target w states) one_place)
+    (trail_on w instance keys nodes root none targets at_reached there (one_target w states) one_place) (trail_less w instance keys nodes root none targets at_reached there (one_target w states) one_place) m n low
+    (trail_first w instance keys nodes root none targets at_reached there (one_target w states) one_place n i (omega arith))

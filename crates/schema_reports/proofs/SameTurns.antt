@@ -8,7 +8,7 @@ use Rattle.schema_reports.specs.Matching.{Match, finished, unfinished, Matcher, 
 use Rattle.schema_reports.specs.Keywords.{Marked, Question, Mode, for_verdict, for_first, for_all, for_units, Fault, Reply, no_reply, truth, first_of_it, all_of_it, unit_of_it, Turn, ask, match_text, mark, unmark, ecma, done, Keywords}
 use Rattle.schema_reports.specs.Meaning.{Where, keyword_outcome, fault_error}
 use Rattle.schema_reports.specs.Runs.{Met, site_at, Run, first_error, reply_in, turns, keyword_met}
-use Rattle.schema_reports.specs.Laws.{Agrees, first_fault, answer_in, ended, IsRight, KeepsLaws}
+use Rattle.schema_reports.specs.Laws.{Agrees, AnsweredAlike, first_fault, answer_in, ended, IsRight, KeepsLaws}
 use Rattle.schema_reports.specs.Members.{AllAssumed, SameIn, Speaks}
 
 -- ---- the first of mapped errors
@@ -55,7 +55,7 @@ assumed_tail as' m ms e = assumed_back as' (m ∷ []) ms e
 module _ {K R : Type 0} (keywords : Keywords K R) (matcher : Matcher) (as' : Assumptions) (c : Completion) (mine : Extends (completion_of as') as') (ext : Extends c as')
     (x : Where) (s : Subject) (run_of : Question → Run) (a1 a2 : Question → Outcome) (u1 u2 : Question → Unit_) (same : Marked → Marked → Bool) (name : Text) (m : K)
     (o_is : (q : Question) → (run_of q).outcome tt ≡ a1 q) (u_is : (q : Question) → (run_of q).units tt ≡ u1 q)
-    (speaks : (q : Question) → Speaks as' (run_of q) (a2 q) (u2 q)) where
+    (speaks : (q : Question) → Speaks as' (run_of q) (a2 q) (u2 q)) (alike_1 : AnsweredAlike same a1) (alike_2 : AnsweredAlike same a2) where
   abbrev WhenAssumed : Matching
   WhenAssumed = matching matcher (completion_of as')
 
@@ -151,8 +151,8 @@ module _ {K R : Type 0} (keywords : Keywords K R) (matcher : Matcher) (as' : Ass
     both_right : (mode : Mode) → AllAssumed as' (keyword_met keywords matcher as' x s run_of same name m mode)
         → (r : R) × IsRight keywords m s WhenAssumed a1 u1 same mode (keywords.answer r) × IsRight keywords m s WhenCompleted a2 u2 same mode (keywords.answer r)
     both_right mode e =
-        let (r, is, right) = laws.answers s mode WhenAssumed a1 u1 same agrees_1 valid_1 in
-        let (t, is', right') = laws.answers s mode WhenCompleted a2 u2 same (λ q. (speaks q).agrees) (λ q. (speaks q).valid) in
+        let (r, is, right) = laws.answers s mode WhenAssumed a1 u1 same agrees_1 valid_1 alike_1 in
+        let (t, is', right') = laws.answers s mode WhenCompleted a2 u2 same (λ q. (speaks q).agrees) (λ q. (speaks q).valid) alike_2 in
         let one : ◌≡◌ {A = Option R} (Some r) (Some t) = sym is ∙ (same_ends (keywords.most_turns m s) [] (keywords.begin m s mode) no_reply e ∙ is') in
         (r, right, subst (λ z. IsRight keywords m s WhenCompleted a2 u2 same mode (keywords.answer z)) (sym (ap (λ o. elim o [ Some z ↦ z | None ↦ r ]) one)) right')
 

@@ -5,12 +5,13 @@ use Rattle.std.proofs.lemmas.Slice.Eq.{bytes_eq-Decides, slice_eq-Decides}
 use Rattle.std.proofs.Math.Bool.{beq}
 use Rattle.std.specs.Cmp.{booleans_Decides}
 use Rattle.std.specs.Cmp.Lexicographic.{pointwise}
-use Rattle.std.specs.Prelude.{Bool, Decides, List, [], bytes_eq, false, refl, true, ◌&&◌, ◌∷◌, ◌≡◌}
+use Rattle.std.specs.Prelude.{Bool, Decides, List, [], bytes_eq, false, refl, true, ◌&&◌, ◌↔◌, ◌∷◌, ◌≡◌}
 use Rattle.schema_reports.specs.Instance.{Text}
 use Rattle.schema_reports.specs.Drafts.{Vocabularies, Vocabulary, applicator_vocabulary, content_vocabulary, core_vocabulary, custom_vocabulary, format_annotation_vocabulary, format_assertion_vocabulary, format_vocabulary, has_vocabulary, metadata_vocabulary, same_vocabularies, same_vocabulary, unevaluated_vocabulary, validation_vocabulary}
-use Rattle.schema_reports.specs.VocabularySets.{custom_of, listed}
+use Rattle.schema_reports.specs.VocabularySets.{HoldSame, custom_of, is_rising, listed}
 use Rattle.schema_reports.proofs.Products.{both_left, both_right}
-use Rattle.schema_reports.proofs.VocabularyLists.{custom_of-listed, has_applicator, has_content, has_core, has_format, has_format_annotation, has_format_assertion, has_metadata, has_unevaluated, has_validation}
+use Rattle.schema_reports.proofs.VocabularyLists.{custom_of-listed, has_applicator, has_content, has_core, has_format, has_format_annotation, has_format_assertion, has_metadata, has_other, has_unevaluated, has_validation}
+use Rattle.schema_reports.proofs.RisingTexts.{rising_one}
 
 vocabulary_itself : (v : Vocabulary) → same_vocabulary v v ≡ true
 vocabulary_itself core_vocabulary = refl
@@ -80,3 +81,19 @@ module _ (a b d e f g h i j : Bool) (us : List Text) (a' b' d' e' f' g' h' i' j'
       let uris : us ≡ vs = (uris_decide us vs).0 (both_right _ _ h) in
       let equal : listed fs us ≡ listed gs vs = ap₂ listed flags uris in
       rw equal (vocabularies_itself (listed gs vs)))
+
+  -- ---- sets that hold the same are one
+
+  flags_held : HoldSame (listed (a ∷ b ∷ d ∷ e ∷ f ∷ g ∷ h ∷ i ∷ j ∷ []) us) (listed (a' ∷ b' ∷ d' ∷ e' ∷ f' ∷ g' ∷ h' ∷ i' ∷ j' ∷ []) vs) → (a ∷ b ∷ d ∷ e ∷ f ∷ g ∷ h ∷ i ∷ j ∷ []) ≡ (a' ∷ b' ∷ d' ∷ e' ∷ f' ∷ g' ∷ h' ∷ i' ∷ j' ∷ [])
+  flags_held same = λ k. (sym (has_core a b d e f g h i j us) ∙ same core_vocabulary ∙ has_core a' b' d' e' f' g' h' i' j' vs) k ∷ (sym (has_applicator a b d e f g h i j us) ∙ same applicator_vocabulary ∙ has_applicator a' b' d' e' f' g' h' i' j' vs) k ∷ (sym (has_unevaluated a b d e f g h i j us) ∙ same unevaluated_vocabulary ∙ has_unevaluated a' b' d' e' f' g' h' i' j' vs) k ∷ (sym (has_validation a b d e f g h i j us) ∙ same validation_vocabulary ∙ has_validation a' b' d' e' f' g' h' i' j' vs) k ∷ (sym (has_metadata a b d e f g h i j us) ∙ same metadata_vocabulary ∙ has_metadata a' b' d' e' f' g' h' i' j' vs) k ∷ (sym (has_format a b d e f g h i j us) ∙ same format_vocabulary ∙ has_format a' b' d' e' f' g' h' i' j' vs) k ∷ (sym (has_format_annotation a b d e f g h i j us) ∙ same format_annotation_vocabulary ∙ has_format_annotation a' b' d' e' f' g' h' i' j' vs) k ∷ (sym (has_format_assertion a b d e f g h i j us) ∙ same format_assertion_vocabulary ∙ has_format_assertion a' b' d' e' f' g' h' i' j' vs) k ∷ (sym (has_content a b d e f g h i j us) ∙ same content_vocabulary ∙ has_content a' b' d' e' f' g' h' i' j' vs) k ∷ []
+
+  pub same_sets : is_rising us ≡ true → is_rising vs ≡ true → (same_vocabularies (listed (a ∷ b ∷ d ∷ e ∷ f ∷ g ∷ h ∷ i ∷ j ∷ []) us) (listed (a' ∷ b' ∷ d' ∷ e' ∷ f' ∷ g' ∷ h' ∷ i' ∷ j' ∷ []) vs) ≡ true) ↔ HoldSame (listed (a ∷ b ∷ d ∷ e ∷ f ∷ g ∷ h ∷ i ∷ j ∷ []) us) (listed (a' ∷ b' ∷ d' ∷ e' ∷ f' ∷ g' ∷ h' ∷ i' ∷ j' ∷ []) vs)
+  same_sets r s =
+      let fs : List Bool = a ∷ b ∷ d ∷ e ∷ f ∷ g ∷ h ∷ i ∷ j ∷ [] in
+      let gs : List Bool = a' ∷ b' ∷ d' ∷ e' ∷ f' ∷ g' ∷ h' ∷ i' ∷ j' ∷ [] in (
+        λ k v. ap (λ (x : Vocabularies). has_vocabulary x v) (vocabularies_is (listed fs us) (listed gs vs) k),
+        λ same.
+            let uris : us ≡ vs = rising_one us vs r s (λ t. sym (has_other a b d e f g h i j us t) ∙ same (custom_vocabulary t) ∙ has_other a' b' d' e' f' g' h' i' j' vs t) in
+            let equal : listed fs us ≡ listed gs vs = ap₂ listed (flags_held same) uris in
+            rw equal (vocabularies_itself (listed gs vs)),
+      )

@@ -4,7 +4,8 @@ use Rattle.std.proofs.lemmas.List.{length-append}
 use Rattle.schema_reports.specs.Matching.{Assumptions}
 use Rattle.schema_reports.specs.Cover.{assuming}
 use Rattle.schema_reports.specs.Unfinished.{Remembered}
-use Rattle.schema_reports.specs.Search.{Cut, Tree, Whole, all_yes, branch, ends, lists_of, member, results_of, runs, unrun, waiting}
+use Rattle.schema_reports.specs.Search.{BranchesAreNew, Cut, HandsBack, Tree, Whole, all_yes, branch, ends, lists_of, member, results_of, runs, unrun, waiting}
+use Rattle.schema_reports.proofs.TakenApart.{takes_apart}
 
 pub runs_and_waiting : {T : Type 0} (tree : Tree T) → runs tree + waiting tree + 1 ≡ 2 * ends tree
 runs_and_waiting unrun = refl
@@ -34,8 +35,8 @@ last_list as' (branch r f a b) w =
     (front ++ others, last, ap (λ z. front ++ z) is ∙ sym (append_assoc front others (last ∷ [])), yes_everywhere)
 
 module _ {S T : Type 0} (Step : S → Remembered → Remembered → T → S → Type 0) (first : Remembered) (start : S) (limit : ℕ) where
-  pub is_whole : (tree : Tree T) → waiting tree ≡ 0 → Whole Step first start limit tree
-  is_whole tree w = let (others, last, is, yes_everywhere) = last_list first.assumptions tree w in record {
+  pub is_whole : (tree : Tree T) → waiting tree ≡ 0 → (HandsBack Step start → BranchesAreNew first.assumptions tree) → Whole Step first start limit tree
+  is_whole tree w new = let (others, last, is, yes_everywhere) = last_list first.assumptions tree w in record {
     none_waits = w;
     runs_are = omega (arith, runs_and_waiting tree);
     results_are = results_count tree w;
@@ -44,6 +45,7 @@ module _ {S T : Type 0} (Step : S → Remembered → Remembered → T → S → 
     last = last;
     lists_are = is;
     last_yes = yes_everywhere;
+    apart = λ back. takes_apart first.assumptions tree (new back) w;
   }
 
   pub is_cut : (tree : Tree T) → 0 < waiting tree → runs tree ≡ limit → Cut Step first start limit tree

@@ -6,7 +6,7 @@ use Rattle.schema_reports.specs.Matching.{Assumptions, assumed, same_pair, unfin
 use Rattle.schema_reports.specs.Reports.{Error}
 use Rattle.schema_reports.specs.Runs.{Met}
 use Rattle.schema_reports.specs.Cover.{Call, IsRun, Sense, branch_at, first_run}
-use Rattle.schema_reports.specs.Headline.{IsFailure, reason_text, shown_pattern}
+use Rattle.schema_reports.specs.Headline.{IsFailure, reason_text, shown_at, shown_pattern}
 use Rattle.schema_reports.specs.Unfinished.{Failure, located_by, located_by_all, or_pattern, preferred}
 use Rattle.schema_reports.specs.Searched.{failure_error}
 use Rattle.schema_reports.proofs.CoversApart.{Some-is, same_is}
@@ -100,7 +100,7 @@ module _ (v : Sense) (call : Call) (u : Failure) where
         (ap₂ unwrap_or h.pattern (ap (λ a. a.pattern) h.pair) ∙ shown h.met.site.pattern u.met.site.pattern u.met.pair.pattern) h.reason
         ∙ ap (reason_text (shown_pattern h.met.site u.met)) (sym reason);
     schema = h.schema;
-    located = ap₂ (λ l s. unwrap_or l (s, [])) h.located h.schema;
+    located = ap₂ (λ l s. shown_at (unwrap_or l (s, []))) h.located h.schema;
     nowhere = refl;
     named = refl;
   })

@@ -13,7 +13,8 @@ use Rattle.schema_reports.specs.Outcomes.{AreOutcomes, is_yes}
 use Rattle.schema_reports.specs.Searched.{IsRunOf}
 use Rattle.schema_reports.specs.declared.unfinished_matches.search.Outcomes.{Outcomes}
 use Rattle.schema_reports.specs.declared.unfinished_matches.search.Outcomes.TheVariants.{Assumed, Undecided}
-use Rattle.schema_reports.proofs.Sentences.{undecided_past, verdict_says}
+use Rattle.schema_reports.specs.Deciding.{undecided_past}
+use Rattle.schema_reports.proofs.Sentences.{verdict_says}
 use Rattle.schema_reports.proofs.SearchedSense.{call_cover, call_part}
 
 pub all_map : {A B : Type 0} (p : B → Bool) (f : A → B) (xs : List A) → list_all p (map f xs) ≡ list_all (λ x. p (f x)) xs

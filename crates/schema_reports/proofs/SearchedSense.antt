@@ -9,17 +9,11 @@ use Rattle.schema_reports.specs.Members.{Partly, splits, waits}
 use Rattle.schema_reports.specs.Unfinished.{Failure, Remembered, starting}
 use Rattle.schema_reports.specs.Search.{Grows, GrowsFrom, Tree, branch, ends, lists_of, member, results_of, sites, unrun, waiting}
 use Rattle.schema_reports.specs.Searched.{IsRunOf, Reaches, Remembers, here, next}
+use Rattle.schema_reports.proofs.TakenApart.{reaches_end}
 
 pub map_append : {A B : Type 0} (f : A → B) (xs ys : List A) → map f (xs ++ ys) ≡ map f xs ++ map f ys
 map_append f [] ys = refl
 map_append f (x ∷ xs) ys = ap (λ z. f x ∷ z) (map_append f xs ys)
-
-module _ {S T : Type 0} (Step : S → Remembered → Remembered → T → S → Type 0) (start : S) where
-  reaches_end : (as' : Assumptions) (s : S) (tree : Tree T) (end : S) → Reaches Step start s → Grows Step as' s tree end → Reaches Step start end
-  reaches_end as' s unrun end at g = subst (λ z. Reaches Step start z) g at
-  reaches_end as' s (member r result) end at g = next s (starting as') r result end at g.0
-  reaches_end as' s (branch r f a b) end at g =
-      reaches_end (assuming f.met true as') g.2 b end (reaches_end (assuming f.met false as') g.1 a g.2 (next s (starting as') r g.0 g.1 at g.3) g.5) g.6
 
 module _ (v : Sense) (call : Call) where
   -- sites that a run of the call gives

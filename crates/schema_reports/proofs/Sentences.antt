@@ -1,5 +1,5 @@
 -- The sentences of the four calls, from the members of their covers.
-use Rattle.std.proofs.Common.{◌≡◌, ℕ, ◌<◌, zero, suc, ◌≤◌, List, [], ◌∷◌, ◌++◌, length, refl, ap, ap₂, sym, subst, ◌∙◌, Bool, true, false, cond, ◌&&◌, ◌||◌, arith, inl, inr}
+use Rattle.std.proofs.Common.{◌≡◌, zero, suc, ◌≤◌, List, [], ◌∷◌, ◌++◌, length, refl, ap, ap₂, sym, subst, ◌∙◌, Bool, true, false, cond, ◌&&◌, ◌||◌, arith, inl, inr}
 use Rattle.std.specs.Prelude.{Option, Some, None, Contains, filter, ◌↔◌}
 use Rattle.std.specs.List.{list_all, list_any}
 use Rattle.std.proofs.lemmas.List.Elements.{All-contains, Contains-append_right, Contains-append_cases}
@@ -10,11 +10,10 @@ use Rattle.schema_reports.specs.Reports.{Error, same_error, instance_path, Outco
 use Rattle.schema_reports.specs.Matching.{Completion, all_match, Assumptions, completion_of, Extends}
 use Rattle.schema_reports.specs.Keywords.{for_all}
 use Rattle.schema_reports.specs.Runs.{Met, first_error}
-use Rattle.schema_reports.specs.Cover.{Call, validate, iter_errors, evaluate, mode_of, Sense, Cover, whole, split, assuming, branch_at, Decides}
+use Rattle.schema_reports.specs.Cover.{Call, validate, iter_errors, evaluate, mode_of, Sense, Cover, whole, split, assuming, branch_at}
 use Rattle.schema_reports.specs.Shared.{EachAccepts, SomeRefuses, in_each, Kept, none, keep, leave, Shared, errors_of}
 use Rattle.schema_reports.specs.Laws.{Agrees}
-use Rattle.schema_reports.specs.Members.{Follows, all_accept, shared_with, listed, is_nil, none_has, or_failure, Partly, waits, splits}
-use Rattle.std.proofs.lemmas.List.{length-append}
+use Rattle.schema_reports.specs.Members.{Follows, all_accept, shared_with, listed, is_nil, none_has, or_failure}
 use Rattle.schema_reports.specs.Headline as h
 use Rattle.schema_reports.proofs.CoversApart.{covered, shared_is}
 use Rattle.schema_reports.proofs.Senses.{last_member, Longer, longer, all_accept_each, faithful}
@@ -282,16 +281,3 @@ one_cover v call (split m e s t) (whole f) = absurd (cc (sym e ∙ f))
 one_cover v call {as'} (split {no = ns} {yes = ys} m e s t) (split {no = ns'} {yes = ys'} m' f s' t') =
     let same : m' ≡ m = ap (λ o. elim o [ Some x ↦ x | None ↦ m ]) (sym f ∙ e) in
     ap₂ (λ a b. a ++ b) (one_cover v call s (subst (λ x. Cover v call (assuming x false as') ns') same s')) (one_cover v call t (subst (λ x. Cover v call (assuming x true as') ys') same t'))
-
-no_less : (v : Sense) (call : Call) {as' : Assumptions} {n : ℕ} {ms : List Assumptions} → Partly v call as' n → Cover v call as' ms → n ≤ length ms
-no_less v call waits (whole e) = omega arith
-no_less v call {ms = ms} waits (split {no = ns} {yes = ys} m e s t) = let one : 1 ≤ length ns = no_less v call waits s in omega (arith, length-append ns ys)
-no_less v call (splits m f s t) (whole e) = absurd (cc (sym e ∙ f))
-no_less v call {as'} (splits {a = a} {b = b} m f s t) (split {no = ns} {yes = ys} m' e s' t') =
-    let same : m' ≡ m = ap (λ o. elim o [ Some x ↦ x | None ↦ m ]) (sym e ∙ f) in
-    let one : a ≤ length ns = no_less v call s (subst (λ x. Cover v call (assuming x false as') ns) same s') in
-    let two : b ≤ length ys = no_less v call t (subst (λ x. Cover v call (assuming x true as') ys) same t') in
-    omega (arith, length-append ns ys)
-
-pub undecided_past : (v : Sense) (call : Call) (n : ℕ) → Partly v call [] n → 32 < n → ¬ (Decides v call)
-undecided_past v call n part many (ms, cover, few) = let least : n ≤ length ms = no_less v call part cover in absurd (omega arith)

@@ -10,7 +10,7 @@ use Rattle.schema_reports.specs.Matching.{Completion, Matcher, matching}
 use Rattle.schema_reports.specs.Keywords.{Keywords, Below, here, down, Question}
 use Rattle.schema_reports.specs.Meaning.{subject, place_below, fault_error, reference_outcome, false_outcome, both}
 use Rattle.schema_reports.specs.Laws.{IsPresent, steps_below}
-use Rattle.schema_reports.specs.Guarded.{NodeEdge, node_child, NodeForm, node_keyword, node_reference, NodePart, NodePlan, node_always, node_never, node_these, Nodes, form_edges, node_edges, progress_below, guarded_within, node_at, node_asked, node_part, node_parts, node_outcome}
+use Rattle.schema_reports.specs.Guarded.{NodeEdge, node_child, NodeForm, node_keyword, node_reference, NodePart, NodePlan, node_always, node_never, node_these, Nodes, form_edges, node_edges, progress_below, guarded_within, node_at, node_asked, node_part, node_parts, node_outcome, yes_outcome}
 use Rattle.schema_reports.specs.Numbered.{Ranked, left, subject_in, GuardedSettles}
 use Rattle.schema_reports.proofs.Reading.{Reads, reads_of}
 use Rattle.schema_reports.proofs.Questions.{later, in_flat_map}
@@ -45,20 +45,20 @@ module _ {K : Type 0} (instance : Data) (nodes : Nodes K) where
     guarded_falls i p busy e here l a g = left_entered nodes count i e.node (subject_in instance p) busy (ranked i l e a.edge).0 g
     guarded_falls i p busy e (down s) l a g = left_below nodes count i e.node _ _ busy (e.node ∷ []) (ranked i l e a.edge).0 (below_falls instance p s a.present)
 
-    module _ {X : Type 0} (yes : X) (node : ℕ → Text → Place → (NodeEdge → Below → X) → X)
+    module _ {X : Type 0} (yes : ℕ → Text → Place → X) (node : ℕ → Text → Place → (NodeEdge → Below → X) → X)
         (local : (i : ℕ) (path : Text) (p : Place) (f g : NodeEdge → Below → X) → ((e : NodeEdge) (b : Below) → NodeAsks i p e b → f e b ≡ g e b) → node i path p f ≡ node i path p g) where
-      by_guard : (g t : Bool) (x x' y y' : X) → (g ≡ false → x ≡ x') → (t ≡ false → y ≡ y')
-          → ◌≡◌ {A = X} (elim g [ false ↦ x | true ↦ elim t [ true ↦ yes | false ↦ y ] ]) (elim g [ false ↦ x' | true ↦ elim t [ true ↦ yes | false ↦ y' ] ])
-      by_guard false t x x' y y' h k = h refl
-      by_guard true true x x' y y' h k = refl
-      by_guard true false x x' y y' h k = k refl
+      by_guard : (g t : Bool) (u x x' y y' : X) → (g ≡ false → x ≡ x') → (t ≡ false → y ≡ y')
+          → ◌≡◌ {A = X} (elim g [ false ↦ x | true ↦ elim t [ true ↦ u | false ↦ y ] ]) (elim g [ false ↦ x' | true ↦ elim t [ true ↦ u | false ↦ y' ] ])
+      by_guard false t u x x' y y' h k = h refl
+      by_guard true true u x x' y y' h k = refl
+      by_guard true false u x x' y y' h k = k refl
 
       pub settles : (m n i : ℕ) (path : Text) (p : Place) (busy : List ℕ) → i < count
           → left nodes count i (subject_in instance p) busy < m → left nodes count i (subject_in instance p) busy < n
           → guarded_within yes node m i path p busy ≡ guarded_within yes node n i path p busy
       settles zero n i path p busy l a b = absurd (omega arith)
       settles (suc m) zero i path p busy l a b = absurd (omega arith)
-      settles (suc m) (suc n) i path p busy l a b = local i path p _ _ (λ e d asks. by_guard e.guarded (list_any (λ j. j == e.node) (progress_below busy d)) _ _ _ _
+      settles (suc m) (suc n) i path p busy l a b = local i path p _ _ (λ e d asks. by_guard e.guarded (list_any (λ j. j == e.node) (progress_below busy d)) _ _ _ _ _
           (λ g. let f = free_falls i p busy e d l asks g in settles m n e.node _ _ (progress_below busy d) (ranked i l e asks.edge).0 (omega arith) (omega arith))
           (λ g. let f = guarded_falls i p busy e d l asks g in settles m n e.node _ _ (e.node ∷ progress_below busy d) (ranked i l e asks.edge).0 (omega arith) (omega arith)))
 
@@ -104,4 +104,4 @@ module _ {K R : Type 0} (keywords : Keywords K R) (matcher : Matcher) (instance 
 
 pub guarded_settles : {S K R : Type 0} (w : Parts S K R) (instance : Data) (nodes : Nodes K) (count : ℕ) → GuardedSettles w instance nodes count
 guarded_settles w instance nodes count laws ranked c i path p busy l m n a b =
-    settles instance nodes count ranked accepted (node_outcome w.keywords w.matcher nodes (subject w instance) c) (node_local w.keywords w.matcher instance nodes (reads_of w.keywords laws) c) m n i path p busy l a b
+    settles instance nodes count ranked yes_outcome (node_outcome w.keywords w.matcher nodes (subject w instance) c) (node_local w.keywords w.matcher instance nodes (reads_of w.keywords laws) c) m n i path p busy l a b

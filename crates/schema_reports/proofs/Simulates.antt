@@ -75,7 +75,7 @@ module _ {S K R : Type 0} (w : Parts S K R) (instance : Data) (keys : Numbers S)
 
 module _ {S K R : Type 0} (w : Parts S K R) (instance : Data) (keys : Numbers S) (nodes : Nodes K)
     (inside : SubschemasInside w) (same_state : (s : S) → w.resolver.same_state s s ≡ true) (ranked : Ranked nodes (length keys)) where
-  module _ {X : Type 0} (yes : X) (node : ℕ → Text → Place → (NodeEdge → Below → X) → X) (key : Key S → Text → Place → (Edge S → Place → X) → X)
+  module _ {X : Type 0} (yes : ℕ → Text → Place → X) (last : X) (node : ℕ → Text → Place → (NodeEdge → Below → X) → X) (key : Key S → Text → Place → (Edge S → Place → X) → X)
       (same : (i : ℕ) (k : Key S) → IsNumber keys i k → (path : Text) (p : Place) (f : NodeEdge → Below → X) (g : Edge S → Place → X)
       → ((e : NodeEdge) (b : Below) (edge : Edge S) → BothAsk w instance keys nodes i k p e b edge → f e b ≡ g edge (place_below p b)) → node i path p f ≡ key k path p g)
       (root : Asked w instance) (none : ¬ (Return w instance root))
@@ -127,19 +127,19 @@ module _ {S K R : Type 0} (w : Parts S K R) (instance : Data) (keys : Numbers S)
 
     -- where a reference leads, with n more
     over : ℕ → Key S → Text → Place → X
-    over zero k path p = yes
-    over (suc n) k path p = unfolded w instance yes key n k path p
+    over zero k path p = last
+    over (suc n) k path p = unfolded w instance last key n k path p
 
-    unfolded_is : (n : ℕ) (k : Key S) (path : Text) (p : Place) → unfolded w instance yes key n k path p ≡ within w instance yes key (over n) (height w k) k path p
+    unfolded_is : (n : ℕ) (k : Key S) (path : Text) (p : Place) → unfolded w instance last key n k path p ≡ within w instance last key (over n) (height w k) k path p
     unfolding over
     unfolded_is zero k path p = refl
     unfolded_is (suc n) k path p = refl
 
-    by_guard : (g t : Bool) (x y z : X) → (g ≡ false → x ≡ z) → (t ≡ true → ⊥) → (t ≡ false → y ≡ z)
-        → ◌≡◌ {A = X} (elim g [ false ↦ x | true ↦ elim t [ true ↦ yes | false ↦ y ] ]) z
-    by_guard false t x y z f n h = f refl
-    by_guard true true x y z f n h = absurd (n refl)
-    by_guard true false x y z f n h = h refl
+    by_guard : (g t : Bool) (x u y z : X) → (g ≡ false → x ≡ z) → (t ≡ true → ⊥) → (t ≡ false → y ≡ z)
+        → ◌≡◌ {A = X} (elim g [ false ↦ x | true ↦ elim t [ true ↦ u | false ↦ y ] ]) z
+    by_guard false t x u y z f n h = f refl
+    by_guard true true x u y z f n h = absurd (n refl)
+    by_guard true false x u y z f n h = h refl
 
     by_kind : (b : Bool) (x y z : X) → (b ≡ true → x ≡ y) → (b ≡ false → x ≡ z) → ◌≡◌ {A = X} x (elim b [ true ↦ y | false ↦ z ])
     by_kind true x y z f g = f refl
@@ -151,7 +151,7 @@ module _ {S K R : Type 0} (w : Parts S K R) (instance : Data) (keys : Numbers S)
     Simulates : ℕ → Type 0
     Simulates m = (n h i : ℕ) (a : Asked w instance) (busy : List ℕ) → IsNumber keys i a.key → LeadsTo w instance root a → Carried busy a
         → Enough n i busy a → height w a.key ≤ h → measure i a busy < m
-        → guarded_within yes node m i a.path a.place busy ≡ within w instance yes key (over n) h a.key a.path a.place
+        → guarded_within yes node m i a.path a.place busy ≡ within w instance last key (over n) h a.key a.path a.place
 
     reference_step : (m : ℕ) → Simulates m → (n j : ℕ) (c : Asked w instance) (busy' : List ℕ) → IsNumber keys j c.key → LeadsTo w instance root c → Carried busy' c
         → (n' : ℕ) × (n ≡ suc n') × Enough n' j busy' c → left nodes (length keys) j (subject w instance c.place) busy' < m
@@ -164,7 +164,7 @@ module _ {S K R : Type 0} (w : Parts S K R) (instance : Data) (keys : Numbers S)
     step : (m : ℕ) → Simulates m → (n h i : ℕ) (a : Asked w instance) (busy : List ℕ) → IsNumber keys i a.key → LeadsTo w instance root a → Carried busy a
         → Enough n i busy a → height w a.key ≤ suc h → measure i a busy ≤ m → (e : NodeEdge) (b : Below) (edge : Edge S) → BothAsk w instance keys nodes i a.key a.place e b edge
         → across yes node (guarded_within yes node m) a.path a.place busy e b
-        ≡ elim edge.is_reference [ true ↦ over n edge.key (a.path ++ edge.path) (place_below a.place b) | false ↦ within w instance yes key (over n) h edge.key (a.path ++ edge.path) (place_below a.place b) ]
+        ≡ elim edge.is_reference [ true ↦ over n edge.key (a.path ++ edge.path) (place_below a.place b) | false ↦ within w instance last key (over n) h edge.key (a.path ++ edge.path) (place_below a.place b) ]
     unfolding Simulates measure over
     step m ih n h i a busy number way carried most high low e b edge pair =
         let c : Asked w instance = record { key = edge.key; path = a.path ++ edge.path; place = place_below a.place b } in
@@ -174,11 +174,11 @@ module _ {S K R : Type 0} (w : Parts S K R) (instance : Data) (keys : Numbers S)
         let l : i < length keys = slice_get_within keys i (Some a.key) number in
         let reaches : (busy' : List ℕ) → Carried busy' c → left nodes (length keys) e.node (subject w instance (place_below a.place b)) busy' < left nodes (length keys) i (subject w instance a.place) busy
         → guarded_within yes node m e.node (a.path ++ e.path) (place_below a.place b) busy'
-        ≡ elim edge.is_reference [ true ↦ over n edge.key (a.path ++ edge.path) (place_below a.place b) | false ↦ within w instance yes key (over n) h edge.key (a.path ++ edge.path) (place_below a.place b) ]
+        ≡ elim edge.is_reference [ true ↦ over n edge.key (a.path ++ edge.path) (place_below a.place b) | false ↦ within w instance last key (over n) h edge.key (a.path ++ edge.path) (place_below a.place b) ]
         = λ busy' k falls. ap (λ t. guarded_within yes node m e.node (a.path ++ t) (place_below a.place b) busy') pair.path
         ∙ by_kind edge.is_reference _ _ _ (λ is. reference_step m ih n e.node c busy' pair.number way' k (one_less n i e.node busy busy' a c q falls most) (omega arith))
         (λ is. let f = inside a.key edge pair.is_edge is in ih n h e.node c busy' pair.number way' k (on n i e.node busy busy' a c q falls most) (omega arith) (omega arith)) in
-        by_guard e.guarded (list_any (λ j. j == e.node) (progress_below busy b)) _ _ _
+        by_guard e.guarded (list_any (λ j. j == e.node) (progress_below busy b)) _ _ _ _
         (λ is. reaches (progress_below busy b) carried' (free_falls instance nodes (length keys) ranked i a.place busy e b l pair.node_asks is))
         (not_again a c busy b e.node refl pair.number q carried)
         (λ is. reaches (e.node ∷ progress_below busy b) (carried_entered c (progress_below busy b) e.node pair.number way' carried') (guarded_falls instance nodes (length keys) ranked i a.place busy e b l pair.node_asks is))
@@ -192,6 +192,6 @@ module _ {S K R : Type 0} (w : Parts S K R) (instance : Data) (keys : Numbers S)
 
     -- with nothing in progress, at every depth that is enough
     pub says_unfolding : (m n i : ℕ) → IsNumber keys i root.key → left nodes (length keys) i (subject w instance root.place) [] < m → Enough n i [] root
-        → guarded_within yes node m i root.path root.place [] ≡ unfolded w instance yes key n root.key root.path root.place
+        → guarded_within yes node m i root.path root.place [] ≡ unfolded w instance last key n root.key root.path root.place
     unfolding Simulates measure
     says_unfolding m n i number low enough = simulates m n (height w root.key) i root [] number stays (carried_none root) enough (omega arith) low ∙ sym (unfolded_is n root.key root.path root.place)

@@ -11,7 +11,7 @@ use Rattle.schema_reports.specs.Meaning.{Where, place_below}
 use Rattle.schema_reports.specs.Runs.{Looked, Met, Run, Site, no_run, plan_met, reply_in, site_at, turns}
 use Rattle.schema_reports.specs.Cover.{Call, mode_of}
 use Rattle.schema_reports.specs.Laws.{AlwaysAsksRightly, AsksRightly, EachKeeps, IsPresent, KeepsLaws, SpotInside, steps_below}
-use Rattle.schema_reports.specs.Guarded.{NodeEdge, NodeForm, NodePart, NodePlan, Nodes, guarded_node, guarded_sense, guarded_within, node_always, node_asked, node_at, node_child, node_keyword, node_looked, node_never, node_part_met, node_reference, node_these, progress_below, same_edge}
+use Rattle.schema_reports.specs.Guarded.{NodeEdge, NodeForm, NodePart, NodePlan, Nodes, guarded_node, guarded_sense, guarded_within, node_always, node_asked, node_at, node_child, node_keyword, node_looked, node_never, node_part_met, node_reference, node_these, progress_below, same_edge, yes_run}
 use Rattle.schema_reports.specs.Numbered.{subject_in}
 use Rattle.schema_reports.proofs.ErrorsLead.{Stands, stands_at, stands_below}
 
@@ -137,10 +137,13 @@ module _ (instance : Data) where
     either_inside true x y = x
     either_inside false x y = y
 
-    within_inside : (n i : ℕ) (path : Text) (p : Place) (busy : List ℕ) → Stands instance p → RunInside (guarded_within no_run (guarded_node keywords matcher nodes (subject_in instance) as') n i path p busy)
-    within_inside zero i path p busy there = no_run_inside
+    yes_inside : (i : ℕ) (path : Text) (p : Place) → RunInside (yes_run nodes i path p)
+    yes_inside i path p = record { sites = λ mode. nothing }
+
+    within_inside : (n i : ℕ) (path : Text) (p : Place) (busy : List ℕ) → Stands instance p → RunInside (guarded_within (yes_run nodes) (guarded_node keywords matcher nodes (subject_in instance) as') n i path p busy)
+    within_inside zero i path p busy there = yes_inside i path p
     within_inside (suc n) i path p busy there = node_inside i path p there _ (λ e b at_b. either_inside e.guarded
-        (either_inside (list_any (λ j. j == e.node) (progress_below busy b)) no_run_inside (within_inside n e.node (path ++ e.path) (place_below p b) (e.node ∷ progress_below busy b) at_b))
+        (either_inside (list_any (λ j. j == e.node) (progress_below busy b)) (yes_inside e.node (path ++ e.path) (place_below p b)) (within_inside n e.node (path ++ e.path) (place_below p b) (e.node ∷ progress_below busy b) at_b))
         (within_inside n e.node (path ++ e.path) (place_below p b) (progress_below busy b) at_b))
 
   -- each site that a run of a call gives lies inside the instance

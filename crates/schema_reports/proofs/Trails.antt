@@ -8,7 +8,7 @@ use Rattle.std.proofs.lemmas.List.{length-map}
 use Rattle.serde_json.specs.Data.{Data}
 use Rattle.schema_reports.specs.Instance.{Place, same_place, places}
 use Rattle.schema_reports.specs.Parts.{Parts}
-use Rattle.schema_reports.specs.Plan.{Target, Key, same_target}
+use Rattle.schema_reports.specs.Plan.{Target, same_target}
 use Rattle.schema_reports.specs.Returns.{Asked, questions, LeadsTo, stays, asks, Return, same_question}
 use Rattle.schema_reports.proofs.Questions.{further}
 use Rattle.schema_reports.proofs.Products.{both_left, both_right, in_either, both_true, index, index_below, met_at, product, length-product, any_product}
@@ -64,32 +64,32 @@ module _ {S K R : Type 0} (w : Parts S K R) (instance : Data) (root : Asked w in
     pub short : {seen : List (Asked w instance)} {a : Asked w instance} → Trail seen a → length seen < bound
     short {seen} {a} t = let h : length (code a ∷ map code seen) ≤ bound = length-le_from_distinct_below (code a ∷ map code seen) bound (distinct t) (codes_below t) in omega (arith, length-map seen code)
 
-  module _ (none : ¬ (Return w instance root)) (keys : List (Key S))
-      (at_keys : (a : Asked w instance) → LeadsTo w instance root a → list_any (λ k. same_target w a.key.target k.target) keys ≡ true)
+  module _ (none : ¬ (Return w instance root)) (targets : List (Target S))
+      (at_targets : (a : Asked w instance) → LeadsTo w instance root a → list_any (same_target w a.key.target) targets ≡ true)
       (at_places : (a : Asked w instance) → LeadsTo w instance root a → list_any (same_place a.place) (places instance) ≡ true)
       (one_target : (a b k : Target S) → same_target w a k ≡ true → same_target w b k ≡ true → same_target w a b ≡ true)
       (one_place : (a b p : Place) → same_place a p ≡ true → same_place b p ≡ true → same_place a b ≡ true) where
-    pub test : Asked w instance → Key S × Place → Bool
-    test a x = same_target w a.key.target x.0.target && same_place a.place x.1
+    pub test : Asked w instance → Target S × Place → Bool
+    test a x = same_target w a.key.target x.0 && same_place a.place x.1
 
-    pub grid : List (Key S × Place)
-    grid = product keys (places instance)
+    pub grid : List (Target S × Place)
+    grid = product targets (places instance)
 
-    pub length-grid : length grid ≡ length keys * length (places instance)
+    pub length-grid : length grid ≡ length targets * length (places instance)
     unfolding grid
-    length-grid = length-product keys (places instance)
+    length-grid = length-product targets (places instance)
 
     pub on_grid : (a : Asked w instance) → LeadsTo w instance root a → list_any (test a) grid ≡ true
     unfolding test grid
-    on_grid a l = any_product (λ k. same_target w a.key.target k.target) (same_place a.place) keys (places instance) (at_keys a l) (at_places a l)
+    on_grid a l = any_product (same_target w a.key.target) (same_place a.place) targets (places instance) (at_targets a l) (at_places a l)
 
     pub tells : (a b : Asked w instance) → LeadsTo w instance root a → LeadsTo w instance root b → index (test b) grid ≡ index (test a) grid → same_question w instance a b ≡ true
     unfolding test
     tells a b l m e = let (x, p, q) = met_at (test a) (test b) grid (on_grid a l) (on_grid b m) e in
-        both_true _ _ (one_target a.key.target b.key.target x.0.target (both_left (same_target w a.key.target x.0.target) (same_place a.place x.1) p) (both_left (same_target w b.key.target x.0.target) (same_place b.place x.1) q))
-        (one_place a.place b.place x.1 (both_right (same_target w a.key.target x.0.target) (same_place a.place x.1) p) (both_right (same_target w b.key.target x.0.target) (same_place b.place x.1) q))
+        both_true _ _ (one_target a.key.target b.key.target x.0 (both_left (same_target w a.key.target x.0) (same_place a.place x.1) p) (both_left (same_target w b.key.target x.0) (same_place b.place x.1) q))
+        (one_place a.place b.place x.1 (both_right (same_target w a.key.target x.0) (same_place a.place x.1) p) (both_right (same_target w b.key.target x.0) (same_place b.place x.1) q))
 
-    pub grid_short : {seen : List (Asked w instance)} {a : Asked w instance} → Trail seen a → length seen < length keys * length (places instance)
+    pub grid_short : {seen : List (Asked w instance)} {a : Asked w instance} → Trail seen a → length seen < length targets * length (places instance)
     unfolding grid
-    grid_short t = let n : length grid ≡ length keys * length (places instance) = length-product keys (places instance) in
+    grid_short t = let n : length grid ≡ length targets * length (places instance) = length-product targets (places instance) in
         let l = short none (length grid) (λ a. index (test a) grid) (λ a h. index_below (test a) grid (on_grid a h)) tells t in omega arith

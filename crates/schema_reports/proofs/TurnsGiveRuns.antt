@@ -6,15 +6,15 @@ use Rattle.schema_reports.specs.Instance.{Subject, Text}
 use Rattle.schema_reports.specs.Reports.{Unit_, report_of}
 use Rattle.schema_reports.specs.Matching.{Matching}
 use Rattle.schema_reports.specs.Keywords.{Question, Marked, Mode, Answers, Reply, no_reply, truth, Turn, ask, match_text, mark, unmark, ecma, done, Answer, Keywords}
-use Rattle.schema_reports.specs.Laws.{Agrees, AlwaysAsksRightly, EndsWithin, KeepsLaws, answer_in, ended, IsRight, EndsRightly}
+use Rattle.schema_reports.specs.Laws.{Agrees, AnsweredAlike, AlwaysAsksRightly, EndsWithin, KeepsLaws, answer_in, ended, IsRight, EndsRightly}
 use Rattle.schema_reports.specs.Turns.{FunctionLaws, reply_to, marks_after, Standing, TurnLaws}
 
-module _ {K R : Type 0} (keywords : Keywords K R) (m : K) (absorbed : List Text) (remaining : Subject → R → ℕ) (end_of : Standing R → Answer) (Fits : Standing R → Type 0)
-    (laws : TurnLaws keywords m absorbed remaining end_of Fits) where
+module _ {K R : Type 0} (keywords : Keywords K R) (m : K) (absorbed : List Text) (remaining : Subject → R → ℕ) (can_be : Subject → R → Type 0) (end_of : Standing R → Answer) (Fits : Standing R → Type 0)
+    (laws : TurnLaws keywords m absorbed remaining can_be end_of Fits) where
   -- a number that falls with each turn bounds the turns
-  ends_within : (s : Subject) (n : ℕ) (r : R) (reply : Reply) → remaining s r < n → EndsWithin keywords m s n r reply
-  ends_within s zero r reply less = absurd (omega arith)
-  ends_within s (suc n) r reply less = go (laws.falls s r reply) (λ next fewer. ends_within s n (keywords.turn m s r reply) next fewer)
+  ends_within : (s : Subject) (n : ℕ) (r : R) (reply : Reply) → can_be s r → remaining s r < n → EndsWithin keywords m s n r reply
+  ends_within s zero r reply can less = absurd (omega arith)
+  ends_within s (suc n) r reply can less = go (laws.falls s r reply can) (λ next fewer. ends_within s n (keywords.turn m s r reply) next (laws.goes_on s r reply can) fewer)
     where
       go : (keywords.step m s r reply ≡ done) ⊎ (remaining s (keywords.turn m s r reply) < remaining s r)
           → ((next : Reply) → remaining s (keywords.turn m s r reply) < n → EndsWithin keywords m s n (keywords.turn m s r reply) next)
@@ -22,9 +22,9 @@ module _ {K R : Type 0} (keywords : Keywords K R) (m : K) (absorbed : List Text)
       go (inl stop) again = inl stop
       go (inr fewer) again = inr (λ next. again next (omega arith))
 
-  always_asks : (s : Subject) (n : ℕ) (r : R) (reply : Reply) → AlwaysAsksRightly keywords m s absorbed n r reply
-  always_asks s zero r reply = tt
-  always_asks s (suc n) r reply = (laws.asks s r reply, λ next. always_asks s n (keywords.turn m s r reply) next)
+  always_asks : (s : Subject) (n : ℕ) (r : R) (reply : Reply) → can_be s r → AlwaysAsksRightly keywords m s absorbed n r reply
+  always_asks s zero r reply can = tt
+  always_asks s (suc n) r reply can = (laws.asks s r reply can, λ next. always_asks s n (keywords.turn m s r reply) next (laws.goes_on s r reply can))
 
   module _ (s : Subject) (matches : Matching) (a : Answers) (u : Question → Unit_) (same : Marked → Marked → Bool) where
     abbrev at : List Marked → R → Reply → Standing R
@@ -100,22 +100,23 @@ module _ {K R : Type 0} (keywords : Keywords K R) (m : K) (absorbed : List Text)
             unmarked (i ∷ rest) x = x
         go (ecma text) is (inr w) rec = on (ecma text) is (λ e. absurd (cc e)) w rec
 
-    ends_rightly : (mode : Mode) → ((q : Question) → Agrees (a q)) → ((q : Question) → (report_of (u q)).valid ≡ (a q).verdict) → EndsRightly keywords m s matches a u same mode
+    ends_rightly : (mode : Mode) → ((q : Question) → Agrees (a q)) → ((q : Question) → (report_of (u q)).valid ≡ (a q).verdict) → AnsweredAlike same a → EndsRightly keywords m s matches a u same mode
     unfolding Reaches
-    ends_rightly mode agrees valid =
-        let (fits, right) = laws.begins s mode matches a u same agrees valid in
-        let within : EndsWithin keywords m s (keywords.most_turns m s) (keywords.begin m s mode) no_reply = ends_within s (keywords.most_turns m s) (keywords.begin m s mode) no_reply (laws.bounded s mode) in
+    ends_rightly mode agrees valid alike =
+        let (fits, right) = laws.begins s mode matches a u same agrees valid alike in
+        let within : EndsWithin keywords m s (keywords.most_turns m s) (keywords.begin m s mode) no_reply = ends_within s (keywords.most_turns m s) (keywords.begin m s mode) no_reply (laws.starts s mode) (laws.bounded s mode) in
         let (r, is, stands) = reaches (keywords.most_turns m s) [] (keywords.begin m s mode) no_reply within fits in
         (r, is, subst (IsRight keywords m s matches a u same mode) (sym stands) right)
 
   -- the laws of turns give the laws of whole runs
   pub keeps_of_turns : FunctionLaws keywords m absorbed → KeepsLaws keywords m absorbed
   keeps_of_turns functions = record {
-    ends = λ s mode. ends_within s (keywords.most_turns m s) (keywords.begin m s mode) no_reply (laws.bounded s mode);
+    ends = λ s mode. ends_within s (keywords.most_turns m s) (keywords.begin m s mode) no_reply (laws.starts s mode) (laws.bounded s mode);
     present = functions.present;
-    asks = λ s mode. always_asks s (keywords.most_turns m s) (keywords.begin m s mode) no_reply;
-    answers = λ s mode matches a u same agrees valid. ends_rightly s matches a u same mode agrees valid;
+    asks = λ s mode. always_asks s (keywords.most_turns m s) (keywords.begin m s mode) no_reply (laws.starts s mode);
+    answers = λ s mode matches a u same agrees valid alike. ends_rightly s matches a u same mode agrees valid alike;
     agree = functions.agree;
+    units_valid = functions.units_valid;
     holds_reads = functions.holds_reads;
     faults_read = functions.faults_read;
     units_read = functions.units_read;

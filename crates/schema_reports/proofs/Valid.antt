@@ -1,5 +1,5 @@
 -- A unit is valid exactly where its verdict is yes, and a verdict is yes exactly where there is no error.
-use Rattle.std.proofs.Common.{◌≡◌, List, [], ◌∷◌, ◌++◌, refl, ap, ap₂, ◌∙◌, Bool, true, false, not, cond, ◌&&◌, map}
+use Rattle.std.proofs.Common.{◌≡◌, List, [], ◌∷◌, ◌++◌, refl, ap, ap₂, sym, ◌∙◌, Bool, true, false, not, cond, ◌&&◌, map}
 use Rattle.std.specs.Prelude.{Option, Some, None, filter, flat_map, nat_le, ◌↔◌}
 use Rattle.std.specs.List.{list_all}
 use Rattle.std.proofs.lemmas.List.Folds.{list_all-append, list_all-map}
@@ -9,24 +9,15 @@ use Rattle.schema_reports.specs.Reports.{Error, Unit_, report_of, Outcome, accep
 use Rattle.schema_reports.specs.Parts.{Parts}
 use Rattle.schema_reports.specs.Making.{Request}
 use Rattle.schema_reports.specs.Matching.{Completion, matching}
-use Rattle.schema_reports.specs.Keywords.{Question}
+use Rattle.schema_reports.specs.Keywords.{Gives, Named, Question, all_valid}
 use Rattle.schema_reports.specs.Plan.{Key, Edge, Part, Form, keyword, reference, Plan, always, never, these, plan, child, reference_edge}
 use Rattle.schema_reports.specs.Meaning.{Where, at, both, subject, asked, part_outcome, parts_outcome, outcome_of, false_outcome}
-use Rattle.schema_reports.specs.Units.{Entry, PartUnits, part_units, entries_of, entry_units, unit_of, no_unit, in_order, is_type, keyword_unit, annotations_of, true_unit, false_unit, plan_unit}
+use Rattle.schema_reports.specs.Units.{Entry, PartUnits, given_units, part_units, entries_of, entry_units, unit_of, no_unit, in_order, is_type, keyword_unit, annotations_of, true_unit, false_unit, plan_unit}
 use Rattle.schema_reports.specs.Laws.{Agrees, KeepsLaws}
 use Rattle.schema_reports.proofs.Plans.{agrees_both, map_none}
 
 abbrev pub is_valid_unit : Unit_ → Bool
 is_valid_unit u = (report_of u).valid
-
-all-filter : {A : Type 0} (p q : A → Bool) (xs : List A) → list_all p xs ≡ true → list_all p (filter q xs) ≡ true
-all-filter p q [] e = refl
-all-filter {A} p q (x ∷ xs) e = go (p x) (q x) refl e (all-filter p q xs)
-  where
-    go : (b d : Bool) → p x ≡ b → (b && list_all p xs) ≡ true → (list_all p xs ≡ true → list_all p (filter q xs) ≡ true) → list_all p (cond d (x ∷ filter q xs) (filter q xs)) ≡ true
-    go true true is h k = ap₂ (λ u v. u && v) is (k h)
-    go true false is h k = k h
-    go false d is h k = absurd (cc h)
 
 swapped : (a b d : Bool) → (b && (a && d)) ≡ (a && (b && d))
 swapped true true d = refl
@@ -50,50 +41,63 @@ all-in_order p counts (x ∷ xs) = go (nat_le 22 x.priority) (all-in_order p cou
 abbrev pub held : Text × Unit_ → Bool
 held a = (report_of a.1).valid
 
-and_same : (a b d : Bool) → (d ≡ true → a ≡ true) → (d ≡ true → b ≡ true) → (a && (b && d)) ≡ d
-and_same a b true h k = ap₂ (λ x y. x && (y && true)) (h refl) (k refl)
-and_same true true false h k = refl
-and_same true false false h k = refl
-and_same false b false h k = refl
+both_swapped : (h r a b : Bool) → ((h && r) && (a && b)) ≡ ((a && h) && (r && b))
+both_swapped false r true b = refl
+both_swapped false r false b = refl
+both_swapped true false true b = refl
+both_swapped true false false b = refl
+both_swapped true true true b = refl
+both_swapped true true false b = refl
 
-some_held : (q : Text × Unit_ → Bool) (units : List (Text × Unit_)) → list_all held units ≡ true → list_all is_valid_unit (map (λ (a : Text × Unit_). a.1) (filter q units)) ≡ true
-some_held q units h = list_all-map is_valid_unit (λ (a : Text × Unit_). a.1) (filter q units) ∙ all-filter held q units h
+and_assoc : (a b d : Bool) → ((a && b) && d) ≡ (a && (b && d))
+and_assoc true b d = refl
+and_assoc false b d = refl
 
--- an entry's own unit is valid exactly where its verdict is yes, and then those absorbed are
+pub and_true : (a : Bool) → (a && true) ≡ a
+and_true true = refl
+and_true false = refl
+
+-- all are held exactly where those that a test picks are, and those that it leaves
+parted : (q : Text × Unit_ → Bool) (units : List (Text × Unit_)) → (list_all held (filter q units) && list_all held (filter (λ a. not (q a)) units)) ≡ list_all held units
+parted q [] = refl
+parted q (x ∷ xs) = go (q x) (parted q xs)
+  where
+    go : (b : Bool) → (list_all held (filter q xs) && list_all held (filter (λ a. not (q a)) xs)) ≡ list_all held xs
+        → (list_all held (cond b (x ∷ filter q xs) (filter q xs)) && list_all held (cond (not b) (x ∷ filter (λ a. not (q a)) xs) (filter (λ a. not (q a)) xs))) ≡ (held x && list_all held xs)
+    go true h = and_assoc (held x) _ _ ∙ ap (λ z. held x && z) h
+    go false h = swapped (held x) (list_all held (filter q xs)) (list_all held (filter (λ a. not (q a)) xs)) ∙ ap (λ z. held x && z) h
+
+-- an entry's own unit and those absorbed are valid exactly where its verdict is yes
 pub record EntryValid (x : PartUnits) (o : Outcome) : Type 0 where
-  pub own : is_valid_unit x.0 ≡ o.verdict
-  pub more : o.verdict ≡ true → list_all held x.1 ≡ true
+  pub all : (is_valid_unit x.0 && list_all held x.1) ≡ o.verdict
 
 pub data EntriesValid : List Entry → Outcome → Type 0 where
   none_left : EntriesValid [] accepted
   one_more : {x : Entry} {xs : List Entry} {o os : Outcome} → EntryValid x.units o → EntriesValid xs os → EntriesValid (x ∷ xs) (both o os)
 
-own_valid : {xs : List Entry} {o : Outcome} → EntriesValid xs o → list_all is_valid_unit (map (λ y. y.units.0) xs) ≡ o.verdict
-own_valid none_left = refl
-own_valid (one_more e es) = ap₂ (λ u v. u && v) e.own (own_valid es)
-
-all_held : {xs : List Entry} {o : Outcome} → EntriesValid xs o → o.verdict ≡ true → list_all held (flat_map (λ x. x.units.1) xs) ≡ true
-all_held none_left h = refl
-all_held (one_more {x = x} {xs = xs} {o = o} {os = os} e es) h = list_all-append held x.units.1 (flat_map (λ y. y.units.1) xs) ∙ go o.verdict refl h (all_held es)
-  where
-    go : (b : Bool) → o.verdict ≡ b → (b && os.verdict) ≡ true → (os.verdict ≡ true → list_all held (flat_map (λ y. y.units.1) xs) ≡ true) → (list_all held x.units.1 && list_all held (flat_map (λ y. y.units.1) xs)) ≡ true
-    go true is k rest = ap₂ (λ u v. u && v) (e.more is) (rest k)
-    go false is k rest = absurd (cc k)
+each_valid : {xs : List Entry} {o : Outcome} → EntriesValid xs o → (list_all held (flat_map (λ x. x.units.1) xs) && list_all is_valid_unit (map (λ y. y.units.0) xs)) ≡ o.verdict
+each_valid none_left = refl
+each_valid (one_more {x = x} {xs = xs} {o = o} {os = os} e es) =
+    ap (λ z. z && (is_valid_unit x.units.0 && list_all is_valid_unit (map (λ y. y.units.0) xs))) (list_all-append held x.units.1 (flat_map (λ y. y.units.1) xs))
+    ∙ both_swapped (list_all held x.units.1) (list_all held (flat_map (λ y. y.units.1) xs)) (is_valid_unit x.units.0) (list_all is_valid_unit (map (λ y. y.units.0) xs))
+    ∙ ap₂ (λ u v. u && v) e.all (each_valid es)
 
 -- the units of all entries are valid exactly where each entry's verdict is yes
 pub entries_valid : {xs : List Entry} {o : Outcome} → EntriesValid xs o → list_all is_valid_unit (entry_units xs) ≡ o.verdict
 entries_valid {xs} {o} valid =
     let absorbed : List (Text × Unit_) = flat_map (λ x. x.units.1) xs in
+    let own : Bool = list_all is_valid_unit (map (λ y. y.units.0) xs) in
     let types : List Unit_ = map (λ (a : Text × Unit_). a.1) (filter is_type absorbed) in
     let others : List Unit_ = map (λ (a : Text × Unit_). a.1) (filter (λ a. not (is_type a)) absorbed) in
     list_all-append is_valid_unit types (in_order others xs)
-    ∙ (ap (λ z. list_all is_valid_unit types && z) (all-in_order is_valid_unit others xs ∙ ap (λ z. list_all is_valid_unit others && z) (own_valid valid))
-    ∙ and_same (list_all is_valid_unit types) (list_all is_valid_unit others) o.verdict (λ is. some_held is_type absorbed (all_held valid is)) (λ is. some_held (λ a. not (is_type a)) absorbed (all_held valid is)))
+    ∙ (ap (λ z. list_all is_valid_unit types && z) (all-in_order is_valid_unit others xs)
+    ∙ (sym (and_assoc (list_all is_valid_unit types) (list_all is_valid_unit others) own)
+    ∙ (ap (λ z. z && own) (ap₂ (λ a b. a && b) (list_all-map is_valid_unit (λ (a : Text × Unit_). a.1) (filter is_type absorbed)) (list_all-map is_valid_unit (λ (a : Text × Unit_). a.1) (filter (λ a. not (is_type a)) absorbed)) ∙ parted is_type absorbed)
+    ∙ each_valid valid)))
 
-pub absorbed_held : (x : Where) (v : Bool) (xs : List (Text × List Unit_)) → v ≡ true
-    → list_all held (map (λ (a : Text × List Unit_). (a.0, keyword_unit x a.0 v (record { children = a.1; annotations = None; errors = []; absorbed = [] }))) xs) ≡ true
-absorbed_held x v [] e = refl
-absorbed_held x v (y ∷ ys) e = ap₂ (λ a b. a && b) e (absorbed_held x v ys e)
+-- what a keyword gives, as its units
+pub given_valid : (x : Where) (name : Text) (g : Gives) → (is_valid_unit (given_units x name g).0 && list_all held (given_units x name g).1) ≡ all_valid g
+given_valid x name g = ap (λ z. g.valid && z) (list_all-map held (λ (a : Named). (a.name, keyword_unit x a)) g.absorbed)
 
 pub mapped_agrees : {A : Type 0} (f : A → Error) (v : Bool) (xs : List A) → ((v ≡ true) ↔ (xs ≡ [])) → Agrees (record { verdict = v; errors = map f xs })
 mapped_agrees f v xs h = (λ e. ap (map f) (h.0 e), λ e. h.1 (map_none f xs e))
@@ -123,20 +127,19 @@ module _ {S K R : Type 0} (w : Parts S K R) (instance : Data) (absorbs : K → L
   parts_agree [] = (λ e. refl, λ e. refl)
   parts_agree (x ∷ xs) = agrees_both _ _ (part_agrees x.name x.form) (parts_agree xs)
 
-  pub form_valid : (name : Text) (form : Form K) → (report_of (part_units w instance c k path p u name form).0).valid ≡ (part_outcome w instance c k path p g name form).verdict
-  form_valid name (keyword m requests absorbed) = ap (w.keywords.holds m (subject w instance p) (matching w.matcher c)) (λ i q. asked_valid name requests q i)
-  form_valid name (reference kind text) = option_valid (reference_edge w k name kind text) p
-
-  form_absorbed : (name : Text) (form : Form K) → (part_outcome w instance c k path p g name form).verdict ≡ true → list_all held (part_units w instance c k path p u name form).1 ≡ true
-  form_absorbed name (keyword m requests absorbed) e =
-      absorbed_held (at w instance k path p) (w.keywords.holds m (subject w instance p) (matching w.matcher c) (λ q. (report_of (asked w instance no_unit k name requests p u q)).valid))
-      (w.keywords.units m (subject w instance p) (matching w.matcher c) (asked w instance no_unit k name requests p u)).absorbed
-      (form_valid name (keyword m requests absorbed) ∙ e)
-  form_absorbed name (reference kind text) e = refl
+  pub form_valid : (name : Text) (form : Form K) → EntryValid (part_units w instance c k path p u name form) (part_outcome w instance c k path p g name form)
+  form_valid name (keyword m requests absorbed) =
+      let answers : Question → Unit_ = asked w instance no_unit k name requests p u in
+      record {
+        all = given_valid (at w instance k path p) name (w.keywords.units m (subject w instance p) (matching w.matcher c) answers)
+            ∙ ((laws m).units_valid (subject w instance p) (matching w.matcher c) answers
+            ∙ ap (w.keywords.holds m (subject w instance p) (matching w.matcher c)) (λ i q. asked_valid name requests q i));
+      }
+  form_valid name (reference kind text) = record { all = and_true _ ∙ option_valid (reference_edge w k name kind text) p }
 
   parts_valid : (xs : List (Part K)) → EntriesValid (entries_of w instance c k path p u xs) (parts_outcome w instance c k path p g xs)
   parts_valid [] = none_left
-  parts_valid (x ∷ xs) = one_more (record { own = form_valid x.name x.form; more = form_absorbed x.name x.form }) (parts_valid xs)
+  parts_valid (x ∷ xs) = one_more (form_valid x.name x.form) (parts_valid xs)
 
   pub node_agrees : Agrees (outcome_of w instance c k path p g)
   node_agrees = go (plan w k)

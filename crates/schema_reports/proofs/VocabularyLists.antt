@@ -1,13 +1,17 @@
 -- Which vocabularies a set lists.
 use Rattle.std.proofs.Common.{ap, arith, subst, sym, ◌∙◌}
 use Rattle.std.proofs.Math.Bool.{and-false, and-true, or-false}
-use Rattle.std.proofs.lemmas.Slice.Eq.{bytes_eq-Decides}
 use Rattle.std.proofs.lemmas.List.Folds.{list_any-append}
+use Rattle.std.proofs.lemmas.Map.Lookups.{exact_bytes}
+use Rattle.std.specs.Cmp.Lexicographic.{slice_cmp}
+use Rattle.std.specs.Ordering.{nat_cmp}
+use Rattle.std.specs.declared.cmp.Ordering.{Ordering}
+use Rattle.std.specs.declared.cmp.Ordering.TheVariants.{Less, Equal, Greater}
 use Rattle.std.specs.List.{list_all, list_any}
 use Rattle.std.specs.Prelude.{Bool, List, length, suc, zero, ℕ, ◌<◌, None, Option, Some, [], bytes_eq, false, is_none, map, refl, true, ◌&&◌, ◌++◌, ◌||◌, ◌∷◌, ◌≡◌}
 use Rattle.schema_reports.specs.Instance.{Text}
 use Rattle.schema_reports.specs.Drafts.{Vocabularies, Vocabulary, applicator_vocabulary, content_vocabulary, core_vocabulary, custom_vocabulary, format_annotation_vocabulary, format_assertion_vocabulary, format_vocabulary, has_vocabulary, metadata_vocabulary, same_vocabulary, unevaluated_vocabulary, validation_vocabulary}
-use Rattle.schema_reports.specs.VocabularySets.{custom_of, flagged, listed, standard_vocabularies, uri_of}
+use Rattle.schema_reports.specs.VocabularySets.{custom_of, flagged, listed, placed_by, placed_text, standard_vocabularies, uri_of}
 
 -- one of these is flagged and the same
 abbrev pub has_flag : Vocabulary → List Bool → Vocabularies → Bool
@@ -99,9 +103,6 @@ custom_of-listed bs uris = custom_of-flagged bs standard_vocabularies (map custo
 
 -- ---- one more
 
-equal_texts : (a b : Text) → bytes_eq a b ≡ true → a ≡ b
-equal_texts a b h = (bytes_eq-Decides a b).0 h
-
 -- the flag at an index set
 abbrev pub raised : ℕ → List Bool → List Bool
 raised i [] = []
@@ -143,46 +144,36 @@ listed-raised w i bs uris h k =
     ∙ or-assoc (same_vocabulary w (vocabulary_at i standard_vocabularies)) (has_flag w bs standard_vocabularies) (has_vocabulary (map custom_vocabulary uris) w)
     ∙ ap (λ (x : Bool). same_vocabulary w (vocabulary_at i standard_vocabularies) || x) (sym (has-listed w bs uris))
 
-last_first : (f u s : Bool) → (f || (u || (s || false))) ≡ (s || (f || u))
-last_first true u true = refl
-last_first true u false = refl
-last_first false true true = refl
-last_first false true false = refl
-last_first false false true = refl
-last_first false false false = refl
+two_first : (s t u : Bool) → (s || (t || u)) ≡ (t || (s || u))
+two_first true true u = refl
+two_first true false u = refl
+two_first false t u = refl
 
-pub map-snoc : {X Y : Type 0} (f : X → Y) (xs : List X) (x : X) → map f (xs ++ x ∷ []) ≡ map f xs ++ f x ∷ []
-map-snoc f [] x = refl
-map-snoc {X} {Y} f (y ∷ xs) x = ap (λ (z : List Y). f y ∷ z) (map-snoc f xs x)
+pub equal_ordered : (a b : Text) → slice_cmp nat_cmp a b ≡ Equal → a ≡ b
+equal_ordered a b h = exact_bytes a b h
 
-pub listed-snoc : (w : Vocabulary) (bs : List Bool) (uris : List Text) (uri : Text) → has_vocabulary (listed bs (uris ++ uri ∷ [])) w ≡ (same_vocabulary w (custom_vocabulary uri) || has_vocabulary (listed bs uris) w)
-listed-snoc w bs uris uri =
-    has-listed w bs (uris ++ uri ∷ [])
-    ∙ ap (λ (x : Vocabularies). has_flag w bs standard_vocabularies || has_vocabulary x w) (map-snoc custom_vocabulary uris uri)
-    ∙ ap (λ (x : Bool). has_flag w bs standard_vocabularies || x) (list_any-append (same_vocabulary w) (map custom_vocabulary uris) (custom_vocabulary uri ∷ []))
-    ∙ last_first (has_flag w bs standard_vocabularies) (has_vocabulary (map custom_vocabulary uris) w) (same_vocabulary w (custom_vocabulary uri))
-    ∙ ap (λ (x : Bool). same_vocabulary w (custom_vocabulary uri) || x) (sym (has-listed w bs uris))
+twice : (s r : Bool) → (s || r) ≡ (s || (s || r))
+twice true r = refl
+twice false r = refl
 
-or-true : (f : Bool) → (f || true) ≡ true
-or-true true = refl
-or-true false = refl
-
-absorbed : (s h : Bool) → (s ≡ true → h ≡ true) → h ≡ (s || h)
-absorbed true h k = k refl
-absorbed false h k = refl
-
--- a URI that is among them adds nothing
-pub listed-same : (w : Vocabulary) (bs : List Bool) (uris : List Text) (uri : Text) → list_any (bytes_eq uri) uris ≡ true → has_vocabulary (listed bs uris) w ≡ (same_vocabulary w (custom_vocabulary uri) || has_vocabulary (listed bs uris) w)
-listed-same w bs uris uri found = absorbed (same_vocabulary w (custom_vocabulary uri)) (has_vocabulary (listed bs uris) w) (λ same. has-listed w bs uris ∙ ap (λ (x : Bool). has_flag w bs standard_vocabularies || x) (within w same) ∙ or-true (has_flag w bs standard_vocabularies))
+-- a text at its place is one more of them, or one of them
+placed-custom : (w : Vocabulary) (uri : Text) (uris : List Text) → has_vocabulary (map custom_vocabulary (placed_text uri uris)) w ≡ (same_vocabulary w (custom_vocabulary uri) || has_vocabulary (map custom_vocabulary uris) w)
+placed-custom w uri [] = refl
+placed-custom w uri (first ∷ rest) = go (slice_cmp nat_cmp uri first) refl (placed-custom w uri rest)
   where
-    within : (v : Vocabulary) → same_vocabulary v (custom_vocabulary uri) ≡ true → has_vocabulary (map custom_vocabulary uris) v ≡ true
-    within (custom_vocabulary other) same = has_custom other uris ∙ subst (λ (t : Text). list_any (bytes_eq t) uris ≡ true) (sym (equal_texts other uri same)) found
-    within core_vocabulary same = absurd (let f : ⊥ = cc in f)
-    within applicator_vocabulary same = absurd (let f : ⊥ = cc in f)
-    within unevaluated_vocabulary same = absurd (let f : ⊥ = cc in f)
-    within validation_vocabulary same = absurd (let f : ⊥ = cc in f)
-    within metadata_vocabulary same = absurd (let f : ⊥ = cc in f)
-    within format_vocabulary same = absurd (let f : ⊥ = cc in f)
-    within format_annotation_vocabulary same = absurd (let f : ⊥ = cc in f)
-    within format_assertion_vocabulary same = absurd (let f : ⊥ = cc in f)
-    within content_vocabulary same = absurd (let f : ⊥ = cc in f)
+    go : (o : Ordering) → slice_cmp nat_cmp uri first ≡ o
+        → has_vocabulary (map custom_vocabulary (placed_text uri rest)) w ≡ (same_vocabulary w (custom_vocabulary uri) || has_vocabulary (map custom_vocabulary rest) w)
+        → has_vocabulary (map custom_vocabulary (placed_by o uri first rest (placed_text uri rest))) w ≡ (same_vocabulary w (custom_vocabulary uri) || has_vocabulary (map custom_vocabulary (first ∷ rest)) w)
+    go Less is below = refl
+    go Equal is below = let e : uri ≡ first = equal_ordered uri first is in
+        subst (λ (t : Text). has_vocabulary (map custom_vocabulary (first ∷ rest)) w ≡ (same_vocabulary w (custom_vocabulary t) || has_vocabulary (map custom_vocabulary (first ∷ rest)) w)) (sym e)
+        (twice (same_vocabulary w (custom_vocabulary first)) (has_vocabulary (map custom_vocabulary rest) w))
+    go Greater is below = ap (λ (x : Bool). same_vocabulary w (custom_vocabulary first) || x) below
+        ∙ two_first (same_vocabulary w (custom_vocabulary first)) (same_vocabulary w (custom_vocabulary uri)) (has_vocabulary (map custom_vocabulary rest) w)
+
+pub listed-placed : (w : Vocabulary) (bs : List Bool) (uris : List Text) (uri : Text) → has_vocabulary (listed bs (placed_text uri uris)) w ≡ (same_vocabulary w (custom_vocabulary uri) || has_vocabulary (listed bs uris) w)
+listed-placed w bs uris uri =
+    has-listed w bs (placed_text uri uris)
+    ∙ ap (λ (x : Bool). has_flag w bs standard_vocabularies || x) (placed-custom w uri uris)
+    ∙ two_first (has_flag w bs standard_vocabularies) (same_vocabulary w (custom_vocabulary uri)) (has_vocabulary (map custom_vocabulary uris) w)
+    ∙ ap (λ (x : Bool). same_vocabulary w (custom_vocabulary uri) || x) (sym (has-listed w bs uris))

@@ -12,6 +12,7 @@ use Rattle.schema_reports.specs.Cover.{plain}
 use Rattle.schema_reports.specs.Laws.{EachKeeps}
 use Rattle.schema_reports.specs.Reach.{IsReach, deep_enough}
 use Rattle.schema_reports.specs.Headline.{at_root}
+use Rattle.schema_reports.specs.Numbered.{MakersAskBelow, ValuesInside}
 
 module _ {S K R : Type 0} (w : Parts S K R) (instance : Data) (root : Key S) where
   -- references followed m deep and n deep give the same, from the root on
@@ -26,3 +27,11 @@ abbrev pub DepthsAgree : {S K R : Type 0} → Parts S K R → Type 0
 DepthsAgree {S} w = EachKeeps w.keywords → ((a b : S) → Decides (w.resolver.same_state a b) (a ≡ b))
     → (instance : Data) (root : Key S) → ¬ (Return w instance (at_root w root instance)) → (keys : List (Key S)) → IsReach w root keys
     → (m n : ℕ) → deep_enough w keys instance ≤ m → deep_enough w keys instance ≤ n → SameDepths w instance root m n
+
+-- a fact about an instance, a root and a depth, said where the plain meaning is said: no question returns from the root on,
+-- and references are followed as deep as is enough. Elsewhere a subschema and a reference to one key may be cut off at two
+-- depths, and be answered in two ways, though a keyword may take the one for the other
+abbrev pub AtEachDepth : {S K R : Type 0} → Parts S K R → (Data → Key S → ℕ → Type 0) → Type 0
+AtEachDepth {S} w fact = EachKeeps w.keywords → ValuesInside w → MakersAskBelow w.table → ((a b : S) → Decides (w.resolver.same_state a b) (a ≡ b))
+    → (instance : Data) (root : Key S) → ¬ (Return w instance (at_root w root instance)) → (keys : List (Key S)) → IsReach w root keys
+    → (n : ℕ) → deep_enough w keys instance ≤ n → fact instance root n

@@ -5,7 +5,7 @@ use Rattle.std.specs.Prelude.{All, Bool, Contains, List, None, Option, Some, [],
 use Rattle.serde_json.specs.Data.{Data, Members}
 use Rattle.schema_reports.specs.Instance.{Place, Text, subject_at}
 use Rattle.schema_reports.specs.Pointer.{joined, pointer_to}
-use Rattle.schema_reports.specs.Reports.{Error, accepted}
+use Rattle.schema_reports.specs.Reports.{Error}
 use Rattle.schema_reports.specs.Drafts.{Draft, Vocabularies}
 use Rattle.schema_reports.specs.Matching.{Completion}
 use Rattle.schema_reports.specs.Making.{Table, a_keyword, followed}
@@ -17,7 +17,7 @@ use Rattle.schema_reports.specs.Paths.{Leads, names, part_edges}
 use Rattle.schema_reports.specs.Laws.{KeepsLaws}
 use Rattle.schema_reports.specs.Cover.{Decides, Sense, iter_errors, validate}
 use Rattle.schema_reports.specs.Headline.{Either, ErrorsSay, FirstSays, IsFailure, OneFailure}
-use Rattle.schema_reports.specs.Guarded.{Nodes, guarded_within, node_outcome}
+use Rattle.schema_reports.specs.Guarded.{Nodes, guarded_within, node_outcome, yes_outcome}
 use Rattle.schema_reports.specs.Numbered.{AreNumbered, IsNumber, Numbers, subject_in}
 
 -- ---- what is asked of keywords and their makers
@@ -86,7 +86,7 @@ ErrorsLead {S} w absorbs = EachKeepsAbsorbing w.keywords absorbs → MakesAbsorb
 abbrev pub NodeErrorsLead : {S K R : Type 0} → Parts S K R → (K → List Text) → Numbers S → Nodes K → Type 0
 NodeErrorsLead {S} w absorbs keys nodes = EachKeepsAbsorbing w.keywords absorbs → MakesAbsorbing absorbs w.table → AreNumbered w keys nodes
     → (instance : Data) (c : Completion) (n i : ℕ) (root : Key S) → IsNumber keys i root
-    → All (PointsAt w root instance) (guarded_within accepted (node_outcome w.keywords w.matcher nodes (subject_in instance) c) n i [] [] []).errors
+    → All (PointsAt w root instance) (guarded_within yes_outcome (node_outcome w.keywords w.matcher nodes (subject_in instance) c) n i [] [] []).errors
 
 -- ---- what the calls give
 

@@ -1,11 +1,11 @@
 -- What numbered nodes say, where a pair of a node and a place that is in progress is answered yes.
 use Rattle.std.specs.List.{list_any}
-use Rattle.std.specs.Prelude.{Bool, List, None, Option, Some, [], false, filter_map, flat_map, option_and_then, slice_get, suc, true, zero, ℕ, ◌++◌, ◌==◌, ◌||◌, ◌∷◌, ◌≡◌, ◌≤◌}
+use Rattle.std.specs.Prelude.{Bool, List, None, Option, Some, [], false, filter_map, flat_map, not, option_and_then, slice_get, suc, true, zero, ℕ, ◌&&◌, ◌++◌, ◌==◌, ◌||◌, ◌∷◌, ◌≡◌, ◌≤◌}
 use Rattle.serde_json.specs.Data.{Data}
 use Rattle.schema_reports.specs.Instance.{Place, Subject, Text}
 use Rattle.schema_reports.specs.Reports.{Outcome, Unit_, accepted}
 use Rattle.schema_reports.specs.Matching.{Assumptions, Completion, Matcher, completion_of, matching}
-use Rattle.schema_reports.specs.Keywords.{Below, Keywords, Marked, Mode, Question, a_child, a_pending, down, here, same_kind}
+use Rattle.schema_reports.specs.Keywords.{Below, Keywords, Marked, Mode, Question, a_child, a_reservation, down, here}
 use Rattle.schema_reports.specs.Meaning.{Where, both, false_outcome, keyword_outcome, place_below, reference_outcome}
 use Rattle.schema_reports.specs.Units.{Entry, PartUnits, false_unit, keyword_units, no_unit, plan_unit, reference_units, true_unit}
 use Rattle.schema_reports.specs.Runs.{Looked, Met, Run, keyword_met, no_run, plan_met}
@@ -23,13 +23,18 @@ Children = List (Option NodeEdge)
 abbrev pub node_child : Children → ℕ → Option NodeEdge
 node_child es i = option_and_then (λ o. o) (slice_get es i)
 
+-- both edges are guarded, or neither is
+abbrev pub same_guard : NodeEdge → NodeEdge → Bool
+same_guard a b = elim a.guarded [ true ↦ b.guarded | false ↦ not b.guarded ]
+
+-- two marked children are one where they lead to one number and are guarded alike, so they are answered alike
 abbrev pub same_node : Option NodeEdge → Option NodeEdge → Bool
-same_node (Some a) (Some b) = a.node == b.node
+same_node (Some a) (Some b) = (a.node == b.node) && same_guard a b
 same_node _ _ = false
 
 abbrev pub same_edge : Children → Marked → Marked → Bool
 same_edge es (a_child i) (a_child j) = (i == j) || same_node (node_child es i) (node_child es j)
-same_edge es (a_pending a) (a_pending b) = same_kind a b
+same_edge es (a_reservation i) (a_reservation j) = i == j
 same_edge es _ _ = false
 
 pub data NodeForm (K : Type 0) : Type 0 where
@@ -67,21 +72,33 @@ abbrev pub progress_below : List ℕ → Below → List ℕ
 progress_below busy here = busy
 progress_below busy (down s) = []
 
--- X is what is answered: an outcome, or all that a run gives
-module _ {X : Type 0} (yes : X) (node : ℕ → Text → Place → (NodeEdge → Below → X) → X) where
-  -- what an edge answers: yes without errors where it is guarded and its pair is in progress
+-- ---- what is answered of a pair in progress, by the node, its evaluation path and the place: yes without errors, an empty
+-- unit that stands where the node's own would, and nothing is met
+
+abbrev pub yes_outcome : ℕ → Text → Place → Outcome
+yes_outcome i path p = accepted
+
+abbrev pub yes_unit : {K : Type 0} → Nodes K → ℕ → Text → Place → Unit_
+yes_unit nodes i path p = true_unit (record { place = p; path = path; location = nodes.location i; absolute = nodes.absolute i })
+
+abbrev pub yes_run : {K : Type 0} → Nodes K → ℕ → Text → Place → Run
+yes_run nodes i path p = record { outcome = λ t. accepted; units = λ t. yes_unit nodes i path p; met = λ m. [] }
+
+-- X is what is answered: an outcome, units, or all that a run gives; `yes` is what is answered of a pair in progress
+module _ {X : Type 0} (yes : ℕ → Text → Place → X) (node : ℕ → Text → Place → (NodeEdge → Below → X) → X) where
+  -- what an edge answers: a yes where it is guarded and its pair is in progress
   abbrev pub across : (ℕ → Text → Place → List ℕ → X) → Text → Place → List ℕ → NodeEdge → Below → X
   across go path p busy e below = elim e.guarded [
     | false ↦ go e.node (path ++ e.path) (place_below p below) (progress_below busy below)
     | true ↦ elim (list_any (λ i. i == e.node) (progress_below busy below)) [
-      | true ↦ yes
+      | true ↦ yes e.node (path ++ e.path) (place_below p below)
       | false ↦ go e.node (path ++ e.path) (place_below p below) (e.node ∷ progress_below busy below)
     ]
   ]
 
   -- with questions at most n deep
   abbrev pub guarded_within : ℕ → ℕ → Text → Place → List ℕ → X
-  guarded_within zero i path p busy = yes
+  guarded_within zero i path p busy = yes i path p
   guarded_within (suc n) i path p busy = node i path p (across (guarded_within n) path p busy)
 
 module _ {K R : Type 0} (keywords : Keywords K R) (matcher : Matcher) (nodes : Nodes K) (subject_of : Place → Subject) where
@@ -105,7 +122,7 @@ module _ {K R : Type 0} (keywords : Keywords K R) (matcher : Matcher) (nodes : N
 
     -- what a node says at a place, with these nodes in progress there: what every great enough depth gives
     abbrev pub Guarded : ℕ → Text → Place → List ℕ → Outcome → Type 0
-    Guarded i path p busy o = (n : ℕ) × ((m : ℕ) → n ≤ m → guarded_within accepted node_outcome m i path p busy ≡ o)
+    Guarded i path p busy o = (n : ℕ) × ((m : ℕ) → n ≤ m → guarded_within yes_outcome node_outcome m i path p busy ≡ o)
 
     -- ---- its units
 
@@ -142,7 +159,7 @@ module _ {K R : Type 0} (keywords : Keywords K R) (matcher : Matcher) (nodes : N
   -- the headline's sentence is said of this where chains of questions return
   abbrev pub guarded_sense : ℕ → ℕ → Sense
   guarded_sense n i = record {
-    says = λ c. guarded_within accepted (node_outcome c) n i [] [] [];
-    meets = λ call as'. (guarded_within no_run (guarded_node as') n i [] [] []).met (mode_of call as');
+    says = λ c. guarded_within yes_outcome (node_outcome c) n i [] [] [];
+    meets = λ call as'. (guarded_within (yes_run nodes) (guarded_node as') n i [] [] []).met (mode_of call as');
     is_match = matcher.is_match;
   }

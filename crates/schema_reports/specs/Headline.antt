@@ -3,6 +3,7 @@ use Rattle.std.specs.Prelude.{Bool, Contains, List, None, Option, Some, [], code
 use Rattle.serde_json.specs.Data.{Data}
 use Rattle.serde_json.specs.Written.{has_float}
 use Rattle.schema_reports.specs.Instance.{Place, Subject, Text}
+use Rattle.schema_reports.specs.Pointer.{shown_place}
 use Rattle.schema_reports.specs.Reports.{Error, Unit_, report_of}
 use Rattle.schema_reports.specs.Matching.{Assumptions, Match, Matcher, all_match, engine, finished, limit, unfinished}
 use Rattle.schema_reports.specs.Keywords.{Keywords}
@@ -25,6 +26,10 @@ reason_text pattern (unfinished (limit text)) = text
 reason_text pattern (unfinished engine) = codes "Regex engine failed to evaluate pattern '" ++ (pattern ++ codes "'")
 reason_text pattern (finished b) = []
 
+-- where a failure is shown: at the value that the pointer of the site's place leads to
+abbrev pub shown_at : Text × Place → Text × Place
+shown_at at = (at.0, shown_place at.1)
+
 -- the pattern that a failure shows: the site's, or else that of the first site, or else the compiled one
 abbrev pub shown_pattern : Site → Met → Text
 shown_pattern site first = unwrap_or site.pattern (unwrap_or first.site.pattern first.pair.pattern)
@@ -41,7 +46,7 @@ module _ (v : Sense) where
     pub same : met.pair ≡ first.pair
     pub text : e.text ≡ reason_text (shown_pattern met.site first) (v.is_match first.pair.pattern first.pair.subject)
     pub schema : e.schema_path ≡ met.site.schema_path
-    pub located : (e.evaluation_path, e.place) ≡ unwrap_or met.site.located (met.site.schema_path, [])
+    pub located : (e.evaluation_path, e.place) ≡ shown_at (unwrap_or met.site.located (met.site.schema_path, []))
     pub nowhere : e.absolute ≡ None
     pub named : e.name ≡ codes "pattern"
 

@@ -1,6 +1,7 @@
 -- A keyword type answers what each keyword may ask, when it holds and which faults it finds, and how its runs go by
 -- turns. A child is named by the number of the request that its maker made. (Core 2020-12, 7.1 and 10)
-use Rattle.std.specs.Prelude.{Bool, List, Option, false, true, ℕ}
+use Rattle.std.specs.List.{list_all}
+use Rattle.std.specs.Prelude.{Bool, List, Option, ℕ, ◌&&◌}
 use Rattle.serde_json.specs.Data.{Data}
 use Rattle.schema_reports.specs.Instance.{Place, Step, Subject, Text}
 use Rattle.schema_reports.specs.Reports.{Described, Error, Outcome, Unit_}
@@ -34,30 +35,36 @@ pub data Fault : Type 0 where
   own : Own → Fault
   passed : Error → Fault
 
--- what a keyword's evaluation gives beside its verdict
-pub record Gives : Type 0 where
+-- what the unit of one keyword says, by the name of the keyword
+pub record Named : Type 0 where
+  pub name : Text
+  pub valid : Bool
   pub children : List Unit_
   pub annotations : Option Data
   pub errors : List Described
-  pub absorbed : List (Text × List Unit_)
+
+-- what a keyword's evaluation gives: what its own unit says, with a verdict of that unit's own, and the units of the
+-- keywords that it absorbs, each with its own verdict, children, annotations and errors
+pub record Gives : Type 0 where
+  pub valid : Bool
+  pub children : List Unit_
+  pub annotations : Option Data
+  pub errors : List Described
+  pub absorbed : List Named
+
+-- its own unit and all absorbed ones are valid
+abbrev pub all_valid : Gives → Bool
+all_valid g = g.valid && list_all (λ a. a.valid) g.absorbed
 
 -- what a question answers
 abbrev pub Answers : Type 0
 Answers = Question → Outcome
 
--- what a maker may reserve a number for
-pub data Kind : Type 0 where
-  of_properties of_items : Kind
-
--- what a run marks: a child, or the number that its maker got for a kind
+-- what a run marks: a child, or a number that its maker had reserved, each by the place of its request among those of
+-- the maker. A reservation has a key of its own, so two reservations are two, also where they are for one purpose
 pub data Marked : Type 0 where
   a_child : ℕ → Marked
-  a_pending : Kind → Marked
-
-abbrev pub same_kind : Kind → Kind → Bool
-same_kind of_properties of_properties = true
-same_kind of_items of_items = true
-same_kind _ _ = false
+  a_reservation : ℕ → Marked
 
 -- where a match is asked for: at a spot, shown with evaluation path and place or without, and the pattern as the schema has it
 pub record MatchPoint : Type 0 where
@@ -80,8 +87,9 @@ pub data Turn : Type 0 where
   ecma : Text → Turn
   done : Turn
 
--- what stands in the answer of a run
+-- what stands in the answer of a run of a mode
 pub record Answer : Type 0 where
+  pub mode : Mode
   pub verdict : Bool
   pub errors : List Fault
   pub gives : Gives

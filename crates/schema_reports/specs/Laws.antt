@@ -5,12 +5,17 @@ use Rattle.schema_reports.specs.Instance.{Place, Subject, Text, subject_from}
 use Rattle.schema_reports.specs.Pointer.{pointer_to}
 use Rattle.schema_reports.specs.Reports.{Outcome, Unit_, report_of}
 use Rattle.schema_reports.specs.Matching.{Matching}
-use Rattle.schema_reports.specs.Keywords.{Answer, Answers, Below, Fault, Keywords, Marked, Mode, Question, Reply, Spot, Turn, all_of_it, ask, done, down, ecma, first_of_it, for_all, for_first, for_units, for_verdict, here, mark, match_text, no_reply, own, passed, truth, unit_of_it, unmark}
+use Rattle.schema_reports.specs.Keywords.{Answer, Answers, Below, Fault, Keywords, Marked, Mode, Question, Reply, Spot, Turn, a_child, all_of_it, ask, done, down, ecma, all_valid, first_of_it, for_all, for_first, for_units, for_verdict, here, mark, match_text, no_reply, own, passed, truth, unit_of_it, unmark}
 use Rattle.schema_reports.specs.Runs.{first_error}
 
 -- the verdict is yes exactly where there is no error
 abbrev pub Agrees : Outcome → Type 0
 Agrees o = (o.verdict ≡ true) ↔ (o.errors ≡ [])
+
+-- children of one key are answered alike, whatever is asked of them
+abbrev pub AnsweredAlike : (Marked → Marked → Bool) → Answers → Type 0
+AnsweredAlike same a = (i j : ℕ) → same (a_child i) (a_child j) ≡ true → (below : Below)
+    → (a (record { child = i; below = below })).verdict ≡ (a (record { child = j; below = below })).verdict
 
 abbrev pub first_fault : List Fault → List Fault
 first_fault [] = []
@@ -93,10 +98,13 @@ pub record KeepsLaws {K R : Type 0} (keywords : Keywords K R) (m : K) (absorbed 
   pub present : (s : Subject) → All (λ q. IsPresent s (steps_below q.below)) (keywords.may_ask m s)
   pub asks : (s : Subject) (mode : Mode) → AlwaysAsksRightly keywords m s absorbed (keywords.most_turns m s) (keywords.begin m s mode) no_reply
   pub answers : (s : Subject) (mode : Mode) (matches : Matching) (a : Answers) (u : Question → Unit_) (same : Marked → Marked → Bool)
-      → ((q : Question) → Agrees (a q)) → ((q : Question) → (report_of (u q)).valid ≡ (a q).verdict)
+      → ((q : Question) → Agrees (a q)) → ((q : Question) → (report_of (u q)).valid ≡ (a q).verdict) → AnsweredAlike same a
       → EndsRightly keywords m s matches a u same mode
   pub agree : (s : Subject) (matches : Matching) (a : Answers) → ((q : Question) → Agrees (a q))
       → (keywords.holds m s matches (λ q. (a q).verdict) ≡ true) ↔ (keywords.faults m s matches a ≡ [])
+  -- its own unit and all that it absorbs are valid exactly where it holds
+  pub units_valid : (s : Subject) (matches : Matching) (u : Question → Unit_)
+      → all_valid (keywords.units m s matches u) ≡ keywords.holds m s matches (λ q. (report_of (u q)).valid)
   pub holds_reads : (s : Subject) (matches : Matching) (a b : Question → Bool) → All (λ q. a q ≡ b q) (keywords.may_ask m s)
       → keywords.holds m s matches a ≡ keywords.holds m s matches b
   pub faults_read : (s : Subject) (matches : Matching) (a b : Answers) → All (λ q. a q ≡ b q) (keywords.may_ask m s)

@@ -31,12 +31,14 @@ pub mod Means
 pub mod Fractions
 pub mod Members
 pub mod Promises
+pub mod Deciding
 pub mod ErrorsLead
 pub mod VocabularySets
 pub mod KeywordTable
 pub mod KeywordViews
 pub mod RowsBench
 pub mod Rows
+pub mod RowsFused
 pub mod LocationViews
 pub mod InstanceViews
 pub mod ReportViews

@@ -3,7 +3,7 @@ use Rattle.std.specs.List.{list_any}
 use Rattle.std.specs.Prelude.{All, Bool, Contains, Decides, List, None, Option, Some, [], false, if◌then◌else◌, length, max, slice_get, suc, true, unwrap_or, zero, ℕ, ◌*◌, ◌+◌, ◌<◌, ◌==◌, ◌∷◌, ◌≡◌, ◌≤◌}
 use Rattle.serde_json.specs.Data.{Data, Members, depth, null}
 use Rattle.schema_reports.specs.Instance.{Place, Subject, Text, a_name, a_value, subject_at}
-use Rattle.schema_reports.specs.Reports.{Error, Outcome, Unit_, accepted, report_of}
+use Rattle.schema_reports.specs.Reports.{Error, Outcome, Unit_, report_of}
 use Rattle.schema_reports.specs.Drafts.{Draft, SchemaPlace, Vocabularies, at_path}
 use Rattle.schema_reports.specs.Matching.{Assumptions, Completion, Matcher, completion_of}
 use Rattle.schema_reports.specs.Making.{Request, Table, compile, refer, followed}
@@ -11,14 +11,13 @@ use Rattle.schema_reports.specs.Keywords.{Keywords}
 use Rattle.schema_reports.specs.Parts.{Parts}
 use Rattle.schema_reports.specs.Plan.{Edge, Form, Key, Part, Plan, absolute_of, always, child, height, keyword, never, plan, reference, reference_edge, schema_at, these}
 use Rattle.schema_reports.specs.Meaning.{subject, unfold_}
-use Rattle.schema_reports.specs.Units.{annotations_of, no_unit}
+use Rattle.schema_reports.specs.Units.{annotations_of}
 use Rattle.schema_reports.specs.Returns.{Return}
-use Rattle.schema_reports.specs.Runs.{no_run}
 use Rattle.schema_reports.specs.Cover.{evaluate, is_valid, plain}
 use Rattle.schema_reports.specs.Laws.{EachKeeps}
 use Rattle.schema_reports.specs.Reach.{IsReach, deep_enough}
 use Rattle.schema_reports.specs.Paths.{edges}
-use Rattle.schema_reports.specs.Guarded.{NodeEdge, NodeForm, NodePart, NodePlan, Nodes, guarded_node, guarded_sense, guarded_within, node_always, node_child, node_edges, node_keyword, node_never, node_outcome, node_reference, node_these, node_unit}
+use Rattle.schema_reports.specs.Guarded.{NodeEdge, NodeForm, NodePart, NodePlan, Nodes, guarded_node, guarded_sense, guarded_within, node_always, node_child, node_edges, node_keyword, node_never, node_outcome, node_reference, node_these, node_unit, yes_outcome, yes_run, yes_unit}
 use Rattle.schema_reports.specs.Headline.{ErrorsSay, EvaluateAnswer, FirstSays, Guardedly, IsValidAnswer, IterErrorsAnswer, ValidateAnswer, VerdictSays}
 
 -- ---- numbers that stand for keys
@@ -72,6 +71,9 @@ module _ {S K R : Type 0} (w : Parts S K R) (keys : Numbers S) (nodes : Nodes K)
   pub record AreNumbered : Type 0 where
     pub stands : (i : ℕ) (k : Key S) → IsNumber keys i k → StandsFor i k
     pub once : (i j : ℕ) (k : Key S) → IsNumber keys i k → IsNumber keys j k → i ≡ j
+    -- the edges of a number that lead to one number are guarded alike
+    pub guards : (i : ℕ) (k : Key S) → IsNumber keys i k → (a b : NodeEdge) → Contains (node_edges (nodes.entries i)) a → Contains (node_edges (nodes.entries i)) b
+        → a.node ≡ b.node → a.guarded ≡ b.guarded
 
 -- ---- what falls with each question
 
@@ -128,14 +130,14 @@ module _ {K R : Type 0} (keywords : Keywords K R) where
   -- a run's outcome and its units are those that its nodes have under the run's completion
   abbrev pub RunsSayOutcomes : Type 0
   RunsSayOutcomes = (matcher : Matcher) (nodes : Nodes K) (subject_of : Place → Subject) (as' : Assumptions) (n i : ℕ) (path : Text) (p : Place) (busy : List ℕ)
-      → ((guarded_within no_run (guarded_node keywords matcher nodes subject_of as') n i path p busy).outcome tt ≡ guarded_within accepted (node_outcome keywords matcher nodes subject_of (completion_of as')) n i path p busy)
-      × ((guarded_within no_run (guarded_node keywords matcher nodes subject_of as') n i path p busy).units tt ≡ guarded_within no_unit (node_unit keywords matcher nodes subject_of (completion_of as')) n i path p busy)
+      → ((guarded_within (yes_run nodes) (guarded_node keywords matcher nodes subject_of as') n i path p busy).outcome tt ≡ guarded_within yes_outcome (node_outcome keywords matcher nodes subject_of (completion_of as')) n i path p busy)
+      × ((guarded_within (yes_run nodes) (guarded_node keywords matcher nodes subject_of as') n i path p busy).units tt ≡ guarded_within (yes_unit nodes) (node_unit keywords matcher nodes subject_of (completion_of as')) n i path p busy)
 
   -- from the measure on, every depth gives the same run, returns or none: what it says, its units, and what it meets in each mode
   abbrev pub GuardedRunsSettle : Type 0
   GuardedRunsSettle = EachKeeps keywords → (matcher : Matcher) (nodes : Nodes K) (count : ℕ) → Ranked nodes count → (instance : Data) (as' : Assumptions) (i : ℕ) (path : Text) (p : Place) (busy : List ℕ) → i < count
       → (m n : ℕ) → left nodes count i (subject_in instance p) busy < m → left nodes count i (subject_in instance p) busy < n
-      → guarded_within no_run (guarded_node keywords matcher nodes (subject_in instance) as') m i path p busy ≡ guarded_within no_run (guarded_node keywords matcher nodes (subject_in instance) as') n i path p busy
+      → guarded_within (yes_run nodes) (guarded_node keywords matcher nodes (subject_in instance) as') m i path p busy ≡ guarded_within (yes_run nodes) (guarded_node keywords matcher nodes (subject_in instance) as') n i path p busy
 
   -- and the same sense
   abbrev pub GuardedSenseSettles : Type 0
@@ -145,7 +147,7 @@ module _ {K R : Type 0} (keywords : Keywords K R) where
 
 module _ {S K R : Type 0} (w : Parts S K R) (instance : Data) (nodes : Nodes K) (count : ℕ) where
   abbrev pub guarded_says : Completion → ℕ → ℕ → Text → Place → List ℕ → Outcome
-  guarded_says c = guarded_within accepted (node_outcome w.keywords w.matcher nodes (subject w instance) c)
+  guarded_says c = guarded_within yes_outcome (node_outcome w.keywords w.matcher nodes (subject w instance) c)
 
   -- from the measure on, every depth gives the same, returns or none
   abbrev pub GuardedSettles : Type 0
@@ -168,7 +170,7 @@ NumbersMeanUnfolding {S} w keys nodes = EachKeeps w.keywords → ValuesInside w 
     → (m n : ℕ) → left nodes (length keys) i (subject w instance []) [] < m → left nodes (length keys) i (subject w instance []) [] ≤ n
     → guarded_sense w.keywords w.matcher nodes (subject w instance) m i ≡ plain w instance n k
 
--- the same at the depth of the plain meaning: the keys that are reached, times the places
+-- the same at the depth of the plain meaning: the targets that are reached, times the places, and one
 abbrev pub NumbersMeanPlain : {S K R : Type 0} → Parts S K R → Numbers S → Nodes K → Type 0
 NumbersMeanPlain {S} w keys nodes = EachKeeps w.keywords → ValuesInside w → MakersAskBelow w.table → ((a b : S) → Decides (w.resolver.same_state a b) (a ≡ b)) → AreNumbered w keys nodes → Ranked nodes (length keys)
     → (instance : Data) (i : ℕ) (k : Key S) → IsNumber keys i k → ¬ (Return w instance (record { key = k; path = []; place = [] }))

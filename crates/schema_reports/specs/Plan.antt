@@ -2,7 +2,7 @@
 -- reached. Its plan is what it asks of an instance: always accepted, never accepted, or a list of keywords. Its children
 -- are the subschemas and the references of these keywords. (Core 2020-12, 4.3, 8.2.3, 9.1.2 and 10; section 6 of RFC 6901)
 use Rattle.std.specs.List.{list_any, starts_with}
-use Rattle.std.specs.Prelude.{Bool, Err, List, None, Ok, Option, Result, Some, [], bytes_eq, codes, count_by, drop, false, find, if◌then◌else◌, is_some, length, nat_le, option_and_then, option_map, slice_get, suc, take, true, unwrap_or, zero, ℕ, ◌&&◌, ◌++◌, ◌-◌, ◌==◌, ◌||◌, ◌∷◌}
+use Rattle.std.specs.Prelude.{Bool, Err, List, None, Ok, Option, Result, Some, [], bytes_eq, codes, count_by, drop, false, if◌then◌else◌, length, nat_le, option_and_then, option_map, slice_get, suc, take, true, unwrap_or, zero, ℕ, ◌&&◌, ◌++◌, ◌-◌, ◌==◌, ◌||◌, ◌∷◌}
 use Rattle.std.specs.Str.Lossy.{utf8_lossy}
 use Rattle.percent_encoding.specs.Percent.{percent_decode, percent_encode_byte}
 use Rattle.serde_json.specs.Data.{Data, Members, boolean, depth, member, no_members, null, object, string}
@@ -11,7 +11,7 @@ use Rattle.schema_reports.specs.Pointer.{joined, pointer_to}
 use Rattle.schema_reports.specs.Drafts.{Draft, SchemaPlace, Vocabularies, at_path, format_assertion_vocabulary, format_vocabulary, has_vocabulary, ref_stands_alone, same_draft, same_schema_place, same_vocabularies}
 use Rattle.schema_reports.specs.Resolving.{Found}
 use Rattle.schema_reports.specs.Making.{Making, Request, a_keyword, compile, followed, nothing, refer, refused}
-use Rattle.schema_reports.specs.Keywords.{Marked, a_child, a_pending, same_kind}
+use Rattle.schema_reports.specs.Keywords.{Marked, a_child, a_reservation}
 use Rattle.schema_reports.specs.Parts.{Parts}
 
 -- what a schema place means: the value there, read in a resolver state, a draft and vocabularies
@@ -58,6 +58,10 @@ segments_length (suc n) (x ∷ xs) = if x == 47 then suc (segments_length n xs) 
 
 abbrev pub without_prefix : Place → Place → Place
 without_prefix inner outer = drop (length outer) inner
+
+-- a place is another, or lies below it
+abbrev pub lies_in : SchemaPlace → SchemaPlace → Bool
+lies_in p outer = (p.document == outer.document) && same_place outer.path (take (length outer.path) p.path)
 
 -- ---- a keyword of a plan
 
@@ -140,45 +144,45 @@ module _ {S K R : Type 0} (w : Parts S K R) where
       let draft = w.resolver.detect k.target.draft (schema_at place) in
       option_map (λ state. record { key = inside k path state draft; path = pointer_to path; is_reference = false }) (ok_of (w.resolver.in_subresource k.target.state draft place))
 
-  -- what a reference's text leads to
+  -- what a reference's text stands for, in the state of the object that holds it; an empty text is read as `#`
+  abbrev pub resolved : Key S → Text → Result Text Text
+  resolved k [] = w.resolver.resolve_uri k.target.state (codes "#")
+  resolved k (x ∷ text) = w.resolver.resolve_uri k.target.state (x ∷ text)
+
+  abbrev pub looked_up : Key S → Bool → Text → Result (Found S) Text
+  looked_up k dynamic [] = w.resolver.lookup k.target.state (codes "#") dynamic
+  looked_up k dynamic (x ∷ text) = w.resolver.lookup k.target.state (x ∷ text) dynamic
+
+  -- what a reference's text leads to; nothing where it stands for no URI
   abbrev pub found : Key S → Reference → Text → Result (Found S) Text
   found k to_recursive text = w.resolver.lookup_recursive k.target.state
-  found k kind [] = w.resolver.lookup k.target.state (codes "#") (is_dynamic kind)
-  found k kind (x ∷ text) = w.resolver.lookup k.target.state (x ∷ text) (is_dynamic kind)
+  found k kind text = elim (resolved k text) [ Err refusal ↦ Err refusal | Ok uri ↦ looked_up k (is_dynamic kind) text ]
+
+  -- the fragment of the URI that a reference's text stands for
+  abbrev pub fragment_meant : Key S → Text → Text
+  fragment_meant k text = fragment (unwrap_or (ok_of (resolved k text)) [])
 
   -- the pointer that a fragment is, or else, for a name, the target's path below the root of its resource
   abbrev pub location_by : Found S → Text → Text
   location_by f [] = []
   location_by f (x ∷ xs) = if x == 47 then utf8_lossy (percent_decode (x ∷ xs)) else pointer_to (without_prefix f.place.path (w.resolver.resource_root f.state).path)
 
-  -- ---- how much of a pointer lies outside the innermost resource that it passes into
+  -- ---- how much of a pointer lies outside the target's resource
 
-  abbrev pub lies_on_way : Place → SchemaPlace → Bool
-  lies_on_way path q = same_place q.path (take (length q.path) path)
+  -- how far the root of the target's resource lies below the place that a pointer with so many segments counts from, where
+  -- the target lies in that resource; else 0
+  abbrev pub resource_depth : Found S → ℕ → ℕ
+  resource_depth f segments = let root = w.resolver.resource_root f.state in
+      if lies_in f.place root then length root.path - (length f.place.path - segments) else 0
 
-  -- the innermost subresource with an identifier on the way from a place down to a path, at most h subresources down; else what is given
-  abbrev pub innermost : ℕ → Draft → SchemaPlace → Place → SchemaPlace → SchemaPlace
-  innermost zero draft p path given = given
-  innermost (suc h) draft p path given = elim (find (lies_on_way path) (w.resolver.subresources_of draft p)) [
-    | None ↦ given
-    | Some q ↦ let inner = w.resolver.detect draft (schema_at q) in
-        innermost h inner q path (if is_some (w.resolver.id inner (schema_at q)) then q else given)
-  ]
-
-  -- the place that a pointer with so many segments counts from
-  abbrev pub counts_from : SchemaPlace → ℕ → SchemaPlace
-  counts_from p segments = record { document = p.document; path = take (length p.path - segments) p.path }
-
-  abbrev pub start_of : Draft → Found S → Text → ℕ
-  start_of draft f location =
-      let from = counts_from f.place (segment_count location) in
-      let inner = innermost (suc (length f.place.path)) (w.resolver.detect draft (schema_at from)) from f.place.path from in
-      segments_length (length inner.path - length from.path) location
+  -- the length of the pointer's part up to there
+  abbrev pub start_of : Found S → Text → ℕ
+  start_of f location = segments_length (resource_depth f (segment_count location)) location
 
   -- a name's location lies in the innermost resource
-  abbrev pub start_by : Draft → Found S → Text → ℕ
-  start_by draft f [] = 0
-  start_by draft f (x ∷ xs) = if x == 47 then start_of draft f (location_by f (x ∷ xs)) else 0
+  abbrev pub start_by : Found S → Text → ℕ
+  start_by f [] = 0
+  start_by f (x ∷ xs) = if x == 47 then start_of f (location_by f (x ∷ xs)) else 0
 
   abbrev pub referred_at : Found S → Text → ℕ → Key S
   referred_at f location start = record {
@@ -188,13 +192,13 @@ module _ {S K R : Type 0} (w : Parts S K R) where
     start = start;
   }
 
-  abbrev pub referred : Draft → Found S → Reference → Text → Key S
-  referred draft f to_recursive text = referred_at f [] 0
-  referred draft f kind text = referred_at f (location_by f (fragment text)) (start_by draft f (fragment text))
+  abbrev pub referred : Key S → Found S → Reference → Text → Key S
+  referred k f to_recursive text = referred_at f [] 0
+  referred k f kind text = referred_at f (location_by f (fragment_meant k text)) (start_by f (fragment_meant k text))
 
   -- the edge of a reference that stands under the keyword `name`
   abbrev pub reference_edge : Key S → Text → Reference → Text → Option (Edge S)
-  reference_edge k name kind text = option_map (λ f. record { key = referred k.target.draft f kind text; path = joined [] name; is_reference = true }) (ok_of (found k kind text))
+  reference_edge k name kind text = option_map (λ f. record { key = referred k f kind text; path = joined [] name; is_reference = true }) (ok_of (found k kind text))
 
   -- a reference other than `$recursiveRef` to the very object that holds it is no keyword
   abbrev pub is_self : Key S → Reference → Text → Bool
@@ -278,8 +282,8 @@ module _ {S K R : Type 0} (w : Parts S K R) where
   same_edge_key (Some a) (Some b) = same_key a.key b.key
   same_edge_key _ _ = false
 
-  -- two marks of a keyword are of one key
+  -- two marks of a keyword are of one key: two children by their keys, two reservations where they are one
   abbrev pub same_child : Key S → Text → List Request → Marked → Marked → Bool
   same_child k name requests (a_child i) (a_child j) = (i == j) || same_edge_key (child k name requests i) (child k name requests j)
-  same_child k name requests (a_pending a) (a_pending b) = same_kind a b
+  same_child k name requests (a_reservation i) (a_reservation j) = i == j
   same_child k name requests _ _ = false

@@ -1,12 +1,10 @@
 -- What a cover's members say, and so what the four calls answer where they decide.
-use Rattle.std.specs.Prelude.{Contains, List, None, Option, Some, [], length, map, ℕ, ◌*◌, ◌+◌, ◌++◌, ◌<◌, ◌↔◌, ◌∷◌, ◌≡◌, ◌≤◌}
-use Rattle.serde_json.specs.Data.{Data}
-use Rattle.schema_reports.specs.Instance.{Place, Subject, Text}
+use Rattle.std.specs.Prelude.{Contains, List, None, Option, Some, [], length, map, ℕ, ◌*◌, ◌+◌, ◌++◌, ◌<◌, ◌↔◌, ◌∷◌, ◌≡◌, ◌≤◌, ◌⊎◌}
+use Rattle.schema_reports.specs.Instance.{Place, Subject}
 use Rattle.schema_reports.specs.Reports.{Error}
 use Rattle.schema_reports.specs.Matching.{Assumptions, Completion, Extends, Matcher, completion_of}
 use Rattle.schema_reports.specs.Keywords.{Keywords}
 use Rattle.schema_reports.specs.Parts.{Parts}
-use Rattle.schema_reports.specs.Plan.{Key}
 use Rattle.schema_reports.specs.Meaning.{unfold_}
 use Rattle.schema_reports.specs.Units.{plain_units}
 use Rattle.schema_reports.specs.Runs.{Met, first_error, run}
@@ -15,22 +13,22 @@ use Rattle.schema_reports.specs.Shared.{EachAccepts, Kept, Shared}
 use Rattle.schema_reports.specs.Laws.{EachKeeps}
 use Rattle.schema_reports.specs.Guarded.{Nodes, guarded_sense}
 use Rattle.schema_reports.specs.Headline.{ErrorsSay, FirstSays, FirstShared, IsFailure, Lists, VerdictSays}
+use Rattle.schema_reports.specs.Depths.{AtEachDepth}
 use Rattle.schema_reports.specs.Members.{ExtendsAt, Follows, Partly, RunsAre, Speaks, StandOnce, all_accept, is_nil, listed, shared_with}
 
 module _ {S K R : Type 0} (w : Parts S K R) where
   -- a plain run under assumptions speaks, in each mode, for every completion that extends them
   abbrev pub RunsSpeak : Type 0
-  RunsSpeak = EachKeeps w.keywords → (instance : Data) (as' : Assumptions) (c : Completion)
-      → Extends (completion_of as') as' → Extends c as' → (n : ℕ) (k : Key S) (path : Text) (p : Place)
-      → Speaks as' (run w instance as' n k path p) (unfold_ w instance c n k path p) (plain_units w instance c n k path p)
+  RunsSpeak = AtEachDepth w (λ instance root n. (as' : Assumptions) (c : Completion) → Extends (completion_of as') as' → Extends c as'
+      → Speaks as' (run w instance as' n root [] []) (unfold_ w instance c n root [] []) (plain_units w instance c n root [] []))
 
   -- where the first run of `evaluate` meets no unfinished match, its units are the plain ones under every completion
   abbrev pub UnitsArePlain : Type 0
-  UnitsArePlain = EachKeeps w.keywords → (instance : Data) (n : ℕ) (root : Key S) → branch_at (plain w instance n root) evaluate [] ≡ None
-      → (c : Completion) → (run w instance [] n root [] []).units tt ≡ plain_units w instance c n root [] []
+  UnitsArePlain = AtEachDepth w (λ instance root n. branch_at (plain w instance n root) evaluate [] ≡ None
+      → (c : Completion) → (run w instance [] n root [] []).units tt ≡ plain_units w instance c n root [] [])
 
   abbrev pub PlainFollows : Type 0
-  PlainFollows = EachKeeps w.keywords → (instance : Data) (n : ℕ) (root : Key S) → Follows (plain w instance n root)
+  PlainFollows = AtEachDepth w (λ instance root n. Follows (plain w instance n root))
 
 -- and so does a run over numbered nodes, returns or none
 abbrev pub NodesFollow : {K R : Type 0} → Keywords K R → Type 0
@@ -70,6 +68,14 @@ OneCover = (v : Sense) (call : Call) (ms ns : List Assumptions) → Cover v call
 -- a call doesn't decide where a part of its cover has more than 32 lists
 abbrev pub UndecidedPast : Type 0
 UndecidedPast = (v : Sense) (call : Call) (n : ℕ) → Partly v call [] n → 32 < n → ¬ (Decides v call)
+
+-- a call's cover has at most 32 members, or it has not
+abbrev pub DecidesOrNot : Type 0
+DecidesOrNot = (v : Sense) (call : Call) → Decides v call ⊎ ¬ (Decides v call)
+
+-- where `validate` decides, its answer is none exactly where every completion accepts
+abbrev pub NoneWhereAccepted : Type 0
+NoneWhereAccepted = (v : Sense) → Follows v → (o : Option Error) → FirstSays v o → Decides v validate → (o ≡ None) ↔ EachAccepts v
 
 -- no error is listed exactly where every completion accepts
 abbrev pub NoneListed : Type 0

@@ -1,12 +1,12 @@
 -- Which keys a schema reaches: its root's, and all that the makers of a key that it reaches ask for.
 use Rattle.std.specs.List.{list_any}
-use Rattle.std.specs.Prelude.{All, AllPairs, Contains, List, None, Option, Some, [], codes, false, filter_map, if◌then◌else◌, length, map, true, ℕ, ◌*◌, ◌++◌, ◌+◌, ◌<◌, ◌≡◌}
+use Rattle.std.specs.Prelude.{All, AllPairs, Contains, List, None, Option, Some, [], codes, false, filter_map, if◌then◌else◌, length, map, true, ℕ, ◌*◌, ◌++◌, ◌+◌, ◌<◌, ◌∷◌, ◌≡◌}
 use Rattle.serde_json.specs.Data.{Data, Members, member, no_members, object, string}
 use Rattle.schema_reports.specs.Instance.{Text, member_of, places}
 use Rattle.schema_reports.specs.Drafts.{ref_stands_alone}
 use Rattle.schema_reports.specs.Making.{Making}
 use Rattle.schema_reports.specs.Parts.{Parts}
-use Rattle.schema_reports.specs.Plan.{Edge, Key, Reference, is_self, making, option_list, reference_edge, reference_named, requested, same_key, schema_of, to_ref}
+use Rattle.schema_reports.specs.Plan.{Edge, Key, Reference, Target, is_self, making, option_list, reference_edge, reference_named, requested, same_key, same_target, schema_of, to_ref}
 
 module _ {S K R : Type 0} (w : Parts S K R) where
   abbrev pub maker_edges : Key S → Text → Making K → List (Edge S)
@@ -55,6 +55,11 @@ module _ {S K R : Type 0} (w : Parts S K R) where
   abbrev pub ReachesMoreThan : ℕ → Key S → Type 0
   ReachesMoreThan limit root = (keys : List (Key S)) × All (Reached root) keys × AllPairs different keys × (limit < length keys)
 
-  -- more than any chain of questions that comes never twice to one target at one place
+  -- the targets of keys, each once: keys that differ in location, base or start alone have one
+  abbrev pub targets_of : List (Key S) → List (Target S)
+  targets_of [] = []
+  targets_of (k ∷ keys) = if list_any (same_target w k.target) (targets_of keys) then targets_of keys else k.target ∷ targets_of keys
+
+  -- more than any chain of questions that comes never twice to one target at one place: the targets reached times the places, and one
   abbrev pub deep_enough : List (Key S) → Data → ℕ
-  deep_enough keys instance = length keys * length (places instance) + 1
+  deep_enough keys instance = length (targets_of keys) * length (places instance) + 1

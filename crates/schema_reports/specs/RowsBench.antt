@@ -116,6 +116,7 @@ kept_units k x = questions_of k x
 
 abbrev pub word_units : Word → Subject → Matching → (Question → Unit_) → Gives
 word_units k x m u = record {
+  valid = word_holds k x m (λ q. (report_of (u q)).valid);
   children = map u (kept_units k x);
   annotations = None;
   errors = flat_map (λ f. elim f [ own o ↦ record { name = o.name; text = o.text } ∷ [] | passed e ↦ [] ]) (own_faults k x (word_holds k x m (λ q. (report_of (u q)).valid)));
@@ -186,7 +187,7 @@ words = record {
   begin = λ k x mode. record { mode = mode; phase = starting; left = [] };
   turn = next_of;
   step = step_of;
-  answer = λ r. record { verdict = true; errors = []; gives = record { children = []; annotations = None; errors = []; absorbed = [] } };
+  answer = λ r. record { mode = r.mode; verdict = true; errors = []; gives = record { valid = true; children = []; annotations = None; errors = []; absorbed = [] } };
 }
 
 -- ---- the table
@@ -281,6 +282,19 @@ found_at schema p = elim (value_at schema p) [
   | Some v ↦ Ok (record { place = record { document = 0; path = p }; state = resource_on root_base (Some (a_value schema)) p; draft = draft_2020_12 })
 ]
 
+abbrev pub has_id : Text → Data → Bool
+has_id uri d = elim (id_of d) [ Some id ↦ bytes_eq uri id | None ↦ false ]
+
+-- where the resource with a URI begins, by members alone
+abbrev mutual
+  pub resource_below : Text → Data → Option Place
+  resource_below uri (object ms) = if has_id uri (object ms) then Some [] else resource_among uri ms
+  resource_below uri _ = None
+
+  pub resource_among : Text → Members → Option Place
+  resource_among uri no_members = None
+  resource_among uri (member name d ms) = elim (resource_below uri d) [ Some p ↦ Some (to_member name ∷ p) | None ↦ resource_among uri ms ]
+
 -- the subschemas that stand in `$defs` and `properties`
 abbrev pub subschemas_in : SchemaPlace → Members → List SchemaPlace
 subschemas_in p no_members = []
@@ -291,6 +305,11 @@ abbrev pub object_members : Option Data → Members
 object_members (Some (object ms)) = ms
 object_members _ = no_members
 
+-- a fragment stands for the base followed by it, and any other text for itself
+abbrev pub uri_meant : Text → Text → Text
+uri_meant base [] = base
+uri_meant base (x ∷ text) = if x == 35 then base ++ x ∷ text else x ∷ text
+
 abbrev pub tiny_resolver : Data → Resolver Text
 tiny_resolver schema = record {
   same_state = bytes_eq;
@@ -299,8 +318,9 @@ tiny_resolver schema = record {
   lookup = λ state text dynamic. found_at schema (steps_of (fragment text));
   lookup_recursive = λ state. found_at schema [];
   in_subresource = λ state draft p. Ok (elim (value_at schema p.path) [ None ↦ state | Some v ↦ unwrap_or (id_of v) state ]);
+  resolve_uri = λ state text. Ok (uri_meant state text);
   base_uri = λ state. state;
-  resource_root = λ state. record { document = 0; path = [] };
+  resource_root = λ state. record { document = 0; path = unwrap_or (resource_below state schema) [] };
   find_vocabularies = λ state draft p. [];
   detect = λ draft v. draft;
   draft_for = λ v. Ok draft_2020_12;

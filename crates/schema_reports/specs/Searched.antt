@@ -5,7 +5,7 @@ use Rattle.schema_reports.specs.Reports.{Error}
 use Rattle.schema_reports.specs.Instance.{Text}
 use Rattle.schema_reports.specs.Runs.{Met, Site}
 use Rattle.schema_reports.specs.Cover.{Call, IsRun, Sense, branch_at}
-use Rattle.schema_reports.specs.Headline.{reason_text}
+use Rattle.schema_reports.specs.Headline.{reason_text, shown_at}
 use Rattle.schema_reports.specs.Unfinished.{Failure, Remembered, starting}
 
 -- the states that a run's uses lead to
@@ -27,9 +27,9 @@ module _ (v : Sense) (call : Call) where
     pub remembers : (s : S) (as' : Assumptions) (r : Remembered) (result : T) (end : S) → Reaches Step start s → IsRun v call as' → ¬ (as' ≡ []) → Step s (starting as') r result end → Remembers as' r
     pub gives : (s : S) (as' : Assumptions) (r : Remembered) (result : T) (end : S) → Reaches Step start s → IsRun v call as' → ¬ (as' ≡ []) → Step s (starting as') r result end → r.unassumed ≡ None → view result ≡ says as'
 
--- the error with this text of a match met at this site; where the site has no evaluation path, that is the schema path, and the place is the root
+-- the error with this text of a match met at this site, at the value that the pointer of the site's place leads to; where the site has no evaluation path, that is the schema path, and the place is the root
 abbrev pub site_error : Site → Text → Error
-site_error site text = let at = unwrap_or site.located (site.schema_path, []) in record {
+site_error site text = let at = shown_at (unwrap_or site.located (site.schema_path, [])) in record {
   place = at.1;
   schema_path = site.schema_path;
   evaluation_path = at.0;

@@ -4,8 +4,8 @@ use Rattle.std.specs.Prelude.{All, Bool, List, [], true, ℕ, ◌<◌, ◌↔◌
 use Rattle.schema_reports.specs.Instance.{Subject, Text}
 use Rattle.schema_reports.specs.Reports.{Unit_, report_of}
 use Rattle.schema_reports.specs.Matching.{Matching}
-use Rattle.schema_reports.specs.Keywords.{Answer, Answers, Keywords, Marked, Mode, Question, Reply, Turn, ask, done, ecma, mark, match_text, no_reply, truth, unmark}
-use Rattle.schema_reports.specs.Laws.{Agrees, AsksRightly, IsPresent, IsRight, PassesUnchanged, StandsInside, answer_in, steps_below}
+use Rattle.schema_reports.specs.Keywords.{Answer, Answers, Keywords, Marked, Mode, Question, Reply, Turn, all_valid, ask, done, ecma, mark, match_text, no_reply, truth, unmark}
+use Rattle.schema_reports.specs.Laws.{Agrees, AnsweredAlike, AsksRightly, IsPresent, IsRight, PassesUnchanged, StandsInside, answer_in, steps_below}
 
 module _ {K R : Type 0} (keywords : Keywords K R) (m : K) (s : Subject) (matches : Matching) (answers : Answers) (unit_at : Question → Unit_) (same : Marked → Marked → Bool) where
   -- the true reply to a turn of a run that holds these marks
@@ -56,14 +56,17 @@ module _ {K R : Type 0} (keywords : Keywords K R) (m : K) where
 
 -- The run's state and the answer so far name the end that each completion and answers give: after `begin` it is the
 -- keyword's own, a turn whose reply is the true one keeps it, and at `done` it stands in the answer. A number falls with
--- each turn, whatever is replied.
--- `remaining` is that number, `end_of` the answer that a standing run ends in, `Fits` what is true of each run that stands.
-pub record TurnLaws {K R : Type 0} (keywords : Keywords K R) (m : K) (absorbed : List Text) (remaining : Subject → R → ℕ) (end_of : Standing R → Answer) (Fits : Standing R → Type 0) : Type 0 where
+-- each turn, whatever is replied; it falls, and the turn asks rightly, in those states that a run on the instance can be in.
+-- `remaining` is that number, `can_be` says which states these are, `end_of` is the answer that a standing run ends in, and
+-- `Fits` what is true of each run that stands.
+pub record TurnLaws {K R : Type 0} (keywords : Keywords K R) (m : K) (absorbed : List Text) (remaining : Subject → R → ℕ) (can_be : Subject → R → Type 0) (end_of : Standing R → Answer) (Fits : Standing R → Type 0) : Type 0 where
   pub bounded : (s : Subject) (mode : Mode) → remaining s (keywords.begin m s mode) < keywords.most_turns m s
-  pub falls : (s : Subject) (r : R) (reply : Reply) → (keywords.step m s r reply ≡ done) ⊎ (remaining s (keywords.turn m s r reply) < remaining s r)
-  pub asks : (s : Subject) (r : R) (reply : Reply) → AsksRightly keywords m s absorbed (keywords.step m s r reply)
+  pub starts : (s : Subject) (mode : Mode) → can_be s (keywords.begin m s mode)
+  pub goes_on : (s : Subject) (r : R) (reply : Reply) → can_be s r → can_be s (keywords.turn m s r reply)
+  pub falls : (s : Subject) (r : R) (reply : Reply) → can_be s r → (keywords.step m s r reply ≡ done) ⊎ (remaining s (keywords.turn m s r reply) < remaining s r)
+  pub asks : (s : Subject) (r : R) (reply : Reply) → can_be s r → AsksRightly keywords m s absorbed (keywords.step m s r reply)
   pub begins : (s : Subject) (mode : Mode) (matches : Matching) (a : Answers) (u : Question → Unit_) (same : Marked → Marked → Bool)
-      → ((q : Question) → Agrees (a q)) → ((q : Question) → (report_of (u q)).valid ≡ (a q).verdict)
+      → ((q : Question) → Agrees (a q)) → ((q : Question) → (report_of (u q)).valid ≡ (a q).verdict) → AnsweredAlike same a
       → Fits (standing keywords m s mode matches a u same) × IsRight keywords m s matches a u same mode (end_of (standing keywords m s mode matches a u same))
   pub keeps : (x : Standing R) → Fits x → (step_at keywords m x ≡ done → ⊥) → Fits (next keywords m x) × (end_of (next keywords m x) ≡ end_of x)
   pub stands : (x : Standing R) → Fits x → step_at keywords m x ≡ done → keywords.answer (turned keywords m x) ≡ end_of x
@@ -73,6 +76,9 @@ pub record FunctionLaws {K R : Type 0} (keywords : Keywords K R) (m : K) (absorb
   pub present : (s : Subject) → All (λ q. IsPresent s (steps_below q.below)) (keywords.may_ask m s)
   pub agree : (s : Subject) (matches : Matching) (a : Answers) → ((q : Question) → Agrees (a q))
       → (keywords.holds m s matches (λ q. (a q).verdict) ≡ true) ↔ (keywords.faults m s matches a ≡ [])
+  -- its own unit and all that it absorbs are valid exactly where it holds
+  pub units_valid : (s : Subject) (matches : Matching) (u : Question → Unit_)
+      → all_valid (keywords.units m s matches u) ≡ keywords.holds m s matches (λ q. (report_of (u q)).valid)
   pub holds_reads : (s : Subject) (matches : Matching) (a b : Question → Bool) → All (λ q. a q ≡ b q) (keywords.may_ask m s)
       → keywords.holds m s matches a ≡ keywords.holds m s matches b
   pub faults_read : (s : Subject) (matches : Matching) (a b : Answers) → All (λ q. a q ≡ b q) (keywords.may_ask m s)

@@ -1,5 +1,5 @@
 -- What a run assumes of unfinished matches, and what it remembers of those that it meets.
-use Rattle.std.specs.Prelude.{Bool, List, None, Option, Some, [], false, find, if◌then◌else◌, is_some, option_map, ◌++◌, ◌||◌, ◌∷◌}
+use Rattle.std.specs.Prelude.{Bool, List, None, Option, Some, [], false, find, if◌then◌else◌, is_some, option_map, ◌++◌, ◌||◌, ◌∷◌, ◌≡◌}
 use Rattle.schema_reports.specs.Instance.{Place, Text}
 use Rattle.schema_reports.specs.Matching.{Assumptions, Pair, Reason, assumed, same_pair}
 use Rattle.schema_reports.specs.Runs.{Met, Site}
@@ -14,6 +14,10 @@ pub record Remembered : Type 0 where
   pub assumptions : Assumptions
   pub unassumed : Option Failure
   pub located : List Met
+
+-- the first unfinished match that was met and not assumed is not among the assumptions
+abbrev pub FirstIsNew : Remembered → Type 0
+FirstIsNew r = (f : Failure) → r.unassumed ≡ Some f → assumed r.assumptions f.met.pair ≡ None
 
 -- what a run starts from
 abbrev pub starting : Assumptions → Remembered

@@ -7,7 +7,7 @@ use Rattle.schema_reports.specs.Pointer.{joined}
 use Rattle.schema_reports.specs.Reports.{Described, Unit_, children_of, report_of, unit, units_of}
 use Rattle.schema_reports.specs.Drafts.{ref_stands_alone}
 use Rattle.schema_reports.specs.Matching.{Completion, Matching, matching}
-use Rattle.schema_reports.specs.Keywords.{Gives, Keywords, Question}
+use Rattle.schema_reports.specs.Keywords.{Gives, Keywords, Named, Question}
 use Rattle.schema_reports.specs.Parts.{Parts}
 use Rattle.schema_reports.specs.Plan.{Edge, Form, Key, Part, always, keyword, never, part, plan, reference, schema_of, these}
 use Rattle.schema_reports.specs.Meaning.{Where, asked, at, false_text, referred_to, subject, unfolded}
@@ -15,28 +15,30 @@ use Rattle.schema_reports.specs.Meaning.{Where, asked, at, false_text, referred_
 abbrev pub no_unit : Unit_
 no_unit = unit (record { valid = true; place = []; evaluation_path = []; schema_path = []; absolute = None; annotations = None; errors = [] }) (units_of [])
 
-abbrev pub keyword_unit : Where → Text → Bool → Gives → Unit_
-keyword_unit x name valid g = unit (record {
-  valid = valid;
+-- the unit of a keyword, or of one that is absorbed
+abbrev pub keyword_unit : Where → Named → Unit_
+keyword_unit x a = unit (record {
+  valid = a.valid;
   place = x.place;
-  evaluation_path = joined x.path name;
-  schema_path = joined x.location name;
-  absolute = x.absolute (joined x.location name);
-  annotations = g.annotations;
-  errors = g.errors;
-}) (units_of g.children)
+  evaluation_path = joined x.path a.name;
+  schema_path = joined x.location a.name;
+  absolute = x.absolute (joined x.location a.name);
+  annotations = a.annotations;
+  errors = a.errors;
+}) (units_of a.children)
 
 -- a keyword's own unit, and those that it absorbs, each with its keyword's name
 abbrev pub PartUnits : Type 0
 PartUnits = Unit_ × List (Text × Unit_)
 
+abbrev pub given_units : Where → Text → Gives → PartUnits
+given_units x name g = (
+  keyword_unit x (record { name = name; valid = g.valid; children = g.children; annotations = g.annotations; errors = g.errors }),
+  map (λ a. (a.name, keyword_unit x a)) g.absorbed,
+)
+
 abbrev pub keyword_units : {K R : Type 0} → Keywords K R → Where → Text → K → Subject → Matching → (Question → Unit_) → PartUnits
-keyword_units keywords x name m s matches answers =
-    let g = keywords.units m s matches answers in
-    let valid = keywords.holds m s matches (λ q. (report_of (answers q)).valid) in (
-      keyword_unit x name valid g,
-      map (λ a. (a.0, keyword_unit x a.0 valid (record { children = a.1; annotations = None; errors = []; absorbed = [] }))) g.absorbed,
-    )
+keyword_units keywords x name m s matches answers = given_units x name (keywords.units m s matches answers)
 
 abbrev pub reference_units : Where → Text → Unit_ → PartUnits
 reference_units x name u = (unit (record (report_of u) { evaluation_path = joined x.path name }) (children_of u), [])
@@ -70,6 +72,20 @@ false_unit texts x s = schema_unit x false None (record { name = codes "falseSch
 abbrev pub plan_unit : Where → Option Data → List Entry → Unit_
 plan_unit x annotations xs = schema_unit x (list_all (λ u. (report_of u).valid) (entry_units xs)) annotations [] (entry_units xs)
 
+-- the names that a part absorbs
+abbrev pub absorbed_by : {K : Type 0} → Option (Part K) → List Text
+absorbed_by None = []
+absorbed_by (Some p) = elim p.form [ keyword m requests absorbed ↦ absorbed | reference kind text ↦ [] ]
+
+-- the members without the one of a name, and without those of these names; a name stands once in an object
+abbrev pub without_name : Text → Members → Members
+without_name k no_members = no_members
+without_name k (member l d ms) = if bytes_eq k l then ms else member l d (without_name k ms)
+
+abbrev pub without : List Text → Members → Members
+without [] ms = ms
+without (k ∷ ks) ms = without ks (without_name k ms)
+
 -- members as an object, where there are any
 abbrev pub object_of : Members → Option Data
 object_of no_members = None
@@ -84,9 +100,18 @@ module _ {S K R : Type 0} (w : Parts S K R) where
     | None ↦ if w.resolver.is_known_keyword k.target.draft name then unknown k whole rest else member name value (unknown k whole rest)
   ]
 
+  -- the names that the keywords of these members absorb
+  abbrev pub absorbed_in : Key S → Members → Members → List Text
+  absorbed_in k whole no_members = []
+  absorbed_in k whole (member name value rest) = absorbed_by (part w k whole name value) ++ absorbed_in k whole rest
+
+  -- the members that become annotations: what an absorbed name holds belongs to the keyword that absorbs it
+  abbrev pub annotating : Key S → Members → Members
+  annotating k ms = without (absorbed_in k ms ms) (unknown k ms ms)
+
   -- a `$ref` that stands alone leaves none
   abbrev pub object_annotations : Key S → Members → Option Data
-  object_annotations k ms = elim (if ref_stands_alone k.target.draft then member_of (codes "$ref") ms else None) [ Some value ↦ None | None ↦ object_of (unknown k ms ms) ]
+  object_annotations k ms = elim (if ref_stands_alone k.target.draft then member_of (codes "$ref") ms else None) [ Some value ↦ None | None ↦ object_of (annotating k ms) ]
 
   abbrev pub annotations_of : Key S → Option Data
   annotations_of k = elim (schema_of w k) [ object ms ↦ object_annotations k ms | _ ↦ None ]

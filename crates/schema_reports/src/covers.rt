@@ -3,7 +3,7 @@ ghost use Rattle.schema_reports.specs.Keywords.{Keywords};
 ghost use Rattle.schema_reports.specs.Parts.{Parts};
 ghost use Rattle.schema_reports.specs.Promises.{NodesFollow, PlainFollows, RunsSpeak, UnitsArePlain};
 ghost use Rattle.schema_reports.specs.Promises.{ErrorsOfMembers, EvaluationOfMembers, FirstOfMembers, SharedOfMembers, VerdictOfMembers};
-ghost use Rattle.schema_reports.specs.Promises.{FirstIsHead, NoneListed, OneCover, UndecidedPast};
+ghost use Rattle.schema_reports.specs.Promises.{DecidesOrNot, FirstIsHead, NoneListed, NoneWhereAccepted, OneCover, UndecidedPast};
 ghost use Rattle.schema_reports.specs.Promises.{MembersDiffer, MembersRun, OneMember, PairsDiffer, RunsOfCover};
 
 /// A run under assumptions speaks for every completion that extends them.
@@ -27,11 +27,13 @@ pub fn members_speak()
     ensures evaluation { EvaluationOfMembers }
 {}
 
-/// The four calls agree.
+/// The four calls agree, and each decides or does not.
 pub fn calls_agree()
     ensures one { OneCover }
     ensures undecided { UndecidedPast }
+    ensures decided { DecidesOrNot }
     ensures none { NoneListed }
+    ensures accepted { NoneWhereAccepted }
     ensures head { FirstIsHead }
 {}
 

@@ -1,10 +1,10 @@
 //! Instances and their places.
 ghost use Rattle.std.specs.Prelude.{◌≡◌, List, [], ◌∷◌, ◌++◌, IfOk, option_map, Option, Some, None, map, IfSome, false};
-ghost use Rattle.std.specs.Prelude.{string_bytes};
+ghost use Rattle.std.specs.Prelude.{length, string_bytes};
 ghost use Rattle.schema_reports.specs.Instance.{same_place, same_step, after_step, to_member, to_item, to_name};
 ghost use Rattle.std.specs.Cmp.{partial_equiv_from_equiv};
 ghost use Rattle.schema_reports.specs.SamePlaces.{places_equiv};
-ghost use Rattle.schema_reports.specs.Pointer.{pointer_to, step_text};
+ghost use Rattle.schema_reports.specs.Pointer.{is_shown, pointer_to, shown_place, step_text};
 ghost use Rattle.schema_reports.specs.InstanceTexts.{subject_has_float};
 ghost use Rattle.schema_reports.specs.Meaning.{subject_text};
 ghost use Rattle.schema_reports.specs.Owned.{value_of};
@@ -186,6 +186,17 @@ fn push_step(pointer: &mut Location, step: InstanceStep<'_>) -> Result<(), OutOf
     }
 }
 
+// Whether a pointer shows the step: a step to a name is not shown.
+fn is_shown(step: InstanceStep<'_>) -> bool
+    ensures shown { result ≡ is_shown (step_of step.entry) }
+{
+    match step {
+        InstanceStep::Member(_) => true,
+        InstanceStep::Item(_) => true,
+        InstanceStep::NameOf(_) => false,
+    }
+}
+
 impl<'i> Place<'i> {
     /// Returns the place of the root: no steps. It allocates nothing.
     pub fn root(alloc: Global) -> Place<'i>
@@ -196,13 +207,21 @@ impl<'i> Place<'i> {
         }
     }
 
+    /// Returns the number of steps from the root to the place.
+    pub fn len(&self) -> usize
+        ensures count { result ≡ length self.now }
+    {
+        self.steps.len()
+    }
+
     /// Returns the place one step below this one. Fails only if memory cannot be allocated.
     pub fn below(&self, step: InstanceStep<'i>) -> Result<Place<'i>, OutOfMemory>
         ensures below { IfOk result (λ p. p ≡ self.now ++ step_of step.entry ∷ []) }
     {
-        let mut place = self.clone()?;
-        place.steps.push(step)?;
-        Ok(place)
+        let mut steps = Vec::with_capacity(*self.steps.allocator(), self.steps.len() + 1)?;
+        steps.extend_from_slice(self.steps.as_slice())?;
+        steps.push(step)?;
+        Ok(Place { steps })
     }
 
     /// Returns the JSON Pointer of the place. The place of a name has the pointer of its object. Fails only if memory cannot be
@@ -215,6 +234,18 @@ impl<'i> Place<'i> {
             push_step(&mut location, *step)?;
         }
         Ok(location)
+    }
+}
+
+impl<'i> Place<'i> {
+    /// Returns the place that the pointer of this one leads to: from the name of a member, that is the object's.
+    pub fn shown(self) -> Place<'i>
+        ensures shown { result ≡ shown_place self.entry }
+    {
+        let Place { steps } = self;
+        let mut steps = steps;
+        steps.retain(|step| is_shown(*step));
+        Place { steps }
     }
 }
 
@@ -238,8 +269,7 @@ impl<'i> Clone for Place<'i> {
 
     /// Returns a clone of the place. Fails only if memory cannot be allocated.
     fn clone(&self) -> Result<Place<'i>, AllocError> {
-        Ok(Place {
-            steps: self.steps.clone()?,
-        })
+        let steps = Vec::from_slice(*self.steps.allocator(), self.steps.as_slice())?;
+        Ok(Place { steps })
     }
 }

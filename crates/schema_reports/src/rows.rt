@@ -3,6 +3,7 @@ ghost use Rattle.schema_reports.specs.Rows.{RootsAreRoots, TextIsString, NumberI
 ghost use Rattle.schema_reports.specs.Rows.{NotSharesNoError, EitherIsTakenApart, EitherIsAccepted, LongSharesOneError};
 ghost use Rattle.schema_reports.specs.Rows.{LongVerdictIsWhole, LongErrorsAreTakenApart, NestedIsRefused, NestedDoesNotReturn};
 ghost use Rattle.schema_reports.specs.Rows.{ChainIsRefused, EmbeddedCountsFromItsResource, SelfIsNoKeyword};
+ghost use Rattle.schema_reports.specs.RowsFused.{FusedHasUnits, FusedHasOneError, FusedKeepsUnits};
 ghost use Rattle.schema_reports.specs.Rows.{TurningReturns, TurningIsNumbered, TurningIsAccepted};
 
 /// The worked rows hold: each clause is one row, and it names what the definitions say of a small schema.
@@ -29,4 +30,7 @@ pub fn worked_rows()
     ensures turning_returns { TurningReturns }
     ensures turning_is_numbered { TurningIsNumbered }
     ensures turning_is_accepted { TurningIsAccepted }
+    ensures fused_has_units { FusedHasUnits }
+    ensures fused_has_one_error { FusedHasOneError }
+    ensures fused_keeps_units { FusedKeepsUnits }
 {}

@@ -1,23 +1,17 @@
-//! Which subschema lies on the way to a path, by the first steps of the path.
-ghost use Rattle.std.specs.Prelude.{◌≡◌, ◌∷◌, [], IfOk, find, flat_map, length, map, option_map, take};
+//! Whether a path leads from a schema to one of its subschemas, by the steps of the path.
+ghost use Rattle.std.specs.Prelude.{◌≡◌, ◌∷◌, [], flat_map, option_map};
 ghost use Rattle.std.specs.List.{list_any};
 ghost use Rattle.serde_json.specs.Find.{get};
 ghost use Rattle.serde_json.specs.View.{view};
 ghost use Rattle.schema_reports.specs.Instance.{same_place, same_step, to_member};
-ghost use Rattle.schema_reports.specs.Drafts.{at_path};
 ghost use Rattle.schema_node.specs.SchemaViews.{schema_step_of};
-ghost use Rattle.schema_node.specs.ResolverViews.{place_of};
-ghost use Rattle.bench_parts.specs.BenchResolving.{below_list, below_object, below_value, names_of_lists, names_of_objects, subschemas};
-ghost use Rattle.bench_parts.specs.BenchResolving.{subschemas_of, value_at};
-ghost use Rattle.bench_parts.specs.BenchAnswers.{is_subschema};
-ghost use Rattle.bench_parts.specs.OnWay.{leads_to_item, leads_to_member, on_way, pairs_below, schema_found, singles_below};
+ghost use Rattle.bench_parts.specs.BenchResolving.{below_list, below_object, below_value, names_of_lists, names_of_objects};
+ghost use Rattle.bench_parts.specs.BenchLookups.{is_subschema};
+ghost use Rattle.bench_parts.specs.OnWay.{leads_to_item, leads_to_member, pairs_below, schema_found, singles_below};
 
-use crate::resolver::places::value_at;
 use crate::resolver::subschemas::is_schema;
-use schema_node::context::schema_place::{SchemaPath, SchemaPlace, SchemaStep};
-use schema_reports::location::OutOfMemory;
+use schema_node::context::schema_place::{SchemaPath, SchemaStep};
 use serde_json::Value;
-use std::alloc::Global;
 
 /// Whether a step leads to the member of this name.
 fn is_named(step: &SchemaStep, keyword: &str) -> bool
@@ -162,70 +156,4 @@ pub fn is_subschema(path: &SchemaPath, schema: &Value) -> bool
         return is_single(schema, &steps[0]);
     }
     false
-}
-
-/// Whether the first two steps lead to a schema in one of the objects and lists.
-fn begins_with_pair(schema: &Value, steps: &[SchemaStep]) -> bool
-    ensures among { result ≡ list_any (same_place (take 2 (map schema_step_of steps.now))) (pairs_below (view schema.now)) }
-{
-    if steps.len() < 2 {
-        return false;
-    }
-    is_pair(schema, &steps[0], &steps[1])
-}
-
-/// Whether the first step leads to one of the other schemas.
-fn begins_with_single(schema: &Value, steps: &[SchemaStep]) -> bool
-    ensures among { result ≡ list_any (same_place (take 1 (map schema_step_of steps.now))) (singles_below (view schema.now)) }
-{
-    if steps.len() == 0 {
-        return false;
-    }
-    is_single(schema, &steps[0])
-}
-
-/// How many of the steps lead to the first subschema of a schema, in order, that lies on their way.
-#[tactic(auto, using(crate::proofs::OnWay::first_on_way))]
-fn steps_to_subschema(schema: &Value, steps: &[SchemaStep]) -> Option<usize>
-    ensures first { option_map (λ n. take n (map schema_step_of steps.now)) result
-        ≡ find (on_way (map schema_step_of steps.now)) (subschemas (view schema.now)) }
-{
-    if begins_with_pair(schema, steps) {
-        return Some(2);
-    }
-    if begins_with_single(schema, steps) {
-        return Some(1);
-    }
-    None
-}
-
-/// The first subschema, in order, of the schema at a place of the document that lies on the way down to a path.
-///
-/// # Errors
-///
-/// Fails only if memory cannot be allocated.
-pub fn subschema_on_way(
-    alloc: Global,
-    document: &Value,
-    place: &SchemaPlace,
-    path: &SchemaPath,
-) -> Result<Option<SchemaPlace>, OutOfMemory>
-    ensures first { IfOk result (λ o. option_map place_of o
-        ≡ find (λ q. same_place q.path (take (length q.path) path.now))
-        (map (at_path (place_of place.now)) (subschemas_of (value_at (view document.now) (place_of place.now))))) }
-{
-    if !place.path.is_prefix_of(path) {
-        return Ok(None);
-    }
-    let Some(schema) = value_at(document, place) else {
-        return Ok(None);
-    };
-    let rest = path.after(alloc, place.path.len())?;
-    match steps_to_subschema(schema, rest.steps()) {
-        Some(count) => {
-            let first = rest.first(alloc, count)?;
-            Ok(Some(place.below(alloc, &first)?))
-        }
-        None => Ok(None),
-    }
 }

@@ -19,4 +19,4 @@ turns_unmarked texts m s (suc n) (suc k) r reply none = (tt, λ next. turns_unma
 -- a detour takes no marks
 pub takes_no_marks : (texts : Bool) → TakesNoMarks (detour_words texts)
 takes_no_marks texts = λ m s mode' none.
-    turns_unmarked texts m s ((detour_words texts).most_turns m s) (matches_before m.0 mode') (((words texts).begin m.1 s mode').0, fresh) no_reply (λ e. none (sym (mode-kept mode') ∙ e))
+    turns_unmarked texts m s ((detour_words texts).most_turns m s) (matches_before m.0 mode') (((words texts).begin m.1 s mode').0, fresh mode') no_reply (λ e. none (sym (mode-kept mode') ∙ e))

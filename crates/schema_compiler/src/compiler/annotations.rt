@@ -1,8 +1,8 @@
-//! Annotations: the members that no keyword is made of, and whose names the draft does not know.
-ghost use Rattle.std.specs.Prelude.{◌≡◌, IfOk, option_map, string_bytes, if◌then◌else◌};
+//! Annotations: the members that no keyword is made of, that no keyword absorbs, and whose names the draft does not know.
+ghost use Rattle.std.specs.Prelude.{◌≡◌, ◌++◌, IfOk, map, option_map, string_bytes, if◌then◌else◌};
 ghost use Rattle.serde_json.specs.Data.{put};
 ghost use Rattle.serde_json.specs.View.{view, members_view};
-ghost use Rattle.schema_reports.specs.Units.{object_of};
+ghost use Rattle.schema_reports.specs.Units.{object_of, without};
 ghost use Rattle.schema_reports.specs.KeywordViews.{draft_of};
 
 use crate::compiler::given::Given;
@@ -32,6 +32,28 @@ impl<'p, R: Resolver, T> Given<'p, R, T> {
         }
         Ok(())
     }
+}
+
+/// Adds the names that a keyword absorbs to those of the keywords before it.
+pub(crate) fn absorb(absorbed: &mut Vec<String>, names: Vec<String>) -> Result<(), OutOfMemory>
+    ensures added { IfOk result (λ _. map string_bytes absorbed.new.items ≡
+        map string_bytes absorbed.old.items ++ map string_bytes names.items) }
+{
+    let mut more = names;
+    absorbed.append(&mut more)?;
+    Ok(())
+}
+
+/// The members without those of these names.
+pub(crate) fn without(members: Map<String, Value>, names: &[String]) -> Map<String, Value>
+    ensures left { members_view result.entries ≡
+        without (map string_bytes names.now) (members_view members.entries) }
+{
+    let mut left = members;
+    for name in names {
+        drop(left.remove(name.as_str()));
+    }
+    left
 }
 
 /// The members as an object, where there are any.

@@ -1,13 +1,11 @@
-//! Keys: what a node is compiled for. Comparison and copies.
-ghost use Rattle.std.specs.Prelude.{◌≡◌, ◌↔◌, IfOk, IsTrue};
-ghost use Rattle.schema_reports.specs.KeywordViews.{draft_of};
-ghost use Rattle.schema_node.specs.ResolverViews.{found_of, place_of};
+//! Keys: what a node is compiled for. Comparison.
+ghost use Rattle.std.specs.Prelude.{◌≡◌, ◌↔◌, IsTrue};
 ghost use Rattle.schema_compiler.specs.KeyViews.{key_of};
 
-use schema_node::context::resolver::{Resolver, Target};
+use schema_node::context::resolver::Resolver;
 use schema_node::context::schema_place::SchemaPlace;
 use schema_reports::keywords::{Draft, VocabularySet};
-use schema_reports::location::{Location, OutOfMemory};
+use schema_reports::location::Location;
 
 /// What a node is compiled for: a schema's place in a document, what it is read in there, and how it was reached. Two keys
 /// that are equal share one node.
@@ -59,40 +57,4 @@ fn same_location(left: &Location, right: &Location) -> bool
     ensures same { IsTrue result ↔ (left.now ≡ right.now) }
 {
     left.as_str() == right.as_str()
-}
-
-// Clones of the place, the state and the draft of a key.
-fn target_copy<R: Resolver>(key: &SchemaKey<R::State>) -> Result<Target<R::State>, OutOfMemory>
-    ensures target { IfOk result (λ t. found_of R.point t ≡ record {
-      place = place_of key.now.place;
-      state = R.point key.now.state;
-      draft = draft_of key.now.draft;
-    }) }
-{
-    let place = key.place.clone()?;
-    Ok(Target {
-        state: key.state.clone()?,
-        place,
-        draft: key.draft,
-    })
-}
-
-/// Returns a clone of the key. Fails only if memory cannot be allocated.
-pub(crate) fn copy_of<R: Resolver>(
-    key: &SchemaKey<R::State>,
-) -> Result<SchemaKey<R::State>, OutOfMemory>
-    ensures same { IfOk result (λ k. key_of R.point k ≡ key_of R.point key.now) }
-{
-    let location = key.location.clone()?;
-    let base = key.base.clone()?;
-    let target = target_copy::<R>(key)?;
-    Ok(SchemaKey {
-        vocabularies: key.vocabularies.clone()?,
-        place: target.place,
-        state: target.state,
-        draft: target.draft,
-        location,
-        base,
-        start: key.start,
-    })
 }

@@ -1,4 +1,5 @@
-//! The keys that were reached, in the order of their numbers. A key is found by a hash, from number to number.
+//! The keys that were reached, in the order of their numbers. A key is found by a hash, from number to number. It is shared with
+//! the step that compiles its node, since a copy of it is as long as its schema is deep.
 ghost use Rattle.std.specs.Prelude.{◌≡◌, ◌≢◌, ◌≤◌, ◌+◌, ◌++◌, ◌∷◌, ℕ, [], MatchOption, OnErr, OnOk, Some};
 ghost use Rattle.std.specs.Prelude.{if◌then◌else◌, length, map, nat_eq, slice_get, vec_capacity, vec_len};
 ghost use Rattle.std.specs.HashMap.{IsUnchanged, get};
@@ -12,11 +13,12 @@ use std::alloc::Global;
 use std::collections::HashMap;
 use std::hash::{FoldHasher, Hash, Hasher};
 use std::marker::Model;
+use std::rc::Rc;
 
 /// The keys that were reached, in the order of their numbers. A contract sees them as a list.
 #[derive(Drop)]
 pub struct Keys<S: Hash> {
-    keys: Vec<SchemaKey<S>>,
+    keys: Vec<Rc<SchemaKey<S>>>,
     // The last number of each hash, and for each number the one before it with the same hash.
     last: HashMap<u64, usize>,
     earlier: Vec<Option<usize>>,
@@ -25,15 +27,17 @@ pub struct Keys<S: Hash> {
 impl<S: Hash> Model for Keys<S> {
     ghost use Rattle.std.specs.Prelude.{List, map, nat_eq};
     ghost use Rattle.std.specs.HashMap.{get};
+    ghost use Rattle.std.specs.Rc.{rc_value};
     ghost use Rattle.schema_compiler.specs.declared.compiler.key.SchemaKey.{SchemaKey};
 
     ghost Value = { List (SchemaKey S) };
 
     ghost use Rattle.schema_compiler.specs.KeyHashes.{IsChained, hash_of};
 
-    ghost view = { λ k. k.keys.items };
+    ghost view = { λ k. map rc_value k.keys.items };
 
-    ghost invariant = { λ k. IsChained (map (hash_of S.hash_input) k.keys.items) k.earlier.items (get nat_eq k.last) };
+    ghost invariant = { λ k. IsChained (map (hash_of S.hash_input) (map rc_value k.keys.items)) k.earlier.items
+        (get nat_eq k.last) };
 }
 
 impl<S: Hash + Drop> Keys<S> {
@@ -56,8 +60,8 @@ impl<S: Hash + Drop> Keys<S> {
     }
 
     /// Gives a key the next number.
-    pub(crate) fn push(&mut self, key: SchemaKey<S>) -> Result<(), OutOfMemory>
-        ensures pushed { OnOk result (self.new ≡ self.old ++ key ∷ []) }
+    pub(crate) fn push(&mut self, key: Rc<SchemaKey<S>>) -> Result<(), OutOfMemory>
+        ensures pushed { OnOk result (self.new ≡ self.old ++ key.value ∷ []) }
         ensures unchanged { OnErr result (self.new ≡ self.old) }
     {
         let hash = hash_of(&key);
@@ -69,7 +73,7 @@ impl<S: Hash + Drop> Keys<S> {
 
 // Links the next number to the one before it with the same hash, with room for its key.
 fn link<S>(
-    keys: &mut Vec<SchemaKey<S>>,
+    keys: &mut Vec<Rc<SchemaKey<S>>>,
     last: &mut HashMap<u64, usize>,
     earlier: &mut Vec<Option<usize>>,
     hash: u64,

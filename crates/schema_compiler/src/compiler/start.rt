@@ -1,16 +1,13 @@
-//! How much of a pointer lies outside the innermost resource that it passes into.
-ghost use Rattle.std.specs.Prelude.{◌≡◌, ◌-◌, IfOk, length, suc, take, is_some, if◌then◌else◌};
-ghost use Rattle.schema_reports.specs.Plan.{segment_count, segments_length, innermost, start_of, schema_at};
-ghost use Rattle.schema_reports.specs.KeywordViews.{draft_of};
-ghost use Rattle.schema_node.specs.ResolverViews.{place_of, found_of};
-ghost use Rattle.schema_compiler.specs.Carried.{resolver_parts};
+//! How much of a pointer lies outside the resource of the target that it leads to.
+ghost use Rattle.std.specs.Prelude.{◌≡◌, IfOk};
+ghost use Rattle.schema_reports.specs.Plan.{lies_in, resource_depth, segment_count, segments_length, start_of};
+ghost use Rattle.schema_node.specs.ResolverViews.{found_of, place_of};
+ghost use Rattle.schema_compiler.specs.Compiling.{resolving_parts};
 
-use crate::compiler::given::Given;
+use crate::compiler::context::Context;
 use schema_node::context::resolver::{Resolver, Target};
-use schema_node::context::schema_place::{SchemaPath, SchemaPlace};
-use schema_reports::keywords::Draft;
+use schema_node::context::schema_place::SchemaPlace;
 use schema_reports::location::{Location, OutOfMemory};
-use std::alloc::Global;
 
 // How many segments a pointer has.
 fn segment_count(location: &str) -> usize
@@ -37,87 +34,42 @@ fn segments_length(count: usize, location: &str) -> usize
     size
 }
 
-// The place that a pointer with so many segments counts from.
-fn counts_from(
-    alloc: Global,
-    place: &SchemaPlace,
-    segments: usize,
-) -> Result<SchemaPlace, OutOfMemory>
-    ensures from { IfOk result (λ p. place_of p ≡ record {
-      document = place.now.document;
-      path = take (length place.now.path - segments) place.now.path;
-    }) }
+// Whether a place is another, or lies below it.
+fn lies_in(place: &SchemaPlace, outer: &SchemaPlace) -> bool
+    ensures lies { result ≡ lies_in (place_of place.now) (place_of outer.now) }
 {
-    let kept = place.path.len().saturating_sub(segments);
-    Ok(SchemaPlace {
-        document: place.document,
-        path: place.path.first(alloc, kept)?,
-    })
+    place.document == outer.document && outer.path.is_prefix_of(&place.path)
 }
 
-// The next place inwards, where it has an identifier, or else the one that is given.
-fn nearer_place(
-    has_id: bool,
-    next: &SchemaPlace,
-    given: SchemaPlace,
-) -> Result<SchemaPlace, OutOfMemory>
-    ensures nearer { IfOk result (λ p. place_of p ≡
-        (if has_id then place_of next.now else place_of given)) }
-{
-    if has_id { next.clone() } else { Ok(given) }
-}
-
-impl<'p, R: Resolver, T> Given<'p, R, T> {
-    // The innermost subresource with an identifier on the way from a place down to a path; else the place itself.
-    fn innermost_place(
+impl<'p, 'c, R: Resolver> Context<'p, 'c, R> {
+    // How far the root of the target's resource lies below the place that a pointer with so many segments counts from, where
+    // the target lies in that resource; else 0.
+    fn resource_depth(
         &self,
-        draft: Draft,
-        from: &SchemaPlace,
-        path: &SchemaPath,
-    ) -> Result<SchemaPlace, OutOfMemory>
-        ensures inner { IfOk result (λ p. place_of p ≡
-            innermost (resolver_parts R.resolving self.now) (suc (length path.now)) (draft_of draft)
-            (place_of from.now) path.now (place_of from.now)) }
+        target: &Target<R::State>,
+        segments: usize,
+    ) -> Result<usize, OutOfMemory>
+        ensures depth { IfOk result (λ n. n ≡ resource_depth
+            (resolving_parts (R.resolving self.now.resolver.now)) (found_of R.point target.now) segments) }
     {
-        let mut depth = path.len();
-        let mut inner_draft = draft;
-        let mut place = from.clone()?;
-        let mut given = from.clone()?;
-        loop {
-            match self
-                .resolver
-                .subresource_on_way(self.alloc, inner_draft, &place, path)?
-            {
-                None => return Ok(given),
-                Some(next) => {
-                    let value = self.resolver.value(&next);
-                    inner_draft = self.detected(inner_draft, value);
-                    let has_id = self.identifies(inner_draft, value);
-                    given = nearer_place(has_id, &next, given)?;
-                    place = next;
-                }
-            }
-            if depth == 0 {
-                return Ok(given);
-            }
-            depth -= 1;
+        let root = self.resolver.resource_root(self.alloc, &target.state)?;
+        if !lies_in(&target.place, &root) {
+            return Ok(0);
         }
+        let from = target.place.path.len().saturating_sub(segments);
+        Ok(root.path.len().saturating_sub(from))
     }
 
-    /// The length of a pointer's part up to the innermost subresource with an identifier that it passes into.
+    /// The length of a pointer's part that lies outside the target's resource.
     pub(crate) fn start_of_target(
         &self,
-        draft: Draft,
         target: &Target<R::State>,
         location: &Location,
     ) -> Result<usize, OutOfMemory>
-        ensures start { IfOk result (λ n. n ≡ start_of (resolver_parts R.resolving self.now)
-            (draft_of draft) (found_of R.point target.now) location.now) }
+        ensures start { IfOk result (λ n. n ≡ start_of (resolving_parts (R.resolving self.now.resolver.now))
+            (found_of R.point target.now) location.now) }
     {
-        let from = counts_from(self.alloc, &target.place, segment_count(location.as_str()))?;
-        let inner_draft = self.detected(draft, self.resolver.value(&from));
-        let inner = self.innermost_place(inner_draft, &from, &target.place.path)?;
-        let segments = inner.path.len().saturating_sub(from.path.len());
-        Ok(segments_length(segments, location.as_str()))
+        let depth = self.resource_depth(target, segment_count(location.as_str()))?;
+        Ok(segments_length(depth, location.as_str()))
     }
 }

@@ -1,7 +1,7 @@
 //! Building a validator.
 ghost use Rattle.std.specs.Prelude.{IfOk, IfErr};
 ghost use Rattle.serde_json.specs.View.{view};
-ghost use Rattle.schema_engine.specs.Called.{IsCompiledFrom, MeansPlainly, SchemaBuilds, SchemaRefused};
+ghost use Rattle.schema_engine.specs.Called.{IsCompiledFrom, MeansPlainly, PointsPlainly, SchemaBuilds, SchemaRefused};
 ghost use Rattle.schema_engine.specs.Handed.{handed};
 
 use crate::compiled::of_compiled;
@@ -21,7 +21,8 @@ use std::alloc::Global;
 impl ValidationOptions {
     /// Builds a validator of a schema. The resolver has to have the schema as the document under the root's base: that is
     /// what is compiled, and what the contract speaks of. Where no chain of references returns, the validator means the plain
-    /// meaning of schema and parts.
+    /// meaning of schema and parts. Returns or none, each error that it gives points at a keyword of the schema and at a value
+    /// inside the instance.
     ///
     /// # Errors
     ///
@@ -36,6 +37,9 @@ impl ValidationOptions {
         matcher: &M,
     ) -> Result<Validator<K, M>, BuildError>
         ensures means { IfOk result (λ v. MeansPlainly
+            (handed S.Resolver T.KeywordTable K.Validate M.Matcher.own resolver.now table.now matcher.now)
+            self.now (view schema.now) v) }
+        ensures points { IfOk result (λ v. PointsPlainly
             (handed S.Resolver T.KeywordTable K.Validate M.Matcher.own resolver.now table.now matcher.now)
             self.now (view schema.now) v) }
         ensures program { IfOk result (λ v. IsCompiledFrom

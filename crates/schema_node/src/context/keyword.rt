@@ -32,34 +32,30 @@ pub enum Below<'s> {
     NameOf(&'s str),
 }
 
-/// What a maker may have a number reserved for.
-#[derive(Clone, Copy, PartialEq, Eq)]
-pub enum PendingKind {
-    Properties,
-    Items,
-}
-
-/// What a run marks: a child by the number of its request, or the number that the maker got for a kind.
+/// What a run marks: a child, or a number that the maker had reserved, each by the number of the maker's request. Two
+/// reservations are two, also where they are for one purpose.
 #[derive(Clone, Copy)]
 pub enum Marked {
     Child(usize),
-    Pending(PendingKind),
+    Reservation(usize),
 }
 
-/// Where something of a keyword is: a path from it on, or from one that it absorbs, and steps below its place.
-#[derive(Clone, Copy)]
+/// Where a match of a keyword is that is not asked for at the keyword itself: a path from it on, or from one that it absorbs,
+/// and steps below its place. `pattern` is the schema's own.
+#[derive(Drop)]
 pub struct Spot<'s> {
-    pub absorbed: Option<&'s str>,
-    pub path: &'s str,
-    pub below: &'s [InstanceStep<'s>],
+    pub absorbed: Option<String>,
+    pub path: String,
+    pub below: Vec<InstanceStep<'s>>,
+    pub pattern: Option<String>,
 }
 
-/// Where a match is asked for; `located` says that evaluation path and place are shown, `pattern` is the schema's own.
+/// Where a match is asked for: at the keyword itself, for a pattern that is the schema's own, or at a spot. The truth value
+/// says that evaluation path and place are shown. A point is two words long, so that a step is short.
 #[derive(Clone, Copy)]
-pub struct MatchPoint<'s> {
-    pub spot: Spot<'s>,
-    pub located: bool,
-    pub pattern: Option<&'s str>,
+pub enum MatchPoint<'s> {
+    AtKeyword(bool),
+    AtSpot(bool, &'s Spot<'s>),
 }
 
 /// What a turn asks for. A child is named by the number of the request that the keyword's maker made.
@@ -133,14 +129,17 @@ pub trait Validate: Drop {
 
     ghost remaining: { Self.Shape → Subject → (Self.Run × spec.Answer) → ℕ };
 
+    // which states a run on an instance can be in, with the answer so far, whatever was replied
+    ghost can_be: { Bool → Self.Shape → Subject → (Self.Run × spec.Answer) → Type 0 };
+
     ghost ends: { Bool → Self.Shape → Standing (Self.Run × spec.Answer) → spec.Answer };
 
     ghost fits: { Bool → Self.Shape → Standing (Self.Run × spec.Answer) → Type 0 };
 
-    /// Begins a run. The answer begins as accepted, with no errors.
+    /// Begins a run. The answer begins as accepted, with no errors, and is of the run's mode.
     fn begin(&self, alloc: Global, instance: Instance, mode: Mode) -> Result<Self::Run, OutOfMemory>
         ensures begins { IfOk result (λ run. (texts : Bool)
-            → (words texts).begin (shape self.now) (subject_of instance.entry) (mode_of mode) ≡ (run, fresh)) };
+            → (words texts).begin (shape self.now) (subject_of instance.entry) (mode_of mode) ≡ (run, fresh (mode_of mode))) };
 
     /// Takes a turn, with what the turn before asked for. An error that it passes on borrows its place as the reply's did.
     fn turn<'s, 'i: 's>(
@@ -165,7 +164,7 @@ pub trait Validate: Drop {
     ghost answers: { (texts : Bool) (run : Self.Run) (a : spec.Answer) → (words texts).answer (run, a) ≡ a };
 
     ghost turn_laws: { (texts : Bool) (m : Self.Shape)
-        → TurnLaws (words texts) m (absorbed m) (remaining m) (ends texts m) (fits texts m) };
+        → TurnLaws (words texts) m (absorbed m) (remaining m) (can_be texts m) (ends texts m) (fits texts m) };
 
     ghost function_laws: { (texts : Bool) (m : Self.Shape) → FunctionLaws (words texts) m (absorbed m) };
 }

@@ -1,16 +1,17 @@
 //! The resolver, which answers what references and identifiers lead to.
 ghost use Rattle.std.specs.Prelude.{◌≡◌, ◌↔◌, true, Some, None, Ok, IfOk, MatchResult};
-ghost use Rattle.std.specs.Prelude.{find, is_some, length, map, option_map, take};
-ghost use Rattle.serde_json.specs.View.{view};
+ghost use Rattle.std.specs.Prelude.{is_some, map, option_map, string_bytes};
+ghost use Rattle.serde_json.specs.Data.{object};
+ghost use Rattle.serde_json.specs.View.{members_view, view};
+ghost use Rattle.schema_reports.specs.Drafts as schemas;
 ghost use Rattle.schema_reports.specs.Resolving as spec;
-ghost use Rattle.schema_reports.specs.Instance.{same_place};
 ghost use Rattle.schema_reports.specs.KeywordViews.{draft_of};
 ghost use Rattle.schema_node.specs.ResolverViews.{place_of, entrance_of, found_of, Refuses, IsInside};
 
 use crate::context::schema_place::{SchemaPath, SchemaPlace};
 use schema_reports::keywords::{Draft, VocabularySet};
 use schema_reports::location::OutOfMemory;
-use serde_json::Value;
+use serde_json::{Map, Value};
 use std::alloc::{AllocError, AllocFailed, Global};
 use std::hash::Hash;
 
@@ -49,22 +50,6 @@ impl<T: Drop> From<AllocFailed<T>> for LookupError {
     }
 }
 
-// The first of these places that lies on the way to a path.
-fn first_on_way(
-    places: &[SchemaPlace],
-    path: &SchemaPath,
-) -> Result<Option<SchemaPlace>, OutOfMemory>
-    ensures first { IfOk result (λ o. option_map place_of o
-        ≡ find (λ q. same_place q.path (take (length q.path) path.now)) (map place_of places.now)) }
-{
-    for place in places {
-        if place.path.is_prefix_of(path) {
-            return Ok(Some(place.clone()?));
-        }
-    }
-    Ok(None)
-}
-
 /// Everything that the engine asks about documents. Each answer is a function of the arguments; what a state is apart
 /// from its representation is its point, and equal states have one point.
 pub trait Resolver {
@@ -91,6 +76,22 @@ pub trait Resolver {
     /// The value at a place.
     fn value(&self, place: &SchemaPlace) -> Option<&Value>
         ensures value { option_map (λ v. view v.now) result ≡ (resolving self.now).value (place_of place.now) };
+
+    /// The value at a place that lies at a path below a schema's own, where the schema is an object with these members. It is
+    /// asked for each subschema: a resolver that finds the value from the members gives its own body.
+    fn value_below<'v>(
+        &'v self,
+        _members: &'v Map<String, Value>,
+        _path: &SchemaPath,
+        place: &SchemaPlace,
+    ) -> Option<&'v Value>
+        ensures value { (outer : schemas.SchemaPlace) →
+            place_of place.now ≡ schemas.at_path outer _path.now →
+            (resolving self.now).value outer ≡ Some (object (members_view _members.now.entries)) →
+            option_map (λ v. view v.now) result ≡ (resolving self.now).value (place_of place.now) }
+    {
+        self.value(place)
+    }
 
     /// Where a reference leads; `dynamic` says that it is a `$dynamicRef`.
     fn lookup(
@@ -126,11 +127,41 @@ pub trait Resolver {
             (λ s. (resolving self.now).in_subresource (point state.now) (draft_of draft) (place_of place.now) ≡ Ok (point s))
             (Refuses ((resolving self.now).in_subresource (point state.now) (draft_of draft) (place_of place.now))) };
 
+    /// The state inside a subschema, whose value was read at its place. It is asked for each subschema: a resolver that finds
+    /// the state from the value gives its own body.
+    fn in_subresource_read(
+        &self,
+        alloc: Global,
+        state: &Self::State,
+        draft: Draft,
+        place: &SchemaPlace,
+        _value: Option<&Value>,
+    ) -> Result<Self::State, LookupError>
+        ensures inside { option_map (λ v. view v.now) _value.entry ≡ (resolving self.now).value (place_of place.now) →
+            MatchResult result
+            (λ s. (resolving self.now).in_subresource (point state.now) (draft_of draft) (place_of place.now) ≡ Ok (point s))
+            (Refuses ((resolving self.now).in_subresource (point state.now) (draft_of draft) (place_of place.now))) }
+    {
+        self.in_subresource(alloc, state, draft, place)
+    }
+
+    /// The URI that a reference stands for. Its fragment tells where in its resource the target is looked for.
+    fn resolve_uri(
+        &self,
+        alloc: Global,
+        state: &Self::State,
+        reference: &str,
+    ) -> Result<String, LookupError>
+        ensures uri { MatchResult result
+            (λ t. (resolving self.now).resolve_uri (point state.now) reference.now ≡ Ok (string_bytes t))
+            (Refuses ((resolving self.now).resolve_uri (point state.now) reference.now)) };
+
     /// The base URI.
     fn base_uri<'s>(&self, state: &'s Self::State) -> &'s str
         ensures uri { result.now ≡ (resolving self.now).base_uri (point state.now) };
 
-    /// Where the state's resource begins.
+    /// Where the state's resource begins: the schema with the identifier that the state is read under, or the document's root.
+    /// Locations inside a reference's target count from there, where the target lies in it.
     fn resource_root(&self, alloc: Global, state: &Self::State) -> Result<SchemaPlace, OutOfMemory>
         ensures root { IfOk result (λ p. place_of p ≡ (resolving self.now).resource_root (point state.now)) };
 
@@ -168,23 +199,6 @@ pub trait Resolver {
     ) -> Result<Vec<SchemaPlace>, OutOfMemory>
         ensures places { IfOk result (λ ps. map place_of ps.items
             ≡ (resolving self.now).subresources_of (draft_of draft) (place_of place.now)) };
-
-    /// The first subschema, in order, of the schema at a place that lies on the way down to a path. It is asked for each
-    /// subschema on the way to a reference's target: a resolver that finds it without listing them all gives its own body.
-    fn subresource_on_way(
-        &self,
-        alloc: Global,
-        draft: Draft,
-        place: &SchemaPlace,
-        path: &SchemaPath,
-    ) -> Result<Option<SchemaPlace>, OutOfMemory>
-        ensures first { IfOk result (λ o. option_map place_of o
-            ≡ find (λ q. same_place q.path (take (length q.path) path.now))
-            ((resolving self.now).subresources_of (draft_of draft) (place_of place.now))) }
-    {
-        let below = self.subresources_of(alloc, draft, place)?;
-        first_on_way(below.as_slice(), path)
-    }
 
     /// Whether the draft knows a keyword of this name.
     fn is_known_keyword(&self, draft: Draft, name: &str) -> bool

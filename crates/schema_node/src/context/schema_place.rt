@@ -178,8 +178,9 @@ impl SchemaPath {
     pub fn first(&self, alloc: Global, count: usize) -> Result<SchemaPath, OutOfMemory>
         ensures first { IfOk result (λ p. p ≡ take count self.now) }
     {
-        let mut steps = Vec::new(alloc);
-        push_steps(&mut steps, first_steps(self.steps.as_slice(), count))?;
+        let kept = first_steps(self.steps.as_slice(), count);
+        let mut steps = Vec::with_capacity(alloc, kept.len())?;
+        push_steps(&mut steps, kept)?;
         Ok(SchemaPath { steps })
     }
 
@@ -187,8 +188,9 @@ impl SchemaPath {
     pub fn after(&self, alloc: Global, count: usize) -> Result<SchemaPath, OutOfMemory>
         ensures rest { IfOk result (λ p. p ≡ drop count self.now) }
     {
-        let mut steps = Vec::new(alloc);
-        push_steps(&mut steps, later_steps(self.steps.as_slice(), count))?;
+        let kept = later_steps(self.steps.as_slice(), count);
+        let mut steps = Vec::with_capacity(alloc, kept.len())?;
+        push_steps(&mut steps, kept)?;
         Ok(SchemaPath { steps })
     }
 
@@ -196,7 +198,8 @@ impl SchemaPath {
     pub fn append(&self, alloc: Global, rest: &SchemaPath) -> Result<SchemaPath, OutOfMemory>
         ensures appended { IfOk result (λ p. p ≡ self.now ++ rest.now) }
     {
-        let mut steps = Vec::new(alloc);
+        let count = self.steps.len().saturating_add(rest.steps.len());
+        let mut steps = Vec::with_capacity(alloc, count)?;
         push_steps(&mut steps, self.steps.as_slice())?;
         push_steps(&mut steps, rest.steps.as_slice())?;
         Ok(SchemaPath { steps })
@@ -230,7 +233,7 @@ impl Clone for SchemaPath {
 
     /// Returns a clone of the path. Fails only if memory cannot be allocated.
     fn clone(&self) -> Result<SchemaPath, AllocError> {
-        let mut steps = Vec::new(*self.steps.allocator());
+        let mut steps = Vec::with_capacity(*self.steps.allocator(), self.steps.len())?;
         push_steps(&mut steps, self.steps.as_slice())?;
         Ok(SchemaPath { steps })
     }

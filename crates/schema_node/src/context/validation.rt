@@ -1,5 +1,5 @@
 //! What a run has in progress, and what it assumes and remembers of unfinished matches.
-ghost use Rattle.std.specs.Prelude.{◌≡◌, ◌++◌, ◌∷◌, [], IfOk, IfErr, OnErr, OnOk};
+ghost use Rattle.std.specs.Prelude.{◌≡◌, ◌≤◌, ◌++◌, ◌∷◌, [], All, IfOk, IfErr, OnErr, OnOk, length};
 ghost use Rattle.std.specs.List.{list_any};
 ghost use Rattle.std.specs.Prelude.{◌==◌};
 ghost use Rattle.schema_reports.specs.Matching.{assumed};
@@ -16,11 +16,13 @@ use schema_reports::unfinished_matches::{Match, MatchAssumptions, MatchSite, Rea
 use std::alloc::Global;
 use std::marker::Model;
 
-/// A node that is asked about the instance at a place, until it has answered.
+/// A node that is asked about the instance at a place, until it has answered; and the number of steps of the longest place
+/// among this one and those of the pairs that were entered before it.
 #[derive(Drop)]
 struct InProgress<'i> {
     node: SchemaNode,
     place: Place<'i>,
+    deepest: usize,
 }
 
 /// The pairs of a node and a place that are in progress, the last entered last, and no pair twice; and what the run
@@ -34,13 +36,13 @@ pub struct ValidationContext<'i> {
 impl<'i> Model for ValidationContext<'i> {
     ghost use Rattle.std.specs.Prelude.{map};
     ghost use Rattle.schema_node.specs.Progress.{Context, Distinct};
-    ghost use Rattle.schema_node.specs.ProgressViews.{pair_of};
+    ghost use Rattle.schema_node.specs.ProgressViews.{pair_of, KnowsDepths};
 
     ghost Value = { Context };
 
     ghost view = { λ c. record { in_progress = map pair_of c.pairs.items; remembered = c.matches } };
 
-    ghost invariant = { λ c. Distinct (map pair_of c.pairs.items) };
+    ghost invariant = { λ c. Distinct (map pair_of c.pairs.items) × KnowsDepths c.pairs.items };
 }
 
 impl<'i> ValidationContext<'i> {
@@ -66,10 +68,29 @@ impl<'i> ValidationContext<'i> {
         self.matches
     }
 
+    // The number of steps of a longest place in progress, or 0 if nothing is in progress.
+    fn deepest(&self) -> usize
+        ensures covers { All (λ e. length e.1 ≤ result) self.now.in_progress }
+    {
+        match self.pairs.last() {
+            Some(pair) => pair.deepest,
+            None => 0,
+        }
+    }
+
+    // The pairs are looked through from the last one backwards, until no place that is left is as deep as this one: a run has no
+    // deeper place in progress than the one that it asks about, so it sees only the pairs at that depth.
     fn is_in_progress(&self, node: SchemaNode, place: &Place<'i>) -> bool
         ensures found { result ≡ list_any (λ i. i == node.0) (busy_at place.now self.now.in_progress) }
     {
-        for pair in self.pairs.iter() {
+        let depth = place.len();
+        let mut left = self.pairs.len();
+        while left > 0 {
+            left -= 1;
+            let pair = &self.pairs[left];
+            if pair.deepest < depth {
+                return false;
+            }
             if pair.node == node && pair.place == *place {
                 return true;
             }
@@ -88,7 +109,12 @@ impl<'i> ValidationContext<'i> {
             return Ok(true);
         }
         let place = place.clone()?;
-        self.pairs.push(InProgress { node, place })?;
+        let deepest = self.deepest().max(place.len());
+        self.pairs.push(InProgress {
+            node,
+            place,
+            deepest,
+        })?;
         Ok(false)
     }
 

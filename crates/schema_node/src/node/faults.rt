@@ -29,7 +29,7 @@ use std::alloc::Global;
 
 /// An answer that has found nothing yet.
 pub fn begun<'i>(alloc: Global, mode: Mode) -> Answer<'i>
-    ensures fresh { (texts : Bool) → answer_of texts result ≡ fresh }
+    ensures fresh { (texts : Bool) → answer_of texts result ≡ fresh (mode_of mode) }
     ensures no_faults { faults_in result ≡ [] }
     ensures form { mode_in result ≡ mode_of mode }
 {
@@ -176,14 +176,14 @@ fn errors_by<'i, K>(
 }
 
 // Whether an answer is a yes.
-fn is_accepting(answer: &Answer<'_>) -> bool
-    ensures verdict { (texts : Bool) → result ≡ (answer_of texts answer.now).verdict }
+fn is_accepting(answer: Answer<'_>) -> bool
+    ensures verdict { (texts : Bool) → result ≡ (answer_of texts answer.entry).verdict }
 {
     match answer {
-        Answer::Verdict(yes) => *yes,
+        Answer::Verdict(yes) => yes,
         Answer::First(found) => found.is_none(),
         Answer::All(faults) => faults.is_empty(),
-        Answer::Evaluation(yes, _) => *yes,
+        Answer::Evaluation(yes, _) => yes,
     }
 }
 
@@ -289,7 +289,7 @@ pub fn finished<'i, K>(
         → All (BorrowsItsPlace root) (errors_in r)) }
 {
     match question.mode {
-        Mode::Verdict => Ok(Reply::Truth(is_accepting(&answer))),
+        Mode::Verdict => Ok(Reply::Truth(is_accepting(answer))),
         Mode::First => first_finished(alloc, node, name, question, answer),
         Mode::All => all_finished(alloc, node, name, question, answer),
         Mode::Evaluate => Ok(Reply::Nothing),

@@ -1,6 +1,6 @@
 //! A match that a keyword asks for.
-ghost use Rattle.std.specs.Prelude.{◌≡◌, IfOk, OnOk, map, string_bytes};
-ghost use Rattle.schema_reports.specs.InstanceViews.{step_of, subject_of};
+ghost use Rattle.std.specs.Prelude.{◌≡◌, IfOk, OnOk, string_bytes};
+ghost use Rattle.schema_reports.specs.InstanceViews.{subject_of};
 ghost use Rattle.schema_reports.specs.Laws.{IsPresent};
 ghost use Rattle.schema_reports.specs.Runs.{site_at};
 ghost use Rattle.schema_node.specs.KeywordViews.{point_of};
@@ -18,6 +18,8 @@ use schema_reports::location::OutOfMemory;
 use schema_reports::unfinished_matches::Match;
 
 /// How a match that a keyword of the node asks for comes out. Its site is made only where the matcher leaves it unfinished.
+/// Its room on the stack is its own, so that a turn that asks for none pays nothing.
+#[inline(never)]
 pub fn asked_match<'i, K, M: Matcher>(
     engine: &Engine<'_, K, M>,
     node: &Node<K>,
@@ -28,7 +30,7 @@ pub fn asked_match<'i, K, M: Matcher>(
     point: MatchPoint<'_>,
     context: &mut ValidationContext<'i>,
 ) -> Result<bool, OutOfMemory>
-    requires present { IsPresent (subject_of question.now.instance) (map step_of point.spot.below.now) }
+    requires present { IsPresent (subject_of question.now.instance) (point_of pattern.now point).spot.below }
     ensures answer { IfOk result (λ b. b ≡ comes_out context.old.remembered.assumptions
         (record { pattern = pattern.now; subject = subject.now })
         ((M.matching engine.now.matcher.now).is_match pattern.now subject.now)) }
@@ -36,7 +38,7 @@ pub fn asked_match<'i, K, M: Matcher>(
         (record {
           pair = record { pattern = pattern.now; subject = subject.now };
           site = site_at (where_asked (node_of node.now) (asking question.now))
-              (string_bytes name.now) (point_of point.entry);
+              (string_bytes name.now) (point_of pattern.now point.entry);
         })
         ((M.matching engine.now.matcher.now).is_match pattern.now subject.now)) }
     ensures in_progress { context.new.in_progress ≡ context.old.in_progress }
@@ -44,7 +46,7 @@ pub fn asked_match<'i, K, M: Matcher>(
     match engine.matcher.is_match(engine.alloc, pattern, subject)? {
         Match::Finished(matches) => Ok(matches),
         Match::Unfinished(reason) => {
-            let site = match_site(engine.alloc, node, name, question, point)?;
+            let site = match_site(engine.alloc, node, name, question, pattern, point)?;
             Ok(context.resolve(pattern, subject, reason, site)?)
         }
     }

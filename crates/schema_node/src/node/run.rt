@@ -66,17 +66,19 @@ fn child_edge(children: &[Option<Edge>], child: usize) -> Option<&Edge>
     }
 }
 
-// Whether an entry is asked for its verdict before it is asked for errors.
+// Whether an entry is asked for its verdict before it is asked for errors. An evaluation asks for the units at once.
 fn asks_verdict_first<K>(entry: &Entry<K>, mode: Mode) -> bool
     ensures leaf { result ≡ true → entry.now.is_leaf ≡ true }
     ensures wants_more { result ≡ true → ¬ (mode_of mode ≡ for_verdict) }
-    ensures other { result ≡ false → ¬ (mode_of mode ≡ for_verdict) → entry.now.is_leaf ≡ false }
+    ensures wants_errors { result ≡ true → ¬ (mode_of mode ≡ for_units) }
+    ensures other { result ≡ false → ¬ (mode_of mode ≡ for_verdict) → ¬ (mode_of mode ≡ for_units)
+        → entry.now.is_leaf ≡ false }
 {
     match mode {
         Mode::Verdict => false,
         Mode::First => entry.is_leaf,
         Mode::All => entry.is_leaf,
-        Mode::Evaluate => entry.is_leaf,
+        Mode::Evaluate => false,
     }
 }
 

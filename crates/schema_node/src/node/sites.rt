@@ -1,49 +1,105 @@
 //! Where a match is asked for.
-ghost use Rattle.std.specs.Prelude.{◌≡◌, IfOk, map, string_bytes};
+ghost use Rattle.std.specs.Prelude.{◌≡◌, IfOk, None, map, option_map, string_bytes};
 ghost use Rattle.schema_reports.specs.InstanceViews.{step_of, subject_of};
 ghost use Rattle.schema_reports.specs.Laws.{IsPresent};
 ghost use Rattle.schema_reports.specs.Runs.{site_at};
-ghost use Rattle.schema_node.specs.KeywordViews.{point_of};
+ghost use Rattle.schema_node.specs.KeywordViews.{point_of, spot_of};
 ghost use Rattle.schema_node.specs.RunStates.{asking, where_asked};
 ghost use Rattle.schema_node.specs.NodeViews.{node_of};
 
-use crate::context::keyword::MatchPoint;
+use crate::context::keyword::{MatchPoint, Spot};
 use crate::node::Node;
 use crate::node::question::Question;
 use crate::node::spots::{own_steps, path_from, place_below};
+use schema_reports::instance::InstanceStep;
 use schema_reports::location::OutOfMemory;
 use schema_reports::unfinished_matches::MatchSite;
 use std::alloc::Global;
 
-/// The site of a match that a keyword of the node asks for. Its room on the stack is its own.
-#[inline(never)]
+// The site at a path from a keyword of this name on and steps below its place, without a pattern.
+fn bare_site<'i, K>(
+    alloc: Global,
+    node: &Node<K>,
+    name: &str,
+    question: &Question<'_, 'i>,
+    located: bool,
+    path: &str,
+    below: &[InstanceStep<'_>],
+) -> Result<MatchSite<'i>, OutOfMemory>
+    requires present { IsPresent (subject_of question.now.instance) (map step_of below.now) }
+    ensures site { IfOk result (λ s. s
+        ≡ site_at (where_asked (node_of node.now) (asking question.now)) name.now (record {
+          spot = record { absorbed = None; path = path.now; below = map step_of below.now };
+          located = located;
+          pattern = None;
+        })) }
+{
+    let schema_path = path_from(alloc, &node.location, name, path)?;
+    if located {
+        let evaluation_path = path_from(alloc, &question.path.made(alloc)?, name, path)?;
+        let own = own_steps(alloc, question.instance, below)?;
+        let place = place_below(question.place, own.as_slice())?;
+        return Ok(MatchSite::located(schema_path, evaluation_path, place));
+    }
+    Ok(MatchSite::schema(schema_path))
+}
+
+// The site of a match that is asked for at a spot.
+fn spot_site<'i, K>(
+    alloc: Global,
+    node: &Node<K>,
+    name: &String,
+    question: &Question<'_, 'i>,
+    located: bool,
+    spot: &Spot<'_>,
+) -> Result<MatchSite<'i>, OutOfMemory>
+    requires present { IsPresent (subject_of question.now.instance) (map step_of spot.now.below.items) }
+    ensures site { IfOk result (λ s. s
+        ≡ site_at (where_asked (node_of node.now) (asking question.now)) (string_bytes name.now) (record {
+          spot = spot_of spot.now;
+          located = located;
+          pattern = option_map string_bytes spot.now.pattern;
+        })) }
+{
+    let name = match &spot.absorbed {
+        Some(absorbed) => absorbed.as_str(),
+        None => name.as_str(),
+    };
+    let path = spot.path.as_str();
+    let site = bare_site(
+        alloc,
+        node,
+        name,
+        question,
+        located,
+        path,
+        spot.below.as_slice(),
+    )?;
+    match &spot.pattern {
+        Some(pattern) => Ok(site.pattern(alloc, pattern.as_str())?),
+        None => Ok(site),
+    }
+}
+
+/// The site of a match of this pattern that a keyword of the node asks for.
 pub fn match_site<'i, K>(
     alloc: Global,
     node: &Node<K>,
     name: &String,
     question: &Question<'_, 'i>,
+    pattern: &str,
     point: MatchPoint<'_>,
 ) -> Result<MatchSite<'i>, OutOfMemory>
-    requires present { IsPresent (subject_of question.now.instance) (map step_of point.spot.below.now) }
+    requires present { IsPresent (subject_of question.now.instance) (point_of pattern.now point).spot.below }
     ensures site { IfOk result (λ s. s
         ≡ site_at (where_asked (node_of node.now) (asking question.now))
-        (string_bytes name.now) (point_of point.entry)) }
+        (string_bytes name.now) (point_of pattern.now point.entry)) }
 {
-    let name = match point.spot.absorbed {
-        Some(absorbed) => absorbed,
-        None => name.as_str(),
-    };
-    let schema_path = path_from(alloc, &node.location, name, point.spot.path)?;
-    let site = if point.located {
-        let evaluation_path = path_from(alloc, &question.path.made(alloc)?, name, point.spot.path)?;
-        let own = own_steps(alloc, question.instance, point.spot.below)?;
-        let place = place_below(question.place, own.as_slice())?;
-        MatchSite::located(schema_path, evaluation_path, place)
-    } else {
-        MatchSite::schema(schema_path)
-    };
-    match point.pattern {
-        Some(pattern) => Ok(site.pattern(alloc, pattern)?),
-        None => Ok(site),
+    match point {
+        MatchPoint::AtKeyword(located) => {
+            let site = bare_site(alloc, node, name.as_str(), question, located, "", &[])?;
+            Ok(site.pattern(alloc, pattern)?)
+        }
+        MatchPoint::AtSpot(located, spot) => spot_site(alloc, node, name, question, located, spot),
     }
 }

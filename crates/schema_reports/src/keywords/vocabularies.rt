@@ -1,7 +1,9 @@
-ghost use Rattle.std.specs.Prelude.{◌≡◌, bytes_eq, map, string_bytes};
+ghost use Rattle.std.specs.Prelude.{◌≡◌, ◌≤◌, ◌++◌, ◌∷◌, MatchOption, OnErr, OnOk, bytes_eq, drop, length, map, string_bytes, take};
 ghost use Rattle.std.specs.List.{list_any};
+ghost use Rattle.schema_reports.specs.VocabularySets.{placed_text};
 
 use std::alloc::{AllocError, Global};
+use std::cmp::Ordering;
 use std::marker::Model;
 
 /// A vocabulary, which a meta-schema asks for: one of the standard's, or another one by its URI.
@@ -19,8 +21,8 @@ pub enum Vocabulary {
     Custom(String),
 }
 
-/// A set of vocabularies: which of the standard's are in it, and the others by their URIs, each once, in the order in
-/// which they came.
+/// A set of vocabularies: which of the standard's are in it, and the others by their URIs, each once, in the order of their
+/// bytes, whatever the order in which they came. So two sets that hold the same vocabularies are one and the same.
 ///
 /// Contracts see it as the list of them, the standard's first.
 #[derive(Debug, Drop)]
@@ -38,9 +40,9 @@ pub struct VocabularySet {
 }
 
 impl Model for VocabularySet {
-    ghost use Rattle.std.specs.Prelude.{List, [], ◌∷◌, map, string_bytes};
+    ghost use Rattle.std.specs.Prelude.{List, [], ◌∷◌, ◌≡◌, map, string_bytes, true};
     ghost use Rattle.schema_reports.specs.Drafts.{Vocabulary};
-    ghost use Rattle.schema_reports.specs.VocabularySets.{listed};
+    ghost use Rattle.schema_reports.specs.VocabularySets.{is_rising, listed};
 
     ghost Value = { List Vocabulary };
 
@@ -48,13 +50,15 @@ impl Model for VocabularySet {
         (s.core ∷ s.applicator ∷ s.unevaluated ∷ s.validation ∷ s.metadata
         ∷ s.format ∷ s.format_annotation ∷ s.format_assertion ∷ s.content ∷ [])
         (map string_bytes s.custom.items) };
+
+    ghost invariant = { λ s. is_rising (map string_bytes s.custom.items) ≡ true };
 }
 
 impl VocabularySet {
-    ghost use Rattle.std.specs.Prelude.{◌≡◌, [], map, IfOk, OnErr, OnOk, string_bytes};
+    ghost use Rattle.std.specs.Prelude.{◌≡◌, ◌↔◌, [], map, IfOk, OnErr, OnOk, string_bytes, true};
     ghost use Rattle.schema_reports.specs.Drafts.{has_vocabulary, same_vocabularies};
     ghost use Rattle.schema_reports.specs.KeywordViews.{vocabulary_of};
-    ghost use Rattle.schema_reports.specs.VocabularySets.{AddsOnly, custom_of, with_uri};
+    ghost use Rattle.schema_reports.specs.VocabularySets.{AddsOnly, HoldSame, custom_of, is_rising, with_uri};
 
     /// Returns the empty set. It allocates nothing.
     pub fn new(alloc: Global) -> VocabularySet
@@ -112,11 +116,7 @@ impl VocabularySet {
             Vocabulary::FormatAnnotation => self.format_annotation = true,
             Vocabulary::FormatAssertion => self.format_assertion = true,
             Vocabulary::Content => self.content = true,
-            Vocabulary::Custom(uri) => {
-                if !contains_text(&self.custom, &uri) {
-                    self.custom.push(uri)?;
-                }
-            }
+            Vocabulary::Custom(uri) => place_text(&mut self.custom, uri)?,
         }
         Ok(())
     }
@@ -135,10 +135,10 @@ impl VocabularySet {
         Ok(set)
     }
 
-    /// Returns `true` if both sets have the same vocabularies, and those that are not the standard's in the same order. It
-    /// allocates nothing.
+    /// Returns `true` if both sets hold the same vocabularies. It allocates nothing.
     pub fn same(&self, other: &VocabularySet) -> bool
         ensures same { result ≡ same_vocabularies self.now other.now }
+        ensures members { (result ≡ true) ↔ HoldSame self.now other.now }
     {
         let own = [
             self.core,
@@ -165,9 +165,10 @@ impl VocabularySet {
         own == others && self.custom == other.custom
     }
 
-    /// Returns the URIs of the vocabularies that are not the standard's, in the order in which they were added.
+    /// Returns the URIs of the vocabularies that are not the standard's, each once, in the order of their bytes.
     pub fn custom(&self) -> &[String]
         ensures custom { map string_bytes result.now ≡ custom_of self.now }
+        ensures rising { is_rising (custom_of self.now) ≡ true }
     {
         &self.custom
     }
@@ -194,4 +195,36 @@ fn contains_text(texts: &[String], text: &String) -> bool
         }
     }
     false
+}
+
+// The position at which the text stands among these, if it comes after those before it; none if it is one of them.
+fn place_among(texts: &[String], text: &str) -> Option<usize>
+    ensures place { MatchOption result
+        (placed_text text.now (map string_bytes texts.now) ≡ map string_bytes texts.now)
+        (λ i. (i ≤ length texts.now) × (placed_text text.now (map string_bytes texts.now)
+        ≡ map string_bytes (take i texts.now) ++ text.now ∷ map string_bytes (drop i texts.now))) }
+{
+    for (i, other) in texts.iter().enumerate() {
+        match text.cmp(other.as_str()) {
+            Ordering::Less => return Some(i),
+            Ordering::Equal => return None,
+            Ordering::Greater => {}
+        }
+    }
+    Some(texts.len())
+}
+
+// Puts the text at its place among texts that rise; they stay as they are where it is one of them, and on `Err`.
+fn place_text(texts: &mut Vec<String>, text: String) -> Result<(), AllocError>
+    ensures placed { OnOk result
+        (map string_bytes texts.new.items ≡ placed_text (string_bytes text) (map string_bytes texts.old.items)) }
+    ensures kept { OnErr result (texts.new.items ≡ texts.old.items) }
+{
+    match place_among(texts, text.as_str()) {
+        Some(at) => {
+            texts.insert(at, text)?;
+            Ok(())
+        }
+        None => Ok(()),
+    }
 }

@@ -4,7 +4,7 @@ ghost use Rattle.std.specs.HashMap.{get};
 ghost use Rattle.schema_reports.specs.HashIndex.{IsIndexed, match_hash};
 ghost use Rattle.schema_reports.specs.Matching.{assumed};
 ghost use Rattle.schema_reports.specs.MatchViews.{reason_of};
-ghost use Rattle.schema_reports.specs.Unfinished.{first_unassumed, is_known, meet, meet_known, or_no, starting};
+ghost use Rattle.schema_reports.specs.Unfinished.{FirstIsNew, first_unassumed, is_known, meet, meet_known, or_no, starting};
 
 use super::located::LocatedMatches;
 use super::positions::{add_position, match_hash};
@@ -204,7 +204,7 @@ impl IndexedOutcomes {
 }
 
 /// What a run assumes of unfinished matches, and what it remembers of those that it meets: the first one that is not assumed,
-/// and for each match the first site with an instance path.
+/// and for each match the first site with an instance path. The first one that is not assumed is never among those assumed.
 #[derive(Drop)]
 pub struct MatchAssumptions<'i> {
     alloc: Global,
@@ -214,11 +214,13 @@ pub struct MatchAssumptions<'i> {
 }
 
 impl<'i> Model for MatchAssumptions<'i> {
-    ghost use Rattle.schema_reports.specs.Unfinished.{Remembered};
+    ghost use Rattle.schema_reports.specs.Unfinished.{FirstIsNew, Remembered};
 
     ghost Value = { Remembered };
 
     ghost view = { λ a. record { assumptions = a.assumed; unassumed = a.unassumed; located = a.located } };
+
+    ghost invariant = { λ a. FirstIsNew (record { assumptions = a.assumed; unassumed = a.unassumed; located = a.located }) };
 }
 
 impl<'i> MatchAssumptions<'i> {
@@ -252,6 +254,7 @@ impl<'i> MatchAssumptions<'i> {
         ensures assumed { result.0 ≡ self.entry.assumptions }
         ensures unassumed { result.1 ≡ self.entry.unassumed }
         ensures located { result.2.items ≡ self.entry.located }
+        ensures is_new { FirstIsNew self.entry }
     {
         (
             self.assumed.into_outcomes(),

@@ -1,7 +1,8 @@
 //! The search over what unfinished matches may come out as.
 ghost use Rattle.std.specs.Prelude.{[], IfOk, IsSome, None, Ok, Some, false, true, ◌++◌, ◌∷◌, ◌≡◌, ◌≤◌};
 ghost use Rattle.schema_reports.specs.Cover.{assuming};
-ghost use Rattle.schema_reports.specs.Unfinished.{Failure, located_by, starting};
+ghost use Rattle.schema_reports.specs.Search.{UsesBelow};
+ghost use Rattle.schema_reports.specs.Unfinished.{Failure, FirstIsNew, located_by, starting};
 ghost use Rattle.schema_reports.specs.Outcomes.{AreOutcomes};
 
 use super::assumptions::{AssumedOutcomes, MatchAssumptions};
@@ -64,6 +65,7 @@ fn begin<'i>(
     ensures pending { (u : Failure) → first.entry.unassumed ≡ Some u → IfOk result (λ r. r.0.items
         ≡ assuming u.met true first.entry.assumptions ∷ assuming u.met false first.entry.assumptions ∷ []) }
     ensures failure { (u : Failure) → first.entry.unassumed ≡ Some u → IfOk result (λ r. r.1 ≡ located_by u first.entry.located) }
+    ensures is_new { FirstIsNew first.entry }
 {
     let (assumed, unassumed, located) = first.into_parts();
     let mut failure = unassumed.unwrap();
@@ -88,6 +90,7 @@ fn take_met<'i>(
 ) -> Option<MatchFailure<'i>>
     ensures unassumed { result ≡ met.entry.unassumed }
     ensures located { failure.new ≡ located_by failure.old met.entry.located }
+    ensures is_new { FirstIsNew met.entry }
 {
     let (_, unassumed, located) = met.into_parts();
     failure.locate(located);
@@ -107,6 +110,7 @@ fn run_from<
     requires callable { F.IsAlwaysCallable run.old }
     ensures callable { F.IsAlwaysCallable run.new }
     ensures made { IfOk result (λ r. F.step run.old (starting outcomes.now) (Ok r) run.new) }
+    ensures used { UsesBelow 2 F.step run.old run.new }
 {
     let start = outcomes.start(alloc)?;
     run(start)
@@ -123,6 +127,7 @@ fn take<'i, T: Drop>(
     failure: &mut MatchFailure<'i>,
 ) -> Result<(), OutOfMemory>
     ensures located { failure.new ≡ located_by failure.old given.entry.0.located }
+    ensures is_new { FirstIsNew given.entry.0 }
     ensures whole { given.entry.0.unassumed ≡ None → IfOk result
         (λ _. (pending.new.items ≡ pending.old.items) × (results.new.items ≡ results.old.items ++ given.entry.1 ∷ [])) }
     ensures branches { (u : Failure) → given.entry.0.unassumed ≡ Some u → IfOk result
@@ -145,8 +150,9 @@ fn take<'i, T: Drop>(
     }
 }
 
-// Makes the runs that the unfinished matches call for, at most so many. The first run has been made, and met one.
-fn assume_within<
+/// Makes the runs that the unfinished matches call for, at most so many, the first one among them, also where it fails. The first
+/// run has been made, and met such a match. Fails if a run fails, or if memory cannot be allocated.
+pub fn assume_within<
     'i,
     T: Drop,
     F: FnMut(MatchAssumptions<'i>) -> Result<(MatchAssumptions<'i>, T), OutOfMemory>,
@@ -161,6 +167,7 @@ fn assume_within<
     requires limit { 1 ≤ run_limit }
     ensures outcomes { IfOk result
         (AreOutcomes (λ s x m t end. F.step s x (Ok (m, t)) end) first.entry run.old run_limit) }
+    ensures uses { UsesBelow run_limit F.step run.old run.new }
 {
     let (mut pending, mut failure) = begin(alloc, first)?;
     let mut results = Vec::new(alloc);
@@ -197,23 +204,24 @@ fn assume_within<
 }
 
 /// Runs once for each combination of outcomes of the unfinished matches, and returns the results, or `Undecided` after
-/// `MAX_ASSUMED_RUNS` runs. The first run has been made, and met such a match. Fails if a run fails, or if memory cannot be
-/// allocated.
+/// `MAX_ASSUMED_RUNS` runs, the first one among them, also where it fails. The first run has been made, and met such a match. Fails if
+/// a run fails, or if memory cannot be allocated.
 pub fn assume_each_outcome<
     'i,
     T: Drop,
     F: FnMut(MatchAssumptions<'i>) -> Result<(MatchAssumptions<'i>, T), OutOfMemory>,
 >(
     alloc: Global,
-    mut run: F,
+    run: &mut F,
     first: (MatchAssumptions<'i>, T),
 ) -> Result<Outcomes<'i, T>, OutOfMemory>
-    requires callable { F.IsAlwaysCallable run }
+    requires callable { F.IsAlwaysCallable run.old }
     requires met { IsSome first.0.unassumed }
     ensures outcomes { IfOk result
-        (AreOutcomes (λ s x m t end. F.step s x (Ok (m, t)) end) first.entry.0 run MAX_ASSUMED_RUNS) }
+        (AreOutcomes (λ s x m t end. F.step s x (Ok (m, t)) end) first.entry.0 run.old MAX_ASSUMED_RUNS) }
+    ensures uses { UsesBelow MAX_ASSUMED_RUNS F.step run.old run.new }
 {
     let (first, result) = first;
     drop(result);
-    assume_within(alloc, &mut run, first, MAX_ASSUMED_RUNS)
+    assume_within(alloc, run, first, MAX_ASSUMED_RUNS)
 }

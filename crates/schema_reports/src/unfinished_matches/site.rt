@@ -361,7 +361,8 @@ fn failure_text(
     reason_text(alloc, reason, shown)
 }
 
-// The error with this text at this site; its instance is what stands at its place.
+// The error with this text at this site; its place is the one that the site's pointer leads to, and its instance is what
+// stands there.
 fn error_at<'i>(
     alloc: Global,
     root: &'i Value,
@@ -380,6 +381,7 @@ fn error_at<'i>(
     } = site;
     drop(pattern);
     let (evaluation_path, place) = place_or_root(alloc, located, &schema_path)?;
+    let place = place.shown();
     let instance = at_or_root(root, &place);
     Ok(ValidationError {
         instance,
@@ -393,7 +395,7 @@ fn error_at<'i>(
 }
 
 impl<'i> MatchFailure<'i> {
-    /// The failure as an error, whose instance is the one at its place.
+    /// The failure as an error, whose instance is the value at its place.
     pub(super) fn into_error(
         self,
         alloc: Global,

@@ -24,7 +24,7 @@ use std::alloc::Global;
 pub fn validity_under_each<
     'i,
     F: FnMut(MatchAssumptions<'i>) -> Result<(MatchAssumptions<'i>, bool), OutOfMemory>,
->(alloc: Global, run: F, first: (MatchAssumptions<'i>, bool)) -> Result<bool, OutOfMemory>
+>(alloc: Global, mut run: F, first: (MatchAssumptions<'i>, bool)) -> Result<bool, OutOfMemory>
     requires callable { F.IsAlwaysCallable run }
     requires met { IsSome first.0.unassumed }
     ensures says { (v : Sense) (call : Call) → Follows v
@@ -34,7 +34,7 @@ pub fn validity_under_each<
         → IsRunOf v call (λ s x m t end. F.step s x (Ok (m, t)) end) first.entry.0 run (λ (b : Bool). b) (verdict_of v)
         → IfOk result (λ b. (b ≡ true) ↔ (Decides v call × EachAccepts v)) }
 {
-    Ok(validity(assume_each_outcome(alloc, run, first)?))
+    Ok(validity(assume_each_outcome(alloc, &mut run, first)?))
 }
 
 /// Returns the errors that the instance has however the unfinished matches come out; if there is no such error although the
@@ -47,7 +47,7 @@ pub fn errors_under_each<
     ) -> Result<(MatchAssumptions<'i>, Vec<ValidationError<'i>>), OutOfMemory>,
 >(
     alloc: Global,
-    run: F,
+    mut run: F,
     first: (MatchAssumptions<'i>, Vec<ValidationError<'i>>),
     root: &'i Value,
 ) -> Result<Vec<ValidationError<'i>>, OutOfMemory>
@@ -66,6 +66,6 @@ pub fn errors_under_each<
         → IsRunOf v call (λ s x m t end. F.step s x (Ok (m, t)) end) first.entry.0 run none_in (λ m. is_nil (errors_of v m))
         → IfOk result (λ es. GivesErrors v call (λ s x m t end. F.step s x (Ok (m, t)) end) run (view root.now) es.items) }
 {
-    let outcomes = assume_each_outcome(alloc, run, first)?;
+    let outcomes = assume_each_outcome(alloc, &mut run, first)?;
     Ok(errors(alloc, outcomes, root)?)
 }

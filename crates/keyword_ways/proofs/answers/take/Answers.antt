@@ -1,4 +1,4 @@
 use Rattle.keyword_ways.proofs.answers.take.Goals as goal
 
-pub returns-clause-borrows : goal.returns-clause-borrows
-returns-clause-borrows c = λ root errors faults. c.in_ok-answer.ensures.borrows root errors (rw c.replace-before.ensures.value faults)
+pub returns-then-not-holds-clause-borrows : goal.returns-then-not-holds-clause-borrows
+returns-then-not-holds-clause-borrows c = λ root errors faults. c.refuse.ensures.borrows root faults

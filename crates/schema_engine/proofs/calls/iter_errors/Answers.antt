@@ -2,9 +2,6 @@ use Rattle.serde_json.specs.View.{view}
 use Rattle.schema_reports.specs.KeywordTable.{builtin_in}
 use Rattle.schema_engine.specs.Spoken.{ErrorsAnswered}
 use Rattle.schema_engine.specs.Handed.{default_options, table_of}
-use Rattle.std.proofs.Common.{Bool}
-use Rattle.schema_reports.specs.ErrorsLead.{EachKeepsAbsorbing}
-use Rattle.schema_reports.proofs.TurnsGiveRuns.{keeps_of_turns}
 use Rattle.schema_engine.proofs.Pointing.{each_points}
 use Rattle.schema_engine.proofs.PlainAnswers.{plainly_from}
 use Rattle.schema_engine.proofs.calls.iter_errors.Goals as goal
@@ -27,11 +24,9 @@ returns-clause-leads g c =
     let table = table_of (g.T.KeywordTable.owned c.args.table.now) builtin_in (g.T.KeywordTable.script c.args.table.now) in
     let m = g.M.Matcher.matching c.args.matcher.now in
     let k = g.K.Validate in
-    let each : (texts : Bool) → EachKeepsAbsorbing (k.words texts) k.absorbed =
-    λ texts s. keeps_of_turns (k.words texts) s (k.absorbed s) (k.remaining s) (k.ends texts s) (k.fits texts s) (g.met.K.Validate.turn_laws texts s) (g.met.K.Validate.function_laws texts s) in
     let built = c.in_ok-validator.ensures in (
       c.in_ok-validator.validator,
       built.program,
-      each_points r table m k.words default_options (view c.args.schema.now) k.absorbed k.is_whole each (g.met.T.KeywordTable.right c.args.table.now) k.shape g.M.Matcher.matching c.in_ok-validator.validator
-          built.program built.means (view c.args.instance.now) c.in_ok-iter_errors.field-0 c.in_ok-iter_errors.ensures.depth,
+      each_points r table m k.words default_options (view c.args.schema.now) k.shape g.M.Matcher.matching c.in_ok-validator.validator k.is_whole built.means built.points
+          (view c.args.instance.now) c.in_ok-iter_errors.field-0 c.in_ok-iter_errors.ensures.points,
     )

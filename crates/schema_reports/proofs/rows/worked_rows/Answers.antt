@@ -1,5 +1,6 @@
 use Rattle.schema_reports.proofs.rows.worked_rows.Goals as goal
 use Rattle.schema_reports.proofs.WorkedRows as rows
+use Rattle.schema_reports.proofs.FusedRows as fused
 use Rattle.schema_reports.proofs.RowsNumbered.{turning_is_numbered}
 
 pub returns : goal.returns
@@ -23,4 +24,7 @@ returns c = record {
   turning_returns = rows.turning_returns;
   turning_is_numbered = turning_is_numbered;
   turning_is_accepted = rows.turning_is_accepted;
+  fused_has_units = fused.fused_has_units;
+  fused_has_one_error = fused.fused_has_one_error;
+  fused_keeps_units = fused.fused_keeps_units;
 }

@@ -1,4 +1,4 @@
-use Rattle.std.proofs.Common.{true, map, sym, ◌∙◌, ap, subst, inr, arith}
+use Rattle.std.proofs.Common.{Bool, true, map, sym, ◌∙◌, ap, subst, inr, arith}
 use Rattle.std.specs.Prelude.{Ok, option_map, string_bytes}
 use Rattle.std.proofs.lemmas.Option.{slice_get_within}
 use Rattle.std.proofs.lemmas.Result.{err_from_is_err_and}
@@ -12,6 +12,9 @@ use Rattle.schema_compiler.specs.Compilation.{IsCompilation, RefusesRoot, all_pa
 use Rattle.schema_engine.specs.Compiled.{IsCompiled, IsWhole}
 use Rattle.schema_engine.specs.Handed.{Options, parts_of, table_of}
 use Rattle.schema_engine.proofs.Compilations.{compiled_in, compiled_too, reach_in, refuses_in, whole_in, whole_too}
+use Rattle.schema_reports.specs.ErrorsLead.{EachKeepsAbsorbing}
+use Rattle.schema_reports.proofs.TurnsGiveRuns.{keeps_of_turns}
+use Rattle.schema_engine.proofs.Pointing.{points_into}
 use Rattle.schema_engine.proofs.RootKeys.{one_root_key, root_key_of, root_key_too}
 use Rattle.schema_engine.proofs.options.ValidationOptions.build.Goals as goal
 
@@ -94,6 +97,17 @@ returns-clause-program g c =
       drafted = c.in_ok-root.ensures.drafted ∙ ap Ok (sym made.2);
       matcher_is = c.in_ok-validator.ensures.matcher;
     }
+
+pub returns-clause-points : goal.returns-clause-points
+returns-clause-points g c =
+    let r = g.S.Resolver.resolving c.args.resolver.now in
+    let table = table_of (g.T.KeywordTable.owned c.args.table.now) builtin_in (g.T.KeywordTable.script c.args.table.now) in
+    let m = g.M.Matcher.matching c.args.matcher.now in
+    let k = g.K.Validate in
+    let each : (texts : Bool) → EachKeepsAbsorbing (k.words texts) k.absorbed =
+    λ texts s. keeps_of_turns (k.words texts) s (k.absorbed s) (k.remaining s) (k.can_be texts s) (k.ends texts s) (k.fits texts s) (g.met.K.Validate.turn_laws texts s) (g.met.K.Validate.function_laws texts s) in
+    points_into r table m k.words c.args.self.now (view c.args.schema.now) k.shape g.M.Matcher.matching c.in_ok-validator.validator k.absorbed k.is_whole each (g.met.T.KeywordTable.right c.args.table.now)
+    (returns-clause-program g c)
 
 pub returns-clause-built : goal.returns-clause-built
 returns-clause-built g c = λ texts.

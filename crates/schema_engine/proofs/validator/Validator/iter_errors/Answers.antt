@@ -2,12 +2,15 @@ use Rattle.std.proofs.Common.{List, subst, sym}
 use Rattle.std.specs.Prelude.{All}
 use Rattle.serde_json.specs.View.{view}
 use Rattle.schema_reports.specs.Cover.{Sense}
+use Rattle.schema_reports.specs.Guarded.{guarded_sense}
+use Rattle.schema_reports.specs.Numbered.{subject_in}
 use Rattle.schema_reports.specs.Means.{FromSomeDepth}
 use Rattle.schema_reports.specs.ReportViews.{BorrowsItsPlace}
 use Rattle.schema_reports.specs.declared.reports.ValidationError.{ValidationError}
 use Rattle.schema_reports.proofs.SensesMeant.{of_every_sense}
 use Rattle.schema_node.specs.NodeTable.{numbered}
-use Rattle.schema_engine.specs.Spoken.{ErrorsAnswered}
+use Rattle.schema_engine.specs.Spoken.{EachIsGiven, ErrorsAnswered}
+use Rattle.schema_engine.proofs.Pointing.{each_is_given}
 use Rattle.schema_engine.proofs.validator.Validator.iter_errors.Goals as goal
 
 pub returns-clause-depth : goal.returns-clause-depth
@@ -23,3 +26,10 @@ returns-clause-senses g c = λ texts speaks.
 
 pub returns-clause-borrows : goal.returns-clause-borrows
 returns-clause-borrows g c = subst (λ (es : List ValidationError). All (BorrowsItsPlace (view c.args.instance.now)) es) (sym c.new.ensures.errors) c.in_ok-all_under_each.ensures.borrows
+
+pub returns-clause-points : goal.returns-clause-points
+returns-clause-points g c = λ texts speaks.
+    let p = c.args.self.now in
+    let deep = c.in_ok-all_under_each.ensures.depth texts speaks in
+    subst (λ (es : List ValidationError). FromSomeDepth (g.K.Validate.words texts) (g.M.Matcher.matching p.matcher) (numbered g.K.Validate.shape p.nodes) p.root (view c.args.instance.now) (λ (v : Sense). EachIsGiven v texts es)) (sym c.new.ensures.errors)
+    (deep.0, λ n more. each_is_given (guarded_sense (g.K.Validate.words texts) (g.M.Matcher.matching p.matcher) (numbered g.K.Validate.shape p.nodes) (subject_in (view c.args.instance.now)) n p.root) texts c.in_ok-all_under_each.field-0.items (deep.1 n more))

@@ -2,12 +2,15 @@ use Rattle.std.proofs.Common.{subst, sym}
 use Rattle.std.specs.Prelude.{Option, IfSome}
 use Rattle.serde_json.specs.View.{view}
 use Rattle.schema_reports.specs.Cover.{Sense}
+use Rattle.schema_reports.specs.Guarded.{guarded_sense}
+use Rattle.schema_reports.specs.Numbered.{subject_in}
 use Rattle.schema_reports.specs.Means.{FromSomeDepth}
 use Rattle.schema_reports.specs.ReportViews.{BorrowsItsPlace}
 use Rattle.schema_reports.specs.declared.reports.ValidationError.{ValidationError}
 use Rattle.schema_reports.proofs.SensesMeant.{of_every_sense}
 use Rattle.schema_node.specs.NodeTable.{numbered}
-use Rattle.schema_engine.specs.Spoken.{FirstAnswered}
+use Rattle.schema_engine.specs.Spoken.{FirstAnswered, FirstIsGiven}
+use Rattle.schema_engine.proofs.Pointing.{first_is_given}
 use Rattle.schema_engine.proofs.validator.Validator.validate.Goals as goal
 
 pub returns-clause-depth : goal.returns-clause-depth
@@ -23,3 +26,10 @@ returns-clause-senses g c = λ texts speaks.
 
 pub returns-clause-borrows : goal.returns-clause-borrows
 returns-clause-borrows g c = subst (λ (o : Option ValidationError). IfSome o (BorrowsItsPlace (view c.args.instance.now))) (sym c.unless_refused.ensures.refusal) c.in_ok-first_under_each.ensures.borrows
+
+pub returns-clause-points : goal.returns-clause-points
+returns-clause-points g c = λ texts speaks.
+    let p = c.args.self.now in
+    let deep = c.in_ok-first_under_each.ensures.depth texts speaks in
+    subst (λ (o : Option ValidationError). FromSomeDepth (g.K.Validate.words texts) (g.M.Matcher.matching p.matcher) (numbered g.K.Validate.shape p.nodes) p.root (view c.args.instance.now) (λ (v : Sense). FirstIsGiven v texts o)) (sym c.unless_refused.ensures.refusal)
+    (deep.0, λ n more. first_is_given (guarded_sense (g.K.Validate.words texts) (g.M.Matcher.matching p.matcher) (numbered g.K.Validate.shape p.nodes) (subject_in (view c.args.instance.now)) n p.root) texts c.in_ok-first_under_each.field-0 (deep.1 n more))

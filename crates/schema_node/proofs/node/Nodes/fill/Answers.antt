@@ -2,7 +2,7 @@ use Rattle.std.proofs.Common.{arith, Some, sym, ◌∙◌, ap, subst}
 use Rattle.std.proofs.lemmas.Option.{slice_get-get_or}
 use Rattle.schema_node.specs.NodeViews.{plan_of}
 use Rattle.schema_node.specs.NodeTable.{IsReserved, AreFilled}
-use Rattle.schema_node.proofs.NodesFilled.{no_more_than, stays_ranked, fills, within}
+use Rattle.schema_node.proofs.NodesFilled.{no_more_than, stays_ranked, fills, ranks_last, within}
 use Rattle.schema_node.proofs.node.Nodes.fill.Goals as goal
 
 pub overflow_add-self : goal.overflow_add-self
@@ -27,9 +27,16 @@ invariant_of-self g c =
     let at = slice_get-get_or c.self.inside.nodes.items c.args.node.0 c.index_mut-place.result.now w ∙ ap Some (sym c.index_mut-place.ensures.value) in
     stays_ranked c.self.inside.nodes.items c.args.node.0 c.self.inside.finished c.index_mut-place.result.now c.args.annotations c.args.form at reserved ready c.self.invariant
 
-pub returns : goal.returns
-returns g c =
+pub returns-clause-filled : goal.returns-clause-filled
+returns-clause-filled g c =
     let reserved = subst (λ ns. IsReserved ns c.args.node.0) (sym c.self.view_is) c.requires.reserved in
     let w = within c.self.inside.nodes.items c.args.node.0 reserved in
     let at = slice_get-get_or c.self.inside.nodes.items c.args.node.0 c.index_mut-place.result.now w ∙ ap Some (sym c.index_mut-place.ensures.value) in
-    record { filled = rw (← c.self.view_is) (fills c.self.inside.nodes.items c.args.node.0 c.self.inside.finished c.index_mut-place.result.now c.args.annotations c.args.form at reserved) }
+    rw (← c.self.view_is) (fills c.self.inside.nodes.items c.args.node.0 c.self.inside.finished c.index_mut-place.result.now c.args.annotations c.args.form at reserved)
+
+pub returns-clause-last : goal.returns-clause-last
+returns-clause-last g c =
+    let reserved = subst (λ ns. IsReserved ns c.args.node.0) (sym c.self.view_is) c.requires.reserved in
+    let w = within c.self.inside.nodes.items c.args.node.0 reserved in
+    let at = slice_get-get_or c.self.inside.nodes.items c.args.node.0 c.index_mut-place.result.now w ∙ ap Some (sym c.index_mut-place.ensures.value) in
+    rw (← c.self.view_is) (ranks_last c.self.inside.nodes.items c.args.node.0 c.self.inside.finished c.index_mut-place.result.now c.args.annotations c.args.form at reserved c.self.invariant)

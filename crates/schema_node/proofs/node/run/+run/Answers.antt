@@ -267,10 +267,10 @@ run_turns-turns-init g t c =
     record {
       kept = refl;
       assumes = refl;
-      unmarked = unmarked_first (g.K.Validate.words false) (g.K.Validate.shape c.args.keyword.now.keyword.now) (g.K.Validate.absorbed (g.K.Validate.shape c.args.keyword.now.keyword.now)) (g.K.Validate.remaining (g.K.Validate.shape c.args.keyword.now.keyword.now)) (g.K.Validate.ends false (g.K.Validate.shape c.args.keyword.now.keyword.now)) (g.K.Validate.fits false (g.K.Validate.shape c.args.keyword.now.keyword.now)) (g.met.K.Validate.turn_laws false (g.K.Validate.shape c.args.keyword.now.keyword.now)) s (mode_of c.args.question.now.mode) (c.args.run.now, answer_of false c.args.answer.now) (c.requires.may.ready.unmarked false m s (mode_of c.args.question.now.mode) c.requires.may.wanted)
+      unmarked = unmarked_first (g.K.Validate.words false) (g.K.Validate.shape c.args.keyword.now.keyword.now) (g.K.Validate.absorbed (g.K.Validate.shape c.args.keyword.now.keyword.now)) (g.K.Validate.remaining (g.K.Validate.shape c.args.keyword.now.keyword.now)) (g.K.Validate.can_be false (g.K.Validate.shape c.args.keyword.now.keyword.now)) (g.K.Validate.ends false (g.K.Validate.shape c.args.keyword.now.keyword.now)) (g.K.Validate.fits false (g.K.Validate.shape c.args.keyword.now.keyword.now)) (g.met.K.Validate.turn_laws false (g.K.Validate.shape c.args.keyword.now.keyword.now)) s (mode_of c.args.question.now.mode) (c.args.run.now, answer_of false c.args.answer.now) (c.requires.may.ready.unmarked false m s (mode_of c.args.question.now.mode) c.requires.may.wanted)
           (c.requires.begun false);
       borrows = λ root at_place. (All-nil (BorrowsItsPlace root), subst (All (PassesBorrowed root)) (sym c.requires.no_faults) (All-nil (PassesBorrowed root)));
-      leads = λ x reads l. begins (g.K.Validate.words x.texts) (g.K.Validate.shape c.args.keyword.now.keyword.now) (g.K.Validate.absorbed (g.K.Validate.shape c.args.keyword.now.keyword.now)) (g.K.Validate.remaining (g.K.Validate.shape c.args.keyword.now.keyword.now)) (g.K.Validate.ends x.texts (g.K.Validate.shape c.args.keyword.now.keyword.now)) (g.K.Validate.fits x.texts (g.K.Validate.shape c.args.keyword.now.keyword.now)) (g.met.K.Validate.turn_laws x.texts (g.K.Validate.shape c.args.keyword.now.keyword.now)) s x (mode_of c.args.question.now.mode) (child_says g.K.Validate.words ns x (path_of c.args.question.now.path.now) p busy es) (c.args.run.now, answer_of x.texts c.args.answer.now)
+      leads = λ x reads l. begins (g.K.Validate.words x.texts) (g.K.Validate.shape c.args.keyword.now.keyword.now) (g.K.Validate.absorbed (g.K.Validate.shape c.args.keyword.now.keyword.now)) (g.K.Validate.remaining (g.K.Validate.shape c.args.keyword.now.keyword.now)) (g.K.Validate.can_be x.texts (g.K.Validate.shape c.args.keyword.now.keyword.now)) (g.K.Validate.ends x.texts (g.K.Validate.shape c.args.keyword.now.keyword.now)) (g.K.Validate.fits x.texts (g.K.Validate.shape c.args.keyword.now.keyword.now)) (g.met.K.Validate.turn_laws x.texts (g.K.Validate.shape c.args.keyword.now.keyword.now)) s x (mode_of c.args.question.now.mode) (child_says g.K.Validate.words ns x (path_of c.args.question.now.path.now) p busy es) (c.args.run.now, answer_of x.texts c.args.answer.now)
           (agrees_answers g.K.Validate.words ns (λ texts m s completion matcher a h. (g.met.K.Validate.function_laws texts m).agree s (matching matcher completion) a h) x (path_of c.args.question.now.path.now) p busy es)
           (c.requires.begun x.texts);
       met = λ texts root depth reads l. meets_begun (g.K.Validate.words texts) w.matcher w.assumptions (node_at (g.K.Validate.words texts) w.matcher ns (subject_in root) c.args.node.0 (path_of c.args.question.now.path.now) p) s (child_run g.K.Validate.words ns w texts root depth (path_of c.args.question.now.path.now) p busy es) (same_edge es) name m (g.K.Validate.remaining m s) _ (mode_of c.args.question.now.mode) (c.args.run.now, answer_of texts c.args.answer.now) (c.requires.begun texts) ((g.met.K.Validate.turn_laws texts m).bounded s (mode_of c.args.question.now.mode));
@@ -290,8 +290,8 @@ run_turns-run_child-requires g t c =
     let kept = c.turns.invariant.kept in
     let l = ap (λ es. left ns (length c.args.engine.now.nodes.now) c.args.node.0 s (busy_at p es)) kept in
     let q : Question = record { child = c.in-Ask.child; below = below_of c.in-Ask.below } in
-    let there = asks_present (g.K.Validate.words false) (g.K.Validate.shape c.args.keyword.now.keyword.now) (g.K.Validate.absorbed (g.K.Validate.shape c.args.keyword.now.keyword.now)) (g.K.Validate.remaining (g.K.Validate.shape c.args.keyword.now.keyword.now)) (g.K.Validate.ends false (g.K.Validate.shape c.args.keyword.now.keyword.now)) (g.K.Validate.fits false (g.K.Validate.shape c.args.keyword.now.keyword.now)) (g.met.K.Validate.turn_laws false (g.K.Validate.shape c.args.keyword.now.keyword.now)) s (c.turns.run, answer_of false c.turns.answer) told q (mode_of c.in-Ask.wanted) ((g.met.K.Validate.function_laws false m).present s) step in
-    let less = asks_less (g.K.Validate.words false) (g.K.Validate.shape c.args.keyword.now.keyword.now) (g.K.Validate.absorbed (g.K.Validate.shape c.args.keyword.now.keyword.now)) (g.K.Validate.remaining (g.K.Validate.shape c.args.keyword.now.keyword.now)) (g.K.Validate.ends false (g.K.Validate.shape c.args.keyword.now.keyword.now)) (g.K.Validate.fits false (g.K.Validate.shape c.args.keyword.now.keyword.now)) (g.met.K.Validate.turn_laws false (g.K.Validate.shape c.args.keyword.now.keyword.now)) s (c.turns.run, answer_of false c.turns.answer) told q (mode_of c.in-Ask.wanted) c.turns.invariant.unmarked step in
+    let there = asks_present (g.K.Validate.words false) (g.K.Validate.shape c.args.keyword.now.keyword.now) (g.K.Validate.absorbed (g.K.Validate.shape c.args.keyword.now.keyword.now)) (g.K.Validate.remaining (g.K.Validate.shape c.args.keyword.now.keyword.now)) (g.K.Validate.can_be false (g.K.Validate.shape c.args.keyword.now.keyword.now)) (g.K.Validate.ends false (g.K.Validate.shape c.args.keyword.now.keyword.now)) (g.K.Validate.fits false (g.K.Validate.shape c.args.keyword.now.keyword.now)) (g.met.K.Validate.turn_laws false (g.K.Validate.shape c.args.keyword.now.keyword.now)) s (c.turns.run, answer_of false c.turns.answer) told q (mode_of c.in-Ask.wanted) c.turns.invariant.unmarked ((g.met.K.Validate.function_laws false m).present s) step in
+    let less = asks_less (g.K.Validate.words false) (g.K.Validate.shape c.args.keyword.now.keyword.now) (g.K.Validate.absorbed (g.K.Validate.shape c.args.keyword.now.keyword.now)) (g.K.Validate.remaining (g.K.Validate.shape c.args.keyword.now.keyword.now)) (g.K.Validate.can_be false (g.K.Validate.shape c.args.keyword.now.keyword.now)) (g.K.Validate.ends false (g.K.Validate.shape c.args.keyword.now.keyword.now)) (g.K.Validate.fits false (g.K.Validate.shape c.args.keyword.now.keyword.now)) (g.met.K.Validate.turn_laws false (g.K.Validate.shape c.args.keyword.now.keyword.now)) s (c.turns.run, answer_of false c.turns.answer) told q (mode_of c.in-Ask.wanted) c.turns.invariant.unmarked step in
     λ κs h. (lower_same _ _ t 1 0 l c.decreases, (h.0, (h.1.0, (h.1.1.0, (h.1.1.1, (record { known = c.requires.may.known; ready = c.requires.may.ready; above = subst (NoDeeper p) (sym kept) c.requires.may.above; wanted = less }, (keyword_children ns c.args.node.0 m es c.requires.form, there)))))))
 
 pub run_turns-returns-in-Done-clause-right : goal.run_turns-returns-in-Done-clause-right
@@ -304,7 +304,7 @@ run_turns-returns-in-Done-clause-right g t c = λ x reads l.
     let busy = busy_at p c.args.context.now.in_progress in
     let tells = tells_keyword g.K.Validate.is_whole ns (length c.args.engine.now.nodes.now) (settling (g.M.Matcher.matching c.args.engine.now.matcher.now) c.args.context.now.remembered.assumptions) p s x c.args.node.0 m es c.requires.may.known reads c.requires.form in
     let answers = child_says g.K.Validate.words ns x (path_of c.args.question.now.path.now) p busy es in
-    ended_right (g.K.Validate.words x.texts) (g.K.Validate.shape c.args.keyword.now.keyword.now) (g.K.Validate.absorbed (g.K.Validate.shape c.args.keyword.now.keyword.now)) (g.K.Validate.remaining (g.K.Validate.shape c.args.keyword.now.keyword.now)) (g.K.Validate.ends x.texts (g.K.Validate.shape c.args.keyword.now.keyword.now)) (g.K.Validate.fits x.texts (g.K.Validate.shape c.args.keyword.now.keyword.now)) (g.met.K.Validate.turn_laws x.texts (g.K.Validate.shape c.args.keyword.now.keyword.now)) s x (mode_of c.args.question.now.mode) answers (c.turns.run, answer_of x.texts c.turns.answer) (c.turn.new.run, answer_of x.texts c.turn.new.answer) (reply_of x.texts c.turns.reply) (answer_of x.texts c.turn.new.answer) (c.turns.invariant.leads x reads l) (c.in_ok-child.ensures.turns x.texts tells) (g.met.K.Validate.answers x.texts c.turn.new.run (answer_of x.texts c.turn.new.answer)) (rw c.in-Done.is at (c.in_ok-child.ensures.steps x.texts tells))
+    ended_right (g.K.Validate.words x.texts) (g.K.Validate.shape c.args.keyword.now.keyword.now) (g.K.Validate.absorbed (g.K.Validate.shape c.args.keyword.now.keyword.now)) (g.K.Validate.remaining (g.K.Validate.shape c.args.keyword.now.keyword.now)) (g.K.Validate.can_be x.texts (g.K.Validate.shape c.args.keyword.now.keyword.now)) (g.K.Validate.ends x.texts (g.K.Validate.shape c.args.keyword.now.keyword.now)) (g.K.Validate.fits x.texts (g.K.Validate.shape c.args.keyword.now.keyword.now)) (g.met.K.Validate.turn_laws x.texts (g.K.Validate.shape c.args.keyword.now.keyword.now)) s x (mode_of c.args.question.now.mode) answers (c.turns.run, answer_of x.texts c.turns.answer) (c.turn.new.run, answer_of x.texts c.turn.new.answer) (reply_of x.texts c.turns.reply) (answer_of x.texts c.turn.new.answer) (c.turns.invariant.leads x reads l) (c.in_ok-child.ensures.turns x.texts tells) (g.met.K.Validate.answers x.texts c.turn.new.run (answer_of x.texts c.turn.new.answer)) (rw c.in-Done.is at (c.in_ok-child.ensures.steps x.texts tells))
 
 pub run_turns-returns-in-Done-clause-passes : goal.run_turns-returns-in-Done-clause-passes
 run_turns-returns-in-Done-clause-passes g t c = λ root at_place.
@@ -344,7 +344,7 @@ run_turns-unreachable-requires-in-Unmark g t c =
     let s = subject_of c.args.question.now.instance in
     let m = g.K.Validate.shape c.args.keyword.now.keyword.now in
     let step = rw c.in-Unmark.is at (c.in_ok-child.ensures.steps false (tells_nothing (g.K.Validate.is_whole m) s)) in
-    subst IsUnmarked step (is_unmarked (g.K.Validate.words false) (g.K.Validate.shape c.args.keyword.now.keyword.now) (g.K.Validate.absorbed (g.K.Validate.shape c.args.keyword.now.keyword.now)) (g.K.Validate.remaining (g.K.Validate.shape c.args.keyword.now.keyword.now)) (g.K.Validate.ends false (g.K.Validate.shape c.args.keyword.now.keyword.now)) (g.K.Validate.fits false (g.K.Validate.shape c.args.keyword.now.keyword.now)) (g.met.K.Validate.turn_laws false (g.K.Validate.shape c.args.keyword.now.keyword.now)) s (c.turns.run, answer_of false c.turns.answer) (reply_of false c.turns.reply) c.turns.invariant.unmarked)
+    subst IsUnmarked step (is_unmarked (g.K.Validate.words false) (g.K.Validate.shape c.args.keyword.now.keyword.now) (g.K.Validate.absorbed (g.K.Validate.shape c.args.keyword.now.keyword.now)) (g.K.Validate.remaining (g.K.Validate.shape c.args.keyword.now.keyword.now)) (g.K.Validate.can_be false (g.K.Validate.shape c.args.keyword.now.keyword.now)) (g.K.Validate.ends false (g.K.Validate.shape c.args.keyword.now.keyword.now)) (g.K.Validate.fits false (g.K.Validate.shape c.args.keyword.now.keyword.now)) (g.met.K.Validate.turn_laws false (g.K.Validate.shape c.args.keyword.now.keyword.now)) s (c.turns.run, answer_of false c.turns.answer) (reply_of false c.turns.reply) c.turns.invariant.unmarked)
 
 pub run_edge-returns-then-branch-clause-meets : goal.run_edge-returns-then-branch-clause-meets
 run_edge-returns-then-branch-clause-meets g t c =
@@ -398,7 +398,7 @@ run_entry-returns-then-is_yes-clause-meets g t c = λ texts root depth reads l.
     let part = shaped_part g.K.Validate.shape (entry_of c.args.entry.now) in
     let looked = part_looked g.K.Validate.words ns w texts root depth c.args.node.0 (path_of c.args.question.now.path.now) p busy part in
     let holds = leaf_holds g.K.Validate.words ns w texts root depth c.args.node.0 (path_of c.args.question.now.path.now) p busy part c.in_ok-verdict.verdict _ (c.in_ok-verdict.ensures.says (reading w texts root depth) reads l) (sym (c.is_yes.ensures.yes texts) ∙ c.if-is_yes.true) in
-    meets_same w.matcher _ _ _ _ (leaf_yes (mode_of c.args.question.now.mode) looked (c.asks_verdict_first.ensures.leaf c.if-asks_verdict_first.true) (c.asks_verdict_first.ensures.wants_more c.if-asks_verdict_first.true) c.requires.may.wanted holds) (c.in_ok-verdict.ensures.meets texts root depth reads l)
+    meets_same w.matcher _ _ _ _ (leaf_yes (mode_of c.args.question.now.mode) looked (c.asks_verdict_first.ensures.leaf c.if-asks_verdict_first.true) (c.asks_verdict_first.ensures.wants_more c.if-asks_verdict_first.true) (c.asks_verdict_first.ensures.wants_errors c.if-asks_verdict_first.true) holds) (c.in_ok-verdict.ensures.meets texts root depth reads l)
 
 pub run_entry-returns-then-asks_verdict_first-clause-meets : goal.run_entry-returns-then-asks_verdict_first-clause-meets
 run_entry-returns-then-asks_verdict_first-clause-meets g t c = if_ok_mono c.run_form-then-asks_verdict_first.result _ _ (λ r met texts root depth reads l.
@@ -411,7 +411,7 @@ run_entry-returns-then-asks_verdict_first-clause-meets g t c = if_ok_mono c.run_
     let looked = part_looked g.K.Validate.words ns w texts root depth c.args.node.0 (path_of c.args.question.now.path.now) p busy part in
     let holds = leaf_holds g.K.Validate.words ns w texts root depth c.args.node.0 (path_of c.args.question.now.path.now) p busy part c.in_ok-verdict.verdict _ (c.in_ok-verdict.ensures.says (reading w texts root depth) reads l) (sym (c.is_yes.ensures.yes texts) ∙ c.if-is_yes.false) in
     let more = moved (λ es as'. FormMeets g.K.Validate.words g.K.Validate.is_whole ns (length c.args.engine.now.nodes.now) (settling (g.M.Matcher.matching c.args.engine.now.matcher.now) as') (mode_of c.args.question.now.mode) (path_of c.args.question.now.path.now) p (busy_at p es) s c.run_form.new.context.remembered c.run_form-then-asks_verdict_first.new.context.remembered c.args.node.0 part.name part.form) c.in_ok-verdict.ensures.keeps.in_progress c.in_ok-verdict.ensures.keeps.assumptions met texts root depth reads l in
-    meets_same w.matcher _ _ _ _ (leaf_no (mode_of c.args.question.now.mode) looked (c.asks_verdict_first.ensures.leaf c.if-asks_verdict_first.true) (c.asks_verdict_first.ensures.wants_more c.if-asks_verdict_first.true) c.requires.may.wanted holds) (meets_append w.matcher _ _ _ _ _ (c.in_ok-verdict.ensures.meets texts root depth reads l) more)) c.run_form-then-asks_verdict_first.ensures.meets
+    meets_same w.matcher _ _ _ _ (leaf_no (mode_of c.args.question.now.mode) looked (c.asks_verdict_first.ensures.leaf c.if-asks_verdict_first.true) (c.asks_verdict_first.ensures.wants_more c.if-asks_verdict_first.true) (c.asks_verdict_first.ensures.wants_errors c.if-asks_verdict_first.true) holds) (meets_append w.matcher _ _ _ _ _ (c.in_ok-verdict.ensures.meets texts root depth reads l) more)) c.run_form-then-asks_verdict_first.ensures.meets
 
 pub run_child-returns-in-None-one_below-clause-meets : goal.run_child-returns-in-None-one_below-clause-meets
 run_child-returns-in-None-one_below-clause-meets g t c =
@@ -491,7 +491,7 @@ run_turns-turns-smaller-in-Ask g t c =
     let turn = c.in_ok-child.ensures.turns false (tells_nothing (g.K.Validate.is_whole m) s) in
     let step = rw c.in-Ask.is at (c.in_ok-child.ensures.steps false (tells_nothing (g.K.Validate.is_whole m) s)) in
     let q : Question = record { child = c.in-Ask.child; below = below_of c.in-Ask.below } in
-    falls_turned (g.K.Validate.words false) (g.K.Validate.shape c.args.keyword.now.keyword.now) (g.K.Validate.absorbed (g.K.Validate.shape c.args.keyword.now.keyword.now)) (g.K.Validate.remaining (g.K.Validate.shape c.args.keyword.now.keyword.now)) (g.K.Validate.ends false (g.K.Validate.shape c.args.keyword.now.keyword.now)) (g.K.Validate.fits false (g.K.Validate.shape c.args.keyword.now.keyword.now)) (g.met.K.Validate.turn_laws false (g.K.Validate.shape c.args.keyword.now.keyword.now)) s (c.turns.run, answer_of false c.turns.answer) (c.turn.new.run, answer_of false c.turn.new.answer) told (ask q (mode_of c.in-Ask.wanted)) turn step (ask_goes_on q (mode_of c.in-Ask.wanted))
+    falls_turned (g.K.Validate.words false) (g.K.Validate.shape c.args.keyword.now.keyword.now) (g.K.Validate.absorbed (g.K.Validate.shape c.args.keyword.now.keyword.now)) (g.K.Validate.remaining (g.K.Validate.shape c.args.keyword.now.keyword.now)) (g.K.Validate.can_be false (g.K.Validate.shape c.args.keyword.now.keyword.now)) (g.K.Validate.ends false (g.K.Validate.shape c.args.keyword.now.keyword.now)) (g.K.Validate.fits false (g.K.Validate.shape c.args.keyword.now.keyword.now)) (g.met.K.Validate.turn_laws false (g.K.Validate.shape c.args.keyword.now.keyword.now)) s (c.turns.run, answer_of false c.turns.answer) (c.turn.new.run, answer_of false c.turn.new.answer) told (ask q (mode_of c.in-Ask.wanted)) (let (n, l, h, can) = c.turns.invariant.unmarked in can) turn step (ask_goes_on q (mode_of c.in-Ask.wanted))
 
 pub run_turns-turns-preserved-in-Ask : goal.run_turns-turns-preserved-in-Ask
 run_turns-turns-preserved-in-Ask g t c =
@@ -507,25 +507,25 @@ run_turns-turns-preserved-in-Ask g t c =
     let turn = c.in_ok-child.ensures.turns false (tells_nothing (g.K.Validate.is_whole m) s) in
     let step = rw c.in-Ask.is at (c.in_ok-child.ensures.steps false (tells_nothing (g.K.Validate.is_whole m) s)) in
     let q : Question = record { child = c.in-Ask.child; below = below_of c.in-Ask.below } in
-    let less = asks_less (g.K.Validate.words false) (g.K.Validate.shape c.args.keyword.now.keyword.now) (g.K.Validate.absorbed (g.K.Validate.shape c.args.keyword.now.keyword.now)) (g.K.Validate.remaining (g.K.Validate.shape c.args.keyword.now.keyword.now)) (g.K.Validate.ends false (g.K.Validate.shape c.args.keyword.now.keyword.now)) (g.K.Validate.fits false (g.K.Validate.shape c.args.keyword.now.keyword.now)) (g.met.K.Validate.turn_laws false (g.K.Validate.shape c.args.keyword.now.keyword.now)) s (c.turns.run, answer_of false c.turns.answer) told q (mode_of c.in-Ask.wanted) c.turns.invariant.unmarked step in
+    let less = asks_less (g.K.Validate.words false) (g.K.Validate.shape c.args.keyword.now.keyword.now) (g.K.Validate.absorbed (g.K.Validate.shape c.args.keyword.now.keyword.now)) (g.K.Validate.remaining (g.K.Validate.shape c.args.keyword.now.keyword.now)) (g.K.Validate.can_be false (g.K.Validate.shape c.args.keyword.now.keyword.now)) (g.K.Validate.ends false (g.K.Validate.shape c.args.keyword.now.keyword.now)) (g.K.Validate.fits false (g.K.Validate.shape c.args.keyword.now.keyword.now)) (g.met.K.Validate.turn_laws false (g.K.Validate.shape c.args.keyword.now.keyword.now)) s (c.turns.run, answer_of false c.turns.answer) told q (mode_of c.in-Ask.wanted) c.turns.invariant.unmarked step in
     let says = moved (λ es' as'. ChildReplies g.K.Validate.words g.K.Validate.is_whole ns (length c.args.engine.now.nodes.now) (settling (g.M.Matcher.matching c.args.engine.now.matcher.now) as') (mode_of c.in-Ask.wanted) (path_of c.args.question.now.path.now) p (busy_at p es') s c.args.node.0 es q c.in_ok-reply-in-Ask.reply) c.turns.invariant.kept c.turns.invariant.assumes c.in_ok-reply-in-Ask.ensures.says in
     record {
       kept = c.in_ok-reply-in-Ask.ensures.keeps.in_progress ∙ c.turns.invariant.kept;
       assumes = c.in_ok-reply-in-Ask.ensures.keeps.assumptions ∙ c.turns.invariant.assumes;
-      unmarked = unmarked_after (g.K.Validate.words false) (g.K.Validate.shape c.args.keyword.now.keyword.now) (g.K.Validate.absorbed (g.K.Validate.shape c.args.keyword.now.keyword.now)) (g.K.Validate.remaining (g.K.Validate.shape c.args.keyword.now.keyword.now)) (g.K.Validate.ends false (g.K.Validate.shape c.args.keyword.now.keyword.now)) (g.K.Validate.fits false (g.K.Validate.shape c.args.keyword.now.keyword.now)) (g.met.K.Validate.turn_laws false (g.K.Validate.shape c.args.keyword.now.keyword.now)) s (c.turns.run, answer_of false c.turns.answer) (c.turn.new.run, answer_of false c.turn.new.answer) told (reply_of false c.in_ok-reply-in-Ask.reply) (ask q (mode_of c.in-Ask.wanted)) c.turns.invariant.unmarked turn step (ask_goes_on q (mode_of c.in-Ask.wanted));
+      unmarked = unmarked_after (g.K.Validate.words false) (g.K.Validate.shape c.args.keyword.now.keyword.now) (g.K.Validate.absorbed (g.K.Validate.shape c.args.keyword.now.keyword.now)) (g.K.Validate.remaining (g.K.Validate.shape c.args.keyword.now.keyword.now)) (g.K.Validate.can_be false (g.K.Validate.shape c.args.keyword.now.keyword.now)) (g.K.Validate.ends false (g.K.Validate.shape c.args.keyword.now.keyword.now)) (g.K.Validate.fits false (g.K.Validate.shape c.args.keyword.now.keyword.now)) (g.met.K.Validate.turn_laws false (g.K.Validate.shape c.args.keyword.now.keyword.now)) s (c.turns.run, answer_of false c.turns.answer) (c.turn.new.run, answer_of false c.turn.new.answer) told (reply_of false c.in_ok-reply-in-Ask.reply) (ask q (mode_of c.in-Ask.wanted)) c.turns.invariant.unmarked turn step (ask_goes_on q (mode_of c.in-Ask.wanted));
       borrows = λ root at_place.
           let i = c.turns.invariant.borrows root at_place in
           let d = left ns (length c.args.engine.now.nodes.now) c.args.node.0 s busy in
           ((says (silent (settling (g.M.Matcher.matching c.args.engine.now.matcher.now) c.args.context.now.remembered.assumptions) root d) (silent_reads g.K.Validate.is_whole ns (length c.args.engine.now.nodes.now) (settling (g.M.Matcher.matching c.args.engine.now.matcher.now) c.args.context.now.remembered.assumptions) p s root d at_place) (no_deeper d)).borrows, c.in_ok-child.ensures.borrows root i.0 i.1);
       leads = λ x reads l.
           let tells = tells_keyword g.K.Validate.is_whole ns (length c.args.engine.now.nodes.now) (settling (g.M.Matcher.matching c.args.engine.now.matcher.now) c.args.context.now.remembered.assumptions) p s x c.args.node.0 m es c.requires.may.known reads c.requires.form in
-          asked (g.K.Validate.words x.texts) (g.K.Validate.shape c.args.keyword.now.keyword.now) (g.K.Validate.absorbed (g.K.Validate.shape c.args.keyword.now.keyword.now)) (g.K.Validate.remaining (g.K.Validate.shape c.args.keyword.now.keyword.now)) (g.K.Validate.ends x.texts (g.K.Validate.shape c.args.keyword.now.keyword.now)) (g.K.Validate.fits x.texts (g.K.Validate.shape c.args.keyword.now.keyword.now)) (g.met.K.Validate.turn_laws x.texts (g.K.Validate.shape c.args.keyword.now.keyword.now)) s x (mode_of c.args.question.now.mode) (child_says g.K.Validate.words ns x (path_of c.args.question.now.path.now) p busy es) (c.turns.run, answer_of x.texts c.turns.answer) (c.turn.new.run, answer_of x.texts c.turn.new.answer)
+          asked (g.K.Validate.words x.texts) (g.K.Validate.shape c.args.keyword.now.keyword.now) (g.K.Validate.absorbed (g.K.Validate.shape c.args.keyword.now.keyword.now)) (g.K.Validate.remaining (g.K.Validate.shape c.args.keyword.now.keyword.now)) (g.K.Validate.can_be x.texts (g.K.Validate.shape c.args.keyword.now.keyword.now)) (g.K.Validate.ends x.texts (g.K.Validate.shape c.args.keyword.now.keyword.now)) (g.K.Validate.fits x.texts (g.K.Validate.shape c.args.keyword.now.keyword.now)) (g.met.K.Validate.turn_laws x.texts (g.K.Validate.shape c.args.keyword.now.keyword.now)) s x (mode_of c.args.question.now.mode) (child_says g.K.Validate.words ns x (path_of c.args.question.now.path.now) p busy es) (c.turns.run, answer_of x.texts c.turns.answer) (c.turn.new.run, answer_of x.texts c.turn.new.answer)
           (reply_of x.texts c.turns.reply) (reply_of x.texts c.in_ok-reply-in-Ask.reply) q (mode_of c.in-Ask.wanted) less (c.turns.invariant.leads x reads l) (c.in_ok-child.ensures.turns x.texts tells) (rw c.in-Ask.is at (c.in_ok-child.ensures.steps x.texts tells)) (says x reads l).same;
       met = λ texts root depth reads l.
           let tells = tells_keyword g.K.Validate.is_whole ns (length c.args.engine.now.nodes.now) w p s (reading w texts root depth) c.args.node.0 m es c.requires.may.known reads c.requires.form in
           let step' = rw c.in-Ask.is at (c.in_ok-child.ensures.steps texts tells) in
           let turn' = c.in_ok-child.ensures.turns texts tells in
-          let falls = falls_turned (g.K.Validate.words texts) m (g.K.Validate.absorbed m) (g.K.Validate.remaining m) (g.K.Validate.ends texts m) (g.K.Validate.fits texts m) (g.met.K.Validate.turn_laws texts m) s (c.turns.run, answer_of texts c.turns.answer) (c.turn.new.run, answer_of texts c.turn.new.answer) (reply_of texts c.turns.reply) (ask q (mode_of c.in-Ask.wanted)) turn' step' (ask_goes_on q (mode_of c.in-Ask.wanted)) in
+          let falls = falls_turned (g.K.Validate.words texts) m (g.K.Validate.absorbed m) (g.K.Validate.remaining m) (g.K.Validate.can_be texts m) (g.K.Validate.ends texts m) (g.K.Validate.fits texts m) (g.met.K.Validate.turn_laws texts m) s (c.turns.run, answer_of texts c.turns.answer) (c.turn.new.run, answer_of texts c.turn.new.answer) (reply_of texts c.turns.reply) (ask q (mode_of c.in-Ask.wanted)) (c.turns.invariant.leads (reading w texts root depth) reads l).can turn' step' (ask_goes_on q (mode_of c.in-Ask.wanted)) in
           let replied = (says (reading w texts root depth) reads l).same ∙ child_replies g.K.Validate.words ns w texts root depth (mode_of c.in-Ask.wanted) less (path_of c.args.question.now.path.now) p busy es q in
           let met = moved (λ es' as'. ChildMeets g.K.Validate.words g.K.Validate.is_whole ns (length c.args.engine.now.nodes.now) (settling (g.M.Matcher.matching c.args.engine.now.matcher.now) as') (mode_of c.in-Ask.wanted) (path_of c.args.question.now.path.now) p (busy_at p es') s c.turns.context.remembered c.run_child.new.context.remembered c.args.node.0 es q) c.turns.invariant.kept c.turns.invariant.assumes c.in_ok-reply-in-Ask.ensures.meets texts root depth reads l in
           meets_asked (g.K.Validate.words texts) w.matcher w.assumptions (node_at (g.K.Validate.words texts) w.matcher ns (subject_in root) c.args.node.0 (path_of c.args.question.now.path.now) p) s (child_run g.K.Validate.words ns w texts root depth (path_of c.args.question.now.path.now) p busy es) (same_edge es) name m (g.K.Validate.remaining m s) _ _ _ _ _ _ _ _ q (mode_of c.in-Ask.wanted) turn' step' falls replied met (c.turns.invariant.met texts root depth reads l);
@@ -544,9 +544,9 @@ run_turns-turns-smaller-in-Match g t c =
     let told = reply_of false c.turns.reply in
     let turn = c.in_ok-child.ensures.turns false (tells_nothing (g.K.Validate.is_whole m) s) in
     let a : Pair = record { pattern = c.in-Match.pattern.now; subject = c.in-Match.subject.now } in
-    let point = point_of c.in-Match.point in
+    let point = point_of c.in-Match.pattern.now c.in-Match.point in
     let step = rw c.in-Match.is at (c.in_ok-child.ensures.steps false (tells_nothing (g.K.Validate.is_whole m) s)) in
-    falls_turned (g.K.Validate.words false) m (g.K.Validate.absorbed m) (g.K.Validate.remaining m) (g.K.Validate.ends false m) (g.K.Validate.fits false m) (g.met.K.Validate.turn_laws false m) s (c.turns.run, answer_of false c.turns.answer) (c.turn.new.run, answer_of false c.turn.new.answer) told (match_text a point) turn step (match_goes_on a point)
+    falls_turned (g.K.Validate.words false) m (g.K.Validate.absorbed m) (g.K.Validate.remaining m) (g.K.Validate.can_be false m) (g.K.Validate.ends false m) (g.K.Validate.fits false m) (g.met.K.Validate.turn_laws false m) s (c.turns.run, answer_of false c.turns.answer) (c.turn.new.run, answer_of false c.turn.new.answer) told (match_text a point) (let (n, l, h, can) = c.turns.invariant.unmarked in can) turn step (match_goes_on a point)
 
 pub run_turns-turns-smaller : goal.run_turns-turns-smaller
 run_turns-turns-smaller g t c =
@@ -561,7 +561,7 @@ run_turns-turns-smaller g t c =
     let told = reply_of false c.turns.reply in
     let turn = c.in_ok-child.ensures.turns false (tells_nothing (g.K.Validate.is_whole m) s) in
     let step = rw c.in-Ecma.is at (c.in_ok-child.ensures.steps false (tells_nothing (g.K.Validate.is_whole m) s)) in
-    falls_turned (g.K.Validate.words false) m (g.K.Validate.absorbed m) (g.K.Validate.remaining m) (g.K.Validate.ends false m) (g.K.Validate.fits false m) (g.met.K.Validate.turn_laws false m) s (c.turns.run, answer_of false c.turns.answer) (c.turn.new.run, answer_of false c.turn.new.answer) told (ecma c.in-Ecma.text.now) turn step (ecma_goes_on c.in-Ecma.text.now)
+    falls_turned (g.K.Validate.words false) m (g.K.Validate.absorbed m) (g.K.Validate.remaining m) (g.K.Validate.can_be false m) (g.K.Validate.ends false m) (g.K.Validate.fits false m) (g.met.K.Validate.turn_laws false m) s (c.turns.run, answer_of false c.turns.answer) (c.turn.new.run, answer_of false c.turn.new.answer) told (ecma c.in-Ecma.text.now) (let (n, l, h, can) = c.turns.invariant.unmarked in can) turn step (ecma_goes_on c.in-Ecma.text.now)
 
 pub run_turns-asked_match-requires : goal.run_turns-asked_match-requires
 run_turns-asked_match-requires g t c =
@@ -576,9 +576,9 @@ run_turns-asked_match-requires g t c =
     let told = reply_of false c.turns.reply in
     let turn = c.in_ok-child.ensures.turns false (tells_nothing (g.K.Validate.is_whole m) s) in
     let a : Pair = record { pattern = c.in-Match.pattern.now; subject = c.in-Match.subject.now } in
-    let point = point_of c.in-Match.point in
+    let point = point_of c.in-Match.pattern.now c.in-Match.point in
     let step = rw c.in-Match.is at (c.in_ok-child.ensures.steps false (tells_nothing (g.K.Validate.is_whole m) s)) in
-    record { present = matches_present (g.K.Validate.words false) m (g.K.Validate.absorbed m) (g.K.Validate.remaining m) (g.K.Validate.ends false m) (g.K.Validate.fits false m) (g.met.K.Validate.turn_laws false m) s (c.turns.run, answer_of false c.turns.answer) told a point step }
+    record { present = matches_present (g.K.Validate.words false) m (g.K.Validate.absorbed m) (g.K.Validate.remaining m) (g.K.Validate.can_be false m) (g.K.Validate.ends false m) (g.K.Validate.fits false m) (g.met.K.Validate.turn_laws false m) s (c.turns.run, answer_of false c.turns.answer) told a point c.turns.invariant.unmarked step }
 
 pub run_turns-turns-preserved-in-Match : goal.run_turns-turns-preserved-in-Match
 run_turns-turns-preserved-in-Match g t c =
@@ -593,7 +593,7 @@ run_turns-turns-preserved-in-Match g t c =
     let told = reply_of false c.turns.reply in
     let turn = c.in_ok-child.ensures.turns false (tells_nothing (g.K.Validate.is_whole m) s) in
     let a : Pair = record { pattern = c.in-Match.pattern.now; subject = c.in-Match.subject.now } in
-    let point = point_of c.in-Match.point in
+    let point = point_of c.in-Match.pattern.now c.in-Match.point in
     let n = node_of c.node.result.now in
     let answer = (w.matcher).is_match a.pattern a.subject in
     let step = rw c.in-Match.is at (c.in_ok-child.ensures.steps false (tells_nothing (g.K.Validate.is_whole m) s)) in
@@ -601,20 +601,20 @@ run_turns-turns-preserved-in-Match g t c =
     record {
       kept = c.asked_match.ensures.in_progress ∙ c.turns.invariant.kept;
       assumes = ap (λ (r : Remembered). r.assumptions) c.in_ok-matches-in-Match.ensures.met ∙ after_assumes _ _ answer ∙ c.turns.invariant.assumes;
-      unmarked = unmarked_after (g.K.Validate.words false) m (g.K.Validate.absorbed m) (g.K.Validate.remaining m) (g.K.Validate.ends false m) (g.K.Validate.fits false m) (g.met.K.Validate.turn_laws false m) s (c.turns.run, answer_of false c.turns.answer) (c.turn.new.run, answer_of false c.turn.new.answer) told (truth c.in_ok-matches-in-Match.matches) (match_text a point) c.turns.invariant.unmarked turn step (match_goes_on a point);
+      unmarked = unmarked_after (g.K.Validate.words false) m (g.K.Validate.absorbed m) (g.K.Validate.remaining m) (g.K.Validate.can_be false m) (g.K.Validate.ends false m) (g.K.Validate.fits false m) (g.met.K.Validate.turn_laws false m) s (c.turns.run, answer_of false c.turns.answer) (c.turn.new.run, answer_of false c.turn.new.answer) told (truth c.in_ok-matches-in-Match.matches) (match_text a point) c.turns.invariant.unmarked turn step (match_goes_on a point);
       borrows = λ root at_place.
           let i = c.turns.invariant.borrows root at_place in
           (All-nil (BorrowsItsPlace root), c.in_ok-child.ensures.borrows root i.0 i.1);
       leads = λ x reads l.
           let tells = tells_keyword g.K.Validate.is_whole ns (length c.args.engine.now.nodes.now) w p s x c.args.node.0 m es c.requires.may.known reads c.requires.form in
           let is = ap truth (out ∙ ap (λ b. settled b answer) (sym (reads.completes a)) ∙ ap (λ (o : Matcher). settled (completed x.completion a) (o.is_match a.pattern a.subject)) (sym reads.matcher)) in
-          matched (g.K.Validate.words x.texts) m (g.K.Validate.absorbed m) (g.K.Validate.remaining m) (g.K.Validate.ends x.texts m) (g.K.Validate.fits x.texts m) (g.met.K.Validate.turn_laws x.texts m) s x (mode_of c.args.question.now.mode) (child_says g.K.Validate.words ns x (path_of c.args.question.now.path.now) p busy es) (c.turns.run, answer_of x.texts c.turns.answer) (c.turn.new.run, answer_of x.texts c.turn.new.answer)
+          matched (g.K.Validate.words x.texts) m (g.K.Validate.absorbed m) (g.K.Validate.remaining m) (g.K.Validate.can_be x.texts m) (g.K.Validate.ends x.texts m) (g.K.Validate.fits x.texts m) (g.met.K.Validate.turn_laws x.texts m) s x (mode_of c.args.question.now.mode) (child_says g.K.Validate.words ns x (path_of c.args.question.now.path.now) p busy es) (c.turns.run, answer_of x.texts c.turns.answer) (c.turn.new.run, answer_of x.texts c.turn.new.answer)
           (reply_of x.texts c.turns.reply) (truth c.in_ok-matches-in-Match.matches) a point (c.turns.invariant.leads x reads l) (c.in_ok-child.ensures.turns x.texts tells) (rw c.in-Match.is at (c.in_ok-child.ensures.steps x.texts tells)) is;
       met = λ texts root depth reads l.
           let tells = tells_keyword g.K.Validate.is_whole ns (length c.args.engine.now.nodes.now) w p s (reading w texts root depth) c.args.node.0 m es c.requires.may.known reads c.requires.form in
           let step' = rw c.in-Match.is at (c.in_ok-child.ensures.steps texts tells) in
           let turn' = c.in_ok-child.ensures.turns texts tells in
-          let falls = falls_turned (g.K.Validate.words texts) m (g.K.Validate.absorbed m) (g.K.Validate.remaining m) (g.K.Validate.ends texts m) (g.K.Validate.fits texts m) (g.met.K.Validate.turn_laws texts m) s (c.turns.run, answer_of texts c.turns.answer) (c.turn.new.run, answer_of texts c.turn.new.answer) (reply_of texts c.turns.reply) (match_text a point) turn' step' (match_goes_on a point) in
+          let falls = falls_turned (g.K.Validate.words texts) m (g.K.Validate.absorbed m) (g.K.Validate.remaining m) (g.K.Validate.can_be texts m) (g.K.Validate.ends texts m) (g.K.Validate.fits texts m) (g.met.K.Validate.turn_laws texts m) s (c.turns.run, answer_of texts c.turns.answer) (c.turn.new.run, answer_of texts c.turn.new.answer) (reply_of texts c.turns.reply) (match_text a point) (c.turns.invariant.leads (reading w texts root depth) reads l).can turn' step' (match_goes_on a point) in
           let is = ap truth (out ∙ ap (λ b. settled b answer) (sym (reads.completes a))) in
           let there = where_is g.K.Validate.shape c.args.engine.now.nodes.now (g.K.Validate.words texts) w.matcher (subject_in root) c.args.node.0 n (path_of c.args.question.now.path.now) p c.node.ensures.found in
           let new = c.in_ok-matches-in-Match.ensures.met ∙ ap (λ (v : Where). after_match c.turns.context.remembered (record { pair = a; site = site_at v name point }) answer) (sym there) in
@@ -638,20 +638,20 @@ run_turns-turns-preserved g t c =
     record {
       kept = c.turns.invariant.kept;
       assumes = c.turns.invariant.assumes;
-      unmarked = unmarked_after (g.K.Validate.words false) m (g.K.Validate.absorbed m) (g.K.Validate.remaining m) (g.K.Validate.ends false m) (g.K.Validate.fits false m) (g.met.K.Validate.turn_laws false m) s (c.turns.run, answer_of false c.turns.answer) (c.turn.new.run, answer_of false c.turn.new.answer) told (truth c.in_ok-valid-in-Ecma.valid) (ecma text) c.turns.invariant.unmarked turn step (ecma_goes_on text);
+      unmarked = unmarked_after (g.K.Validate.words false) m (g.K.Validate.absorbed m) (g.K.Validate.remaining m) (g.K.Validate.can_be false m) (g.K.Validate.ends false m) (g.K.Validate.fits false m) (g.met.K.Validate.turn_laws false m) s (c.turns.run, answer_of false c.turns.answer) (c.turn.new.run, answer_of false c.turn.new.answer) told (truth c.in_ok-valid-in-Ecma.valid) (ecma text) c.turns.invariant.unmarked turn step (ecma_goes_on text);
       borrows = λ root at_place.
           let i = c.turns.invariant.borrows root at_place in
           (All-nil (BorrowsItsPlace root), c.in_ok-child.ensures.borrows root i.0 i.1);
       leads = λ x reads l.
           let tells = tells_keyword g.K.Validate.is_whole ns (length c.args.engine.now.nodes.now) w p s x c.args.node.0 m es c.requires.may.known reads c.requires.form in
           let is = ap truth (c.in_ok-valid-in-Ecma.ensures.valid ∙ ap (λ (o : Matcher). o.is_ecma text) (sym reads.matcher)) in
-          told_pattern (g.K.Validate.words x.texts) m (g.K.Validate.absorbed m) (g.K.Validate.remaining m) (g.K.Validate.ends x.texts m) (g.K.Validate.fits x.texts m) (g.met.K.Validate.turn_laws x.texts m) s x (mode_of c.args.question.now.mode) (child_says g.K.Validate.words ns x (path_of c.args.question.now.path.now) p busy es) (c.turns.run, answer_of x.texts c.turns.answer) (c.turn.new.run, answer_of x.texts c.turn.new.answer)
+          told_pattern (g.K.Validate.words x.texts) m (g.K.Validate.absorbed m) (g.K.Validate.remaining m) (g.K.Validate.can_be x.texts m) (g.K.Validate.ends x.texts m) (g.K.Validate.fits x.texts m) (g.met.K.Validate.turn_laws x.texts m) s x (mode_of c.args.question.now.mode) (child_says g.K.Validate.words ns x (path_of c.args.question.now.path.now) p busy es) (c.turns.run, answer_of x.texts c.turns.answer) (c.turn.new.run, answer_of x.texts c.turn.new.answer)
           (reply_of x.texts c.turns.reply) (truth c.in_ok-valid-in-Ecma.valid) text (c.turns.invariant.leads x reads l) (c.in_ok-child.ensures.turns x.texts tells) (rw c.in-Ecma.is at (c.in_ok-child.ensures.steps x.texts tells)) is;
       met = λ texts root depth reads l.
           let tells = tells_keyword g.K.Validate.is_whole ns (length c.args.engine.now.nodes.now) w p s (reading w texts root depth) c.args.node.0 m es c.requires.may.known reads c.requires.form in
           let step' = rw c.in-Ecma.is at (c.in_ok-child.ensures.steps texts tells) in
           let turn' = c.in_ok-child.ensures.turns texts tells in
-          let falls = falls_turned (g.K.Validate.words texts) m (g.K.Validate.absorbed m) (g.K.Validate.remaining m) (g.K.Validate.ends texts m) (g.K.Validate.fits texts m) (g.met.K.Validate.turn_laws texts m) s (c.turns.run, answer_of texts c.turns.answer) (c.turn.new.run, answer_of texts c.turn.new.answer) (reply_of texts c.turns.reply) (ecma text) turn' step' (ecma_goes_on text) in
+          let falls = falls_turned (g.K.Validate.words texts) m (g.K.Validate.absorbed m) (g.K.Validate.remaining m) (g.K.Validate.can_be texts m) (g.K.Validate.ends texts m) (g.K.Validate.fits texts m) (g.met.K.Validate.turn_laws texts m) s (c.turns.run, answer_of texts c.turns.answer) (c.turn.new.run, answer_of texts c.turn.new.answer) (reply_of texts c.turns.reply) (ecma text) (c.turns.invariant.leads (reading w texts root depth) reads l).can turn' step' (ecma_goes_on text) in
           meets_nothing (g.K.Validate.words texts) w.matcher w.assumptions (node_at (g.K.Validate.words texts) w.matcher ns (subject_in root) c.args.node.0 (path_of c.args.question.now.path.now) p) s (child_run g.K.Validate.words ns w texts root depth (path_of c.args.question.now.path.now) p busy es) (same_edge es) name m (g.K.Validate.remaining m s) _ _ _ _ _ _ _ _ text turn' step' falls (ap truth c.in_ok-valid-in-Ecma.ensures.valid) refl (c.turns.invariant.met texts root depth reads l);
     }
 
@@ -676,7 +676,7 @@ run_turns-unreachable-requires g t c =
     let s = subject_of c.args.question.now.instance in
     let m = g.K.Validate.shape c.args.keyword.now.keyword.now in
     let step = rw c.in-Mark.is at (c.in_ok-child.ensures.steps false (tells_nothing (g.K.Validate.is_whole m) s)) in
-    subst IsUnmarked step (is_unmarked (g.K.Validate.words false) (g.K.Validate.shape c.args.keyword.now.keyword.now) (g.K.Validate.absorbed (g.K.Validate.shape c.args.keyword.now.keyword.now)) (g.K.Validate.remaining (g.K.Validate.shape c.args.keyword.now.keyword.now)) (g.K.Validate.ends false (g.K.Validate.shape c.args.keyword.now.keyword.now)) (g.K.Validate.fits false (g.K.Validate.shape c.args.keyword.now.keyword.now)) (g.met.K.Validate.turn_laws false (g.K.Validate.shape c.args.keyword.now.keyword.now)) s (c.turns.run, answer_of false c.turns.answer) (reply_of false c.turns.reply) c.turns.invariant.unmarked)
+    subst IsUnmarked step (is_unmarked (g.K.Validate.words false) (g.K.Validate.shape c.args.keyword.now.keyword.now) (g.K.Validate.absorbed (g.K.Validate.shape c.args.keyword.now.keyword.now)) (g.K.Validate.remaining (g.K.Validate.shape c.args.keyword.now.keyword.now)) (g.K.Validate.can_be false (g.K.Validate.shape c.args.keyword.now.keyword.now)) (g.K.Validate.ends false (g.K.Validate.shape c.args.keyword.now.keyword.now)) (g.K.Validate.fits false (g.K.Validate.shape c.args.keyword.now.keyword.now)) (g.met.K.Validate.turn_laws false (g.K.Validate.shape c.args.keyword.now.keyword.now)) s (c.turns.run, answer_of false c.turns.answer) (reply_of false c.turns.reply) c.turns.invariant.unmarked)
 
 pub run_entry-returns-clause-meets : goal.run_entry-returns-clause-meets
 run_entry-returns-clause-meets g t c = if_ok_mono c.run_form-2.result _ _ (λ r met texts root depth reads l.

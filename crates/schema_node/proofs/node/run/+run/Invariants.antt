@@ -78,10 +78,10 @@ invariant-run_turns-turns g l =
     record {
       kept : l.context.in_progress ≡ l.initial.context.in_progress;
       assumes : l.context.remembered.assumptions ≡ l.initial.context.remembered.assumptions;
-      unmarked : StaysUnmarked (g.K.Validate.words false) m s (g.K.Validate.remaining m s) (l.run, answer_of false l.answer) (reply_of false l.reply);
+      unmarked : StaysUnmarked (g.K.Validate.words false) m s (g.K.Validate.remaining m s) (g.K.Validate.can_be false m s) (l.run, answer_of false l.answer) (reply_of false l.reply);
       borrows : (root : Data) → subject_at root (steps_to l.question.place.now) ≡ Some (subject_of l.question.instance) → All (BorrowsItsPlace root) (errors_in l.reply) × All (PassesBorrowed root) (faults_in l.answer);
       leads : (x : Reading) → Reads g.K.Validate.is_whole ns (length l.engine.nodes.now) w (steps_to l.question.place.now) s x → left ns (length l.engine.nodes.now) l.node.0 s busy ≤ x.depth
-          → OnItsWay (g.K.Validate.words x.texts) m (g.K.Validate.ends x.texts m) (g.K.Validate.fits x.texts m) s x (mode_of l.fn.question.mode)
+          → OnItsWay (g.K.Validate.words x.texts) m (g.K.Validate.can_be x.texts m) (g.K.Validate.ends x.texts m) (g.K.Validate.fits x.texts m) s x (mode_of l.fn.question.mode)
           (child_says g.K.Validate.words ns x (path_of l.question.path.now) (steps_to l.question.place.now) busy (map (option_map edge_of) l.keyword.children.now)) (l.run, answer_of x.texts l.answer) (reply_of x.texts l.reply);
       met : (texts : Bool) (root : Data) (depth : ℕ) → Reads g.K.Validate.is_whole ns (length l.engine.nodes.now) w (steps_to l.question.place.now) s (reading w texts root depth) → left ns (length l.engine.nodes.now) l.node.0 s busy ≤ depth
           → MeetsSoFar (g.K.Validate.words texts) w.matcher w.assumptions (node_at (g.K.Validate.words texts) w.matcher ns (subject_in root) l.node.0 (path_of l.question.path.now) (steps_to l.question.place.now)) s (child_run g.K.Validate.words ns w texts root depth (path_of l.question.path.now) (steps_to l.question.place.now) busy es) (same_edge es) (string_bytes l.keyword.name.now) m (g.K.Validate.remaining m s) l.initial.context.remembered

@@ -2,12 +2,14 @@ use Rattle.std.proofs.Common.{◌≡◌, ◌≤◌, ◌-◌, Some, Ok, reverse}
 use denote.Param.Always.{always_mut}
 use Rattle.schema_reports.specs.Unfinished.{Failure}
 use Rattle.schema_reports.proofs.Forest.{Completes}
+use Rattle.schema_reports.specs.Search.{UsesBelow}
 use Rattle.schema_reports.proofs.unfinished_matches.search.assume_within.Given as goal
 
 abbrev pub invariant-loop-outcomes : goal.invariant-loop-outcomes
 invariant-loop-outcomes g l = record {
   callable : always_mut g.F.FnMut l.run;
   within : l.runs ≤ l.run_limit;
+  uses : UsesBelow l.runs (goal.F-step g) l.fn.run l.run;
   completes : (u : Failure) → l.fn.first.unassumed ≡ Some u → Completes (λ s x m t end. goal.F-step g s x (Ok (m, t)) end) l.fn.first u l.fn.run (reverse l.pending.items) l.run l.results.items l.runs l.failure;
 }
 

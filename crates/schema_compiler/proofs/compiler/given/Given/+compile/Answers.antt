@@ -1,35 +1,39 @@
-use Rattle.std.proofs.Common.{length, ◌≡◌, ◌∷◌, [], ◌++◌, List, append_assoc, string_cmp, subst, map, refl, sym, ap, ◌∙◌, arith, Some, None, rules, true, false, true≢false}
-use Rattle.std.specs.Prelude.{IfErr, IfOk, Option, string_bytes, option_map, unwrap_or}
+use Rattle.std.proofs.Common.{Global, String, ℕ, suc, ◌<◌, length, ◌≡◌, ◌∷◌, [], ◌++◌, List, append_assoc, string_cmp, subst, map, refl, sym, ap, ap₂, ◌∙◌, arith, Some, None, rules, true, false, true≢false}
+use Rattle.std.specs.Prelude.{slice_get, IfErr, IfOk, Option, string_bytes, option_map, unwrap_or}
 use Rattle.std.proofs.lemmas.List.{append-nil, length-map}
-use Rattle.std.proofs.lemmas.Result.{err_from_is_err_and}
+use Rattle.std.proofs.lemmas.Result.{IfOk-weaker, err_from_is_err_and}
 use Rattle.std.proofs.lemmas.Grind.{common_steps}
 use Rattle.std.specs.List.Sorted.{IsStrictlySortedBy}
 use Rattle.std.specs.Map.{keys_of}
-use Rattle.serde_json.specs.Data.{Data, null}
+use Rattle.serde_json.specs.Data.{Data, Members, null}
 use Rattle.serde_json.specs.Find.{as_bool, as_object}
 use Rattle.serde_json.specs.View.{view, members_view}
 use Rattle.serde_json.proofs.Views.{Entry}
+use Rattle.schema_reports.specs.Instance.{Text}
 use Rattle.schema_reports.specs.Pointer.{pointer_to, joined}
 use Rattle.schema_reports.specs.Plan.{Edge, Part, Plan, making}
-use Rattle.schema_reports.specs.Reach.{at_first}
+use Rattle.schema_reports.specs.Reach.{asked_edges, at_first}
 use Rattle.schema_reports.specs.Refusals.{Cause}
-use Rattle.schema_reports.specs.Units.{object_of, unknown}
-use Rattle.schema_reports.specs.Guarded.{node_these}
+use Rattle.schema_reports.specs.Units.{absorbed_by, absorbed_in, object_of, unknown, without}
+use Rattle.schema_reports.specs.Guarded.{NodeEdge, NodePlan, node_edges, node_these}
+use Rattle.schema_node.specs.NodeTable.{IsFilled, NodeEntry}
 use Rattle.schema_node.specs.MakerViews.{maker_reply_of}
 use Rattle.schema_node.specs.NodeViews.{edge_of, entry_of, plan_of}
 use Rattle.schema_compiler.specs.KeyViews.{key_of, kind_of}
 use Rattle.schema_compiler.specs.Carried.{filled, task}
-use Rattle.schema_compiler.specs.Compiling.{reference_asked}
+use Rattle.schema_compiler.specs.Compiling.{In, reference_asked}
+use Rattle.schema_compiler.specs.Guarding.{DownFrom}
+use Rattle.schema_compiler.proofs.Lists.{length-more, there}
 use Rattle.schema_compiler.specs.Refusing.{Refused}
 use Rattle.schema_compiler.specs.Steps.{MakesPart, MakesPlan}
 use Rattle.schema_compiler.proofs.Growing.{refusal_map, from_key, blames_key, grown_none, grown_map, step_none}
-use Rattle.schema_compiler.proofs.Tables.{are_filled, finished_grown, finished_table, finishes, numbered_after, reserved_after}
+use Rattle.schema_compiler.proofs.Tables.{are_filled, down_to, edges_older, finished_grown, finished_table, finishes, guards_now, numbered_after, reserved_after}
 use Rattle.schema_compiler.proofs.References.{asked_refused, compile_clean, reference_clean, self_clean, asked_self, asked_edge, is_answered, is_skipped}
 use Rattle.schema_compiler.proofs.Entries.{all_entries, all_steps, so_far_none, so_far_more, member_refused}
 use Rattle.schema_compiler.proofs.Forms.{boolean_made, object_is, object_stands, other_refused}
-use Rattle.schema_compiler.proofs.Turns.{asked_begun, asked_compile, asked_refer, compile_refused, refer_refused, made_keyword, made_nothing}
-use Rattle.schema_compiler.proofs.MembersAsk.{own_is, reference_is, built_is, no_member, lone_is, lone_refused, members_are, members_refused, text_refused, other_text_refused, reference_made, planned_alone}
-use Rattle.schema_compiler.proofs.Unknown.{made_known, kept_unknown}
+use Rattle.schema_compiler.proofs.Turns.{asked_begun, asked_compile, asked_refer, compile_refused, refer_refused, made_keyword, made_nothing, absorbed_keyword, absorbed_nothing}
+use Rattle.schema_compiler.proofs.MembersAsk.{own_is, reference_is, built_is, no_member, lone_is, lone_refused, members_are, members_refused, text_refused, other_text_refused, reference_absorbs, reference_made, planned_alone}
+use Rattle.schema_compiler.proofs.Unknown.{made_known, kept_unknown, more_absorbed}
 use Rattle.schema_compiler.proofs.compiler.given.Given.+compile.Goals as goal
 
 pub child_edge-returns-in_err-edge_to-clause-refused : goal.child_edge-returns-in_err-edge_to-clause-refused
@@ -58,6 +62,8 @@ edge_to-returns-clause-edge g t c =
       fresh = rw c.edge_at.ensures.node (n.fresh);
       at_path = c.edge_at.ensures.path;
       leads = c.edge_at.ensures.leads;
+      waits = rw c.edge_at.ensures.node (c.edge_at.ensures.guarded);
+      down = rw c.edge_at.ensures.node (n.down);
     }
 
 pub number_of-returns-in-Some-clause-numbered : goal.number_of-returns-in-Some-clause-numbered
@@ -68,12 +74,13 @@ number_of-returns-in-Some-clause-numbered g t c =
       grown = grown_none _ old.keys old.nodes c.requires.table.lengths;
       number = c.in-Some.ensures.found;
       fresh = λ absent. absurd (absent c.in-Some.ensures.found);
+      down = λ i le lt. absurd (omega arith);
     }
 
 pub number_of-returns-in_err-number-clause-refused : goal.number_of-returns-in_err-number-clause-refused
 number_of-returns-in_err-number-clause-refused g t c =
-    let p = err_from_is_err_and c.from_residual.result c.from_residual.ensures.1 in
-    rw (p.1, p.2) c.in_err-number.ensures.refused
+    let p = err_from_is_err_and c.from_residual-in_err-number.result c.from_residual-in_err-number.ensures.1 in
+    rw (p.1, p.2) (rw c.in_ok-shared.ensures.ok at c.in_err-number.ensures.refused)
 
 pub number_of-returns-in_err-planned-clause-refused : goal.number_of-returns-in_err-planned-clause-refused
 number_of-returns-in_err-planned-clause-refused g t c =
@@ -81,8 +88,8 @@ number_of-returns-in_err-planned-clause-refused g t c =
     let s = task g.R.Resolver.resolving g.T.KeywordTable.owned g.T.KeywordTable.script g.K.Validate.shape c.args.self.now in
     let old = filled g.R.Resolver.point c.args.compiled.now in
     let p = err_from_is_err_and c.from_residual-in_err-planned.result c.from_residual-in_err-planned.ensures.1 in
-    let k = v c.args.key.now in
-    rw (p.1, p.2) (refusal_map s.limit _ _ _ _ old.keys (map v c.reserve_within.new.compiled.keys) (k ∷ []) (from_key s.parts k) (blames_key s.parts k) c.in_ok-number.ensures.keys (at_first, tt) _ c.in_err-planned.ensures.refused)
+    let k = v c.args.key in
+    rw (p.1, p.2) (refusal_map s.limit _ _ _ _ old.keys (map v c.reserve_within.new.compiled.keys) (k ∷ []) (from_key s.parts k) (blames_key s.parts k) (rw c.in_ok-shared.ensures.ok at c.in_ok-number.ensures.keys) (at_first, tt) _ (rw (c.deref.ensures ∙ c.in_ok-shared.ensures.ok) at c.in_err-planned.ensures.refused))
 
 pub number_of-fill-requires-clause-reserved : goal.number_of-fill-requires-clause-reserved
 number_of-fill-requires-clause-reserved g t c =
@@ -95,7 +102,7 @@ number_of-fill-requires-clause-ready g t c =
     let v = key_of g.R.Resolver.point in
     let s = task g.R.Resolver.resolving g.T.KeywordTable.owned g.T.KeywordTable.script g.K.Validate.shape c.args.self.now in
     let m = c.in_ok-planned.ensures.planned in
-    are_filled s.parts s.shape s.limit (map v c.planned_node.new.compiled.keys) c.planned_node.new.compiled.nodes (v c.args.key.now) (plan_of c.in_ok-planned.planned.form)
+    are_filled s.parts s.shape s.limit (map v c.planned_node.new.compiled.keys) c.planned_node.new.compiled.nodes (v c.deref.result.now) (plan_of c.in_ok-planned.planned.form)
     (record { plans = m.plan; settled = m.step.settled; clean = m.step.clean })
 
 pub number_of-returns-clause-numbered : goal.number_of-returns-clause-numbered
@@ -104,8 +111,9 @@ number_of-returns-clause-numbered g t c =
     let s = task g.R.Resolver.resolving g.T.KeywordTable.owned g.T.KeywordTable.script g.K.Validate.shape c.args.self.now in
     let old = filled g.R.Resolver.point c.args.compiled.now in
     let n = c.in_ok-number.ensures.nodes in
-    let m = c.in_ok-planned.ensures.planned in
-    let k = v c.args.key.now in
+    let m = rw (c.deref.ensures ∙ c.in_ok-shared.ensures.ok) at c.in_ok-planned.ensures.planned in
+    let added = rw c.in_ok-shared.ensures.ok at c.in_ok-number.ensures.keys in
+    let k = v c.args.key in
     let i = c.in_ok-number.number.0 in
     let p = plan_of c.in_ok-planned.planned.form in
     let annotations = c.in_ok-planned.planned.annotations in
@@ -114,12 +122,23 @@ number_of-returns-clause-numbered g t c =
     let nodes' = c.reserve_within.new.compiled.nodes in
     let nodes'' = c.planned_node.new.compiled.nodes in
     let nodes-filled = c.fill.new.self in
-    let at = numbered_after old.keys reserved planned m.step.grown.added.0 k i (c.in_ok-number.ensures.number ∙ c.requires.table.lengths) c.in_ok-number.ensures.keys m.step.grown.added.1 in
+    let at = numbered_after old.keys reserved planned m.step.grown.added.0 k i (c.in_ok-number.ensures.number ∙ c.requires.table.lengths) added m.step.grown.added.1 in
     let is_reserved = reserved_after old.nodes nodes' nodes'' n.0 i c.in_ok-number.ensures.number n.1 n.2 m.step.grown.stay in
+    let count : length reserved ≡ suc i = ap length added ∙ length-more old.keys k ∙ ap suc (sym (c.in_ok-number.ensures.number ∙ c.requires.table.lengths)) in
+    let formed : (j : ℕ) → i < j → j < length nodes'' → IsFilled nodes'' j = λ j more lt.
+    let x = there nodes'' j lt in
+    let f = m.step.grown.filled j x.0 (omega (arith, count)) x.1 in (x.0, f.0, x.1, f.1) in
+    let down : (j : ℕ) → i < j → j < length nodes'' → DownFrom s.parts planned nodes'' (asked_edges s.parts k) j = λ j more lt. m.step.down j (omega (arith, count)) (let e = m.step.table.lengths in omega arith) in
+    let older : (j : ℕ) (x : NodeEntry _) (q : NodePlan _) (e : NodeEdge) → j < i → slice_get nodes'' j ≡ Some x → x.plan ≡ Some q → In (node_edges q) e → e.node < i = λ j x q e lt here is inside.
+    let at_old = c.in_ok-number.ensures.number in
+    let w = edges_older s.parts s.shape s.limit old.keys old.nodes nodes' nodes'' n.0 c.requires.table n.1 m.step.grown.stay j x q e (omega (arith, at_old)) here is inside in omega (arith, at_old, w) in
     record {
-      table = finished_table s.parts s.shape s.limit planned nodes'' nodes-filled i k annotations p m.step.table at is_reserved c.fill.ensures.filled (record { plans = m.plan; settled = m.step.settled; clean = m.step.clean }) m.annotated;
+      table = finished_table s.parts s.shape s.limit planned nodes'' nodes-filled i k annotations p m.step.table at is_reserved c.fill.ensures.filled (record { plans = m.plan; settled = m.step.settled; clean = m.step.clean }) m.annotated
+          (guards_now s.parts s.shape s.limit planned nodes'' nodes-filled i k annotations p m.step.table at is_reserved c.fill.ensures.filled c.fill.ensures.last formed down m.waits older);
+      down = λ j le lt. down_to s.parts s.shape s.limit planned nodes'' nodes-filled i k annotations p m.step.table at is_reserved c.fill.ensures.filled c.fill.ensures.last formed down j
+          (let at_old = c.in_ok-number.ensures.number ∙ c.requires.table.lengths in omega (arith, at_old, le)) (let e = m.step.table.lengths in omega (arith, e, lt));
       grown = finished_grown _ old.keys reserved planned planned old.nodes nodes' nodes'' nodes-filled k n.0 i
-          c.requires.table.lengths c.in_ok-number.ensures.number c.in_ok-number.ensures.keys n.1 at_first (grown_map _ _ _ _ _ _ (from_key s.parts k) m.step.grown) refl (finishes nodes'' nodes-filled i annotations p c.fill.ensures.filled);
+          c.requires.table.lengths c.in_ok-number.ensures.number added n.1 at_first (grown_map _ _ _ _ _ _ (from_key s.parts k) m.step.grown) refl (finishes nodes'' nodes-filled i annotations p c.fill.ensures.filled);
       number = at;
       fresh = λ absent. c.in_ok-number.ensures.number ∙ c.requires.table.lengths;
     }
@@ -134,7 +153,7 @@ keywords_of-loop-name-init g t c =
       can = tt;
       finite = tt;
       so_far = rw (all, c.new-entries.ensures.items) (so_far_none s.parts s.shape s.limit (v c.args.key.now) (members_view c.args.members.now.entries) old.keys old.nodes c.requires.table);
-      unknown = ([], sym all, rw c.new-unknown.ensures.empty refl);
+      unknown = ([], sym all, rw c.new-unknown.ensures.empty refl, rw c.new-absorbed.ensures.items refl);
     }
 
 pub keywords_of-returns-in_err-entry-clause-refused : goal.keywords_of-returns-in_err-entry-clause-refused
@@ -181,8 +200,13 @@ keywords_of-loop-name-preserved-in-Continue-branch-3 g t c =
     record {
       can = tt;
       finite = tt;
-      so_far = rw c.in_ok-insert_by_priority-in-Some-2.ensures.placed (so_far_more s.parts s.shape s.limit k whole name value rest (Some (entry_of c.in-Some-2.entry)) es old.keys keys' keys'' old.nodes nodes' nodes'' so step made);
-      unknown = (done ++ member ∷ [], all', made_known s.parts k whole s.shape keys'' nodes'' (entry_of c.in-Some-2.entry) done member (members_view c.loop-name.unknown.entries) made inv.2);
+      so_far = rw c.in_ok-insert_by_priority-in-Some-2.ensures.placed (so_far_more s.parts s.shape s.limit k whole name value rest (Some (entry_of c.in-Some-2.entry)) es old.keys keys' keys'' old.nodes nodes' nodes'' so step made (rw c.in-Some-2.is at c.in_ok-entry.ensures.part.waits));
+      unknown = (
+        done ++ member ∷ [],
+        all',
+        made_known s.parts k whole s.shape keys'' nodes'' (entry_of c.in-Some-2.entry) done member (members_view c.loop-name.unknown.entries) made inv.2,
+        more_absorbed s.parts k whole done member _ _ inv.3 c.in_ok-entry.ensures.absorbed,
+      );
     }
 
 pub keywords_of-loop-name-preserved : goal.keywords_of-loop-name-preserved
@@ -212,12 +236,13 @@ keywords_of-loop-name-preserved g t c =
     record {
       can = tt;
       finite = tt;
-      so_far = so_far_more s.parts s.shape s.limit k whole name value rest None es old.keys keys' keys'' old.nodes nodes' nodes'' so step made;
+      so_far = so_far_more s.parts s.shape s.limit k whole name value rest None es old.keys keys' keys'' old.nodes nodes' nodes'' so step made tt;
       unknown = (
         done ++ member ∷ [],
         all',
         kept_unknown s.parts k whole s.shape keys'' nodes'' done member left (members_view c.loop-name.unknown.entries) (members_view c.keep_unknown.new.unknown.entries)
             (subst (λ ms. IsStrictlySortedBy string_cmp (keys_of ms)) all c.iter-name-items.ensures.ordered) made inv.2 c.in_ok-keep_unknown-in-None-2.ensures.kept,
+        more_absorbed s.parts k whole done member _ _ inv.3 c.in_ok-entry.ensures.absorbed,
       );
     }
 
@@ -237,7 +262,11 @@ keywords_of-returns-clause-parts g t c =
     record {
       step = all_steps s.parts s.shape s.limit k whole es old.keys keys' old.nodes nodes' so;
       entries = all_entries s.parts s.shape s.limit k whole es old.keys keys' old.nodes nodes' so;
-      unknown = inv.2 ∙ ap (λ (ms : List Entry). unknown s.parts k whole (members_view ms)) (sym (inv.1 ∙ ap (λ (ms : List Entry). inv.0 ++ ms) ended ∙ append-nil inv.0));
+      waits = so.waits;
+      unknown = c.without-annotating.ensures.left
+          ∙ ap (λ (names : List (String Global)). without (map string_bytes names) (members_view c.loop-name.unknown.entries)) c.as_slice.ensures.value
+          ∙ ap₂ (λ (names : List Text) (left : Members). without names left) inv.3 inv.2
+          ∙ ap (λ (ms : List Entry). without (absorbed_in s.parts k whole (members_view ms)) (unknown s.parts k whole (members_view ms))) (sym (inv.1 ∙ ap (λ (ms : List Entry). inv.0 ++ ms) ended ∙ append-nil inv.0));
     }
 
 pub entry_of-returns-then-owns-clause-refused : goal.entry_of-returns-then-owns-clause-refused
@@ -332,7 +361,7 @@ entry_of-returns-in-None-clause-part g t c =
     let owns = rw c.as_str-text.ensures.value at c.owns.ensures.owned in
     let row = rw c.as_str-text.ensures.value at c.in-None.ensures.row in
     no_member s.parts k whole name value (λ (es : List (Edge _)) (cs : List Cause) (p : Option (Part _)). MakesPart s.parts s.shape s.limit old.keys old.keys old.nodes old.nodes es cs k None p) (sym owns ∙ c.if-owns.false) row
-    (record { step = step_none s.parts s.shape s.limit old.keys old.nodes c.requires.table; made = tt })
+    (record { step = step_none s.parts s.shape s.limit old.keys old.nodes c.requires.table; made = tt; waits = tt })
 
 pub made_entry-loop-children-init : goal.made_entry-loop-children-init
 made_entry-loop-children-init g t c =
@@ -343,7 +372,7 @@ made_entry-loop-children-init g t c =
     let whole = members_view c.args.members.now.entries in
     let name = string_bytes c.args.name.now in
     let making = making s.parts k whole c.args.own name in
-    rw c.new-children.ensures.items (asked_begun s.parts s.shape s.limit k name making _ (g.T.KeywordTable.waiting c.in_ok-maker.maker) old.keys old.nodes refl c.in_ok-maker.ensures.begins c.requires.table)
+    (rw c.new-children.ensures.items (asked_begun s.parts s.shape s.limit k name making _ (g.T.KeywordTable.waiting c.in_ok-maker.maker) old.keys old.nodes refl c.in_ok-maker.ensures.begins c.requires.table), refl)
 
 pub made_entry-returns-in_err-edge-in-Compile-clause-refused : goal.made_entry-returns-in_err-edge-in-Compile-clause-refused
 made_entry-returns-in_err-edge-in-Compile-clause-refused g t c =
@@ -354,7 +383,7 @@ made_entry-returns-in_err-edge-in-Compile-clause-refused g t c =
     let whole = members_view c.args.members.now.entries in
     let name = string_bytes c.args.name.now in
     let making = making s.parts k whole c.args.own name in
-    let inv = c.loop-children.invariant in
+    let inv = c.loop-children.invariant.0 in
     let waiting = g.T.KeywordTable.waiting c.loop-children.maker in
     let waiting' = g.T.KeywordTable.waiting c.turn.new.maker in
     let told = maker_reply_of c.loop-children.reply in
@@ -374,7 +403,7 @@ made_entry-loop-children-preserved-in-Compile g t c =
     let whole = members_view c.args.members.now.entries in
     let name = string_bytes c.args.name.now in
     let making = making s.parts k whole c.args.own name in
-    let inv = c.loop-children.invariant in
+    let inv = c.loop-children.invariant.0 in
     let waiting = g.T.KeywordTable.waiting c.loop-children.maker in
     let waiting' = g.T.KeywordTable.waiting c.turn.new.maker in
     let told = maker_reply_of c.loop-children.reply in
@@ -382,10 +411,12 @@ made_entry-loop-children-preserved-in-Compile g t c =
     let keys' = map v c.loop-children.compiled.keys in
     let nodes' = c.loop-children.compiled.nodes in
     let takes = rw c.in-Compile.is at c.in_ok-path.ensures.takes in
-    let e = c.in_ok-edge-in-Compile.ensures.answered in
-    rw (c.in_ok-reply-in-Compile.ensures.kept, c.in_ok-reply-in-Compile.ensures.told)
-    (asked_compile s.parts s.shape s.limit k name making waiting waiting' told es old.keys keys' (map v c.child_edge.new.compiled.keys) old.nodes nodes' c.child_edge.new.compiled.nodes c.in-Compile.path (edge_of c.in_ok-edge-in-Compile.edge) (length c.loop-children.children.items)
-    inv takes (sym (length-map c.loop-children.children.items (option_map edge_of))) e.leads e.filled.0 e.step)
+    let e = c.in_ok-edge-in-Compile.ensures.answered in (
+      rw (c.in_ok-reply-in-Compile.ensures.kept, c.in_ok-reply-in-Compile.ensures.told)
+          (asked_compile s.parts s.shape s.limit k name making waiting waiting' told es old.keys keys' (map v c.child_edge.new.compiled.keys) old.nodes nodes' c.child_edge.new.compiled.nodes c.in-Compile.path (edge_of c.in_ok-edge-in-Compile.edge) (length c.loop-children.children.items)
+          inv takes (sym (length-map c.loop-children.children.items (option_map edge_of))) e.leads e.filled.0 e.waits.0 e.step),
+      c.loop-children.invariant.1,
+    )
 
 pub made_entry-returns-in_err-edge-in-Refer-clause-refused : goal.made_entry-returns-in_err-edge-in-Refer-clause-refused
 made_entry-returns-in_err-edge-in-Refer-clause-refused g t c =
@@ -396,7 +427,7 @@ made_entry-returns-in_err-edge-in-Refer-clause-refused g t c =
     let whole = members_view c.args.members.now.entries in
     let name = string_bytes c.args.name.now in
     let making = making s.parts k whole c.args.own name in
-    let inv = c.loop-children.invariant in
+    let inv = c.loop-children.invariant.0 in
     let waiting = g.T.KeywordTable.waiting c.loop-children.maker in
     let waiting' = g.T.KeywordTable.waiting c.turn.new.maker in
     let told = maker_reply_of c.loop-children.reply in
@@ -416,7 +447,7 @@ made_entry-loop-children-preserved g t c =
     let whole = members_view c.args.members.now.entries in
     let name = string_bytes c.args.name.now in
     let making = making s.parts k whole c.args.own name in
-    let inv = c.loop-children.invariant in
+    let inv = c.loop-children.invariant.0 in
     let waiting = g.T.KeywordTable.waiting c.loop-children.maker in
     let waiting' = g.T.KeywordTable.waiting c.turn.new.maker in
     let told = maker_reply_of c.loop-children.reply in
@@ -424,10 +455,12 @@ made_entry-loop-children-preserved g t c =
     let keys' = map v c.loop-children.compiled.keys in
     let nodes' = c.loop-children.compiled.nodes in
     let takes = rw c.in-Refer.is at c.in_ok-path.ensures.takes in
-    let e = c.in_ok-edge-in-Refer.ensures.answered in
-    rw c.in_ok-reply-in-Refer.ensures.kept
-    (asked_refer s.parts s.shape s.limit k name making waiting waiting' told _ es old.keys keys' (map v c.reference_edge.new.compiled.keys) old.nodes nodes' c.reference_edge.new.compiled.nodes c.in-Refer.text (option_map edge_of c.in_ok-edge-in-Refer.edge) (length c.loop-children.children.items)
-    inv takes (sym (length-map c.loop-children.children.items (option_map edge_of))) c.in_ok-reply-in-Refer.ensures.told e.leads e.filled e.step)
+    let e = c.in_ok-edge-in-Refer.ensures.answered in (
+      rw c.in_ok-reply-in-Refer.ensures.kept
+          (asked_refer s.parts s.shape s.limit k name making waiting waiting' told _ es old.keys keys' (map v c.reference_edge.new.compiled.keys) old.nodes nodes' c.reference_edge.new.compiled.nodes c.in-Refer.text (option_map edge_of c.in_ok-edge-in-Refer.edge) (length c.loop-children.children.items)
+          inv takes (sym (length-map c.loop-children.children.items (option_map edge_of))) c.in_ok-reply-in-Refer.ensures.told e.leads e.filled e.waits e.step),
+      c.loop-children.invariant.1,
+    )
 
 pub made_entry-returns-in-Keyword-clause-part : goal.made_entry-returns-in-Keyword-clause-part
 made_entry-returns-in-Keyword-clause-part g t c =
@@ -438,7 +471,7 @@ made_entry-returns-in-Keyword-clause-part g t c =
     let whole = members_view c.args.members.now.entries in
     let name = string_bytes c.args.name.now in
     let making = making s.parts k whole c.args.own name in
-    let inv = c.loop-children.invariant in
+    let inv = c.loop-children.invariant.0 in
     let waiting = g.T.KeywordTable.waiting c.loop-children.maker in
     let waiting' = g.T.KeywordTable.waiting c.turn.new.maker in
     let told = maker_reply_of c.loop-children.reply in
@@ -446,8 +479,8 @@ made_entry-returns-in-Keyword-clause-part g t c =
     let keys' = map v c.loop-children.compiled.keys in
     let nodes' = c.loop-children.compiled.nodes in
     let takes = rw c.in-Keyword.is at c.in_ok-path.ensures.takes in
-    let made = made_keyword s.parts s.shape s.limit k name making waiting waiting' told es old.keys keys' old.nodes nodes' c.args.priority c.args.is_leaf c.in-Keyword.keyword c.in-Keyword.field-1 inv takes in
-    rw c.in_ok-entry_named-in-Keyword.ensures.entry (record { step = made.0; made = made.1 })
+    let made = made_keyword s.parts s.shape s.limit k name making waiting waiting' told es old.keys keys' old.nodes nodes' c.args.priority c.args.is_leaf c.in-Keyword.keyword c.in-Keyword.names inv takes in
+    rw c.in_ok-entry_named-in-Keyword.ensures.entry (record { step = made.0; made = made.1; waits = inv.waits })
 
 pub made_entry-returns-in-Nothing-clause-part : goal.made_entry-returns-in-Nothing-clause-part
 made_entry-returns-in-Nothing-clause-part g t c =
@@ -458,7 +491,7 @@ made_entry-returns-in-Nothing-clause-part g t c =
     let whole = members_view c.args.members.now.entries in
     let name = string_bytes c.args.name.now in
     let making = making s.parts k whole c.args.own name in
-    let inv = c.loop-children.invariant in
+    let inv = c.loop-children.invariant.0 in
     let waiting = g.T.KeywordTable.waiting c.loop-children.maker in
     let waiting' = g.T.KeywordTable.waiting c.turn.new.maker in
     let told = maker_reply_of c.loop-children.reply in
@@ -467,7 +500,7 @@ made_entry-returns-in-Nothing-clause-part g t c =
     let nodes' = c.loop-children.compiled.nodes in
     let takes = rw c.in-Nothing.is at c.in_ok-path.ensures.takes in
     let made = made_nothing s.parts s.shape s.limit k name making waiting waiting' told es old.keys keys' old.nodes nodes' c.args.priority c.args.is_leaf inv takes in
-    record { step = made.0; made = made.1 }
+    record { step = made.0; made = made.1; waits = tt }
 
 pub planned_object-returns-in_err-entry-in-Some-clause-refused : goal.planned_object-returns-in_err-entry-in-Some-clause-refused
 planned_object-returns-in_err-entry-in-Some-clause-refused g t c =
@@ -497,8 +530,8 @@ planned_object-returns-in_ok-node_alone-in-Some-clause-planned g t c =
     let k = v c.args.key.now in
     let whole = members_view c.args.members.now.entries in
     let n = c.in_ok-node_alone-in-Some.field-0 in
-    let keys' = map v c.reference_entry.new.compiled.keys in
-    let nodes' = c.reference_entry.new.compiled.nodes in
+    let keys' = map v c.compile_ref.new.compiled.keys in
+    let nodes' = c.compile_ref.new.compiled.nodes in
     lone_is s.parts k whole (λ (es : List (Edge _)) (cs : List Cause) (q : Plan _) (a : Option Data). MakesPlan s.parts s.shape s.limit old.keys keys' old.nodes nodes' es cs k (plan_of n.form) q (option_map view n.annotations) a) (view c.in-Some.value.now) c.in-Some.ensures.alone
     (planned_alone s.parts k s.shape s.limit old.keys keys' old.nodes nodes' _ _ _ _ (plan_of n.form) n.annotations c.in_ok-node_alone-in-Some.ensures.plan c.in_ok-node_alone-in-Some.ensures.annotations (rw c.in_ok-name-in-Some.ensures.ok at c.in_ok-entry-in-Some.ensures.part))
 
@@ -513,7 +546,7 @@ planned_object-returns-in_ok-keywords-in-None-clause-planned g t c =
     let keys' = map v c.keywords_of.new.compiled.keys in
     let nodes' = c.keywords_of.new.compiled.nodes in
     members_are s.parts k whole (λ (es : List (Edge _)) (cs : List Cause) (q : Plan _) (a : Option Data). MakesPlan s.parts s.shape s.limit old.keys keys' old.nodes nodes' es cs k (node_these (map entry_of c.in_ok-keywords-in-None.keywords.entries.items)) q (option_map view c.object_of.result) a) c.in-None.ensures.alone
-    (record { step = m.step; plan = m.entries; annotated = c.object_of.ensures.object ∙ ap object_of m.unknown })
+    (record { step = m.step; plan = m.entries; waits = m.waits; annotated = c.object_of.ensures.object ∙ ap object_of m.unknown })
 
 pub reference_edge-returns-in_err-target_of-clause-refused : goal.reference_edge-returns-in_err-target_of-clause-refused
 reference_edge-returns-in_err-target_of-clause-refused g t c =
@@ -564,8 +597,8 @@ reference_edge-returns-in_ok-edge-in-Some-clause-answered g t c =
     is_answered s.parts s.shape s.limit (reference_asked s.parts k name kind text) (record { key = v c.in-Some.target; path = joined [] name; is_reference = true }) _ old.keys (map v c.edge_to.new.compiled.keys) old.nodes c.edge_to.new.compiled.nodes (edge_of c.in_ok-edge-in-Some.edge) _ (asked_edge s.parts k name kind text (record { key = v c.in-Some.target; path = joined [] name; is_reference = true }) t.0 (t.1 name))
     (reference_clean s.parts k name kind text (record { key = v c.in-Some.target; path = joined [] name; is_reference = true }) (t.1 name)) (λ f. t.2) (grind (arith, common_steps, c.in_ok-path.ensures)) c.in_ok-edge-in-Some.ensures.edge
 
-pub reference_entry-returns-in_err-text-clause-refused : goal.reference_entry-returns-in_err-text-clause-refused
-reference_entry-returns-in_err-text-clause-refused g t c =
+pub reference_by-returns-in_err-text-clause-refused : goal.reference_by-returns-in_err-text-clause-refused
+reference_by-returns-in_err-text-clause-refused g t c =
     let v = key_of g.R.Resolver.point in
     let s = task g.R.Resolver.resolving g.T.KeywordTable.owned g.T.KeywordTable.script g.K.Validate.shape c.args.self.now in
     let old = filled g.R.Resolver.point c.args.compiled.now in
@@ -576,8 +609,8 @@ reference_entry-returns-in_err-text-clause-refused g t c =
     let p = err_from_is_err_and c.from_residual.result c.from_residual.ensures.1 in
     rw (p.1, p.2) (other_text_refused s.parts k s.limit old.keys _ name kind value c.in_err-text.ensures.other c.in_err-text.ensures.refused)
 
-pub reference_entry-returns-in_err-reference_edge-clause-refused : goal.reference_entry-returns-in_err-reference_edge-clause-refused
-reference_entry-returns-in_err-reference_edge-clause-refused g t c =
+pub reference_by-returns-in_err-reference_edge-clause-refused : goal.reference_by-returns-in_err-reference_edge-clause-refused
+reference_by-returns-in_err-reference_edge-clause-refused g t c =
     let v = key_of g.R.Resolver.point in
     let s = task g.R.Resolver.resolving g.T.KeywordTable.owned g.T.KeywordTable.script g.K.Validate.shape c.args.self.now in
     let old = filled g.R.Resolver.point c.args.compiled.now in
@@ -588,8 +621,8 @@ reference_entry-returns-in_err-reference_edge-clause-refused g t c =
     let p = err_from_is_err_and c.from_residual-in_err-reference_edge.result c.from_residual-in_err-reference_edge.ensures.1 in
     rw (p.1, p.2) (text_refused s.parts k s.limit old.keys _ name kind (string_bytes c.in_ok-text.text.now) value c.in_ok-text.ensures.text c.in_err-reference_edge.ensures.refused)
 
-pub reference_entry-returns-in-None-clause-part : goal.reference_entry-returns-in-None-clause-part
-reference_entry-returns-in-None-clause-part g t c =
+pub reference_by-returns-in-None-clause-part : goal.reference_by-returns-in-None-clause-part
+reference_by-returns-in-None-clause-part g t c =
     let v = key_of g.R.Resolver.point in
     let s = task g.R.Resolver.resolving g.T.KeywordTable.owned g.T.KeywordTable.script g.K.Validate.shape c.args.self.now in
     let old = filled g.R.Resolver.point c.args.compiled.now in
@@ -599,8 +632,8 @@ reference_entry-returns-in-None-clause-part g t c =
     let value = view c.args.value.now in
     reference_made s.parts k s.shape s.limit old.keys (map v c.reference_edge.new.compiled.keys) old.nodes c.reference_edge.new.compiled.nodes name kind (string_bytes c.in_ok-text.text.now) value c.args.priority None c.in_ok-text.ensures.text (rw c.in-None.is at c.in_ok-reference_edge.ensures.answered)
 
-pub reference_entry-returns-in_ok-entry_named-in-Some-clause-part : goal.reference_entry-returns-in_ok-entry_named-in-Some-clause-part
-reference_entry-returns-in_ok-entry_named-in-Some-clause-part g t c =
+pub reference_by-returns-in_ok-entry_named-in-Some-clause-part : goal.reference_by-returns-in_ok-entry_named-in-Some-clause-part
+reference_by-returns-in_ok-entry_named-in-Some-clause-part g t c =
     let v = key_of g.R.Resolver.point in
     let s = task g.R.Resolver.resolving g.T.KeywordTable.owned g.T.KeywordTable.script g.K.Validate.shape c.args.self.now in
     let old = filled g.R.Resolver.point c.args.compiled.now in
@@ -648,3 +681,104 @@ planned_node-returns-in_ok-plain_form-in-None-clause-planned g t c =
     let boolean = ap (λ (o : Option Data). as_bool (unwrap_or o null)) c.value_of-value.ensures.value in
     let f = c.in_ok-plain_form-in-None.ensures.form in
     boolean_made s.parts k s.shape s.limit f.0 (plan_of c.in_ok-plain_form-in-None.field-0) old.keys old.nodes (sym boolean ∙ f.1) f.2 c.requires.table
+
+pub entry_of-returns-then-owns-clause-absorbed : goal.entry_of-returns-then-owns-clause-absorbed
+entry_of-returns-then-owns-clause-absorbed g t c =
+    let v = key_of g.R.Resolver.point in
+    let s = task g.R.Resolver.resolving g.T.KeywordTable.owned g.T.KeywordTable.script g.K.Validate.shape c.args.self.now in
+    let old = filled g.R.Resolver.point c.args.compiled.now in
+    let k = v c.args.key.now in
+    let whole = members_view c.args.members.now.entries in
+    let name = string_bytes c.args.name.now in
+    let value = view c.args.value.now in
+    let before = map string_bytes c.args.absorbed.now.items in
+    let owns = rw c.as_str-text.ensures.value at c.owns.ensures.owned in
+    own_is s.parts k whole name value (λ (es : List (Edge _)) (cs : List Cause) (p : Option (Part _)). IfOk c.made_entry.result (λ _. map string_bytes c.made_entry.new.absorbed.items ≡ before ++ absorbed_by p)) (sym owns ∙ c.if-owns.true) c.made_entry.ensures.absorbed
+
+pub entry_of-returns-in-None-reference_kind-clause-absorbed : goal.entry_of-returns-in-None-reference_kind-clause-absorbed
+entry_of-returns-in-None-reference_kind-clause-absorbed g t c =
+    let v = key_of g.R.Resolver.point in
+    let s = task g.R.Resolver.resolving g.T.KeywordTable.owned g.T.KeywordTable.script g.K.Validate.shape c.args.self.now in
+    let old = filled g.R.Resolver.point c.args.compiled.now in
+    let k = v c.args.key.now in
+    let whole = members_view c.args.members.now.entries in
+    let name = string_bytes c.args.name.now in
+    let value = view c.args.value.now in
+    let before = map string_bytes c.args.absorbed.now.items in
+    let owns = rw c.as_str-text.ensures.value at c.owns.ensures.owned in
+    let row = rw c.as_str-text.ensures.value at c.in-Some.ensures.row in
+    let kind = rw c.as_str-text.ensures.value at c.in-None-reference_kind.ensures.kind in
+    built_is s.parts k whole name value (λ (es : List (Edge _)) (cs : List Cause) (p : Option (Part _)). IfOk c.made_entry-in-None-reference_kind.result (λ _. map string_bytes c.made_entry-in-None-reference_kind.new.absorbed.items ≡ before ++ absorbed_by p)) _ (sym owns ∙ c.if-owns.false) row kind c.made_entry-in-None-reference_kind.ensures.absorbed
+
+pub entry_of-returns-in-Some-reference_kind-clause-absorbed : goal.entry_of-returns-in-Some-reference_kind-clause-absorbed
+entry_of-returns-in-Some-reference_kind-clause-absorbed g t c =
+    let v = key_of g.R.Resolver.point in
+    let s = task g.R.Resolver.resolving g.T.KeywordTable.owned g.T.KeywordTable.script g.K.Validate.shape c.args.self.now in
+    let old = filled g.R.Resolver.point c.args.compiled.now in
+    let k = v c.args.key.now in
+    let whole = members_view c.args.members.now.entries in
+    let name = string_bytes c.args.name.now in
+    let value = view c.args.value.now in
+    let before = map string_bytes c.args.absorbed.now.items in
+    let owns = rw c.as_str-text.ensures.value at c.owns.ensures.owned in
+    let row = rw c.as_str-text.ensures.value at c.in-Some.ensures.row in
+    let kind = rw c.as_str-text.ensures.value at c.in-Some-reference_kind.ensures.kind in
+    reference_is s.parts k whole name value (λ (es : List (Edge _)) (cs : List Cause) (p : Option (Part _)). IfOk c.reference_entry.result (λ _. before ≡ before ++ absorbed_by p)) _ (kind_of c.in-Some-reference_kind.kind) (sym owns ∙ c.if-owns.false) row kind
+    (IfOk-weaker c.reference_entry.result _ _ (λ o h. sym (ap (λ (names : List Text). before ++ names) (reference_absorbs s.parts k name _ (kind_of c.in-Some-reference_kind.kind) value) ∙ append-nil before)) c.reference_entry.ensures.part)
+
+pub entry_of-returns-in-None-clause-absorbed : goal.entry_of-returns-in-None-clause-absorbed
+entry_of-returns-in-None-clause-absorbed g t c =
+    let v = key_of g.R.Resolver.point in
+    let s = task g.R.Resolver.resolving g.T.KeywordTable.owned g.T.KeywordTable.script g.K.Validate.shape c.args.self.now in
+    let old = filled g.R.Resolver.point c.args.compiled.now in
+    let k = v c.args.key.now in
+    let whole = members_view c.args.members.now.entries in
+    let name = string_bytes c.args.name.now in
+    let value = view c.args.value.now in
+    let before = map string_bytes c.args.absorbed.now.items in
+    let owns = rw c.as_str-text.ensures.value at c.owns.ensures.owned in
+    let row = rw c.as_str-text.ensures.value at c.in-None.ensures.row in
+    no_member s.parts k whole name value (λ (es : List (Edge _)) (cs : List Cause) (p : Option (Part _)). before ≡ before ++ absorbed_by p) (sym owns ∙ c.if-owns.false) row (sym (append-nil before))
+
+pub made_entry-returns-in-Keyword-clause-absorbed : goal.made_entry-returns-in-Keyword-clause-absorbed
+made_entry-returns-in-Keyword-clause-absorbed g t c =
+    let v = key_of g.R.Resolver.point in
+    let s = task g.R.Resolver.resolving g.T.KeywordTable.owned g.T.KeywordTable.script g.K.Validate.shape c.args.self.now in
+    let old = filled g.R.Resolver.point c.args.compiled.now in
+    let k = v c.args.key.now in
+    let whole = members_view c.args.members.now.entries in
+    let name = string_bytes c.args.name.now in
+    let making = making s.parts k whole c.args.own name in
+    let inv = c.loop-children.invariant.0 in
+    let waiting = g.T.KeywordTable.waiting c.loop-children.maker in
+    let waiting' = g.T.KeywordTable.waiting c.turn.new.maker in
+    let told = maker_reply_of c.loop-children.reply in
+    let es = map (option_map edge_of) c.loop-children.children.items in
+    let keys' = map v c.loop-children.compiled.keys in
+    let nodes' = c.loop-children.compiled.nodes in
+    let takes = rw c.in-Keyword.is at c.in_ok-path.ensures.takes in
+    let before = map string_bytes c.args.absorbed.now.items in
+    c.in_ok-absorb-in-Keyword.ensures.added ∙ ap (λ (so_far : List (String Global)). map string_bytes so_far ++ map string_bytes c.in-Keyword.names.items) c.loop-children.invariant.1
+    ∙ ap (λ (names : List Text). before ++ names)
+    (sym (absorbed_keyword s.parts s.shape s.limit k name making waiting waiting' told es old.keys keys' old.nodes nodes' c.args.priority c.args.is_leaf c.in-Keyword.keyword c.in-Keyword.names inv takes))
+
+pub made_entry-returns-in-Nothing-clause-absorbed : goal.made_entry-returns-in-Nothing-clause-absorbed
+made_entry-returns-in-Nothing-clause-absorbed g t c =
+    let v = key_of g.R.Resolver.point in
+    let s = task g.R.Resolver.resolving g.T.KeywordTable.owned g.T.KeywordTable.script g.K.Validate.shape c.args.self.now in
+    let old = filled g.R.Resolver.point c.args.compiled.now in
+    let k = v c.args.key.now in
+    let whole = members_view c.args.members.now.entries in
+    let name = string_bytes c.args.name.now in
+    let making = making s.parts k whole c.args.own name in
+    let inv = c.loop-children.invariant.0 in
+    let waiting = g.T.KeywordTable.waiting c.loop-children.maker in
+    let waiting' = g.T.KeywordTable.waiting c.turn.new.maker in
+    let told = maker_reply_of c.loop-children.reply in
+    let es = map (option_map edge_of) c.loop-children.children.items in
+    let keys' = map v c.loop-children.compiled.keys in
+    let nodes' = c.loop-children.compiled.nodes in
+    let takes = rw c.in-Nothing.is at c.in_ok-path.ensures.takes in
+    let before = map string_bytes c.args.absorbed.now.items in
+    ap (λ (so_far : List (String Global)). map string_bytes so_far) c.loop-children.invariant.1
+    ∙ sym (ap (λ (names : List Text). before ++ names) (absorbed_nothing s.parts s.shape s.limit k name making waiting waiting' told es old.keys keys' old.nodes nodes' c.args.priority c.args.is_leaf inv takes) ∙ append-nil before)

@@ -10,6 +10,6 @@ pub returns-then-len-self-clause-refused : goal.returns-then-len-self-clause-ref
 returns-then-len-self-clause-refused g c =
     let v = key_of g.R.Resolver.point in
     let keys = map v c.args.compiled.now.keys in
-    let k = v c.args.key.now in
+    let k = v c.args.key.now.value in
     let full = c.if-len-self.true in
     (refl, (k ∷ [], (at_first, tt), pushed_distinct keys k c.requires.table.distinct c.requires.absent, omega (arith, length-more keys k, length-map c.args.compiled.now.keys v)))

@@ -1,10 +1,14 @@
 use Rattle.std.proofs.Common.{arith, ap}
 use Rattle.schema_node.specs.Progress.{Context}
+use Rattle.schema_node.proofs.Depths.{depths_left}
 use Rattle.schema_node.proofs.Pairs.{distinct_left, left_pairs}
 use Rattle.schema_node.proofs.context.validation.ValidationContext.exit.Goals as goal
 
 pub invariant_of-self : goal.invariant_of-self
-invariant_of-self c = distinct_left c.self.inside.pairs.items c.pop.new.self.items c.pop.result c.pop.ensures.items c.self.invariant
+invariant_of-self c = (
+  distinct_left c.self.inside.pairs.items c.pop.new.self.items c.pop.result c.pop.ensures.items c.self.invariant.0,
+  depths_left c.self.inside.pairs.items c.pop.new.self.items c.pop.result c.pop.ensures.items c.self.invariant.1,
+)
 
 pub returns-clause-left : goal.returns-clause-left
 returns-clause-left c = left_pairs c.args.node.0 c.args.place.now c.args.self.now.in_progress c.self.inside.pairs.items c.pop.new.self.items c.pop.result (ap (λ (x : Context). x.in_progress) c.self.view_is) c.pop.ensures.items

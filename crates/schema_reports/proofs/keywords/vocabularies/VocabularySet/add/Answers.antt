@@ -1,8 +1,9 @@
 use Rattle.std.proofs.Common.{arith, sym, ◌∙◌}
 use Rattle.std.specs.List.{list_any}
 use Rattle.std.specs.Prelude.{[], bytes_eq, false, map, refl, string_bytes, true, ◌++◌, ◌∷◌, ◌≡◌}
-use Rattle.schema_reports.specs.VocabularySets.{custom_of}
-use Rattle.schema_reports.proofs.VocabularyLists.{custom_of-listed, flags, listed-raised, listed-same, listed-snoc, map-snoc}
+use Rattle.schema_reports.specs.VocabularySets.{custom_of, placed_text}
+use Rattle.schema_reports.proofs.RisingTexts.{placed_rises}
+use Rattle.schema_reports.proofs.VocabularyLists.{custom_of-listed, flags, listed-placed, listed-raised}
 use Rattle.schema_reports.proofs.keywords.vocabularies.VocabularySet.add.Goals as goal
 
 pub returns-in-Core-clause-member : goal.returns-in-Core-clause-member
@@ -59,27 +60,18 @@ returns-in-Content-clause-member c = λ w. rw (c.in-Content.is, ← c.self.view_
 pub returns-in-Content-clause-custom : goal.returns-in-Content-clause-custom
 returns-in-Content-clause-custom c = rw (c.in-Content.is, ← c.self.view_is) (custom_of-listed (flags c.self.inside.core c.self.inside.applicator c.self.inside.unevaluated c.self.inside.validation c.self.inside.metadata c.self.inside.format c.self.inside.format_annotation c.self.inside.format_assertion true) (map string_bytes c.self.inside.custom.items) ∙ sym (custom_of-listed (flags c.self.inside.core c.self.inside.applicator c.self.inside.unevaluated c.self.inside.validation c.self.inside.metadata c.self.inside.format c.self.inside.format_annotation c.self.inside.format_assertion c.self.inside.content) (map string_bytes c.self.inside.custom.items)))
 
-pub returns-in_ok-push-in-Custom-clause-member : goal.returns-in_ok-push-in-Custom-clause-member
-returns-in_ok-push-in-Custom-clause-member c = λ w.
-    let items : c.push.new.self.items ≡ c.self.inside.custom.items ++ c.in-Custom.uri ∷ [] = c.in_ok-push-in-Custom.ensures.items in
-    let texts : map string_bytes c.push.new.self.items ≡ map string_bytes c.self.inside.custom.items ++ string_bytes c.in-Custom.uri ∷ [] = rw items (map-snoc string_bytes c.self.inside.custom.items c.in-Custom.uri) in
-    rw (c.in-Custom.is, ← c.self.view_is, texts) (listed-snoc w (flags c.self.inside.core c.self.inside.applicator c.self.inside.unevaluated c.self.inside.validation c.self.inside.metadata c.self.inside.format c.self.inside.format_annotation c.self.inside.format_assertion c.self.inside.content) (map string_bytes c.self.inside.custom.items) (string_bytes c.in-Custom.uri))
+pub returns-in_ok-place_text-in-Custom-clause-member : goal.returns-in_ok-place_text-in-Custom-clause-member
+returns-in_ok-place_text-in-Custom-clause-member c = λ w.
+    let texts : map string_bytes c.place_text.new.texts.items ≡ placed_text (string_bytes c.in-Custom.uri) (map string_bytes c.self.inside.custom.items) = c.in_ok-place_text-in-Custom.ensures.placed in
+    rw (c.in-Custom.is, texts, ← c.self.view_is) (listed-placed w (flags c.self.inside.core c.self.inside.applicator c.self.inside.unevaluated c.self.inside.validation c.self.inside.metadata c.self.inside.format c.self.inside.format_annotation c.self.inside.format_assertion c.self.inside.content) (map string_bytes c.self.inside.custom.items) (string_bytes c.in-Custom.uri))
 
-pub returns-in_ok-push-in-Custom-clause-custom : goal.returns-in_ok-push-in-Custom-clause-custom
-returns-in_ok-push-in-Custom-clause-custom c =
-    let items : c.push.new.self.items ≡ c.self.inside.custom.items ++ c.in-Custom.uri ∷ [] = c.in_ok-push-in-Custom.ensures.items in
-    let texts : map string_bytes c.push.new.self.items ≡ map string_bytes c.self.inside.custom.items ++ string_bytes c.in-Custom.uri ∷ [] = rw items (map-snoc string_bytes c.self.inside.custom.items c.in-Custom.uri) in
+pub returns-in_ok-place_text-in-Custom-clause-custom : goal.returns-in_ok-place_text-in-Custom-clause-custom
+returns-in_ok-place_text-in-Custom-clause-custom c =
+    let texts : map string_bytes c.place_text.new.texts.items ≡ placed_text (string_bytes c.in-Custom.uri) (map string_bytes c.self.inside.custom.items) = c.in_ok-place_text-in-Custom.ensures.placed in
     let customs : custom_of c.args.self.now ≡ (map string_bytes c.self.inside.custom.items) = rw (← c.self.view_is) (custom_of-listed (flags c.self.inside.core c.self.inside.applicator c.self.inside.unevaluated c.self.inside.validation c.self.inside.metadata c.self.inside.format c.self.inside.format_annotation c.self.inside.format_assertion c.self.inside.content) (map string_bytes c.self.inside.custom.items)) in
-    let absent : list_any (bytes_eq (string_bytes c.in-Custom.uri)) (map string_bytes c.self.inside.custom.items) ≡ false = rw (← c.deref.ensures.value) (sym c.contains_text.ensures.found ∙ c.if-not-contains_text.true) in
-    rw (c.in-Custom.is, customs, absent) (custom_of-listed (flags c.self.inside.core c.self.inside.applicator c.self.inside.unevaluated c.self.inside.validation c.self.inside.metadata c.self.inside.format c.self.inside.format_annotation c.self.inside.format_assertion c.self.inside.content) (map string_bytes c.push.new.self.items) ∙ texts)
+    rw (c.in-Custom.is, customs) (custom_of-listed (flags c.self.inside.core c.self.inside.applicator c.self.inside.unevaluated c.self.inside.validation c.self.inside.metadata c.self.inside.format c.self.inside.format_annotation c.self.inside.format_assertion c.self.inside.content) (map string_bytes c.place_text.new.texts.items) ∙ texts)
 
-pub returns-else-not-contains_text-clause-member : goal.returns-else-not-contains_text-clause-member
-returns-else-not-contains_text-clause-member c = λ w.
-    let found : list_any (bytes_eq (string_bytes c.in-Custom.uri)) (map string_bytes c.self.inside.custom.items) ≡ true = rw (← c.deref.ensures.value) (sym c.contains_text.ensures.found ∙ c.if-not-contains_text.false) in
-    rw (c.in-Custom.is, ← c.self.view_is) (listed-same w (flags c.self.inside.core c.self.inside.applicator c.self.inside.unevaluated c.self.inside.validation c.self.inside.metadata c.self.inside.format c.self.inside.format_annotation c.self.inside.format_assertion c.self.inside.content) (map string_bytes c.self.inside.custom.items) (string_bytes c.in-Custom.uri) found)
-
-pub returns-else-not-contains_text-clause-custom : goal.returns-else-not-contains_text-clause-custom
-returns-else-not-contains_text-clause-custom c =
-    let customs : custom_of c.args.self.now ≡ (map string_bytes c.self.inside.custom.items) = rw (← c.self.view_is) (custom_of-listed (flags c.self.inside.core c.self.inside.applicator c.self.inside.unevaluated c.self.inside.validation c.self.inside.metadata c.self.inside.format c.self.inside.format_annotation c.self.inside.format_assertion c.self.inside.content) (map string_bytes c.self.inside.custom.items)) in
-    let found : list_any (bytes_eq (string_bytes c.in-Custom.uri)) (map string_bytes c.self.inside.custom.items) ≡ true = rw (← c.deref.ensures.value) (sym c.contains_text.ensures.found ∙ c.if-not-contains_text.false) in
-    rw (c.in-Custom.is, customs, found) refl
+pub invariant_of-self-in-Continue-1 : goal.invariant_of-self-in-Continue-1
+invariant_of-self-in-Continue-1 c =
+    let texts : map string_bytes c.place_text.new.texts.items ≡ placed_text (string_bytes c.in-Custom.uri) (map string_bytes c.self.inside.custom.items) = c.in_ok-place_text-in-Custom.ensures.placed in
+    rw texts (placed_rises (string_bytes c.in-Custom.uri) (map string_bytes c.self.inside.custom.items) c.self.invariant)

@@ -1,0 +1,4 @@
+pub mod Refusals
+pub mod Refusing
+pub mod EachItem
+pub mod BothOnce

@@ -1,0 +1,8 @@
+//! Keyword types that keep the laws, as a test of the laws: one whose run has no state at all, one whose run counts what is left of
+//! a length that it stores as it begins, and one that marks its children and skips one that is marked already.
+#![tactic(auto)]
+
+pub mod both_once;
+pub mod each_item;
+pub mod refusals;
+pub mod refusing;
