@@ -132,7 +132,7 @@ module _ {S K R : Type 0} (w : Parts S K R) (values : ValuesInside w) (makers : 
     unfolding Falls
     reference_falls name kind text = go (ok_of (found w k kind text))
       where
-        go : (o : Option (Found S)) → OptionFalls (option_map (λ f. record { key = referred w f kind text; path = joined [] name; is_reference = true }) o)
+        go : (o : Option (Found S)) → OptionFalls (option_map (λ f. record { key = referred w k f kind text; path = joined [] name; is_reference = true }) o)
         go None = tt
         go (Some f) = λ e. absurd (true≢false e)
 

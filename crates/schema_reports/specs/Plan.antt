@@ -144,11 +144,23 @@ module _ {S K R : Type 0} (w : Parts S K R) where
       let draft = w.resolver.detect k.target.draft (schema_at place) in
       option_map (λ state. record { key = inside k path state draft; path = pointer_to path; is_reference = false }) (ok_of (w.resolver.in_subresource k.target.state draft place))
 
-  -- what a reference's text leads to
+  -- what a reference's text stands for, in the state of the object that holds it; an empty text is read as `#`
+  abbrev pub resolved : Key S → Text → Result Text Text
+  resolved k [] = w.resolver.resolve_uri k.target.state (codes "#")
+  resolved k (x ∷ text) = w.resolver.resolve_uri k.target.state (x ∷ text)
+
+  abbrev pub looked_up : Key S → Bool → Text → Result (Found S) Text
+  looked_up k dynamic [] = w.resolver.lookup k.target.state (codes "#") dynamic
+  looked_up k dynamic (x ∷ text) = w.resolver.lookup k.target.state (x ∷ text) dynamic
+
+  -- what a reference's text leads to; nothing where it stands for no URI
   abbrev pub found : Key S → Reference → Text → Result (Found S) Text
   found k to_recursive text = w.resolver.lookup_recursive k.target.state
-  found k kind [] = w.resolver.lookup k.target.state (codes "#") (is_dynamic kind)
-  found k kind (x ∷ text) = w.resolver.lookup k.target.state (x ∷ text) (is_dynamic kind)
+  found k kind text = elim (resolved k text) [ Err refusal ↦ Err refusal | Ok uri ↦ looked_up k (is_dynamic kind) text ]
+
+  -- the fragment of the URI that a reference's text stands for
+  abbrev pub fragment_meant : Key S → Text → Text
+  fragment_meant k text = fragment (unwrap_or (ok_of (resolved k text)) [])
 
   -- the pointer that a fragment is, or else, for a name, the target's path below the root of its resource
   abbrev pub location_by : Found S → Text → Text
@@ -180,13 +192,13 @@ module _ {S K R : Type 0} (w : Parts S K R) where
     start = start;
   }
 
-  abbrev pub referred : Found S → Reference → Text → Key S
-  referred f to_recursive text = referred_at f [] 0
-  referred f kind text = referred_at f (location_by f (fragment text)) (start_by f (fragment text))
+  abbrev pub referred : Key S → Found S → Reference → Text → Key S
+  referred k f to_recursive text = referred_at f [] 0
+  referred k f kind text = referred_at f (location_by f (fragment_meant k text)) (start_by f (fragment_meant k text))
 
   -- the edge of a reference that stands under the keyword `name`
   abbrev pub reference_edge : Key S → Text → Reference → Text → Option (Edge S)
-  reference_edge k name kind text = option_map (λ f. record { key = referred f kind text; path = joined [] name; is_reference = true }) (ok_of (found k kind text))
+  reference_edge k name kind text = option_map (λ f. record { key = referred k f kind text; path = joined [] name; is_reference = true }) (ok_of (found k kind text))
 
   -- a reference other than `$recursiveRef` to the very object that holds it is no keyword
   abbrev pub is_self : Key S → Reference → Text → Bool

@@ -21,6 +21,7 @@ pub record Resolver (S : Type 0) : Type 0 where
   pub lookup : S → Text → Bool → Result (Found S) Text
   pub lookup_recursive : S → Result (Found S) Text
   pub in_subresource : S → Draft → SchemaPlace → Result S Text
+  pub resolve_uri : S → Text → Result Text Text
   pub base_uri : S → Text
   pub resource_root : S → SchemaPlace
   pub find_vocabularies : S → Draft → SchemaPlace → Vocabularies

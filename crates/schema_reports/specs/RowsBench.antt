@@ -305,6 +305,11 @@ abbrev pub object_members : Option Data → Members
 object_members (Some (object ms)) = ms
 object_members _ = no_members
 
+-- a fragment stands for the base followed by it, and any other text for itself
+abbrev pub uri_meant : Text → Text → Text
+uri_meant base [] = base
+uri_meant base (x ∷ text) = if x == 35 then base ++ x ∷ text else x ∷ text
+
 abbrev pub tiny_resolver : Data → Resolver Text
 tiny_resolver schema = record {
   same_state = bytes_eq;
@@ -313,6 +318,7 @@ tiny_resolver schema = record {
   lookup = λ state text dynamic. found_at schema (steps_of (fragment text));
   lookup_recursive = λ state. found_at schema [];
   in_subresource = λ state draft p. Ok (elim (value_at schema p.path) [ None ↦ state | Some v ↦ unwrap_or (id_of v) state ]);
+  resolve_uri = λ state text. Ok (uri_meant state text);
   base_uri = λ state. state;
   resource_root = λ state. record { document = 0; path = unwrap_or (resource_below state schema) [] };
   find_vocabularies = λ state draft p. [];
