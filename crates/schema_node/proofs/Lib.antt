@@ -17,3 +17,4 @@ pub mod PartLaws
 pub mod SchemaPaths
 pub mod FilledNumbers
 pub mod Stamped
+pub mod Escaping

@@ -5,7 +5,7 @@ ghost use Rattle.schema_node.specs.NodeViews.{boolean_plan, entry_of, plan_of, r
 ghost use Rattle.schema_reports.specs.Guarded.{node_these};
 ghost use Rattle.schema_node.specs.NodeTable.{NodeEntry, IsReserved, IsFilled, AreFilled, Adds, Fills, IsRanked, RanksLast};
 
-mod absolute;
+pub mod absolute;
 mod evaluation_path;
 mod evaluation_place;
 mod faults;

@@ -1,6 +1,6 @@
 //! The resolver, which answers what references and identifiers lead to.
 ghost use Rattle.std.specs.Prelude.{◌≡◌, ◌↔◌, true, Some, None, Ok, IfOk, MatchResult};
-ghost use Rattle.std.specs.Prelude.{is_some, map, option_map};
+ghost use Rattle.std.specs.Prelude.{is_some, map, option_map, string_bytes};
 ghost use Rattle.serde_json.specs.Data.{object};
 ghost use Rattle.serde_json.specs.View.{members_view, view};
 ghost use Rattle.schema_reports.specs.Drafts as schemas;
@@ -144,6 +144,17 @@ pub trait Resolver {
     {
         self.in_subresource(alloc, state, draft, place)
     }
+
+    /// The URI that a reference stands for. Its fragment tells where in its resource the target is looked for.
+    fn resolve_uri(
+        &self,
+        alloc: Global,
+        state: &Self::State,
+        reference: &str,
+    ) -> Result<String, LookupError>
+        ensures uri { MatchResult result
+            (λ t. (resolving self.now).resolve_uri (point state.now) reference.now ≡ Ok (string_bytes t))
+            (Refuses ((resolving self.now).resolve_uri (point state.now) reference.now)) };
 
     /// The base URI.
     fn base_uri<'s>(&self, state: &'s Self::State) -> &'s str

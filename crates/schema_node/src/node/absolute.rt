@@ -1,54 +1,42 @@
 //! Absolute locations: a URI, `#`, and a pointer as a URI's fragment.
-ghost use Rattle.std.specs.Prelude.{◌≡◌, ◌++◌, ◌<◌, IfOk, option_map, string_bytes, drop, true};
-ghost use Rattle.schema_reports.specs.Plan.{encoded, stands_plainly};
+ghost use Rattle.std.specs.Prelude.{◌≡◌, ◌++◌, ◌∷◌, IfOk, option_map, string_bytes, drop};
+ghost use Rattle.schema_reports.specs.Plan.{encoded};
 ghost use Rattle.schema_node.specs.NodeTable.{absolute_in};
 ghost use Rattle.schema_node.specs.NodeViews.{node_of};
 
 use crate::node::Node;
-use percent_encoding::percent_encode_byte;
+use percent_encoding::{AsciiSet, NON_ALPHANUMERIC, ascii_set, percent_encode};
 use schema_reports::location::{Location, OutOfMemory};
 use std::alloc::Global;
 
-/// Whether a byte is written in a URI's fragment as it is (RFC 3986, 3.5), a name's escape aside.
-fn stands_plainly(byte: u8) -> bool
-    ensures plain { result ≡ stands_plainly byte }
-    ensures ascii { result ≡ true → byte < 128 }
-{
-    byte.is_ascii_alphanumeric()
-        || matches!(
-            byte,
-            b'-' | b'.'
-                | b'_'
-                | b'~'
-                | b'!'
-                | b'$'
-                | b'&'
-                | b'\''
-                | b'('
-                | b')'
-                | b'*'
-                | b'+'
-                | b','
-                | b';'
-                | b'='
-                | b':'
-                | b'@'
-                | b'/',
-        )
-}
+// The bytes of ASCII that are escaped in a URI's fragment (RFC 3986, 3.5).
+const ESCAPED: AsciiSet = ascii_set!(
+    NON_ALPHANUMERIC
+        .remove(b'-')
+        .remove(b'.')
+        .remove(b'_')
+        .remove(b'~')
+        .remove(b'!')
+        .remove(b'$')
+        .remove(b'&')
+        .remove(b'\'')
+        .remove(b'(')
+        .remove(b')')
+        .remove(b'*')
+        .remove(b'+')
+        .remove(b',')
+        .remove(b';')
+        .remove(b'=')
+        .remove(b':')
+        .remove(b'@')
+        .remove(b'/')
+);
 
-// Appends the bytes, percent-encoded where they do not stand plainly.
+// Adds bytes, percent-encoded where they do not stand plainly in a URI's fragment.
 fn push_encoded(text: &mut String, bytes: &[u8]) -> Result<(), OutOfMemory>
     ensures encoded { IfOk result (λ _. string_bytes text.new ≡ string_bytes text.old ++ encoded bytes.now) }
 {
-    for byte in bytes {
-        if stands_plainly(*byte) {
-            text.push(*byte as char)?;
-        } else {
-            text.push_str(percent_encode_byte(*byte))?;
-        }
-    }
-    Ok(())
+    percent_encode(bytes, ESCAPED).append_to(text)
 }
 
 // The bytes from `start` on.
@@ -60,6 +48,15 @@ fn bytes_from(bytes: &[u8], start: usize) -> &[u8]
     } else {
         &[]
     }
+}
+
+/// Adds `#` and a pointer from its byte `start` on, as a URI's fragment. Fails only if memory cannot be allocated.
+pub fn push_fragment(text: &mut String, pointer: &str, start: usize) -> Result<(), OutOfMemory>
+    ensures added { IfOk result (λ _. string_bytes text.new ≡
+        string_bytes text.old ++ (35 ∷ encoded (drop start pointer.now))) }
+{
+    text.push('#')?;
+    push_encoded(text, bytes_from(pointer.as_bytes(), start))
 }
 
 /// The absolute location of a location, where the node's resource has a URI that is shown.
@@ -74,11 +71,7 @@ pub fn absolute_location<K>(
         None => Ok(None),
         Some(base) => {
             let mut text = String::from_str(alloc, base.as_str())?;
-            text.push('#')?;
-            push_encoded(
-                &mut text,
-                bytes_from(location.as_str().as_bytes(), node.start),
-            )?;
+            push_fragment(&mut text, location.as_str(), node.start)?;
             Ok(Some(text))
         }
     }
