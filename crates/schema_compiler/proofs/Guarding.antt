@@ -1,13 +1,13 @@
 -- Numbers lead down to what was compiled for them, and guarded edges lead back up: as the table grows, and where a number
 -- gets its form.
-use Rattle.std.proofs.Common.{◌≡◌, ◌≢◌, ℕ, suc, ◌<◌, ◌≤◌, ◌⊎◌, inl, inr, List, [], ◌∷◌, ◌++◌, length, refl, ap, sym, ◌∙◌, subst, arith, true, false, true≢false}
-use Rattle.std.specs.Prelude.{Bool, Option, Some, None, slice_get}
+use Rattle.std.proofs.Common.{◌≡◌, ◌≢◌, ℕ, ◌<◌, inl, inr, List, ◌++◌, length, refl, ap, sym, ◌∙◌, arith, true, false}
+use Rattle.std.specs.Prelude.{Bool, Some, slice_get}
 use Rattle.std.proofs.lemmas.Option.{slice_get_within}
 use Rattle.schema_reports.specs.Parts.{Parts}
 use Rattle.schema_reports.specs.Plan.{Edge, Key}
 use Rattle.schema_reports.specs.Reach.{asked_edges}
 use Rattle.schema_reports.specs.Guarded.{NodeEdge, NodePlan, node_edges}
-use Rattle.schema_node.specs.NodeTable.{IsFilled, IsFilledBelow, IsReserved, LeadsToFilled, NodeEntry}
+use Rattle.schema_node.specs.NodeTable.{IsFilled, NodeEntry}
 use Rattle.schema_compiler.specs.Compiling.{Each, In}
 use Rattle.schema_compiler.specs.Guarding.{DownFrom, GoesDown, GuardsSoFar, GuardsWaysBack, LeadsBack, LeadsDown, WaitsIfGuarded, goes_on, stays}
 use Rattle.schema_compiler.proofs.Lists.{each_map, in_left, in_right, some_is}

@@ -10,7 +10,7 @@ use Rattle.schema_reports.specs.Pointer.{joined}
 use Rattle.schema_reports.specs.Plan.{Edge, Key, Part, Plan, Reference, found, is_self, making, part, part_made, builtin_part, parts, plan_alone, plan_of, reference, reference_edge, reference_named, reference_part, sorted, these, to_ref, option_list}
 use Rattle.schema_reports.specs.Reach.{builtin_edges, lone_ref, maker_edges, members_edges, reference_edges}
 use Rattle.schema_reports.specs.Refusals.{Cause, builtin_causes, lookup_causes, maker_causes, members_causes, reference_causes, reference_not_text, schema_causes}
-use Rattle.schema_reports.specs.Units.{absorbed_by, annotating, object_annotations, object_of, unknown}
+use Rattle.schema_reports.specs.Units.{absorbed_by, annotating, object_annotations, object_of}
 use Rattle.schema_reports.specs.Guarded.{NodeEdge, NodePart, NodePlan, form_edges, node_edges, node_reference}
 use Rattle.serde_json.specs.View.{view}
 use Rattle.serde_json.specs.declared.value.Value.{Value}

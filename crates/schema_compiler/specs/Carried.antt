@@ -16,7 +16,7 @@ use Rattle.schema_reports.specs.Guarded.{NodeEdge, NodePart, NodePlan}
 use Rattle.schema_node.specs.NodeTable.{NodeEntry}
 use Rattle.schema_compiler.specs.KeyViews.{key_of}
 use Rattle.schema_compiler.specs.Options.{given_parts}
-use Rattle.schema_compiler.specs.Compiling.{StandsBelow, member_causes, member_edges, object_edges, reference_asked, resolving_parts}
+use Rattle.schema_compiler.specs.Compiling.{StandsBelow, member_causes, member_edges, object_edges, reference_asked}
 use Rattle.schema_compiler.specs.Refusing.{IsRefusal, Refused}
 use Rattle.schema_compiler.specs.Filling.{IsPlanned, IsTable}
 use Rattle.schema_compiler.specs.Steps.{IsAnswered, IsEdgeTo, IsNumbered, MakesPart, MakesParts, MakesPlan}
@@ -43,10 +43,6 @@ task resolving owned script shape g = record {
   shape = shape;
   limit = g.options.now.node_limit;
 }
-
--- what is given, as far as the resolver alone decides it
-abbrev pub resolver_parts : {R T S : Type 0} → (R → Resolver S) → Given R T → Parts S (Unit {0}) (Unit {0})
-resolver_parts resolving g = resolving_parts (resolving g.resolver.now)
 
 -- a reference leads to this key; to none where it is skipped
 abbrev pub LeadsBy : {S K R P : Type 0} → Parts S K R → (P → S) → Key S → Reference → Text → Option (SchemaKey P) → Type 0

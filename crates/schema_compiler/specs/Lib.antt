@@ -1,6 +1,7 @@
 pub mod KeyViews
 pub mod KeyHashes
 pub mod Compiling
+pub mod Referring
 pub mod Ordering
 pub mod Refusing
 pub mod Guarding

@@ -18,10 +18,10 @@ ghost use Rattle.schema_compiler.specs.Builtins.{builtin};
 ghost use Rattle.schema_compiler.specs.Readings.{IsReading};
 ghost use Rattle.schema_compiler.specs.Compilation.{IsCompilation, RefusesRoot, all_parts};
 ghost use Rattle.schema_compiler.specs.Carried.{AnswersChild, AnswersReference, IsWell, LeadsToKey};
-ghost use Rattle.schema_compiler.specs.Carried.{MakesKeyword, MakesMember, MakesMembers, MakesReference};
+ghost use Rattle.schema_compiler.specs.Carried.{MakesKeyword, MakesMember, MakesMembers};
 ghost use Rattle.schema_compiler.specs.Carried.{Numbers, PlansNode, PlansObject, RefusesChild, RefusesEdge};
 ghost use Rattle.schema_compiler.specs.Carried.{RefusesKey, RefusesMaker, RefusesMember, RefusesMembers};
-ghost use Rattle.schema_compiler.specs.Carried.{RefusesNode, RefusesObject, RefusesReference, filled, task};
+ghost use Rattle.schema_compiler.specs.Carried.{RefusesNode, RefusesObject, filled, task};
 ghost use Rattle.schema_compiler.specs.Carried.{keyword_absorbs, member_absorbs};
 
 use crate::compiler::annotations::{absorb, object_of, without};
@@ -31,7 +31,7 @@ use crate::compiler::entries::{entry_named, insert_by_priority, node_alone};
 use crate::compiler::error::BuildError;
 use crate::compiler::given::{CompileOptions, Given};
 use crate::compiler::key::SchemaKey;
-use crate::compiler::keys::{Keys, find};
+use crate::compiler::keys::find;
 use crate::compiler::makers::keep_edge;
 use crate::compiler::values::Reading;
 use crate::ref_::{ReferenceKind, reference_kind};
@@ -39,7 +39,7 @@ use schema_node::context::keyword::Validate;
 use schema_node::context::resolver::Resolver;
 use schema_node::context::schema_place::SchemaPath;
 use schema_node::context::table::{KeywordTable, MakerReply, MakerStep};
-use schema_node::node::{Edge, Entry, EntryForm, NodeForm, Nodes};
+use schema_node::node::{Edge, Entry, EntryForm, NodeForm};
 use schema_reports::keywords::priorities::{CUSTOM_PRIORITY, REF_PRIORITY};
 use schema_reports::location::{Location, LocationSegment};
 use serde_json::{Map, Value};
@@ -49,7 +49,7 @@ use std::rc::Rc;
 mod annotations;
 pub mod compiled;
 pub mod context;
-mod entries;
+pub(crate) mod entries;
 pub mod error;
 pub mod given;
 pub mod key;
@@ -99,10 +99,7 @@ pub fn compile<R: Resolver, K: Validate, T: KeywordTable<K>>(
         options,
     };
     given.check_declared(&root.vocabularies)?;
-    let mut compiled = Compiled {
-        keys: Keys::new(alloc),
-        nodes: Nodes::new(alloc),
-    };
+    let mut compiled = Compiled::new(alloc);
     let path = Location::new(alloc);
     given.edge_to(&mut compiled, root, Reading::Unread, path)?;
     // (the call says that the table is ranked)
@@ -201,6 +198,8 @@ impl<'p, R: Resolver, T> Given<'p, R, T> {
             (key_of R.point key.now)) }
     {
         let context = Context {
+            alloc: self.alloc,
+            resolver: self.resolver,
             options: self.options,
             key,
         };
@@ -237,20 +236,15 @@ impl<'p, R: Resolver, T> Given<'p, R, T> {
             (key_of R.point key.now) (members_view members.now.entries)) }
     {
         let context = Context {
+            alloc: self.alloc,
+            resolver: self.resolver,
             options: self.options,
             key,
         };
         match context.lone_reference(members) {
             Some(value) => {
                 let name = String::from_str(self.alloc, "$ref")?;
-                let entry = self.reference_entry(
-                    compiled,
-                    key,
-                    &name,
-                    REF_PRIORITY,
-                    ReferenceKind::Ref,
-                    value,
-                )?;
+                let entry = self.compile_ref(compiled, key, &name, REF_PRIORITY, value)?;
                 Ok(node_alone(self.alloc, entry)?)
             }
             None => {
@@ -346,6 +340,8 @@ impl<'p, R: Resolver, T> Given<'p, R, T> {
             );
         }
         let context = Context {
+            alloc: self.alloc,
+            resolver: self.resolver,
             options: self.options,
             key,
         };
@@ -445,14 +441,20 @@ impl<'p, R: Resolver, T> Given<'p, R, T> {
             (key_of R.point key.now) path.now) }
     {
         let location = path.pointer(self.alloc)?;
-        let below = self.subschema_key(key, members, path)?;
+        let context = Context {
+            alloc: self.alloc,
+            resolver: self.resolver,
+            options: self.options,
+            key,
+        };
+        let below = context.in_subresource(members, path)?;
         let reading = Reading::Read(below.1);
         Ok(self.edge_to(compiled, below.0, reading, location)?)
     }
 
-    // The edge to a reference's target; none where the reference is skipped.
+    /// The edge to a reference's target; none where the reference is skipped.
     #[cycle(compile)]
-    fn reference_edge<K: Validate>(
+    pub(crate) fn reference_edge<K: Validate>(
         &self,
         compiled: &mut Compiled<R::State, K>,
         key: &SchemaKey<R::State>,
@@ -478,43 +480,6 @@ impl<'p, R: Resolver, T> Given<'p, R, T> {
             Some(target) => {
                 let edge = self.edge_to(compiled, target, Reading::Unread, path)?;
                 Ok(Some(edge))
-            }
-        }
-    }
-
-    // The reference under a keyword of this name; none where it is skipped.
-    #[cycle(compile)]
-    fn reference_entry<K: Validate>(
-        &self,
-        compiled: &mut Compiled<R::State, K>,
-        key: &SchemaKey<R::State>,
-        name: &String,
-        priority: u8,
-        kind: ReferenceKind,
-        value: &Value,
-    ) -> Result<Option<Entry<K>>, BuildError>
-    where
-        T: KeywordTable<K>,
-        requires table { IsWell (task R.resolving T.owned T.script K.shape self.now)
-            (filled R.point compiled.old) }
-        ensures part { IfOk result (λ o. MakesReference
-            (task R.resolving T.owned T.script K.shape self.now) (filled R.point compiled.old)
-            (filled R.point compiled.new) (key_of R.point key.now) (string_bytes name.now) priority
-            (kind_of kind) (view value.now) (option_map entry_view o)) }
-        ensures refused { IfErr result (RefusesReference
-            (task R.resolving T.owned T.script K.shape self.now) (filled R.point compiled.old)
-            (key_of R.point key.now) (string_bytes name.now) (kind_of kind) (view value.now)) }
-    {
-        let context = Context {
-            options: self.options,
-            key,
-        };
-        let text = context.text_of(name, value)?;
-        match self.reference_edge(compiled, key, name, kind, text)? {
-            None => Ok(None),
-            Some(edge) => {
-                let form = EntryForm::Reference(edge);
-                Ok(Some(entry_named(name, priority, false, form)?))
             }
         }
     }

@@ -2,5 +2,5 @@
 #![tactic(auto)]
 
 pub mod compiler;
-mod ref_;
+pub mod ref_;
 pub mod rows;

@@ -1,23 +1,34 @@
-//! References: where they lead, and the keys of their targets.
-ghost use Rattle.std.specs.Prelude.{◌≡◌, ◌==◌, IfOk, IfErr, MatchResult, Ok, option_map};
+//! References: where they lead, the keys of their targets, and the keywords that they are.
+ghost use Rattle.std.specs.Prelude.{◌≡◌, ◌==◌, IfOk, IfErr, MatchResult, Ok, option_map, string_bytes, if◌then◌else◌};
 ghost use Rattle.std.specs.Str.Lossy.{utf8_lossy};
 ghost use Rattle.percent_encoding.specs.Percent.{percent_decode};
-ghost use Rattle.schema_reports.specs.Plan.{found, location_by, start_by, referred, reference_named};
-ghost use Rattle.schema_reports.specs.Plan.{referred_at};
+ghost use Rattle.serde_json.specs.View.{view};
+ghost use Rattle.schema_reports.specs.Pointer.{pointer_to};
+ghost use Rattle.schema_reports.specs.Plan.{found, fragment, location_by, looked_up, resolved, start_by, referred_at, reference_named};
+ghost use Rattle.schema_reports.specs.Plan.{to_dynamic, to_recursive, to_ref, without_prefix};
 ghost use Rattle.schema_reports.specs.Refusals.{lookup_causes};
+ghost use Rattle.schema_node.specs.NodeViews.{entry_of as entry_view};
 ghost use Rattle.schema_node.specs.ResolverViews.{Refuses, found_of, place_of};
 ghost use Rattle.schema_compiler.specs.KeyViews.{key_of, kind_of};
-ghost use Rattle.schema_compiler.specs.Compiling.{skips};
-ghost use Rattle.schema_compiler.specs.Carried.{LeadsBy, resolver_parts};
+ghost use Rattle.schema_compiler.specs.Compiling.{resolving_parts, skips};
+ghost use Rattle.schema_compiler.specs.Carried.{IsWell, LeadsBy, MakesReference, RefusesReference, filled, task};
+ghost use Rattle.schema_compiler.specs.Referring.{IsReferredBy, by_flag, referred_by};
 ghost use Rattle.schema_compiler.specs.Refusing.{Names};
 
+use crate::compiler::compiled::Compiled;
+use crate::compiler::context::Context;
+use crate::compiler::entries::entry_named;
 use crate::compiler::error::BuildError;
 use crate::compiler::given::Given;
 use crate::compiler::key::SchemaKey;
 use crate::compiler::text::fragment_of;
 use percent_encoding::{decode_utf8_lossy, percent_decode};
+use schema_node::context::keyword::Validate;
 use schema_node::context::resolver::{LookupError, Resolver, Target};
+use schema_node::context::table::KeywordTable;
+use schema_node::node::{Entry, EntryForm};
 use schema_reports::location::{Location, OutOfMemory};
+use serde_json::Value;
 use std::alloc::Global;
 
 /// A reference keyword.
@@ -55,63 +66,137 @@ fn decoded_pointer(alloc: Global, fragment: &str) -> Result<Location, OutOfMemor
     Location::from_escaped(alloc, text.as_str())
 }
 
-// Whether a reference leads to the object that holds it; `$recursiveRef` counts as one that does not.
-fn is_skipped<R: Resolver>(
-    key: &SchemaKey<R::State>,
-    kind: ReferenceKind,
-    target: &Target<R::State>,
-) -> bool
-    ensures skipped { result ≡
-        skips (kind_of kind) (place_of target.now.place) (place_of key.now.place) }
-{
-    match kind {
-        ReferenceKind::Recursive => false,
-        ReferenceKind::Ref => target.place == key.place,
-        ReferenceKind::Dynamic => target.place == key.place,
-    }
+// What a reference leads to, and the URI that its text stands for.
+#[derive(Drop)]
+struct Sought<S> {
+    target: Target<S>,
+    uri: String,
 }
 
-impl<'p, R: Resolver, T> Given<'p, R, T> {
-    // What the resolver finds for a reference's text; an empty text is read as `#`.
-    fn looked_up(
-        &self,
-        key: &SchemaKey<R::State>,
-        kind: ReferenceKind,
-        text: &str,
-    ) -> Result<Target<R::State>, LookupError>
-        ensures found { MatchResult result
-            (λ t. found (resolver_parts R.resolving self.now) (key_of R.point key.now) (kind_of kind)
-            text.now ≡ Ok (found_of R.point t))
-            (Refuses (found (resolver_parts R.resolving self.now) (key_of R.point key.now)
-            (kind_of kind) text.now)) }
+/// Where a reference's target stands: its location, and how much of it lies outside the target's resource.
+#[derive(Drop)]
+pub struct RefTarget {
+    /// The pointer that the reference's fragment is, or the target's path below the root of its resource.
+    pub location: Location,
+    /// How many bytes of `location` lie outside the target's resource.
+    pub start: usize,
+}
+
+impl<'p, 'c, R: Resolver> Context<'p, 'c, R> {
+    /// Returns the URI that a reference stands for in the schema's resource. An empty reference is read as `#`. Fails if the
+    /// resolver refuses the reference, or if memory cannot be allocated.
+    pub fn resolve_reference_uri(&self, reference: &str) -> Result<String, LookupError>
+        ensures uri { MatchResult result
+            (λ t. resolved (resolving_parts (R.resolving self.now.resolver.now))
+            (key_of R.point self.now.key.now) reference.now ≡ Ok (string_bytes t))
+            (Refuses (resolved (resolving_parts (R.resolving self.now.resolver.now))
+            (key_of R.point self.now.key.now) reference.now)) }
     {
-        let reference = if text.is_empty() { "#" } else { text };
+        let text = if reference.is_empty() { "#" } else { reference };
+        self.resolver.resolve_uri(self.alloc, &self.key.state, text)
+    }
+
+    /// Returns what a reference leads to; `dynamic` says that it is a `$dynamicRef`. An empty reference is read as `#`.
+    /// Fails if the resolver refuses the reference, or if memory cannot be allocated.
+    pub fn lookup(&self, reference: &str, dynamic: bool) -> Result<Target<R::State>, LookupError>
+        ensures found { MatchResult result
+            (λ t. looked_up (resolving_parts (R.resolving self.now.resolver.now))
+            (key_of R.point self.now.key.now) dynamic reference.now ≡ Ok (found_of R.point t))
+            (Refuses (looked_up (resolving_parts (R.resolving self.now.resolver.now))
+            (key_of R.point self.now.key.now) dynamic reference.now)) }
+    {
+        let reference = if reference.is_empty() { "#" } else { reference };
+        self.resolver
+            .lookup(self.alloc, &self.key.state, reference, dynamic)
+    }
+
+    /// Returns what a `$recursiveRef` leads to. Fails if the resolver refuses it, or if memory cannot be allocated.
+    pub fn lookup_recursive_reference(&self) -> Result<Target<R::State>, LookupError>
+        ensures found { MatchResult result
+            (λ t. (R.resolving self.now.resolver.now).lookup_recursive (R.point self.now.key.now.state) ≡
+            Ok (found_of R.point t))
+            (Refuses ((R.resolving self.now.resolver.now).lookup_recursive
+            (R.point self.now.key.now.state))) }
+    {
+        self.resolver
+            .lookup_recursive_ref(self.alloc, &self.key.state)
+    }
+
+    // What the resolver finds for a `$ref`'s or a `$dynamicRef`'s text, and the URI that the text stands for.
+    fn sought_by_uri(&self, text: &str, dynamic: bool) -> Result<Sought<R::State>, LookupError>
+        ensures found { MatchResult result
+            (λ s. found (resolving_parts (R.resolving self.now.resolver.now))
+            (key_of R.point self.now.key.now) (by_flag dynamic) text.now ≡ Ok (found_of R.point s.target))
+            (Refuses (found (resolving_parts (R.resolving self.now.resolver.now))
+            (key_of R.point self.now.key.now) (by_flag dynamic) text.now)) }
+        ensures uri { IfOk result (λ s. resolved (resolving_parts (R.resolving self.now.resolver.now))
+            (key_of R.point self.now.key.now) text.now ≡ Ok (string_bytes s.uri)) }
+    {
+        let uri = self.resolve_reference_uri(text)?;
+        let target = self.lookup(text, dynamic)?;
+        Ok(Sought { target, uri })
+    }
+
+    // What the resolver finds for a reference's text, and the URI that the text stands for; a `$recursiveRef` has none.
+    fn sought(&self, kind: ReferenceKind, text: &str) -> Result<Sought<R::State>, LookupError>
+        ensures found { MatchResult result
+            (λ s. found (resolving_parts (R.resolving self.now.resolver.now))
+            (key_of R.point self.now.key.now) (kind_of kind) text.now ≡ Ok (found_of R.point s.target))
+            (Refuses (found (resolving_parts (R.resolving self.now.resolver.now))
+            (key_of R.point self.now.key.now) (kind_of kind) text.now)) }
+        ensures uri { IfOk result (λ s. IsReferredBy (resolving_parts (R.resolving self.now.resolver.now))
+            (key_of R.point self.now.key.now) (kind_of kind) text.now (string_bytes s.uri)) }
+    {
         match kind {
-            ReferenceKind::Ref => self
-                .resolver
-                .lookup(self.alloc, &key.state, reference, false),
-            ReferenceKind::Dynamic => self
-                .resolver
-                .lookup(self.alloc, &key.state, reference, true),
-            ReferenceKind::Recursive => self.resolver.lookup_recursive_ref(self.alloc, &key.state),
+            ReferenceKind::Ref => self.sought_by_uri(text, false),
+            ReferenceKind::Dynamic => self.sought_by_uri(text, true),
+            ReferenceKind::Recursive => Ok(Sought {
+                target: self.lookup_recursive_reference()?,
+                uri: String::new(self.alloc),
+            }),
         }
     }
 
-    // What a reference's text leads to.
+    // What a reference's text leads to, and the URI that it stands for.
     fn lookup_reference(
         &self,
-        key: &SchemaKey<R::State>,
         kind: ReferenceKind,
         text: &str,
-    ) -> Result<Target<R::State>, BuildError>
-        ensures found { IfOk result (λ t.
-            found (resolver_parts R.resolving self.now) (key_of R.point key.now) (kind_of kind)
-            text.now ≡ Ok (found_of R.point t)) }
-        ensures refused { IfErr result (Names (lookup_causes (resolver_parts R.resolving self.now)
-            (found (resolver_parts R.resolving self.now) (key_of R.point key.now) (kind_of kind)
-            text.now))) }
+    ) -> Result<Sought<R::State>, BuildError>
+        ensures found { IfOk result (λ s.
+            found (resolving_parts (R.resolving self.now.resolver.now))
+            (key_of R.point self.now.key.now) (kind_of kind) text.now ≡ Ok (found_of R.point s.target)) }
+        ensures uri { IfOk result (λ s. IsReferredBy (resolving_parts (R.resolving self.now.resolver.now))
+            (key_of R.point self.now.key.now) (kind_of kind) text.now (string_bytes s.uri)) }
+        ensures refused { IfErr result (Names
+            (lookup_causes (resolving_parts (R.resolving self.now.resolver.now))
+            (found (resolving_parts (R.resolving self.now.resolver.now))
+            (key_of R.point self.now.key.now) (kind_of kind) text.now))) }
     {
-        Ok(self.looked_up(key, kind, text)?)
+        Ok(self.sought(kind, text)?)
+    }
+
+    // Whether a reference leads to the object that holds it; `$recursiveRef` counts as one that does not.
+    fn is_skipped(&self, kind: ReferenceKind, target: &Target<R::State>) -> bool
+        ensures skipped { result ≡
+            skips (kind_of kind) (place_of target.now.place) (place_of self.now.key.now.place) }
+    {
+        match kind {
+            ReferenceKind::Recursive => false,
+            ReferenceKind::Ref => target.place == self.key.place,
+            ReferenceKind::Dynamic => target.place == self.key.place,
+        }
+    }
+
+    /// Returns the location in its resource of a target that a name leads to: its path below the resource's root. Fails
+    /// only if memory cannot be allocated.
+    pub fn anchor_location(&self, target: &Target<R::State>) -> Result<Location, OutOfMemory>
+        ensures location { IfOk result (λ l. l ≡ pointer_to (without_prefix target.now.place.path
+            ((R.resolving self.now.resolver.now).resource_root (R.point target.now.state)).path)) }
+    {
+        let root = self.resolver.resource_root(self.alloc, &target.state)?;
+        let path = target.place.path.after(self.alloc, root.path.len())?;
+        path.pointer(self.alloc)
     }
 
     // The pointer that a fragment is, or else, for a name, the target's path below the root of its resource.
@@ -121,8 +206,8 @@ impl<'p, R: Resolver, T> Given<'p, R, T> {
         fragment: &str,
     ) -> Result<Location, OutOfMemory>
         ensures location { IfOk result (λ l. l ≡
-            location_by (resolver_parts R.resolving self.now) (found_of R.point target.now)
-            fragment.now) }
+            location_by (resolving_parts (R.resolving self.now.resolver.now))
+            (found_of R.point target.now) fragment.now) }
     {
         if fragment.is_empty() {
             return Ok(Location::new(self.alloc));
@@ -130,21 +215,21 @@ impl<'p, R: Resolver, T> Given<'p, R, T> {
         if fragment.as_bytes()[0] == b'/' {
             return decoded_pointer(self.alloc, fragment);
         }
-        let root = self.resolver.resource_root(self.alloc, &target.state)?;
-        let path = target.place.path.after(self.alloc, root.path.len())?;
-        path.pointer(self.alloc)
+        self.anchor_location(target)
     }
 
-    // How much of the location lies outside the target's resource; a name's location lies in it.
+    // How much of a pointer's location lies outside the target's resource; a name's location lies in it.
     fn start_of_fragment(
         &self,
         target: &Target<R::State>,
         fragment: &str,
         location: &Location,
     ) -> Result<usize, OutOfMemory>
-        requires location { location.now ≡ location_by (resolver_parts R.resolving self.now)
+        requires location { location.now ≡
+            location_by (resolving_parts (R.resolving self.now.resolver.now))
             (found_of R.point target.now) fragment.now }
-        ensures start { IfOk result (λ n. n ≡ start_by (resolver_parts R.resolving self.now)
+        ensures start { IfOk result (λ n. n ≡
+            start_by (resolving_parts (R.resolving self.now.resolver.now))
             (found_of R.point target.now) fragment.now) }
     {
         if fragment.is_empty() {
@@ -156,15 +241,31 @@ impl<'p, R: Resolver, T> Given<'p, R, T> {
         Ok(0)
     }
 
-    // The key of a target at a location.
-    fn key_at(
+    /// Returns where the target of a reference stands that stands for this URI. Fails only if memory cannot be allocated.
+    pub fn ref_target(&self, uri: &str, target: &Target<R::State>) -> Result<RefTarget, OutOfMemory>
+        ensures location { IfOk result (λ t. t.location ≡
+            location_by (resolving_parts (R.resolving self.now.resolver.now))
+            (found_of R.point target.now) (fragment uri.now)) }
+        ensures start { IfOk result (λ t. t.start ≡
+            start_by (resolving_parts (R.resolving self.now.resolver.now))
+            (found_of R.point target.now) (fragment uri.now)) }
+    {
+        let fragment = fragment_of(uri);
+        let location = self.location_of_target(target, fragment)?;
+        let start = self.start_of_fragment(target, fragment, &location)?;
+        Ok(RefTarget { location, start })
+    }
+
+    /// Returns the key of a reference's target that stands there, with the vocabularies that are in force at it. Fails only
+    /// if memory cannot be allocated.
+    pub fn with_resolver_and_draft(
         &self,
         target: Target<R::State>,
-        location: Location,
-        start: usize,
+        stands: RefTarget,
     ) -> Result<SchemaKey<R::State>, OutOfMemory>
-        ensures key { IfOk result (λ k. key_of R.point k ≡ referred_at
-            (resolver_parts R.resolving self.now) (found_of R.point target) location start) }
+        ensures key { IfOk result (λ k. key_of R.point k ≡
+            referred_at (resolving_parts (R.resolving self.now.resolver.now))
+            (found_of R.point target) stands.location stands.start) }
     {
         let vocabularies = self
             .resolver
@@ -174,49 +275,215 @@ impl<'p, R: Resolver, T> Given<'p, R, T> {
             state: target.state,
             draft: target.draft,
             vocabularies,
-            base: location.clone()?,
-            location,
-            start,
+            base: stands.location.clone()?,
+            location: stands.location,
+            start: stands.start,
         })
     }
 
     // The key of a reference's target.
-    fn referred_key(
-        &self,
-        target: Target<R::State>,
-        kind: ReferenceKind,
-        text: &str,
-    ) -> Result<SchemaKey<R::State>, OutOfMemory>
+    fn referred_key(&self, sought: Sought<R::State>) -> Result<SchemaKey<R::State>, OutOfMemory>
         ensures key { IfOk result (λ k. key_of R.point k ≡
-            referred (resolver_parts R.resolving self.now)
-            (found_of R.point target) (kind_of kind) text.now) }
+            referred_by (resolving_parts (R.resolving self.now.resolver.now))
+            (found_of R.point sought.target) (string_bytes sought.uri)) }
     {
-        if let ReferenceKind::Recursive = kind {
-            return self.key_at(target, Location::new(self.alloc), 0);
-        }
-        let fragment = fragment_of(text);
-        let location = self.location_of_target(&target, fragment)?;
-        let start = self.start_of_fragment(&target, fragment, &location)?;
-        self.key_at(target, location, start)
+        let stands = self.ref_target(sought.uri.as_str(), &sought.target)?;
+        self.with_resolver_and_draft(sought.target, stands)
     }
 
-    /// The key that a reference leads to; none where it leads to the very object that holds it.
+    /// Returns the key that a reference leads to; none where it leads to the very object that holds it.
     pub(crate) fn target_key(
         &self,
-        key: &SchemaKey<R::State>,
         kind: ReferenceKind,
         text: &str,
     ) -> Result<Option<SchemaKey<R::State>>, BuildError>
-        ensures target { IfOk result (LeadsBy (resolver_parts R.resolving self.now) R.point
-            (key_of R.point key.now) (kind_of kind) text.now) }
-        ensures refused { IfErr result (Names (lookup_causes (resolver_parts R.resolving self.now)
-            (found (resolver_parts R.resolving self.now) (key_of R.point key.now) (kind_of kind)
-            text.now))) }
+        ensures target { IfOk result
+            (LeadsBy (resolving_parts (R.resolving self.now.resolver.now)) R.point
+            (key_of R.point self.now.key.now) (kind_of kind) text.now) }
+        ensures refused { IfErr result (Names
+            (lookup_causes (resolving_parts (R.resolving self.now.resolver.now))
+            (found (resolving_parts (R.resolving self.now.resolver.now))
+            (key_of R.point self.now.key.now) (kind_of kind) text.now))) }
     {
-        let target = self.lookup_reference(key, kind, text)?;
-        if is_skipped::<R>(key, kind, &target) {
+        let sought = self.lookup_reference(kind, text)?;
+        if self.is_skipped(kind, &sought.target) {
             return Ok(None);
         }
-        Ok(Some(self.referred_key(target, kind, text)?))
+        Ok(Some(self.referred_key(sought)?))
+    }
+}
+
+impl<'p, R: Resolver, T> Given<'p, R, T> {
+    /// Compiles the `$ref` with this value that stands in a key's schema under a keyword of this name, and what it leads to.
+    /// Returns its keyword; none if it leads to the very object that holds it.
+    ///
+    /// # Errors
+    ///
+    /// Fails if the value is no string, if the resolver refuses it, if a vocabulary that the target requires is not declared,
+    /// if a schema that is reached cannot be compiled or is one too many, or if memory cannot be allocated.
+    #[cycle(compile)]
+    pub fn compile_ref<K: Validate>(
+        &self,
+        compiled: &mut Compiled<R::State, K>,
+        key: &SchemaKey<R::State>,
+        name: &String,
+        priority: u8,
+        value: &Value,
+    ) -> Result<Option<Entry<K>>, BuildError>
+    where
+        T: KeywordTable<K>,
+        requires table { IsWell (task R.resolving T.owned T.script K.shape self.now)
+            (filled R.point compiled.old) }
+        ensures part { IfOk result (λ o. MakesReference
+            (task R.resolving T.owned T.script K.shape self.now) (filled R.point compiled.old)
+            (filled R.point compiled.new) (key_of R.point key.now) (string_bytes name.now) priority
+            to_ref (view value.now) (option_map entry_view o)) }
+        ensures refused { IfErr result (RefusesReference
+            (task R.resolving T.owned T.script K.shape self.now) (filled R.point compiled.old)
+            (key_of R.point key.now) (string_bytes name.now) to_ref (view value.now)) }
+    {
+        self.reference_by(compiled, key, name, priority, ReferenceKind::Ref, value)
+    }
+
+    /// Compiles the `$dynamicRef` with this value that stands in a key's schema under a keyword of this name, and what it leads to.
+    /// Returns its keyword; none if it leads to the very object that holds it.
+    ///
+    /// # Errors
+    ///
+    /// Fails if the value is no string, if the resolver refuses it, if a vocabulary that the target requires is not declared,
+    /// if a schema that is reached cannot be compiled or is one too many, or if memory cannot be allocated.
+    #[cycle(compile)]
+    pub fn compile_dynamic_ref<K: Validate>(
+        &self,
+        compiled: &mut Compiled<R::State, K>,
+        key: &SchemaKey<R::State>,
+        name: &String,
+        priority: u8,
+        value: &Value,
+    ) -> Result<Option<Entry<K>>, BuildError>
+    where
+        T: KeywordTable<K>,
+        requires table { IsWell (task R.resolving T.owned T.script K.shape self.now)
+            (filled R.point compiled.old) }
+        ensures part { IfOk result (λ o. MakesReference
+            (task R.resolving T.owned T.script K.shape self.now) (filled R.point compiled.old)
+            (filled R.point compiled.new) (key_of R.point key.now) (string_bytes name.now) priority
+            to_dynamic (view value.now) (option_map entry_view o)) }
+        ensures refused { IfErr result (RefusesReference
+            (task R.resolving T.owned T.script K.shape self.now) (filled R.point compiled.old)
+            (key_of R.point key.now) (string_bytes name.now) to_dynamic (view value.now)) }
+    {
+        self.reference_by(compiled, key, name, priority, ReferenceKind::Dynamic, value)
+    }
+
+    /// Compiles the `$recursiveRef` with this value that stands in a key's schema under a keyword of this name, and what it leads to.
+    /// Returns its keyword.
+    ///
+    /// # Errors
+    ///
+    /// Fails if the value is no string, if the resolver refuses it, if a vocabulary that the target requires is not declared,
+    /// if a schema that is reached cannot be compiled or is one too many, or if memory cannot be allocated.
+    #[cycle(compile)]
+    pub fn compile_recursive_ref<K: Validate>(
+        &self,
+        compiled: &mut Compiled<R::State, K>,
+        key: &SchemaKey<R::State>,
+        name: &String,
+        priority: u8,
+        value: &Value,
+    ) -> Result<Option<Entry<K>>, BuildError>
+    where
+        T: KeywordTable<K>,
+        requires table { IsWell (task R.resolving T.owned T.script K.shape self.now)
+            (filled R.point compiled.old) }
+        ensures part { IfOk result (λ o. MakesReference
+            (task R.resolving T.owned T.script K.shape self.now) (filled R.point compiled.old)
+            (filled R.point compiled.new) (key_of R.point key.now) (string_bytes name.now) priority
+            to_recursive (view value.now) (option_map entry_view o)) }
+        ensures refused { IfErr result (RefusesReference
+            (task R.resolving T.owned T.script K.shape self.now) (filled R.point compiled.old)
+            (key_of R.point key.now) (string_bytes name.now) to_recursive (view value.now)) }
+    {
+        self.reference_by(
+            compiled,
+            key,
+            name,
+            priority,
+            ReferenceKind::Recursive,
+            value,
+        )
+    }
+
+    // The reference under a keyword of this name, by its kind; none where it is skipped.
+    #[cycle(compile)]
+    pub(crate) fn reference_entry<K: Validate>(
+        &self,
+        compiled: &mut Compiled<R::State, K>,
+        key: &SchemaKey<R::State>,
+        name: &String,
+        priority: u8,
+        kind: ReferenceKind,
+        value: &Value,
+    ) -> Result<Option<Entry<K>>, BuildError>
+    where
+        T: KeywordTable<K>,
+        requires table { IsWell (task R.resolving T.owned T.script K.shape self.now)
+            (filled R.point compiled.old) }
+        ensures part { IfOk result (λ o. MakesReference
+            (task R.resolving T.owned T.script K.shape self.now) (filled R.point compiled.old)
+            (filled R.point compiled.new) (key_of R.point key.now) (string_bytes name.now) priority
+            (kind_of kind) (view value.now) (option_map entry_view o)) }
+        ensures refused { IfErr result (RefusesReference
+            (task R.resolving T.owned T.script K.shape self.now) (filled R.point compiled.old)
+            (key_of R.point key.now) (string_bytes name.now) (kind_of kind) (view value.now)) }
+    {
+        match kind {
+            ReferenceKind::Ref => self.compile_ref(compiled, key, name, priority, value),
+            ReferenceKind::Dynamic => self.compile_dynamic_ref(
+                compiled, key, name, priority, value,
+            ),
+            ReferenceKind::Recursive => self.compile_recursive_ref(
+                compiled, key, name, priority, value,
+            ),
+        }
+    }
+
+    // The reference under a keyword of this name; none where it is skipped.
+    #[cycle(compile)]
+    fn reference_by<K: Validate>(
+        &self,
+        compiled: &mut Compiled<R::State, K>,
+        key: &SchemaKey<R::State>,
+        name: &String,
+        priority: u8,
+        kind: ReferenceKind,
+        value: &Value,
+    ) -> Result<Option<Entry<K>>, BuildError>
+    where
+        T: KeywordTable<K>,
+        requires table { IsWell (task R.resolving T.owned T.script K.shape self.now)
+            (filled R.point compiled.old) }
+        ensures part { IfOk result (λ o. MakesReference
+            (task R.resolving T.owned T.script K.shape self.now) (filled R.point compiled.old)
+            (filled R.point compiled.new) (key_of R.point key.now) (string_bytes name.now) priority
+            (kind_of kind) (view value.now) (option_map entry_view o)) }
+        ensures refused { IfErr result (RefusesReference
+            (task R.resolving T.owned T.script K.shape self.now) (filled R.point compiled.old)
+            (key_of R.point key.now) (string_bytes name.now) (kind_of kind) (view value.now)) }
+    {
+        let context = Context {
+            alloc: self.alloc,
+            resolver: self.resolver,
+            options: self.options,
+            key,
+        };
+        let text = context.text_of(name, value)?;
+        match self.reference_edge(compiled, key, name, kind, text)? {
+            None => Ok(None),
+            Some(edge) => {
+                let form = EntryForm::Reference(edge);
+                Ok(Some(entry_named(name, priority, false, form)?))
+            }
+        }
     }
 }

@@ -1,24 +1,26 @@
 //! The keys that were reached and their nodes, while they are filled.
 ghost use Rattle.std.specs.Prelude.{◌≡◌, ◌≢◌, ℕ, ◌<◌, ◌++◌, ◌∷◌, [], true, IfOk, IfErr, OnOk};
-ghost use Rattle.std.specs.Prelude.{map, option_map, Some, None, slice_get, length, string_bytes};
+ghost use Rattle.std.specs.Prelude.{map, Some, None, slice_get, length};
 ghost use Rattle.schema_node.specs.NodeTable.{NodeEntry, LeadsToFilled, IsReserved};
 ghost use Rattle.schema_node.specs.NodeViews.{edge_of, reserved_node};
 ghost use Rattle.schema_compiler.specs.KeyViews.{key_of};
-ghost use Rattle.schema_compiler.specs.Carried.{IsWell, RefusesKey, filled, resolver_parts, task};
+ghost use Rattle.schema_compiler.specs.Carried.{IsWell, RefusesKey, filled, task};
+ghost use Rattle.schema_compiler.specs.Compiling.{resolving_parts};
 ghost use Rattle.schema_compiler.specs.Filling.{shown_base};
 ghost use Rattle.schema_compiler.specs.declared.compiler.error.BuildError.TheVariants as build;
 
+use crate::compiler::context::Context;
 use crate::compiler::error::BuildError;
 use crate::compiler::given::Given;
 use crate::compiler::key::SchemaKey;
 use crate::compiler::keys::Keys;
-use crate::compiler::text::{has_own_scheme, text_before_fragment};
 use schema_node::context::keyword::Validate;
 use schema_node::context::resolver::Resolver;
 use schema_node::context::table::KeywordTable;
 use schema_node::node::{Edge, NodeForm, Nodes, SchemaNode};
 use schema_reports::location::{Location, OutOfMemory};
 use serde_json::Value;
+use std::alloc::Global;
 use std::hash::Hash;
 use std::rc::Rc;
 
@@ -37,6 +39,17 @@ pub(crate) struct PlannedNode<K> {
 }
 
 impl<S: Hash + Drop, K: Validate> Compiled<S, K> {
+    /// Returns a table with no key and no node.
+    pub fn new(alloc: Global) -> Compiled<S, K>
+        ensures keys { result.keys ≡ [] }
+        ensures nodes { result.nodes ≡ [] }
+    {
+        Compiled {
+            keys: Keys::new(alloc),
+            nodes: Nodes::new(alloc),
+        }
+    }
+
     /// The edge to a number that is there, which is guarded where the number is only reserved.
     pub(crate) fn edge_at(&self, number: usize, path: Location) -> Edge
         requires within { number < length self.now.nodes }
@@ -56,18 +69,6 @@ impl<S: Hash + Drop, K: Validate> Compiled<S, K> {
 }
 
 impl<'p, R: Resolver, T> Given<'p, R, T> {
-    // The URI that absolute locations in a key's resource begin with; a base of scheme `json-schema` gives none.
-    fn shown_base_of(&self, key: &SchemaKey<R::State>) -> Result<Option<String>, OutOfMemory>
-        ensures base { IfOk result (λ o. option_map string_bytes o ≡
-            shown_base (resolver_parts R.resolving self.now) (key_of R.point key.now)) }
-    {
-        let uri = self.resolver.base_uri(&key.state);
-        if has_own_scheme(uri) {
-            return Ok(None);
-        }
-        Ok(Some(String::from_str(self.alloc, text_before_fragment(uri))?))
-    }
-
     // Reserves the node of a key.
     fn reserve_node<K: Validate>(
         &self,
@@ -75,12 +76,18 @@ impl<'p, R: Resolver, T> Given<'p, R, T> {
         key: &SchemaKey<R::State>,
     ) -> Result<SchemaNode, OutOfMemory>
         ensures added { OnOk result (nodes.new ≡ nodes.old ++ reserved_node key.now.location
-            (shown_base (resolver_parts R.resolving self.now) (key_of R.point key.now))
+            (shown_base (resolving_parts (R.resolving self.now.resolver.now)) (key_of R.point key.now))
             key.now.start ∷ []) }
         ensures number { IfOk result (λ n. n.0 ≡ length nodes.old) }
     {
         let location = key.location.clone()?;
-        let base = self.shown_base_of(key)?;
+        let context = Context {
+            alloc: self.alloc,
+            resolver: self.resolver,
+            options: self.options,
+            key,
+        };
+        let base = context.base_uri()?;
         nodes.reserve(location, base, key.start)
     }
 

@@ -1,28 +1,40 @@
-//! The place where a schema is compiled: its draft, its vocabularies, its location, and what follows from them.
-ghost use Rattle.std.specs.Prelude.{◌≡◌, ◌||◌, None, IfOk, not, unwrap_or, option_map, codes, string_bytes, if◌then◌else◌};
+//! The place where a schema is compiled: its key, with the memory, the resolver and the options of the compilation. Its
+//! draft, its vocabularies and its location, and what follows from them. References are in `ref_`, subschemas in `subschema`.
+ghost use Rattle.std.specs.Prelude.{◌≡◌, ◌≢◌, ◌||◌, ◌++◌, None, IfOk, MatchOption, not, unwrap_or, option_map, codes};
+ghost use Rattle.std.specs.Prelude.{string_bytes, if◌then◌else◌};
 ghost use Rattle.serde_json.specs.View.{view, members_view};
-ghost use Rattle.schema_reports.specs.Instance.{member_of};
+ghost use Rattle.schema_reports.specs.Instance.{Text, member_of};
 ghost use Rattle.schema_reports.specs.Pointer.{joined};
 ghost use Rattle.schema_reports.specs.Drafts.{ref_stands_alone};
 ghost use Rattle.schema_reports.specs.KeywordTable.{is_in_force};
 ghost use Rattle.schema_reports.specs.KeywordViews.{draft_of, vocabulary_of};
+ghost use Rattle.schema_reports.specs.Plan.{absolute_of};
 ghost use Rattle.schema_compiler.specs.Builtins.{builtin};
+ghost use Rattle.schema_compiler.specs.Compiling.{resolving_parts};
 ghost use Rattle.schema_compiler.specs.Dialects.{asserts_formats, integer_valued_numbers};
+ghost use Rattle.schema_compiler.specs.Filling.{shown_base};
+ghost use Rattle.schema_compiler.specs.KeyViews.{key_of};
 
 use crate::compiler::given::CompileOptions;
 use crate::compiler::key::SchemaKey;
+use crate::compiler::text::{has_own_scheme, text_before_fragment};
+use schema_node::context::resolver::Resolver;
+use schema_node::node::absolute::push_fragment;
 use schema_reports::keywords::{BuiltinRow, Draft, Vocabulary, builtin_row, has_vocabulary};
 use schema_reports::location::{Location, LocationSegment, OutOfMemory};
 use serde_json::{Map, Value};
+use std::alloc::Global;
 
-/// A schema's key together with the options of the compilation. No method allocates.
-#[derive(Clone, Copy)]
-pub struct Context<'c, S> {
-    pub options: &'c CompileOptions,
-    pub key: &'c SchemaKey<S>,
+/// A schema's key together with the memory, the resolver and the options of the compilation.
+#[derive_where(Clone, Copy)]
+pub struct Context<'p, 'c, R: Resolver> {
+    pub alloc: Global,
+    pub resolver: &'p R,
+    pub options: &'p CompileOptions,
+    pub key: &'c SchemaKey<R::State>,
 }
 
-impl<'c, S> Context<'c, S> {
+impl<'p, 'c, R: Resolver> Context<'p, 'c, R> {
     /// Returns the schema's draft.
     pub fn draft(&self) -> Draft
         ensures draft { result ≡ self.now.key.now.draft }
@@ -37,13 +49,54 @@ impl<'c, S> Context<'c, S> {
         &self.key.location
     }
 
-    /// The location of the schema's keyword of this name.
-    pub(crate) fn location_of(&self, name: &String) -> Result<Location, OutOfMemory>
-        ensures location { IfOk result (λ l. l ≡
-            joined self.now.key.now.location (string_bytes name.now)) }
+    /// Returns the location of the schema's keyword of this name. Fails only if memory cannot be allocated.
+    pub fn new_at_location(&self, name: &str) -> Result<Location, OutOfMemory>
+        ensures location { IfOk result (λ l. l ≡ joined self.now.key.now.location name.now) }
+    {
+        self.location().join(LocationSegment::Property(name))
+    }
+
+    /// Returns what follows in the schema's location on the part that the last reference gave; none if the location does
+    /// not begin with that part.
+    pub fn suffix(&self) -> Option<&str>
+        ensures suffix { MatchOption result
+            ((rest : Text) → self.now.key.now.location ≢ self.now.key.now.base ++ rest)
+            (λ rest. self.now.key.now.location ≡ self.now.key.now.base ++ rest.now) }
     {
         self.location()
-            .join(LocationSegment::Property(name.as_str()))
+            .as_str()
+            .strip_prefix(self.key.base.as_str())
+    }
+
+    /// Returns the URI that absolute locations in the schema's resource begin with; none if its scheme is `json-schema`.
+    /// Fails only if memory cannot be allocated.
+    pub fn base_uri(&self) -> Result<Option<String>, OutOfMemory>
+        ensures base { IfOk result (λ o. option_map string_bytes o ≡
+            shown_base (resolving_parts (R.resolving self.now.resolver.now))
+            (key_of R.point self.now.key.now)) }
+    {
+        let uri = self.resolver.base_uri(&self.key.state);
+        if has_own_scheme(uri) {
+            return Ok(None);
+        }
+        Ok(Some(String::from_str(self.alloc, text_before_fragment(uri))?))
+    }
+
+    /// Returns the absolute location of a location in the schema's resource; none if that resource has no URI that is
+    /// shown. Fails only if memory cannot be allocated.
+    pub fn absolute_location(&self, location: &Location) -> Result<Option<String>, OutOfMemory>
+        ensures absolute { IfOk result (λ o. option_map string_bytes o ≡
+            absolute_of (resolving_parts (R.resolving self.now.resolver.now))
+            (key_of R.point self.now.key.now) location.now) }
+    {
+        match self.base_uri()? {
+            None => Ok(None),
+            Some(base) => {
+                let mut text = base;
+                push_fragment(&mut text, location.as_str(), self.key.start)?;
+                Ok(Some(text))
+            }
+        }
     }
 
     /// Returns whether a vocabulary is in force: always before draft 2019-09, always if it is the core vocabulary, and

@@ -15,7 +15,7 @@ pub struct CompileOptions {
 /// The memory, the resolver, the keyword table and the options of a compilation. The compiler's functions are its methods;
 /// what they fill is a `Compiled`.
 #[derive_where(Clone, Copy)]
-pub(crate) struct Given<'p, R, T> {
+pub struct Given<'p, R, T> {
     pub alloc: Global,
     pub resolver: &'p R,
     pub table: &'p T,

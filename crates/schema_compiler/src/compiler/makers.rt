@@ -37,6 +37,8 @@ impl<'p, R: Resolver, T> Given<'p, R, T> {
             (key_of R.point key.now)))) }
     {
         let context = Context {
+            alloc: self.alloc,
+            resolver: self.resolver,
             options: self.options,
             key,
         };

@@ -2,9 +2,9 @@
 ghost use Rattle.std.specs.Prelude.{◌≡◌, IfOk};
 ghost use Rattle.schema_reports.specs.Plan.{lies_in, resource_depth, segment_count, segments_length, start_of};
 ghost use Rattle.schema_node.specs.ResolverViews.{found_of, place_of};
-ghost use Rattle.schema_compiler.specs.Carried.{resolver_parts};
+ghost use Rattle.schema_compiler.specs.Compiling.{resolving_parts};
 
-use crate::compiler::given::Given;
+use crate::compiler::context::Context;
 use schema_node::context::resolver::{Resolver, Target};
 use schema_node::context::schema_place::SchemaPlace;
 use schema_reports::location::{Location, OutOfMemory};
@@ -41,7 +41,7 @@ fn lies_in(place: &SchemaPlace, outer: &SchemaPlace) -> bool
     place.document == outer.document && outer.path.is_prefix_of(&place.path)
 }
 
-impl<'p, R: Resolver, T> Given<'p, R, T> {
+impl<'p, 'c, R: Resolver> Context<'p, 'c, R> {
     // How far the root of the target's resource lies below the place that a pointer with so many segments counts from, where
     // the target lies in that resource; else 0.
     fn resource_depth(
@@ -50,7 +50,7 @@ impl<'p, R: Resolver, T> Given<'p, R, T> {
         segments: usize,
     ) -> Result<usize, OutOfMemory>
         ensures depth { IfOk result (λ n. n ≡ resource_depth
-            (resolver_parts R.resolving self.now) (found_of R.point target.now) segments) }
+            (resolving_parts (R.resolving self.now.resolver.now)) (found_of R.point target.now) segments) }
     {
         let root = self.resolver.resource_root(self.alloc, &target.state)?;
         if !lies_in(&target.place, &root) {
@@ -66,7 +66,7 @@ impl<'p, R: Resolver, T> Given<'p, R, T> {
         target: &Target<R::State>,
         location: &Location,
     ) -> Result<usize, OutOfMemory>
-        ensures start { IfOk result (λ n. n ≡ start_of (resolver_parts R.resolving self.now)
+        ensures start { IfOk result (λ n. n ≡ start_of (resolving_parts (R.resolving self.now.resolver.now))
             (found_of R.point target.now) location.now) }
     {
         let depth = self.resource_depth(target, segment_count(location.as_str()))?;

@@ -1,5 +1,6 @@
-//! The key of a subschema, and what stands at a place in a schema.
-ghost use Rattle.std.specs.Prelude.{◌≡◌, ◌++◌, true, false, IfOk, IfErr, MatchResult, Ok, Some, if◌then◌else◌, is_some, option_map, unwrap_or};
+//! The key of a subschema.
+ghost use Rattle.std.specs.Prelude.{◌≡◌, ◌++◌, true, false, IfOk, IfErr};
+ghost use Rattle.std.specs.Prelude.{MatchResult, Ok, Some, if◌then◌else◌, is_some, option_map, unwrap_or};
 ghost use Rattle.serde_json.specs.Data.{null, object};
 ghost use Rattle.serde_json.specs.View.{members_view, view};
 ghost use Rattle.schema_reports.specs.Pointer.{pointer_to};
@@ -10,32 +11,27 @@ ghost use Rattle.schema_reports.specs.Refusals.{request_causes};
 ghost use Rattle.schema_reports.specs.KeywordViews.{draft_of};
 ghost use Rattle.schema_node.specs.ResolverViews.{Refuses, place_of};
 ghost use Rattle.schema_compiler.specs.KeyViews.{key_of};
-ghost use Rattle.schema_compiler.specs.Carried.{resolver_parts};
+ghost use Rattle.schema_compiler.specs.Compiling.{resolving_parts};
 ghost use Rattle.schema_compiler.specs.Refusing.{Names};
 
+use crate::compiler::context::Context;
 use crate::compiler::error::BuildError;
-use crate::compiler::given::Given;
 use crate::compiler::key::SchemaKey;
 use schema_node::context::resolver::{LookupError, Resolver, Target};
 use schema_node::context::schema_place::{SchemaPath, SchemaPlace};
 use schema_reports::keywords::{Draft, VocabularySet};
 use schema_reports::location::{Location, OutOfMemory};
 use serde_json::{Map, Value};
-use std::alloc::Global;
 
-// The location of the subschema at a path below.
-fn location_inside<S>(
-    alloc: Global,
-    key: &SchemaKey<S>,
-    path: &SchemaPath,
-) -> Result<Location, OutOfMemory>
-    ensures location { IfOk result (λ l. l ≡ key.now.location ++ pointer_to path.now) }
-{
-    let pointer = path.pointer(alloc)?;
-    key.location.append(&pointer)
-}
+impl<'p, 'c, R: Resolver> Context<'p, 'c, R> {
+    // The location of the subschema at a path below.
+    fn location_below(&self, path: &SchemaPath) -> Result<Location, OutOfMemory>
+        ensures location { IfOk result (λ l. l ≡ self.now.key.now.location ++ pointer_to path.now) }
+    {
+        let pointer = path.pointer(self.alloc)?;
+        self.location().append(&pointer)
+    }
 
-impl<'p, R: Resolver, T> Given<'p, R, T> {
     /// Whether a value that was read has an identifier.
     pub(crate) fn identifies(&self, draft: Draft, value: Option<&Value>) -> bool
         ensures identified { result ≡ is_some ((R.resolving self.now.resolver.now).id (draft_of draft)
@@ -59,20 +55,16 @@ impl<'p, R: Resolver, T> Given<'p, R, T> {
         }
     }
 
-    // The vocabularies in force at a place inside a key's schema.
-    fn vocabularies_inside(
-        &self,
-        key: &SchemaKey<R::State>,
-        below: &Target<R::State>,
-    ) -> Result<VocabularySet, OutOfMemory>
+    // The vocabularies in force at a place inside the schema.
+    fn vocabularies_inside(&self, below: &Target<R::State>) -> Result<VocabularySet, OutOfMemory>
         ensures vocabularies { IfOk result (λ v. v ≡
-            (if same_draft (draft_of below.now.draft) (draft_of key.now.draft)
-            then key.now.vocabularies
+            (if same_draft (draft_of below.now.draft) (draft_of self.now.key.now.draft)
+            then self.now.key.now.vocabularies
             else (R.resolving self.now.resolver.now).find_vocabularies
             (R.point below.now.state) (draft_of below.now.draft) (place_of below.now.place))) }
     {
-        if below.draft == key.draft {
-            key.vocabularies.clone()
+        if below.draft == self.key.draft {
+            self.key.vocabularies.clone()
         } else {
             self.resolver
                 .find_vocabularies(self.alloc, &below.state, below.draft, &below.place)
@@ -82,26 +74,25 @@ impl<'p, R: Resolver, T> Given<'p, R, T> {
     // The key of the subschema at a place below, in its state and draft; whether it has an identifier is known.
     fn key_inside(
         &self,
-        key: &SchemaKey<R::State>,
         path: &SchemaPath,
         below: Target<R::State>,
         has_id: bool,
     ) -> Result<SchemaKey<R::State>, OutOfMemory>
-        requires below { place_of below.place ≡ at_path (place_of key.now.place) path.now }
+        requires below { place_of below.place ≡ at_path (place_of self.now.key.now.place) path.now }
         requires identified { has_id ≡ is_some ((R.resolving self.now.resolver.now).id
             (draft_of below.draft)
-            (schema_at (resolver_parts R.resolving self.now) (place_of below.place))) }
+            (schema_at (resolving_parts (R.resolving self.now.resolver.now)) (place_of below.place))) }
         ensures inside { IfOk result (λ k. key_of R.point k ≡
-            inside (resolver_parts R.resolving self.now) (key_of R.point key.now) path.now
-            (R.point below.state) (draft_of below.draft)) }
+            inside (resolving_parts (R.resolving self.now.resolver.now))
+            (key_of R.point self.now.key.now) path.now (R.point below.state) (draft_of below.draft)) }
     {
-        let location = location_inside(self.alloc, key, path)?;
-        let base = key.base.clone()?;
-        let vocabularies = self.vocabularies_inside(key, &below)?;
+        let location = self.location_below(path)?;
+        let base = self.key.base.clone()?;
+        let vocabularies = self.vocabularies_inside(&below)?;
         let start = if has_id {
             location.as_str().len()
         } else {
-            key.start
+            self.key.start
         };
         Ok(SchemaKey {
             place: below.place,
@@ -114,17 +105,16 @@ impl<'p, R: Resolver, T> Given<'p, R, T> {
         })
     }
 
-    // The value at a place below a key's schema, which is an object with these members.
+    // The value at a place below the schema, which is an object with these members.
     fn value_inside(
         &self,
-        _key: &SchemaKey<R::State>,
         members: &'p Map<String, Value>,
         path: &SchemaPath,
         place: &SchemaPlace,
     ) -> Option<&'p Value>
-        requires object { (R.resolving self.now.resolver.now).value (place_of _key.now.place) ≡
+        requires object { (R.resolving self.now.resolver.now).value (place_of self.now.key.now.place) ≡
             Some (object (members_view members.now.entries)) }
-        requires below { place_of place.now ≡ at_path (place_of _key.now.place) path.now }
+        requires below { place_of place.now ≡ at_path (place_of self.now.key.now.place) path.now }
         ensures read { option_map (λ v. view v.now) result ≡
             (R.resolving self.now.resolver.now).value (place_of place.now) }
     {
@@ -134,7 +124,6 @@ impl<'p, R: Resolver, T> Given<'p, R, T> {
     // The state at a place whose value was read.
     fn state_inside(
         &self,
-        key: &SchemaKey<R::State>,
         draft: Draft,
         place: &SchemaPlace,
         value: Option<&Value>,
@@ -142,43 +131,44 @@ impl<'p, R: Resolver, T> Given<'p, R, T> {
         requires read { option_map (λ v. view v.now) value ≡
             (R.resolving self.now.resolver.now).value (place_of place.now) }
         ensures inside { MatchResult result
-            (λ s. (R.resolving self.now.resolver.now).in_subresource (R.point key.now.state)
+            (λ s. (R.resolving self.now.resolver.now).in_subresource (R.point self.now.key.now.state)
             (draft_of draft) (place_of place.now) ≡ Ok (R.point s))
-            (Refuses ((R.resolving self.now.resolver.now).in_subresource (R.point key.now.state)
-            (draft_of draft) (place_of place.now))) }
+            (Refuses ((R.resolving self.now.resolver.now).in_subresource
+            (R.point self.now.key.now.state) (draft_of draft) (place_of place.now))) }
     {
         self.resolver
-            .in_subresource_read(self.alloc, &key.state, draft, place, value)
+            .in_subresource_read(self.alloc, &self.key.state, draft, place, value)
     }
 
-    /// The key of the subschema at a path below, and the value that was read there. The key's schema is an object with these members.
-    pub(crate) fn subschema_key(
+    /// Returns the key of the subschema at a path below, and the value that was read there. The schema is an object with
+    /// these members. Fails if the resolver refuses the state there, or if memory cannot be allocated.
+    pub fn in_subresource(
         &self,
-        key: &SchemaKey<R::State>,
         members: &'p Map<String, Value>,
         path: &SchemaPath,
     ) -> Result<(SchemaKey<R::State>, Option<&'p Value>), BuildError>
-        requires object { (R.resolving self.now.resolver.now).value (place_of key.now.place) ≡
+        requires object { (R.resolving self.now.resolver.now).value (place_of self.now.key.now.place) ≡
             Some (object (members_view members.now.entries)) }
         ensures below { IfOk result (λ k.
-            subschema (resolver_parts R.resolving self.now) (key_of R.point key.now) path.now ≡
+            subschema (resolving_parts (R.resolving self.now.resolver.now))
+            (key_of R.point self.now.key.now) path.now ≡
             Some (record { key = key_of R.point k.0; path = pointer_to path.now; is_reference = false })) }
         ensures read { IfOk result (λ k. option_map (λ v. view v.now) k.1 ≡
             (R.resolving self.now.resolver.now).value (place_of k.0.place)) }
         ensures refused { IfErr result (Names
-            (request_causes (resolver_parts R.resolving self.now) (key_of R.point key.now)
-            (compile path.now))) }
+            (request_causes (resolving_parts (R.resolving self.now.resolver.now))
+            (key_of R.point self.now.key.now) (compile path.now))) }
     {
-        let place = key.place.below(self.alloc, path)?;
-        let value = self.value_inside(key, members, path, &place);
-        let draft = self.detected(key.draft, value);
-        let state = self.state_inside(key, draft, &place, value)?;
+        let place = self.key.place.below(self.alloc, path)?;
+        let value = self.value_inside(members, path, &place);
+        let draft = self.detected(self.key.draft, value);
+        let state = self.state_inside(draft, &place, value)?;
         let has_id = self.identifies(draft, value);
         let below = Target {
             place,
             state,
             draft,
         };
-        Ok((self.key_inside(key, path, below, has_id)?, value))
+        Ok((self.key_inside(path, below, has_id)?, value))
     }
 }

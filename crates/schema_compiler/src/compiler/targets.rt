@@ -4,6 +4,7 @@ ghost use Rattle.schema_compiler.specs.KeyViews.{key_of, kind_of};
 ghost use Rattle.schema_compiler.specs.Carried.{RefusesTarget, Targets, lacking, task};
 ghost use Rattle.schema_compiler.specs.Refusing.{Names};
 
+use crate::compiler::context::Context;
 use crate::compiler::error::BuildError;
 use crate::compiler::given::Given;
 use crate::compiler::key::SchemaKey;
@@ -46,7 +47,13 @@ impl<'p, R: Resolver, T> Given<'p, R, T> {
             (task R.resolving T.owned T.script K.shape self.now) (key_of R.point key.now)
             (kind_of kind) text.now) }
     {
-        let target = self.target_key(key, kind, text)?;
+        let context = Context {
+            alloc: self.alloc,
+            resolver: self.resolver,
+            options: self.options,
+            key,
+        };
+        let target = context.target_key(kind, text)?;
         self.check_target(&target)?;
         Ok(target)
     }

@@ -55,7 +55,7 @@ pub(crate) fn object_of<'v>(value: Option<&'v Value>) -> Option<&'v Map<String, 
     }
 }
 
-impl<'c, S> Context<'c, S> {
+impl<'p, 'c, R: Resolver> Context<'p, 'c, R> {
     /// What a value that is no object asks of an instance; only a boolean is a schema.
     pub(crate) fn plain_form<K: Drop>(
         &self,
@@ -100,7 +100,7 @@ impl<'c, S> Context<'c, S> {
         ensures refused { Names (reference_not_text
             (joined self.now.key.now.location (string_bytes name.now)) ∷ []) result }
     {
-        match self.location_of(name) {
+        match self.new_at_location(name.as_str()) {
             Ok(location) => BuildError::ReferenceNotText(location),
             Err(_) => BuildError::OutOfMemory,
         }

@@ -14,10 +14,10 @@ returns-clause-compiled g c =
     let done = c.in_ok-edge_to.ensures.edge in
     let keys = map v c.edge_to.new.compiled.keys in
     let nodes = c.edge_to.new.compiled.nodes in
-    let grown = rw (c.new.ensures.none, c.new-2.ensures.empty) at done.grown in
-    let fresh = rw c.new.ensures.none at done.fresh in
+    let grown = rw (c.new-compiled.ensures.keys, c.new-compiled.ensures.nodes) at done.grown in
+    let fresh = rw c.new-compiled.ensures.keys at done.fresh in
     let zero : c.in_ok-edge_to.field-0.node.0 ≡ 0 = fresh (none_in_none c.in_ok-edge_to.field-0.node.0 (v c.args.root)) in
-    let down = rw c.new.ensures.none at done.down in
+    let down = rw c.new-compiled.ensures.keys at done.down in
     let r = c.len-count.ensures.ranked in
     let w = given_parts (g.R.Resolver.resolving c.args.resolver.now) (g.T.KeywordTable.owned c.args.table.now) (g.T.KeywordTable.script c.args.table.now) c.args.options.now in
     λ matcher keywords draft base. compiled (g.R.Resolver.resolving c.args.resolver.now) (record { owns = g.T.KeywordTable.owned c.args.table.now; builtin = builtin; script = g.T.KeywordTable.script c.args.table.now })
@@ -36,6 +36,6 @@ pub returns-in_err-edge_to-clause-refused : goal.returns-in_err-edge_to-clause-r
 returns-in_err-edge_to-clause-refused g c =
     let v = key_of g.R.Resolver.point in
     let p = err_from_is_err_and c.from_residual-in_err-edge_to.result c.from_residual-in_err-edge_to.ensures.1 in
-    let h = rw c.new.ensures.none at c.in_err-edge_to.ensures.refused in
+    let h = rw c.new-compiled.ensures.keys at c.in_err-edge_to.ensures.refused in
     rw (p.1, p.2) (λ matcher keywords draft base. refuses_root (g.R.Resolver.resolving c.args.resolver.now) (record { owns = g.T.KeywordTable.owned c.args.table.now; builtin = builtin; script = g.T.KeywordTable.script c.args.table.now })
     c.args.options.now.formats (map string_bytes c.args.options.now.declared.items) matcher keywords draft base (λ a b. (g.met.R.Resolver.same c.args.resolver.now a b).0) c.args.options.now.node_limit (v c.args.root) _ h)

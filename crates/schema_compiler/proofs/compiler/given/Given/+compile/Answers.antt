@@ -530,8 +530,8 @@ planned_object-returns-in_ok-node_alone-in-Some-clause-planned g t c =
     let k = v c.args.key.now in
     let whole = members_view c.args.members.now.entries in
     let n = c.in_ok-node_alone-in-Some.field-0 in
-    let keys' = map v c.reference_entry.new.compiled.keys in
-    let nodes' = c.reference_entry.new.compiled.nodes in
+    let keys' = map v c.compile_ref.new.compiled.keys in
+    let nodes' = c.compile_ref.new.compiled.nodes in
     lone_is s.parts k whole (λ (es : List (Edge _)) (cs : List Cause) (q : Plan _) (a : Option Data). MakesPlan s.parts s.shape s.limit old.keys keys' old.nodes nodes' es cs k (plan_of n.form) q (option_map view n.annotations) a) (view c.in-Some.value.now) c.in-Some.ensures.alone
     (planned_alone s.parts k s.shape s.limit old.keys keys' old.nodes nodes' _ _ _ _ (plan_of n.form) n.annotations c.in_ok-node_alone-in-Some.ensures.plan c.in_ok-node_alone-in-Some.ensures.annotations (rw c.in_ok-name-in-Some.ensures.ok at c.in_ok-entry-in-Some.ensures.part))
 
@@ -597,8 +597,8 @@ reference_edge-returns-in_ok-edge-in-Some-clause-answered g t c =
     is_answered s.parts s.shape s.limit (reference_asked s.parts k name kind text) (record { key = v c.in-Some.target; path = joined [] name; is_reference = true }) _ old.keys (map v c.edge_to.new.compiled.keys) old.nodes c.edge_to.new.compiled.nodes (edge_of c.in_ok-edge-in-Some.edge) _ (asked_edge s.parts k name kind text (record { key = v c.in-Some.target; path = joined [] name; is_reference = true }) t.0 (t.1 name))
     (reference_clean s.parts k name kind text (record { key = v c.in-Some.target; path = joined [] name; is_reference = true }) (t.1 name)) (λ f. t.2) (grind (arith, common_steps, c.in_ok-path.ensures)) c.in_ok-edge-in-Some.ensures.edge
 
-pub reference_entry-returns-in_err-text-clause-refused : goal.reference_entry-returns-in_err-text-clause-refused
-reference_entry-returns-in_err-text-clause-refused g t c =
+pub reference_by-returns-in_err-text-clause-refused : goal.reference_by-returns-in_err-text-clause-refused
+reference_by-returns-in_err-text-clause-refused g t c =
     let v = key_of g.R.Resolver.point in
     let s = task g.R.Resolver.resolving g.T.KeywordTable.owned g.T.KeywordTable.script g.K.Validate.shape c.args.self.now in
     let old = filled g.R.Resolver.point c.args.compiled.now in
@@ -609,8 +609,8 @@ reference_entry-returns-in_err-text-clause-refused g t c =
     let p = err_from_is_err_and c.from_residual.result c.from_residual.ensures.1 in
     rw (p.1, p.2) (other_text_refused s.parts k s.limit old.keys _ name kind value c.in_err-text.ensures.other c.in_err-text.ensures.refused)
 
-pub reference_entry-returns-in_err-reference_edge-clause-refused : goal.reference_entry-returns-in_err-reference_edge-clause-refused
-reference_entry-returns-in_err-reference_edge-clause-refused g t c =
+pub reference_by-returns-in_err-reference_edge-clause-refused : goal.reference_by-returns-in_err-reference_edge-clause-refused
+reference_by-returns-in_err-reference_edge-clause-refused g t c =
     let v = key_of g.R.Resolver.point in
     let s = task g.R.Resolver.resolving g.T.KeywordTable.owned g.T.KeywordTable.script g.K.Validate.shape c.args.self.now in
     let old = filled g.R.Resolver.point c.args.compiled.now in
@@ -621,8 +621,8 @@ reference_entry-returns-in_err-reference_edge-clause-refused g t c =
     let p = err_from_is_err_and c.from_residual-in_err-reference_edge.result c.from_residual-in_err-reference_edge.ensures.1 in
     rw (p.1, p.2) (text_refused s.parts k s.limit old.keys _ name kind (string_bytes c.in_ok-text.text.now) value c.in_ok-text.ensures.text c.in_err-reference_edge.ensures.refused)
 
-pub reference_entry-returns-in-None-clause-part : goal.reference_entry-returns-in-None-clause-part
-reference_entry-returns-in-None-clause-part g t c =
+pub reference_by-returns-in-None-clause-part : goal.reference_by-returns-in-None-clause-part
+reference_by-returns-in-None-clause-part g t c =
     let v = key_of g.R.Resolver.point in
     let s = task g.R.Resolver.resolving g.T.KeywordTable.owned g.T.KeywordTable.script g.K.Validate.shape c.args.self.now in
     let old = filled g.R.Resolver.point c.args.compiled.now in
@@ -632,8 +632,8 @@ reference_entry-returns-in-None-clause-part g t c =
     let value = view c.args.value.now in
     reference_made s.parts k s.shape s.limit old.keys (map v c.reference_edge.new.compiled.keys) old.nodes c.reference_edge.new.compiled.nodes name kind (string_bytes c.in_ok-text.text.now) value c.args.priority None c.in_ok-text.ensures.text (rw c.in-None.is at c.in_ok-reference_edge.ensures.answered)
 
-pub reference_entry-returns-in_ok-entry_named-in-Some-clause-part : goal.reference_entry-returns-in_ok-entry_named-in-Some-clause-part
-reference_entry-returns-in_ok-entry_named-in-Some-clause-part g t c =
+pub reference_by-returns-in_ok-entry_named-in-Some-clause-part : goal.reference_by-returns-in_ok-entry_named-in-Some-clause-part
+reference_by-returns-in_ok-entry_named-in-Some-clause-part g t c =
     let v = key_of g.R.Resolver.point in
     let s = task g.R.Resolver.resolving g.T.KeywordTable.owned g.T.KeywordTable.script g.K.Validate.shape c.args.self.now in
     let old = filled g.R.Resolver.point c.args.compiled.now in

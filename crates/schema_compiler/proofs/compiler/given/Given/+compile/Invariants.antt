@@ -13,34 +13,46 @@ use Rattle.schema_compiler.proofs.Entries.{SoFar}
 use Rattle.schema_compiler.proofs.compiler.given.Given.+compile.Given as goal
 
 abbrev pub decreases-edge_to : goal.decreases-edge_to
-decreases-edge_to g l = 8 * (l.self.now.options.now.node_limit - length l.compiled.now.keys) + 1
+decreases-edge_to g l = 10 * (l.self.now.options.now.node_limit - length l.compiled.now.keys) + 1
 
 abbrev pub decreases-number_of : goal.decreases-number_of
-decreases-number_of g l = 8 * (l.self.now.options.now.node_limit - length l.compiled.now.keys)
+decreases-number_of g l = 10 * (l.self.now.options.now.node_limit - length l.compiled.now.keys)
 
 abbrev pub decreases-planned_node : goal.decreases-planned_node
-decreases-planned_node g l = 8 * (l.self.now.options.now.node_limit - length l.compiled.now.keys) + 7
+decreases-planned_node g l = 10 * (l.self.now.options.now.node_limit - length l.compiled.now.keys) + 9
 
 abbrev pub decreases-planned_object : goal.decreases-planned_object
-decreases-planned_object g l = 8 * (l.self.now.options.now.node_limit - length l.compiled.now.keys) + 6
+decreases-planned_object g l = 10 * (l.self.now.options.now.node_limit - length l.compiled.now.keys) + 8
 
 abbrev pub decreases-keywords_of : goal.decreases-keywords_of
-decreases-keywords_of g l = 8 * (l.self.now.options.now.node_limit - length l.compiled.now.keys) + 5
+decreases-keywords_of g l = 10 * (l.self.now.options.now.node_limit - length l.compiled.now.keys) + 7
 
 abbrev pub decreases-entry_of : goal.decreases-entry_of
-decreases-entry_of g l = 8 * (l.self.now.options.now.node_limit - length l.compiled.now.keys) + 4
+decreases-entry_of g l = 10 * (l.self.now.options.now.node_limit - length l.compiled.now.keys) + 6
 
 abbrev pub decreases-made_entry : goal.decreases-made_entry
-decreases-made_entry g l = 8 * (l.self.now.options.now.node_limit - length l.compiled.now.keys) + 3
+decreases-made_entry g l = 10 * (l.self.now.options.now.node_limit - length l.compiled.now.keys) + 3
 
 abbrev pub decreases-reference_entry : goal.decreases-reference_entry
-decreases-reference_entry g l = 8 * (l.self.now.options.now.node_limit - length l.compiled.now.keys) + 3
+decreases-reference_entry g l = 10 * (l.self.now.options.now.node_limit - length l.compiled.now.keys) + 5
+
+abbrev pub decreases-compile_ref : goal.decreases-compile_ref
+decreases-compile_ref g l = 10 * (l.self.now.options.now.node_limit - length l.compiled.now.keys) + 4
+
+abbrev pub decreases-compile_dynamic_ref : goal.decreases-compile_dynamic_ref
+decreases-compile_dynamic_ref g l = 10 * (l.self.now.options.now.node_limit - length l.compiled.now.keys) + 4
+
+abbrev pub decreases-compile_recursive_ref : goal.decreases-compile_recursive_ref
+decreases-compile_recursive_ref g l = 10 * (l.self.now.options.now.node_limit - length l.compiled.now.keys) + 4
+
+abbrev pub decreases-reference_by : goal.decreases-reference_by
+decreases-reference_by g l = 10 * (l.self.now.options.now.node_limit - length l.compiled.now.keys) + 3
 
 abbrev pub decreases-child_edge : goal.decreases-child_edge
-decreases-child_edge g l = 8 * (l.self.now.options.now.node_limit - length l.compiled.now.keys) + 2
+decreases-child_edge g l = 10 * (l.self.now.options.now.node_limit - length l.compiled.now.keys) + 2
 
 abbrev pub decreases-reference_edge : goal.decreases-reference_edge
-decreases-reference_edge g l = 8 * (l.self.now.options.now.node_limit - length l.compiled.now.keys) + 2
+decreases-reference_edge g l = 10 * (l.self.now.options.now.node_limit - length l.compiled.now.keys) + 2
 
 -- what the maker has asked for so far; no name is absorbed yet
 abbrev pub invariant-made_entry-loop-children : goal.invariant-made_entry-loop-children
