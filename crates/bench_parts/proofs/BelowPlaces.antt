@@ -1,5 +1,5 @@
 -- What stands one step below a place: an item of a list, and a member of an object whose names ascend.
-use Rattle.std.proofs.Common.{◌≡◌, ◌<◌, ◌++◌, ◌∷◌, ◌∙◌, [], Bool, true, false, Greater, Less, List, None, Option, Some, ap, arith, cond, drop, get_or, length, nat_cmp, option_and_then, refl, string_bytes, string_cmp, suc, sym, zero, ℕ}
+use Rattle.std.proofs.Common.{◌≡◌, ◌<◌, ◌++◌, ◌∷◌, ◌∙◌, [], Bool, false, Greater, Less, List, Option, Some, ap, arith, cond, get_or, length, nat_cmp, option_and_then, refl, string_bytes, string_cmp, suc, sym, zero, ℕ}
 use Rattle.std.specs.Prelude.{bytes_eq}
 use Rattle.std.specs.List.{AllByRecursion}
 use Rattle.std.specs.List.Sorted.{IsStrictlySortedBy}
@@ -9,11 +9,11 @@ use Rattle.std.specs.Ordering.{is_eq, ordering_reverse}
 use Rattle.std.proofs.lemmas.Cmp.{nat_list_cmp_total}
 use Rattle.std.proofs.lemmas.Map.Text.{is_eq-slice_cmp}
 use Rattle.std.proofs.lemmas.Slice.Eq.{bytes_eq-Decides}
-use Rattle.serde_json.specs.Data.{Data, Items, Members, array, item, member, no_items, no_members, object}
+use Rattle.serde_json.specs.Data.{Data, Items, Members, array, object}
 use Rattle.serde_json.specs.View.{items_view, members_view, view}
 use Rattle.serde_json.specs.declared.value.Value.{Value}
 use Rattle.serde_json.proofs.Views.{Entry}
-use Rattle.schema_reports.specs.Instance.{Place, Step, Subject, Text, a_value, after_step, item_of, member_of, subject_at, subject_from, to_item, to_member}
+use Rattle.schema_reports.specs.Instance.{Place, Text, a_value, item_of, member_of, subject_at, subject_from, to_item, to_member}
 use Rattle.schema_node.proofs.Replies.{stands_below}
 
 -- the item of a number

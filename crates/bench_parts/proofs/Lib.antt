@@ -8,5 +8,12 @@ pub mod Indexes
 pub mod PointerTexts
 pub mod PointersLead
 pub mod Insides
-mod Starts
+pub mod BenchRows
 pub mod BelowPlaces
+pub mod Arrivals
+pub mod Fragments
+pub mod Numbers
+pub mod Resources
+pub mod Walks
+pub mod DocumentLists
+pub mod Starts

@@ -17,8 +17,8 @@ use Rattle.serde_json.proofs.Views.{Entry}
 use Rattle.schema_reports.specs.Instance.{Place, Step, Text, same_place, same_step, to_item, to_member}
 use Rattle.schema_reports.proofs.Found.{same-from-equal}
 use Rattle.schema_reports.proofs.Places.{differ_in_length}
-use Rattle.bench_parts.specs.BenchResolving.{below_list, below_object, below_value, is_schema, items_below, members_below, names_of_lists, names_of_objects, names_of_values, place_if, subschemas}
-use Rattle.bench_parts.specs.BenchAnswers.{is_subschema}
+use Rattle.bench_parts.specs.BenchResolving.{below_list, below_object, below_value, is_schema, items_below, members_below, names_of_lists, names_of_objects, names_of_values, place_if}
+use Rattle.bench_parts.specs.BenchLookups.{is_subschema}
 use Rattle.bench_parts.specs.OnWay.{item_among, leads_to_item, leads_to_member, member_among, pairs_below, schema_found, singles_below}
 
 -- ---- tests
@@ -198,7 +198,7 @@ leads_to_the_item n (object ms) = refl
 
 -- ---- how long the paths of subschemas are
 
-abbrev Long : ℕ → List Place → Type 0
+abbrev pub Long : ℕ → List Place → Type 0
 Long n [] = Unit {0}
 Long n (p ∷ ps) = (length p ≡ n) × Long n ps
 
@@ -252,10 +252,10 @@ long_value k (Some d) = go (is_schema d)
     go true = (refl, tt)
     go false = tt
 
-long_pairs : (d : Data) → Long 2 (pairs_below d)
+pub long_pairs : (d : Data) → Long 2 (pairs_below d)
 long_pairs d = long-append 2 _ _ (long-flat 2 (λ k. below_object k (get k d)) (λ k. long_object k (get k d)) names_of_objects) (long-flat 2 (λ k. below_list k (get k d)) (λ k. long_list k (get k d)) names_of_lists)
 
-long_singles : (d : Data) → Long 1 (singles_below d)
+pub long_singles : (d : Data) → Long 1 (singles_below d)
 long_singles d = long-flat 1 (λ k. below_value k (get k d)) (λ k. long_value k (get k d)) names_of_values
 
 -- a path of another length is none of them

@@ -1,18 +1,11 @@
 -- Texts that are no pointers, and texts without their fragments.
-use Rattle.std.proofs.Common.{◌≡◌, ◌≢◌, ◌<◌, ◌+◌, ◌==◌, ℕ, suc, Bool, true, false, cond, not, [], ◌∷◌, Option, Some, None, length, take, refl, sym, ap, ◌∙◌, arith, ne_eqb}
-use Rattle.std.specs.Prelude.{IsSome, codes, if◌then◌else◌}
+use Rattle.std.proofs.Common.{◌≡◌, ◌≢◌, ◌<◌, ◌+◌, ◌==◌, ℕ, suc, Bool, true, false, cond, not, [], ◌∷◌, None, length, take, refl, sym, ap, ◌∙◌, arith, ne_eqb}
+use Rattle.std.specs.Prelude.{if◌then◌else◌}
 use Rattle.std.specs.List.{position_or_len}
-use Rattle.std.proofs.lemmas.Slice.Eq.{bytes_eq-Decides}
 use Rattle.serde_json.specs.Data.{Data}
 use Rattle.schema_reports.specs.Instance.{Text}
-use Rattle.schema_reports.specs.Drafts.{Draft}
-use Rattle.bench_parts.specs.BenchResolving.{detected, document_uri, identifier, without_fragment}
-use Rattle.bench_parts.specs.BenchPointers.{path_of_pointer, pointer_of}
-use Rattle.bench_parts.specs.BenchAnswers.{entrance}
-
-pub no_pointer : (t : Text) → 0 < length t → ((rest : Text) → t ≢ 35 ∷ rest) → pointer_of t ≡ None
-no_pointer [] some h = absurd (omega arith)
-no_pointer (x ∷ xs) some h = rw (ne_eqb x 35 (λ e. h xs (ap (λ y. y ∷ xs) e)))
+use Rattle.bench_parts.specs.BenchResolving.{without_fragment}
+use Rattle.bench_parts.specs.BenchPointers.{path_of_pointer}
 
 pub no_path : (t : Text) (d : Data) → 0 < length t → ((rest : Text) → t ≢ 47 ∷ rest) → path_of_pointer t d ≡ None
 no_path [] d some h = absurd (omega arith)
@@ -41,16 +34,5 @@ begin_again (x ∷ xs) =
     go (x == 35) refl
 
 -- a text without its fragment has none
-no_fragment_left : (t : Text) → without_fragment (without_fragment t) ≡ without_fragment t
+pub no_fragment_left : (t : Text) → without_fragment (without_fragment t) ≡ without_fragment t
 no_fragment_left t = ap without_fragment (begins t) ∙ begins (begin t) ∙ begin_again t ∙ sym (begins t)
-
-whole_uri : (o : Option Text) → let uri : Text = elim o [ None ↦ codes "json-schema:///" | Some t ↦ without_fragment t ] in without_fragment uri ≡ uri
-whole_uri None = refl
-whole_uri (Some t) = no_fragment_left t
-
-found_under : (base uri : Text) → without_fragment uri ≡ base → IsSome (entrance base uri)
-found_under base uri e = rw (e, (bytes_eq-Decides base base).1 refl)
-
--- the document stands under its own URI
-pub stands_under : (d : Draft) (v : Data) → IsSome (entrance (document_uri d v) (document_uri d v))
-stands_under d v = found_under (document_uri d v) (document_uri d v) (whole_uri (identifier (detected d v) v))

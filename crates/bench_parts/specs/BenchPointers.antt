@@ -1,25 +1,13 @@
--- Pointers into a document: which reference is one, and the path that it names. (sections 3, 4 and 6 of RFC 6901)
+-- Pointers into a value: the path that one names. (sections 3, 4 and 6 of RFC 6901)
 use Rattle.std.specs.List.{slice_split}
 use Rattle.std.specs.Prelude.{Bool, List, None, Option, Some, [], false, if◌then◌else◌, nat_lt, not, option_and_then, option_map, ◌&&◌, ◌==◌, ◌^◌, ◌∷◌, ℕ}
 use Rattle.std.specs.Char.{is_ascii_digit}
 use Rattle.std.specs.Str.{all_ascii_digits}
-use Rattle.std.specs.Str.Lossy.{utf8_lossy}
 use Rattle.std.specs.Str.Parse.{digits_value}
-use Rattle.percent_encoding.specs.Percent.{percent_decode}
 use Rattle.serde_json.specs.Data.{Data, array, boolean, null, number, object, string}
 use Rattle.serde_json.specs.Find.{unescape}
 use Rattle.schema_reports.specs.Instance.{Place, Step, Text, a_value, after_step, to_item, to_member}
 use Rattle.bench_parts.specs.BenchResolving.{data_of}
-
--- the pointer of a fragment, percent-decoded; a fragment that begins otherwise is a name
-abbrev pub pointer_of_fragment : Text → Option Text
-pointer_of_fragment [] = Some []
-pointer_of_fragment (x ∷ xs) = if x == 47 then Some (utf8_lossy (percent_decode (x ∷ xs))) else None
-
--- the pointer of a reference into the document itself: the empty one, `#`, or one that begins with `#/`
-abbrev pub pointer_of : Text → Option Text
-pointer_of [] = Some []
-pointer_of (x ∷ xs) = if x == 35 then pointer_of_fragment xs else None
 
 -- digits, with no 0 before another
 abbrev pub is_index : Text → Bool

@@ -1,10 +1,10 @@
--- What a resolver of one document says of it: places, drafts, identifiers, subschemas and vocabularies. (Core 2020-12,
+-- What the resolver says of a document: places, drafts, identifiers, subschemas and vocabularies. (Core 2020-12,
 -- 8.1 and 8.2)
 use Rattle.std.specs.List.{before_first}
 use Rattle.std.specs.Prelude.{Bool, Err, List, None, Ok, Option, Result, Some, [], bytes_eq, codes, false, flat_map, if◌then◌else◌, is_some, option_and_then, true, ℕ, ◌&&◌, ◌++◌, ◌+◌, ◌==◌, ◌||◌, ◌∷◌}
 use Rattle.serde_json.specs.Data.{Data, Items, Members, array, boolean, item, member, no_items, no_members, null, number, object, string}
 use Rattle.serde_json.specs.Find.{as_str, get}
-use Rattle.schema_reports.specs.Instance.{Place, Subject, Text, a_name, a_value, subject_at, to_item, to_member}
+use Rattle.schema_reports.specs.Instance.{Place, Subject, Text, a_name, a_value, to_item, to_member}
 use Rattle.schema_reports.specs.Drafts.{Draft, SchemaPlace, Vocabularies, applicator_vocabulary, content_vocabulary, core_vocabulary, draft_2019_09, draft_2020_12, draft_4, draft_6, draft_7, draft_unknown, format_annotation_vocabulary, metadata_vocabulary, ref_stands_alone, unevaluated_vocabulary, validation_vocabulary}
 
 -- the text that stands under a name
@@ -18,10 +18,7 @@ data_of None = None
 data_of (Some (a_value d)) = Some d
 data_of (Some (a_name k)) = None
 
--- the document has the number 0
-abbrev pub value_at : Data → SchemaPlace → Option Data
-value_at d p = if p.document == 0 then data_of (subject_at d p.path) else None
-
+-- the root of the first document, whose number is 0
 abbrev pub root_place : SchemaPlace
 root_place = record { document = 0; path = [] }
 

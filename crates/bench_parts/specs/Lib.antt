@@ -7,6 +7,16 @@ pub mod BenchResolving
 pub mod BenchPointers
 pub mod BenchPointersLead
 pub mod BenchDocuments
+pub mod BenchKeys
+pub mod BenchUris
+pub mod BenchResources
+pub mod BenchStates
+pub mod BenchLookups
+pub mod BenchRows
+pub mod BenchViews
+pub mod BenchNameViews
+pub mod BenchResourceViews
+pub mod BenchGathered
 pub mod BenchAnswers
 pub mod BenchStart
 pub mod OnWay

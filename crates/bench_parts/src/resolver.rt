@@ -1,29 +1,41 @@
 //! The resolver.
-ghost use Rattle.std.specs.Prelude.{◌≡◌, string_bytes, IfOk, IsSome, MatchResult, Ok, Some, option_map};
+ghost use Rattle.std.specs.Prelude.{◌≡◌, [], IfOk, IsSome, Some, map, string_bytes};
 ghost use Rattle.serde_json.specs.View.{view};
 ghost use Rattle.schema_reports.specs.Drafts.{draft_2020_12};
 ghost use Rattle.schema_reports.specs.KeywordViews.{draft_of};
-ghost use Rattle.schema_node.specs.ResolverViews.{Refuses};
-ghost use Rattle.bench_parts.specs.BenchResolving.{root_place};
+ghost use Rattle.bench_parts.specs.BenchResolving.{document_uri, root_place};
 ghost use Rattle.bench_parts.specs.BenchDocuments.{HasCustom, HasDrafts};
-ghost use Rattle.bench_parts.specs.BenchAnswers.{base_of, bench_resolving, entered_below};
+ghost use Rattle.bench_parts.specs.BenchAnswers.{base_of, bench_resolving};
+ghost use Rattle.bench_parts.specs.BenchViews.{given_of};
 
+pub mod documents;
 pub mod drafts;
 pub mod identifiers;
 pub mod known;
+pub mod names;
+pub mod numbers;
 pub mod on_way;
 pub mod places;
 pub mod pointers;
 pub mod references;
+pub mod resources;
+pub mod rows;
+pub mod states;
 pub mod subschemas;
+pub mod uris;
 pub mod vocabularies;
+pub mod walk;
 
+use crate::resolver::documents::{Document, Documents};
 use crate::resolver::drafts::detected;
 use crate::resolver::identifiers::{identifier, without_fragment};
 use crate::resolver::known::is_known;
-use crate::resolver::places::{refusal, root_place, value_at, value_inside};
-use crate::resolver::references::looked_up;
+use crate::resolver::places::{refusal, root_place, value_inside};
+use crate::resolver::references::{looked_up, looked_up_recursive};
+use crate::resolver::resources::{Resources, resources_of};
+use crate::resolver::states::entered;
 use crate::resolver::subschemas::subschemas;
+use crate::resolver::uris::resolve_uri;
 use crate::resolver::vocabularies::DraftVocabularies;
 use schema_node::context::resolver::{LookupError, Resolver, Target};
 use schema_node::context::schema_place::{SchemaPath, SchemaPlace};
@@ -33,83 +45,64 @@ use serde_json::{Map, Value};
 use std::alloc::Global;
 use std::marker::Model;
 
-/// Where a run of the resolver is: in the resource under a base URI.
+/// Where a run of the resolver is: in the resource under a base URI, after the resources that it entered, by their numbers.
 #[derive(Clone, PartialEq, Eq, Hash, Drop)]
 pub struct BenchState {
     base: String,
-}
-
-impl BenchState {
-    // The state inside a value below the root, which has no identifier.
-    fn entered(
-        &self,
-        alloc: Global,
-        draft: Draft,
-        value: Option<&Value>,
-    ) -> Result<BenchState, LookupError>
-        ensures entered { MatchResult result
-            (λ s. entered_below (string_bytes self.now.base) (draft_of draft) (option_map (λ v. view v.now) value.entry)
-            ≡ Ok (string_bytes s.base))
-            (Refuses (entered_below (string_bytes self.now.base) (draft_of draft)
-            (option_map (λ v. view v.now) value.entry))) }
-    {
-        match value {
-            Some(value) => {
-                if identifier(draft, value).is_some() {
-                    Err(refusal(alloc, "this resolver knows no identifier below the root"))
-                } else {
-                    Ok(self.clone()?)
-                }
-            }
-            None => Ok(self.clone()?),
-        }
-    }
+    entered: Vec<usize>,
 }
 
 /// A state apart from its representation; it holds no value.
 #[derive(Drop)]
-pub struct BasePoint {}
+pub struct StatePoint {}
 
-impl Model for BasePoint {
+impl Model for StatePoint {
     ghost use Rattle.std.specs.Prelude.{[]};
-    ghost use Rattle.schema_reports.specs.Instance.{Text};
+    ghost use Rattle.bench_parts.specs.BenchStates.{Point};
 
-    ghost Value = { Text };
+    ghost Value = { Point };
 
-    ghost view = { λ _. [] };
+    ghost view = { λ _. record { base = []; entered = [] } };
 }
 
-/// A resolver of one document. It follows pointers into the document, and refuses other references and identifiers below
-/// the root. The document is found under its root's identifier without a fragment, or under `json-schema:///`.
+/// A resolver of some documents. It finds a resource by its URI, and in it what a pointer or a name leads to. Resources are the
+/// documents, and the subschemas that have an identifier of their own. References that are neither a fragment nor a URI with its
+/// scheme are refused.
 #[derive(Drop)]
 pub struct BenchResolver<'a> {
-    base: String,
-    document: &'a Value,
+    documents: Documents<'a>,
     default_draft: Draft,
     vocabularies: DraftVocabularies,
+    resources: Resources,
 }
 
 impl<'a> Model for BenchResolver<'a> {
-    ghost use Rattle.std.specs.Prelude.{◌≡◌, string_bytes};
+    ghost use Rattle.std.specs.Prelude.{◌≡◌, map, string_bytes};
     ghost use Rattle.std.specs.Coded.{codes};
     ghost use Rattle.serde_json.specs.contracts.value.Value as value;
-    ghost use Rattle.serde_json.specs.View.{view as seen};
     ghost use Rattle.schema_reports.specs.KeywordViews.{draft_of};
     ghost use Rattle.bench_parts.specs.BenchDocuments.{BenchDocument};
-    ghost use Rattle.bench_parts.specs.BenchResolving.{document_uri};
+    ghost use Rattle.bench_parts.specs.BenchResources.{resources_of};
+    ghost use Rattle.bench_parts.specs.BenchViews.{given_of, held};
 
     ghost Value = { BenchDocument };
 
     ghost coded = { Prim.hlevel (codes, value.the_row.coded) };
 
-    ghost view = { λ r. record { document = r.document.now; default_draft = draft_of r.default_draft; vocabularies = r.vocabularies } };
+    ghost view = { λ r. record {
+      uri = string_bytes r.documents.uri;
+      document = r.documents.root.now;
+      others = map given_of r.documents.others.items;
+      default_draft = draft_of r.default_draft;
+      vocabularies = r.vocabularies;
+    } };
 
-    ghost invariant = { λ r. string_bytes r.base ≡ document_uri (draft_of r.default_draft) (seen r.document.now) };
+    ghost invariant = { λ r. r.resources ≡ resources_of (draft_of r.default_draft) (held r.documents) };
 }
 
 impl<'a> BenchResolver<'a> {
-    /// A resolver of this document in the draft 2020-12. The vocabularies are required ones: they are in force in every draft,
-    /// beside the draft's own.
+    /// A resolver of this document in the draft 2020-12. The document is found under its root's identifier without a fragment, or
+    /// under `json-schema:///`. The vocabularies are required ones: they are in force in every draft, beside the draft's own.
     ///
     /// # Errors
     ///
@@ -120,6 +113,8 @@ impl<'a> BenchResolver<'a> {
         vocabularies: VocabularySet,
     ) -> Result<BenchResolver<'a>, OutOfMemory>
         ensures document { IfOk result (λ r. r.document ≡ document.now) }
+        ensures uri { IfOk result (λ r. r.uri ≡ document_uri draft_2020_12 (view document.now)) }
+        ensures alone { IfOk result (λ r. r.others ≡ []) }
         ensures draft { IfOk result (λ r. r.default_draft ≡ draft_2020_12) }
         ensures drafts { IfOk result (λ r. HasDrafts vocabularies r.vocabularies) }
         ensures custom { IfOk result (λ r. HasCustom vocabularies r.vocabularies) }
@@ -142,39 +137,75 @@ impl<'a> BenchResolver<'a> {
         vocabularies: VocabularySet,
     ) -> Result<BenchResolver<'a>, OutOfMemory>
         ensures document { IfOk result (λ r. r.document ≡ document.now) }
+        ensures uri { IfOk result (λ r. r.uri ≡ document_uri (draft_of draft) (view document.now)) }
+        ensures alone { IfOk result (λ r. r.others ≡ []) }
         ensures draft { IfOk result (λ r. r.default_draft ≡ draft_of draft) }
         ensures drafts { IfOk result (λ r. HasDrafts vocabularies r.vocabularies) }
         ensures custom { IfOk result (λ r. HasCustom vocabularies r.vocabularies) }
         ensures root_value { IfOk result (λ r. (bench_resolving r).value root_place ≡ Some (view document.now)) }
         ensures root { IfOk result (λ r. IsSome ((bench_resolving r).root (base_of r))) }
     {
-        let base = match identifier(detected(draft, document), document) {
+        let uri = match identifier(detected(draft, document), document) {
             Some(uri) => String::from_str(alloc, without_fragment(uri))?,
             None => String::from_str(alloc, "json-schema:///")?,
         };
+        let root = Document {
+            uri,
+            value: document,
+        };
+        BenchResolver::with_documents(alloc, draft, root, Vec::new(alloc), vocabularies)
+    }
+
+    /// A resolver of several documents, each found under the URI that it is given with. The first is the root's.
+    ///
+    /// # Errors
+    ///
+    /// Fails only if memory cannot be allocated.
+    pub fn with_documents(
+        alloc: Global,
+        draft: Draft,
+        root: Document<'a>,
+        others: Vec<Document<'a>>,
+        vocabularies: VocabularySet,
+    ) -> Result<BenchResolver<'a>, OutOfMemory>
+        ensures document { IfOk result (λ r. r.document ≡ root.entry.value.now) }
+        ensures uri { IfOk result (λ r. r.uri ≡ string_bytes root.entry.uri) }
+        ensures others { IfOk result (λ r. r.others ≡ map given_of others.entry.items) }
+        ensures draft { IfOk result (λ r. r.default_draft ≡ draft_of draft) }
+        ensures drafts { IfOk result (λ r. HasDrafts vocabularies r.vocabularies) }
+        ensures custom { IfOk result (λ r. HasCustom vocabularies r.vocabularies) }
+        ensures root_value { IfOk result (λ r. (bench_resolving r).value root_place ≡ Some (view root.entry.value.now)) }
+        ensures root { IfOk result (λ r. IsSome ((bench_resolving r).root (base_of r))) }
+    {
+        let documents = Documents {
+            uri: root.uri,
+            root: root.value,
+            others,
+        };
+        let resources = resources_of(alloc, draft, &documents)?;
         Ok(BenchResolver {
-            base,
-            document,
+            documents,
             default_draft: draft,
             vocabularies: DraftVocabularies::with_required(vocabularies)?,
+            resources,
         })
     }
 }
 
 impl<'a> Resolver for BenchResolver<'a> {
-    ghost use Rattle.std.proofs.Common.{rules};
-    ghost use Rattle.bench_parts.specs.ResolverLaws.{same_texts, values_stand_inside};
+    ghost use Rattle.bench_parts.specs.BenchViews.{point_of as state_point};
+    ghost use Rattle.bench_parts.specs.ResolverLaws.{cloned_points, same_points, values_stand_inside};
 
     type State = BenchState;
 
-    type Point = BasePoint;
+    type Point = StatePoint;
 
-    ghost point = { λ s. string_bytes s.base };
+    ghost point = { state_point };
 
     ghost resolving = { bench_resolving };
 
     fn contains_resource(&self, uri: &str) -> bool {
-        without_fragment(uri) == self.base.as_str()
+        self.resources.under(without_fragment(uri)).is_some()
     }
 
     fn root(
@@ -182,16 +213,23 @@ impl<'a> Resolver for BenchResolver<'a> {
         alloc: Global,
         uri: &str,
     ) -> Result<Option<(BenchState, SchemaPlace)>, OutOfMemory> {
-        if self.contains_resource(uri) {
-            let base = self.base.clone()?;
-            Ok(Some((BenchState { base }, root_place(alloc))))
-        } else {
-            Ok(None)
-        }
+        let Some(number) = self.resources.number_of(without_fragment(uri)) else {
+            return Ok(None);
+        };
+        let Some(resource) = self.resources.get(number) else {
+            return Ok(None);
+        };
+        let mut entered = Vec::new(alloc);
+        entered.push(number)?;
+        let state = BenchState {
+            base: resource.uri.clone()?,
+            entered,
+        };
+        Ok(Some((state, resource.place()?)))
     }
 
     fn value(&self, place: &SchemaPlace) -> Option<&Value> {
-        value_at(self.document, place)
+        self.documents.value_at(place)
     }
 
     fn value_below<'v>(
@@ -200,37 +238,32 @@ impl<'a> Resolver for BenchResolver<'a> {
         path: &SchemaPath,
         place: &SchemaPlace,
     ) -> Option<&'v Value> {
-        value_inside(self.document, members, path, place)
+        value_inside(&self.documents, members, path, place)
     }
 
     fn lookup(
         &self,
         alloc: Global,
-        _state: &BenchState,
+        state: &BenchState,
         reference: &str,
-        _dynamic: bool,
+        dynamic: bool,
     ) -> Result<Target<BenchState>, LookupError> {
         looked_up(
             alloc,
-            &self.base,
-            self.default_draft,
-            self.document,
+            &self.documents,
+            &self.resources,
+            state,
             reference,
+            dynamic,
         )
     }
 
     fn lookup_recursive_ref(
         &self,
         alloc: Global,
-        _state: &BenchState,
+        state: &BenchState,
     ) -> Result<Target<BenchState>, LookupError> {
-        Ok(Target {
-            place: root_place(alloc),
-            state: BenchState {
-                base: self.base.clone()?,
-            },
-            draft: detected(self.default_draft, self.document),
-        })
+        looked_up_recursive(alloc, &self.resources, state)
     }
 
     fn in_subresource(
@@ -240,10 +273,16 @@ impl<'a> Resolver for BenchResolver<'a> {
         draft: Draft,
         place: &SchemaPlace,
     ) -> Result<BenchState, LookupError> {
-        if place.path.len() == 0 {
-            return Ok(state.clone()?);
-        }
-        state.entered(alloc, draft, value_at(self.document, place))
+        let value = self.documents.value_at(place);
+        entered(
+            alloc,
+            &self.documents,
+            &self.resources,
+            state,
+            draft,
+            place,
+            value,
+        )
     }
 
     fn in_subresource_read(
@@ -254,22 +293,35 @@ impl<'a> Resolver for BenchResolver<'a> {
         place: &SchemaPlace,
         value: Option<&Value>,
     ) -> Result<BenchState, LookupError> {
-        if place.path.len() == 0 {
-            return Ok(state.clone()?);
-        }
-        state.entered(alloc, draft, value)
+        entered(
+            alloc,
+            &self.documents,
+            &self.resources,
+            state,
+            draft,
+            place,
+            value,
+        )
+    }
+
+    fn resolve_uri(
+        &self,
+        alloc: Global,
+        state: &BenchState,
+        reference: &str,
+    ) -> Result<String, LookupError> {
+        resolve_uri(alloc, state.base.as_str(), reference)
     }
 
     fn base_uri<'s>(&self, state: &'s BenchState) -> &'s str {
         state.base.as_str()
     }
 
-    fn resource_root(
-        &self,
-        alloc: Global,
-        _state: &BenchState,
-    ) -> Result<SchemaPlace, OutOfMemory> {
-        Ok(root_place(alloc))
+    fn resource_root(&self, alloc: Global, state: &BenchState) -> Result<SchemaPlace, OutOfMemory> {
+        match self.resources.under(state.base.as_str()) {
+            Some(resource) => resource.place(),
+            None => Ok(root_place(alloc)),
+        }
     }
 
     fn find_vocabularies(
@@ -291,6 +343,7 @@ impl<'a> Resolver for BenchResolver<'a> {
             Draft::Unknown => Err(refusal(
                 alloc,
                 "this resolver does not know the draft of the schema",
+                "",
             )),
             draft => Ok(draft),
         }
@@ -306,7 +359,7 @@ impl<'a> Resolver for BenchResolver<'a> {
         _draft: Draft,
         place: &SchemaPlace,
     ) -> Result<Vec<SchemaPlace>, OutOfMemory> {
-        match value_at(self.document, place) {
+        match self.documents.value_at(place) {
             Some(schema) => subschemas(alloc, place, schema),
             None => Ok(Vec::new(alloc)),
         }
@@ -316,11 +369,11 @@ impl<'a> Resolver for BenchResolver<'a> {
         is_known(name)
     }
 
-    ghost same = { λ r a b. same_texts a b };
+    ghost same = { λ r a b. same_points a b };
 
-    ghost equal = { λ s t. same_texts (string_bytes s.base) (string_bytes t.base) };
+    ghost equal = { λ s t. same_points (state_point s) (state_point t) };
 
-    ghost cloned = { λ s t. Prim.search rules };
+    ghost cloned = { λ s t same. cloned_points s t same.0 same.1.0 };
 
     ghost inside = { values_stand_inside };
 }

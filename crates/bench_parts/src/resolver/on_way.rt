@@ -6,7 +6,7 @@ ghost use Rattle.serde_json.specs.View.{view};
 ghost use Rattle.schema_reports.specs.Instance.{same_place, same_step, to_member};
 ghost use Rattle.schema_node.specs.SchemaViews.{schema_step_of};
 ghost use Rattle.bench_parts.specs.BenchResolving.{below_list, below_object, below_value, names_of_lists, names_of_objects};
-ghost use Rattle.bench_parts.specs.BenchAnswers.{is_subschema};
+ghost use Rattle.bench_parts.specs.BenchLookups.{is_subschema};
 ghost use Rattle.bench_parts.specs.OnWay.{leads_to_item, leads_to_member, pairs_below, schema_found, singles_below};
 
 use crate::resolver::subschemas::is_schema;

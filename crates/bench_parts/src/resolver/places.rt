@@ -1,5 +1,5 @@
 //! Places of a document, and the values there.
-ghost use Rattle.std.specs.Prelude.{◌≡◌, ◌<◌, Some, length, map, option_map};
+ghost use Rattle.std.specs.Prelude.{◌≡◌, ◌<◌, ◌++◌, IfOk, Some, length, map, option_map, string_bytes};
 ghost use Rattle.serde_json.specs.Data.{object};
 ghost use Rattle.serde_json.specs.View.{members_view, view};
 ghost use Rattle.schema_reports.specs.Instance.{after_step, a_value, subject_from};
@@ -7,15 +7,19 @@ ghost use Rattle.schema_reports.specs.Drafts as schemas;
 ghost use Rattle.schema_reports.specs.Drafts.{at_path};
 ghost use Rattle.schema_node.specs.SchemaViews.{schema_step_of};
 ghost use Rattle.schema_node.specs.ResolverViews.{place_of};
-ghost use Rattle.bench_parts.specs.BenchResolving.{root_place, value_at};
+ghost use Rattle.bench_parts.specs.BenchResolving.{root_place};
+ghost use Rattle.bench_parts.specs.BenchDocuments.{value_in};
+ghost use Rattle.bench_parts.specs.BenchViews.{held};
 ghost use Rattle.bench_parts.specs.BenchAnswers.{RefusesWith};
 
+use crate::resolver::documents::Documents;
 use schema_node::context::resolver::LookupError;
 use schema_node::context::schema_place::{SchemaPath, SchemaPlace, SchemaStep};
+use schema_reports::location::OutOfMemory;
 use serde_json::{Map, Value};
 use std::alloc::Global;
 
-/// The root of the document.
+/// The root of the first document.
 pub fn root_place(alloc: Global) -> SchemaPlace
     ensures root { place_of result ≡ root_place }
 {
@@ -25,11 +29,20 @@ pub fn root_place(alloc: Global) -> SchemaPlace
     }
 }
 
-/// A refusal with this text.
-pub fn refusal(alloc: Global, text: &str) -> LookupError
-    ensures refused { RefusesWith text.now result }
+/// Two texts, one after the other.
+fn joined(alloc: Global, first: &str, second: &str) -> Result<String, OutOfMemory>
+    ensures joined { IfOk result (λ t. string_bytes t ≡ first.now ++ second.now) }
 {
-    match String::from_str(alloc, text) {
+    let mut text = String::from_str(alloc, first)?;
+    text.push_str(second)?;
+    Ok(text)
+}
+
+/// A refusal with a text, and what it is about.
+pub fn refusal(alloc: Global, text: &str, about: &str) -> LookupError
+    ensures refused { RefusesWith (text.now ++ about.now) result }
+{
+    match joined(alloc, text, about) {
         Ok(text) => LookupError::Refused(text),
         Err(_) => LookupError::OutOfMemory,
     }
@@ -46,8 +59,9 @@ pub fn value_below<'v>(value: &'v Value, step: &SchemaStep) -> Option<&'v Value>
 }
 
 /// The value at the end of some steps.
-fn value_after<'v>(value: &'v Value, steps: &[SchemaStep]) -> Option<&'v Value>
-    ensures after { option_map (λ v. a_value (view v.now)) result ≡ subject_from (map schema_step_of steps.now) (a_value (view value.now)) }
+pub fn value_after<'v>(value: &'v Value, steps: &[SchemaStep]) -> Option<&'v Value>
+    ensures after { option_map (λ v. a_value (view v.now)) result
+        ≡ subject_from (map schema_step_of steps.now) (a_value (view value.now)) }
 {
     let mut reached = value;
     for step in steps {
@@ -85,31 +99,21 @@ fn value_after_member<'v>(
     }
 }
 
-/// The value at a place of a document that lies at a path below an object with these members: the walk begins at the members.
+/// The value at a place that lies at a path below an object with these members: the walk begins at the members.
 pub fn value_inside<'v>(
-    document: &'v Value,
+    documents: &'v Documents<'_>,
     members: &'v Map<String, Value>,
     path: &SchemaPath,
     place: &SchemaPlace,
 ) -> Option<&'v Value>
     ensures value { (outer : schemas.SchemaPlace) →
         place_of place.now ≡ at_path outer path.now →
-        value_at (view document.now) outer ≡ Some (object (members_view members.now.entries)) →
-        option_map (λ v. view v.now) result ≡ value_at (view document.now) (place_of place.now) }
+        value_in (held documents.now) outer ≡ Some (object (members_view members.now.entries)) →
+        option_map (λ v. view v.now) result ≡ value_in (held documents.now) (place_of place.now) }
 {
     let steps = path.steps();
     if steps.len() == 0 {
-        return value_at(document, place);
+        return documents.value_at(place);
     }
     value_after_member(members, steps)
-}
-
-/// The value at a place of a document, whose number is 0.
-pub fn value_at<'v>(document: &'v Value, place: &SchemaPlace) -> Option<&'v Value>
-    ensures value { option_map (λ v. view v.now) result ≡ value_at (view document.now) (place_of place.now) }
-{
-    if place.document != 0 {
-        return None;
-    }
-    value_after(document, place.path.steps())
 }

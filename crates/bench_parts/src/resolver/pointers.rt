@@ -8,7 +8,7 @@ ghost use Rattle.serde_json.specs.Find.{unescape};
 ghost use Rattle.serde_json.specs.View.{view};
 ghost use Rattle.schema_node.specs.SchemaViews.{schema_step_of};
 ghost use Rattle.bench_parts.specs.BenchPointersLead.{PointersLead};
-ghost use Rattle.bench_parts.specs.BenchPointers.{index_named, is_index, path_named, path_of_pointer, pointer_of, pointer_of_fragment};
+ghost use Rattle.bench_parts.specs.BenchPointers.{index_named, is_index, path_named, path_of_pointer};
 ghost use Rattle.bench_parts.specs.BenchPointers.{step_named};
 
 use crate::resolver::places::value_below;
@@ -20,43 +20,16 @@ use std::alloc::Global;
 use std::rc::RcStr;
 
 /// The text that a fragment stands for.
-fn decoded(alloc: Global, fragment: &str) -> Result<String, OutOfMemory>
+///
+/// # Errors
+///
+/// Fails only if memory cannot be allocated.
+pub fn decoded(alloc: Global, fragment: &str) -> Result<String, OutOfMemory>
     ensures decoded { IfOk result (λ t. string_bytes t ≡ utf8_lossy (percent_decode fragment.now)) }
 {
     percent_decode(fragment.as_bytes())
         .decode_utf8_lossy(alloc)?
         .into_owned(alloc)
-}
-
-/// The pointer of a fragment, unless it is a name.
-fn pointer_of_fragment(alloc: Global, fragment: &str) -> Result<Option<String>, OutOfMemory>
-    ensures pointer { IfOk result (λ o. option_map string_bytes o ≡ pointer_of_fragment fragment.now) }
-{
-    if fragment.is_empty() {
-        return Ok(Some(String::new(alloc)));
-    }
-    if fragment.as_bytes()[0] == b'/' {
-        Ok(Some(decoded(alloc, fragment)?))
-    } else {
-        Ok(None)
-    }
-}
-
-/// The pointer of a reference into the document itself: the empty one, `#`, or one that begins with `#/`.
-///
-/// # Errors
-///
-/// Fails only if memory cannot be allocated.
-pub fn pointer_of(alloc: Global, reference: &str) -> Result<Option<String>, OutOfMemory>
-    ensures pointer { IfOk result (λ o. option_map string_bytes o ≡ pointer_of reference.now) }
-{
-    if reference.is_empty() {
-        return Ok(Some(String::new(alloc)));
-    }
-    match reference.strip_prefix('#') {
-        Some(fragment) => pointer_of_fragment(alloc, fragment),
-        None => Ok(None),
-    }
 }
 
 /// A segment with `~1` read as `/` and `~0` as `~`.

@@ -4,6 +4,7 @@ use Rattle.serde_json.specs.View.{members_view, view}
 use Rattle.schema_reports.specs.Instance.{a_value, subject_from}
 use Rattle.schema_node.specs.ResolverViews.{place_of}
 use Rattle.bench_parts.specs.BenchResolving.{data_of}
+use Rattle.bench_parts.specs.BenchViews.{held}
 use Rattle.bench_parts.proofs.Insides.{data-of-values, inside_value}
 use Rattle.bench_parts.proofs.resolver.places.value_inside.Goals as goal
 
@@ -13,5 +14,5 @@ returns c =
     let walked = ap data_of (c.value_after_member.ensures.after ∙ ap (λ p. subject_from p (a_value whole)) c.steps-steps.ensures.steps) in
     record {
       value = λ outer is at. sym (data-of-values (λ v. view v.now) c.value_after_member.result)
-          ∙ (walked ∙ sym (inside_value (view c.args.document.now) outer (place_of c.args.place.now) c.args.path.now whole is at));
+          ∙ (walked ∙ sym (inside_value (held c.args.documents.now) outer (place_of c.args.place.now) c.args.path.now whole is at));
     }
