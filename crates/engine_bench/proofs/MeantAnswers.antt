@@ -10,6 +10,7 @@ use Rattle.schema_reports.specs.Resolving.{Resolver}
 use Rattle.schema_engine.specs.Handed.{Options}
 use Rattle.schema_engine.specs.Program.{OfEverySense, Program}
 use Rattle.bench_parts.specs.BenchMatching.{bench_matcher}
+use Rattle.bench_parts.specs.BenchStates.{Point}
 use Rattle.bench_keywords.specs.BenchShape.{BenchShape, is_whole}
 use Rattle.engine_bench.specs.ProgramAnswers.{Answers}
 use Rattle.engine_bench.specs.ProgramMeaning.{AnswersPlainly, BenchMeans, OfPlainMeaning}
@@ -20,14 +21,14 @@ use Rattle.engine_bench.specs.declared.program.answers.Answer.{Answer}
 use Rattle.engine_bench.specs.declared.program.requests.Call.{Call}
 use Rattle.engine_bench.specs.declared.program.requests.Call.TheVariants.{IsValid, IterErrors, Validate}
 
-said_plainly : (resolver : Resolver Text) (table : Table BenchShape) (matcher : Matcher) (options : Options) (schema : Data) (p : Program BenchKeyword (List Text)) (instance : Data) (fact : Bool → Sense → Type 0)
+said_plainly : (resolver : Resolver Point) (table : Table BenchShape) (matcher : Matcher) (options : Options) (schema : Data) (p : Program BenchKeyword (List Text)) (instance : Data) (fact : Bool → Sense → Type 0)
     → BenchMeans resolver table matcher options schema p → OfEverySense shape_of words is_whole bench_matcher p instance fact
     → OfPlainMeaning resolver table matcher options schema instance fact
 said_plainly resolver table matcher options schema p instance fact means said = λ spoken root is_root rightly.
     let m = means instance spoken root is_root rightly in
     λ no_return keys reach n deep. said spoken m.0 _ (m.1 no_return keys reach n deep)
 
-pub answers_plainly : (resolver : Resolver Text) (table : Table BenchShape) (matcher : Matcher) (options : Options) (schema : Data) (p : Program BenchKeyword (List Text)) (instance : Data)
+pub answers_plainly : (resolver : Resolver Point) (table : Table BenchShape) (matcher : Matcher) (options : Options) (schema : Data) (p : Program BenchKeyword (List Text)) (instance : Data)
     (call : Call) (accepted : Bool) (text : Text) → Answers (OfEverySense shape_of words is_whole bench_matcher p instance) call accepted text
     → BenchMeans resolver table matcher options schema p → AnswersPlainly resolver table matcher options schema instance call accepted text
 answers_plainly resolver table matcher options schema p instance IsValid accepted text (said, is_text) means =
@@ -40,7 +41,7 @@ answers_plainly resolver table matcher options schema p instance IterErrors acce
 -- the same of what a call answers
 pub answered_plainly : {E : Type 0} (p : Program BenchKeyword (List Text)) (instance : Data) (asked call : Call) (r : Result Answer E) → asked ≡ call
     → IfOk r (λ a. Answers (OfEverySense shape_of words is_whole bench_matcher p instance) call a.accepted (string_bytes a.text))
-    → IfOk r (λ a. (resolver : Resolver Text) (table : Table BenchShape) (matcher : Matcher) (options : Options) (schema : Data)
+    → IfOk r (λ a. (resolver : Resolver Point) (table : Table BenchShape) (matcher : Matcher) (options : Options) (schema : Data)
     → BenchMeans resolver table matcher options schema p → AnswersPlainly resolver table matcher options schema instance asked a.accepted (string_bytes a.text))
 answered_plainly p instance asked call r same said = IfOk-weaker r _ _
     (λ a h resolver table matcher options schema means.

@@ -17,8 +17,10 @@ use Rattle.schema_engine.specs.ProgramOf.{IsProgramOf}
 use Rattle.schema_engine.specs.Promised.{MeansSchema, OfSchema}
 use Rattle.schema_engine.specs.Roots.{Builds, RefusesBuild}
 use Rattle.bench_parts.specs.BenchAnswers.{bench_resolving}
+use Rattle.bench_parts.specs.BenchResolving.{document_uri}
 use Rattle.bench_parts.specs.BenchDocuments.{BenchDocument, HasCustom, HasDrafts}
 use Rattle.bench_parts.specs.BenchMatching.{bench_matcher}
+use Rattle.bench_parts.specs.BenchStates.{Point}
 use Rattle.bench_parts.specs.Makers.{bench_script}
 use Rattle.bench_keywords.specs.BenchShape.{BenchShape, is_whole}
 use Rattle.engine_bench.specs.ProgramAnswers.{Answers}
@@ -28,7 +30,7 @@ use Rattle.bench_keywords.specs.Words.{words}
 use Rattle.bench_keywords.specs.declared.keyword.BenchKeyword.{BenchKeyword}
 use Rattle.engine_bench.specs.declared.program.requests.Call.{Call}
 
-module _ (resolver : Resolver Text) (table : Table BenchShape) (matcher : Matcher) (options : Options) (schema : Data) where
+module _ (resolver : Resolver Point) (table : Table BenchShape) (matcher : Matcher) (options : Options) (schema : Data) where
   -- said of the plain meaning for each root key of the schema, of texts too where they are spoken rightly
   abbrev pub OfPlainMeaning : Data → (Bool → Sense → Type 0) → Type 0
   OfPlainMeaning instance fact = OfSchema resolver table matcher words options schema instance (λ spoken w root. Plainly w root instance (fact spoken))
@@ -44,9 +46,11 @@ module _ (resolver : Resolver Text) (table : Table BenchShape) (matcher : Matche
 abbrev pub bench_table : Table BenchShape
 bench_table = table_of (λ name. false) builtin_in bench_script
 
--- a resolver of this document in 2020-12, where no vocabulary is required beside the draft's own
+-- a resolver of this document alone, under its own URI, in 2020-12, where no vocabulary is required beside the draft's own
 pub record Resolves (schema : Data) (r : BenchDocument) : Type 0 where
   pub document : view r.document ≡ schema
+  pub uri : r.uri ≡ document_uri draft_2020_12 schema
+  pub alone : r.others ≡ []
   pub draft : r.default_draft ≡ draft_2020_12
   pub drafts : HasDrafts [] r.vocabularies
   pub custom : HasCustom [] r.vocabularies

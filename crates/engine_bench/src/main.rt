@@ -12,6 +12,8 @@ mod leaf_tests;
 mod option_tests;
 pub mod program;
 #[cfg(test)]
+mod reference_tests;
+#[cfg(test)]
 mod retry_tests;
 
 use crate::program::arguments::given_words;

@@ -1,5 +1,7 @@
-//! Where references lead, by the example of section 6 of RFC 6901, with drafts and vocabularies, through the trait's bound.
+//! Where references lead, by the example of section 6 of RFC 6901, with names, resources, drafts and vocabularies, through the
+//! trait's bound.
 use bench_parts::resolver::BenchResolver;
+use bench_parts::resolver::documents::Document;
 use schema_node::context::resolver::{LookupError, Resolver, Target};
 use schema_node::context::schema_place::SchemaPlace;
 use schema_reports::keywords::{Draft, Vocabulary, VocabularySet};
@@ -65,7 +67,20 @@ fn shown<R: Resolver>(
     joined(alloc, pointer.as_str(), value.as_str(), base, draft)
 }
 
-/// Where a reference leads from the root under a URI, or the text of the refusal.
+/// What a lookup found, or that it was refused.
+fn told<R: Resolver>(
+    alloc: Global,
+    resolver: &R,
+    found: Result<Target<R::State>, LookupError>,
+) -> Result<String, OutOfMemory> {
+    match found {
+        Ok(target) => shown(alloc, resolver, &target),
+        Err(LookupError::Refused(_)) => String::from_str(alloc, "refused"),
+        Err(LookupError::OutOfMemory) => String::from_str(alloc, "memory"),
+    }
+}
+
+/// Where a reference leads from the root under a URI, or that it is refused.
 fn leads<R: Resolver>(
     alloc: Global,
     resolver: &R,
@@ -75,11 +90,11 @@ fn leads<R: Resolver>(
     let Some((state, _)) = resolver.root(alloc, uri)? else {
         return String::from_str(alloc, "no root");
     };
-    match resolver.lookup(alloc, &state, reference, false) {
-        Ok(target) => shown(alloc, resolver, &target),
-        Err(LookupError::Refused(text)) => Ok(text),
-        Err(LookupError::OutOfMemory) => String::from_str(alloc, "memory"),
-    }
+    told(
+        alloc,
+        resolver,
+        resolver.lookup(alloc, &state, reference, false),
+    )
 }
 
 /// Whether a reference from the root leads where it is said, as a text.
@@ -145,20 +160,19 @@ fn fragments_lead_to_values(rt: HostRuntime) -> Result<(), serde_json::Error> {
 #[test]
 fn other_references_are_refused(rt: HostRuntime) -> Result<(), serde_json::Error> {
     let document = r#"{"foo": ["bar", "baz"], "$defs": {"a%b": {"type": "string"}}}"#;
-    let nothing = "nothing stands where the reference points";
-    let other = "this resolver follows pointers into the document alone";
+    let refused = "refused";
     let rows = [
         (
             "#/$defs/a%25b",
             r#"/$defs/a%b {"type":"string"} json-schema:/// 2020-12"#,
         ),
-        ("#/$defs/zz", nothing),
-        ("#/foo/2", nothing),
-        ("#/foo/01", nothing),
-        ("#/foo/-", nothing),
-        ("#foo", other),
-        ("foo", other),
-        ("http://x/r#/foo", other),
+        ("#/$defs/zz", refused),
+        ("#/foo/2", refused),
+        ("#/foo/01", refused),
+        ("#/foo/-", refused),
+        ("#foo", refused),
+        ("foo", refused),
+        ("http://x/r#/foo", refused),
     ];
     assert!(rt; all_lead(rt.alloc(), document, &rows)?);
     Ok(())
@@ -180,10 +194,7 @@ fn drafts_are_taken_on_the_way(rt: HostRuntime) -> Result<(), serde_json::Error>
             "#/not",
             r#"/not {"$schema":"http://x/meta"} json-schema:/// unknown"#,
         ),
-        (
-            "#/$defs/e/not",
-            "this resolver knows no identifier below the root",
-        ),
+        ("#/$defs/e/not", "/$defs/e/not true http://x/e 2020-12"),
     ];
     assert!(rt; all_lead(rt.alloc(), document, &rows)?);
     Ok(())
@@ -194,10 +205,264 @@ fn recurs<R: Resolver>(alloc: Global, resolver: &R, uri: &str) -> Result<String,
     let Some((state, _)) = resolver.root(alloc, uri)? else {
         return String::from_str(alloc, "no root");
     };
-    match resolver.lookup_recursive_ref(alloc, &state) {
-        Ok(target) => shown(alloc, resolver, &target),
+    told(
+        alloc,
+        resolver,
+        resolver.lookup_recursive_ref(alloc, &state),
+    )
+}
+
+#[test]
+fn names_lead_to_schemas(rt: HostRuntime) -> Result<(), serde_json::Error> {
+    let document =
+        r#"{"$defs": {"a": {"$anchor": "s"}, "b": {"$anchor": "s"}, "e": {"$id": "http://x/e", "not": {"$anchor": "t"}}}}"#;
+    let rows = [
+        ("#s", r#"/$defs/a {"$anchor":"s"} json-schema:/// 2020-12"#),
+        (
+            "http://x/e#t",
+            r#"/$defs/e/not {"$anchor":"t"} http://x/e 2020-12"#,
+        ),
+        (
+            "http://x/e#/not",
+            r#"/$defs/e/not {"$anchor":"t"} http://x/e 2020-12"#,
+        ),
+        (
+            "http://x/e",
+            r#"/$defs/e {"$id":"http://x/e","not":{"$anchor":"t"}} http://x/e 2020-12"#,
+        ),
+        ("#t", "refused"),
+    ];
+    assert!(rt; all_lead(rt.alloc(), document, &rows)?);
+    Ok(())
+}
+
+/// Where the second of two references leads, one after the other from the root under a URI.
+fn leads_on<R: Resolver>(
+    alloc: Global,
+    resolver: &R,
+    uri: &str,
+    first: &str,
+    second: &str,
+    dynamic: bool,
+) -> Result<String, OutOfMemory> {
+    let Some((state, _)) = resolver.root(alloc, uri)? else {
+        return String::from_str(alloc, "no root");
+    };
+    match resolver.lookup(alloc, &state, first, false) {
+        Ok(target) => told(
+            alloc,
+            resolver,
+            resolver.lookup(alloc, &target.state, second, dynamic),
+        ),
+        Err(_) => String::from_str(alloc, "no first"),
+    }
+}
+
+#[test]
+fn dynamic_names_lead_out(rt: HostRuntime) -> Result<(), serde_json::Error> {
+    let alloc = rt.alloc();
+    let text =
+        r#"{"$id": "http://x/r", "not": {"$dynamicAnchor": "n"}, "$defs": {"l": {"$id": "http://x/l", "if": {"$dynamicAnchor": "n"}}}}"#;
+    let document = Value::from_str(alloc, text)?;
+    let resolver = BenchResolver::new(alloc, &document, VocabularySet::new(alloc))?;
+    let out = leads_on(alloc, &resolver, "http://x/r", "http://x/l", "#n", true);
+    let inside = leads_on(alloc, &resolver, "http://x/r", "http://x/l", "#n", false);
+    drop(resolver);
+    drop(document);
+    let out = out?;
+    assert_eq!(rt;
+        out.as_str(),
+        r#"/not {"$dynamicAnchor":"n"} http://x/r 2020-12"#
+    );
+    let inside = inside?;
+    assert_eq!(rt;
+        inside.as_str(),
+        r#"/$defs/l/if {"$dynamicAnchor":"n"} http://x/l 2020-12"#
+    );
+    Ok(())
+}
+
+/// Where a `$recursiveRef` leads after a reference from the root under a URI.
+fn recurs_after<R: Resolver>(
+    alloc: Global,
+    resolver: &R,
+    uri: &str,
+    first: &str,
+) -> Result<String, OutOfMemory> {
+    let Some((state, _)) = resolver.root(alloc, uri)? else {
+        return String::from_str(alloc, "no root");
+    };
+    match resolver.lookup(alloc, &state, first, false) {
+        Ok(target) => told(
+            alloc,
+            resolver,
+            resolver.lookup_recursive_ref(alloc, &target.state),
+        ),
+        Err(_) => String::from_str(alloc, "no first"),
+    }
+}
+
+#[test]
+fn recursive_references_lead_out(rt: HostRuntime) -> Result<(), serde_json::Error> {
+    let alloc = rt.alloc();
+    let text =
+        r#"{"$id": "http://x/r", "$recursiveAnchor": true, "$defs": {"n": {"$id": "http://x/n", "$recursiveAnchor": true},
+        "p": {"$id": "http://x/p"}}}"#;
+    let document = Value::from_str(alloc, text)?;
+    let required = VocabularySet::new(alloc);
+    let resolver = BenchResolver::with_draft(alloc, Draft::Draft201909, &document, required)?;
+    let out = recurs_after(alloc, &resolver, "http://x/r", "http://x/n");
+    let inside = recurs_after(alloc, &resolver, "http://x/r", "http://x/p");
+    drop(resolver);
+    drop(document);
+    let out = out?;
+    assert!(rt; out.as_str().starts_with(" {"));
+    assert!(rt; out.as_str().ends_with("} http://x/r 2019-09"));
+    let inside = inside?;
+    assert_eq!(rt;
+        inside.as_str(),
+        r#"/$defs/p {"$id":"http://x/p"} http://x/p 2019-09"#
+    );
+    Ok(())
+}
+
+/// Where a reference leads from the first of two documents, which are given as texts, to the second.
+fn leads_to_other(
+    alloc: Global,
+    first: &str,
+    second: &str,
+    reference: &str,
+) -> Result<String, serde_json::Error> {
+    let root = Value::from_str(alloc, first)?;
+    let other = Value::from_str(alloc, second)?;
+    let found = found_in_two(alloc, &root, &other, reference);
+    drop(root);
+    drop(other);
+    Ok(found?)
+}
+
+/// Where a reference leads from the first of two documents, `http://x/a` and `http://x/b`.
+fn found_in_two(
+    alloc: Global,
+    first: &Value,
+    second: &Value,
+    reference: &str,
+) -> Result<String, OutOfMemory> {
+    let root = Document {
+        uri: String::from_str(alloc, "http://x/a")?,
+        value: first,
+    };
+    let mut others = Vec::new(alloc);
+    others.push(Document {
+        uri: String::from_str(alloc, "http://x/b")?,
+        value: second,
+    })?;
+    let required = VocabularySet::new(alloc);
+    let resolver = BenchResolver::with_documents(
+        alloc,
+        Draft::Draft202012,
+        root,
+        others,
+        required,
+    )?;
+    leads(alloc, &resolver, "http://x/a", reference)
+}
+
+#[test]
+fn another_document_is_found(rt: HostRuntime) -> Result<(), serde_json::Error> {
+    let alloc = rt.alloc();
+    let other = r#"{"$defs": {"c": {"$anchor": "s"}}}"#;
+    let named = leads_to_other(alloc, "{}", other, "http://x/b#s")?;
+    assert_eq!(rt;
+        named.as_str(),
+        r#"/$defs/c {"$anchor":"s"} http://x/b 2020-12"#
+    );
+    let unnamed = leads_to_other(alloc, "{}", other, "#/$defs/c")?;
+    assert_eq!(rt; unnamed.as_str(), "refused");
+    Ok(())
+}
+
+/// What a reference stands for from the root under a URI.
+fn stands_for<R: Resolver>(
+    alloc: Global,
+    resolver: &R,
+    uri: &str,
+    reference: &str,
+) -> Result<String, OutOfMemory> {
+    let Some((state, _)) = resolver.root(alloc, uri)? else {
+        return String::from_str(alloc, "no root");
+    };
+    match resolver.resolve_uri(alloc, &state, reference) {
+        Ok(meant) => Ok(meant),
         Err(_) => String::from_str(alloc, "refused"),
     }
+}
+
+#[test]
+fn references_stand_for_uris(rt: HostRuntime) -> Result<(), serde_json::Error> {
+    let alloc = rt.alloc();
+    let document = Value::from_str(alloc, r#"{"$id": "http://x/r#"}"#)?;
+    let resolver = BenchResolver::new(alloc, &document, VocabularySet::new(alloc))?;
+    let empty = stands_for(alloc, &resolver, "http://x/r", "");
+    let fragment = stands_for(alloc, &resolver, "http://x/r", "#/a");
+    let whole = stands_for(alloc, &resolver, "http://x/r", "urn:y#z");
+    let relative = stands_for(alloc, &resolver, "http://x/r", "a/b:c");
+    drop(resolver);
+    drop(document);
+    let empty = empty?;
+    assert_eq!(rt; empty.as_str(), "http://x/r");
+    let fragment = fragment?;
+    assert_eq!(rt; fragment.as_str(), "http://x/r#/a");
+    let whole = whole?;
+    assert_eq!(rt; whole.as_str(), "urn:y#z");
+    let relative = relative?;
+    assert_eq!(rt; relative.as_str(), "refused");
+    Ok(())
+}
+
+/// The base inside the subschema that is the n-th of the root under a URI, and the pointer of where its resource begins.
+fn inside<R: Resolver>(
+    alloc: Global,
+    resolver: &R,
+    uri: &str,
+    number: usize,
+) -> Result<String, OutOfMemory> {
+    let Some((state, root)) = resolver.root(alloc, uri)? else {
+        return String::from_str(alloc, "no root");
+    };
+    let places = resolver.subresources_of(alloc, Draft::Draft202012, &root)?;
+    let Some(place) = places.get(number) else {
+        return String::from_str(alloc, "no place");
+    };
+    match resolver.in_subresource(alloc, &state, Draft::Draft202012, place) {
+        Ok(inner) => {
+            let mut text = String::from_str(alloc, resolver.base_uri(&inner))?;
+            let begins = resolver.resource_root(alloc, &inner)?;
+            push_word(&mut text, begins.path.pointer(alloc)?.as_str())?;
+            Ok(text)
+        }
+        Err(_) => String::from_str(alloc, "refused"),
+    }
+}
+
+#[test]
+fn identified_subschemas_are_entered(rt: HostRuntime) -> Result<(), serde_json::Error> {
+    let alloc = rt.alloc();
+    let text = r#"{"$defs": {"a": {}, "b": {"$id": "http://x/b"}, "c": {"$id": "c"}}}"#;
+    let document = Value::from_str(alloc, text)?;
+    let resolver = BenchResolver::new(alloc, &document, VocabularySet::new(alloc))?;
+    let plain = inside(alloc, &resolver, "json-schema:///", 0);
+    let identified = inside(alloc, &resolver, "json-schema:///", 1);
+    let relative = inside(alloc, &resolver, "json-schema:///", 2);
+    drop(resolver);
+    drop(document);
+    let plain = plain?;
+    assert_eq!(rt; plain.as_str(), "json-schema:/// ");
+    let identified = identified?;
+    assert_eq!(rt; identified.as_str(), "http://x/b /$defs/b");
+    let relative = relative?;
+    assert_eq!(rt; relative.as_str(), "refused");
+    Ok(())
 }
 
 #[test]

@@ -2,7 +2,6 @@
 ghost use Rattle.std.specs.Prelude.{◌≡◌, ◌++◌, true, IfOk, string_bytes};
 ghost use Rattle.serde_json.specs.Data.{Data};
 ghost use Rattle.serde_json.specs.View.{view};
-ghost use Rattle.schema_reports.specs.Instance.{Text};
 ghost use Rattle.schema_reports.specs.Making.{Table};
 ghost use Rattle.schema_reports.specs.Matching.{Matcher};
 ghost use Rattle.schema_reports.specs.Resolving.{Resolver};
@@ -10,6 +9,7 @@ ghost use Rattle.schema_reports.specs.ReportViews.{error_of};
 ghost use Rattle.schema_engine.specs.Handed.{Options};
 ghost use Rattle.schema_engine.specs.Program.{FromSomeDepth, OfEverySense};
 ghost use Rattle.bench_parts.specs.BenchMatching.{bench_matcher};
+ghost use Rattle.bench_parts.specs.BenchStates.{Point};
 ghost use Rattle.bench_keywords.specs.BenchShape.{BenchShape, is_whole};
 ghost use Rattle.engine_bench.specs.ProgramAnswers.{Answers};
 ghost use Rattle.engine_bench.specs.ProgramMeaning.{AnswersPlainly, BenchMeans};
@@ -160,7 +160,7 @@ pub fn ask(
         (OfEverySense shape_of words is_whole bench_matcher validator.now (view instance.now))
         call a.accepted (string_bytes a.text)) }
     ensures means { IfOk result
-        (λ a. (resolver : Resolver Text) (table : Table BenchShape) (matcher : Matcher) (options : Options) (schema : Data)
+        (λ a. (resolver : Resolver Point) (table : Table BenchShape) (matcher : Matcher) (options : Options) (schema : Data)
         → BenchMeans resolver table matcher options schema validator.now
         → AnswersPlainly resolver table matcher options schema (view instance.now) call a.accepted (string_bytes a.text)) }
     ensures depth { IfOk result (λ a. Answers

@@ -29,11 +29,16 @@ returns-in_err-validator-clause-fault c =
       unfinished = map string_bytes request.unfinished.items;
       holds = c.in_ok-call.ensures.holds;
       resolver = r;
-      resolves = record { document = ap view given.document; draft = given.draft; drafts = rw c.new.ensures.empty at given.drafts; custom = rw c.new.ensures.empty at given.custom };
+      resolves = record { document = ap view given.document; uri = given.uri; alone = given.alone; draft = given.draft; drafts = rw c.new.ensures.empty at given.drafts; custom = rw c.new.ensures.empty at given.custom };
     } in
     rw (p.1, p.2) (build_fault (texts c.args.words.now) asked e (λ spoken.
     subst (λ (ps : List Text). RefusesBuild (parts_of (bench_resolving r) bench_table (bench_matcher ps) (words spoken) default_options) schema default_options.limit e)
     c.new-matcher.ensures.patterns (c.in_err-validator.ensures.refused spoken)))
+
+pub returns-in_err-ask-clause-fault : goal.returns-in_err-ask-clause-fault
+returns-in_err-ask-clause-fault c =
+    let p = err_from_is_err_and c.from_residual-in_err-ask.result c.from_residual-in_err-ask.ensures.1 in
+    rw (p.1, p.2) tt
 
 pub returns-clause-answer : goal.returns-clause-answer
 returns-clause-answer c =
@@ -52,7 +57,7 @@ returns-clause-answer c =
         unfinished = unfinished;
         holds = c.in_ok-call.ensures.holds;
         resolver = r;
-        resolves = record { document = ap view given.document; draft = given.draft; drafts = rw c.new.ensures.empty at given.drafts; custom = rw c.new.ensures.empty at given.custom };
+        resolves = record { document = ap view given.document; uri = given.uri; alone = given.alone; draft = given.draft; drafts = rw c.new.ensures.empty at given.drafts; custom = rw c.new.ensures.empty at given.custom };
       };
       builds = λ spoken. subst (λ (ps : List Text). Builds (parts_of (bench_resolving r) bench_table (bench_matcher ps) (words spoken) default_options) schema default_options.limit) same (c.in_ok-validator.ensures.built spoken);
       plain = c.in_ok-ask.ensures.means (bench_resolving r) bench_table (bench_matcher unfinished) default_options schema

@@ -1,0 +1,135 @@
+//! `count_references KIND N`: builds a validator of a schema with N definitions, each referred to once, by `pointer`, by `name`
+//! or by `identifier`. It prints how many errors an instance has that each of them refuses; what the build costs is counted.
+#![tactic(auto)]
+
+use bench_keywords::keyword::BenchKeyword;
+use bench_parts::matcher::BenchMatcher;
+use bench_parts::resolver::BenchResolver;
+use bench_parts::table::BenchTable;
+use schema_compiler::compiler::error::BuildError;
+use schema_engine::keywords::VocabularySet;
+use schema_engine::validator::Validator;
+use schema_reports::location::OutOfMemory;
+use serde_json::Value;
+use std::alloc::Global;
+use std::env::Env;
+
+/// How a definition is referred to.
+#[derive(Clone, Copy)]
+enum Kind {
+    Pointer,
+    Name,
+    Identifier,
+}
+
+/// The kind of this name, or `pointer`.
+fn kind_of(word: &[u8]) -> Kind {
+    if word == b"name".as_slice() {
+        Kind::Name
+    } else if word == b"identifier".as_slice() {
+        Kind::Identifier
+    } else {
+        Kind::Pointer
+    }
+}
+
+/// The number that these digits are.
+fn number_of(word: &[u8]) -> u32 {
+    let mut number = 0u32;
+    for digit in word {
+        number = number
+            .saturating_mul(10)
+            .saturating_add(u32::from(digit.saturating_sub(b'0')));
+    }
+    number
+}
+
+/// Adds the reference to a definition.
+fn push_reference(text: &mut String, kind: Kind, number: u32) -> Result<(), OutOfMemory> {
+    match kind {
+        Kind::Pointer => write!(text, "\"p{number}\":{{\"$ref\":\"#/$defs/d{number}\"}},"),
+        Kind::Name => write!(text, "\"p{number}\":{{\"$ref\":\"#a{number}\"}},"),
+        Kind::Identifier => write!(text, "\"p{number}\":{{\"$ref\":\"http://x/d{number}#a\"}},"),
+    }
+}
+
+/// Adds a definition.
+fn push_definition(text: &mut String, kind: Kind, number: u32) -> Result<(), OutOfMemory> {
+    match kind {
+        Kind::Pointer => write!(text, "\"d{number}\":{{\"type\":\"integer\"}},"),
+        Kind::Name => write!(
+            text,
+            "\"d{number}\":{{\"$anchor\":\"a{number}\",\"type\":\"integer\"}},"
+        ),
+        Kind::Identifier => write!(
+            text,
+            "\"d{number}\":{{\"$id\":\"http://x/d{number}\",\"$anchor\":\"a\",\"type\":\"integer\"}},"
+        ),
+    }
+}
+
+/// The schema's text.
+fn schema_text(alloc: Global, kind: Kind, count: u32) -> Result<String, OutOfMemory> {
+    let mut text = String::from_str(alloc, "{\"properties\":{")?;
+    for number in 0..count {
+        push_reference(&mut text, kind, number)?;
+    }
+    text.push_str("\"p\":{}},\"$defs\":{")?;
+    for number in 0..count {
+        push_definition(&mut text, kind, number)?;
+    }
+    text.push_str("\"d\":{}}}")?;
+    Ok(text)
+}
+
+/// The schema.
+fn schema_of(alloc: Global, kind: Kind, count: u32) -> Result<Value, serde_json::Error> {
+    let text = schema_text(alloc, kind, count)?;
+    Value::from_str(alloc, text.as_str())
+}
+
+/// How many errors an instance has that two definitions refuse.
+fn errors_of(
+    alloc: Global,
+    validator: &Validator<BenchKeyword, BenchMatcher>,
+) -> Result<usize, serde_json::Error> {
+    let instance = Value::from_str(alloc, "{\"p0\":\"a\",\"p1\":\"b\"}")?;
+    Ok(validator.iter_errors(alloc, &instance)?.count())
+}
+
+/// Prints how many errors the instance has, or why the schema is refused.
+fn tell(
+    rt: &impl Print,
+    alloc: Global,
+    built: Result<Validator<BenchKeyword, BenchMatcher>, BuildError>,
+) -> anyhow::Result<()> {
+    match built {
+        Err(refused) => println!(rt; "{refused}")?,
+        Ok(validator) => println!(rt; "{}", errors_of(alloc, &validator)?)?,
+    }
+    Ok(())
+}
+
+/// Builds a validator of the schema, and tells.
+fn check(rt: &impl Print, alloc: Global, schema: &Value) -> anyhow::Result<()> {
+    let resolver = BenchResolver::new(alloc, schema, VocabularySet::new(alloc))?;
+    let matcher = BenchMatcher::new(Vec::new(alloc));
+    let built = Validator::new(alloc, schema, &BenchTable {}, &resolver, &matcher);
+    tell(rt, alloc, built)
+}
+
+/// The word at a place, of at most sixteen bytes.
+fn word_at<R: Env>(rt: &R, place: usize, room: &mut [u8; 16]) -> usize {
+    rt.arg(place, room.as_mut_slice()).unwrap_or(0)
+}
+
+fn main(rt: HostRuntime) -> anyhow::Result<()> {
+    let mut kind = [0u8; 16];
+    let mut count = [0u8; 16];
+    let kind_length = word_at(&rt, 1, &mut kind);
+    let count_length = word_at(&rt, 2, &mut count);
+    let kind = kind_of(kind.get(..kind_length).unwrap_or(&[]));
+    let count = number_of(count.get(..count_length).unwrap_or(&[]));
+    let schema = schema_of(rt.alloc(), kind, count)?;
+    check(&rt, rt.alloc(), &schema)
+}
