@@ -241,7 +241,7 @@ impl<'p, 'c, R: Resolver> Context<'p, 'c, R> {
         Ok(0)
     }
 
-    /// Returns where the target of a reference stands that stands for this URI. Fails only if memory cannot be allocated.
+    /// Returns where a reference's target stands, by the URI that the reference stands for. Fails only if memory cannot be allocated.
     pub fn ref_target(&self, uri: &str, target: &Target<R::State>) -> Result<RefTarget, OutOfMemory>
         ensures location { IfOk result (λ t. t.location ≡
             location_by (resolving_parts (R.resolving self.now.resolver.now))
