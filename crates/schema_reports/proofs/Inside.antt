@@ -10,7 +10,7 @@ use Rattle.schema_reports.specs.Drafts.{at_path, ref_stands_alone}
 use Rattle.schema_reports.specs.Parts.{Parts}
 use Rattle.schema_reports.specs.Making.{Request, compile, refer, Making, Made, a_keyword, nothing, refused, Builtin}
 use Rattle.schema_reports.specs.Resolving.{Found}
-use Rattle.schema_reports.specs.Plan.{Key, Part, Form, keyword, reference, Reference, to_ref, reference_named, Plan, always, never, these, Edge, plan, plan_of, plan_alone, parts, part, builtin_part, part_made, reference_part, making, option_list, sorted, placed, requested, inside, referred, reference_edge, is_self, found, ok_of, schema_at, schema_of, height}
+use Rattle.schema_reports.specs.Plan.{Key, Part, Form, keyword, reference, Reference, to_ref, reference_named, Plan, always, never, these, Edge, plan, plan_of, plan_alone, parts, part, builtin_part, part_made, reference_part, making, option_list, sorted, placed, requested, inside, referred, reference_edge, is_self, found, ok_of, schema_at, schema_of, height, is_recursive_ref}
 use Rattle.schema_reports.specs.Paths.{part_edges}
 use Rattle.schema_reports.specs.Numbered.{ValuesInside, IsBelow, MakersAskBelow, SubschemasInside}
 use Rattle.schema_reports.proofs.Falls.{path_falls}
@@ -132,7 +132,7 @@ module _ {S K R : Type 0} (w : Parts S K R) (values : ValuesInside w) (makers : 
     unfolding Falls
     reference_falls name kind text = go (ok_of (found w k kind text))
       where
-        go : (o : Option (Found S)) → OptionFalls (option_map (λ f. record { key = referred w k f kind text; path = joined [] name; is_reference = true }) o)
+        go : (o : Option (Found S)) → OptionFalls (option_map (λ f. record { key = referred w k f kind text; path = joined [] name; is_reference = true; is_recursive = is_recursive_ref kind }) o)
         go None = tt
         go (Some f) = λ e. absurd (true≢false e)
 
@@ -141,7 +141,7 @@ module _ {S K R : Type 0} (w : Parts S K R) (values : ValuesInside w) (makers : 
     request_falls name (compile []) h = absurd h
     request_falls name (compile (s ∷ path)) h = go (ok_of (w.resolver.in_subresource k.target.state (w.resolver.detect k.target.draft (schema_at w (at_path k.target.place (s ∷ path)))) (at_path k.target.place (s ∷ path)))) (lower s path)
       where
-        go : (o : Option S) → depth (schema_at w (at_path k.target.place (s ∷ path))) < depth (schema_of w k) → OptionFalls (option_map (λ state. record { key = inside w k (s ∷ path) state (w.resolver.detect k.target.draft (schema_at w (at_path k.target.place (s ∷ path)))); path = pointer_to (s ∷ path); is_reference = false }) o)
+        go : (o : Option S) → depth (schema_at w (at_path k.target.place (s ∷ path))) < depth (schema_of w k) → OptionFalls (option_map (λ state. record { key = inside w k (s ∷ path) state (w.resolver.detect k.target.draft (schema_at w (at_path k.target.place (s ∷ path)))); path = pointer_to (s ∷ path); is_reference = false; is_recursive = false }) o)
         go None l = tt
         go (Some state) l = λ e. omega arith
     request_falls name (refer text) h = go (is_self w k to_ref text) (reference_falls name to_ref text)

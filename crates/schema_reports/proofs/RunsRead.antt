@@ -8,7 +8,7 @@ use Rattle.schema_reports.specs.Matching.{Assumptions, Match, Matcher, Matching,
 use Rattle.schema_reports.specs.Keywords.{Keywords, Marked, Mode, Question, Reply, Turn, ask, done, ecma, mark, match_text, no_reply, truth, unmark}
 use Rattle.schema_reports.specs.Meaning.{Where}
 use Rattle.schema_reports.specs.Units.{given_units, keyword_units}
-use Rattle.schema_reports.specs.Runs.{Met, Run, keyword_met, reply_in, site_at, turns}
+use Rattle.schema_reports.specs.Runs.{Met, Run, keyword_met, reply_in, site_at, turns, with_mark, without_last}
 use Rattle.schema_reports.specs.Laws.{AlwaysAsksRightly, AsksRightly}
 use Rattle.schema_reports.proofs.Reading.{Reads}
 use Rattle.schema_reports.proofs.Local.{each_asked}
@@ -23,8 +23,8 @@ module _ {K R : Type 0} (keywords : Keywords K R) (matcher : Matcher) (as' : Ass
       | finished b ↦ rest marks (truth b)
       | unfinished reason ↦ record { pair = a; site = site_at x name point } ∷ rest marks (truth (completed (completion_of as') a))
     ]
-    | mark i ↦ rest (i ∷ marks) (truth (list_any (same i) marks))
-    | unmark ↦ rest (elim marks [ [] ↦ [] | i ∷ more ↦ more ]) no_reply
+    | mark i ↦ rest (with_mark same i marks) (truth (list_any (same i) marks))
+    | unmark ↦ rest (without_last marks) no_reply
     | ecma text ↦ rest marks (truth (matcher.is_ecma text))
     | done ↦ []
   ]
@@ -39,7 +39,7 @@ module _ {K R : Type 0} (keywords : Keywords K R) (matcher : Matcher) (as' : Ass
         → (marks : List Marked) (t : Turn) → AsksRightly keywords m s absorbed t → one_turn f rest marks t ≡ one_turn g rest' marks t
     turn_same rest rest' h marks (ask q mode) is = ap (λ r. r.met mode ++ rest marks (reply_in mode r)) (alike q is) ∙ ap (λ l. (g q).met mode ++ l) (h marks (reply_in mode (g q)))
     turn_same rest rest' h marks (match_text a point) is = match_same (matcher.is_match a.pattern a.subject) (λ b. rest marks (truth b)) (λ b. rest' marks (truth b)) _ _ _ (λ t. h marks (truth t)) (h marks _)
-    turn_same rest rest' h marks (mark i) is = h (i ∷ marks) _
+    turn_same rest rest' h marks (mark i) is = h (with_mark same i marks) _
     turn_same rest rest' h marks unmark is = h _ no_reply
     turn_same rest rest' h marks (ecma text) is = h marks _
     turn_same rest rest' h marks done is = refl

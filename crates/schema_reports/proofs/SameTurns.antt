@@ -7,7 +7,7 @@ use Rattle.schema_reports.specs.Reports.{Error, Unit_, report_of, Outcome}
 use Rattle.schema_reports.specs.Matching.{Match, finished, unfinished, Matcher, Matching, matching, settled, Completion, completed, Assumptions, assumed, completion_of, Extends}
 use Rattle.schema_reports.specs.Keywords.{Marked, Question, Mode, for_verdict, for_first, for_all, for_units, Fault, Reply, no_reply, truth, first_of_it, all_of_it, unit_of_it, Turn, ask, match_text, mark, unmark, ecma, done, Keywords}
 use Rattle.schema_reports.specs.Meaning.{Where, keyword_outcome, fault_error}
-use Rattle.schema_reports.specs.Runs.{Met, site_at, Run, first_error, reply_in, turns, keyword_met}
+use Rattle.schema_reports.specs.Runs.{Met, site_at, Run, first_error, reply_in, turns, keyword_met, with_mark, without_last}
 use Rattle.schema_reports.specs.Laws.{Agrees, AnsweredAlike, first_fault, answer_in, ended, IsRight, KeepsLaws}
 use Rattle.schema_reports.specs.Members.{AllAssumed, SameIn, Speaks}
 
@@ -95,24 +95,24 @@ module _ {K R : Type 0} (keywords : Keywords K R) (matcher : Matcher) (as' : Ass
               | finished b ↦ MetIn n marks (keywords.turn m s r reply) (truth b)
               | unfinished reason ↦ record { pair = a; site = site_at x name point } ∷ MetIn n marks (keywords.turn m s r reply) (truth (completed (completion_of as') a))
             ]
-            | mark i ↦ MetIn n (i ∷ marks) (keywords.turn m s r reply) (truth (list_any (same i) marks))
-            | unmark ↦ MetIn n (elim marks [ [] ↦ [] | i ∷ rest ↦ rest ]) (keywords.turn m s r reply) no_reply
+            | mark i ↦ MetIn n (with_mark same i marks) (keywords.turn m s r reply) (truth (list_any (same i) marks))
+            | unmark ↦ MetIn n (without_last marks) (keywords.turn m s r reply) no_reply
             | ecma text ↦ MetIn n marks (keywords.turn m s r reply) (truth (matcher.is_ecma text))
             | done ↦ []
           ])
           → ◌≡◌ {A = Option R} (elim t [
             | ask q mode ↦ Ended1 n marks (keywords.turn m s r reply) (answer_in keywords m s WhenAssumed a1 u1 same mode q)
             | match_text a point ↦ Ended1 n marks (keywords.turn m s r reply) (truth (WhenAssumed.matches a.pattern a.subject))
-            | mark i ↦ Ended1 n (i ∷ marks) (keywords.turn m s r reply) (truth (list_any (same i) marks))
-            | unmark ↦ Ended1 n (elim marks [ [] ↦ [] | i ∷ rest ↦ rest ]) (keywords.turn m s r reply) no_reply
+            | mark i ↦ Ended1 n (with_mark same i marks) (keywords.turn m s r reply) (truth (list_any (same i) marks))
+            | unmark ↦ Ended1 n (without_last marks) (keywords.turn m s r reply) no_reply
             | ecma text ↦ Ended1 n marks (keywords.turn m s r reply) (truth (WhenAssumed.is_ecma text))
             | done ↦ Some (keywords.turn m s r reply)
           ])
           (elim t [
             | ask q mode ↦ Ended2 n marks (keywords.turn m s r reply) (answer_in keywords m s WhenCompleted a2 u2 same mode q)
             | match_text a point ↦ Ended2 n marks (keywords.turn m s r reply) (truth (WhenCompleted.matches a.pattern a.subject))
-            | mark i ↦ Ended2 n (i ∷ marks) (keywords.turn m s r reply) (truth (list_any (same i) marks))
-            | unmark ↦ Ended2 n (elim marks [ [] ↦ [] | i ∷ rest ↦ rest ]) (keywords.turn m s r reply) no_reply
+            | mark i ↦ Ended2 n (with_mark same i marks) (keywords.turn m s r reply) (truth (list_any (same i) marks))
+            | unmark ↦ Ended2 n (without_last marks) (keywords.turn m s r reply) no_reply
             | ecma text ↦ Ended2 n marks (keywords.turn m s r reply) (truth (WhenCompleted.is_ecma text))
             | done ↦ Some (keywords.turn m s r reply)
           ])
@@ -135,8 +135,8 @@ module _ {K R : Type 0} (keywords : Keywords K R) (matcher : Matcher) (as' : Ass
               let (b, is) = assumed_head as' (record { pair = a; site = site_at x name point }) _ k in
               rest marks (truth (completed (completion_of as') a)) (assumed_tail as' (record { pair = a; site = site_at x name point }) _ k)
               ∙ ap (λ z. Ended2 n marks (keywords.turn m s r reply) (truth z)) (mine a b is ∙ sym (ext a b is))
-      go (mark i) rest h = rest (i ∷ marks) (truth (list_any (same i) marks)) h
-      go unmark rest h = rest (elim marks [ [] ↦ [] | i ∷ others ↦ others ]) no_reply h
+      go (mark i) rest h = rest (with_mark same i marks) (truth (list_any (same i) marks)) h
+      go unmark rest h = rest (without_last marks) no_reply h
       go (ecma text) rest h = rest marks (truth (matcher.is_ecma text)) h
       go done rest h = refl
 

@@ -8,7 +8,7 @@ use Rattle.schema_reports.specs.Instance.{Place, Subject, Text}
 use Rattle.schema_reports.specs.Matching.{Assumptions, Match, Matcher, completed, completion_of, finished, unfinished}
 use Rattle.schema_reports.specs.Keywords.{Below, Keywords, MatchPoint, Marked, Mode, Question, Reply, Turn, ask, done, ecma, for_all, for_first, for_units, for_verdict, here, mark, match_text, no_reply, truth, unmark}
 use Rattle.schema_reports.specs.Meaning.{Where, place_below}
-use Rattle.schema_reports.specs.Runs.{Looked, Met, Run, Site, no_run, plan_met, reply_in, site_at, turns}
+use Rattle.schema_reports.specs.Runs.{Looked, Met, Run, Site, no_run, plan_met, reply_in, site_at, turns, with_mark, without_last}
 use Rattle.schema_reports.specs.Cover.{Call, mode_of}
 use Rattle.schema_reports.specs.Laws.{AlwaysAsksRightly, AsksRightly, EachKeeps, IsPresent, KeepsLaws, SpotInside, steps_below}
 use Rattle.schema_reports.specs.Guarded.{NodeEdge, NodeForm, NodePart, NodePlan, Nodes, guarded_node, guarded_sense, guarded_within, node_always, node_asked, node_at, node_child, node_keyword, node_looked, node_never, node_part_met, node_reference, node_these, progress_below, same_edge, yes_run}
@@ -66,16 +66,16 @@ module _ (instance : Data) where
                 | finished b ↦ MetIn n marks (keywords.turn m s r reply) (truth b)
                 | unfinished reason ↦ record { pair = a; site = site_at x name point } ∷ MetIn n marks (keywords.turn m s r reply) (truth (completed (completion_of as') a))
               ]
-              | mark i ↦ MetIn n (i ∷ marks) (keywords.turn m s r reply) (truth (list_any (same i) marks))
-              | unmark ↦ MetIn n (elim marks [ [] ↦ [] | i ∷ rest ↦ rest ]) (keywords.turn m s r reply) no_reply
+              | mark i ↦ MetIn n (with_mark same i marks) (keywords.turn m s r reply) (truth (list_any (same i) marks))
+              | unmark ↦ MetIn n (without_last marks) (keywords.turn m s r reply) no_reply
               | ecma text ↦ MetIn n marks (keywords.turn m s r reply) (truth (matcher.is_ecma text))
               | done ↦ []
             ])
         go (ask q mode) may rest = All-append MetInside ((run_of q).met mode) _
             ((inside q (stands_at instance x.place q.below there (All-contains (λ q'. IsPresent s (steps_below q'.below)) (keywords.may_ask m s) q (laws.present s) may))).sites mode) (rest marks (reply_in mode (run_of q)))
         go (match_text a point) h rest = matched (matcher.is_match a.pattern a.subject) marks (record { pair = a; site = site_at x name point }) (site_stands point h) (rest marks)
-        go (mark i) h rest = rest (i ∷ marks) (truth (list_any (same i) marks))
-        go unmark h rest = rest (elim marks [ [] ↦ [] | i ∷ more ↦ more ]) no_reply
+        go (mark i) h rest = rest (with_mark same i marks) (truth (list_any (same i) marks))
+        go unmark h rest = rest (without_last marks) no_reply
         go (ecma text) h rest = rest marks (truth (matcher.is_ecma text))
         go done h rest = All-nil MetInside
 

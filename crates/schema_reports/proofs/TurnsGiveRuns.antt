@@ -7,6 +7,7 @@ use Rattle.schema_reports.specs.Reports.{Unit_, report_of}
 use Rattle.schema_reports.specs.Matching.{Matching}
 use Rattle.schema_reports.specs.Keywords.{Question, Marked, Mode, Answers, Reply, no_reply, truth, Turn, ask, match_text, mark, unmark, ecma, done, Answer, Keywords}
 use Rattle.schema_reports.specs.Laws.{Agrees, AnsweredAlike, AlwaysAsksRightly, EndsWithin, KeepsLaws, answer_in, ended, IsRight, EndsRightly}
+use Rattle.schema_reports.specs.Runs.{with_mark, without_last}
 use Rattle.schema_reports.specs.Turns.{FunctionLaws, reply_to, marks_after, Standing, TurnLaws}
 
 module _ {K R : Type 0} (keywords : Keywords K R) (m : K) (absorbed : List Text) (remaining : Subject → R → ℕ) (can_be : Subject → R → Type 0) (end_of : Standing R → Answer) (Fits : Standing R → Type 0)
@@ -66,8 +67,8 @@ module _ {K R : Type 0} (keywords : Keywords K R) (m : K) (absorbed : List Text)
             × (◌≡◌ {A = Option R} (elim t [
               | ask q mode ↦ Ended n marks (keywords.turn m s r reply) (answer_in keywords m s matches a u same mode q)
               | match_text b point ↦ Ended n marks (keywords.turn m s r reply) (truth (matches.matches b.pattern b.subject))
-              | mark i ↦ Ended n (i ∷ marks) (keywords.turn m s r reply) (truth (list_any (same i) marks))
-              | unmark ↦ Ended n (elim marks [ [] ↦ [] | i ∷ rest ↦ rest ]) (keywords.turn m s r reply) no_reply
+              | mark i ↦ Ended n (with_mark same i marks) (keywords.turn m s r reply) (truth (list_any (same i) marks))
+              | unmark ↦ Ended n (without_last marks) (keywords.turn m s r reply) no_reply
               | ecma text ↦ Ended n marks (keywords.turn m s r reply) (truth (matches.is_ecma text))
               | done ↦ Some (keywords.turn m s r reply)
             ]) (Some r'))
@@ -78,8 +79,8 @@ module _ {K R : Type 0} (keywords : Keywords K R) (m : K) (absorbed : List Text)
             by : (t : Turn) → t ≡ done → ◌≡◌ {A = Option R} (elim t [
               | ask q mode ↦ Ended n marks (keywords.turn m s r reply) (answer_in keywords m s matches a u same mode q)
               | match_text b point ↦ Ended n marks (keywords.turn m s r reply) (truth (matches.matches b.pattern b.subject))
-              | mark i ↦ Ended n (i ∷ marks) (keywords.turn m s r reply) (truth (list_any (same i) marks))
-              | unmark ↦ Ended n (elim marks [ [] ↦ [] | i ∷ rest ↦ rest ]) (keywords.turn m s r reply) no_reply
+              | mark i ↦ Ended n (with_mark same i marks) (keywords.turn m s r reply) (truth (list_any (same i) marks))
+              | unmark ↦ Ended n (without_last marks) (keywords.turn m s r reply) no_reply
               | ecma text ↦ Ended n marks (keywords.turn m s r reply) (truth (matches.is_ecma text))
               | done ↦ Some (keywords.turn m s r reply)
             ]) (Some (keywords.turn m s r reply))
@@ -92,12 +93,7 @@ module _ {K R : Type 0} (keywords : Keywords K R) (m : K) (absorbed : List Text)
         go (ask q mode) is (inr w) rec = on (ask q mode) is (λ e. absurd (cc e)) w rec
         go (match_text b point) is (inr w) rec = on (match_text b point) is (λ e. absurd (cc e)) w rec
         go (mark i) is (inr w) rec = on (mark i) is (λ e. absurd (cc e)) w rec
-        go unmark is (inr w) rec = unmarked marks (on unmark is (λ e. absurd (cc e)) w rec)
-          where
-            unmarked : (l : List Marked) → (r' : R) × (Ended n (After l unmark) (keywords.turn m s r reply) no_reply ≡ Some r') × (keywords.answer r' ≡ end_of (at marks r reply))
-                → (r' : R) × (Ended n (elim l [ [] ↦ [] | i ∷ rest ↦ rest ]) (keywords.turn m s r reply) no_reply ≡ Some r') × (keywords.answer r' ≡ end_of (at marks r reply))
-            unmarked [] x = x
-            unmarked (i ∷ rest) x = x
+        go unmark is (inr w) rec = on unmark is (λ e. absurd (cc e)) w rec
         go (ecma text) is (inr w) rec = on (ecma text) is (λ e. absurd (cc e)) w rec
 
     ends_rightly : (mode : Mode) → ((q : Question) → Agrees (a q)) → ((q : Question) → (report_of (u q)).valid ≡ (a q).verdict) → AnsweredAlike same a → EndsRightly keywords m s matches a u same mode

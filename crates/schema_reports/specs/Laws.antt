@@ -6,7 +6,7 @@ use Rattle.schema_reports.specs.Pointer.{pointer_to}
 use Rattle.schema_reports.specs.Reports.{Outcome, Unit_, report_of}
 use Rattle.schema_reports.specs.Matching.{Matching}
 use Rattle.schema_reports.specs.Keywords.{Answer, Answers, Below, Fault, Keywords, Marked, Mode, Question, Reply, Spot, Turn, a_child, all_of_it, ask, done, down, ecma, all_valid, first_of_it, for_all, for_first, for_units, for_verdict, here, mark, match_text, no_reply, own, passed, truth, unit_of_it, unmark}
-use Rattle.schema_reports.specs.Runs.{first_error}
+use Rattle.schema_reports.specs.Runs.{first_error, with_mark, without_last}
 
 -- the verdict is yes exactly where there is no error
 abbrev pub Agrees : Outcome → Type 0
@@ -65,8 +65,8 @@ module _ {K R : Type 0} (keywords : Keywords K R) (m : K) (s : Subject) where
         elim (keywords.step m s r reply) [
           | ask q mode ↦ ended n marks r' (answer_in mode q)
           | match_text a point ↦ ended n marks r' (truth (matches.matches a.pattern a.subject))
-          | mark i ↦ ended n (i ∷ marks) r' (truth (list_any (same i) marks))
-          | unmark ↦ ended n (elim marks [ [] ↦ [] | i ∷ rest ↦ rest ]) r' no_reply
+          | mark i ↦ ended n (with_mark same i marks) r' (truth (list_any (same i) marks))
+          | unmark ↦ ended n (without_last marks) r' no_reply
           | ecma text ↦ ended n marks r' (truth (matches.is_ecma text))
           | done ↦ Some r'
         ]

@@ -38,6 +38,10 @@ abbrev pub is_dynamic : Reference → Bool
 is_dynamic to_dynamic = true
 is_dynamic _ = false
 
+abbrev pub is_recursive_ref : Reference → Bool
+is_recursive_ref to_recursive = true
+is_recursive_ref _ = false
+
 -- what follows the first `#`, and what stands before it
 abbrev pub fragment : Text → Text
 fragment [] = []
@@ -93,11 +97,12 @@ abbrev pub ok_of : {A E : Type 0} → Result A E → Option A
 ok_of (Ok a) = Some a
 ok_of (Err e) = None
 
--- an edge to a child: its key, what it adds to the evaluation path, and whether it is a reference
+-- an edge to a child: its key, what it adds to the evaluation path, and whether it is a reference, and that of a `$recursiveRef`
 pub record Edge (S : Type 0) : Type 0 where
   pub key : Key S
   pub path : Text
   pub is_reference : Bool
+  pub is_recursive : Bool
 
 -- the bytes that stand in a URI's fragment as they are; the others are percent-encoded
 abbrev pub stands_plainly : ℕ → Bool
@@ -142,7 +147,7 @@ module _ {S K R : Type 0} (w : Parts S K R) where
   abbrev pub subschema : Key S → Place → Option (Edge S)
   subschema k path = let place = at_path k.target.place path in
       let draft = w.resolver.detect k.target.draft (schema_at place) in
-      option_map (λ state. record { key = inside k path state draft; path = pointer_to path; is_reference = false }) (ok_of (w.resolver.in_subresource k.target.state draft place))
+      option_map (λ state. record { key = inside k path state draft; path = pointer_to path; is_reference = false; is_recursive = false }) (ok_of (w.resolver.in_subresource k.target.state draft place))
 
   -- what a reference's text stands for, in the state of the object that holds it; an empty text is read as `#`
   abbrev pub resolved : Key S → Text → Result Text Text
@@ -198,7 +203,7 @@ module _ {S K R : Type 0} (w : Parts S K R) where
 
   -- the edge of a reference that stands under the keyword `name`
   abbrev pub reference_edge : Key S → Text → Reference → Text → Option (Edge S)
-  reference_edge k name kind text = option_map (λ f. record { key = referred k f kind text; path = joined [] name; is_reference = true }) (ok_of (found k kind text))
+  reference_edge k name kind text = option_map (λ f. record { key = referred k f kind text; path = joined [] name; is_reference = true; is_recursive = is_recursive_ref kind }) (ok_of (found k kind text))
 
   -- a reference other than `$recursiveRef` to the very object that holds it is no keyword
   abbrev pub is_self : Key S → Reference → Text → Bool

@@ -44,6 +44,16 @@ site_at x name m = let name' = unwrap_or m.spot.absorbed name in record {
   pattern = m.pattern;
 }
 
+-- the marks that a run holds after it marks, the last one first: one that it holds already is not added again; `same` says which
+-- marks are of one key
+abbrev pub with_mark : (Marked → Marked → Bool) → Marked → List Marked → List Marked
+with_mark same i marks = if list_any (same i) marks then marks else i ∷ marks
+
+-- and after it takes its last mark away, where it holds one
+abbrev pub without_last : List Marked → List Marked
+without_last [] = []
+without_last (i ∷ marks) = marks
+
 -- the turns of a keyword's run, with the children that it marks; `same` says which children have one key
 module _ {K R : Type 0} (keywords : Keywords K R) (matcher : Matcher) (as' : Assumptions) (x : Where) (s : Subject) (run_of : Question → Run) (same : Marked → Marked → Bool) (name : Text) (m : K) where
   abbrev pub turns : ℕ → List Marked → R → Reply → List Met
@@ -56,8 +66,8 @@ module _ {K R : Type 0} (keywords : Keywords K R) (matcher : Matcher) (as' : Ass
           | finished b ↦ turns n marks r' (truth b)
           | unfinished reason ↦ record { pair = a; site = site_at x name point } ∷ turns n marks r' (truth (completed (completion_of as') a))
         ]
-        | mark i ↦ turns n (i ∷ marks) r' (truth (list_any (same i) marks))
-        | unmark ↦ turns n (elim marks [ [] ↦ [] | i ∷ rest ↦ rest ]) r' no_reply
+        | mark i ↦ turns n (with_mark same i marks) r' (truth (list_any (same i) marks))
+        | unmark ↦ turns n (without_last marks) r' no_reply
         | ecma text ↦ turns n marks r' (truth (matcher.is_ecma text))
         | done ↦ []
       ]

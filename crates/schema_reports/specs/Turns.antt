@@ -5,6 +5,7 @@ use Rattle.schema_reports.specs.Instance.{Subject, Text}
 use Rattle.schema_reports.specs.Reports.{Unit_, report_of}
 use Rattle.schema_reports.specs.Matching.{Matching}
 use Rattle.schema_reports.specs.Keywords.{Answer, Answers, Keywords, Marked, Mode, Question, Reply, Turn, all_valid, ask, done, ecma, mark, match_text, no_reply, truth, unmark}
+use Rattle.schema_reports.specs.Runs.{with_mark, without_last}
 use Rattle.schema_reports.specs.Laws.{Agrees, AnsweredAlike, AsksRightly, IsPresent, IsRight, PassesUnchanged, StandsInside, answer_in, steps_below}
 
 module _ {K R : Type 0} (keywords : Keywords K R) (m : K) (s : Subject) (matches : Matching) (answers : Answers) (unit_at : Question → Unit_) (same : Marked → Marked → Bool) where
@@ -19,9 +20,8 @@ module _ {K R : Type 0} (keywords : Keywords K R) (m : K) (s : Subject) (matches
 
   -- and the marks that it holds after the turn
   abbrev pub marks_after : List Marked → Turn → List Marked
-  marks_after marks (mark i) = i ∷ marks
-  marks_after [] unmark = []
-  marks_after (i ∷ marks) unmark = marks
+  marks_after marks (mark i) = with_mark same i marks
+  marks_after marks unmark = without_last marks
   marks_after marks _ = marks
 
 -- how a run stands: what answers its turns, its marks, its state and the last reply
