@@ -1,5 +1,6 @@
 -- A keyword's run in a reading: how it begins, goes on after a child's reply, and ends.
 use Rattle.std.proofs.Common.{◌≡◌, ◌∙◌, ℕ, zero, suc, ◌<◌, Bool, false, List, [], ◌∷◌, map, refl, sym, ap, subst, arith, inl, inr}
+use Rattle.std.specs.List.{list_any}
 use Rattle.std.specs.Prelude.{All, Some, ◌⊎◌, slice_get}
 use Rattle.std.proofs.lemmas.List.Elements.{All-contains}
 use Rattle.serde_json.specs.Data.{Data}
@@ -10,18 +11,18 @@ use Rattle.schema_node.specs.NodeTable.{NodeEntry, numbered}
 use Rattle.schema_node.proofs.NodeRuns.{stands_in, where_is}
 use Rattle.schema_reports.specs.Reports.{Error}
 use Rattle.schema_reports.specs.Matching.{Pair, completed, matching, settled}
-use Rattle.schema_reports.specs.Keywords.{Answer, Answers, Fault, Keywords, Marked, MatchPoint, Mode, Question, Reply, Turn, all_of_it, ask, done, ecma, first_of_it, for_all, for_first, for_units, for_verdict, match_text, no_reply, truth}
+use Rattle.schema_reports.specs.Keywords.{Answer, Answers, Fault, Keywords, Marked, MatchPoint, Mode, Question, Reply, Turn, all_of_it, ask, done, ecma, first_of_it, for_all, for_first, for_units, for_verdict, mark, match_text, no_reply, truth, unmark}
 use Rattle.schema_reports.specs.Meaning.{Where, fault_error, keyword_outcome}
-use Rattle.schema_reports.specs.Runs.{first_error}
-use Rattle.schema_reports.specs.Laws.{Agrees, AsksRightly, IsPresent, IsRight, SpotInside, StandsInside, answer_in, first_fault, steps_below}
+use Rattle.schema_reports.specs.Runs.{first_error, with_mark, without_last}
+use Rattle.schema_reports.specs.Laws.{Agrees, AnsweredAlike, AsksRightly, IsPresent, IsRight, SpotInside, StandsInside, answer_in, first_fault, steps_below}
 use Rattle.schema_reports.specs.Turns.{Standing, TurnLaws, marks_after, next, reply_to}
 use Rattle.schema_node.specs.KeywordViews.{Tells, answer_of, fault_of}
 use Rattle.schema_node.specs.FaultViews.{FaultsLieInside, LiesInside, PassesBorrowed, answer_reply, faults_in}
-use Rattle.schema_node.specs.Marks.{AlwaysUnmarked, IsUnmarked}
 use Rattle.schema_node.specs.Matches.{Settling}
 use Rattle.schema_node.proofs.Matches.{decides, deciding}
 use Rattle.schema_node.specs.NodeRuns.{Reading, Reads, entry_where, reply_by}
-use Rattle.schema_node.specs.Turning.{OnItsWay, StaysUnmarked, stands_at, unit_with}
+use Rattle.schema_node.specs.Turning.{OnItsWay, StaysWithoutUnits, stands_at, unit_with}
+use Rattle.schema_node.specs.UnitQuestions.{AlwaysAsksForLess, AsksForLess}
 use Rattle.schema_node.specs.declared.context.keyword.Fault as code
 use Rattle.schema_node.specs.declared.context.keyword.Fault.TheVariants as fault
 use Rattle.schema_node.specs.declared.context.keyword.Answer as code_answer
@@ -31,69 +32,75 @@ module _ {K R : Type 0} (keywords : Keywords K R) (m : K) (absorbed : List Text)
     (laws : TurnLaws keywords m absorbed remaining can_be end_of Fits) where
   -- ---- in a reading
 
-  module _ (s : Subject) (x : Reading) (mode : Mode) (answers : Answers) where
-    abbrev OnWay : R → Reply → Type 0
-    OnWay = OnItsWay keywords m can_be end_of Fits s x mode answers
+  module _ (s : Subject) (x : Reading) (mode : Mode) (answers : Answers) (same : Marked → Marked → Bool) where
+    abbrev OnWay : List Marked → R → Reply → Type 0
+    OnWay = OnItsWay keywords m can_be end_of Fits s x mode answers same
 
-    pub begins : (r : R) → ((q : Question) → Agrees (answers q)) → keywords.begin m s mode ≡ r → OnWay r no_reply
-    begins r agree e =
-        let h = laws.begins s mode (matching x.matcher x.completion) answers (λ q. unit_with (answers q)) (λ a b. false) agree (λ q. refl) (λ i j e below. absurd (cc e)) in
-        subst (λ u. OnWay u no_reply) e (record { can = laws.starts s mode; fits = h.0; right = h.1 })
+    pub begins : (marks : List Marked) (r : R) → marks ≡ [] → ((q : Question) → Agrees (answers q)) → AnsweredAlike same answers → keywords.begin m s mode ≡ r → OnWay marks r no_reply
+    begins marks r none agree alike e =
+        let h = laws.begins s mode (matching x.matcher x.completion) answers (λ q. unit_with (answers q)) same agree (λ q. refl) alike in
+        subst (λ l. OnWay l r no_reply) (sym none) (subst (λ u. OnWay [] u no_reply) e (record { can = laws.starts s mode; fits = h.0; right = h.1 }))
 
     -- a reply in a mode is the true one
-    true_reply : (q : Question) (w : Mode) → ¬ (w ≡ for_units) → reply_by w (answers q) ≡ answer_in keywords m s (matching x.matcher x.completion) answers (λ q. unit_with (answers q)) (λ a b. false) w q
+    true_reply : (q : Question) (w : Mode) → ¬ (w ≡ for_units) → reply_by w (answers q) ≡ answer_in keywords m s (matching x.matcher x.completion) answers (λ q. unit_with (answers q)) same w q
     true_reply q for_verdict h = refl
     true_reply q for_first h = refl
     true_reply q for_all h = refl
     true_reply q for_units h = absurd (h refl)
 
-    abbrev To : Turn → Reply
-    To = reply_to keywords m s (matching x.matcher x.completion) answers (λ q. unit_with (answers q)) (λ a b. false) []
+    abbrev To : List Marked → Turn → Reply
+    To = reply_to keywords m s (matching x.matcher x.completion) answers (λ q. unit_with (answers q)) same
 
-    abbrev Marks : Turn → List Marked
-    Marks = marks_after keywords m s (matching x.matcher x.completion) answers (λ q. unit_with (answers q)) (λ a b. false) []
+    abbrev Marks : List Marked → Turn → List Marked
+    Marks = marks_after keywords m s (matching x.matcher x.completion) answers (λ q. unit_with (answers q)) same
 
-    -- a turn that takes no mark, and gets the true reply
-    went : (r r' : R) (reply reply' : Reply) (t : Turn) → OnWay r reply → keywords.turn m s r reply ≡ r' → keywords.step m s r reply ≡ t → ¬ (t ≡ done) → Marks t ≡ [] → To t ≡ reply' → OnWay r' reply'
-    went r r' reply reply' t way is e more none told =
-        let st : Standing R = stands_at s x answers r reply in
+    -- a turn that gets the true reply, and the marks after it
+    went : (marks marks' : List Marked) (r r' : R) (reply reply' : Reply) (t : Turn) → OnWay marks r reply → keywords.turn m s r reply ≡ r' → keywords.step m s r reply ≡ t → ¬ (t ≡ done) → Marks marks t ≡ marks' → To marks t ≡ reply' → OnWay marks' r' reply'
+    went marks marks' r r' reply reply' t way is e more held told =
+        let st : Standing R = stands_at s x answers same marks r reply in
         let k = laws.keeps st way.fits (λ d. more (sym e ∙ d)) in
-        let marks : Marks (keywords.step m s r reply) ≡ [] = ap Marks e ∙ none in
-        let replied : To (keywords.step m s r reply) ≡ reply' = ap To e ∙ told in
-        let there : next keywords m st ≡ stands_at s x answers r' reply'
-        = λ i. record { subject = s; matches = matching x.matcher x.completion; answers = answers; unit_at = λ q. unit_with (answers q); same = λ a b. false; marks = marks i; state = is i; reply = replied i } in
-        record { can = subst (can_be s) is (laws.goes_on s r reply way.can); fits = subst Fits there k.0; right = subst (IsRight keywords m s (matching x.matcher x.completion) answers (λ q. unit_with (answers q)) (λ a b. false) mode) (sym k.1 ∙ ap end_of there) way.right }
+        let holds : Marks marks (keywords.step m s r reply) ≡ marks' = ap (Marks marks) e ∙ held in
+        let replied : To marks (keywords.step m s r reply) ≡ reply' = ap (To marks) e ∙ told in
+        let there : next keywords m st ≡ stands_at s x answers same marks' r' reply'
+        = λ i. record { subject = s; matches = matching x.matcher x.completion; answers = answers; unit_at = λ q. unit_with (answers q); same = same; marks = holds i; state = is i; reply = replied i } in
+        record { can = subst (can_be s) is (laws.goes_on s r reply way.can); fits = subst Fits there k.0; right = subst (IsRight keywords m s (matching x.matcher x.completion) answers (λ q. unit_with (answers q)) same mode) (sym k.1 ∙ ap end_of there) way.right }
 
-    pub asked : (r r' : R) (reply reply' : Reply) (q : Question) (w : Mode) → ¬ (w ≡ for_units) → OnWay r reply → keywords.turn m s r reply ≡ r' → keywords.step m s r reply ≡ ask q w → reply' ≡ reply_by w (answers q) → OnWay r' reply'
-    asked r r' reply reply' q w less way t e a = went r r' reply reply' (ask q w) way t e (λ f. cc f) refl (sym (true_reply q w less) ∙ sym a)
+    pub asked : (marks marks' : List Marked) (r r' : R) (reply reply' : Reply) (q : Question) (w : Mode) → marks' ≡ marks → ¬ (w ≡ for_units) → OnWay marks r reply → keywords.turn m s r reply ≡ r' → keywords.step m s r reply ≡ ask q w → reply' ≡ reply_by w (answers q) → OnWay marks' r' reply'
+    asked marks marks' r r' reply reply' q w kept less way t e a = went marks marks' r r' reply reply' (ask q w) way t e (λ f. cc f) (sym kept) (sym (true_reply q w less) ∙ sym a)
 
-    pub matched : (r r' : R) (reply reply' : Reply) (a : Pair) (point : MatchPoint) → OnWay r reply → keywords.turn m s r reply ≡ r' → keywords.step m s r reply ≡ match_text a point
-        → reply' ≡ truth (settled (completed x.completion a) (x.matcher.is_match a.pattern a.subject)) → OnWay r' reply'
-    matched r r' reply reply' a point way t e is = went r r' reply reply' (match_text a point) way t e (λ f. cc f) refl (sym is)
+    pub matched : (marks marks' : List Marked) (r r' : R) (reply reply' : Reply) (a : Pair) (point : MatchPoint) → marks' ≡ marks → OnWay marks r reply → keywords.turn m s r reply ≡ r' → keywords.step m s r reply ≡ match_text a point
+        → reply' ≡ truth (settled (completed x.completion a) (x.matcher.is_match a.pattern a.subject)) → OnWay marks' r' reply'
+    matched marks marks' r r' reply reply' a point kept way t e is = went marks marks' r r' reply reply' (match_text a point) way t e (λ f. cc f) (sym kept) (sym is)
 
-    pub told_pattern : (r r' : R) (reply reply' : Reply) (text : Text) → OnWay r reply → keywords.turn m s r reply ≡ r' → keywords.step m s r reply ≡ ecma text → reply' ≡ truth (x.matcher.is_ecma text) → OnWay r' reply'
-    told_pattern r r' reply reply' text way t e is = went r r' reply reply' (ecma text) way t e (λ f. cc f) refl (sym is)
+    pub told_pattern : (marks marks' : List Marked) (r r' : R) (reply reply' : Reply) (text : Text) → marks' ≡ marks → OnWay marks r reply → keywords.turn m s r reply ≡ r' → keywords.step m s r reply ≡ ecma text → reply' ≡ truth (x.matcher.is_ecma text) → OnWay marks' r' reply'
+    told_pattern marks marks' r r' reply reply' text kept way t e is = went marks marks' r r' reply reply' (ecma text) way t e (λ f. cc f) (sym kept) (sym is)
 
-    pub ended_right : (r r' : R) (reply : Reply) (a : Answer) → OnWay r reply → keywords.turn m s r reply ≡ r' → keywords.answer r' ≡ a → keywords.step m s r reply ≡ done
-        → IsRight keywords m s (matching x.matcher x.completion) answers (λ q. unit_with (answers q)) (λ a b. false) mode a
-    ended_right r r' reply a way t is e =
-        let k = laws.stands (stands_at s x answers r reply) way.fits e in
-        subst (IsRight keywords m s (matching x.matcher x.completion) answers (λ q. unit_with (answers q)) (λ a b. false) mode) (sym k ∙ ap keywords.answer t ∙ is) way.right
+    pub marked : (marks marks' : List Marked) (r r' : R) (reply reply' : Reply) (i : Marked) → marks' ≡ with_mark same i marks → OnWay marks r reply → keywords.turn m s r reply ≡ r' → keywords.step m s r reply ≡ mark i → reply' ≡ truth (list_any (same i) marks) → OnWay marks' r' reply'
+    marked marks marks' r r' reply reply' i held way t e is = went marks marks' r r' reply reply' (mark i) way t e (λ f. cc f) (sym held) (sym is)
+
+    pub mark_taken : (marks marks' : List Marked) (r r' : R) (reply reply' : Reply) → marks' ≡ without_last marks → OnWay marks r reply → keywords.turn m s r reply ≡ r' → keywords.step m s r reply ≡ unmark → reply' ≡ no_reply → OnWay marks' r' reply'
+    mark_taken marks marks' r r' reply reply' left way t e is = went marks marks' r r' reply reply' unmark way t e (λ f. cc f) (sym left) (sym is)
+
+    pub ended_right : (marks : List Marked) (r r' : R) (reply : Reply) (a : Answer) → OnWay marks r reply → keywords.turn m s r reply ≡ r' → keywords.answer r' ≡ a → keywords.step m s r reply ≡ done
+        → IsRight keywords m s (matching x.matcher x.completion) answers (λ q. unit_with (answers q)) same mode a
+    ended_right marks r r' reply a way t is e =
+        let k = laws.stands (stands_at s x answers same marks r reply) way.fits e in
+        subst (IsRight keywords m s (matching x.matcher x.completion) answers (λ q. unit_with (answers q)) same mode) (sym k ∙ ap keywords.answer t ∙ is) way.right
 
   -- ---- whatever is replied
 
   module _ (s : Subject) where
-    abbrev Unmarked : R → Reply → Type 0
-    Unmarked = StaysUnmarked keywords m s (remaining s) (can_be s)
+    abbrev ForLess : R → Reply → Type 0
+    ForLess = StaysWithoutUnits keywords m s (remaining s) (can_be s)
 
-    pub unmarked_first : (mode : Mode) (r : R) → AlwaysUnmarked keywords m s (keywords.most_turns m s) (keywords.begin m s mode) no_reply → keywords.begin m s mode ≡ r → Unmarked r no_reply
-    unmarked_first mode r h e = (keywords.most_turns m s, subst (λ u. remaining s u < keywords.most_turns m s) e (laws.bounded s mode), subst (λ u. AlwaysUnmarked keywords m s (keywords.most_turns m s) u no_reply) e h, subst (can_be s) e (laws.starts s mode))
+    pub less_first : (mode : Mode) (r : R) → AlwaysAsksForLess keywords m s (keywords.most_turns m s) (keywords.begin m s mode) no_reply → keywords.begin m s mode ≡ r → ForLess r no_reply
+    less_first mode r h e = (keywords.most_turns m s, subst (λ u. remaining s u < keywords.most_turns m s) e (laws.bounded s mode), subst (λ u. AlwaysAsksForLess keywords m s (keywords.most_turns m s) u no_reply) e h, subst (can_be s) e (laws.starts s mode))
 
-    pub is_unmarked : (r : R) (reply : Reply) → Unmarked r reply → IsUnmarked (keywords.step m s r reply)
-    is_unmarked r reply (zero, l, h, can) = absurd (omega arith)
-    is_unmarked r reply (suc n, l, h, can) = h.0
+    pub is_for_less : (r : R) (reply : Reply) → ForLess r reply → AsksForLess (keywords.step m s r reply)
+    is_for_less r reply (zero, l, h, can) = absurd (omega arith)
+    is_for_less r reply (suc n, l, h, can) = h.0
 
-    pub can_be_in : (r : R) (reply : Reply) → Unmarked r reply → can_be s r
+    pub can_be_in : (r : R) (reply : Reply) → ForLess r reply → can_be s r
     can_be_in r reply (n, l, h, can) = can
 
     pub falls_turned : (r r' : R) (reply : Reply) (t : Turn) → can_be s r → keywords.turn m s r reply ≡ r' → keywords.step m s r reply ≡ t → ¬ (t ≡ done) → remaining s r' < remaining s r
@@ -103,31 +110,31 @@ module _ {K R : Type 0} (keywords : Keywords K R) (m : K) (absorbed : List Text)
         go (inl d) = absurd (more (sym e ∙ d))
         go (inr l) = subst (λ u. remaining s u < remaining s r) is l
 
-    pub unmarked_after : (r r' : R) (reply reply' : Reply) (t : Turn) → Unmarked r reply → keywords.turn m s r reply ≡ r' → keywords.step m s r reply ≡ t → ¬ (t ≡ done) → Unmarked r' reply'
-    unmarked_after r r' reply reply' t (zero, l, h, can) is e more = absurd (omega arith)
-    unmarked_after r r' reply reply' t (suc n, l, h, can) is e more =
+    pub less_after : (r r' : R) (reply reply' : Reply) (t : Turn) → ForLess r reply → keywords.turn m s r reply ≡ r' → keywords.step m s r reply ≡ t → ¬ (t ≡ done) → ForLess r' reply'
+    less_after r r' reply reply' t (zero, l, h, can) is e more = absurd (omega arith)
+    less_after r r' reply reply' t (suc n, l, h, can) is e more =
         let f = falls_turned r r' reply t can is e more in
-        (n, omega arith, subst (λ u. AlwaysUnmarked keywords m s n u reply') is (h.1 reply'), subst (can_be s) is (laws.goes_on s r reply can))
+        (n, omega arith, subst (λ u. AlwaysAsksForLess keywords m s n u reply') is (h.1 reply'), subst (can_be s) is (laws.goes_on s r reply can))
 
     -- a question is asked of what is there, and of less than units
-    pub asks_less : (r : R) (reply : Reply) (q : Question) (w : Mode) → Unmarked r reply → keywords.step m s r reply ≡ ask q w → ¬ (w ≡ for_units)
-    asks_less r reply q w h e = subst IsUnmarked e (is_unmarked r reply h)
+    pub asks_less : (r : R) (reply : Reply) (q : Question) (w : Mode) → ForLess r reply → keywords.step m s r reply ≡ ask q w → ¬ (w ≡ for_units)
+    asks_less r reply q w h e = subst AsksForLess e (is_for_less r reply h)
 
-    pub asks_present : (r : R) (reply : Reply) (q : Question) (w : Mode) → Unmarked r reply → All (λ q. IsPresent s (steps_below q.below)) (keywords.may_ask m s) → keywords.step m s r reply ≡ ask q w → IsPresent s (steps_below q.below)
+    pub asks_present : (r : R) (reply : Reply) (q : Question) (w : Mode) → ForLess r reply → All (λ q. IsPresent s (steps_below q.below)) (keywords.may_ask m s) → keywords.step m s r reply ≡ ask q w → IsPresent s (steps_below q.below)
     asks_present r reply q w on h e = All-contains (λ q. IsPresent s (steps_below q.below)) (keywords.may_ask m s) q h (subst (AsksRightly keywords m s absorbed) e (laws.asks s r reply (can_be_in r reply on)))
 
     -- and a match is asked for inside the instance
-    pub matches_present : (r : R) (reply : Reply) (a : Pair) (point : MatchPoint) → Unmarked r reply → keywords.step m s r reply ≡ match_text a point → IsPresent s point.spot.below
+    pub matches_present : (r : R) (reply : Reply) (a : Pair) (point : MatchPoint) → ForLess r reply → keywords.step m s r reply ≡ match_text a point → IsPresent s point.spot.below
     matches_present r reply a point on e = let inside : SpotInside s absorbed point.spot = subst (AsksRightly keywords m s absorbed) e (laws.asks s r reply (can_be_in r reply on)) in inside.0
 
 -- ---- what the answer says at the end
 
-module _ {K R : Type 0} (keywords : Keywords K R) (m : K) (s : Subject) (x : Reading) (answers : Answers) (w : Where) (name : Text) where
+module _ {K R : Type 0} (keywords : Keywords K R) (m : K) (s : Subject) (x : Reading) (answers : Answers) (same : Marked → Marked → Bool) (w : Where) (name : Text) where
   first_mapped : (f : Fault → Error) (fs : List Fault) → first_error (map f (first_fault fs)) ≡ first_error (map f fs)
   first_mapped f [] = refl
   first_mapped f (y ∷ ys) = refl
 
-  pub right_reply : (mode : Mode) (a : Answer) → ¬ (mode ≡ for_units) → IsRight keywords m s (matching x.matcher x.completion) answers (λ q. unit_with (answers q)) (λ a b. false) mode a
+  pub right_reply : (mode : Mode) (a : Answer) → ¬ (mode ≡ for_units) → IsRight keywords m s (matching x.matcher x.completion) answers (λ q. unit_with (answers q)) same mode a
       → answer_reply mode w name a ≡ reply_by mode (keyword_outcome keywords w name m s (matching x.matcher x.completion) answers)
   right_reply for_verdict a h r = ap truth r
   right_reply for_first a h r = ap first_of_it (ap (λ fs. first_error (map (fault_error w name) fs)) r ∙ first_mapped (fault_error w name) _)
@@ -150,14 +157,14 @@ module _ (texts : Bool) (root : Data) (s : Subject) (absorbed : List Text) where
   first_stand (f ∷ fs) h zero d l = h 0 f (omega arith)
   first_stand (f ∷ fs) h (suc i) d l = absurd (omega arith)
 
-  pub faults_lie : {K R : Type 0} (keywords : Keywords K R) (m : K) (x : Reading) (answers : Answers) (mode : Mode) (a : code_answer.Answer)
+  pub faults_lie : {K R : Type 0} (keywords : Keywords K R) (m : K) (x : Reading) (answers : Answers) (same : Marked → Marked → Bool) (mode : Mode) (a : code_answer.Answer)
       → All (StandsInside s absorbed) (keywords.faults m s (matching x.matcher x.completion) answers)
-      → IsRight keywords m s (matching x.matcher x.completion) answers (λ q. unit_with (answers q)) (λ a b. false) mode (answer_of texts a)
+      → IsRight keywords m s (matching x.matcher x.completion) answers (λ q. unit_with (answers q)) same mode (answer_of texts a)
       → All (PassesBorrowed root) (faults_in a) → FaultsLieInside mode root s a
-  faults_lie keywords m x answers for_verdict a h r k = tt
-  faults_lie keywords m x answers for_units a h r k = tt
-  faults_lie keywords m x answers for_first a h r k = each_lies (faults_in a) (subst (All (StandsInside s absorbed)) (sym r ∙ errors_of_faults texts a) (first_stand _ h)) k
-  faults_lie keywords m x answers for_all a h r k = each_lies (faults_in a) (subst (All (StandsInside s absorbed)) (sym r ∙ errors_of_faults texts a) h) k
+  faults_lie keywords m x answers same for_verdict a h r k = tt
+  faults_lie keywords m x answers same for_units a h r k = tt
+  faults_lie keywords m x answers same for_first a h r k = each_lies (faults_in a) (subst (All (StandsInside s absorbed)) (sym r ∙ errors_of_faults texts a) (first_stand _ h)) k
+  faults_lie keywords m x answers same for_all a h r k = each_lies (faults_in a) (subst (All (StandsInside s absorbed)) (sym r ∙ errors_of_faults texts a) h) k
 
 -- ---- readings in which no text is spoken of
 

@@ -7,9 +7,15 @@ pub mod Replies
 pub mod Faults
 pub mod NodeRuns
 pub mod NodeParts
+pub mod Marks
 pub mod KeywordTurns
 pub mod NodeOutcomes
-pub mod NodeRanks
+pub mod NodePlaces
+pub mod NodeCounts
+pub mod NodeOrders
+pub mod EdgesMade
+pub mod NodeSteps
+pub mod EdgesStay
 pub mod NodesFilled
 pub mod NodesAdded
 pub mod RankedTable

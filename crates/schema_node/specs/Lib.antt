@@ -6,7 +6,8 @@ pub mod NodeTable
 pub mod NodeViews
 pub mod Progress
 pub mod Matches
-pub mod Marks
+pub mod UnitQuestions
+pub mod MarkViews
 pub mod NodeMeets
 pub mod ProgressViews
 pub mod FaultViews

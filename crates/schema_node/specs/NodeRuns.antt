@@ -12,9 +12,8 @@ use Rattle.schema_reports.specs.Runs.{first_error}
 use Rattle.schema_reports.specs.Unfinished.{or_no}
 use Rattle.schema_reports.specs.Guarded.{Children, NodeEdge, NodeForm, NodePart, Nodes, across, guarded_within, node_asked, node_child, node_edges, node_outcome, node_part, node_parts, node_these, yes_outcome}
 use Rattle.schema_reports.specs.Fractions.{AreWhole}
-use Rattle.schema_reports.specs.Numbered.{Ranked, left, subject_in}
+use Rattle.schema_reports.specs.Numbered.{left, subject_in}
 use Rattle.schema_reports.specs.ReportViews.{BorrowsItsPlace}
-use Rattle.schema_node.specs.Marks.{TakesNoMarks}
 use Rattle.schema_node.specs.Matches.{Settling}
 use Rattle.schema_node.specs.NodeTable.{NodeEntry, absolute_in}
 use Rattle.schema_node.specs.KeywordViews.{reply_of}
@@ -63,11 +62,6 @@ pub record Reading : Type 0 where
 pub record TellsAll {K : Type 0} (texts : Bool) (root : Data) (is_whole : K → Bool) (nodes : Nodes K) (count : ℕ) : Type 0 where
   pub keywords : texts ≡ true → AreWhole is_whole nodes count
   pub instance : texts ≡ true → has_float root ≡ false
-
--- the table is ranked, and its keywords take no marks
-pub record Ready {K R : Type 0} (words : Bool → Keywords K R) (nodes : Nodes K) (count : ℕ) : Type 0 where
-  pub ranked : Ranked nodes count
-  pub unmarked : (texts : Bool) → TakesNoMarks (words texts)
 
 module _ {K : Type 0} (nodes : Nodes K) where
   -- these are parts of a node's plan

@@ -1,5 +1,5 @@
 -- The code's nodes as data.
-use Rattle.std.specs.Prelude.{Bool, ℕ, Option, None, false, string_bytes, map, option_map, true}
+use Rattle.std.specs.Prelude.{Bool, ℕ, Option, Some, None, false, string_bytes, map, option_map, true}
 use Rattle.schema_reports.specs.Instance.{Text}
 use Rattle.schema_reports.specs.Guarded as spec
 use Rattle.schema_node.specs.NodeTable.{NodeEntry}
@@ -27,13 +27,21 @@ plan_of Never = spec.node_never
 plan_of (Keywords xs) = spec.node_these (map entry_of xs.items)
 
 abbrev pub node_of : {K : Type 0} → Node K → NodeEntry K
-node_of n = record { location = n.location; base = option_map string_bytes n.base; start = n.start; rank = n.rank; annotations = n.annotations; plan = option_map plan_of n.form }
+node_of n = record { location = n.location; base = option_map string_bytes n.base; start = n.start; round = n.round; order = n.order; settled = n.settled; annotations = n.annotations; plan = option_map plan_of n.form }
 
 -- the plan of a boolean
 abbrev pub boolean_plan : {K : Type 0} → Bool → spec.NodePlan K
 boolean_plan true = spec.node_always
 boolean_plan false = spec.node_never
 
--- a node whose number is reserved
-abbrev pub reserved_node : {K : Type 0} → Text → Option Text → ℕ → NodeEntry K
-reserved_node location base start = record { location = location; base = base; start = start; rank = 0; annotations = None; plan = None }
+-- a node without a form, of a round or none
+abbrev pub unfilled_node : {K : Type 0} → Text → Option Text → ℕ → Option ℕ → NodeEntry K
+unfilled_node location base start round = record { location = location; base = base; start = start; round = round; order = 0; settled = false; annotations = None; plan = None }
+
+-- a node whose number is reserved, in progress in this round
+abbrev pub reserved_node : {K : Type 0} → Text → Option Text → ℕ → ℕ → NodeEntry K
+reserved_node location base start round = unfilled_node location base start (Some round)
+
+-- a node whose number is reserved, and waits
+abbrev pub waiting_node : {K : Type 0} → Text → Option Text → ℕ → NodeEntry K
+waiting_node location base start = unfilled_node location base start None

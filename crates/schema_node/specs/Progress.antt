@@ -1,6 +1,7 @@
 -- The pairs of a node's number and a place that are in progress, the last entered last.
 use Rattle.std.specs.Prelude.{ℕ, ◌≤◌, ◌≡◌, ◌↔◌, Bool, IsTrue, List, [], ◌∷◌, ◌++◌, length, if◌then◌else◌, All, Contains}
 use Rattle.schema_reports.specs.Instance.{Place, same_place}
+use Rattle.schema_reports.specs.Keywords.{Marked}
 use Rattle.schema_reports.specs.Unfinished.{Remembered}
 
 abbrev pub Pairs : Type 0
@@ -28,7 +29,9 @@ Enters n p old b new = (IsTrue b ↔ Contains old (n, p)) × (new ≡ (if b then
 abbrev pub EndsWith : ℕ → Place → Pairs → Type 0
 EndsWith n p es = (rest : Pairs) × (es ≡ rest ++ (n, p) ∷ [])
 
--- what a run holds: the pairs in progress, and what it assumes of unfinished matches and remembers of those that it met
+-- what a run holds: the pairs in progress, what it assumes of unfinished matches and remembers of those that it met, and the
+-- marks of the keyword's run that is at work, the last one first
 pub record Context : Type 0 where
   pub in_progress : Pairs
   pub remembered : Remembered
+  pub marking : List Marked

@@ -10,15 +10,15 @@ use Rattle.schema_reports.specs.Matching.{Extends, Matcher, completion_of, match
 use Rattle.schema_reports.specs.Reports.{Outcome}
 use Rattle.schema_reports.specs.ReportViews.{BorrowsItsPlace}
 use Rattle.schema_reports.specs.Runs.{Run, reply_in}
-use Rattle.schema_reports.specs.Guarded.{Children, NodeEdge, NodeForm, NodePart, Nodes, guarded_node, guarded_within, node_keyword, yes_run}
-use Rattle.schema_reports.specs.Numbered.{left, subject_in}
+use Rattle.schema_reports.specs.Guarded.{Children, NodeEdge, NodeForm, NodePart, Nodes, guarded_node, guarded_within, node_keyword, same_edge, yes_run}
+use Rattle.schema_reports.specs.Numbered.{Ranked, left, subject_in}
 use Rattle.schema_node.specs.EvaluationPaths.{path_of}
 use Rattle.schema_node.specs.EvaluationPlaces.{steps_to}
 use Rattle.schema_node.specs.FaultViews.{PassesBorrowed, errors_in, faults_in}
 use Rattle.schema_node.specs.KeywordViews.{answer_of, mode_of, reply_of}
 use Rattle.schema_node.specs.Matches.{MeetsEach, Settling, settling}
 use Rattle.schema_node.specs.NodeMeets.{ChildMeets, EdgeMeets, EntryMeets, FormMeets, NodeMeets, PartsMeet}
-use Rattle.schema_node.specs.NodeRuns.{ChildReplies, EdgeReplies, FormReplies, NodeReplies, PartsReply, Reading, Reads, Ready, TellsAll, child_says, entry_where, reply_by}
+use Rattle.schema_node.specs.NodeRuns.{ChildReplies, EdgeReplies, FormReplies, NodeReplies, PartsReply, Reading, Reads, TellsAll, child_says, entry_where, reply_by}
 use Rattle.schema_node.specs.NodeTable.{NodeEntry, numbered}
 use Rattle.schema_node.specs.NodeViews.{edge_of}
 use Rattle.schema_node.specs.Progress.{Context, NoDeeper, busy_at}
@@ -71,16 +71,16 @@ where_asked n q = entry_where n q.path q.place
 abbrev pub IsAskedOf : Data → Asking → Type 0
 IsAskedOf root q = subject_at root q.place ≡ Some q.subject
 
--- the pairs in progress are as before, and what is assumed
+-- the pairs in progress are as before, and what is assumed, and the marks of the keyword's run that is at work
 pub record Keeps (old new : Context) : Type 0 where
   pub in_progress : new.in_progress ≡ old.in_progress
   pub assumptions : new.remembered.assumptions ≡ old.remembered.assumptions
+  pub marking : new.marking ≡ old.marking
 
--- a number of the table may be asked: the table is ranked, its keywords take no marks, no pair in progress lies deeper, and
--- units are not what is wanted
+-- a number of the table may be asked: the table is ranked, no pair in progress lies deeper, and units are not what is wanted
 pub record MayRun {K R : Type 0} (g : Setting K R) (q : Asking) (c : Context) (i : ℕ) : Type 0 where
   pub known : i < g.count
-  pub ready : Ready g.words g.nodes g.count
+  pub ranked : Ranked g.nodes g.count
   pub above : NoDeeper q.place c.in_progress
   pub wanted : ¬ (q.mode ≡ for_units)
 
@@ -119,7 +119,7 @@ module _ {K R : Type 0} (g : Setting K R) (q : Asking) (c : Context) where
   abbrev pub FindsRightly : ℕ → Children → K → code_answer.Answer → Type 0
   FindsRightly i es m a = (x : Reading) → Reads g.is_whole g.nodes g.count settled_by q.place q.subject x → left g.nodes g.count i q.subject busy ≤ x.depth
       → (let answers = child_says g.words g.nodes x q.path q.place busy es in
-      IsRight (g.words x.texts) m q.subject (matching x.matcher x.completion) answers (λ asked. unit_with (answers asked)) (λ a b. false) q.mode (answer_of x.texts a))
+      IsRight (g.words x.texts) m q.subject (matching x.matcher x.completion) answers (λ asked. unit_with (answers asked)) (same_edge es) q.mode (answer_of x.texts a))
 
   -- ---- what a whole run of a node says and meets
 

@@ -1,37 +1,37 @@
 -- How a keyword's run stands between two turns.
-use Rattle.std.specs.Prelude.{◌<◌, ℕ, false, [], None}
+use Rattle.std.specs.Prelude.{◌<◌, ℕ, Bool, List, [], None}
 use Rattle.schema_reports.specs.Instance.{Subject}
 use Rattle.schema_reports.specs.Reports.{Outcome, Unit_, no_units, unit}
 use Rattle.schema_reports.specs.Matching.{matching}
-use Rattle.schema_reports.specs.Keywords.{Answer, Answers, Keywords, Mode, Reply}
+use Rattle.schema_reports.specs.Keywords.{Answer, Answers, Keywords, Marked, Mode, Reply}
 use Rattle.schema_reports.specs.Laws.{IsRight}
 use Rattle.schema_reports.specs.Turns.{Standing}
-use Rattle.schema_node.specs.Marks.{AlwaysUnmarked}
+use Rattle.schema_node.specs.UnitQuestions.{AlwaysAsksForLess}
 use Rattle.schema_node.specs.NodeRuns.{Reading}
 
 -- a unit that has the verdict of an outcome
 abbrev pub unit_with : Outcome → Unit_
 unit_with o = unit (record { valid = o.verdict; place = []; evaluation_path = []; schema_path = []; absolute = None; annotations = None; errors = [] }) no_units
 
--- a run that marks nothing, in a reading
-abbrev pub stands_at : {R : Type 0} → Subject → Reading → Answers → R → Reply → Standing R
-stands_at s x answers r reply = record {
+-- a run in a reading, with what says which marks are one, and the marks that it holds
+abbrev pub stands_at : {R : Type 0} → Subject → Reading → Answers → (Marked → Marked → Bool) → List Marked → R → Reply → Standing R
+stands_at s x answers same marks r reply = record {
   subject = s;
   matches = matching x.matcher x.completion;
   answers = answers;
   unit_at = λ q. unit_with (answers q);
-  same = λ a b. false;
-  marks = [];
+  same = same;
+  marks = marks;
   state = r;
   reply = reply;
 }
 
 -- it stands well, in a state that a run can be in, and ends in what is right
-pub record OnItsWay {K R : Type 0} (keywords : Keywords K R) (m : K) (can_be : Subject → R → Type 0) (end_of : Standing R → Answer) (Fits : Standing R → Type 0) (s : Subject) (x : Reading) (mode : Mode) (answers : Answers) (r : R) (reply : Reply) : Type 0 where
+pub record OnItsWay {K R : Type 0} (keywords : Keywords K R) (m : K) (can_be : Subject → R → Type 0) (end_of : Standing R → Answer) (Fits : Standing R → Type 0) (s : Subject) (x : Reading) (mode : Mode) (answers : Answers) (same : Marked → Marked → Bool) (marks : List Marked) (r : R) (reply : Reply) : Type 0 where
   pub can : can_be s r
-  pub fits : Fits (stands_at s x answers r reply)
-  pub right : IsRight keywords m s (matching x.matcher x.completion) answers (λ q. unit_with (answers q)) (λ a b. false) mode (end_of (stands_at s x answers r reply))
+  pub fits : Fits (stands_at s x answers same marks r reply)
+  pub right : IsRight keywords m s (matching x.matcher x.completion) answers (λ q. unit_with (answers q)) same mode (end_of (stands_at s x answers same marks r reply))
 
--- for more turns than are left it takes no marks, from a state that a run can be in
-abbrev pub StaysUnmarked : {K R : Type 0} → Keywords K R → K → Subject → (R → ℕ) → (R → Type 0) → R → Reply → Type 0
-StaysUnmarked keywords m s remaining can_be r reply = (n : ℕ) × (remaining r < n) × AlwaysUnmarked keywords m s n r reply × can_be r
+-- for more turns than are left it asks no child for its units, from a state that a run can be in
+abbrev pub StaysWithoutUnits : {K R : Type 0} → Keywords K R → K → Subject → (R → ℕ) → (R → Type 0) → R → Reply → Type 0
+StaysWithoutUnits keywords m s remaining can_be r reply = (n : ℕ) × (remaining r < n) × AlwaysAsksForLess keywords m s n r reply × can_be r

@@ -1,5 +1,6 @@
 //! The traits of the parts that are handed in, and the context of a run.
 pub mod keyword;
+pub(crate) mod marks;
 pub mod matcher;
 pub mod meta;
 pub mod resolver;

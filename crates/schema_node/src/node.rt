@@ -1,9 +1,10 @@
 //! Numbered nodes: what a schema is once it is compiled.
 ghost use Rattle.std.specs.Prelude.{◌≡◌, ◌++◌, ◌∷◌, ◌<◌, [], ℕ, OnOk, OnErr, IfOk, Some, true, false};
 ghost use Rattle.std.specs.Prelude.{length, map, option_map, slice_get, string_bytes};
-ghost use Rattle.schema_node.specs.NodeViews.{boolean_plan, entry_of, plan_of, reserved_node, node_of};
+ghost use Rattle.schema_node.specs.NodeViews.{boolean_plan, entry_of, plan_of, reserved_node, unfilled_node, waiting_node, node_of};
 ghost use Rattle.schema_reports.specs.Guarded.{node_these};
-ghost use Rattle.schema_node.specs.NodeTable.{NodeEntry, IsReserved, IsFilled, AreFilled, Adds, Fills, IsRanked, RanksLast};
+ghost use Rattle.schema_node.specs.NodeTable.{NodeEntry, IsReserved, Waits, IsBegun, IsFilled, AreFilled, MayBeFilled};
+ghost use Rattle.schema_node.specs.NodeTable.{Adds, Fills, Begins, ComesLast, IsOrdered, IsNewRound, guards_at, is_settled_entry};
 
 pub mod absolute;
 mod evaluation_path;
@@ -27,7 +28,7 @@ use std::marker::Model;
 pub struct SchemaNode(pub usize);
 
 /// An edge to a node: what the use adds to the evaluation path, and whether it is guarded, as one is that was made while its
-/// target was only reserved.
+/// target was in progress.
 #[derive(Drop)]
 pub struct Edge {
     pub node: SchemaNode,
@@ -66,14 +67,18 @@ pub struct Node<K> {
     /// The URI of its resource, where absolute locations are shown, and how many bytes of the location lie outside it.
     pub base: Option<String>,
     pub start: usize,
-    /// How many nodes had their form before it.
-    pub rank: usize,
+    /// The number that the round began with in which it is compiled; none while it waits.
+    pub round: Option<usize>,
+    /// How many nodes had their form before it, once it has its own.
+    pub order: usize,
+    /// Whether all that it led to was settled when it got its form.
+    pub settled: bool,
     /// The members that no keyword knows, as an object, where there are any.
     pub annotations: Option<Value>,
     pub form: Option<NodeForm<K>>,
 }
 
-/// The nodes by number. An edge that nothing guards leads to a node of lower rank.
+/// The nodes by number. The table is filled in rounds, and chains of edges that nothing guards do not return.
 #[derive(Drop)]
 pub struct Nodes<K> {
     nodes: Vec<Node<K>>,
@@ -82,7 +87,7 @@ pub struct Nodes<K> {
 
 impl<K> Model for Nodes<K> {
     ghost use Rattle.std.specs.Prelude.{map, List};
-    ghost use Rattle.schema_node.specs.NodeTable.{NodeEntry, IsRanked};
+    ghost use Rattle.schema_node.specs.NodeTable.{NodeEntry, IsOrdered};
     ghost use Rattle.schema_node.specs.NodeViews.{node_of};
 
     ghost Value = { List (NodeEntry K) };
@@ -94,7 +99,7 @@ impl<K> Model for Nodes<K> {
 
     ghost view = { λ n. map node_of n.nodes.items };
 
-    ghost invariant = { λ n. IsRanked (map node_of n.nodes.items) n.finished };
+    ghost invariant = { λ n. IsOrdered (map node_of n.nodes.items) n.finished };
 }
 
 ghost use Rattle.std.specs.Prelude.{None};
@@ -113,7 +118,7 @@ impl<K: Drop> Nodes<K> {
     /// Returns how many nodes there are, reserved ones included.
     pub fn len(&self) -> usize
         ensures count { result ≡ length self.now }
-        ensures ranked { (finished : ℕ) × IsRanked self.now finished }
+        ensures ordered { (finished : ℕ) × IsOrdered self.now finished }
     {
         self.nodes.len()
     }
@@ -126,15 +131,16 @@ impl<K: Drop> Nodes<K> {
         &self.nodes[node.0]
     }
 
-    /// Reserves the next number, for a node at this location.
-    pub fn reserve(
+    // The next number, for a node without a form, of a round or none.
+    fn next(
         &mut self,
         location: Location,
         base: Option<String>,
         start: usize,
+        round: Option<usize>,
     ) -> Result<SchemaNode, OutOfMemory>
         ensures number { IfOk result (λ i. i.0 ≡ length self.old) }
-        ensures added { OnOk result (self.new ≡ self.old ++ reserved_node location (option_map string_bytes base) start ∷ []) }
+        ensures added { OnOk result (self.new ≡ self.old ++ unfilled_node location (option_map string_bytes base) start round ∷ []) }
         ensures unchanged { OnErr result (self.new ≡ self.old) }
     {
         let number = self.nodes.len();
@@ -142,32 +148,88 @@ impl<K: Drop> Nodes<K> {
             location,
             base,
             start,
-            rank: 0,
+            round,
+            order: 0,
+            settled: false,
             annotations: None,
             form: None,
         })?;
         Ok(SchemaNode(number))
     }
 
-    /// Gives a reserved number its form and its annotations. It ranks above every number that had its form.
-    pub fn fill(&mut self, node: SchemaNode, form: NodeForm<K>, annotations: Option<Value>)
-        requires reserved { IsReserved self.old node.0 }
-        requires ready { AreFilled self.old (plan_of form) }
-        ensures filled { Fills self.old node.0 annotations (plan_of form) self.new }
-        ensures last { RanksLast self.old node.0 self.new }
+    /// Reserves the next number, for a node at this location that is in progress in this round.
+    ///
+    /// # Errors
+    ///
+    /// Fails only if memory cannot be allocated.
+    pub fn reserve(
+        &mut self,
+        location: Location,
+        base: Option<String>,
+        start: usize,
+        round: usize,
+    ) -> Result<SchemaNode, OutOfMemory>
+        ensures number { IfOk result (λ i. i.0 ≡ length self.old) }
+        ensures added { OnOk result (self.new ≡ self.old ++ reserved_node location (option_map string_bytes base) start round ∷ []) }
+        ensures unchanged { OnErr result (self.new ≡ self.old) }
+    {
+        self.next(location, base, start, Some(round))
+    }
+
+    /// Reserves the next number, for a node at this location that waits to be begun.
+    ///
+    /// # Errors
+    ///
+    /// Fails only if memory cannot be allocated.
+    pub fn defer(
+        &mut self,
+        location: Location,
+        base: Option<String>,
+        start: usize,
+    ) -> Result<SchemaNode, OutOfMemory>
+        ensures number { IfOk result (λ i. i.0 ≡ length self.old) }
+        ensures added { OnOk result (self.new ≡ self.old ++ waiting_node location (option_map string_bytes base) start ∷ []) }
+        ensures unchanged { OnErr result (self.new ≡ self.old) }
+    {
+        self.next(location, base, start, None)
+    }
+
+    /// Begins a number that waits, in a round that is later than all before it.
+    pub fn begin(&mut self, node: SchemaNode, round: usize)
+        requires waits { Waits self.old node.0 }
+        requires later { IsNewRound self.old round }
+        ensures begun { Begins self.old node.0 round self.new }
+    {
+        let place = &mut self.nodes[node.0];
+        place.round = Some(round);
+    }
+
+    /// Gives a number that is in progress its form and its annotations, and says whether it is settled. It comes after every
+    /// number that had its form.
+    pub fn fill(
+        &mut self,
+        node: SchemaNode,
+        form: NodeForm<K>,
+        annotations: Option<Value>,
+        settled: bool,
+    )
+        requires ready { MayBeFilled self.old node.0 settled (plan_of form) }
+        ensures filled { Fills self.old node.0 settled annotations (plan_of form) self.new }
+        ensures last { ComesLast self.old node.0 self.new }
     {
         // (the call says that a count of nodes fits the type)
         let count = self.nodes.len();
         let _within = count;
-        let rank = self.finished;
+        let order = self.finished;
         self.finished += 1;
         let place = &mut self.nodes[node.0];
-        place.rank = rank;
+        place.order = order;
+        place.settled = settled;
         place.annotations = annotations;
         place.form = Some(form);
     }
 
-    // A node with its form, at the next number.
+    // A node with its form, at the next number, of the first round and not settled.
     fn add(
         &mut self,
         location: Location,
@@ -178,12 +240,15 @@ impl<K: Drop> Nodes<K> {
     ) -> Result<SchemaNode, OutOfMemory>
         requires ready { AreFilled self.old (plan_of form) }
         ensures number { IfOk result (λ i. i.0 ≡ length self.old) }
-        ensures added { OnOk result (Adds self.old (reserved_node location (option_map string_bytes base) start)
+        ensures added { OnOk result (Adds self.old (reserved_node location (option_map string_bytes base) start 0)
             annotations (plan_of form) self.new) }
         ensures unchanged { OnErr result (self.new ≡ self.old) }
     {
-        let node = self.reserve(location, base, start)?;
-        self.fill(node, form, annotations);
+        let node = self.reserve(location, base, start, 0)?;
+        // (the call says that the table is ordered)
+        let count = self.len();
+        let _ordered = count;
+        self.fill(node, form, annotations, false);
         Ok(node)
     }
 
@@ -200,7 +265,7 @@ impl<K: Drop> Nodes<K> {
         accepts: bool,
     ) -> Result<SchemaNode, OutOfMemory>
         ensures number { IfOk result (λ i. i.0 ≡ length self.old) }
-        ensures added { OnOk result (Adds self.old (reserved_node location (option_map string_bytes base) start)
+        ensures added { OnOk result (Adds self.old (reserved_node location (option_map string_bytes base) start 0)
             None (boolean_plan accepts) self.new) }
         ensures unchanged { OnErr result (self.new ≡ self.old) }
     {
@@ -227,7 +292,7 @@ impl<K: Drop> Nodes<K> {
     ) -> Result<SchemaNode, OutOfMemory>
         requires ready { AreFilled self.old (node_these (map entry_of entries.items)) }
         ensures number { IfOk result (λ i. i.0 ≡ length self.old) }
-        ensures added { OnOk result (Adds self.old (reserved_node location (option_map string_bytes base) start)
+        ensures added { OnOk result (Adds self.old (reserved_node location (option_map string_bytes base) start 0)
             annotations (node_these (map entry_of entries.items)) self.new) }
         ensures unchanged { OnErr result (self.new ≡ self.old) }
     {
@@ -254,7 +319,7 @@ impl<K: Drop> Nodes<K> {
     ) -> Result<SchemaNode, OutOfMemory>
         requires ready { AreFilled self.old (node_these (map entry_of entries.items)) }
         ensures number { IfOk result (λ i. i.0 ≡ length self.old) }
-        ensures added { OnOk result (Adds self.old (reserved_node location (option_map string_bytes base) start)
+        ensures added { OnOk result (Adds self.old (reserved_node location (option_map string_bytes base) start 0)
             None (node_these (map entry_of entries.items)) self.new) }
         ensures unchanged { OnErr result (self.new ≡ self.old) }
     {
@@ -268,5 +333,41 @@ impl<K: Drop> Nodes<K> {
         ensures reserved { result ≡ false → IsReserved self.now node.0 }
     {
         self.nodes[node.0].form.is_some()
+    }
+
+    /// Returns `true` if the number waits; one that does not was begun.
+    pub fn waits(&self, node: SchemaNode) -> bool
+        requires within { node.0 < length self.now }
+        ensures waits { result ≡ true → Waits self.now node.0 }
+        ensures begun { result ≡ false → IsBegun self.now node.0 }
+    {
+        self.nodes[node.0].round.is_none()
+    }
+
+    /// Returns `true` if the number has its form and is settled.
+    pub fn is_settled(&self, node: SchemaNode) -> bool
+        requires within { node.0 < length self.now }
+        ensures settled { (n : NodeEntry K) × (slice_get self.now node.0 ≡ Some n) × (result ≡ is_settled_entry n) }
+    {
+        let entry = self.node(node);
+        entry.form.is_some() && entry.settled
+    }
+
+    /// Returns `true` if an edge to the number, made in this round, is guarded.
+    pub fn guards_from(&self, node: SchemaNode, round: usize) -> bool
+        requires within { node.0 < length self.now }
+        ensures guards { (n : NodeEntry K) × (slice_get self.now node.0 ≡ Some n) × (result ≡ guards_at round n) }
+    {
+        let entry = self.node(node);
+        if entry.form.is_none() {
+            return entry.round.is_some();
+        }
+        if entry.settled {
+            return false;
+        }
+        match entry.round {
+            None => true,
+            Some(made) => made != round,
+        }
     }
 }

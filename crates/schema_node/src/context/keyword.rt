@@ -8,6 +8,7 @@ ghost use Rattle.schema_reports.specs.Turns.{Standing, TurnLaws, FunctionLaws};
 ghost use Rattle.schema_reports.specs.ReportViews.{BorrowsItsPlace};
 ghost use Rattle.schema_node.specs.FaultViews.{errors_in, faults_in, PassesBorrowed};
 ghost use Rattle.schema_node.specs.KeywordViews.{mode_of, reply_of, answer_of, fresh, turn_of, Tells};
+ghost use Rattle.schema_node.specs.UnitQuestions.{AsksNoUnits};
 
 use schema_reports::instance::{Instance, InstanceStep};
 use schema_reports::location::OutOfMemory;
@@ -167,4 +168,6 @@ pub trait Validate: Drop {
         → TurnLaws (words texts) m (absorbed m) (remaining m) (can_be texts m) (ends texts m) (fits texts m) };
 
     ghost function_laws: { (texts : Bool) (m : Self.Shape) → FunctionLaws (words texts) m (absorbed m) };
+    // units are asked for by evaluations alone
+    ghost asks_no_units: { (texts : Bool) → AsksNoUnits (words texts) };
 }

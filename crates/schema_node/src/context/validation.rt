@@ -1,20 +1,27 @@
-//! What a run has in progress, and what it assumes and remembers of unfinished matches.
-ghost use Rattle.std.specs.Prelude.{◌≡◌, ◌≤◌, ◌++◌, ◌∷◌, [], All, IfOk, IfErr, OnErr, OnOk, length};
+//! What a run has in progress, what it assumes and remembers of unfinished matches, and what it marks.
+ghost use Rattle.std.specs.Prelude.{◌≡◌, ◌≤◌, ◌++◌, ◌∷◌, [], All, IfOk, IfErr, OnErr, OnOk, length, map, option_map};
 ghost use Rattle.std.specs.List.{list_any};
 ghost use Rattle.std.specs.Prelude.{◌==◌};
+ghost use Rattle.schema_reports.specs.Guarded.{same_edge};
 ghost use Rattle.schema_reports.specs.Matching.{assumed};
 ghost use Rattle.schema_reports.specs.MatchViews.{reason_of};
+ghost use Rattle.schema_reports.specs.Runs.{with_mark, without_last};
 ghost use Rattle.schema_reports.specs.Unfinished.{meet, or_no, starting};
+ghost use Rattle.schema_node.specs.KeywordViews.{marked_of};
 ghost use Rattle.schema_node.specs.Matches.{after_match, comes_out};
+ghost use Rattle.schema_node.specs.NodeViews.{edge_of};
 ghost use Rattle.schema_node.specs.Progress.{busy_at, Distinct, Enters, EndsWith};
 
+use crate::context::keyword::Marked;
+use crate::context::marks::Marks;
 use crate::context::matcher::Matcher;
-use crate::node::SchemaNode;
+use crate::node::{Edge, SchemaNode};
 use schema_reports::instance::Place;
 use schema_reports::location::OutOfMemory;
 use schema_reports::unfinished_matches::{Match, MatchAssumptions, MatchSite, Reason};
 use std::alloc::Global;
 use std::marker::Model;
+use std::mem;
 
 /// A node that is asked about the instance at a place, until it has answered; and the number of steps of the longest place
 /// among this one and those of the pairs that were entered before it.
@@ -25,12 +32,13 @@ struct InProgress<'i> {
     deepest: usize,
 }
 
-/// The pairs of a node and a place that are in progress, the last entered last, and no pair twice; and what the run
-/// assumes of unfinished matches, and remembers of those that it met.
+/// The pairs of a node and a place that are in progress, the last entered last, and no pair twice; what the run assumes of
+/// unfinished matches, and remembers of those that it met; and the marks of the keyword's run that is at work.
 #[derive(Drop)]
 pub struct ValidationContext<'i> {
     pairs: Vec<InProgress<'i>>,
     matches: MatchAssumptions<'i>,
+    marking: Marks,
 }
 
 impl<'i> Model for ValidationContext<'i> {
@@ -40,25 +48,29 @@ impl<'i> Model for ValidationContext<'i> {
 
     ghost Value = { Context };
 
-    ghost view = { λ c. record { in_progress = map pair_of c.pairs.items; remembered = c.matches } };
+    ghost view = { λ c. record { in_progress = map pair_of c.pairs.items; remembered = c.matches; marking = c.marking } };
 
     ghost invariant = { λ c. Distinct (map pair_of c.pairs.items) × KnowsDepths c.pairs.items };
 }
 
 impl<'i> ValidationContext<'i> {
-    /// Returns a context with nothing in progress and nothing assumed.
+    /// Returns a context with nothing in progress, nothing assumed and nothing marked.
     pub fn new(alloc: Global) -> ValidationContext<'i>
-        ensures empty { result ≡ record { in_progress = []; remembered = starting [] } }
+        ensures empty { result ≡ record { in_progress = []; remembered = starting []; marking = [] } }
     {
         ValidationContext::assuming(alloc, MatchAssumptions::new(alloc))
     }
 
-    /// Returns a context with nothing in progress, with these assumptions and what is remembered with them.
+    /// Returns a context with nothing in progress and nothing marked, with these assumptions and what is remembered with them.
     pub fn assuming(alloc: Global, matches: MatchAssumptions<'i>) -> ValidationContext<'i>
-        ensures assumes { result ≡ record { in_progress = []; remembered = matches.entry } }
+        ensures assumes { result ≡ record { in_progress = []; remembered = matches.entry; marking = [] } }
     {
         let pairs = Vec::new(alloc);
-        ValidationContext { pairs, matches }
+        ValidationContext {
+            pairs,
+            matches,
+            marking: Marks::new(alloc),
+        }
     }
 
     /// Returns what was assumed, and what is remembered of the unfinished matches that were met. It allocates nothing.
@@ -104,6 +116,7 @@ impl<'i> ValidationContext<'i> {
         ensures unchanged { IfErr result (λ _. self.new ≡ self.old) }
         ensures distinct { Distinct self.new.in_progress }
         ensures remembered { self.new.remembered ≡ self.old.remembered }
+        ensures marking { self.new.marking ≡ self.old.marking }
     {
         if self.is_in_progress(node, place) {
             return Ok(true);
@@ -123,8 +136,56 @@ impl<'i> ValidationContext<'i> {
         requires last { EndsWith node.0 place.now self.old.in_progress }
         ensures left { self.old.in_progress ≡ self.new.in_progress ++ (node.0, place.now) ∷ [] }
         ensures remembered { self.new.remembered ≡ self.old.remembered }
+        ensures marking { self.new.marking ≡ self.old.marking }
     {
         self.pairs.pop();
+    }
+
+    /// Returns `true` if the keyword's run that is at work has marked this already: the same request, or a child that leads to the
+    /// same number and is guarded alike, by the edges that its children got. Otherwise marks it and returns `false`. On `Err`
+    /// nothing has changed.
+    pub fn enter_marking(
+        &mut self,
+        children: &[Option<Edge>],
+        marked: Marked,
+    ) -> Result<bool, OutOfMemory>
+        ensures held { IfOk result (λ b. b
+            ≡ list_any (same_edge (map (option_map edge_of) children.now) (marked_of marked)) self.old.marking) }
+        ensures marks { OnOk result (self.new.marking
+            ≡ with_mark (same_edge (map (option_map edge_of) children.now)) (marked_of marked) self.old.marking) }
+        ensures unchanged { IfErr result (λ _. self.new ≡ self.old) }
+        ensures in_progress { self.new.in_progress ≡ self.old.in_progress }
+        ensures remembered { self.new.remembered ≡ self.old.remembered }
+    {
+        self.marking.enter(children, marked)
+    }
+
+    /// Takes away the last mark of the keyword's run that is at work, where it has marked anything. It allocates nothing.
+    pub fn exit_marking(&mut self)
+        ensures left { self.new.marking ≡ without_last self.old.marking }
+        ensures in_progress { self.new.in_progress ≡ self.old.in_progress }
+        ensures remembered { self.new.remembered ≡ self.old.remembered }
+    {
+        self.marking.exit();
+    }
+
+    /// Sets the marks aside, for a keyword's run that begins with none of its own, and returns them. It allocates nothing.
+    pub(crate) fn set_aside(&mut self, alloc: Global) -> Marks
+        ensures aside { result ≡ self.old.marking }
+        ensures none { self.new.marking ≡ [] }
+        ensures in_progress { self.new.in_progress ≡ self.old.in_progress }
+        ensures remembered { self.new.remembered ≡ self.old.remembered }
+    {
+        mem::replace(&mut self.marking, Marks::new(alloc))
+    }
+
+    /// Puts marks back that were set aside, in the place of those of the run that has ended. It allocates nothing.
+    pub(crate) fn put_back(&mut self, aside: Marks)
+        ensures back { self.new.marking ≡ aside }
+        ensures in_progress { self.new.in_progress ≡ self.old.in_progress }
+        ensures remembered { self.new.remembered ≡ self.old.remembered }
+    {
+        self.marking = aside;
     }
 
     /// Returns `true` if the subject matches the pattern. A match that the matcher leaves unfinished comes out as it is assumed to, or
@@ -144,6 +205,7 @@ impl<'i> ValidationContext<'i> {
             (record { pair = record { pattern = pattern.now; subject = subject.now }; site = site.entry })
             ((M.matching matcher.now).is_match pattern.now subject.now)) }
         ensures in_progress { self.new.in_progress ≡ self.old.in_progress }
+        ensures marking { self.new.marking ≡ self.old.marking }
         ensures unchanged { OnErr result (self.new ≡ self.old) }
     {
         match matcher.is_match(alloc, pattern, subject)? {
@@ -169,6 +231,7 @@ impl<'i> ValidationContext<'i> {
               reason = reason_of reason;
             })) }
         ensures in_progress { self.new.in_progress ≡ self.old.in_progress }
+        ensures marking { self.new.marking ≡ self.old.marking }
         ensures unchanged { OnErr result (self.new ≡ self.old) }
     {
         Ok(self.matches.resolve(pattern, subject, reason, site)?)

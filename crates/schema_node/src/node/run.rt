@@ -6,12 +6,10 @@ ghost use Rattle.schema_reports.specs.InstanceViews.{subject_of, step_of};
 ghost use Rattle.schema_reports.specs.Keywords.{down, here, for_units, for_verdict};
 ghost use Rattle.schema_reports.specs.Laws.{IsPresent, steps_below};
 ghost use Rattle.schema_node.specs.FaultViews.{faults_in};
-ghost use Rattle.schema_reports.specs.Guarded.{node_child};
 ghost use Rattle.schema_node.specs.KeywordViews.{below_of, mode_of};
 ghost use Rattle.schema_node.specs.NodeTable.{numbered, shaped_form, shaped_part};
 ghost use Rattle.schema_node.specs.NodeViews.{edge_of, entry_of, form_of};
 ghost use Rattle.schema_node.specs.NodeRuns.{HasForm, HasParts, HasChildren};
-ghost use Rattle.schema_node.specs.Marks.{TakesNoMarks};
 ghost use Rattle.schema_node.specs.Progress.{NoDeeper};
 ghost use Rattle.schema_node.specs.RunStates.{asking, asking_first, form_at_work, setting, setting_over};
 ghost use Rattle.schema_node.specs.RunStates.{FindsRightly, HasBegun, Keeps, MayRun, PassesItsOwn};
@@ -20,6 +18,7 @@ ghost use Rattle.schema_node.specs.RunStates.{MeetsChild, MeetsEdge, MeetsEntry,
 ghost use Rattle.schema_node.specs.RunStates.{RunBorrows, RunMeets, RunReplies, RunSpeaks};
 
 use crate::context::keyword::{Answer, Below, Mode, Reply, Step, Validate};
+use crate::context::marks::child_edge;
 use crate::context::matcher::Matcher;
 use crate::context::validation::ValidationContext;
 use crate::node::evaluation_path::EvaluationPath;
@@ -53,16 +52,6 @@ fn one_below<'i>(
     match after(instance, step) {
         Some(lower) => Some(lower),
         None => unreachable!(),
-    }
-}
-
-// The edge that a request got.
-fn child_edge(children: &[Option<Edge>], child: usize) -> Option<&Edge>
-    ensures edge { option_map (λ e. edge_of e.now) result ≡ node_child (map (option_map edge_of) children.now) child }
-{
-    match children.get(child) {
-        Some(Some(edge)) => Some(edge),
-        _ => None,
     }
 }
 
@@ -220,7 +209,7 @@ fn run_form<'i, K: Validate, M: Matcher>(
     }
 }
 
-// The reply of a keyword.
+// The reply of a keyword. Its run begins with no marks; those of the run that asks are set aside until it has ended.
 #[cycle(run)]
 fn run_keyword<'i, K: Validate, M: Matcher>(
     engine: &Engine<'_, K, M>,
@@ -244,6 +233,7 @@ fn run_keyword<'i, K: Validate, M: Matcher>(
         .keyword
         .begin(engine.alloc, question.instance, question.mode)?;
     let mut answer = begun(engine.alloc, question.mode);
+    let aside = context.set_aside(engine.alloc);
     run_turns(
         engine,
         node,
@@ -253,6 +243,7 @@ fn run_keyword<'i, K: Validate, M: Matcher>(
         &mut answer,
         context,
     )?;
+    context.put_back(aside);
     finished(
         engine.alloc,
         engine.nodes.node(node),
@@ -279,7 +270,9 @@ fn run_turns<'i, K: Validate, M: Matcher>(
     requires begun { HasBegun (setting K.words K.is_whole K.shape M.matching engine.now) (asking question.now)
         (K.shape keyword.now.keyword.now) run.old answer.old }
     requires no_faults { faults_in answer.old ≡ [] }
-    ensures keeps { IfOk result (λ _. Keeps context.old context.new) }
+    requires no_marks { context.old.marking ≡ [] }
+    ensures kept { IfOk result (λ _. context.new.in_progress ≡ context.old.in_progress) }
+    ensures assumes { IfOk result (λ _. context.new.remembered.assumptions ≡ context.old.remembered.assumptions) }
     ensures right { IfOk result (λ _. FindsRightly
         (setting K.words K.is_whole K.shape M.matching engine.now) (asking question.now)
         context.old node.0 (map (option_map edge_of) keyword.now.children.now) (K.shape keyword.now.keyword.now) answer.new) }
@@ -322,8 +315,14 @@ fn run_turns<'i, K: Validate, M: Matcher>(
                 let valid = context.is_valid_ecma_regex(engine.alloc, engine.matcher, text)?;
                 reply = Reply::Truth(valid);
             }
-            Step::Mark(_) => unreachable!(),
-            Step::Unmark => unreachable!(),
+            Step::Mark(marked) => {
+                let held = context.enter_marking(children, marked)?;
+                reply = Reply::Truth(held);
+            }
+            Step::Unmark => {
+                context.exit_marking();
+                reply = Reply::Nothing;
+            }
         }
     }
 }
@@ -425,7 +424,7 @@ pub struct FirstQuestion<'q, 'i> {
 impl<K: Validate> Nodes<K> {
     /// Runs a node over the instance at a place, for its verdict, its first error or all errors, with the path that led to
     /// it. The reply is of the mode. A match that the matcher leaves unfinished comes out as the context assumes it to, or
-    /// else as no, and the context remembers it. The pairs in progress are as before, except on `Err`. Each error
+    /// else as no, and the context remembers it. The pairs in progress and the marks are as before, except on `Err`. Each error
     /// borrows the instance at its place.
     pub fn run<'i, M: Matcher>(
         &self,
@@ -438,9 +437,9 @@ impl<K: Validate> Nodes<K> {
         requires known { node.0 < length self.now }
         requires above { NoDeeper question.now.place.now context.old.in_progress }
         requires wanted { ¬ (mode_of question.now.mode ≡ for_units) }
-        requires unmarked { (texts : Bool) → TakesNoMarks (K.words texts) }
         ensures kept { IfOk result (λ _. context.new.in_progress ≡ context.old.in_progress) }
         ensures assumes { IfOk result (λ _. context.new.remembered.assumptions ≡ context.old.remembered.assumptions) }
+        ensures marking { IfOk result (λ _. context.new.marking ≡ context.old.marking) }
         ensures replies { IfOk result (λ r. RunReplies
             (setting_over K.words K.is_whole K.shape self.now (M.matching matcher.now)) (asking_first question.now)
             context.old node.0 r) }

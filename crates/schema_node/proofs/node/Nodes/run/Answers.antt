@@ -4,7 +4,7 @@ use Rattle.schema_reports.specs.Numbered.{left, subject_in}
 use Rattle.schema_node.specs.KeywordViews.{mode_of}
 use Rattle.schema_node.specs.Matches.{settling}
 use Rattle.schema_node.specs.NodeMeets.{reading}
-use Rattle.schema_node.specs.NodeTable.{IsRanked, numbered}
+use Rattle.schema_node.specs.NodeTable.{IsOrdered, numbered}
 use Rattle.schema_node.specs.Progress.{busy_at}
 use Rattle.schema_node.proofs.KeywordTurns.{silent, silent_reads}
 use Rattle.schema_node.proofs.Matches.{completes_once}
@@ -17,10 +17,7 @@ pub run_node-requires : goal.run_node-requires
 run_node-requires g c = record {
   may = record {
     known = c.requires.known;
-    ready = record {
-      ranked = ranked_table g.K.Validate.shape c.args.self.now c.self.inside.finished (subst (λ ns. IsRanked ns c.self.inside.finished) c.self.view_is c.self.invariant);
-      unmarked = c.requires.unmarked;
-    };
+    ranked = ranked_table g.K.Validate.shape c.args.self.now c.self.inside.finished (subst (λ ns. IsOrdered ns c.self.inside.finished) c.self.view_is c.self.invariant);
     above = rw c.given-place.ensures.same c.requires.above;
     wanted = c.requires.wanted;
   };

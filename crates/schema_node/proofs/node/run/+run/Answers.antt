@@ -5,29 +5,31 @@ use Rattle.schema_node.specs.FaultViews.{PassesBorrowed}
 use Rattle.std.proofs.Common.{◌≡◌, ◌∙◌, ◌+◌, ◌*◌, ◌<◌, ◌≤◌, ℕ, Bool, suc, arith, sym, refl, ap, subst, map, option_map, string_bytes, length, Some, false, List, [], ◌∷◌, ◌++◌, drop}
 use Rattle.schema_reports.specs.InstanceViews.{subject_of, step_of}
 use Rattle.schema_reports.specs.Instance.{Text}
-use Rattle.schema_reports.specs.Keywords.{MatchPoint, Mode, Question, ask, done, ecma, match_text, truth}
+use Rattle.schema_reports.specs.Keywords.{Marked, MatchPoint, Mode, Question, ask, done, ecma, mark, match_text, no_reply, truth, unmark}
 use Rattle.schema_node.specs.EvaluationPlaces.{steps_to}
 use Rattle.schema_node.specs.EvaluationPaths.{path_of}
-use Rattle.schema_node.specs.Marks.{IsUnmarked}
+use Rattle.schema_reports.specs.Laws.{IsRight}
 use Rattle.schema_reports.specs.Meaning.{Where}
 use Rattle.schema_reports.specs.Numbered.{left, subject_in}
 use Rattle.schema_reports.specs.Runs.{keyword_met, plan_met, site_at}
 use Rattle.schema_reports.specs.Unfinished.{Remembered}
 use Rattle.schema_reports.specs.Matching.{Matcher, Pair, completed, matching, settled}
 use Rattle.schema_reports.specs.Guarded.{node_at, node_never, same_edge}
-use Rattle.schema_node.specs.KeywordViews.{below_of, mode_of, reply_of, answer_of, point_of}
+use Rattle.schema_node.specs.KeywordViews.{below_of, marked_of, mode_of, reply_of, answer_of, point_of}
 use Rattle.schema_node.specs.Matches.{after_match, settling}
 use Rattle.schema_node.specs.NodeMeets.{ChildMeets, EdgeMeets, EntryMeets, FormMeets, child_run, part_looked, parts_looked, reading}
 use Rattle.schema_node.specs.NodeTable.{numbered, shaped_part}
 use Rattle.schema_node.specs.NodeViews.{edge_of, entry_of, node_of, plan_of}
-use Rattle.schema_node.specs.NodeRuns.{ChildReplies, NodeReplies, EdgeReplies, child_says, edge_needs, entry_where, parts_say, refuses, reply_by}
+use Rattle.schema_node.specs.NodeRuns.{ChildReplies, NodeReplies, EdgeReplies, Reading, Reads, child_says, edge_needs, entry_where, parts_say, refuses, reply_by}
 use Rattle.schema_node.specs.Progress.{NoDeeper, busy_at}
+use Rattle.schema_node.specs.Turning.{unit_with}
 use Rattle.schema_node.proofs.Pairs.{busy-below, busy-pushed, deeper-below, deeper-pushed, entered_new, entered_old}
-use Rattle.schema_node.proofs.KeywordTurns.{unmarked_after, unmarked_first, asked, is_unmarked, asks_less, matched, matches_present, told_pattern, asks_present, begins, ended_right, falls_turned, faults_lie, keyword_says, right_reply, silent, silent_reads, tells_nothing}
+use Rattle.schema_node.proofs.KeywordTurns.{can_be_in, less_after, less_first, asked, asks_less, marked, mark_taken, matched, matches_present, told_pattern, asks_present, begins, ended_right, falls_turned, faults_lie, keyword_says, right_reply, silent, silent_reads, tells_nothing}
+use Rattle.schema_reports.proofs.Alike.{asked_alike}
 use Rattle.schema_node.proofs.Replies.{if_ok_always, if_ok_both, if_ok_mono}
 use Rattle.schema_node.proofs.NodeRuns.{agrees_answers, agrees_says, child_below, child_here, edge_busy, edge_entered, falls_below, falls_here, form_reference, leaf_accepts, needs_of_entered, node_by_plan, one_entry, settled_entries, stands_in, start_entries, where_is}
 use Rattle.schema_node.proofs.Matches.{after_assumes, moved, meets_append, meets_same}
-use Rattle.schema_node.proofs.KeywordMeets.{meets_all, meets_asked, meets_begun, meets_matched, meets_nothing}
+use Rattle.schema_node.proofs.KeywordMeets.{meets_all, meets_asked, meets_begun, meets_mark_taken, meets_marked, meets_matched, meets_nothing}
 use Rattle.schema_node.proofs.NodeMeets.{child_replies, end_met, last_met, leaf_holds, leaf_no, leaf_yes, meets_below, meets_busy, meets_entered, meets_here, meets_never, meets_reference, meets_these, next_met, nothing_refused, other_entry, stops_at}
 use Rattle.schema_node.proofs.NodeParts.{absolute_is, drop_at, drop_past, keyword_children, part_at, plain_there, plan_is, reference_edge, replies_refused, tells_keyword}
 use Rattle.schema_node.specs.declared.node.Entry.{Entry}
@@ -58,13 +60,19 @@ match_goes_on a point e = cc
 ecma_goes_on : (text : Text) → ¬ (ecma text ≡ done)
 ecma_goes_on text e = cc
 
+mark_goes_on : (i : Marked) → ¬ (mark i ≡ done)
+mark_goes_on i e = cc
+
+unmark_goes_on : ¬ (unmark ≡ done)
+unmark_goes_on e = cc
+
 pub run_child-run_edge-requires : goal.run_child-run_edge-requires
 run_child-run_edge-requires g t c =
     let ns = numbered g.K.Validate.shape c.args.engine.now.nodes.now in
     let e = edge_of c.in-Some.edge.now in
     let k = c.requires.children c.args.child e (sym c.in-Some.ensures.edge) in
-    let l = falls_here g.K.Validate.words g.K.Validate.is_whole ns (length c.args.engine.now.nodes.now) (settling (g.M.Matcher.matching c.args.engine.now.matcher.now) c.args.context.now.remembered.assumptions) c.requires.may.ready.ranked c.args.node.0 (subject_of c.args.question.now.instance) (busy_at (steps_to c.args.question.now.place.now) c.args.context.now.in_progress) e c.requires.may.known k in
-    λ κs h. (lower_edge _ _ _ t 0 refl l c.decreases, (h.0, (h.1.0, (h.1.1.0, (h.1.1.1, record { known = (c.requires.may.ready.ranked c.args.node.0 c.requires.may.known e k).0; ready = c.requires.may.ready; above = c.requires.may.above; wanted = c.requires.may.wanted })))))
+    let l = falls_here g.K.Validate.words g.K.Validate.is_whole ns (length c.args.engine.now.nodes.now) (settling (g.M.Matcher.matching c.args.engine.now.matcher.now) c.args.context.now.remembered.assumptions) c.requires.may.ranked c.args.node.0 (subject_of c.args.question.now.instance) (busy_at (steps_to c.args.question.now.place.now) c.args.context.now.in_progress) e c.requires.may.known k in
+    λ κs h. (lower_edge _ _ _ t 0 refl l c.decreases, (h.0, (h.1.0, (h.1.1.0, (h.1.1.1, record { known = (c.requires.may.ranked c.args.node.0 c.requires.may.known e k).0; ranked = c.requires.may.ranked; above = c.requires.may.above; wanted = c.requires.may.wanted })))))
 
 pub run_child-run_edge-requires-in-Some-one_below : goal.run_child-run_edge-requires-in-Some-one_below
 run_child-run_edge-requires-in-Some-one_below g t c =
@@ -76,16 +84,16 @@ run_child-run_edge-requires-in-Some-one_below g t c =
     let es = c.args.context.now.in_progress in
     let none : busy_at (steps_to c.below-lower.result) es ≡ [] = ap (λ q. busy_at q es) c.below-lower.ensures.below ∙ busy-below p step es c.requires.may.above in
     let deeper = subst (λ q. NoDeeper q es) (sym c.below-lower.ensures.below) (deeper-below p step es c.requires.may.above) in
-    let l = falls_below g.K.Validate.words g.K.Validate.is_whole ns (length c.args.engine.now.nodes.now) (settling (g.M.Matcher.matching c.args.engine.now.matcher.now) c.args.context.now.remembered.assumptions) c.requires.may.ready.ranked c.args.node.0 (subject_of c.args.question.now.instance) (subject_of c.in-Some-one_below.inner) step (busy_at p es) e c.requires.may.known k c.in-Some-one_below.ensures.below.1 in
+    let l = falls_below g.K.Validate.words g.K.Validate.is_whole ns (length c.args.engine.now.nodes.now) (settling (g.M.Matcher.matching c.args.engine.now.matcher.now) c.args.context.now.remembered.assumptions) c.requires.may.ranked c.args.node.0 (subject_of c.args.question.now.instance) (subject_of c.in-Some-one_below.inner) step (busy_at p es) e c.requires.may.known k c.in-Some-one_below.ensures.below.1 in
     let n = ap (edge_needs ns (length c.args.engine.now.nodes.now) e (subject_of c.in-Some-one_below.inner)) none in
-    λ κs h. (lower_edge _ _ _ t 0 n l c.decreases, (h.0, (h.1.0, (h.1.1.0, (h.1.1.1, record { known = (c.requires.may.ready.ranked c.args.node.0 c.requires.may.known e k).0; ready = c.requires.may.ready; above = deeper; wanted = c.requires.may.wanted })))))
+    λ κs h. (lower_edge _ _ _ t 0 n l c.decreases, (h.0, (h.1.0, (h.1.1.0, (h.1.1.1, record { known = (c.requires.may.ranked c.args.node.0 c.requires.may.known e k).0; ranked = c.requires.may.ranked; above = deeper; wanted = c.requires.may.wanted })))))
 
 pub run_child-returns-in-None-one_below-clause-says : goal.run_child-returns-in-None-one_below-clause-says
 run_child-returns-in-None-one_below-clause-says g t c =
     let ns = numbered g.K.Validate.shape c.args.engine.now.nodes.now in
     let e = edge_of c.in-Some.edge.now in
     let k = c.requires.children c.args.child e (sym c.in-Some.ensures.edge) in
-    let l = falls_here g.K.Validate.words g.K.Validate.is_whole ns (length c.args.engine.now.nodes.now) (settling (g.M.Matcher.matching c.args.engine.now.matcher.now) c.args.context.now.remembered.assumptions) c.requires.may.ready.ranked c.args.node.0 (subject_of c.args.question.now.instance) (busy_at (steps_to c.args.question.now.place.now) c.args.context.now.in_progress) e c.requires.may.known k in
+    let l = falls_here g.K.Validate.words g.K.Validate.is_whole ns (length c.args.engine.now.nodes.now) (settling (g.M.Matcher.matching c.args.engine.now.matcher.now) c.args.context.now.remembered.assumptions) c.requires.may.ranked c.args.node.0 (subject_of c.args.question.now.instance) (busy_at (steps_to c.args.question.now.place.now) c.args.context.now.in_progress) e c.requires.may.known k in
     if_ok_mono c.run_edge.result _ _ (λ r says. child_here g.K.Validate.words g.K.Validate.is_whole ns (length c.args.engine.now.nodes.now) (settling (g.M.Matcher.matching c.args.engine.now.matcher.now) c.args.context.now.remembered.assumptions) (mode_of c.args.question.now.mode) (path_of c.args.question.now.path.now) (steps_to c.args.question.now.place.now) (busy_at (steps_to c.args.question.now.place.now) c.args.context.now.in_progress) (subject_of c.args.question.now.instance) c.args.node.0 _
     (record { child = c.args.child; below = below_of c.args.below }) r e (sym c.in-Some.ensures.edge) c.in-None-one_below.ensures.below l says) c.run_edge.ensures.says
 
@@ -100,7 +108,7 @@ run_child-returns-in-Some-one_below-clause-says g t c =
     let s = subject_of c.args.question.now.instance in
     let inner = subject_of c.in-Some-one_below.inner in
     let none : busy_at (steps_to c.below-lower.result) es ≡ [] = ap (λ q. busy_at q es) c.below-lower.ensures.below ∙ busy-below p step es c.requires.may.above in
-    let l = falls_below g.K.Validate.words g.K.Validate.is_whole ns (length c.args.engine.now.nodes.now) (settling (g.M.Matcher.matching c.args.engine.now.matcher.now) c.args.context.now.remembered.assumptions) c.requires.may.ready.ranked c.args.node.0 s inner step (busy_at p es) e c.requires.may.known k c.in-Some-one_below.ensures.below.1 in
+    let l = falls_below g.K.Validate.words g.K.Validate.is_whole ns (length c.args.engine.now.nodes.now) (settling (g.M.Matcher.matching c.args.engine.now.matcher.now) c.args.context.now.remembered.assumptions) c.requires.may.ranked c.args.node.0 s inner step (busy_at p es) e c.requires.may.known k c.in-Some-one_below.ensures.below.1 in
     if_ok_mono c.run_edge-in-Some-one_below.result _ _ (λ r says.
     let answer = subst (λ busy. EdgeReplies g.K.Validate.words g.K.Validate.is_whole ns (length c.args.engine.now.nodes.now) (settling (g.M.Matcher.matching c.args.engine.now.matcher.now) c.args.context.now.remembered.assumptions) (mode_of c.args.question.now.mode) (path_of c.args.question.now.path.now) (steps_to c.below-lower.result) busy inner e r) none says in
     child_below g.K.Validate.words g.K.Validate.is_whole ns (length c.args.engine.now.nodes.now) (settling (g.M.Matcher.matching c.args.engine.now.matcher.now) c.args.context.now.remembered.assumptions) (mode_of c.args.question.now.mode) (path_of c.args.question.now.path.now) p (busy_at p es) s c.args.node.0 _
@@ -127,7 +135,7 @@ run_edge-run_node-requires-2 g t c =
     let there : steps_to c.given-place.result ≡ p = c.given-place.ensures.same ∙ c.in_ok-here.ensures.same in
     let l = ap (λ q. left ns (length c.args.engine.now.nodes.now) e.node s (busy_at q c.enter.new.self.in_progress)) there ∙ ap (left ns (length c.args.engine.now.nodes.now) e.node s) busy in
     let deeper = subst (λ q. NoDeeper q c.enter.new.self.in_progress) (sym there) (subst (NoDeeper p) (sym new.1) (deeper-pushed p e.node c.args.context.now.in_progress c.requires.may.above)) in
-    λ κs h. (lower_entered _ _ _ t l needs c.decreases, (h.0, (h.1.0, (h.1.1.0, (h.1.1.1, record { known = c.requires.may.known; ready = c.requires.may.ready; above = deeper; wanted = c.requires.may.wanted })))))
+    λ κs h. (lower_entered _ _ _ t l needs c.decreases, (h.0, (h.1.0, (h.1.1.0, (h.1.1.1, record { known = c.requires.may.known; ranked = c.requires.may.ranked; above = deeper; wanted = c.requires.may.wanted })))))
 
 pub run_edge-returns-clause-says : goal.run_edge-returns-clause-says
 run_edge-returns-clause-says g t c =
@@ -146,8 +154,8 @@ run_form-run_edge-requires g t c =
     let ns = numbered g.K.Validate.shape c.args.engine.now.nodes.now in
     let e = edge_of c.in-Reference.edge in
     let k = reference_edge ns c.args.node.0 e (rw c.in-Reference.is at c.requires.form) in
-    let l = falls_here g.K.Validate.words g.K.Validate.is_whole ns (length c.args.engine.now.nodes.now) (settling (g.M.Matcher.matching c.args.engine.now.matcher.now) c.args.context.now.remembered.assumptions) c.requires.may.ready.ranked c.args.node.0 (subject_of c.args.question.now.instance) (busy_at (steps_to c.args.question.now.place.now) c.args.context.now.in_progress) e c.requires.may.known k in
-    λ κs h. (lower_edge _ _ _ t 3 refl l c.decreases, (h.0, (h.1.0, (h.1.1.0, (h.1.1.1, record { known = (c.requires.may.ready.ranked c.args.node.0 c.requires.may.known e k).0; ready = c.requires.may.ready; above = c.requires.may.above; wanted = c.requires.may.wanted })))))
+    let l = falls_here g.K.Validate.words g.K.Validate.is_whole ns (length c.args.engine.now.nodes.now) (settling (g.M.Matcher.matching c.args.engine.now.matcher.now) c.args.context.now.remembered.assumptions) c.requires.may.ranked c.args.node.0 (subject_of c.args.question.now.instance) (busy_at (steps_to c.args.question.now.place.now) c.args.context.now.in_progress) e c.requires.may.known k in
+    λ κs h. (lower_edge _ _ _ t 3 refl l c.decreases, (h.0, (h.1.0, (h.1.1.0, (h.1.1.1, record { known = (c.requires.may.ranked c.args.node.0 c.requires.may.known e k).0; ranked = c.requires.may.ranked; above = c.requires.may.above; wanted = c.requires.may.wanted })))))
 
 pub run_form-returns-in-Keyword-clause-says : goal.run_form-returns-in-Keyword-clause-says
 run_form-returns-in-Keyword-clause-says g t c = rw (c.in-Keyword.is, ← c.as_slice.ensures.value) c.run_keyword.ensures.says
@@ -157,7 +165,7 @@ run_form-returns-in_ok-reply-in-Reference-clause-says g t c =
     let ns = numbered g.K.Validate.shape c.args.engine.now.nodes.now in
     let e = edge_of c.in-Reference.edge in
     let k = reference_edge ns c.args.node.0 e (rw c.in-Reference.is at c.requires.form) in
-    let l = falls_here g.K.Validate.words g.K.Validate.is_whole ns (length c.args.engine.now.nodes.now) (settling (g.M.Matcher.matching c.args.engine.now.matcher.now) c.args.context.now.remembered.assumptions) c.requires.may.ready.ranked c.args.node.0 (subject_of c.args.question.now.instance) (busy_at (steps_to c.args.question.now.place.now) c.args.context.now.in_progress) e c.requires.may.known k in
+    let l = falls_here g.K.Validate.words g.K.Validate.is_whole ns (length c.args.engine.now.nodes.now) (settling (g.M.Matcher.matching c.args.engine.now.matcher.now) c.args.context.now.remembered.assumptions) c.requires.may.ranked c.args.node.0 (subject_of c.args.question.now.instance) (busy_at (steps_to c.args.question.now.place.now) c.args.context.now.in_progress) e c.requires.may.known k in
     let at_node = absolute_is g.K.Validate.shape c.args.engine.now.nodes.now c.args.node.0 (node_of c.node.result.now) (string_bytes c.args.entry.now.name) c.node.ensures.found in
     rw c.in-Reference.is (if_ok_both c.stamped_reply.result _ _ _ (λ r stamped borrows. form_reference g.K.Validate.words g.K.Validate.is_whole ns (length c.args.engine.now.nodes.now) (settling (g.M.Matcher.matching c.args.engine.now.matcher.now) c.args.context.now.remembered.assumptions) (mode_of c.args.question.now.mode) (path_of c.args.question.now.path.now) (steps_to c.args.question.now.place.now) (busy_at (steps_to c.args.question.now.place.now) c.args.context.now.in_progress) (subject_of c.args.question.now.instance) c.args.node.0 (string_bytes c.args.entry.now.name) e
     c.in_ok-reply-in-Reference.reply r _ at_node l stamped borrows c.in_ok-reply-in-Reference.ensures.says) c.stamped_reply.ensures.stamped c.stamped_reply.ensures.borrows)
@@ -188,6 +196,7 @@ run_node-returns-in-Keywords-clause-says g t c =
 
 pub run_entries-loop-entry-init : goal.run_entries-loop-entry-init
 run_entries-loop-entry-init g t c = record {
+  marking = refl;
   kept = refl;
   assumes = refl;
   unsettled = λ texts. ap refuses (c.accepted-found.ensures.accepts texts) ∙ nothing_refused (mode_of c.args.question.now.mode);
@@ -202,12 +211,13 @@ run_entries-run_entry-requires g t c =
     let kept = c.loop-entry.invariant.kept in
     let l = ap (λ es. left ns (length c.args.engine.now.nodes.now) c.args.node.0 (subject_of c.args.question.now.instance) (busy_at p es)) kept in
     let here = part_at entry_of (shaped_part g.K.Validate.shape) c.args.entries.now c.loop-entry.entry-index c.entry-item.result c.loop-entry-test.true c.entry-item.is in
-    λ κs h. (lower_same _ _ t 5 0 l c.decreases, (h.0, (h.1.0, (h.1.1.0, (h.1.1.1, (record { known = c.requires.may.known; ready = c.requires.may.ready; above = subst (NoDeeper p) (sym kept) c.requires.may.above; wanted = c.requires.may.wanted }, (c.requires.parts.0, c.requires.parts.1, shaped_part g.K.Validate.shape (entry_of c.entry-item.result), c.requires.parts.2 _ here, refl)))))))
+    λ κs h. (lower_same _ _ t 5 0 l c.decreases, (h.0, (h.1.0, (h.1.1.0, (h.1.1.1, (record { known = c.requires.may.known; ranked = c.requires.may.ranked; above = subst (NoDeeper p) (sym kept) c.requires.may.above; wanted = c.requires.may.wanted }, (c.requires.parts.0, c.requires.parts.1, shaped_part g.K.Validate.shape (entry_of c.entry-item.result), c.requires.parts.2 _ here, refl)))))))
 
 pub run_entries-loop-entry-preserved : goal.run_entries-loop-entry-preserved
 run_entries-loop-entry-preserved g t c = record {
   kept = c.in_ok-more.ensures.keeps.in_progress ∙ c.loop-entry.invariant.kept;
   assumes = c.in_ok-more.ensures.keeps.assumptions ∙ c.loop-entry.invariant.assumes;
+  marking = c.in_ok-more.ensures.keeps.marking ∙ c.loop-entry.invariant.marking;
   unsettled = λ texts. sym (c.is_settled.ensures.settled texts) ∙ c.if-is_settled.false;
   met = λ texts root depth reads l.
       let ns = numbered g.K.Validate.shape c.args.engine.now.nodes.now in
@@ -267,13 +277,14 @@ run_turns-turns-init g t c =
     record {
       kept = refl;
       assumes = refl;
-      unmarked = unmarked_first (g.K.Validate.words false) (g.K.Validate.shape c.args.keyword.now.keyword.now) (g.K.Validate.absorbed (g.K.Validate.shape c.args.keyword.now.keyword.now)) (g.K.Validate.remaining (g.K.Validate.shape c.args.keyword.now.keyword.now)) (g.K.Validate.can_be false (g.K.Validate.shape c.args.keyword.now.keyword.now)) (g.K.Validate.ends false (g.K.Validate.shape c.args.keyword.now.keyword.now)) (g.K.Validate.fits false (g.K.Validate.shape c.args.keyword.now.keyword.now)) (g.met.K.Validate.turn_laws false (g.K.Validate.shape c.args.keyword.now.keyword.now)) s (mode_of c.args.question.now.mode) (c.args.run.now, answer_of false c.args.answer.now) (c.requires.may.ready.unmarked false m s (mode_of c.args.question.now.mode) c.requires.may.wanted)
+      for_less = less_first (g.K.Validate.words false) (g.K.Validate.shape c.args.keyword.now.keyword.now) (g.K.Validate.absorbed (g.K.Validate.shape c.args.keyword.now.keyword.now)) (g.K.Validate.remaining (g.K.Validate.shape c.args.keyword.now.keyword.now)) (g.K.Validate.can_be false (g.K.Validate.shape c.args.keyword.now.keyword.now)) (g.K.Validate.ends false (g.K.Validate.shape c.args.keyword.now.keyword.now)) (g.K.Validate.fits false (g.K.Validate.shape c.args.keyword.now.keyword.now)) (g.met.K.Validate.turn_laws false (g.K.Validate.shape c.args.keyword.now.keyword.now)) s (mode_of c.args.question.now.mode) (c.args.run.now, answer_of false c.args.answer.now) (g.met.K.Validate.asks_no_units false m s (mode_of c.args.question.now.mode) c.requires.may.wanted)
           (c.requires.begun false);
       borrows = λ root at_place. (All-nil (BorrowsItsPlace root), subst (All (PassesBorrowed root)) (sym c.requires.no_faults) (All-nil (PassesBorrowed root)));
-      leads = λ x reads l. begins (g.K.Validate.words x.texts) (g.K.Validate.shape c.args.keyword.now.keyword.now) (g.K.Validate.absorbed (g.K.Validate.shape c.args.keyword.now.keyword.now)) (g.K.Validate.remaining (g.K.Validate.shape c.args.keyword.now.keyword.now)) (g.K.Validate.can_be x.texts (g.K.Validate.shape c.args.keyword.now.keyword.now)) (g.K.Validate.ends x.texts (g.K.Validate.shape c.args.keyword.now.keyword.now)) (g.K.Validate.fits x.texts (g.K.Validate.shape c.args.keyword.now.keyword.now)) (g.met.K.Validate.turn_laws x.texts (g.K.Validate.shape c.args.keyword.now.keyword.now)) s x (mode_of c.args.question.now.mode) (child_says g.K.Validate.words ns x (path_of c.args.question.now.path.now) p busy es) (c.args.run.now, answer_of x.texts c.args.answer.now)
+      leads = λ x reads l. begins (g.K.Validate.words x.texts) (g.K.Validate.shape c.args.keyword.now.keyword.now) (g.K.Validate.absorbed (g.K.Validate.shape c.args.keyword.now.keyword.now)) (g.K.Validate.remaining (g.K.Validate.shape c.args.keyword.now.keyword.now)) (g.K.Validate.can_be x.texts (g.K.Validate.shape c.args.keyword.now.keyword.now)) (g.K.Validate.ends x.texts (g.K.Validate.shape c.args.keyword.now.keyword.now)) (g.K.Validate.fits x.texts (g.K.Validate.shape c.args.keyword.now.keyword.now)) (g.met.K.Validate.turn_laws x.texts (g.K.Validate.shape c.args.keyword.now.keyword.now)) s x (mode_of c.args.question.now.mode) (child_says g.K.Validate.words ns x (path_of c.args.question.now.path.now) p busy es) (same_edge es) c.args.context.now.marking (c.args.run.now, answer_of x.texts c.args.answer.now) c.requires.no_marks
           (agrees_answers g.K.Validate.words ns (λ texts m s completion matcher a h. (g.met.K.Validate.function_laws texts m).agree s (matching matcher completion) a h) x (path_of c.args.question.now.path.now) p busy es)
+          (asked_alike (g.K.Validate.words x.texts) x.matcher ns (subject_in x.root) x.completion x.depth (path_of c.args.question.now.path.now) p busy es)
           (c.requires.begun x.texts);
-      met = λ texts root depth reads l. meets_begun (g.K.Validate.words texts) w.matcher w.assumptions (node_at (g.K.Validate.words texts) w.matcher ns (subject_in root) c.args.node.0 (path_of c.args.question.now.path.now) p) s (child_run g.K.Validate.words ns w texts root depth (path_of c.args.question.now.path.now) p busy es) (same_edge es) name m (g.K.Validate.remaining m s) _ (mode_of c.args.question.now.mode) (c.args.run.now, answer_of texts c.args.answer.now) (c.requires.begun texts) ((g.met.K.Validate.turn_laws texts m).bounded s (mode_of c.args.question.now.mode));
+      met = λ texts root depth reads l. meets_begun (g.K.Validate.words texts) w.matcher w.assumptions (node_at (g.K.Validate.words texts) w.matcher ns (subject_in root) c.args.node.0 (path_of c.args.question.now.path.now) p) s (child_run g.K.Validate.words ns w texts root depth (path_of c.args.question.now.path.now) p busy es) (same_edge es) name m (g.K.Validate.remaining m s) _ (mode_of c.args.question.now.mode) c.args.context.now.marking (c.args.run.now, answer_of texts c.args.answer.now) c.requires.no_marks (c.requires.begun texts) ((g.met.K.Validate.turn_laws texts m).bounded s (mode_of c.args.question.now.mode));
     }
 
 pub run_turns-run_child-requires : goal.run_turns-run_child-requires
@@ -290,9 +301,9 @@ run_turns-run_child-requires g t c =
     let kept = c.turns.invariant.kept in
     let l = ap (λ es. left ns (length c.args.engine.now.nodes.now) c.args.node.0 s (busy_at p es)) kept in
     let q : Question = record { child = c.in-Ask.child; below = below_of c.in-Ask.below } in
-    let there = asks_present (g.K.Validate.words false) (g.K.Validate.shape c.args.keyword.now.keyword.now) (g.K.Validate.absorbed (g.K.Validate.shape c.args.keyword.now.keyword.now)) (g.K.Validate.remaining (g.K.Validate.shape c.args.keyword.now.keyword.now)) (g.K.Validate.can_be false (g.K.Validate.shape c.args.keyword.now.keyword.now)) (g.K.Validate.ends false (g.K.Validate.shape c.args.keyword.now.keyword.now)) (g.K.Validate.fits false (g.K.Validate.shape c.args.keyword.now.keyword.now)) (g.met.K.Validate.turn_laws false (g.K.Validate.shape c.args.keyword.now.keyword.now)) s (c.turns.run, answer_of false c.turns.answer) told q (mode_of c.in-Ask.wanted) c.turns.invariant.unmarked ((g.met.K.Validate.function_laws false m).present s) step in
-    let less = asks_less (g.K.Validate.words false) (g.K.Validate.shape c.args.keyword.now.keyword.now) (g.K.Validate.absorbed (g.K.Validate.shape c.args.keyword.now.keyword.now)) (g.K.Validate.remaining (g.K.Validate.shape c.args.keyword.now.keyword.now)) (g.K.Validate.can_be false (g.K.Validate.shape c.args.keyword.now.keyword.now)) (g.K.Validate.ends false (g.K.Validate.shape c.args.keyword.now.keyword.now)) (g.K.Validate.fits false (g.K.Validate.shape c.args.keyword.now.keyword.now)) (g.met.K.Validate.turn_laws false (g.K.Validate.shape c.args.keyword.now.keyword.now)) s (c.turns.run, answer_of false c.turns.answer) told q (mode_of c.in-Ask.wanted) c.turns.invariant.unmarked step in
-    λ κs h. (lower_same _ _ t 1 0 l c.decreases, (h.0, (h.1.0, (h.1.1.0, (h.1.1.1, (record { known = c.requires.may.known; ready = c.requires.may.ready; above = subst (NoDeeper p) (sym kept) c.requires.may.above; wanted = less }, (keyword_children ns c.args.node.0 m es c.requires.form, there)))))))
+    let there = asks_present (g.K.Validate.words false) (g.K.Validate.shape c.args.keyword.now.keyword.now) (g.K.Validate.absorbed (g.K.Validate.shape c.args.keyword.now.keyword.now)) (g.K.Validate.remaining (g.K.Validate.shape c.args.keyword.now.keyword.now)) (g.K.Validate.can_be false (g.K.Validate.shape c.args.keyword.now.keyword.now)) (g.K.Validate.ends false (g.K.Validate.shape c.args.keyword.now.keyword.now)) (g.K.Validate.fits false (g.K.Validate.shape c.args.keyword.now.keyword.now)) (g.met.K.Validate.turn_laws false (g.K.Validate.shape c.args.keyword.now.keyword.now)) s (c.turns.run, answer_of false c.turns.answer) told q (mode_of c.in-Ask.wanted) c.turns.invariant.for_less ((g.met.K.Validate.function_laws false m).present s) step in
+    let less = asks_less (g.K.Validate.words false) (g.K.Validate.shape c.args.keyword.now.keyword.now) (g.K.Validate.absorbed (g.K.Validate.shape c.args.keyword.now.keyword.now)) (g.K.Validate.remaining (g.K.Validate.shape c.args.keyword.now.keyword.now)) (g.K.Validate.can_be false (g.K.Validate.shape c.args.keyword.now.keyword.now)) (g.K.Validate.ends false (g.K.Validate.shape c.args.keyword.now.keyword.now)) (g.K.Validate.fits false (g.K.Validate.shape c.args.keyword.now.keyword.now)) (g.met.K.Validate.turn_laws false (g.K.Validate.shape c.args.keyword.now.keyword.now)) s (c.turns.run, answer_of false c.turns.answer) told q (mode_of c.in-Ask.wanted) c.turns.invariant.for_less step in
+    λ κs h. (lower_same _ _ t 1 0 l c.decreases, (h.0, (h.1.0, (h.1.1.0, (h.1.1.1, (record { known = c.requires.may.known; ranked = c.requires.may.ranked; above = subst (NoDeeper p) (sym kept) c.requires.may.above; wanted = less }, (keyword_children ns c.args.node.0 m es c.requires.form, there)))))))
 
 pub run_turns-returns-in-Done-clause-right : goal.run_turns-returns-in-Done-clause-right
 run_turns-returns-in-Done-clause-right g t c = λ x reads l.
@@ -304,7 +315,7 @@ run_turns-returns-in-Done-clause-right g t c = λ x reads l.
     let busy = busy_at p c.args.context.now.in_progress in
     let tells = tells_keyword g.K.Validate.is_whole ns (length c.args.engine.now.nodes.now) (settling (g.M.Matcher.matching c.args.engine.now.matcher.now) c.args.context.now.remembered.assumptions) p s x c.args.node.0 m es c.requires.may.known reads c.requires.form in
     let answers = child_says g.K.Validate.words ns x (path_of c.args.question.now.path.now) p busy es in
-    ended_right (g.K.Validate.words x.texts) (g.K.Validate.shape c.args.keyword.now.keyword.now) (g.K.Validate.absorbed (g.K.Validate.shape c.args.keyword.now.keyword.now)) (g.K.Validate.remaining (g.K.Validate.shape c.args.keyword.now.keyword.now)) (g.K.Validate.can_be x.texts (g.K.Validate.shape c.args.keyword.now.keyword.now)) (g.K.Validate.ends x.texts (g.K.Validate.shape c.args.keyword.now.keyword.now)) (g.K.Validate.fits x.texts (g.K.Validate.shape c.args.keyword.now.keyword.now)) (g.met.K.Validate.turn_laws x.texts (g.K.Validate.shape c.args.keyword.now.keyword.now)) s x (mode_of c.args.question.now.mode) answers (c.turns.run, answer_of x.texts c.turns.answer) (c.turn.new.run, answer_of x.texts c.turn.new.answer) (reply_of x.texts c.turns.reply) (answer_of x.texts c.turn.new.answer) (c.turns.invariant.leads x reads l) (c.in_ok-child.ensures.turns x.texts tells) (g.met.K.Validate.answers x.texts c.turn.new.run (answer_of x.texts c.turn.new.answer)) (rw c.in-Done.is at (c.in_ok-child.ensures.steps x.texts tells))
+    ended_right (g.K.Validate.words x.texts) (g.K.Validate.shape c.args.keyword.now.keyword.now) (g.K.Validate.absorbed (g.K.Validate.shape c.args.keyword.now.keyword.now)) (g.K.Validate.remaining (g.K.Validate.shape c.args.keyword.now.keyword.now)) (g.K.Validate.can_be x.texts (g.K.Validate.shape c.args.keyword.now.keyword.now)) (g.K.Validate.ends x.texts (g.K.Validate.shape c.args.keyword.now.keyword.now)) (g.K.Validate.fits x.texts (g.K.Validate.shape c.args.keyword.now.keyword.now)) (g.met.K.Validate.turn_laws x.texts (g.K.Validate.shape c.args.keyword.now.keyword.now)) s x (mode_of c.args.question.now.mode) answers (same_edge es) c.turns.context.marking (c.turns.run, answer_of x.texts c.turns.answer) (c.turn.new.run, answer_of x.texts c.turn.new.answer) (reply_of x.texts c.turns.reply) (answer_of x.texts c.turn.new.answer) (c.turns.invariant.leads x reads l) (c.in_ok-child.ensures.turns x.texts tells) (g.met.K.Validate.answers x.texts c.turn.new.run (answer_of x.texts c.turn.new.answer)) (rw c.in-Done.is at (c.in_ok-child.ensures.steps x.texts tells))
 
 pub run_turns-returns-in-Done-clause-passes : goal.run_turns-returns-in-Done-clause-passes
 run_turns-returns-in-Done-clause-passes g t c = λ root at_place.
@@ -314,7 +325,12 @@ run_turns-returns-in-Done-clause-passes g t c = λ root at_place.
 pub run_keyword-run_turns-requires : goal.run_keyword-run_turns-requires
 run_keyword-run_turns-requires g t c =
     let begun = λ (texts : Bool). c.in_ok-run.ensures.begins texts ∙ ap (λ a. (c.in_ok-run.run', a)) (sym (c.begun-answer.ensures.fresh texts)) in
-    λ κs h. (lower_same _ _ t 2 0 refl c.decreases, (h.0, (h.1.0, (h.1.1.0, (h.1.1.1, (c.requires.may, (c.requires.form, (begun, c.begun-answer.ensures.no_faults))))))))
+    let ns = numbered g.K.Validate.shape c.args.engine.now.nodes.now in
+    let p = steps_to c.args.question.now.place.now in
+    let s = subject_of c.args.question.now.instance in
+    let kept = c.set_aside-aside.ensures.in_progress in
+    let l = ap (λ es. left ns (length c.args.engine.now.nodes.now) c.args.node.0 s (busy_at p es)) kept in
+    λ κs h. (lower_same _ _ t 2 0 l c.decreases, (h.0, (h.1.0, (h.1.1.0, (h.1.1.1, (record { known = c.requires.may.known; ranked = c.requires.may.ranked; above = subst (NoDeeper p) (sym kept) c.requires.may.above; wanted = c.requires.may.wanted }, (c.requires.form, (begun, (c.begun-answer.ensures.no_faults, c.set_aside-aside.ensures.none)))))))))
 
 pub run_keyword-returns-clause-says : goal.run_keyword-returns-clause-says
 run_keyword-returns-clause-says g t c =
@@ -326,25 +342,22 @@ run_keyword-returns-clause-says g t c =
     let busy = busy_at p c.args.context.now.in_progress in
     let n = node_of c.node.result.now in
     let name = string_bytes c.args.keyword.now.name.now in
+    let path = path_of c.args.question.now.path.now in
+    let finds = moved (λ es' as'. (x : Reading) → Reads g.K.Validate.is_whole ns (length c.args.engine.now.nodes.now) (settling (g.M.Matcher.matching c.args.engine.now.matcher.now) as') p s x → left ns (length c.args.engine.now.nodes.now) c.args.node.0 s (busy_at p es') ≤ x.depth
+    → IsRight (g.K.Validate.words x.texts) m s (matching x.matcher x.completion) (child_says g.K.Validate.words ns x path p (busy_at p es') es) (λ q. unit_with (child_says g.K.Validate.words ns x path p (busy_at p es') es q)) (same_edge es) (mode_of c.args.question.now.mode) (answer_of x.texts c.run_turns.new.answer))
+    c.set_aside-aside.ensures.in_progress (ap (λ (r : Remembered). r.assumptions) c.set_aside-aside.ensures.remembered) c.in_ok-run_turns.ensures.right in
     if_ok_both c.finished.result _ _ _ (λ r reply borrows x reads l.
     let answers = child_says g.K.Validate.words ns x (path_of c.args.question.now.path.now) p busy es in
-    let right = c.in_ok-run_turns.ensures.right x reads l in
-    let says = right_reply (g.K.Validate.words x.texts) m s x answers (entry_where n (path_of c.args.question.now.path.now) p) name (mode_of c.args.question.now.mode) (answer_of x.texts c.run_turns.new.answer) c.requires.may.wanted right in
+    let right = finds x reads l in
+    let says = right_reply (g.K.Validate.words x.texts) m s x answers (same_edge es) (entry_where n (path_of c.args.question.now.path.now) p) name (mode_of c.args.question.now.mode) (answer_of x.texts c.run_turns.new.answer) c.requires.may.wanted right in
     let whole = keyword_says g.K.Validate.shape c.args.engine.now.nodes.now g.K.Validate.words x (path_of c.args.question.now.path.now) p s c.args.node.0 n name m answers c.node.ensures.found reads.stands in
-    let lie = faults_lie x.texts x.root s (g.K.Validate.absorbed m) (g.K.Validate.words x.texts) m x answers (mode_of c.args.question.now.mode) c.run_turns.new.answer ((g.met.K.Validate.function_laws x.texts m).stands s (matching x.matcher x.completion) answers) right
+    let lie = faults_lie x.texts x.root s (g.K.Validate.absorbed m) (g.K.Validate.words x.texts) m x answers (same_edge es) (mode_of c.args.question.now.mode) c.run_turns.new.answer ((g.met.K.Validate.function_laws x.texts m).stands s (matching x.matcher x.completion) answers) right
     (c.in_ok-run_turns.ensures.passes x.root reads.stands) in
     record { same = reply x.texts ∙ says ∙ ap (reply_by (mode_of c.args.question.now.mode)) whole; borrows = borrows x.root reads.stands lie })
     c.finished.ensures.reply c.finished.ensures.borrows
 
 pub run_keyword-returns-clause-meets : goal.run_keyword-returns-clause-meets
-run_keyword-returns-clause-meets g t c = if_ok_always c.finished.result _ c.in_ok-run_turns.ensures.meets
-
-pub run_turns-unreachable-requires-in-Unmark : goal.run_turns-unreachable-requires-in-Unmark
-run_turns-unreachable-requires-in-Unmark g t c =
-    let s = subject_of c.args.question.now.instance in
-    let m = g.K.Validate.shape c.args.keyword.now.keyword.now in
-    let step = rw c.in-Unmark.is at (c.in_ok-child.ensures.steps false (tells_nothing (g.K.Validate.is_whole m) s)) in
-    subst IsUnmarked step (is_unmarked (g.K.Validate.words false) (g.K.Validate.shape c.args.keyword.now.keyword.now) (g.K.Validate.absorbed (g.K.Validate.shape c.args.keyword.now.keyword.now)) (g.K.Validate.remaining (g.K.Validate.shape c.args.keyword.now.keyword.now)) (g.K.Validate.can_be false (g.K.Validate.shape c.args.keyword.now.keyword.now)) (g.K.Validate.ends false (g.K.Validate.shape c.args.keyword.now.keyword.now)) (g.K.Validate.fits false (g.K.Validate.shape c.args.keyword.now.keyword.now)) (g.met.K.Validate.turn_laws false (g.K.Validate.shape c.args.keyword.now.keyword.now)) s (c.turns.run, answer_of false c.turns.answer) (reply_of false c.turns.reply) c.turns.invariant.unmarked)
+run_keyword-returns-clause-meets g t c = if_ok_always c.finished.result _ (rw (c.set_aside-aside.ensures.in_progress, c.set_aside-aside.ensures.remembered, ← c.put_back.ensures.remembered) at c.in_ok-run_turns.ensures.meets)
 
 pub run_edge-returns-then-branch-clause-meets : goal.run_edge-returns-then-branch-clause-meets
 run_edge-returns-then-branch-clause-meets g t c =
@@ -422,7 +435,7 @@ run_child-returns-in-None-one_below-clause-meets g t c =
     let busy = busy_at p c.args.context.now.in_progress in
     let e = edge_of c.in-Some.edge.now in
     let k = c.requires.children c.args.child e (sym c.in-Some.ensures.edge) in
-    let l = falls_here g.K.Validate.words g.K.Validate.is_whole ns (length c.args.engine.now.nodes.now) w c.requires.may.ready.ranked c.args.node.0 s busy e c.requires.may.known k in
+    let l = falls_here g.K.Validate.words g.K.Validate.is_whole ns (length c.args.engine.now.nodes.now) w c.requires.may.ranked c.args.node.0 s busy e c.requires.may.known k in
     if_ok_mono c.run_edge.result _ _ (λ r met. meets_here g.K.Validate.words g.K.Validate.is_whole ns (length c.args.engine.now.nodes.now) w (mode_of c.args.question.now.mode) (path_of c.args.question.now.path.now) p busy s c.args.node.0 _ (record { child = c.args.child; below = below_of c.args.below }) _ _ e (sym c.in-Some.ensures.edge) c.in-None-one_below.ensures.below l met) c.run_edge.ensures.meets
 
 pub run_child-returns-in-Some-one_below-clause-meets : goal.run_child-returns-in-Some-one_below-clause-meets
@@ -438,7 +451,7 @@ run_child-returns-in-Some-one_below-clause-meets g t c =
     let es = c.args.context.now.in_progress in
     let inner = subject_of c.in-Some-one_below.inner in
     let none : busy_at (steps_to c.below-lower.result) es ≡ [] = ap (λ q. busy_at q es) c.below-lower.ensures.below ∙ busy-below p step es c.requires.may.above in
-    let l = falls_below g.K.Validate.words g.K.Validate.is_whole ns (length c.args.engine.now.nodes.now) w c.requires.may.ready.ranked c.args.node.0 s inner step busy e c.requires.may.known k c.in-Some-one_below.ensures.below.1 in
+    let l = falls_below g.K.Validate.words g.K.Validate.is_whole ns (length c.args.engine.now.nodes.now) w c.requires.may.ranked c.args.node.0 s inner step busy e c.requires.may.known k c.in-Some-one_below.ensures.below.1 in
     if_ok_mono c.run_edge-in-Some-one_below.result _ _ (λ r says.
     let met = subst (λ busy'. EdgeMeets g.K.Validate.words g.K.Validate.is_whole ns (length c.args.engine.now.nodes.now) w (mode_of c.args.question.now.mode) (path_of c.args.question.now.path.now) (steps_to c.below-lower.result) busy' inner c.args.context.now.remembered c.run_edge-in-Some-one_below.new.context.remembered e) none says in
     meets_below g.K.Validate.words g.K.Validate.is_whole ns (length c.args.engine.now.nodes.now) w (mode_of c.args.question.now.mode) (path_of c.args.question.now.path.now) p busy s c.args.node.0 _ (record { child = c.args.child; below = below_of c.args.below }) _ _ e step (steps_to c.below-lower.result) inner (sym c.in-Some.ensures.edge) c.in-Some-one_below.ensures.below.0
@@ -456,7 +469,7 @@ run_form-returns-in_ok-reply-in-Reference-clause-meets g t c =
     let busy = busy_at p c.args.context.now.in_progress in
     let e = edge_of c.in-Reference.edge in
     let k = reference_edge ns c.args.node.0 e (rw c.in-Reference.is at c.requires.form) in
-    let l = falls_here g.K.Validate.words g.K.Validate.is_whole ns (length c.args.engine.now.nodes.now) w c.requires.may.ready.ranked c.args.node.0 s busy e c.requires.may.known k in
+    let l = falls_here g.K.Validate.words g.K.Validate.is_whole ns (length c.args.engine.now.nodes.now) w c.requires.may.ranked c.args.node.0 s busy e c.requires.may.known k in
     rw c.in-Reference.is (if_ok_always c.stamped_reply.result _ (meets_reference g.K.Validate.words g.K.Validate.is_whole ns (length c.args.engine.now.nodes.now) w (mode_of c.args.question.now.mode) (path_of c.args.question.now.path.now) p busy s c.args.node.0 (string_bytes c.args.entry.now.name) e _ _ l c.in_ok-reply-in-Reference.ensures.meets))
 
 pub run_node-returns-in-Never-clause-meets : goal.run_node-returns-in-Never-clause-meets
@@ -491,7 +504,7 @@ run_turns-turns-smaller-in-Ask g t c =
     let turn = c.in_ok-child.ensures.turns false (tells_nothing (g.K.Validate.is_whole m) s) in
     let step = rw c.in-Ask.is at (c.in_ok-child.ensures.steps false (tells_nothing (g.K.Validate.is_whole m) s)) in
     let q : Question = record { child = c.in-Ask.child; below = below_of c.in-Ask.below } in
-    falls_turned (g.K.Validate.words false) (g.K.Validate.shape c.args.keyword.now.keyword.now) (g.K.Validate.absorbed (g.K.Validate.shape c.args.keyword.now.keyword.now)) (g.K.Validate.remaining (g.K.Validate.shape c.args.keyword.now.keyword.now)) (g.K.Validate.can_be false (g.K.Validate.shape c.args.keyword.now.keyword.now)) (g.K.Validate.ends false (g.K.Validate.shape c.args.keyword.now.keyword.now)) (g.K.Validate.fits false (g.K.Validate.shape c.args.keyword.now.keyword.now)) (g.met.K.Validate.turn_laws false (g.K.Validate.shape c.args.keyword.now.keyword.now)) s (c.turns.run, answer_of false c.turns.answer) (c.turn.new.run, answer_of false c.turn.new.answer) told (ask q (mode_of c.in-Ask.wanted)) (let (n, l, h, can) = c.turns.invariant.unmarked in can) turn step (ask_goes_on q (mode_of c.in-Ask.wanted))
+    falls_turned (g.K.Validate.words false) (g.K.Validate.shape c.args.keyword.now.keyword.now) (g.K.Validate.absorbed (g.K.Validate.shape c.args.keyword.now.keyword.now)) (g.K.Validate.remaining (g.K.Validate.shape c.args.keyword.now.keyword.now)) (g.K.Validate.can_be false (g.K.Validate.shape c.args.keyword.now.keyword.now)) (g.K.Validate.ends false (g.K.Validate.shape c.args.keyword.now.keyword.now)) (g.K.Validate.fits false (g.K.Validate.shape c.args.keyword.now.keyword.now)) (g.met.K.Validate.turn_laws false (g.K.Validate.shape c.args.keyword.now.keyword.now)) s (c.turns.run, answer_of false c.turns.answer) (c.turn.new.run, answer_of false c.turn.new.answer) told (ask q (mode_of c.in-Ask.wanted)) (let (n, l, h, can) = c.turns.invariant.for_less in can) turn step (ask_goes_on q (mode_of c.in-Ask.wanted))
 
 pub run_turns-turns-preserved-in-Ask : goal.run_turns-turns-preserved-in-Ask
 run_turns-turns-preserved-in-Ask g t c =
@@ -507,20 +520,20 @@ run_turns-turns-preserved-in-Ask g t c =
     let turn = c.in_ok-child.ensures.turns false (tells_nothing (g.K.Validate.is_whole m) s) in
     let step = rw c.in-Ask.is at (c.in_ok-child.ensures.steps false (tells_nothing (g.K.Validate.is_whole m) s)) in
     let q : Question = record { child = c.in-Ask.child; below = below_of c.in-Ask.below } in
-    let less = asks_less (g.K.Validate.words false) (g.K.Validate.shape c.args.keyword.now.keyword.now) (g.K.Validate.absorbed (g.K.Validate.shape c.args.keyword.now.keyword.now)) (g.K.Validate.remaining (g.K.Validate.shape c.args.keyword.now.keyword.now)) (g.K.Validate.can_be false (g.K.Validate.shape c.args.keyword.now.keyword.now)) (g.K.Validate.ends false (g.K.Validate.shape c.args.keyword.now.keyword.now)) (g.K.Validate.fits false (g.K.Validate.shape c.args.keyword.now.keyword.now)) (g.met.K.Validate.turn_laws false (g.K.Validate.shape c.args.keyword.now.keyword.now)) s (c.turns.run, answer_of false c.turns.answer) told q (mode_of c.in-Ask.wanted) c.turns.invariant.unmarked step in
+    let less = asks_less (g.K.Validate.words false) (g.K.Validate.shape c.args.keyword.now.keyword.now) (g.K.Validate.absorbed (g.K.Validate.shape c.args.keyword.now.keyword.now)) (g.K.Validate.remaining (g.K.Validate.shape c.args.keyword.now.keyword.now)) (g.K.Validate.can_be false (g.K.Validate.shape c.args.keyword.now.keyword.now)) (g.K.Validate.ends false (g.K.Validate.shape c.args.keyword.now.keyword.now)) (g.K.Validate.fits false (g.K.Validate.shape c.args.keyword.now.keyword.now)) (g.met.K.Validate.turn_laws false (g.K.Validate.shape c.args.keyword.now.keyword.now)) s (c.turns.run, answer_of false c.turns.answer) told q (mode_of c.in-Ask.wanted) c.turns.invariant.for_less step in
     let says = moved (λ es' as'. ChildReplies g.K.Validate.words g.K.Validate.is_whole ns (length c.args.engine.now.nodes.now) (settling (g.M.Matcher.matching c.args.engine.now.matcher.now) as') (mode_of c.in-Ask.wanted) (path_of c.args.question.now.path.now) p (busy_at p es') s c.args.node.0 es q c.in_ok-reply-in-Ask.reply) c.turns.invariant.kept c.turns.invariant.assumes c.in_ok-reply-in-Ask.ensures.says in
     record {
       kept = c.in_ok-reply-in-Ask.ensures.keeps.in_progress ∙ c.turns.invariant.kept;
       assumes = c.in_ok-reply-in-Ask.ensures.keeps.assumptions ∙ c.turns.invariant.assumes;
-      unmarked = unmarked_after (g.K.Validate.words false) (g.K.Validate.shape c.args.keyword.now.keyword.now) (g.K.Validate.absorbed (g.K.Validate.shape c.args.keyword.now.keyword.now)) (g.K.Validate.remaining (g.K.Validate.shape c.args.keyword.now.keyword.now)) (g.K.Validate.can_be false (g.K.Validate.shape c.args.keyword.now.keyword.now)) (g.K.Validate.ends false (g.K.Validate.shape c.args.keyword.now.keyword.now)) (g.K.Validate.fits false (g.K.Validate.shape c.args.keyword.now.keyword.now)) (g.met.K.Validate.turn_laws false (g.K.Validate.shape c.args.keyword.now.keyword.now)) s (c.turns.run, answer_of false c.turns.answer) (c.turn.new.run, answer_of false c.turn.new.answer) told (reply_of false c.in_ok-reply-in-Ask.reply) (ask q (mode_of c.in-Ask.wanted)) c.turns.invariant.unmarked turn step (ask_goes_on q (mode_of c.in-Ask.wanted));
+      for_less = less_after (g.K.Validate.words false) (g.K.Validate.shape c.args.keyword.now.keyword.now) (g.K.Validate.absorbed (g.K.Validate.shape c.args.keyword.now.keyword.now)) (g.K.Validate.remaining (g.K.Validate.shape c.args.keyword.now.keyword.now)) (g.K.Validate.can_be false (g.K.Validate.shape c.args.keyword.now.keyword.now)) (g.K.Validate.ends false (g.K.Validate.shape c.args.keyword.now.keyword.now)) (g.K.Validate.fits false (g.K.Validate.shape c.args.keyword.now.keyword.now)) (g.met.K.Validate.turn_laws false (g.K.Validate.shape c.args.keyword.now.keyword.now)) s (c.turns.run, answer_of false c.turns.answer) (c.turn.new.run, answer_of false c.turn.new.answer) told (reply_of false c.in_ok-reply-in-Ask.reply) (ask q (mode_of c.in-Ask.wanted)) c.turns.invariant.for_less turn step (ask_goes_on q (mode_of c.in-Ask.wanted));
       borrows = λ root at_place.
           let i = c.turns.invariant.borrows root at_place in
           let d = left ns (length c.args.engine.now.nodes.now) c.args.node.0 s busy in
           ((says (silent (settling (g.M.Matcher.matching c.args.engine.now.matcher.now) c.args.context.now.remembered.assumptions) root d) (silent_reads g.K.Validate.is_whole ns (length c.args.engine.now.nodes.now) (settling (g.M.Matcher.matching c.args.engine.now.matcher.now) c.args.context.now.remembered.assumptions) p s root d at_place) (no_deeper d)).borrows, c.in_ok-child.ensures.borrows root i.0 i.1);
       leads = λ x reads l.
           let tells = tells_keyword g.K.Validate.is_whole ns (length c.args.engine.now.nodes.now) (settling (g.M.Matcher.matching c.args.engine.now.matcher.now) c.args.context.now.remembered.assumptions) p s x c.args.node.0 m es c.requires.may.known reads c.requires.form in
-          asked (g.K.Validate.words x.texts) (g.K.Validate.shape c.args.keyword.now.keyword.now) (g.K.Validate.absorbed (g.K.Validate.shape c.args.keyword.now.keyword.now)) (g.K.Validate.remaining (g.K.Validate.shape c.args.keyword.now.keyword.now)) (g.K.Validate.can_be x.texts (g.K.Validate.shape c.args.keyword.now.keyword.now)) (g.K.Validate.ends x.texts (g.K.Validate.shape c.args.keyword.now.keyword.now)) (g.K.Validate.fits x.texts (g.K.Validate.shape c.args.keyword.now.keyword.now)) (g.met.K.Validate.turn_laws x.texts (g.K.Validate.shape c.args.keyword.now.keyword.now)) s x (mode_of c.args.question.now.mode) (child_says g.K.Validate.words ns x (path_of c.args.question.now.path.now) p busy es) (c.turns.run, answer_of x.texts c.turns.answer) (c.turn.new.run, answer_of x.texts c.turn.new.answer)
-          (reply_of x.texts c.turns.reply) (reply_of x.texts c.in_ok-reply-in-Ask.reply) q (mode_of c.in-Ask.wanted) less (c.turns.invariant.leads x reads l) (c.in_ok-child.ensures.turns x.texts tells) (rw c.in-Ask.is at (c.in_ok-child.ensures.steps x.texts tells)) (says x reads l).same;
+          asked (g.K.Validate.words x.texts) (g.K.Validate.shape c.args.keyword.now.keyword.now) (g.K.Validate.absorbed (g.K.Validate.shape c.args.keyword.now.keyword.now)) (g.K.Validate.remaining (g.K.Validate.shape c.args.keyword.now.keyword.now)) (g.K.Validate.can_be x.texts (g.K.Validate.shape c.args.keyword.now.keyword.now)) (g.K.Validate.ends x.texts (g.K.Validate.shape c.args.keyword.now.keyword.now)) (g.K.Validate.fits x.texts (g.K.Validate.shape c.args.keyword.now.keyword.now)) (g.met.K.Validate.turn_laws x.texts (g.K.Validate.shape c.args.keyword.now.keyword.now)) s x (mode_of c.args.question.now.mode) (child_says g.K.Validate.words ns x (path_of c.args.question.now.path.now) p busy es) (same_edge es) c.turns.context.marking c.run_child.new.context.marking (c.turns.run, answer_of x.texts c.turns.answer) (c.turn.new.run, answer_of x.texts c.turn.new.answer)
+          (reply_of x.texts c.turns.reply) (reply_of x.texts c.in_ok-reply-in-Ask.reply) q (mode_of c.in-Ask.wanted) c.in_ok-reply-in-Ask.ensures.keeps.marking less (c.turns.invariant.leads x reads l) (c.in_ok-child.ensures.turns x.texts tells) (rw c.in-Ask.is at (c.in_ok-child.ensures.steps x.texts tells)) (says x reads l).same;
       met = λ texts root depth reads l.
           let tells = tells_keyword g.K.Validate.is_whole ns (length c.args.engine.now.nodes.now) w p s (reading w texts root depth) c.args.node.0 m es c.requires.may.known reads c.requires.form in
           let step' = rw c.in-Ask.is at (c.in_ok-child.ensures.steps texts tells) in
@@ -528,7 +541,7 @@ run_turns-turns-preserved-in-Ask g t c =
           let falls = falls_turned (g.K.Validate.words texts) m (g.K.Validate.absorbed m) (g.K.Validate.remaining m) (g.K.Validate.can_be texts m) (g.K.Validate.ends texts m) (g.K.Validate.fits texts m) (g.met.K.Validate.turn_laws texts m) s (c.turns.run, answer_of texts c.turns.answer) (c.turn.new.run, answer_of texts c.turn.new.answer) (reply_of texts c.turns.reply) (ask q (mode_of c.in-Ask.wanted)) (c.turns.invariant.leads (reading w texts root depth) reads l).can turn' step' (ask_goes_on q (mode_of c.in-Ask.wanted)) in
           let replied = (says (reading w texts root depth) reads l).same ∙ child_replies g.K.Validate.words ns w texts root depth (mode_of c.in-Ask.wanted) less (path_of c.args.question.now.path.now) p busy es q in
           let met = moved (λ es' as'. ChildMeets g.K.Validate.words g.K.Validate.is_whole ns (length c.args.engine.now.nodes.now) (settling (g.M.Matcher.matching c.args.engine.now.matcher.now) as') (mode_of c.in-Ask.wanted) (path_of c.args.question.now.path.now) p (busy_at p es') s c.turns.context.remembered c.run_child.new.context.remembered c.args.node.0 es q) c.turns.invariant.kept c.turns.invariant.assumes c.in_ok-reply-in-Ask.ensures.meets texts root depth reads l in
-          meets_asked (g.K.Validate.words texts) w.matcher w.assumptions (node_at (g.K.Validate.words texts) w.matcher ns (subject_in root) c.args.node.0 (path_of c.args.question.now.path.now) p) s (child_run g.K.Validate.words ns w texts root depth (path_of c.args.question.now.path.now) p busy es) (same_edge es) name m (g.K.Validate.remaining m s) _ _ _ _ _ _ _ _ q (mode_of c.in-Ask.wanted) turn' step' falls replied met (c.turns.invariant.met texts root depth reads l);
+          meets_asked (g.K.Validate.words texts) w.matcher w.assumptions (node_at (g.K.Validate.words texts) w.matcher ns (subject_in root) c.args.node.0 (path_of c.args.question.now.path.now) p) s (child_run g.K.Validate.words ns w texts root depth (path_of c.args.question.now.path.now) p busy es) (same_edge es) name m (g.K.Validate.remaining m s) _ _ _ _ _ _ _ _ _ _ q (mode_of c.in-Ask.wanted) c.in_ok-reply-in-Ask.ensures.keeps.marking turn' step' falls replied met (c.turns.invariant.met texts root depth reads l);
     }
 
 pub run_turns-turns-smaller-in-Match : goal.run_turns-turns-smaller-in-Match
@@ -546,10 +559,10 @@ run_turns-turns-smaller-in-Match g t c =
     let a : Pair = record { pattern = c.in-Match.pattern.now; subject = c.in-Match.subject.now } in
     let point = point_of c.in-Match.pattern.now c.in-Match.point in
     let step = rw c.in-Match.is at (c.in_ok-child.ensures.steps false (tells_nothing (g.K.Validate.is_whole m) s)) in
-    falls_turned (g.K.Validate.words false) m (g.K.Validate.absorbed m) (g.K.Validate.remaining m) (g.K.Validate.can_be false m) (g.K.Validate.ends false m) (g.K.Validate.fits false m) (g.met.K.Validate.turn_laws false m) s (c.turns.run, answer_of false c.turns.answer) (c.turn.new.run, answer_of false c.turn.new.answer) told (match_text a point) (let (n, l, h, can) = c.turns.invariant.unmarked in can) turn step (match_goes_on a point)
+    falls_turned (g.K.Validate.words false) m (g.K.Validate.absorbed m) (g.K.Validate.remaining m) (g.K.Validate.can_be false m) (g.K.Validate.ends false m) (g.K.Validate.fits false m) (g.met.K.Validate.turn_laws false m) s (c.turns.run, answer_of false c.turns.answer) (c.turn.new.run, answer_of false c.turn.new.answer) told (match_text a point) (let (n, l, h, can) = c.turns.invariant.for_less in can) turn step (match_goes_on a point)
 
-pub run_turns-turns-smaller : goal.run_turns-turns-smaller
-run_turns-turns-smaller g t c =
+pub run_turns-turns-smaller-in-Ecma : goal.run_turns-turns-smaller-in-Ecma
+run_turns-turns-smaller-in-Ecma g t c =
     let ns = numbered g.K.Validate.shape c.args.engine.now.nodes.now in
     let w = settling (g.M.Matcher.matching c.args.engine.now.matcher.now) c.args.context.now.remembered.assumptions in
     let p = steps_to c.args.question.now.place.now in
@@ -561,7 +574,7 @@ run_turns-turns-smaller g t c =
     let told = reply_of false c.turns.reply in
     let turn = c.in_ok-child.ensures.turns false (tells_nothing (g.K.Validate.is_whole m) s) in
     let step = rw c.in-Ecma.is at (c.in_ok-child.ensures.steps false (tells_nothing (g.K.Validate.is_whole m) s)) in
-    falls_turned (g.K.Validate.words false) m (g.K.Validate.absorbed m) (g.K.Validate.remaining m) (g.K.Validate.can_be false m) (g.K.Validate.ends false m) (g.K.Validate.fits false m) (g.met.K.Validate.turn_laws false m) s (c.turns.run, answer_of false c.turns.answer) (c.turn.new.run, answer_of false c.turn.new.answer) told (ecma c.in-Ecma.text.now) (let (n, l, h, can) = c.turns.invariant.unmarked in can) turn step (ecma_goes_on c.in-Ecma.text.now)
+    falls_turned (g.K.Validate.words false) m (g.K.Validate.absorbed m) (g.K.Validate.remaining m) (g.K.Validate.can_be false m) (g.K.Validate.ends false m) (g.K.Validate.fits false m) (g.met.K.Validate.turn_laws false m) s (c.turns.run, answer_of false c.turns.answer) (c.turn.new.run, answer_of false c.turn.new.answer) told (ecma c.in-Ecma.text.now) (let (n, l, h, can) = c.turns.invariant.for_less in can) turn step (ecma_goes_on c.in-Ecma.text.now)
 
 pub run_turns-asked_match-requires : goal.run_turns-asked_match-requires
 run_turns-asked_match-requires g t c =
@@ -578,7 +591,7 @@ run_turns-asked_match-requires g t c =
     let a : Pair = record { pattern = c.in-Match.pattern.now; subject = c.in-Match.subject.now } in
     let point = point_of c.in-Match.pattern.now c.in-Match.point in
     let step = rw c.in-Match.is at (c.in_ok-child.ensures.steps false (tells_nothing (g.K.Validate.is_whole m) s)) in
-    record { present = matches_present (g.K.Validate.words false) m (g.K.Validate.absorbed m) (g.K.Validate.remaining m) (g.K.Validate.can_be false m) (g.K.Validate.ends false m) (g.K.Validate.fits false m) (g.met.K.Validate.turn_laws false m) s (c.turns.run, answer_of false c.turns.answer) told a point c.turns.invariant.unmarked step }
+    record { present = matches_present (g.K.Validate.words false) m (g.K.Validate.absorbed m) (g.K.Validate.remaining m) (g.K.Validate.can_be false m) (g.K.Validate.ends false m) (g.K.Validate.fits false m) (g.met.K.Validate.turn_laws false m) s (c.turns.run, answer_of false c.turns.answer) told a point c.turns.invariant.for_less step }
 
 pub run_turns-turns-preserved-in-Match : goal.run_turns-turns-preserved-in-Match
 run_turns-turns-preserved-in-Match g t c =
@@ -601,15 +614,15 @@ run_turns-turns-preserved-in-Match g t c =
     record {
       kept = c.asked_match.ensures.in_progress ∙ c.turns.invariant.kept;
       assumes = ap (λ (r : Remembered). r.assumptions) c.in_ok-matches-in-Match.ensures.met ∙ after_assumes _ _ answer ∙ c.turns.invariant.assumes;
-      unmarked = unmarked_after (g.K.Validate.words false) m (g.K.Validate.absorbed m) (g.K.Validate.remaining m) (g.K.Validate.can_be false m) (g.K.Validate.ends false m) (g.K.Validate.fits false m) (g.met.K.Validate.turn_laws false m) s (c.turns.run, answer_of false c.turns.answer) (c.turn.new.run, answer_of false c.turn.new.answer) told (truth c.in_ok-matches-in-Match.matches) (match_text a point) c.turns.invariant.unmarked turn step (match_goes_on a point);
+      for_less = less_after (g.K.Validate.words false) m (g.K.Validate.absorbed m) (g.K.Validate.remaining m) (g.K.Validate.can_be false m) (g.K.Validate.ends false m) (g.K.Validate.fits false m) (g.met.K.Validate.turn_laws false m) s (c.turns.run, answer_of false c.turns.answer) (c.turn.new.run, answer_of false c.turn.new.answer) told (truth c.in_ok-matches-in-Match.matches) (match_text a point) c.turns.invariant.for_less turn step (match_goes_on a point);
       borrows = λ root at_place.
           let i = c.turns.invariant.borrows root at_place in
           (All-nil (BorrowsItsPlace root), c.in_ok-child.ensures.borrows root i.0 i.1);
       leads = λ x reads l.
           let tells = tells_keyword g.K.Validate.is_whole ns (length c.args.engine.now.nodes.now) w p s x c.args.node.0 m es c.requires.may.known reads c.requires.form in
           let is = ap truth (out ∙ ap (λ b. settled b answer) (sym (reads.completes a)) ∙ ap (λ (o : Matcher). settled (completed x.completion a) (o.is_match a.pattern a.subject)) (sym reads.matcher)) in
-          matched (g.K.Validate.words x.texts) m (g.K.Validate.absorbed m) (g.K.Validate.remaining m) (g.K.Validate.can_be x.texts m) (g.K.Validate.ends x.texts m) (g.K.Validate.fits x.texts m) (g.met.K.Validate.turn_laws x.texts m) s x (mode_of c.args.question.now.mode) (child_says g.K.Validate.words ns x (path_of c.args.question.now.path.now) p busy es) (c.turns.run, answer_of x.texts c.turns.answer) (c.turn.new.run, answer_of x.texts c.turn.new.answer)
-          (reply_of x.texts c.turns.reply) (truth c.in_ok-matches-in-Match.matches) a point (c.turns.invariant.leads x reads l) (c.in_ok-child.ensures.turns x.texts tells) (rw c.in-Match.is at (c.in_ok-child.ensures.steps x.texts tells)) is;
+          matched (g.K.Validate.words x.texts) m (g.K.Validate.absorbed m) (g.K.Validate.remaining m) (g.K.Validate.can_be x.texts m) (g.K.Validate.ends x.texts m) (g.K.Validate.fits x.texts m) (g.met.K.Validate.turn_laws x.texts m) s x (mode_of c.args.question.now.mode) (child_says g.K.Validate.words ns x (path_of c.args.question.now.path.now) p busy es) (same_edge es) c.turns.context.marking c.asked_match.new.context.marking (c.turns.run, answer_of x.texts c.turns.answer) (c.turn.new.run, answer_of x.texts c.turn.new.answer)
+          (reply_of x.texts c.turns.reply) (truth c.in_ok-matches-in-Match.matches) a point c.asked_match.ensures.marking (c.turns.invariant.leads x reads l) (c.in_ok-child.ensures.turns x.texts tells) (rw c.in-Match.is at (c.in_ok-child.ensures.steps x.texts tells)) is;
       met = λ texts root depth reads l.
           let tells = tells_keyword g.K.Validate.is_whole ns (length c.args.engine.now.nodes.now) w p s (reading w texts root depth) c.args.node.0 m es c.requires.may.known reads c.requires.form in
           let step' = rw c.in-Match.is at (c.in_ok-child.ensures.steps texts tells) in
@@ -618,11 +631,11 @@ run_turns-turns-preserved-in-Match g t c =
           let is = ap truth (out ∙ ap (λ b. settled b answer) (sym (reads.completes a))) in
           let there = where_is g.K.Validate.shape c.args.engine.now.nodes.now (g.K.Validate.words texts) w.matcher (subject_in root) c.args.node.0 n (path_of c.args.question.now.path.now) p c.node.ensures.found in
           let new = c.in_ok-matches-in-Match.ensures.met ∙ ap (λ (v : Where). after_match c.turns.context.remembered (record { pair = a; site = site_at v name point }) answer) (sym there) in
-          meets_matched (g.K.Validate.words texts) w.matcher w.assumptions (node_at (g.K.Validate.words texts) w.matcher ns (subject_in root) c.args.node.0 (path_of c.args.question.now.path.now) p) s (child_run g.K.Validate.words ns w texts root depth (path_of c.args.question.now.path.now) p busy es) (same_edge es) name m (g.K.Validate.remaining m s) _ _ _ _ _ _ _ _ a point turn' step' falls is new (c.turns.invariant.met texts root depth reads l);
+          meets_matched (g.K.Validate.words texts) w.matcher w.assumptions (node_at (g.K.Validate.words texts) w.matcher ns (subject_in root) c.args.node.0 (path_of c.args.question.now.path.now) p) s (child_run g.K.Validate.words ns w texts root depth (path_of c.args.question.now.path.now) p busy es) (same_edge es) name m (g.K.Validate.remaining m s) _ _ _ _ _ _ _ _ _ _ a point c.asked_match.ensures.marking turn' step' falls is new (c.turns.invariant.met texts root depth reads l);
     }
 
-pub run_turns-turns-preserved : goal.run_turns-turns-preserved
-run_turns-turns-preserved g t c =
+pub run_turns-turns-preserved-in-Ecma : goal.run_turns-turns-preserved-in-Ecma
+run_turns-turns-preserved-in-Ecma g t c =
     let ns = numbered g.K.Validate.shape c.args.engine.now.nodes.now in
     let w = settling (g.M.Matcher.matching c.args.engine.now.matcher.now) c.args.context.now.remembered.assumptions in
     let p = steps_to c.args.question.now.place.now in
@@ -638,21 +651,21 @@ run_turns-turns-preserved g t c =
     record {
       kept = c.turns.invariant.kept;
       assumes = c.turns.invariant.assumes;
-      unmarked = unmarked_after (g.K.Validate.words false) m (g.K.Validate.absorbed m) (g.K.Validate.remaining m) (g.K.Validate.can_be false m) (g.K.Validate.ends false m) (g.K.Validate.fits false m) (g.met.K.Validate.turn_laws false m) s (c.turns.run, answer_of false c.turns.answer) (c.turn.new.run, answer_of false c.turn.new.answer) told (truth c.in_ok-valid-in-Ecma.valid) (ecma text) c.turns.invariant.unmarked turn step (ecma_goes_on text);
+      for_less = less_after (g.K.Validate.words false) m (g.K.Validate.absorbed m) (g.K.Validate.remaining m) (g.K.Validate.can_be false m) (g.K.Validate.ends false m) (g.K.Validate.fits false m) (g.met.K.Validate.turn_laws false m) s (c.turns.run, answer_of false c.turns.answer) (c.turn.new.run, answer_of false c.turn.new.answer) told (truth c.in_ok-valid-in-Ecma.valid) (ecma text) c.turns.invariant.for_less turn step (ecma_goes_on text);
       borrows = λ root at_place.
           let i = c.turns.invariant.borrows root at_place in
           (All-nil (BorrowsItsPlace root), c.in_ok-child.ensures.borrows root i.0 i.1);
       leads = λ x reads l.
           let tells = tells_keyword g.K.Validate.is_whole ns (length c.args.engine.now.nodes.now) w p s x c.args.node.0 m es c.requires.may.known reads c.requires.form in
           let is = ap truth (c.in_ok-valid-in-Ecma.ensures.valid ∙ ap (λ (o : Matcher). o.is_ecma text) (sym reads.matcher)) in
-          told_pattern (g.K.Validate.words x.texts) m (g.K.Validate.absorbed m) (g.K.Validate.remaining m) (g.K.Validate.can_be x.texts m) (g.K.Validate.ends x.texts m) (g.K.Validate.fits x.texts m) (g.met.K.Validate.turn_laws x.texts m) s x (mode_of c.args.question.now.mode) (child_says g.K.Validate.words ns x (path_of c.args.question.now.path.now) p busy es) (c.turns.run, answer_of x.texts c.turns.answer) (c.turn.new.run, answer_of x.texts c.turn.new.answer)
-          (reply_of x.texts c.turns.reply) (truth c.in_ok-valid-in-Ecma.valid) text (c.turns.invariant.leads x reads l) (c.in_ok-child.ensures.turns x.texts tells) (rw c.in-Ecma.is at (c.in_ok-child.ensures.steps x.texts tells)) is;
+          told_pattern (g.K.Validate.words x.texts) m (g.K.Validate.absorbed m) (g.K.Validate.remaining m) (g.K.Validate.can_be x.texts m) (g.K.Validate.ends x.texts m) (g.K.Validate.fits x.texts m) (g.met.K.Validate.turn_laws x.texts m) s x (mode_of c.args.question.now.mode) (child_says g.K.Validate.words ns x (path_of c.args.question.now.path.now) p busy es) (same_edge es) c.turns.context.marking c.turns.context.marking (c.turns.run, answer_of x.texts c.turns.answer) (c.turn.new.run, answer_of x.texts c.turn.new.answer)
+          (reply_of x.texts c.turns.reply) (truth c.in_ok-valid-in-Ecma.valid) text refl (c.turns.invariant.leads x reads l) (c.in_ok-child.ensures.turns x.texts tells) (rw c.in-Ecma.is at (c.in_ok-child.ensures.steps x.texts tells)) is;
       met = λ texts root depth reads l.
           let tells = tells_keyword g.K.Validate.is_whole ns (length c.args.engine.now.nodes.now) w p s (reading w texts root depth) c.args.node.0 m es c.requires.may.known reads c.requires.form in
           let step' = rw c.in-Ecma.is at (c.in_ok-child.ensures.steps texts tells) in
           let turn' = c.in_ok-child.ensures.turns texts tells in
           let falls = falls_turned (g.K.Validate.words texts) m (g.K.Validate.absorbed m) (g.K.Validate.remaining m) (g.K.Validate.can_be texts m) (g.K.Validate.ends texts m) (g.K.Validate.fits texts m) (g.met.K.Validate.turn_laws texts m) s (c.turns.run, answer_of texts c.turns.answer) (c.turn.new.run, answer_of texts c.turn.new.answer) (reply_of texts c.turns.reply) (ecma text) (c.turns.invariant.leads (reading w texts root depth) reads l).can turn' step' (ecma_goes_on text) in
-          meets_nothing (g.K.Validate.words texts) w.matcher w.assumptions (node_at (g.K.Validate.words texts) w.matcher ns (subject_in root) c.args.node.0 (path_of c.args.question.now.path.now) p) s (child_run g.K.Validate.words ns w texts root depth (path_of c.args.question.now.path.now) p busy es) (same_edge es) name m (g.K.Validate.remaining m s) _ _ _ _ _ _ _ _ text turn' step' falls (ap truth c.in_ok-valid-in-Ecma.ensures.valid) refl (c.turns.invariant.met texts root depth reads l);
+          meets_nothing (g.K.Validate.words texts) w.matcher w.assumptions (node_at (g.K.Validate.words texts) w.matcher ns (subject_in root) c.args.node.0 (path_of c.args.question.now.path.now) p) s (child_run g.K.Validate.words ns w texts root depth (path_of c.args.question.now.path.now) p busy es) (same_edge es) name m (g.K.Validate.remaining m s) _ _ _ _ _ _ _ _ _ _ text refl turn' step' falls (ap truth c.in_ok-valid-in-Ecma.ensures.valid) refl (c.turns.invariant.met texts root depth reads l);
     }
 
 pub run_turns-returns-in-Done-clause-meets : goal.run_turns-returns-in-Done-clause-meets
@@ -668,15 +681,90 @@ run_turns-returns-in-Done-clause-meets g t c = λ texts root depth reads l.
     let told = reply_of false c.turns.reply in
     let turn = c.in_ok-child.ensures.turns false (tells_nothing (g.K.Validate.is_whole m) s) in
     let tells = tells_keyword g.K.Validate.is_whole ns (length c.args.engine.now.nodes.now) w p s (reading w texts root depth) c.args.node.0 m es c.requires.may.known reads c.requires.form in
-    let all = meets_all (g.K.Validate.words texts) w.matcher w.assumptions (node_at (g.K.Validate.words texts) w.matcher ns (subject_in root) c.args.node.0 (path_of c.args.question.now.path.now) p) s (child_run g.K.Validate.words ns w texts root depth (path_of c.args.question.now.path.now) p busy es) (same_edge es) name m (g.K.Validate.remaining m s) _ _ c.turns.context.remembered (c.turns.run, answer_of texts c.turns.answer) (reply_of texts c.turns.reply) (rw c.in-Done.is at (c.in_ok-child.ensures.steps texts tells)) (c.turns.invariant.met texts root depth reads l) in
+    let all = meets_all (g.K.Validate.words texts) w.matcher w.assumptions (node_at (g.K.Validate.words texts) w.matcher ns (subject_in root) c.args.node.0 (path_of c.args.question.now.path.now) p) s (child_run g.K.Validate.words ns w texts root depth (path_of c.args.question.now.path.now) p busy es) (same_edge es) name m (g.K.Validate.remaining m s) _ _ c.turns.context.remembered c.turns.context.marking (c.turns.run, answer_of texts c.turns.answer) (reply_of texts c.turns.reply) (rw c.in-Done.is at (c.in_ok-child.ensures.steps texts tells)) (c.turns.invariant.met texts root depth reads l) in
     meets_same w.matcher _ _ _ _ (ap (λ v. keyword_met (g.K.Validate.words texts) w.matcher w.assumptions (node_at (g.K.Validate.words texts) w.matcher ns (subject_in root) c.args.node.0 (path_of c.args.question.now.path.now) p) v (child_run g.K.Validate.words ns w texts root depth (path_of c.args.question.now.path.now) p busy es) (same_edge es) name m (mode_of c.args.question.now.mode)) (sym (stands_in root p s reads.stands))) all
 
-pub run_turns-unreachable-requires : goal.run_turns-unreachable-requires
-run_turns-unreachable-requires g t c =
+pub run_turns-turns-smaller-in-Mark : goal.run_turns-turns-smaller-in-Mark
+run_turns-turns-smaller-in-Mark g t c =
     let s = subject_of c.args.question.now.instance in
     let m = g.K.Validate.shape c.args.keyword.now.keyword.now in
+    let told = reply_of false c.turns.reply in
+    let turn = c.in_ok-child.ensures.turns false (tells_nothing (g.K.Validate.is_whole m) s) in
     let step = rw c.in-Mark.is at (c.in_ok-child.ensures.steps false (tells_nothing (g.K.Validate.is_whole m) s)) in
-    subst IsUnmarked step (is_unmarked (g.K.Validate.words false) (g.K.Validate.shape c.args.keyword.now.keyword.now) (g.K.Validate.absorbed (g.K.Validate.shape c.args.keyword.now.keyword.now)) (g.K.Validate.remaining (g.K.Validate.shape c.args.keyword.now.keyword.now)) (g.K.Validate.can_be false (g.K.Validate.shape c.args.keyword.now.keyword.now)) (g.K.Validate.ends false (g.K.Validate.shape c.args.keyword.now.keyword.now)) (g.K.Validate.fits false (g.K.Validate.shape c.args.keyword.now.keyword.now)) (g.met.K.Validate.turn_laws false (g.K.Validate.shape c.args.keyword.now.keyword.now)) s (c.turns.run, answer_of false c.turns.answer) (reply_of false c.turns.reply) c.turns.invariant.unmarked)
+    falls_turned (g.K.Validate.words false) m (g.K.Validate.absorbed m) (g.K.Validate.remaining m) (g.K.Validate.can_be false m) (g.K.Validate.ends false m) (g.K.Validate.fits false m) (g.met.K.Validate.turn_laws false m) s (c.turns.run, answer_of false c.turns.answer) (c.turn.new.run, answer_of false c.turn.new.answer) told (mark (marked_of c.in-Mark.marked)) (can_be_in (g.K.Validate.words false) m (g.K.Validate.absorbed m) (g.K.Validate.remaining m) (g.K.Validate.can_be false m) (g.K.Validate.ends false m) (g.K.Validate.fits false m) (g.met.K.Validate.turn_laws false m) s (c.turns.run, answer_of false c.turns.answer) told c.turns.invariant.for_less) turn step (mark_goes_on (marked_of c.in-Mark.marked))
+
+pub run_turns-turns-preserved-in-Mark : goal.run_turns-turns-preserved-in-Mark
+run_turns-turns-preserved-in-Mark g t c =
+    let ns = numbered g.K.Validate.shape c.args.engine.now.nodes.now in
+    let w = settling (g.M.Matcher.matching c.args.engine.now.matcher.now) c.args.context.now.remembered.assumptions in
+    let p = steps_to c.args.question.now.place.now in
+    let s = subject_of c.args.question.now.instance in
+    let m = g.K.Validate.shape c.args.keyword.now.keyword.now in
+    let es = map (option_map edge_of) c.args.keyword.now.children.now in
+    let busy = busy_at p c.args.context.now.in_progress in
+    let name = string_bytes c.args.keyword.now.name.now in
+    let told = reply_of false c.turns.reply in
+    let turn = c.in_ok-child.ensures.turns false (tells_nothing (g.K.Validate.is_whole m) s) in
+    let step = rw c.in-Mark.is at (c.in_ok-child.ensures.steps false (tells_nothing (g.K.Validate.is_whole m) s)) in
+    record {
+      kept = c.enter_marking.ensures.in_progress ∙ c.turns.invariant.kept;
+      assumes = ap (λ (r : Remembered). r.assumptions) c.enter_marking.ensures.remembered ∙ c.turns.invariant.assumes;
+      for_less = less_after (g.K.Validate.words false) m (g.K.Validate.absorbed m) (g.K.Validate.remaining m) (g.K.Validate.can_be false m) (g.K.Validate.ends false m) (g.K.Validate.fits false m) (g.met.K.Validate.turn_laws false m) s (c.turns.run, answer_of false c.turns.answer) (c.turn.new.run, answer_of false c.turn.new.answer) told (truth c.in_ok-held-in-Mark.held) (mark (marked_of c.in-Mark.marked)) c.turns.invariant.for_less turn step (mark_goes_on (marked_of c.in-Mark.marked));
+      borrows = λ root at_place.
+          let i = c.turns.invariant.borrows root at_place in
+          (All-nil (BorrowsItsPlace root), c.in_ok-child.ensures.borrows root i.0 i.1);
+      leads = λ x reads l.
+          let tells = tells_keyword g.K.Validate.is_whole ns (length c.args.engine.now.nodes.now) w p s x c.args.node.0 m es c.requires.may.known reads c.requires.form in
+          marked (g.K.Validate.words x.texts) m (g.K.Validate.absorbed m) (g.K.Validate.remaining m) (g.K.Validate.can_be x.texts m) (g.K.Validate.ends x.texts m) (g.K.Validate.fits x.texts m) (g.met.K.Validate.turn_laws x.texts m) s x (mode_of c.args.question.now.mode) (child_says g.K.Validate.words ns x (path_of c.args.question.now.path.now) p busy es) (same_edge es) c.turns.context.marking c.enter_marking.new.self.marking (c.turns.run, answer_of x.texts c.turns.answer) (c.turn.new.run, answer_of x.texts c.turn.new.answer)
+          (reply_of x.texts c.turns.reply) (truth c.in_ok-held-in-Mark.held) (marked_of c.in-Mark.marked) c.in_ok-held-in-Mark.ensures.marks (c.turns.invariant.leads x reads l) (c.in_ok-child.ensures.turns x.texts tells) (rw c.in-Mark.is at (c.in_ok-child.ensures.steps x.texts tells)) (ap truth c.in_ok-held-in-Mark.ensures.held);
+      met = λ texts root depth reads l.
+          let tells = tells_keyword g.K.Validate.is_whole ns (length c.args.engine.now.nodes.now) w p s (reading w texts root depth) c.args.node.0 m es c.requires.may.known reads c.requires.form in
+          let step' = rw c.in-Mark.is at (c.in_ok-child.ensures.steps texts tells) in
+          let turn' = c.in_ok-child.ensures.turns texts tells in
+          let falls = falls_turned (g.K.Validate.words texts) m (g.K.Validate.absorbed m) (g.K.Validate.remaining m) (g.K.Validate.can_be texts m) (g.K.Validate.ends texts m) (g.K.Validate.fits texts m) (g.met.K.Validate.turn_laws texts m) s (c.turns.run, answer_of texts c.turns.answer) (c.turn.new.run, answer_of texts c.turn.new.answer) (reply_of texts c.turns.reply) (mark (marked_of c.in-Mark.marked)) (c.turns.invariant.leads (reading w texts root depth) reads l).can turn' step' (mark_goes_on (marked_of c.in-Mark.marked)) in
+          meets_marked (g.K.Validate.words texts) w.matcher w.assumptions (node_at (g.K.Validate.words texts) w.matcher ns (subject_in root) c.args.node.0 (path_of c.args.question.now.path.now) p) s (child_run g.K.Validate.words ns w texts root depth (path_of c.args.question.now.path.now) p busy es) (same_edge es) name m (g.K.Validate.remaining m s) _ _ _ _ _ _ _ _ _ _ (marked_of c.in-Mark.marked) c.in_ok-held-in-Mark.ensures.marks turn' step' falls (ap truth c.in_ok-held-in-Mark.ensures.held) c.enter_marking.ensures.remembered (c.turns.invariant.met texts root depth reads l);
+    }
+
+pub run_turns-turns-smaller : goal.run_turns-turns-smaller
+run_turns-turns-smaller g t c =
+    let s = subject_of c.args.question.now.instance in
+    let m = g.K.Validate.shape c.args.keyword.now.keyword.now in
+    let told = reply_of false c.turns.reply in
+    let turn = c.in_ok-child.ensures.turns false (tells_nothing (g.K.Validate.is_whole m) s) in
+    let step = rw c.in-Unmark.is at (c.in_ok-child.ensures.steps false (tells_nothing (g.K.Validate.is_whole m) s)) in
+    falls_turned (g.K.Validate.words false) m (g.K.Validate.absorbed m) (g.K.Validate.remaining m) (g.K.Validate.can_be false m) (g.K.Validate.ends false m) (g.K.Validate.fits false m) (g.met.K.Validate.turn_laws false m) s (c.turns.run, answer_of false c.turns.answer) (c.turn.new.run, answer_of false c.turn.new.answer) told unmark (can_be_in (g.K.Validate.words false) m (g.K.Validate.absorbed m) (g.K.Validate.remaining m) (g.K.Validate.can_be false m) (g.K.Validate.ends false m) (g.K.Validate.fits false m) (g.met.K.Validate.turn_laws false m) s (c.turns.run, answer_of false c.turns.answer) told c.turns.invariant.for_less) turn step unmark_goes_on
+
+pub run_turns-turns-preserved : goal.run_turns-turns-preserved
+run_turns-turns-preserved g t c =
+    let ns = numbered g.K.Validate.shape c.args.engine.now.nodes.now in
+    let w = settling (g.M.Matcher.matching c.args.engine.now.matcher.now) c.args.context.now.remembered.assumptions in
+    let p = steps_to c.args.question.now.place.now in
+    let s = subject_of c.args.question.now.instance in
+    let m = g.K.Validate.shape c.args.keyword.now.keyword.now in
+    let es = map (option_map edge_of) c.args.keyword.now.children.now in
+    let busy = busy_at p c.args.context.now.in_progress in
+    let name = string_bytes c.args.keyword.now.name.now in
+    let told = reply_of false c.turns.reply in
+    let turn = c.in_ok-child.ensures.turns false (tells_nothing (g.K.Validate.is_whole m) s) in
+    let step = rw c.in-Unmark.is at (c.in_ok-child.ensures.steps false (tells_nothing (g.K.Validate.is_whole m) s)) in
+    record {
+      kept = c.exit_marking.ensures.in_progress ∙ c.turns.invariant.kept;
+      assumes = ap (λ (r : Remembered). r.assumptions) c.exit_marking.ensures.remembered ∙ c.turns.invariant.assumes;
+      for_less = less_after (g.K.Validate.words false) m (g.K.Validate.absorbed m) (g.K.Validate.remaining m) (g.K.Validate.can_be false m) (g.K.Validate.ends false m) (g.K.Validate.fits false m) (g.met.K.Validate.turn_laws false m) s (c.turns.run, answer_of false c.turns.answer) (c.turn.new.run, answer_of false c.turn.new.answer) told no_reply unmark c.turns.invariant.for_less turn step unmark_goes_on;
+      borrows = λ root at_place.
+          let i = c.turns.invariant.borrows root at_place in
+          (All-nil (BorrowsItsPlace root), c.in_ok-child.ensures.borrows root i.0 i.1);
+      leads = λ x reads l.
+          let tells = tells_keyword g.K.Validate.is_whole ns (length c.args.engine.now.nodes.now) w p s x c.args.node.0 m es c.requires.may.known reads c.requires.form in
+          mark_taken (g.K.Validate.words x.texts) m (g.K.Validate.absorbed m) (g.K.Validate.remaining m) (g.K.Validate.can_be x.texts m) (g.K.Validate.ends x.texts m) (g.K.Validate.fits x.texts m) (g.met.K.Validate.turn_laws x.texts m) s x (mode_of c.args.question.now.mode) (child_says g.K.Validate.words ns x (path_of c.args.question.now.path.now) p busy es) (same_edge es) c.turns.context.marking c.exit_marking.new.self.marking (c.turns.run, answer_of x.texts c.turns.answer) (c.turn.new.run, answer_of x.texts c.turn.new.answer)
+          (reply_of x.texts c.turns.reply) no_reply c.exit_marking.ensures.left (c.turns.invariant.leads x reads l) (c.in_ok-child.ensures.turns x.texts tells) (rw c.in-Unmark.is at (c.in_ok-child.ensures.steps x.texts tells)) refl;
+      met = λ texts root depth reads l.
+          let tells = tells_keyword g.K.Validate.is_whole ns (length c.args.engine.now.nodes.now) w p s (reading w texts root depth) c.args.node.0 m es c.requires.may.known reads c.requires.form in
+          let step' = rw c.in-Unmark.is at (c.in_ok-child.ensures.steps texts tells) in
+          let turn' = c.in_ok-child.ensures.turns texts tells in
+          let falls = falls_turned (g.K.Validate.words texts) m (g.K.Validate.absorbed m) (g.K.Validate.remaining m) (g.K.Validate.can_be texts m) (g.K.Validate.ends texts m) (g.K.Validate.fits texts m) (g.met.K.Validate.turn_laws texts m) s (c.turns.run, answer_of texts c.turns.answer) (c.turn.new.run, answer_of texts c.turn.new.answer) (reply_of texts c.turns.reply) unmark (c.turns.invariant.leads (reading w texts root depth) reads l).can turn' step' unmark_goes_on in
+          meets_mark_taken (g.K.Validate.words texts) w.matcher w.assumptions (node_at (g.K.Validate.words texts) w.matcher ns (subject_in root) c.args.node.0 (path_of c.args.question.now.path.now) p) s (child_run g.K.Validate.words ns w texts root depth (path_of c.args.question.now.path.now) p busy es) (same_edge es) name m (g.K.Validate.remaining m s) _ _ _ _ _ _ _ _ _ _ c.exit_marking.ensures.left turn' step' falls refl c.exit_marking.ensures.remembered (c.turns.invariant.met texts root depth reads l);
+    }
 
 pub run_entry-returns-clause-meets : goal.run_entry-returns-clause-meets
 run_entry-returns-clause-meets g t c = if_ok_mono c.run_form-2.result _ _ (λ r met texts root depth reads l.

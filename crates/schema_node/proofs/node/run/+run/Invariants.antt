@@ -20,7 +20,7 @@ use Rattle.schema_node.specs.NodeMeets.{child_run, parts_looked, reading}
 use Rattle.schema_node.specs.NodeRuns.{Reading, Reads, Replies, child_says, edge_needs, parts_say, refuses}
 use Rattle.schema_node.proofs.KeywordMeets.{MeetsSoFar}
 use Rattle.schema_node.specs.Progress.{busy_at}
-use Rattle.schema_node.specs.Turning.{OnItsWay, StaysUnmarked}
+use Rattle.schema_node.specs.Turning.{OnItsWay, StaysWithoutUnits}
 use Rattle.schema_node.proofs.node.run.+run.Given as goal
 
 abbrev pub decreases-run_child : goal.decreases-run_child
@@ -56,6 +56,7 @@ invariant-run_entries-loop-entry g l =
     record {
       kept : l.context.in_progress ≡ l.initial.context.in_progress;
       assumes : l.context.remembered.assumptions ≡ l.initial.context.remembered.assumptions;
+      marking : l.context.marking ≡ l.initial.context.marking;
       so_far : (x : Reading) → Reads g.K.Validate.is_whole ns (length l.engine.nodes.now) w (steps_to l.question.place.now) s x → left ns (length l.engine.nodes.now) l.node.0 s busy ≤ x.depth
           → (o : Outcome) × Replies x (mode_of l.question.mode) l.found o
           × (both o (parts_say g.K.Validate.words ns x l.node.0 (path_of l.question.path.now) (steps_to l.question.place.now) busy (map (shaped_part g.K.Validate.shape) (map entry_of (drop l.entry-index l.entries))))
@@ -78,15 +79,15 @@ invariant-run_turns-turns g l =
     record {
       kept : l.context.in_progress ≡ l.initial.context.in_progress;
       assumes : l.context.remembered.assumptions ≡ l.initial.context.remembered.assumptions;
-      unmarked : StaysUnmarked (g.K.Validate.words false) m s (g.K.Validate.remaining m s) (g.K.Validate.can_be false m s) (l.run, answer_of false l.answer) (reply_of false l.reply);
+      for_less : StaysWithoutUnits (g.K.Validate.words false) m s (g.K.Validate.remaining m s) (g.K.Validate.can_be false m s) (l.run, answer_of false l.answer) (reply_of false l.reply);
       borrows : (root : Data) → subject_at root (steps_to l.question.place.now) ≡ Some (subject_of l.question.instance) → All (BorrowsItsPlace root) (errors_in l.reply) × All (PassesBorrowed root) (faults_in l.answer);
       leads : (x : Reading) → Reads g.K.Validate.is_whole ns (length l.engine.nodes.now) w (steps_to l.question.place.now) s x → left ns (length l.engine.nodes.now) l.node.0 s busy ≤ x.depth
           → OnItsWay (g.K.Validate.words x.texts) m (g.K.Validate.can_be x.texts m) (g.K.Validate.ends x.texts m) (g.K.Validate.fits x.texts m) s x (mode_of l.fn.question.mode)
-          (child_says g.K.Validate.words ns x (path_of l.question.path.now) (steps_to l.question.place.now) busy (map (option_map edge_of) l.keyword.children.now)) (l.run, answer_of x.texts l.answer) (reply_of x.texts l.reply);
+          (child_says g.K.Validate.words ns x (path_of l.question.path.now) (steps_to l.question.place.now) busy es) (same_edge es) l.context.marking (l.run, answer_of x.texts l.answer) (reply_of x.texts l.reply);
       met : (texts : Bool) (root : Data) (depth : ℕ) → Reads g.K.Validate.is_whole ns (length l.engine.nodes.now) w (steps_to l.question.place.now) s (reading w texts root depth) → left ns (length l.engine.nodes.now) l.node.0 s busy ≤ depth
           → MeetsSoFar (g.K.Validate.words texts) w.matcher w.assumptions (node_at (g.K.Validate.words texts) w.matcher ns (subject_in root) l.node.0 (path_of l.question.path.now) (steps_to l.question.place.now)) s (child_run g.K.Validate.words ns w texts root depth (path_of l.question.path.now) (steps_to l.question.place.now) busy es) (same_edge es) (string_bytes l.keyword.name.now) m (g.K.Validate.remaining m s) l.initial.context.remembered
           (keyword_met (g.K.Validate.words texts) w.matcher w.assumptions (node_at (g.K.Validate.words texts) w.matcher ns (subject_in root) l.node.0 (path_of l.question.path.now) (steps_to l.question.place.now)) s (child_run g.K.Validate.words ns w texts root depth (path_of l.question.path.now) (steps_to l.question.place.now) busy es) (same_edge es) (string_bytes l.keyword.name.now) m (mode_of l.fn.question.mode))
-          l.context.remembered (l.run, answer_of texts l.answer) (reply_of texts l.reply);
+          l.context.remembered l.context.marking (l.run, answer_of texts l.answer) (reply_of texts l.reply);
     }
 
 abbrev pub decreases-run_turns-turns : goal.decreases-run_turns-turns
