@@ -1,4 +1,3 @@
 pub mod PropertyCounts
 pub mod MissingNames
-pub mod Unmarked
 pub mod NamesAsked

@@ -4,3 +4,4 @@ pub mod BenchShape
 pub mod Words
 pub mod Laws
 pub mod Shapes
+pub mod UnitsAsked

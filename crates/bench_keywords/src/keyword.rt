@@ -194,6 +194,7 @@ fn turn_at<'s, 'i: 's>(
 }
 
 impl Validate for BenchKeyword {
+    ghost use Rattle.bench_keywords.specs.UnitsAsked.{bench_asks_no_units};
     ghost use Rattle.std.specs.Prelude.{refl};
     ghost use Rattle.bench_keywords.specs.BenchShape.{is_whole};
     ghost use Rattle.bench_keywords.specs.Words.{any_run, ends_in, fits_in, turns_left, words};
@@ -260,4 +261,6 @@ impl Validate for BenchKeyword {
     ghost turn_laws = { turns_keep };
 
     ghost function_laws = { functions_keep };
+
+    ghost asks_no_units = { bench_asks_no_units };
 }

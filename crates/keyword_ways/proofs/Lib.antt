@@ -3,4 +3,3 @@ pub mod EachQuestion
 pub mod BorrowedFaults
 pub mod MemberNames
 pub mod MemberCounts
-pub mod WayMarks

@@ -13,4 +13,5 @@ pub mod WayLaws
 pub mod Places
 pub mod FaultLists
 pub mod OwnWays
+pub mod WayUnits
 pub mod Plans

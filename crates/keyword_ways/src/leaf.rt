@@ -104,6 +104,7 @@ pub struct Leaf<L: LeafKeyword> {
 }
 
 impl<L: LeafKeyword> Validate for Leaf<L> {
+    ghost use Rattle.keyword_ways.specs.WayUnits.{own_ask_no_units};
     ghost use Rattle.std.specs.Prelude.{refl};
     ghost use Rattle.keyword_ways.specs.OwnWays.{leaf_present, leaf_ways, own_absorbed, own_ends, own_fits, own_function_laws};
     ghost use Rattle.keyword_ways.specs.OwnWays.{own_can_be, own_remaining, own_turn_laws, own_words};
@@ -156,4 +157,6 @@ impl<L: LeafKeyword> Validate for Leaf<L> {
 
     ghost function_laws = { own_function_laws (leaf_ways L.called L.accepts L.error_text)
         (leaf_present L.called L.accepts L.error_text) };
+
+    ghost asks_no_units = { own_ask_no_units (leaf_ways L.called L.accepts L.error_text) };
 }

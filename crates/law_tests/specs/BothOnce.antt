@@ -9,8 +9,10 @@ use Rattle.schema_reports.specs.Reports.{Unit_, report_of}
 use Rattle.schema_reports.specs.Keywords.{Answer, Answers, Keywords, Marked, Mode, Question, Reply, Turn, a_child, all_of_it, ask, done, first_of_it, for_all, for_first, for_units, for_verdict, here, mark, no_reply, truth, unit_of_it}
 use Rattle.schema_reports.specs.Laws.{AnsweredAlike, AsksRightly, IsPresent, IsRight, steps_below}
 use Rattle.schema_reports.specs.Matching.{Matching}
+use Rattle.schema_reports.specs.Runs.{with_mark}
 use Rattle.schema_reports.specs.Turns.{FunctionLaws, Standing, TurnLaws, marks_after, next, reply_to, step_at, turned}
 use Rattle.schema_node.specs.KeywordViews.{fresh}
+use Rattle.schema_node.specs.UnitQuestions.{AlwaysAsksForLess, AsksForLess, AsksNoUnits}
 use Rattle.law_tests.specs.Refusals.{agree, and_true, refusals, refusals_pass, refusals_stand, told, told_all, told_first, told_gives, told_valid, told_verdict, unit_of}
 use Rattle.law_tests.specs.declared.both_once.Stage.{Stage}
 use Rattle.law_tests.specs.declared.both_once.Stage.TheVariants as stage
@@ -154,7 +156,7 @@ Kept texts m x = once_fits texts m (next (once_words texts) m x) × (once_ends t
 
 keeps : (texts : Bool) (m : ⊤) (t : Stage) (x : Standing (Once × Answer)) → once_fits texts m (at_stage t x) → (step_at (once_words texts) m (at_stage t x) ≡ done → ⊥)
     → Kept texts m (at_stage t x)
-keeps texts m stage.MarksFirst x fits h = ((fits.0, ap (λ l. a_child 0 ∷ l) fits.1), refl)
+keeps texts m stage.MarksFirst x fits h = ((fits.0, ap (with_mark x.same (a_child 0)) fits.1), refl)
 keeps texts m stage.AsksFirst x fits h = ((fits.0, (fits.1, refl)), ap (λ b. told texts b x.state.1) (and_assoc x.state.0.1 _ _))
 keeps texts m stage.MarksSecond x fits h = ((fits.0, marked), refl)
   where
@@ -221,3 +223,20 @@ once_functions texts m = record {
   stands = λ s matches a. refusals_stand texts s ((a (child_at 0)).verdict && (a (child_at 1)).verdict);
   passes = λ s matches a. refusals_pass texts a both ((a (child_at 0)).verdict && (a (child_at 1)).verdict);
 }
+
+-- ---- it asks for verdicts alone
+
+step_for_less : (t : Stage) (said : Bool) → AsksForLess (step_once t said)
+step_for_less stage.MarksFirst said = tt
+step_for_less stage.AsksFirst said = λ e. let f : ⊥ = cc in f
+step_for_less stage.MarksSecond said = tt
+step_for_less stage.AsksSecond true = tt
+step_for_less stage.AsksSecond false = λ e. let f : ⊥ = cc in f
+step_for_less stage.Ends said = tt
+
+asks_verdicts : (texts : Bool) (m : ⊤) (s : Subject) (n : ℕ) (r : Once × Answer) (reply : Reply) → AlwaysAsksForLess (once_words texts) m s n r reply
+asks_verdicts texts m s zero r reply = tt
+asks_verdicts texts m s (suc n) r reply = (step_for_less r.0.0 (says_yes reply), λ next. asks_verdicts texts m s n ((once_words texts).turn m s r reply) next)
+
+pub once_units : (texts : Bool) → AsksNoUnits (once_words texts)
+once_units texts m s mode none = asks_verdicts texts m s 5 ((stage.MarksFirst, true), fresh mode) no_reply

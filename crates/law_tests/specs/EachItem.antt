@@ -11,6 +11,7 @@ use Rattle.schema_reports.specs.Laws.{AsksRightly, IsPresent, IsRight, PassesUnc
 use Rattle.schema_reports.specs.Matching.{Matching}
 use Rattle.schema_reports.specs.Turns.{FunctionLaws, Standing, TurnLaws, next, step_at, turned}
 use Rattle.schema_node.specs.KeywordViews.{fresh}
+use Rattle.schema_node.specs.UnitQuestions.{AlwaysAsksForLess, AsksForLess, AsksNoUnits}
 use Rattle.keyword_ways.specs.Items.{first_at_item, item_count}
 use Rattle.keyword_ways.specs.Places.{item_present}
 use Rattle.law_tests.specs.Refusals.{agree, and_true, refusals, refusals_pass, refusals_stand, told, told_all, told_first, told_gives, told_valid, told_verdict, unit_of}
@@ -191,3 +192,16 @@ each_functions texts m = record {
   stands = λ s matches a. refusals_stand texts s (holds_by s (λ q. (a q).verdict));
   passes = λ s matches a. refusals_pass texts a (all_items s) (holds_by s (λ q. (a q).verdict));
 }
+
+-- ---- it asks for verdicts alone
+
+step_for_less : (n : ℕ) → AsksForLess (step_left n)
+step_for_less zero = tt
+step_for_less (suc n) = λ e. let f : ⊥ = cc in f
+
+asks_verdicts : (texts : Bool) (m : ⊤) (s : Subject) (n : ℕ) (r : Left × Answer) (reply : Reply) → AlwaysAsksForLess (each_words texts) m s n r reply
+asks_verdicts texts m s zero r reply = tt
+asks_verdicts texts m s (suc n) r reply = (step_for_less r.0.0, λ next. asks_verdicts texts m s n ((each_words texts).turn m s r reply) next)
+
+pub each_units : (texts : Bool) → AsksNoUnits (each_words texts)
+each_units texts m s mode none = asks_verdicts texts m s (item_count s + 1) ((item_count s, true), fresh mode) no_reply

@@ -1,14 +1,15 @@
 -- A keyword that refuses every instance. Its run has no state at all: a turn reads the mode off the answer.
-use Rattle.std.proofs.Common.{ℕ, ◌<◌, [], List, Bool, false, refl, arith, inl}
+use Rattle.std.proofs.Common.{ℕ, suc, zero, ◌<◌, [], List, Bool, false, refl, arith, inl}
 use Rattle.std.specs.Prelude.{⊤}
 use Rattle.std.proofs.lemmas.List.Elements.{All-nil, All-cons}
 use Rattle.schema_reports.specs.Instance.{Subject, Text}
 use Rattle.schema_reports.specs.Reports.{Unit_}
-use Rattle.schema_reports.specs.Keywords.{Answer, Answers, Keywords, Marked, Mode, Question, done, for_all, for_first, for_units, for_verdict}
+use Rattle.schema_reports.specs.Keywords.{Answer, Answers, Keywords, Marked, Mode, Question, Reply, done, for_all, for_first, for_units, for_verdict, no_reply}
 use Rattle.schema_reports.specs.Laws.{IsRight, PassesUnchanged, StandsInside}
 use Rattle.schema_reports.specs.Matching.{Matching}
 use Rattle.schema_reports.specs.Turns.{FunctionLaws, Standing, TurnLaws}
 use Rattle.schema_node.specs.KeywordViews.{fresh}
+use Rattle.schema_node.specs.UnitQuestions.{AlwaysAsksForLess, AsksNoUnits}
 use Rattle.law_tests.specs.Refusals.{refusal, refused_in, refusals, unit_of}
 
 abbrev pub refusing_words : Bool → Keywords ⊤ (⊤ × Answer)
@@ -73,3 +74,12 @@ refusing_functions texts m = record {
   stands = λ s matches a. All-cons (StandsInside s []) (refusal texts) [] (refl, ([], refl), tt) (All-nil _);
   passes = λ s matches a. All-cons (PassesUnchanged a []) (refusal texts) [] tt (All-nil _);
 }
+
+-- ---- it asks nothing, so no units
+
+asks_nothing : (texts : Bool) (m : ⊤) (s : Subject) (n : ℕ) (r : ⊤ × Answer) (reply : Reply) → AlwaysAsksForLess (refusing_words texts) m s n r reply
+asks_nothing texts m s zero r reply = tt
+asks_nothing texts m s (suc n) r reply = (tt, λ next. asks_nothing texts m s n ((refusing_words texts).turn m s r reply) next)
+
+pub refusing_units : (texts : Bool) → AsksNoUnits (refusing_words texts)
+refusing_units texts m s mode none = asks_nothing texts m s 1 (tt, fresh mode) no_reply

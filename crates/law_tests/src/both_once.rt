@@ -35,6 +35,7 @@ fn says_yes(reply: Reply<'_>) -> bool
 }
 
 impl Validate for BothOnce {
+    ghost use Rattle.law_tests.specs.BothOnce.{once_units};
     ghost use Rattle.std.specs.Prelude.{refl, true};
     ghost use Rattle.law_tests.specs.BothOnce.{once_absorbed, once_can_be, once_ends, once_fits, once_functions};
     ghost use Rattle.law_tests.specs.BothOnce.{once_left, once_turns, once_words};
@@ -114,4 +115,6 @@ impl Validate for BothOnce {
     ghost turn_laws = { once_turns };
 
     ghost function_laws = { once_functions };
+
+    ghost asks_no_units = { once_units };
 }
