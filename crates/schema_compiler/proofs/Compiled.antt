@@ -18,12 +18,13 @@ use Rattle.schema_reports.specs.Reach.{Reached, asked_by, asked_edges, asked_for
 use Rattle.schema_reports.specs.Refusals.{Cause, Compiles, Stands, is_required, referred_by, stands_at, the_root, undeclared}
 use Rattle.schema_reports.specs.Guarded.{Children, NodeEdge, NodeForm, NodePart, NodePlan, Nodes, node_always, node_child, node_keyword, node_never, node_reference, node_these}
 use Rattle.schema_reports.specs.Numbered.{IsNumber, Ranked, SameEdge, SameForm, SameParts, SamePlan, StandsFor}
-use Rattle.schema_node.specs.NodeTable.{IsRanked, NodeEntry, absolute_in, numbered, shaped, shaped_form, plan_in}
+use Rattle.schema_node.specs.NodeTable.{IsOrdered, NodeEntry, absolute_in, numbered, shaped, shaped_form, plan_in}
 use Rattle.schema_node.proofs.RankedTable.{ranked_table}
 use Rattle.schema_compiler.specs.Compiling.{Each, In, Settled, StandsBelow, parts_of}
 use Rattle.schema_compiler.specs.Refusing.{AreDistinct, IsRefusal, Names}
-use Rattle.schema_compiler.specs.Guarding.{GoesDown, GuardsWaysBack, LeadsBack, LeadsDown, goes_on, stays}
-use Rattle.schema_compiler.proofs.Guarding.{guards_whole}
+use Rattle.schema_compiler.specs.Finding.{FindsAll, GuardsByStanding, standing_of}
+use Rattle.schema_compiler.specs.UnderWay.{EdgesWithin}
+use Rattle.schema_compiler.proofs.OtherCourses.{finds_all_too}
 use Rattle.schema_compiler.proofs.GuardsAgree.{guards_agree}
 use Rattle.schema_compiler.specs.Filling.{AreChildren, AreParts, IsForm, IsGrown, IsNode, IsPlan, IsPlanned, IsTable, LeadsTo, shown_base}
 use Rattle.schema_compiler.specs.Compilation.{IsCompilation, RefusesRoot, all_parts}
@@ -141,14 +142,14 @@ module _ {S K R : Type 0} (resolver : Resolver S) (table : Table K) (formats : O
     same_form k name (node_keyword m es) (reference kind text) h = absurd h
     same_form k name (node_reference e) (keyword m' requests absorbed) h = absurd h
 
-    same_parts : (k : Key S) (xs : List (NodePart C)) (ys : List (Part K)) → AreParts w keys shape nodes k xs ys
+    same_parts : (k : Key S) (xs : List (NodePart C)) (ys : List (Part K)) → AreParts w keys shape k xs ys
         → SameParts whole numbers table_of k (map (λ (x : NodePart C). record { name = x.name; priority = x.priority; is_leaf = x.is_leaf; form = shaped_form shape x.form }) xs) ys
     same_parts k [] [] h = tt
     same_parts k (x ∷ xs) (y ∷ ys) h = (record { name = h.0.name; priority = h.0.priority; is_leaf = h.0.is_leaf; form = same_form k y.name x.form y.form h.0.form }, same_parts k xs ys h.1)
     same_parts k [] (y ∷ ys) h = absurd h
     same_parts k (x ∷ xs) [] h = absurd h
 
-    same_plan : (k : Key S) (p : NodePlan C) (q : Plan K) → IsPlan w keys shape nodes k p q → SamePlan whole numbers table_of k (shaped shape p) q
+    same_plan : (k : Key S) (p : NodePlan C) (q : Plan K) → IsPlan w keys shape k p q → SamePlan whole numbers table_of k (shaped shape p) q
     same_plan k node_always always h = tt
     same_plan k node_never never h = tt
     same_plan k (node_these xs) (these ys) h = same_parts k xs ys h
@@ -166,30 +167,16 @@ module _ {S K R : Type 0} (resolver : Resolver S) (table : Table K) (formats : O
         let go : (x : Bool) → option_map (λ base. base ++ (35 ∷ encoded (drop k.start t))) (cond x None (Some (without_fragment uri))) ≡ cond x None (Some (without_fragment uri ++ (35 ∷ encoded (drop k.start t)))) = elim [ true ↦ refl | false ↦ refl ] in
         ap (λ n'. option_map (λ base. base ++ (35 ∷ encoded (drop n' t))) n.base) s ∙ ap (option_map (λ base. base ++ (35 ∷ encoded (drop k.start t)))) b ∙ go (starts_with (λ x y. x == y) uri (codes "json-schema:"))
 
-    -- steps down
-    step_too : {i j : ℕ} → GoesDown w keys nodes i j → GoesDown whole keys nodes i j
-    step_too h = record { key = h.key; edge = h.edge; at = h.at; asks = h.asks; to = h.to; there = h.there; lower = h.lower }
-
-    down_too : {i j : ℕ} → LeadsDown w keys nodes i j → LeadsDown whole keys nodes i j
-    down_too stays = stays
-    down_too (goes_on before step) = goes_on (down_too before) (step_too step)
-
-    back_too : (t i : ℕ) → LeadsBack w keys nodes t i → LeadsBack whole keys nodes t i
-    back_too t i h = record { upper = h.upper; lower = h.lower; ranks = h.ranks; down = down_too h.down }
-
-    guards_too : GuardsWaysBack w keys nodes 0 → GuardsWaysBack whole keys nodes 0
-    guards_too g = record { down = λ i lt. down_too (g.down i lt); back = λ i n p e at formed inside guarded. back_too e.node i (g.back i n p e at formed inside guarded) }
-
-    module _ (limit : ℕ) (root : Key S) (t : IsTable w shape limit keys nodes) (g : IsGrown (Reached w root) [] keys [] nodes) (at_root : (i : ℕ) × (slice_get keys i ≡ Some root)) where
-      planned_at : (i : ℕ) (k : Key S) → slice_get keys i ≡ Some k → (n : NodeEntry C) × (p : NodePlan C) × (slice_get nodes i ≡ Some n) × (n.plan ≡ Some p) × IsNode w shape keys nodes k n
+    module _ (limit nested : ℕ) (root : Key S) (t : IsTable w shape limit keys nodes) (g : IsGrown (Reached w root) [] keys [] nodes) (formed : (i : ℕ) (n : NodeEntry C) → slice_get nodes i ≡ Some n → (p : NodePlan C) × (n.plan ≡ Some p)) (first : slice_get keys 0 ≡ Some root) where
+      planned_at : (i : ℕ) (k : Key S) → slice_get keys i ≡ Some k → (n : NodeEntry C) × (p : NodePlan C) × (slice_get nodes i ≡ Some n) × (n.plan ≡ Some p) × IsNode w shape keys k n
       planned_at i k at =
           let within = slice_get_within keys i k at in
           let e = t.lengths in
           let n = there nodes i (omega arith) in
-          let f = g.filled i n.0 (omega arith) n.1 in
+          let f = formed i n.0 n.1 in
           (n.0, f.0, n.1, f.1, t.stands i k n.0 at n.1)
 
-      planned : (i : ℕ) (k : Key S) → slice_get keys i ≡ Some k → (p : NodePlan C) × IsPlanned w shape keys nodes k p
+      planned : (i : ℕ) (k : Key S) → slice_get keys i ≡ Some k → (p : NodePlan C) × IsPlanned w shape keys k p
       planned i k at = let n = planned_at i k at in (n.1, n.4.planned n.1 n.3)
 
       stands_for : (i : ℕ) (k : Key S) → IsNumber numbers i k → StandsFor whole numbers table_of i k
@@ -210,7 +197,7 @@ module _ {S K R : Type 0} (resolver : Resolver S) (table : Table K) (formats : O
       settled_key (d ∷ es) l h (inr i) = settled_key es l h.1 i
 
       numbered_key : {k : Key S} → Reached w root k → (i : ℕ) × (slice_get keys i ≡ Some k)
-      numbered_key at_first = at_root
+      numbered_key at_first = (0, first)
       numbered_key (asked_by {k} {l} before asks) =
           let at = numbered_key before in
           let p = planned at.0 k at.1 in
@@ -228,22 +215,22 @@ module _ {S K R : Type 0} (resolver : Resolver S) (table : Table K) (formats : O
           let s = each_in (Settled w keys) (asked_edges w q) edge p.1.settled (in_of _ edge asks) in
           subst (λ cs. In cs cause) (s.declared is) (in_of _ cause has)
 
-      pub compiled : (finished : ℕ) → IsRanked nodes finished → flat_map (undeclared w) root.target.vocabularies ≡ [] → slice_get keys 0 ≡ Some root
-          → ((i : ℕ) → i < length keys → LeadsDown w keys nodes 0 i) → IsCompilation whole shape limit root keys nodes
-      compiled finished ranked clean first down =
-          let back = guards_whole w keys nodes (λ i n at. g.filled i n (omega arith) at) t.guards 0 (λ i lt. down i (let e = t.lengths in omega arith)) in
+      pub compiled : (finished : ℕ) → IsOrdered nodes finished → flat_map (undeclared w) root.target.vocabularies ≡ [] → FindsAll w nested root keys (map standing_of nodes) → GuardsByStanding nodes → EdgesWithin nodes
+          → IsCompilation whole shape limit nested root keys nodes
+      compiled finished ordered clean order guards inside =
           let within : (i : ℕ) (k : Key S) → slice_get keys i ≡ Some k → i < length nodes = λ i k at. let l = slice_get_within keys i k at in let e = t.lengths in omega arith in
           record {
             first = first;
-            numbers = record { stands = stands_for; once = λ i j k a b. t.distinct i j k (key_of i k a) (key_of j k b); guards = λ i k is. guards_agree w keys nodes shape 0 finished ranked back i (within i k (key_of i k is)) };
-            ranked = subst (Ranked table_of) t.lengths (ranked_table shape nodes finished ranked);
-            filled = λ i n at. g.filled i n (omega arith) at;
+            numbers = record { stands = stands_for; once = λ i j k a b. t.distinct i j k (key_of i k a) (key_of j k b); guards = λ i k is. guards_agree nodes shape guards inside i (within i k (key_of i k is)) };
+            ranked = subst (Ranked table_of) t.lengths (ranked_table shape nodes finished ordered);
+            filled = formed;
             lengths = t.lengths;
             whole = λ k r. numbered_key (from_whole r);
             sound = all_of (Reached whole root) keys (each_map (Reached w root) (Reached whole root) keys (λ k r. to_whole r) (subst (Each (Reached w root)) (sym g.added.1) g.added.2));
             within = t.within;
             compiles = no_cause clean;
-            guards = guards_too back;
+            order = finds_all_too w whole (λ k. refl) nested root keys (map standing_of nodes) order;
+            guards = guards;
           }
 
 pub none_in_none : {S : Type 0} (i : ℕ) (k : Key S) → slice_get [] i ≡ Some k → ⊥

@@ -1,5 +1,5 @@
 -- What a key asks for, by what stands at its place.
-use Rattle.std.proofs.Common.{◌≡◌, ℕ, Bool, true, false, List, [], ◌∷◌, refl, ap, sym, subst}
+use Rattle.std.proofs.Common.{◌≡◌, ◌∙◌, ℕ, Bool, true, false, List, [], ◌∷◌, refl, ap, sym, subst}
 use Rattle.std.specs.Prelude.{Option, Some, None}
 use Rattle.serde_json.specs.Data.{Data, Members, array, boolean, null, number, object, string}
 use Rattle.schema_reports.specs.Parts.{Parts}
@@ -11,10 +11,12 @@ use Rattle.schema_reports.specs.Guarded.{NodePlan, node_edges}
 use Rattle.schema_node.specs.NodeTable.{NodeEntry}
 use Rattle.schema_node.specs.NodeViews.{boolean_plan}
 use Rattle.schema_compiler.specs.Compiling.{Each, object_edges}
-use Rattle.schema_compiler.specs.Guarding.{WaitsIfGuarded}
 use Rattle.schema_compiler.specs.Refusing.{Names, Refused}
 use Rattle.schema_compiler.specs.Filling.{IsPlan, IsTable}
 use Rattle.schema_compiler.specs.Steps.{MakesPlan}
+use Rattle.schema_compiler.specs.Carried.{Table, Task}
+use Rattle.schema_compiler.specs.UnderWay.{Goes, IsUnderWay}
+use Rattle.schema_compiler.proofs.UnderWay.{goes_none}
 use Rattle.schema_compiler.specs.declared.compiler.error.BuildError.{BuildError}
 use Rattle.schema_compiler.proofs.Growing.{names_refused, step_none}
 use Rattle.schema_compiler.proofs.Lists.{some_is}
@@ -49,19 +51,15 @@ module _ {S K R : Type 0} (w : Parts S K R) (k : Key S) where
   object_is (string t) ms h = cc
   object_is (array ds) ms h = cc
 
-  one_plan : {C : Type 0} (shape : C → K) (keys : List (Key S)) (nodes : List (NodeEntry C)) (b : Bool) → IsPlan w keys shape nodes k (boolean_plan b) (plan_of w k (boolean b))
-  one_plan shape keys nodes true = tt
-  one_plan shape keys nodes false = tt
-
-  no_waits : {C : Type 0} (nodes : List (NodeEntry C)) (b : Bool) → Each (WaitsIfGuarded nodes) (node_edges (boolean_plan {K = C} b))
-  no_waits nodes true = tt
-  no_waits nodes false = tt
+  one_plan : {C : Type 0} (shape : C → K) (keys : List (Key S)) (b : Bool) → IsPlan w keys shape k (boolean_plan b) (plan_of w k (boolean b))
+  one_plan shape keys true = tt
+  one_plan shape keys false = tt
 
   pub boolean_made : {C : Type 0} (shape : C → K) (limit : ℕ) (b : Bool) (p : NodePlan C) (keys : List (Key S)) (nodes : List (NodeEntry C)) → as_bool (schema_of w k) ≡ Some b → p ≡ boolean_plan b → IsTable w shape limit keys nodes
       → MakesPlan w shape limit keys keys nodes nodes (asked_edges w k) (causes w k) k p (plan w k) None (annotations_of w k)
   boolean_made shape limit b p keys nodes is e t =
       subst (λ d. MakesPlan w shape limit keys keys nodes nodes (edges_at d) (schema_causes w k d) k p (plan_of w k d) None (annotations_at d)) (sym (bool_is (schema_of w k) b is))
-      (record { step = step_none w shape limit keys nodes t; plan = subst (λ x. IsPlan w keys shape nodes k x (plan_of w k (boolean b))) (sym e) (one_plan shape keys nodes b); waits = subst (λ x. Each (WaitsIfGuarded nodes) (node_edges x)) (sym e) (no_waits nodes b); annotated = refl })
+      (record { step = step_none w shape limit keys nodes t; plan = subst (λ x. IsPlan w keys shape k x (plan_of w k (boolean b))) (sym e) (one_plan shape keys b); annotated = refl })
 
   no_schema : (d : Data) → ◌≡◌ {A = Option Members} None (as_object d) → as_bool d ≡ None → schema_causes w k d ≡ not_a_schema k.location ∷ []
   no_schema null h i = refl
@@ -73,3 +71,10 @@ module _ {S K R : Type 0} (w : Parts S K R) (k : Key S) where
 
   pub other_refused : (limit : ℕ) (keys : List (Key S)) (e : BuildError) → ◌≡◌ {A = Option Members} None (as_object (schema_of w k)) → as_bool (schema_of w k) ≡ None → Names (not_a_schema k.location ∷ []) e → Refused w limit (asked_edges w k) (causes w k) keys e
   other_refused limit keys e i j n = names_refused w limit (asked_edges w k) (causes w k) keys e (subst (λ cs. Names cs e) (sym (no_schema (schema_of w k) i j)) n)
+
+-- a boolean asks for nothing
+pub boolean_goes : {S K C : Type 0} (g : Task S K C) (t : Table S C) (k : Key S) (b : Bool) (p : NodePlan C) → as_bool (schema_of g.parts k) ≡ Some b → p ≡ boolean_plan b → IsUnderWay g t → Goes g t t (asked_edges g.parts k) (node_edges p)
+boolean_goes {S} {K} {C} g t k b p is e way =
+    let none : (x : Bool) → node_edges (boolean_plan {K = C} x) ≡ [] = elim [ true ↦ refl | false ↦ refl ] in
+    subst (λ d. Goes g t t (edges_at g.parts k d) (node_edges p)) (sym (bool_is g.parts k (schema_of g.parts k) b is))
+    (subst (Goes g t t []) (sym (ap node_edges e ∙ none b)) (goes_none g t way))

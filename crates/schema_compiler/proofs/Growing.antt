@@ -10,14 +10,12 @@ use Rattle.schema_reports.specs.Plan.{Edge, Form, Key, Part, Plan, always, keywo
 use Rattle.schema_reports.specs.Reach.{Reached, asked_by, asked_edges, asked_for, at_first}
 use Rattle.schema_reports.specs.Refusals.{Cause, causes, undeclared}
 use Rattle.schema_reports.specs.Guarded.{NodeEdge, NodeForm, NodePart, NodePlan, Children, form_edges, node_always, node_keyword, node_never, node_reference, node_these}
-use Rattle.schema_node.specs.NodeTable.{IsFilled, LeadsToFilled, NodeEntry}
+use Rattle.schema_node.specs.NodeTable.{NodeEntry}
 use Rattle.schema_compiler.specs.Compiling.{Blames, Each, In, ReachedFrom, Settled, StandsBelow}
 use Rattle.schema_compiler.specs.Refusing.{AreDistinct, IsRefusal, Names, Refused}
-use Rattle.schema_compiler.specs.Filling.{AreChildren, AreParts, IsForm, IsGrown, IsNode, IsPart, IsPlan, IsPlanned, IsStep, IsTable, LeadsTo}
+use Rattle.schema_compiler.specs.Filling.{AreChildren, AreParts, HasFormOrWaits, IsForm, IsGrown, IsNode, IsPart, IsPlan, IsPlanned, IsStep, IsTable, LeadsTo}
 use Rattle.schema_compiler.specs.declared.compiler.error.BuildError.{BuildError}
 use Rattle.schema_compiler.specs.declared.compiler.error.BuildError.TheVariants.{KeywordRefused, Lookup, MetaSchema, MissingRoot, NodeLimit, NotASchema, OutOfMemory, ReferenceNotText, UnsupportedVocabulary}
-use Rattle.schema_compiler.specs.Guarding.{LeadsDown}
-use Rattle.schema_compiler.proofs.Guarding.{Keeps, from_first as down_first, from_later as down_later, from_stays}
 use Rattle.schema_compiler.proofs.Lists.{below_or, contains_of, each_append, each_map, get-append, in_left, in_right, longer, there}
 
 -- a key of an edge stands among the edges' keys
@@ -144,35 +142,22 @@ module _ {S C : Type 0} where
       | inl lt ↦ let w = there nodes' i (omega arith) in
           let f = g.filled i w.0 le w.1 in
           let same : w.0 ≡ n = (let a = h.stay i w.0 w.1 in cc) in
-          (f.0, subst (λ (m : NodeEntry C). m.plan ≡ Some f.0) same f.1)
+          subst (λ (m : NodeEntry C). HasFormOrWaits m) same f
       | inr ge ↦ h.filled i n ge at
     ];
   }
 
--- what stays: the numbers of keys, and the numbers that have their form
-pub record Stays {S C : Type 0} (keys keys' : List (Key S)) (nodes nodes' : List (NodeEntry C)) : Type 0 where
-  pub numbers : (i : ℕ) (k : Key S) → slice_get keys i ≡ Some k → slice_get keys' i ≡ Some k
-  pub no_shorter : length nodes ≤ length nodes'
-  pub filled : (i : ℕ) → IsFilled nodes i → IsFilled nodes' i
+-- what stays: the numbers of keys
+abbrev pub Stays : {S : Type 0} → List (Key S) → List (Key S) → Type 0
+Stays {S} keys keys' = (i : ℕ) (k : Key S) → slice_get keys i ≡ Some k → slice_get keys' i ≡ Some k
 
-pub grown_stays : {S C : Type 0} (P : Key S → Type 0) (keys keys' : List (Key S)) (nodes nodes' : List (NodeEntry C)) → length nodes ≡ length keys → length nodes' ≡ length keys'
-    → IsGrown P keys keys' nodes nodes' → Stays keys keys' nodes nodes'
-grown_stays {S} P keys keys' nodes nodes' e e' g = record {
-  numbers = λ i k h. subst (λ (ks : List (Key S)). slice_get ks i ≡ Some k) (sym g.added.1) (get-append keys g.added.0 i k h);
-  no_shorter = let l = keys_longer P keys keys' nodes nodes' g in omega arith;
-  filled = λ i f. (f.0, f.1, g.stay i f.0 f.2, f.3);
-}
+pub grown_stays : {S C : Type 0} (P : Key S → Type 0) (keys keys' : List (Key S)) (nodes nodes' : List (NodeEntry C)) → IsGrown P keys keys' nodes nodes' → Stays keys keys'
+grown_stays {S} P keys keys' nodes nodes' g = λ i k h. subst (λ (ks : List (Key S)). slice_get ks i ≡ Some k) (sym g.added.1) (get-append keys g.added.0 i k h)
 
-pub grown_keeps : {S C : Type 0} (P : Key S → Type 0) (keys keys' : List (Key S)) (nodes nodes' : List (NodeEntry C)) → IsGrown P keys keys' nodes nodes' → Keeps keys keys' nodes nodes'
-grown_keeps {S} P keys keys' nodes nodes' g = record {
-  numbers = λ i k h. subst (λ (ks : List (Key S)). slice_get ks i ≡ Some k) (sym g.added.1) (get-append keys g.added.0 i k h);
-  forms = λ i n p at formed. g.stay i n at;
-}
-
-module _ {S K R C : Type 0} (w : Parts S K R) (shape : C → K) (keys keys' : List (Key S)) (nodes nodes' : List (NodeEntry C)) (s : Stays keys keys' nodes nodes') where
+module _ {S K R C : Type 0} (w : Parts S K R) (shape : C → K) (keys keys' : List (Key S)) (s : Stays keys keys') where
   pub leads_stay : (o : Option NodeEdge) (e : Option (Edge S)) → LeadsTo w keys o e → LeadsTo w keys' o e
   leads_stay None None h = tt
-  leads_stay (Some x) (Some e) h = (s.numbers x.node e.key h.0, h.1)
+  leads_stay (Some x) (Some e) h = (s x.node e.key h.0, h.1)
   leads_stay None (Some e) h = absurd h
   leads_stay (Some x) None h = absurd h
 
@@ -188,28 +173,21 @@ module _ {S K R C : Type 0} (w : Parts S K R) (shape : C → K) (keys keys' : Li
   form_stay k name (node_keyword m es) (reference kind text) h = absurd h
   form_stay k name (node_reference e) (keyword m' requests absorbed) h = absurd h
 
-  pub edge_stays : (e : NodeEdge) → LeadsToFilled nodes e → LeadsToFilled nodes' e
-  edge_stays e h = record { within = (let a = h.within in let b = s.no_shorter in omega arith); unguarded = λ g. s.filled e.node (h.unguarded g) }
-
-  pub edges_stay : (es : List NodeEdge) → Each (LeadsToFilled nodes) es → Each (LeadsToFilled nodes') es
-  edges_stay es h = each_map (LeadsToFilled nodes) (LeadsToFilled nodes') es edge_stays h
-
-  pub part_stays : (k : Key S) (x : NodePart C) (y : Part K) → IsPart w keys shape nodes k x y → IsPart w keys' shape nodes' k x y
+  pub part_stays : (k : Key S) (x : NodePart C) (y : Part K) → IsPart w keys shape k x y → IsPart w keys' shape k x y
   part_stays k x y h = record {
     name = h.name;
     priority = h.priority;
     is_leaf = h.is_leaf;
     form = form_stay k y.name x.form y.form h.form;
-    edges = edges_stay (form_edges x.form) h.edges;
   }
 
-  pub parts_stay : (k : Key S) (xs : List (NodePart C)) (ys : List (Part K)) → AreParts w keys shape nodes k xs ys → AreParts w keys' shape nodes' k xs ys
+  pub parts_stay : (k : Key S) (xs : List (NodePart C)) (ys : List (Part K)) → AreParts w keys shape k xs ys → AreParts w keys' shape k xs ys
   parts_stay k [] [] h = tt
   parts_stay k (x ∷ xs) (y ∷ ys) h = (part_stays k x y h.0, parts_stay k xs ys h.1)
   parts_stay k [] (y ∷ ys) h = absurd h
   parts_stay k (x ∷ xs) [] h = absurd h
 
-  pub plan_stays : (k : Key S) (p : NodePlan C) (q : Plan K) → IsPlan w keys shape nodes k p q → IsPlan w keys' shape nodes' k p q
+  pub plan_stays : (k : Key S) (p : NodePlan C) (q : Plan K) → IsPlan w keys shape k p q → IsPlan w keys' shape k p q
   plan_stays k node_always always h = tt
   plan_stays k node_never never h = tt
   plan_stays k (node_these xs) (these ys) h = parts_stay k xs ys h
@@ -221,49 +199,44 @@ module _ {S K R C : Type 0} (w : Parts S K R) (shape : C → K) (keys keys' : Li
   plan_stays k (node_these xs) never h = absurd h
 
   settled_one : (e : Edge S) → Settled w keys e → Settled w keys' e
-  settled_one e h = record { numbered = (h.numbered.0, s.numbers h.numbered.0 e.key h.numbered.1); declared = h.declared }
+  settled_one e h = record { numbered = (h.numbered.0, s h.numbered.0 e.key h.numbered.1); declared = h.declared }
 
   pub settled_stay : (es : List (Edge S)) → Each (Settled w keys) es → Each (Settled w keys') es
   settled_stay es h = each_map (Settled w keys) (Settled w keys') es settled_one h
 
-  pub planned_stays : (k : Key S) (p : NodePlan C) → IsPlanned w shape keys nodes k p → IsPlanned w shape keys' nodes' k p
+  pub planned_stays : (k : Key S) (p : NodePlan C) → IsPlanned w shape keys k p → IsPlanned w shape keys' k p
   planned_stays k p h = record { plans = plan_stays k p (plan w k) h.plans; settled = settled_stay (asked_edges w k) h.settled; clean = h.clean }
 
-  pub node_stays : (k : Key S) (n : NodeEntry C) → IsNode w shape keys nodes k n → IsNode w shape keys' nodes' k n
+  pub node_stays : (k : Key S) (n : NodeEntry C) → IsNode w shape keys k n → IsNode w shape keys' k n
   node_stays k n h = record { location = h.location; base = h.base; start = h.start; planned = λ p e. planned_stays k p (h.planned p e); annotated = h.annotated }
 
 -- ---- steps, one after another
 
 module _ {S K R C : Type 0} (w : Parts S K R) (shape : C → K) (limit : ℕ) where
   pub step_none : (keys : List (Key S)) (nodes : List (NodeEntry C)) → IsTable w shape limit keys nodes → IsStep w shape limit [] [] keys keys nodes nodes
-  step_none keys nodes t = record { table = t; grown = grown_none (ReachedFrom w []) keys nodes t.lengths; settled = tt; clean = refl; down = λ i le lt. absurd (omega arith) }
+  step_none keys nodes t = record { table = t; grown = grown_none (ReachedFrom w []) keys nodes t.lengths; settled = tt; clean = refl }
 
   pub step_then : (es es' : List (Edge S)) (cs cs' : List Cause) (keys keys' keys'' : List (Key S)) (nodes nodes' nodes'' : List (NodeEntry C))
       → IsStep w shape limit es cs keys keys' nodes nodes' → IsStep w shape limit es' cs' keys' keys'' nodes' nodes''
       → IsStep w shape limit (es ++ es') (cs ++ cs') keys keys'' nodes nodes''
   step_then es es' cs cs' keys keys' keys'' nodes nodes' nodes'' a b =
-      let stays = grown_stays (ReachedFrom w es') keys' keys'' nodes' nodes'' a.table.lengths b.table.lengths b.grown in
+      let stays = grown_stays (ReachedFrom w es') keys' keys'' nodes' nodes'' b.grown in
       record {
         table = b.table;
         grown = grown_then (ReachedFrom w (es ++ es')) keys keys' keys'' nodes nodes' nodes'' a.table.lengths
             (grown_map (ReachedFrom w es) (ReachedFrom w (es ++ es')) keys keys' nodes nodes' (from_first w es es' cs cs') a.grown)
             (grown_map (ReachedFrom w es') (ReachedFrom w (es ++ es')) keys' keys'' nodes' nodes'' (from_later w es es' cs cs') b.grown);
-        settled = each_append (Settled w keys'') es es' (settled_stay w shape keys' keys'' nodes' nodes'' stays es a.settled) b.settled;
+        settled = each_append (Settled w keys'') es es' (settled_stay w shape keys' keys'' stays es a.settled) b.settled;
         clean = ap (λ xs. xs ++ cs') a.clean ∙ b.clean;
-        down = λ i le lt. elim (below_or i (length keys')) [
-          | inl before ↦ down_first w keys'' nodes'' es es' i (from_stays w keys' keys'' nodes' nodes'' (grown_keeps (ReachedFrom w es') keys' keys'' nodes' nodes'' b.grown) es i (a.down i le before))
-          | inr later ↦ down_later w keys'' nodes'' es es' i (b.down i later lt)
-        ];
       }
 
   pub step_edge : (edge : Edge S) (keys keys' : List (Key S)) (nodes nodes' : List (NodeEntry C)) → IsTable w shape limit keys' nodes' → IsGrown (Reached w edge.key) keys keys' nodes nodes'
-      → (s : Settled w keys' edge) → ((i : ℕ) → length keys ≤ i → i < length keys' → LeadsDown w keys' nodes' s.numbered.0 i) → IsStep w shape limit (edge ∷ []) [] keys keys' nodes nodes'
-  step_edge edge keys keys' nodes nodes' t g s d = record {
+      → Settled w keys' edge → IsStep w shape limit (edge ∷ []) [] keys keys' nodes nodes'
+  step_edge edge keys keys' nodes nodes' t g s = record {
     table = t;
     grown = grown_map (Reached w edge.key) (ReachedFrom w (edge ∷ [])) keys keys' nodes nodes' (λ k r. (edge, inl refl, r)) g;
     settled = (s, tt);
     clean = refl;
-    down = λ i le lt. (edge, inl refl, s.numbered.0, s.numbered.1, d i le lt);
   }
 
   -- a refusal after a step

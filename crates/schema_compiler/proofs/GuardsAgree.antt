@@ -1,53 +1,46 @@
--- Edges of one number to one number are guarded alike: the target of a guarded one ranks no lower, that of another one lower.
-use Rattle.std.proofs.Common.{◌≡◌, ℕ, ◌<◌, Bool, true, false, List, [], length, refl, ap, sym, ◌∙◌, subst, arith}
-use Rattle.std.specs.Prelude.{Contains, None, Option, Some, option_map, slice_get, unwrap_or}
+-- Which edges of a number are guarded follows from how its target stands; so edges of one number to one number are guarded alike.
+use Rattle.std.proofs.Common.{◌≡◌, ℕ, ◌<◌, List, [], length, map, refl, ap, sym, ◌∙◌, subst, arith}
+use Rattle.std.specs.Prelude.{Bool, Contains, None, Option, Some, option_map, slice_get, unwrap_or}
+use Rattle.std.proofs.lemmas.Option.{slice_get-map}
 use Rattle.schema_reports.specs.Guarded.{NodeEdge, NodePlan, node_always, node_edges}
-use Rattle.schema_reports.specs.Parts.{Parts}
-use Rattle.schema_reports.specs.Plan.{Key}
-use Rattle.schema_node.specs.NodeTable.{IsRanked, NodeEntry, numbered, plan_in, shaped}
-use Rattle.schema_node.proofs.RankedTable.{node_edges-shaped, ranked_table}
-use Rattle.schema_compiler.specs.Guarding.{GuardsWaysBack, LeadsBack}
+use Rattle.schema_node.specs.NodeTable.{NodeEntry, plan_in, shaped}
+use Rattle.schema_node.proofs.RankedTable.{node_edges-shaped}
+use Rattle.schema_compiler.specs.Finding.{GuardsByStanding, Standing, guards_edge, standing_of, waits}
+use Rattle.schema_compiler.specs.UnderWay.{EdgesWithin}
 use Rattle.schema_compiler.proofs.Lists.{in_of, there}
+
+-- how a number stands among these
+abbrev pub standing_at : List Standing → ℕ → Standing
+standing_at standings i = unwrap_or (slice_get standings i) waits
+
+-- whether an edge from a number to another is guarded
+abbrev pub guard_between : List Standing → ℕ → ℕ → Bool
+guard_between standings i j = guards_edge (standing_at standings i) (standing_at standings j)
 
 no_edge : {e : NodeEdge} → Contains [] e → ⊥
 no_edge c = omega (arith, c.1)
 
-module _ {S K R C D : Type 0} (w : Parts S K R) (keys : List (Key S)) (nodes : List (NodeEntry C)) (shape : C → D) (root finished : ℕ)
-    (ranked : IsRanked nodes finished) (ways : GuardsWaysBack w keys nodes root) where
-  abbrev EdgeOf : ℕ → NodeEdge → Type 0
+module _ {C D : Type 0} (nodes : List (NodeEntry C)) (shape : C → D) (guards : GuardsByStanding nodes) (inside : EdgesWithin nodes) where
+  abbrev pub EdgeOf : ℕ → NodeEdge → Type 0
   EdgeOf i e = Contains (node_edges (shaped shape (plan_in (slice_get nodes i)))) e
 
-  abbrev rank_of : ℕ → ℕ
-  rank_of i = unwrap_or (option_map (λ (n : NodeEntry C). n.rank) (slice_get nodes i)) 0
+  stands_so : (i : ℕ) (n : NodeEntry C) → slice_get nodes i ≡ Some n → standing_at (map standing_of nodes) i ≡ standing_of n
+  stands_so i n at = ap (λ (o : Option Standing). unwrap_or o waits) (slice_get-map standing_of nodes i ∙ ap (λ (o : Option (NodeEntry C)). option_map standing_of o) at)
 
-  rank_at : (i : ℕ) (n : NodeEntry C) → slice_get nodes i ≡ Some n → rank_of i ≡ n.rank
-  rank_at i n at = ap (λ (o : Option (NodeEntry C)). unwrap_or (option_map (λ (m : NodeEntry C). m.rank) o) 0) at
-
-  leads_back : (i : ℕ) → i < length nodes → (e : NodeEdge) → EdgeOf i e → e.guarded ≡ true → LeadsBack w keys nodes e.node i
-  leads_back i lt e has guarded =
+  pub guarded_so : (i : ℕ) → i < length nodes → (e : NodeEdge) → EdgeOf i e → e.guarded ≡ guard_between (map standing_of nodes) i e.node
+  guarded_so i lt e has =
       let (n, at) = there nodes i lt in
       let here : Contains (node_edges (plan_in (Some n))) e = subst (λ es. Contains es e) (node_edges-shaped shape (plan_in (Some n))) (subst (λ (o : Option (NodeEntry C)). Contains (node_edges (shaped shape (plan_in o))) e) at has) in
-      let go : (o : Option (NodePlan C)) → n.plan ≡ o → Contains (node_edges (unwrap_or o node_always)) e → LeadsBack w keys nodes e.node i = elim [
+      let go : (o : Option (NodePlan C)) → n.plan ≡ o → Contains (node_edges (unwrap_or o node_always)) e → e.guarded ≡ guard_between (map standing_of nodes) i e.node = elim [
         | None ↦ λ q c. absurd (no_edge c)
-        | Some plan ↦ λ q c. ways.back i n plan e at q (in_of (node_edges plan) e c) guarded
+        | Some plan ↦ λ q c.
+            let is_in = in_of (node_edges plan) e c in
+            let (m, to) = there nodes e.node (inside i n plan e at q is_in) in
+            let from = stands_so i n at in
+            let target = stands_so e.node m to in
+            guards i n plan e m at q is_in to ∙ sym (λ j. guards_edge (from j) (target j))
       ] in
       go n.plan refl here
 
-  not_both : (i : ℕ) → i < length nodes → (a b : NodeEdge) → EdgeOf i a → EdgeOf i b → a.node ≡ b.node → a.guarded ≡ true → b.guarded ≡ false → ⊥
-  not_both i lt a b has_a has_b same guarded free =
-      let back = leads_back i lt a has_a guarded in
-      let upper = rank_at a.node back.upper.0 back.upper.2 in
-      let lower = rank_at i back.lower.0 back.lower.2 in
-      let one : rank_of a.node ≡ rank_of b.node = ap rank_of same in
-      let falls : rank_of b.node < rank_of i = (ranked_table shape nodes finished ranked i lt b has_b).1 free in
-      let ranks = back.ranks in
-      omega (arith, upper, lower, one, falls, ranks)
-
   pub guards_agree : (i : ℕ) → i < length nodes → (a b : NodeEdge) → EdgeOf i a → EdgeOf i b → a.node ≡ b.node → a.guarded ≡ b.guarded
-  guards_agree i lt a b has_a has_b same = go a.guarded refl b.guarded refl
-    where
-      go : (s : Bool) → a.guarded ≡ s → (t : Bool) → b.guarded ≡ t → a.guarded ≡ b.guarded
-      go true e true f = e ∙ sym f
-      go false e false f = e ∙ sym f
-      go true e false f = absurd (not_both i lt a b has_a has_b same e f)
-      go false e true f = absurd (not_both i lt b a has_b has_a (sym same) f e)
+  guards_agree i lt a b has_a has_b same = guarded_so i lt a has_a ∙ ((λ j. guard_between (map standing_of nodes) i (same j)) ∙ sym (guarded_so i lt b has_b))

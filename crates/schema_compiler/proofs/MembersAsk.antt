@@ -11,7 +11,7 @@ use Rattle.schema_reports.specs.Plan.{Edge, Key, Part, Plan, Reference, found, i
 use Rattle.schema_reports.specs.Reach.{builtin_edges, lone_ref, maker_edges, members_edges, reference_edges}
 use Rattle.schema_reports.specs.Refusals.{Cause, builtin_causes, lookup_causes, maker_causes, members_causes, reference_causes, reference_not_text, schema_causes}
 use Rattle.schema_reports.specs.Units.{absorbed_by, annotating, object_annotations, object_of}
-use Rattle.schema_reports.specs.Guarded.{NodeEdge, NodePart, NodePlan, form_edges, node_edges, node_reference}
+use Rattle.schema_reports.specs.Guarded.{NodeEdge, NodePart, NodePlan, form_edges, node_edges, node_reference, node_these}
 use Rattle.serde_json.specs.View.{view}
 use Rattle.serde_json.specs.declared.value.Value.{Value}
 use Rattle.schema_node.specs.NodeTable.{NodeEntry}
@@ -19,10 +19,12 @@ use Rattle.schema_compiler.specs.Compiling.{Each, member_causes, member_edges, o
 use Rattle.schema_compiler.specs.Refusing.{Names, Refused}
 use Rattle.schema_compiler.specs.Filling.{IsMadePart, IsPlan, LeadsTo}
 use Rattle.schema_compiler.specs.Steps.{IsAnswered, MakesPart, MakesPlan, alone, part_edges}
-use Rattle.schema_compiler.specs.Guarding.{WaitsIfGuarded}
-use Rattle.schema_compiler.proofs.Lists.{each_append}
 use Rattle.schema_compiler.specs.declared.compiler.error.BuildError.{BuildError}
 use Rattle.schema_compiler.proofs.Growing.{names_refused}
+use Rattle.schema_compiler.proofs.Lists.{each_append}
+use Rattle.schema_compiler.specs.Carried.{Table, Task}
+use Rattle.schema_compiler.specs.UnderWay.{EdgeNow, Goes}
+use Rattle.schema_compiler.proofs.UnderWay.{goes_made}
 use Rattle.schema_compiler.proofs.References.{asked_not_self, leads_none, leads_some, reference_edges_of, skipped_self}
 
 module _ {S K R : Type 0} (w : Parts S K R) (k : Key S) where
@@ -131,19 +133,15 @@ module _ {S K R : Type 0} (w : Parts S K R) (k : Key S) where
     reference_node name priority e = record { name = name; priority = priority; is_leaf = false; form = node_reference e }
 
     made_of : (name : Text) (kind : Reference) (text : Text) (priority : ℕ) (o : Option NodeEdge) → IsAnswered w shape limit keys keys' nodes nodes' (reference_asked w k name kind text) (lookup_causes w (found w k kind text)) o
-        → IsMadePart w keys' shape nodes' k (option_map (reference_node name priority) o) (reference_part w k name priority kind (string text))
+        → IsMadePart w keys' shape k (option_map (reference_node name priority) o) (reference_part w k name priority kind (string text))
     made_of name kind text priority None a =
         let self = skipped_self w k name kind text a.step.clean (leads_none w keys' _ a.leads) in
-        subst (λ b. IsMadePart w keys' shape nodes' k None (cond b None (Some (record { name = name; priority = priority; is_leaf = false; form = reference kind text })))) (sym self) tt
+        subst (λ b. IsMadePart w keys' shape k None (cond b None (Some (record { name = name; priority = priority; is_leaf = false; form = reference kind text })))) (sym self) tt
     made_of name kind text priority (Some e) a =
         let self = asked_not_self w k name kind text (leads_some w keys' e _ a.leads) in
         let leads : LeadsTo w keys' (Some e) (reference_edge w k name kind text) = subst (λ b. LeadsTo w keys' (Some e) (cond b None (reference_edge w k name kind text))) self a.leads in
-        subst (λ b. IsMadePart w keys' shape nodes' k (Some (reference_node name priority e)) (cond b None (Some (record { name = name; priority = priority; is_leaf = false; form = reference kind text })))) (sym self)
-        (record { name = refl; priority = refl; is_leaf = refl; form = leads; edges = a.filled })
-
-    waits_of : (name : Text) (priority : ℕ) (o : Option NodeEdge) → Each (WaitsIfGuarded nodes') (option_list o) → Each (WaitsIfGuarded nodes') (part_edges (option_map (reference_node name priority) o))
-    waits_of name priority None h = tt
-    waits_of name priority (Some e) h = h
+        subst (λ b. IsMadePart w keys' shape k (Some (reference_node name priority e)) (cond b None (Some (record { name = name; priority = priority; is_leaf = false; form = reference kind text })))) (sym self)
+        (record { name = refl; priority = refl; is_leaf = refl; form = leads })
 
     pub reference_made : (name : Text) (kind : Reference) (text : Text) (d : Data) (priority : ℕ) (o : Option NodeEdge) → d ≡ string text
         → IsAnswered w shape limit keys keys' nodes nodes' (reference_asked w k name kind text) (lookup_causes w (found w k kind text)) o
@@ -151,19 +149,26 @@ module _ {S K R : Type 0} (w : Parts S K R) (k : Key S) where
     reference_made name kind text d priority o is a =
         subst (λ x. MakesPart w shape limit keys keys' nodes nodes' (reference_edges w k name kind x) (reference_causes w k name kind x) k (option_map (reference_node name priority) o) (reference_part w k name priority kind x)) (sym is)
         (subst (λ es. MakesPart w shape limit keys keys' nodes nodes' es (lookup_causes w (found w k kind text)) k (option_map (reference_node name priority) o) (reference_part w k name priority kind (string text))) (reference_edges_of w k name kind text)
-        (record { step = a.step; made = made_of name kind text priority o a; waits = waits_of name priority o a.waits }))
+        (record { step = a.step; made = made_of name kind text priority o a }))
 
-    made_alone : (o : Option (NodePart C)) (p : Option (Part K)) → IsMadePart w keys' shape nodes' k o p → IsPlan w keys' shape nodes' k (alone o) (plan_alone w p)
+    made_alone : (o : Option (NodePart C)) (p : Option (Part K)) → IsMadePart w keys' shape k o p → IsPlan w keys' shape k (alone o) (plan_alone w p)
     made_alone None None h = tt
     made_alone (Some x) (Some y) h = (h, tt)
     made_alone None (Some y) h = absurd h
     made_alone (Some x) None h = absurd h
 
-    waits_alone : (o : Option (NodePart C)) → Each (WaitsIfGuarded nodes') (part_edges o) → Each (WaitsIfGuarded nodes') (node_edges (alone o))
-    waits_alone None h = tt
-    waits_alone (Some x) h = each_append (WaitsIfGuarded nodes') (form_edges x.form) [] h tt
-
     -- the plan of a part that stands alone
     pub planned_alone : (es : List (Edge S)) (cs : List Cause) (o : Option (NodePart C)) (p : Option (Part K)) (n : NodePlan C) (annotations : Option Value) → n ≡ alone o → annotations ≡ None
         → MakesPart w shape limit keys keys' nodes nodes' es cs k o p → MakesPlan w shape limit keys keys' nodes nodes' es cs k n (plan_alone w p) (option_map view annotations) None
-    planned_alone es cs o p n annotations is none m = record { step = m.step; plan = subst (λ x. IsPlan w keys' shape nodes' k x (plan_alone w p)) (sym is) (made_alone o p m.made); waits = subst (λ x. Each (WaitsIfGuarded nodes') (node_edges x)) (sym is) (waits_alone o m.waits); annotated = ap (option_map view) none }
+    planned_alone es cs o p n annotations is none m = record { step = m.step; plan = subst (λ x. IsPlan w keys' shape k x (plan_alone w p)) (sym is) (made_alone o p m.made); annotated = ap (option_map view) none }
+
+-- a reference goes on as its text has it
+pub text_goes : {S K C : Type 0} (g : Task S K C) (t t' : Table S C) (k : Key S) (name : Text) (kind : Reference) (text : Text) (d : Data) (made : List NodeEdge) → d ≡ string text
+    → Goes g t t' (option_list (reference_asked g.parts k name kind text)) made → Goes g t t' (reference_edges g.parts k name kind d) made
+text_goes g t t' k name kind text d made is h = subst (λ x. Goes g t t' (reference_edges g.parts k name kind x) made) (sym is)
+    (subst (λ es. Goes g t t' es made) (reference_edges_of g.parts k name kind text) h)
+
+-- a part that stands alone has the edges of its plan
+pub alone_goes : {S K C : Type 0} (g : Task S K C) (t t' : Table S C) (es : List (Edge S)) (o : Option (NodePart C)) → Goes g t t' es (part_edges o) → Goes g t t' es (node_edges (alone o))
+alone_goes g t t' es None h = h
+alone_goes g t t' es (Some x) h = goes_made g t t' es (form_edges x.form) (node_edges (node_these (x ∷ []))) h (each_append (EdgeNow t') (form_edges x.form) [] h.now tt)

@@ -8,7 +8,6 @@ use Rattle.std.proofs.lemmas.Bool.Decides.{leb_tells}
 use Rattle.schema_reports.specs.Parts.{Parts}
 use Rattle.schema_reports.specs.Plan.{Key, Part, placed, sorted}
 use Rattle.schema_reports.specs.Guarded.{NodePart}
-use Rattle.schema_node.specs.NodeTable.{NodeEntry}
 use Rattle.schema_node.specs.NodeViews.{entry_of}
 use Rattle.schema_node.specs.declared.node.Entry.{Entry}
 use Rattle.schema_compiler.specs.Ordering.{placed_after}
@@ -52,20 +51,20 @@ module _ {K : Type 0} where
   sorted_more [] y = refl
   sorted_more (p ∷ ps) y = ap (placed p) (sorted_more ps y) ∙ swapped p y (sorted ps)
 
-module _ {S K R C : Type 0} (w : Parts S K R) (shape : C → K) (keys : List (Key S)) (nodes : List (NodeEntry C)) (k : Key S) where
-  after_parts : (x : NodePart C) (y : Part K) (xs : List (NodePart C)) (zs : List (Part K)) → IsPart w keys shape nodes k x y → AreParts w keys shape nodes k xs zs → AreParts w keys shape nodes k (placed_after x xs) (after y zs)
+module _ {S K R C : Type 0} (w : Parts S K R) (shape : C → K) (keys : List (Key S)) (k : Key S) where
+  after_parts : (x : NodePart C) (y : Part K) (xs : List (NodePart C)) (zs : List (Part K)) → IsPart w keys shape k x y → AreParts w keys shape k xs zs → AreParts w keys shape k (placed_after x xs) (after y zs)
   after_parts x y [] [] h hs = (h, tt)
   after_parts x y [] (z ∷ zs) h hs = absurd hs
   after_parts x y (u ∷ xs) [] h hs = absurd hs
   after_parts x y (u ∷ xs) (z ∷ zs) h hs =
       let same : nat_le u.priority x.priority ≡ nat_le z.priority y.priority = ap (λ n. nat_le n x.priority) hs.0.priority ∙ ap (nat_le z.priority) h.priority in
-      let go : (b : Bool) → AreParts w keys shape nodes k (cond b (u ∷ placed_after x xs) (x ∷ u ∷ xs)) (cond b (z ∷ after y zs) (y ∷ z ∷ zs)) = elim [ true ↦ (hs.0, after_parts x y xs zs h hs.1) | false ↦ (h, hs) ] in
-      subst (λ b. AreParts w keys shape nodes k (cond (nat_le u.priority x.priority) (u ∷ placed_after x xs) (x ∷ u ∷ xs)) (cond b (z ∷ after y zs) (y ∷ z ∷ zs))) same (go (nat_le u.priority x.priority))
+      let go : (b : Bool) → AreParts w keys shape k (cond b (u ∷ placed_after x xs) (x ∷ u ∷ xs)) (cond b (z ∷ after y zs) (y ∷ z ∷ zs)) = elim [ true ↦ (hs.0, after_parts x y xs zs h hs.1) | false ↦ (h, hs) ] in
+      subst (λ b. AreParts w keys shape k (cond (nat_le u.priority x.priority) (u ∷ placed_after x xs) (x ∷ u ∷ xs)) (cond b (z ∷ after y zs) (y ∷ z ∷ zs))) same (go (nat_le u.priority x.priority))
 
   -- one part more, put in its place
-  pub one_placed : (x : NodePart C) (y : Part K) (xs : List (NodePart C)) (ps : List (Part K)) → IsPart w keys shape nodes k x y → AreParts w keys shape nodes k xs (sorted ps)
-      → AreParts w keys shape nodes k (placed_after x xs) (sorted (ps ++ y ∷ []))
-  one_placed x y xs ps h hs = subst (λ zs. AreParts w keys shape nodes k (placed_after x xs) zs) (sym (sorted_more ps y)) (after_parts x y xs (sorted ps) h hs)
+  pub one_placed : (x : NodePart C) (y : Part K) (xs : List (NodePart C)) (ps : List (Part K)) → IsPart w keys shape k x y → AreParts w keys shape k xs (sorted ps)
+      → AreParts w keys shape k (placed_after x xs) (sorted (ps ++ y ∷ []))
+  one_placed x y xs ps h hs = subst (λ zs. AreParts w keys shape k (placed_after x xs) zs) (sym (sorted_more ps y)) (after_parts x y xs (sorted ps) h hs)
 
 -- ---- the place of a keyword
 

@@ -12,7 +12,6 @@ use Rattle.schema_node.specs.NodeTable.{NodeEntry}
 use Rattle.schema_compiler.specs.Compiling.{IsDeclared, Settled, reference_asked, StandsBelow}
 use Rattle.schema_compiler.specs.Refusing.{IsRefusal, Names, Refused}
 use Rattle.schema_compiler.specs.Filling.{IsGrown, IsStep, IsTable, LeadsTo}
-use Rattle.schema_compiler.specs.Guarding.{LeadsDown}
 use Rattle.schema_compiler.specs.Steps.{IsAnswered, IsEdgeTo}
 use Rattle.schema_reports.specs.Guarded.{NodeEdge}
 use Rattle.schema_compiler.specs.declared.compiler.error.BuildError.{BuildError}
@@ -62,10 +61,9 @@ module _ {S K R : Type 0} (w : Parts S K R) where
   module _ {C : Type 0} (shape : C → K) (limit : ℕ) where
     -- the step to what one edge leads to
     pub step_asked : (o : Option (Edge S)) (edge : Edge S) (cs : List Cause) (keys keys' : List (Key S)) (nodes nodes' : List (NodeEntry C)) → o ≡ Some edge → cs ≡ []
-        → IsTable w shape limit keys' nodes' → IsGrown (Reached w edge.key) keys keys' nodes nodes' → (s : Settled w keys' edge)
-        → ((i : ℕ) → length keys ≤ i → i < length keys' → LeadsDown w keys' nodes' s.numbered.0 i) → IsStep w shape limit (option_list o) cs keys keys' nodes nodes'
-    step_asked o edge cs keys keys' nodes nodes' e clean t g s d =
-        subst (λ q. IsStep w shape limit (option_list q) cs keys keys' nodes nodes') (sym e) (subst (λ xs. IsStep w shape limit (edge ∷ []) xs keys keys' nodes nodes') (sym clean) (step_edge w shape limit edge keys keys' nodes nodes' t g s d))
+        → IsTable w shape limit keys' nodes' → IsGrown (Reached w edge.key) keys keys' nodes nodes' → Settled w keys' edge → IsStep w shape limit (option_list o) cs keys keys' nodes nodes'
+    step_asked o edge cs keys keys' nodes nodes' e clean t g s =
+        subst (λ q. IsStep w shape limit (option_list q) cs keys keys' nodes nodes') (sym e) (subst (λ xs. IsStep w shape limit (edge ∷ []) xs keys keys' nodes nodes') (sym clean) (step_edge w shape limit edge keys keys' nodes nodes' t g s))
 
     pub step_skipped : (o : Option (Edge S)) (cs : List Cause) (keys : List (Key S)) (nodes : List (NodeEntry C)) → o ≡ None → cs ≡ [] → IsTable w shape limit keys nodes → IsStep w shape limit (option_list o) cs keys keys nodes nodes
     step_skipped o cs keys nodes e clean t =
@@ -76,16 +74,14 @@ module _ {S K R : Type 0} (w : Parts S K R) where
         → IsEdgeTo w shape limit keys keys' nodes nodes' edge.key path e → IsAnswered w shape limit keys keys' nodes nodes' o cs (Some e)
     is_answered o edge cs keys keys' nodes nodes' e path is clean declared same t =
         subst (λ q. IsAnswered w shape limit keys keys' nodes nodes' q cs (Some e)) (sym is) (record {
-          step = step_asked (Some edge) edge cs keys keys' nodes nodes' refl clean t.table t.grown (record { numbered = (e.node, t.number); declared = declared }) t.down;
+          step = step_asked (Some edge) edge cs keys keys' nodes nodes' refl clean t.table t.grown (record { numbered = (e.node, t.number); declared = declared });
           leads = (t.number, t.at_path ∙ same);
-          filled = (t.leads, tt);
-          waits = (t.waits, tt);
         })
 
     -- and no edge where it is skipped
     pub is_skipped : (o : Option (Edge S)) (cs : List Cause) (keys : List (Key S)) (nodes : List (NodeEntry C)) → o ≡ None → cs ≡ [] → IsTable w shape limit keys nodes → IsAnswered w shape limit keys keys nodes nodes o cs None
     is_skipped o cs keys nodes is clean t =
-        subst (λ q. IsAnswered w shape limit keys keys nodes nodes q cs None) (sym is) (record { step = step_skipped None cs keys nodes refl clean t; leads = tt; filled = tt; waits = tt })
+        subst (λ q. IsAnswered w shape limit keys keys nodes nodes q cs None) (sym is) (record { step = step_skipped None cs keys nodes refl clean t; leads = tt })
 
   pub asked_refused : (limit : ℕ) (o : Option (Edge S)) (edge : Edge S) (cs : List Cause) (keys : List (Key S)) (e : BuildError) → o ≡ Some edge
       → IsRefusal limit keys (Reached w edge.key) (StandsBelow w edge.key) e → Refused w limit (option_list o) cs keys e

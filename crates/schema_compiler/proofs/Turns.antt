@@ -15,17 +15,18 @@ use Rattle.schema_compiler.proofs.References.{asked_not_self, leads_none, leads_
 use Rattle.schema_reports.specs.Refusals.{Cause, end_causes, lookup_causes, maker_causes, request_causes}
 use Rattle.schema_reports.specs.ReportViews.{owned_error_of}
 use Rattle.schema_reports.specs.declared.reports.OwnedError.{OwnedError}
-use Rattle.schema_reports.specs.Guarded.{Children, NodeEdge, node_keyword}
-use Rattle.schema_node.specs.NodeTable.{LeadsToFilled, NodeEntry}
+use Rattle.schema_reports.specs.Guarded.{Children, NodeEdge, form_edges, node_keyword}
+use Rattle.schema_node.specs.NodeTable.{NodeEntry}
 use Rattle.schema_node.specs.MakerViews.{IsStepOf, TakesTurn, Told, Waiting, a_skip, begun, ended, nothing_yet, the_number, waits}
 use Rattle.schema_node.specs.declared.context.table.MakerStep.{MakerStep}
 use Rattle.schema_node.specs.declared.context.table.MakerStep.TheVariants.{Compile, Refer, Keyword, Nothing, Refuse}
 use Rattle.schema_compiler.specs.Compiling.{Each, answers, reference_asked}
-use Rattle.schema_compiler.specs.Guarding.{WaitsIfGuarded}
-use Rattle.schema_compiler.proofs.Guarding.{waits_stay}
+use Rattle.schema_compiler.specs.Carried.{Table, Task}
+use Rattle.schema_compiler.specs.UnderWay.{Goes, IsUnderWay}
+use Rattle.schema_compiler.proofs.UnderWay.{goes_made, goes_none, goes_then}
 use Rattle.schema_compiler.specs.Filling.{AreChildren, IsMadePart, IsStep, IsTable, LeadsTo}
 use Rattle.schema_compiler.proofs.Lists.{each_append, length-more}
-use Rattle.schema_compiler.proofs.Growing.{children_stay, edges_stay, grown_stays, refused_first, refused_later, step_none, step_then}
+use Rattle.schema_compiler.proofs.Growing.{children_stay, grown_stays, refused_first, refused_later, step_none, step_then}
 
 abbrev pub resumed : {K : Type 0} → Waiting K → Told → Script K
 resumed (begun s) told = s
@@ -119,7 +120,10 @@ flat_map-append f (x ∷ xs) ys = ap (λ zs. f x ++ zs) (flat_map-append f xs ys
 pub flat_map-one : {A B : Type 0} (f : A → List B) (x : A) → flat_map f (x ∷ []) ≡ f x
 flat_map-one f x = append-nil (f x)
 
-module _ {S K R C : Type 0} (w : Parts S K R) (shape : C → K) (limit : ℕ) (k : Key S) (name : Text) where
+module _ {S K C : Type 0} (w : Parts S K (Unit {0})) (shape : C → K) (limit nested : ℕ) (k : Key S) (name : Text) where
+  abbrev given : Task S K C
+  given = record { parts = w; shape = shape; limit = limit; nested = nested }
+
   pub children_length : (keys : List (Key S)) (es : Children) (rs : List Request) → AreChildren w keys k name es rs → length es ≡ length rs
   children_length keys [] [] h = refl
   children_length keys (e ∷ es) (r ∷ rs) h = ap suc (children_length keys es rs h.1)
@@ -139,38 +143,36 @@ module _ {S K R C : Type 0} (w : Parts S K R) (shape : C → K) (limit : ℕ) (k
   causes_of rs = flat_map (request_causes w k) rs
 
   -- what a maker has asked for so far, and what each request got
-  pub record Asked (making : Making K) (waiting : Waiting K) (told : Told) (es : Children) (keys keys' : List (Key S)) (nodes nodes' : List (NodeEntry C)) : Type 0 where
+  pub record Asked (making : Making K) (waiting : Waiting K) (told : Told) (es : Children) (keys keys' : List (Key S)) (nodes nodes' : List (NodeEntry C)) (t t' : Table S C) : Type 0 where
     pub requests : List Request
     pub due : IsDue waiting told (length requests)
     pub so_far : making ≡ after requests (followed (is_self w k to_ref) (resumed waiting told))
     pub children : AreChildren w keys' k name es requests
-    pub edges : Each (LeadsToFilled nodes') (filter_map (λ (o : Option NodeEdge). o) es)
-    pub waits : Each (WaitsIfGuarded nodes') (filter_map (λ (o : Option NodeEdge). o) es)
+    pub goes : Goes given t t' (edges_of requests) (filter_map (λ (o : Option NodeEdge). o) es)
     pub steps : IsStep w shape limit (edges_of requests) (causes_of requests) keys keys' nodes nodes'
 
-  pub asked_begun : (making : Making K) (s : Script K) (waiting : Waiting K) (keys : List (Key S)) (nodes : List (NodeEntry C)) → making ≡ followed (is_self w k to_ref) s → waiting ≡ begun s → IsTable w shape limit keys nodes
-      → Asked making waiting nothing_yet [] keys keys nodes nodes
-  asked_begun making s waiting keys nodes e f t = rw f (record { requests = []; due = refl; so_far = e; children = tt; edges = tt; waits = tt; steps = step_none w shape limit keys nodes t })
+  pub asked_begun : (making : Making K) (s : Script K) (waiting : Waiting K) (keys : List (Key S)) (nodes : List (NodeEntry C)) (t : Table S C) → making ≡ followed (is_self w k to_ref) s → waiting ≡ begun s → IsTable w shape limit keys nodes → IsUnderWay given t
+      → Asked making waiting nothing_yet [] keys keys nodes nodes t t
+  asked_begun making s waiting keys nodes t e f stands way = rw f (record { requests = []; due = refl; so_far = e; children = tt; goes = goes_none given t way; steps = step_none w shape limit keys nodes stands })
 
-  pub asked_next : (making : Making K) (waiting waiting' : Waiting K) (told told' : Told) (es : Children) (keys keys' keys'' : List (Key S)) (nodes nodes' nodes'' : List (NodeEntry C)) (r : Request) (o : Option NodeEdge)
-      → (a : Asked making waiting told es keys keys' nodes nodes')
+  pub asked_next : (making : Making K) (waiting waiting' : Waiting K) (told told' : Told) (es : Children) (keys keys' keys'' : List (Key S)) (nodes nodes' nodes'' : List (NodeEntry C)) {t t' t'' : Table S C} (r : Request) (o : Option NodeEdge)
+      → (a : Asked making waiting told es keys keys' nodes nodes' t t')
       → followed (is_self w k to_ref) (resumed waiting told) ≡ after_request r (followed (is_self w k to_ref) (resumed waiting' told'))
       → IsDue waiting' told' (suc (length a.requests))
-      → LeadsTo w keys'' o (requested w k name r) → Each (LeadsToFilled nodes'') (option_list o) → Each (WaitsIfGuarded nodes'') (option_list o)
+      → LeadsTo w keys'' o (requested w k name r) → Goes given t' t'' (option_list (requested w k name r)) (option_list o)
       → IsStep w shape limit (option_list (requested w k name r)) (request_causes w k r) keys' keys'' nodes' nodes''
-      → Asked making waiting' told' (es ++ o ∷ []) keys keys'' nodes nodes''
-  asked_next making waiting waiting' told told' es keys keys' keys'' nodes nodes' nodes'' r o a e due leads edge wait step =
-      let stays = grown_stays _ keys' keys'' nodes' nodes'' a.steps.table.lengths step.table.lengths step.grown in
+      → Asked making waiting' told' (es ++ o ∷ []) keys keys'' nodes nodes'' t t''
+  asked_next making waiting waiting' told told' es keys keys' keys'' nodes nodes' nodes'' {t} {t'} {t''} r o a e due leads goes step =
+      let stays = grown_stays _ keys' keys'' nodes' nodes'' step.grown in
       let f = followed (is_self w k to_ref) (resumed waiting' told') in
       record {
         requests = a.requests ++ r ∷ [];
         due = subst (IsDue waiting' told') (sym (length-more a.requests r)) due;
         so_far = a.so_far ∙ ap (after a.requests) e ∙ ap (λ xs. record { requests = xs; ends = f.ends }) (sym (append_assoc a.requests (r ∷ []) f.requests));
-        children = children_more keys'' es a.requests o r (children_stay w shape keys' keys'' nodes' nodes'' stays k name es a.requests a.children) leads;
-        edges = subst (Each (LeadsToFilled nodes'')) (sym (filter_map-append (λ (x : Option NodeEdge). x) es (o ∷ []) ∙ ap (λ xs. filter_map (λ (x : Option NodeEdge). x) es ++ xs) (filter_map-one (λ (x : Option NodeEdge). x) o)))
-            (each_append (LeadsToFilled nodes'') (filter_map (λ (x : Option NodeEdge). x) es) (option_list o) (edges_stay w shape keys' keys'' nodes' nodes'' stays (filter_map (λ (x : Option NodeEdge). x) es) a.edges) edge);
-        waits = subst (Each (WaitsIfGuarded nodes'')) (sym (filter_map-append (λ (x : Option NodeEdge). x) es (o ∷ []) ∙ ap (λ xs. filter_map (λ (x : Option NodeEdge). x) es ++ xs) (filter_map-one (λ (x : Option NodeEdge). x) o)))
-            (each_append (WaitsIfGuarded nodes'') (filter_map (λ (x : Option NodeEdge). x) es) (option_list o) (waits_stay nodes' nodes'' step.grown.stay (filter_map (λ (x : Option NodeEdge). x) es) a.waits) wait);
+        children = children_more keys'' es a.requests o r (children_stay w shape keys' keys'' stays k name es a.requests a.children) leads;
+        goes = subst (λ xs. Goes given t t'' xs (filter_map (λ (x : Option NodeEdge). x) (es ++ o ∷ []))) (sym (filter_map-append (requested w k name) a.requests (r ∷ []) ∙ ap (λ xs. edges_of a.requests ++ xs) (filter_map-one (requested w k name) r)))
+            (subst (Goes given t t'' (edges_of a.requests ++ option_list (requested w k name r))) (sym (filter_map-append (λ (x : Option NodeEdge). x) es (o ∷ []) ∙ ap (λ xs. filter_map (λ (x : Option NodeEdge). x) es ++ xs) (filter_map-one (λ (x : Option NodeEdge). x) o)))
+            (goes_then given t t' t'' (edges_of a.requests) (option_list (requested w k name r)) (filter_map (λ (x : Option NodeEdge). x) es) (option_list o) a.goes goes));
         steps = subst (λ xs. IsStep w shape limit xs (causes_of (a.requests ++ r ∷ [])) keys keys'' nodes nodes'') (sym (filter_map-append (requested w k name) a.requests (r ∷ []) ∙ ap (λ xs. edges_of a.requests ++ xs) (filter_map-one (requested w k name) r)))
             (subst (λ xs. IsStep w shape limit (edges_of a.requests ++ option_list (requested w k name r)) xs keys keys'' nodes nodes'') (sym (flat_map-append (request_causes w k) a.requests (r ∷ []) ∙ ap (λ xs. causes_of a.requests ++ xs) (flat_map-one (request_causes w k) r)))
             (step_then w shape limit (edges_of a.requests) (option_list (requested w k name r)) (causes_of a.requests) (request_causes w k r) keys keys' keys'' nodes nodes' nodes'' a.steps step));
@@ -178,97 +180,115 @@ module _ {S K R C : Type 0} (w : Parts S K R) (shape : C → K) (limit : ℕ) (k
 
   -- ---- the turns of a maker
 
-  pub asked_compile : (making : Making K) (waiting waiting' : Waiting K) (told : Told) (es : Children) (keys keys' keys'' : List (Key S)) (nodes nodes' nodes'' : List (NodeEntry C)) (path : Place) (e : NodeEdge) (n : ℕ)
-      → Asked making waiting told es keys keys' nodes nodes' → TakesTurn shape waiting told (Compile path) waiting' → n ≡ length es
-      → LeadsTo w keys'' (Some e) (subschema w k path) → LeadsToFilled nodes'' e → WaitsIfGuarded nodes'' e
+  pub asked_compile : (making : Making K) (waiting waiting' : Waiting K) (told : Told) (es : Children) (keys keys' keys'' : List (Key S)) (nodes nodes' nodes'' : List (NodeEntry C)) {t t' t'' : Table S C} (path : Place) (e : NodeEdge) (n : ℕ)
+      → Asked making waiting told es keys keys' nodes nodes' t t' → TakesTurn shape waiting told (Compile path) waiting' → n ≡ length es
+      → LeadsTo w keys'' (Some e) (subschema w k path) → Goes given t' t'' (option_list (subschema w k path)) (e ∷ [])
       → IsStep w shape limit (option_list (subschema w k path)) (request_causes w k (compile path)) keys' keys'' nodes' nodes''
-      → Asked making waiting' (the_number n) (es ++ Some e ∷ []) keys keys'' nodes nodes''
-  asked_compile making waiting waiting' told es keys keys' keys'' nodes nodes' nodes'' path e n a takes count leads edge wait step =
+      → Asked making waiting' (the_number n) (es ++ Some e ∷ []) keys keys'' nodes nodes'' t t''
+  asked_compile making waiting waiting' told es keys keys' keys'' nodes nodes' nodes'' {t} {t'} {t''} path e n a takes count leads goes step =
       let st = compile_step shape (length a.requests) (resumed waiting told) path waiting' (due_step shape waiting told (length a.requests) (Compile path) waiting' a.due takes) in
       let same : n ≡ length a.requests = count ∙ children_length keys' es a.requests a.children in
       asked_next making waiting waiting' told (the_number n) es keys keys' keys'' nodes nodes' nodes'' (compile path) (Some e) a
       (ap (λ s. followed (is_self w k to_ref) s) st.1 ∙ ap (λ x. after_request (compile path) (followed (is_self w k to_ref) (resumed x (the_number n)))) (sym st.2))
       (subst (λ x. IsDue x (the_number n) (suc (length a.requests))) (sym st.2) (same, refl))
-      leads (edge, tt) (wait, tt) step
+      leads goes step
 
-  pub asked_refer : (making : Making K) (waiting waiting' : Waiting K) (told told' : Told) (es : Children) (keys keys' keys'' : List (Key S)) (nodes nodes' nodes'' : List (NodeEntry C)) (text : String Global) (o : Option NodeEdge) (n : ℕ)
-      → Asked making waiting told es keys keys' nodes nodes' → TakesTurn shape waiting told (Refer text) waiting' → n ≡ length es → told' ≡ answers o n
-      → LeadsTo w keys'' o (reference_asked w k name to_ref (string_bytes text)) → Each (LeadsToFilled nodes'') (option_list o) → Each (WaitsIfGuarded nodes'') (option_list o)
+  pub asked_refer : (making : Making K) (waiting waiting' : Waiting K) (told told' : Told) (es : Children) (keys keys' keys'' : List (Key S)) (nodes nodes' nodes'' : List (NodeEntry C)) {t t' t'' : Table S C} (text : String Global) (o : Option NodeEdge) (n : ℕ)
+      → Asked making waiting told es keys keys' nodes nodes' t t' → TakesTurn shape waiting told (Refer text) waiting' → n ≡ length es → told' ≡ answers o n
+      → LeadsTo w keys'' o (reference_asked w k name to_ref (string_bytes text)) → Goes given t' t'' (option_list (reference_asked w k name to_ref (string_bytes text))) (option_list o)
       → IsStep w shape limit (option_list (reference_asked w k name to_ref (string_bytes text))) (lookup_causes w (found w k to_ref (string_bytes text))) keys' keys'' nodes' nodes''
-      → Asked making waiting' told' (es ++ o ∷ []) keys keys'' nodes nodes''
-  asked_refer making waiting waiting' told told' es keys keys' keys'' nodes nodes' nodes'' text None n a takes count is leads edge wait step =
+      → Asked making waiting' told' (es ++ o ∷ []) keys keys'' nodes nodes'' t t''
+  asked_refer making waiting waiting' told told' es keys keys' keys'' nodes nodes' nodes'' {t} {t'} {t''} text None n a takes count is leads goes step =
       let st = refer_step shape (length a.requests) (resumed waiting told) text waiting' (due_step shape waiting told (length a.requests) (Refer text) waiting' a.due takes) in
       let self = skipped_self w k name to_ref (string_bytes text) step.clean (leads_none w keys'' _ leads) in
-      subst (λ t. Asked making waiting' t (es ++ None ∷ []) keys keys'' nodes nodes'') (sym is) (asked_next making waiting waiting' told a_skip es keys keys' keys'' nodes nodes' nodes'' (refer (string_bytes text)) None a
+      subst (λ y. Asked making waiting' y (es ++ None ∷ []) keys keys'' nodes nodes'' t t'') (sym is) (asked_next making waiting waiting' told a_skip es keys keys' keys'' nodes nodes' nodes'' (refer (string_bytes text)) None a
       (ap (λ s. followed (is_self w k to_ref) s) st.2
       ∙ ap (λ b. after_request (refer (string_bytes text)) (cond b (followed (is_self w k to_ref) st.1) (followed (is_self w k to_ref) st.0))) self
       ∙ ap (λ x. after_request (refer (string_bytes text)) (followed (is_self w k to_ref) (resumed x a_skip))) (sym st.3))
       (subst (λ x. IsDue x a_skip (suc (length a.requests))) (sym st.3) refl)
-      leads edge wait step)
-  asked_refer making waiting waiting' told told' es keys keys' keys'' nodes nodes' nodes'' text (Some e) n a takes count is leads edge wait step =
+      leads goes step)
+  asked_refer making waiting waiting' told told' es keys keys' keys'' nodes nodes' nodes'' {t} {t'} {t''} text (Some e) n a takes count is leads goes step =
       let st = refer_step shape (length a.requests) (resumed waiting told) text waiting' (due_step shape waiting told (length a.requests) (Refer text) waiting' a.due takes) in
       let same : n ≡ length a.requests = count ∙ children_length keys' es a.requests a.children in
       let self = asked_not_self w k name to_ref (string_bytes text) (leads_some w keys'' e _ leads) in
-      subst (λ t. Asked making waiting' t (es ++ Some e ∷ []) keys keys'' nodes nodes'') (sym is) (asked_next making waiting waiting' told (the_number n) es keys keys' keys'' nodes nodes' nodes'' (refer (string_bytes text)) (Some e) a
+      subst (λ y. Asked making waiting' y (es ++ Some e ∷ []) keys keys'' nodes nodes'' t t'') (sym is) (asked_next making waiting waiting' told (the_number n) es keys keys' keys'' nodes nodes' nodes'' (refer (string_bytes text)) (Some e) a
       (ap (λ s. followed (is_self w k to_ref) s) st.2
       ∙ ap (λ b. after_request (refer (string_bytes text)) (cond b (followed (is_self w k to_ref) st.1) (followed (is_self w k to_ref) st.0))) self
       ∙ ap (λ x. after_request (refer (string_bytes text)) (followed (is_self w k to_ref) (resumed x (the_number n)))) (sym st.3))
       (subst (λ x. IsDue x (the_number n) (suc (length a.requests))) (sym st.3) (same, refl))
-      leads edge wait step)
+      leads goes step)
 
   -- ---- how a maker ends
 
-  ended_by : (making : Making K) (waiting : Waiting K) (told : Told) (es : Children) (keys keys' : List (Key S)) (nodes nodes' : List (NodeEntry C)) (m : Made K)
-      → (a : Asked making waiting told es keys keys' nodes nodes') → resumed waiting told ≡ then_end m → making ≡ record { requests = a.requests; ends = m }
+  ended_by : (making : Making K) (waiting : Waiting K) (told : Told) (es : Children) (keys keys' : List (Key S)) (nodes nodes' : List (NodeEntry C)) {t t' : Table S C} (m : Made K)
+      → (a : Asked making waiting told es keys keys' nodes nodes' t t') → resumed waiting told ≡ then_end m → making ≡ record { requests = a.requests; ends = m }
   ended_by making waiting told es keys keys' nodes nodes' m a e =
       a.so_far ∙ ap (λ s. after a.requests (followed (is_self w k to_ref) s)) e ∙ ap (λ rs. record { requests = rs; ends = m }) (append-nil a.requests)
 
-  pub made_step : (making : Making K) (waiting : Waiting K) (told : Told) (es : Children) (keys keys' : List (Key S)) (nodes nodes' : List (NodeEntry C)) (m : Made K)
-      → Asked making waiting told es keys keys' nodes nodes' → resumed waiting told ≡ then_end m → end_causes w m ≡ []
+  pub made_step : (making : Making K) (waiting : Waiting K) (told : Told) (es : Children) (keys keys' : List (Key S)) (nodes nodes' : List (NodeEntry C)) {t t' : Table S C} (m : Made K)
+      → Asked making waiting told es keys keys' nodes nodes' t t' → resumed waiting told ≡ then_end m → end_causes w m ≡ []
       → IsStep w shape limit (maker_edges w k name making) (maker_causes w k making) keys keys' nodes nodes'
   made_step making waiting told es keys keys' nodes nodes' m a e clean =
       subst (λ f. IsStep w shape limit (maker_edges w k name f) (maker_causes w k f) keys keys' nodes nodes') (sym (ended_by making waiting told es keys keys' nodes nodes' m a e))
       (subst (λ cs. IsStep w shape limit (edges_of a.requests) (causes_of a.requests ++ cs) keys keys' nodes nodes') (sym clean)
       (subst (λ cs. IsStep w shape limit (edges_of a.requests) cs keys keys' nodes nodes') (sym (append-nil (causes_of a.requests))) a.steps))
 
-  pub made_nothing : (making : Making K) (waiting waiting' : Waiting K) (told : Told) (es : Children) (keys keys' : List (Key S)) (nodes nodes' : List (NodeEntry C)) (priority : ℕ) (leaf : Bool)
-      → (a : Asked making waiting told es keys keys' nodes nodes') → TakesTurn shape waiting told Nothing waiting'
-      → IsStep w shape limit (maker_edges w k name making) (maker_causes w k making) keys keys' nodes nodes' × IsMadePart w keys' shape nodes' k None (part_made w name priority leaf making)
+  pub made_goes : (making : Making K) (waiting : Waiting K) (told : Told) (es : Children) (keys keys' : List (Key S)) (nodes nodes' : List (NodeEntry C)) {t t' : Table S C} (m : Made K)
+      → Asked making waiting told es keys keys' nodes nodes' t t' → resumed waiting told ≡ then_end m
+      → Goes given t t' (maker_edges w k name making) (filter_map (λ (o : Option NodeEdge). o) es)
+  made_goes making waiting told es keys keys' nodes nodes' {t} {t'} m a e =
+      subst (λ f. Goes given t t' (maker_edges w k name f) (filter_map (λ (o : Option NodeEdge). o) es)) (sym (ended_by making waiting told es keys keys' nodes nodes' m a e)) a.goes
+
+  pub nothing_goes : (making : Making K) (waiting waiting' : Waiting K) (told : Told) (es : Children) (keys keys' : List (Key S)) (nodes nodes' : List (NodeEntry C)) {t t' : Table S C}
+      → Asked making waiting told es keys keys' nodes nodes' t t' → TakesTurn shape waiting told Nothing waiting' → Goes given t t' (maker_edges w k name making) []
+  nothing_goes making waiting waiting' told es keys keys' nodes nodes' {t} {t'} a takes =
+      let e = nothing_step shape (length a.requests) (resumed waiting told) waiting' (due_step shape waiting told (length a.requests) Nothing waiting' a.due takes) in
+      goes_made given t t' (maker_edges w k name making) (filter_map (λ (o : Option NodeEdge). o) es) [] (made_goes making waiting told es keys keys' nodes nodes' nothing a e) tt
+
+  pub keyword_goes : (making : Making K) (waiting waiting' : Waiting K) (told : Told) (es : Children) (keys keys' : List (Key S)) (nodes nodes' : List (NodeEntry C)) {t t' : Table S C} (m : C) (names : Vec (String Global) Global)
+      → Asked making waiting told es keys keys' nodes nodes' t t' → TakesTurn shape waiting told (Keyword m names) waiting' → Goes given t t' (maker_edges w k name making) (form_edges (node_keyword m es))
+  keyword_goes making waiting waiting' told es keys keys' nodes nodes' {t} {t'} m names a takes =
+      let e = keyword_step shape (length a.requests) (resumed waiting told) m names waiting' (due_step shape waiting told (length a.requests) (Keyword m names) waiting' a.due takes) in
+      made_goes making waiting told es keys keys' nodes nodes' _ a e
+
+  pub made_nothing : (making : Making K) (waiting waiting' : Waiting K) (told : Told) (es : Children) (keys keys' : List (Key S)) (nodes nodes' : List (NodeEntry C)) {t t' : Table S C} (priority : ℕ) (leaf : Bool)
+      → (a : Asked making waiting told es keys keys' nodes nodes' t t') → TakesTurn shape waiting told Nothing waiting'
+      → IsStep w shape limit (maker_edges w k name making) (maker_causes w k making) keys keys' nodes nodes' × IsMadePart w keys' shape k None (part_made w name priority leaf making)
   made_nothing making waiting waiting' told es keys keys' nodes nodes' priority leaf a takes =
       let e = nothing_step shape (length a.requests) (resumed waiting told) waiting' (due_step shape waiting told (length a.requests) Nothing waiting' a.due takes) in (
         made_step making waiting told es keys keys' nodes nodes' nothing a e refl,
-        subst (λ f. IsMadePart w keys' shape nodes' k None (part_made w name priority leaf f)) (sym (ended_by making waiting told es keys keys' nodes nodes' nothing a e)) tt,
+        subst (λ f. IsMadePart w keys' shape k None (part_made w name priority leaf f)) (sym (ended_by making waiting told es keys keys' nodes nodes' nothing a e)) tt,
       )
 
-  pub made_keyword : (making : Making K) (waiting waiting' : Waiting K) (told : Told) (es : Children) (keys keys' : List (Key S)) (nodes nodes' : List (NodeEntry C)) (priority : ℕ) (leaf : Bool) (m : C) (names : Vec (String Global) Global)
-      → (a : Asked making waiting told es keys keys' nodes nodes') → TakesTurn shape waiting told (Keyword m names) waiting'
+  pub made_keyword : (making : Making K) (waiting waiting' : Waiting K) (told : Told) (es : Children) (keys keys' : List (Key S)) (nodes nodes' : List (NodeEntry C)) {t t' : Table S C} (priority : ℕ) (leaf : Bool) (m : C) (names : Vec (String Global) Global)
+      → (a : Asked making waiting told es keys keys' nodes nodes' t t') → TakesTurn shape waiting told (Keyword m names) waiting'
       → IsStep w shape limit (maker_edges w k name making) (maker_causes w k making) keys keys' nodes nodes'
-      × IsMadePart w keys' shape nodes' k (Some (record { name = name; priority = priority; is_leaf = leaf; form = node_keyword m es })) (part_made w name priority leaf making)
+      × IsMadePart w keys' shape k (Some (record { name = name; priority = priority; is_leaf = leaf; form = node_keyword m es })) (part_made w name priority leaf making)
   made_keyword making waiting waiting' told es keys keys' nodes nodes' priority leaf m names a takes =
       let e = keyword_step shape (length a.requests) (resumed waiting told) m names waiting' (due_step shape waiting told (length a.requests) (Keyword m names) waiting' a.due takes) in (
         made_step making waiting told es keys keys' nodes nodes' _ a e refl,
-        subst (λ f. IsMadePart w keys' shape nodes' k (Some (record { name = name; priority = priority; is_leaf = leaf; form = node_keyword m es })) (part_made w name priority leaf f)) (sym (ended_by making waiting told es keys keys' nodes nodes' _ a e))
-            (record { name = refl; priority = refl; is_leaf = refl; form = (refl, a.children); edges = a.edges }),
+        subst (λ f. IsMadePart w keys' shape k (Some (record { name = name; priority = priority; is_leaf = leaf; form = node_keyword m es })) (part_made w name priority leaf f)) (sym (ended_by making waiting told es keys keys' nodes nodes' _ a e))
+            (record { name = refl; priority = refl; is_leaf = refl; form = (refl, a.children) }),
       )
 
   -- ---- the names that the keyword absorbs
 
-  pub absorbed_nothing : (making : Making K) (waiting waiting' : Waiting K) (told : Told) (es : Children) (keys keys' : List (Key S)) (nodes nodes' : List (NodeEntry C)) (priority : ℕ) (leaf : Bool)
-      → (a : Asked making waiting told es keys keys' nodes nodes') → TakesTurn shape waiting told Nothing waiting' → absorbed_by (part_made w name priority leaf making) ≡ []
+  pub absorbed_nothing : (making : Making K) (waiting waiting' : Waiting K) (told : Told) (es : Children) (keys keys' : List (Key S)) (nodes nodes' : List (NodeEntry C)) {t t' : Table S C} (priority : ℕ) (leaf : Bool)
+      → (a : Asked making waiting told es keys keys' nodes nodes' t t') → TakesTurn shape waiting told Nothing waiting' → absorbed_by (part_made w name priority leaf making) ≡ []
   absorbed_nothing making waiting waiting' told es keys keys' nodes nodes' priority leaf a takes =
       let e = nothing_step shape (length a.requests) (resumed waiting told) waiting' (due_step shape waiting told (length a.requests) Nothing waiting' a.due takes) in
       ap (λ f. absorbed_by (part_made w name priority leaf f)) (ended_by making waiting told es keys keys' nodes nodes' nothing a e)
 
-  pub absorbed_keyword : (making : Making K) (waiting waiting' : Waiting K) (told : Told) (es : Children) (keys keys' : List (Key S)) (nodes nodes' : List (NodeEntry C)) (priority : ℕ) (leaf : Bool) (m : C) (names : Vec (String Global) Global)
-      → (a : Asked making waiting told es keys keys' nodes nodes') → TakesTurn shape waiting told (Keyword m names) waiting' → absorbed_by (part_made w name priority leaf making) ≡ map string_bytes names.items
+  pub absorbed_keyword : (making : Making K) (waiting waiting' : Waiting K) (told : Told) (es : Children) (keys keys' : List (Key S)) (nodes nodes' : List (NodeEntry C)) {t t' : Table S C} (priority : ℕ) (leaf : Bool) (m : C) (names : Vec (String Global) Global)
+      → (a : Asked making waiting told es keys keys' nodes nodes' t t') → TakesTurn shape waiting told (Keyword m names) waiting' → absorbed_by (part_made w name priority leaf making) ≡ map string_bytes names.items
   absorbed_keyword making waiting waiting' told es keys keys' nodes nodes' priority leaf m names a takes =
       let e = keyword_step shape (length a.requests) (resumed waiting told) m names waiting' (due_step shape waiting told (length a.requests) (Keyword m names) waiting' a.due takes) in
       ap (λ f. absorbed_by (part_made w name priority leaf f)) (ended_by making waiting told es keys keys' nodes nodes' _ a e)
 
   -- ---- refusals on the way
 
-  pub ask_refused : (making : Making K) (waiting : Waiting K) (told : Told) (es : Children) (keys keys' : List (Key S)) (nodes nodes' : List (NodeEntry C)) (r : Request) (f : Making K) (e : BuildError)
-      → Asked making waiting told es keys keys' nodes nodes' → followed (is_self w k to_ref) (resumed waiting told) ≡ after_request r f
+  pub ask_refused : (making : Making K) (waiting : Waiting K) (told : Told) (es : Children) (keys keys' : List (Key S)) (nodes nodes' : List (NodeEntry C)) {t t' : Table S C} (r : Request) (f : Making K) (e : BuildError)
+      → Asked making waiting told es keys keys' nodes nodes' t t' → followed (is_self w k to_ref) (resumed waiting told) ≡ after_request r f
       → Refused w limit (option_list (requested w k name r)) (request_causes w k r) keys' e → Refused w limit (maker_edges w k name making) (maker_causes w k making) keys e
   ask_refused making waiting told es keys keys' nodes nodes' r f e a is h =
       let rest = request_causes w k r ++ (causes_of f.requests ++ end_causes w f.ends) in
@@ -283,15 +303,15 @@ module _ {S K R C : Type 0} (w : Parts S K R) (shape : C → K) (limit : ℕ) (k
       (subst (λ xs. Refused w limit xs (causes_of (a.requests ++ r ∷ f.requests) ++ end_causes w f.ends) keys e) (sym all)
       (subst (λ xs. Refused w limit (edges_of a.requests ++ (option_list (requested w k name r) ++ edges_of f.requests)) xs keys e) (sym own) later))
 
-  pub compile_refused : (making : Making K) (waiting waiting' : Waiting K) (told : Told) (es : Children) (keys keys' : List (Key S)) (nodes nodes' : List (NodeEntry C)) (path : Place) (e : BuildError)
-      → Asked making waiting told es keys keys' nodes nodes' → TakesTurn shape waiting told (Compile path) waiting'
+  pub compile_refused : (making : Making K) (waiting waiting' : Waiting K) (told : Told) (es : Children) (keys keys' : List (Key S)) (nodes nodes' : List (NodeEntry C)) {t t' : Table S C} (path : Place) (e : BuildError)
+      → Asked making waiting told es keys keys' nodes nodes' t t' → TakesTurn shape waiting told (Compile path) waiting'
       → Refused w limit (option_list (subschema w k path)) (request_causes w k (compile path)) keys' e → Refused w limit (maker_edges w k name making) (maker_causes w k making) keys e
   compile_refused making waiting waiting' told es keys keys' nodes nodes' path e a takes h =
       let st = compile_step shape (length a.requests) (resumed waiting told) path waiting' (due_step shape waiting told (length a.requests) (Compile path) waiting' a.due takes) in
       ask_refused making waiting told es keys keys' nodes nodes' (compile path) _ e a (ap (λ s. followed (is_self w k to_ref) s) st.1) h
 
-  pub refer_refused : (making : Making K) (waiting waiting' : Waiting K) (told : Told) (es : Children) (keys keys' : List (Key S)) (nodes nodes' : List (NodeEntry C)) (text : String Global) (e : BuildError)
-      → Asked making waiting told es keys keys' nodes nodes' → TakesTurn shape waiting told (Refer text) waiting'
+  pub refer_refused : (making : Making K) (waiting waiting' : Waiting K) (told : Told) (es : Children) (keys keys' : List (Key S)) (nodes nodes' : List (NodeEntry C)) {t t' : Table S C} (text : String Global) (e : BuildError)
+      → Asked making waiting told es keys keys' nodes nodes' t t' → TakesTurn shape waiting told (Refer text) waiting'
       → Refused w limit (option_list (reference_asked w k name to_ref (string_bytes text))) (lookup_causes w (found w k to_ref (string_bytes text))) keys' e → Refused w limit (maker_edges w k name making) (maker_causes w k making) keys e
   refer_refused making waiting waiting' told es keys keys' nodes nodes' text e a takes h =
       let st = refer_step shape (length a.requests) (resumed waiting told) text waiting' (due_step shape waiting told (length a.requests) (Refer text) waiting' a.due takes) in

@@ -16,7 +16,6 @@ use Rattle.schema_reports.specs.Parts.{Parts}
 use Rattle.schema_reports.specs.Plan.{Key, Part, part}
 use Rattle.schema_reports.specs.Units.{absorbed_by, absorbed_in, unknown}
 use Rattle.schema_reports.specs.Guarded.{NodePart}
-use Rattle.schema_node.specs.NodeTable.{NodeEntry}
 use Rattle.schema_compiler.specs.Filling.{IsMadePart}
 
 above_all : (first : Entry) (es : List Entry) (e : Entry) (more : List Entry) → AllByRecursion (λ y. string_cmp first.0 y ≡ Less) (keys_of (es ++ e ∷ more)) → string_cmp first.0 e.0 ≡ Less
@@ -64,18 +63,18 @@ module _ {S K R : Type 0} (w : Parts S K R) (k : Key S) (whole : Members) where
   more_absorbed done e old new is added = added ∙ ap (λ (names : List Text). names ++ absorbed_by (part w k whole (string_bytes e.0) (view e.1))) is ∙ sym (absorbed_more done e)
 
   -- a member that is made into a keyword is none of them
-  pub made_known : {C : Type 0} (shape : C → K) (keys : List (Key S)) (nodes : List (NodeEntry C)) (x : NodePart C) (done : List Entry) (e : Entry) (old : Members)
-      → IsMadePart w keys shape nodes k (Some x) (part w k whole (string_bytes e.0) (view e.1)) → old ≡ unknown w k whole (members_view done) → old ≡ unknown w k whole (members_view (done ++ e ∷ []))
-  made_known shape keys nodes x done e old made is =
-      let go : (o : Option (Part K)) → IsMadePart w keys shape nodes k (Some x) o → with_member o (known (string_bytes e.0)) (string_bytes e.0) (view e.1) no_members ≡ no_members = elim [ Some p ↦ λ h. refl | None ↦ λ h. absurd h ] in
+  pub made_known : {C : Type 0} (shape : C → K) (keys : List (Key S)) (x : NodePart C) (done : List Entry) (e : Entry) (old : Members)
+      → IsMadePart w keys shape k (Some x) (part w k whole (string_bytes e.0) (view e.1)) → old ≡ unknown w k whole (members_view done) → old ≡ unknown w k whole (members_view (done ++ e ∷ []))
+  made_known shape keys x done e old made is =
+      let go : (o : Option (Part K)) → IsMadePart w keys shape k (Some x) o → with_member o (known (string_bytes e.0)) (string_bytes e.0) (view e.1) no_members ≡ no_members = elim [ Some p ↦ λ h. refl | None ↦ λ h. absurd h ] in
       is ∙ unknown_same done e (go (part w k whole (string_bytes e.0) (view e.1)) made)
 
   -- another is kept where its name is not known
-  pub kept_unknown : {C : Type 0} (shape : C → K) (keys : List (Key S)) (nodes : List (NodeEntry C)) (done : List Entry) (e : Entry) (more : List Entry) (old new : Members)
-      → IsStrictlySortedBy string_cmp (keys_of (done ++ e ∷ more)) → IsMadePart w keys shape nodes k None (part w k whole (string_bytes e.0) (view e.1)) → old ≡ unknown w k whole (members_view done)
+  pub kept_unknown : {C : Type 0} (shape : C → K) (keys : List (Key S)) (done : List Entry) (e : Entry) (more : List Entry) (old new : Members)
+      → IsStrictlySortedBy string_cmp (keys_of (done ++ e ∷ more)) → IsMadePart w keys shape k None (part w k whole (string_bytes e.0) (view e.1)) → old ≡ unknown w k whole (members_view done)
       → new ≡ cond (known (string_bytes e.0)) old (put (string_bytes e.0) (view e.1) old) → new ≡ unknown w k whole (members_view (done ++ e ∷ []))
-  kept_unknown shape keys nodes done e more old new sorted made is kept =
-      let none : (o : Option (Part K)) → IsMadePart w keys shape nodes k None o → o ≡ None = elim [ None ↦ λ h. refl | Some p ↦ λ h. absurd h ] in
+  kept_unknown shape keys done e more old new sorted made is kept =
+      let none : (o : Option (Part K)) → IsMadePart w keys shape k None o → o ≡ None = elim [ None ↦ λ h. refl | Some p ↦ λ h. absurd h ] in
       let one : (b : Bool) → known (string_bytes e.0) ≡ b → unknown w k whole (members_view (e ∷ [])) ≡ cond b no_members (member (string_bytes e.0) (view e.1) no_members) =
       λ b h. ap (λ o. with_member o (known (string_bytes e.0)) (string_bytes e.0) (view e.1) no_members) (none (part w k whole (string_bytes e.0) (view e.1)) made) ∙ ap (λ x. cond x no_members (member (string_bytes e.0) (view e.1) no_members)) h in
       let go : (b : Bool) → known (string_bytes e.0) ≡ b → cond b old (put (string_bytes e.0) (view e.1) old) ≡ unknown w k whole (members_view (done ++ e ∷ [])) = elim [

@@ -8,7 +8,7 @@ use Rattle.schema_reports.specs.Pointer.{joined}
 use Rattle.schema_reports.specs.Making.{Script, compile}
 use Rattle.schema_reports.specs.Resolving.{Resolver}
 use Rattle.schema_reports.specs.Parts.{Parts}
-use Rattle.schema_reports.specs.Plan.{Edge, Key, Reference, found, is_self, making, part, part_made, parts, plan, plan_of as plan_of_schema, reference_edge, reference_part, sorted, subschema, option_list}
+use Rattle.schema_reports.specs.Plan.{Edge, Key, Reference, found, is_self, making, part, part_made, parts, plan, plan_of as plan_of_schema, reference_edge, reference_part, sorted, subschema, option_list, is_recursive_ref}
 use Rattle.schema_reports.specs.Reach.{Reached, asked_edges, maker_edges, members_edges, reference_edges}
 use Rattle.schema_reports.specs.Refusals.{Cause, causes, lookup_causes, maker_causes, members_causes, reference_causes, request_causes, schema_causes, undeclared}
 use Rattle.schema_reports.specs.Units.{absorbed_by, annotating, annotations_of, object_annotations}
@@ -25,16 +25,21 @@ use Rattle.schema_compiler.specs.declared.compiler.key.SchemaKey.{SchemaKey}
 use Rattle.schema_compiler.specs.declared.compiler.given.Given.{Given}
 use Rattle.schema_compiler.specs.declared.compiler.compiled.Compiled.{Compiled}
 
--- what is given, as parts, with the shape of keywords and the limit
+-- what is given, as parts, with the shape of keywords, the limit on keys, and how many targets may nest
 pub record Task (S K C : Type 0) : Type 0 where
   pub parts : Parts S K (Unit {0})
   pub shape : C → K
   pub limit : ℕ
+  pub nested : ℕ
 
--- the keys and the nodes so far
+-- the keys and the nodes so far; the number that the round began with, how many targets of references are open, and whether
+-- an edge was made, since the innermost open number was begun, to one that is not settled
 pub record Table (S C : Type 0) : Type 0 where
   pub keys : List (Key S)
   pub nodes : List (NodeEntry C)
+  pub round : ℕ
+  pub depth : ℕ
+  pub loose : Bool
 
 -- what is given, by the senses of resolver, table and keywords
 abbrev pub task : {R T S K C : Type 0} → (R → Resolver S) → (T → Text → Bool) → (T → Bool → Text → Members → Draft → Vocabularies → Bool → Script K) → (C → K) → Given R T → Task S K C
@@ -42,17 +47,24 @@ task resolving owned script shape g = record {
   parts = given_parts (resolving g.resolver.now) (owned g.table.now) (script g.table.now) g.options.now;
   shape = shape;
   limit = g.options.now.node_limit;
+  nested = g.nested_limit;
 }
 
 -- a reference leads to this key; to none where it is skipped
 abbrev pub LeadsBy : {S K R P : Type 0} → Parts S K R → (P → S) → Key S → Reference → Text → Option (SchemaKey P) → Type 0
 LeadsBy w point k kind text o = MatchOption o (is_self w k kind text ≡ true)
     (λ t. (is_self w k kind text ≡ false)
-    × ((name : Text) → reference_edge w k name kind text ≡ Some (record { key = key_of point t; path = joined [] name; is_reference = true })))
+    × ((name : Text) → reference_edge w k name kind text ≡ Some (record { key = key_of point t; path = joined [] name; is_reference = true; is_recursive = is_recursive_ref kind })))
 
 -- what is filled so far, by the sense of the resolver's states
 abbrev pub filled : {S P C : Type 0} → (S → P) → Compiled S C → Table P C
-filled point c = record { keys = map (key_of point) c.keys; nodes = c.nodes }
+filled point c = record {
+  keys = map (key_of point) c.keys;
+  nodes = c.nodes;
+  round = c.progress.round;
+  depth = c.progress.depth;
+  loose = c.progress.reaches_unsettled;
+}
 
 module _ {S K C : Type 0} (g : Task S K C) where
   -- the causes for what is required and not declared
@@ -63,7 +75,7 @@ module _ {S K C : Type 0} (g : Task S K C) where
   abbrev pub Targets : {P : Type 0} → (P → S) → Key S → Reference → Text → Option (SchemaKey P) → Type 0
   Targets point k kind text o = MatchOption o (is_self g.parts k kind text ≡ true)
       (λ t. (is_self g.parts k kind text ≡ false)
-      × ((name : Text) → reference_edge g.parts k name kind text ≡ Some (record { key = key_of point t; path = joined [] name; is_reference = true }))
+      × ((name : Text) → reference_edge g.parts k name kind text ≡ Some (record { key = key_of point t; path = joined [] name; is_reference = true; is_recursive = is_recursive_ref kind }))
       × (lacking t.vocabularies ≡ []))
 
   -- the names that a member's keyword absorbs, and those that the keyword which a maker makes absorbs
@@ -80,7 +92,7 @@ module _ {S K C : Type 0} (g : Task S K C) where
 module _ {S K C : Type 0} (g : Task S K C) (t : Table S C) where
   -- the key's form and annotations may be filled in
   abbrev pub PlannedAs : Key S → NodePlan C → Type 0
-  PlannedAs = IsPlanned g.parts g.shape t.keys t.nodes
+  PlannedAs = IsPlanned g.parts g.shape t.keys
 
   -- the keys and nodes so far are as the parts have them
   abbrev pub IsWell : Type 0

@@ -15,7 +15,7 @@ use Rattle.schema_reports.specs.ReportViews.{owned_error_of}
 use Rattle.schema_reports.specs.Guarded.{NodePlan}
 use Rattle.schema_reports.specs.Numbered.{AreNumbered, Ranked}
 use Rattle.schema_node.specs.NodeTable.{NodeEntry, numbered}
-use Rattle.schema_compiler.specs.Guarding.{GuardsWaysBack}
+use Rattle.schema_compiler.specs.Finding.{FindsAll, GuardsByStanding, standing_of}
 use Rattle.schema_compiler.specs.declared.compiler.error.BuildError.{BuildError}
 use Rattle.schema_compiler.specs.declared.compiler.error.BuildError.TheVariants.{KeywordRefused, Lookup, MetaSchema, MissingRoot, NodeLimit, NotASchema, OutOfMemory, ReferenceNotText, UnsupportedVocabulary}
 
@@ -33,7 +33,7 @@ all_parts resolver table formats declared matcher keywords draft base = record {
 }
 
 module _ {S K R : Type 0} (w : Parts S K R) where
-  pub record IsCompilation {C : Type 0} (shape : C → K) (limit : ℕ) (root : Key S) (keys : List (Key S)) (nodes : List (NodeEntry C)) : Type 0 where
+  pub record IsCompilation {C : Type 0} (shape : C → K) (limit nested : ℕ) (root : Key S) (keys : List (Key S)) (nodes : List (NodeEntry C)) : Type 0 where
     -- the root has the first number
     pub first : slice_get keys 0 ≡ Some root
     -- keys and numbers correspond one to one, and each number's node is the plan of its key
@@ -48,8 +48,10 @@ module _ {S K R : Type 0} (w : Parts S K R) where
     pub sound : All (Reached w root) keys
     pub within : length keys ≤ limit
     pub compiles : Compiles w root
-    -- the root's number leads down to every number, and a guarded edge leads back up
-    pub guards : GuardsWaysBack w keys nodes 0
+    -- the keys are found in the one order that the schema and the limit on nested targets give, and their nodes get their forms so
+    pub order : FindsAll w nested root keys (map standing_of nodes)
+    -- an edge is guarded exactly where its target was in progress when it was made, or an unsettled number of an earlier round
+    pub guards : GuardsByStanding nodes
 
   -- a refusal shows a cause that stands; one for the limit says that more keys are reached; want of memory says nothing
   abbrev pub RefusesRoot : ℕ → Key S → BuildError → Type 0

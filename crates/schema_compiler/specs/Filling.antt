@@ -1,6 +1,6 @@
 -- The table of keys and nodes while it is filled: what a number's node says of its key, and how the table grows.
 use Rattle.std.specs.List.{starts_with}
-use Rattle.std.specs.Prelude.{List, None, Option, Some, [], codes, if◌then◌else◌, length, option_map, slice_get, slice_set, ℕ, ◌++◌, ◌==◌, ◌∷◌, ◌≡◌, ◌<◌, ◌≤◌}
+use Rattle.std.specs.Prelude.{List, None, Option, Some, [], codes, if◌then◌else◌, length, option_map, slice_get, slice_set, ℕ, ◌++◌, ◌==◌, ◌∷◌, ◌≡◌, ◌<◌, ◌≤◌, ◌⊎◌}
 use Rattle.schema_reports.specs.Instance.{Text}
 use Rattle.schema_reports.specs.Parts.{Parts}
 use Rattle.schema_reports.specs.Plan.{Edge, Form, Key, Part, Plan, always, keyword, never, plan, reference, reference_edge, these, without_fragment, requested}
@@ -10,9 +10,8 @@ use Rattle.schema_reports.specs.Units.{annotations_of}
 use Rattle.schema_reports.specs.Reach.{asked_edges}
 use Rattle.schema_reports.specs.Refusals.{Cause, causes}
 use Rattle.schema_reports.specs.Guarded.{NodeEdge, NodeForm, NodePart, NodePlan, form_edges, node_always, node_keyword, node_never, node_reference, node_these, Children}
-use Rattle.schema_node.specs.NodeTable.{LeadsToFilled, NodeEntry}
+use Rattle.schema_node.specs.NodeTable.{NodeEntry}
 use Rattle.schema_compiler.specs.Compiling.{Each, ReachedFrom, Settled}
-use Rattle.schema_compiler.specs.Guarding.{DownFrom, GuardsSoFar}
 use Rattle.schema_compiler.specs.Refusing.{AreDistinct}
 
 module _ {S K R : Type 0} (w : Parts S K R) where
@@ -41,45 +40,42 @@ module _ {S K R : Type 0} (w : Parts S K R) where
       IsForm k name (node_reference e) (reference kind text) = LeadsTo (Some e) (reference_edge w k name kind text)
       IsForm k name _ _ = ⊥
 
-      module _ (nodes : List (NodeEntry C)) where
-        -- and, where nothing guards them, to numbers that have their form
-        pub record IsPart (k : Key S) (x : NodePart C) (y : Part K) : Type 0 where
-          pub name : x.name ≡ y.name
-          pub priority : x.priority ≡ y.priority
-          pub is_leaf : x.is_leaf ≡ y.is_leaf
-          pub form : IsForm k y.name x.form y.form
-          pub edges : Each (LeadsToFilled nodes) (form_edges x.form)
+      pub record IsPart (k : Key S) (x : NodePart C) (y : Part K) : Type 0 where
+        pub name : x.name ≡ y.name
+        pub priority : x.priority ≡ y.priority
+        pub is_leaf : x.is_leaf ≡ y.is_leaf
+        pub form : IsForm k y.name x.form y.form
 
-        abbrev pub AreParts : Key S → List (NodePart C) → List (Part K) → Type 0
-        AreParts k [] [] = Unit {0}
-        AreParts k (x ∷ xs) (y ∷ ys) = IsPart k x y × AreParts k xs ys
-        AreParts k _ _ = ⊥
+      abbrev pub AreParts : Key S → List (NodePart C) → List (Part K) → Type 0
+      AreParts k [] [] = Unit {0}
+      AreParts k (x ∷ xs) (y ∷ ys) = IsPart k x y × AreParts k xs ys
+      AreParts k _ _ = ⊥
 
-        abbrev pub IsMadePart : Key S → Option (NodePart C) → Option (Part K) → Type 0
-        IsMadePart k None None = Unit {0}
-        IsMadePart k (Some x) (Some y) = IsPart k x y
-        IsMadePart k _ _ = ⊥
+      abbrev pub IsMadePart : Key S → Option (NodePart C) → Option (Part K) → Type 0
+      IsMadePart k None None = Unit {0}
+      IsMadePart k (Some x) (Some y) = IsPart k x y
+      IsMadePart k _ _ = ⊥
 
-        abbrev pub IsPlan : Key S → NodePlan C → Plan K → Type 0
-        IsPlan k node_always always = Unit {0}
-        IsPlan k node_never never = Unit {0}
-        IsPlan k (node_these xs) (these ys) = AreParts k xs ys
-        IsPlan k _ _ = ⊥
+      abbrev pub IsPlan : Key S → NodePlan C → Plan K → Type 0
+      IsPlan k node_always always = Unit {0}
+      IsPlan k node_never never = Unit {0}
+      IsPlan k (node_these xs) (these ys) = AreParts k xs ys
+      IsPlan k _ _ = ⊥
 
   -- ---- the table
 
   module _ {C : Type 0} (shape : C → K) where
     -- a number that has its form is the plan of its key, all that it asks for has a number, and no cause stands for it
-    pub record IsPlanned (keys : List (Key S)) (nodes : List (NodeEntry C)) (k : Key S) (p : NodePlan C) : Type 0 where
-      pub plans : IsPlan keys shape nodes k p (plan w k)
+    pub record IsPlanned (keys : List (Key S)) (k : Key S) (p : NodePlan C) : Type 0 where
+      pub plans : IsPlan keys shape k p (plan w k)
       pub settled : Each (Settled w keys) (asked_edges w k)
       pub clean : causes w k ≡ []
 
-    pub record IsNode (keys : List (Key S)) (nodes : List (NodeEntry C)) (k : Key S) (n : NodeEntry C) : Type 0 where
+    pub record IsNode (keys : List (Key S)) (k : Key S) (n : NodeEntry C) : Type 0 where
       pub location : n.location ≡ k.location
       pub base : n.base ≡ shown_base k
       pub start : n.start ≡ k.start
-      pub planned : (p : NodePlan C) → n.plan ≡ Some p → IsPlanned keys nodes k p
+      pub planned : (p : NodePlan C) → n.plan ≡ Some p → IsPlanned keys k p
       -- and its annotations are the key's
       pub annotated : (p : NodePlan C) → n.plan ≡ Some p → option_map view n.annotations ≡ annotations_of w k
 
@@ -87,15 +83,17 @@ module _ {S K R : Type 0} (w : Parts S K R) where
       pub lengths : length nodes ≡ length keys
       pub within : length keys ≤ limit
       pub distinct : AreDistinct keys
-      pub stands : (i : ℕ) (k : Key S) (n : NodeEntry C) → slice_get keys i ≡ Some k → slice_get nodes i ≡ Some n → IsNode keys nodes k n
-      -- a guarded edge leads to a number that waits for its form, or back up
-      pub guards : GuardsSoFar w keys nodes
+      pub stands : (i : ℕ) (k : Key S) (n : NodeEntry C) → slice_get keys i ≡ Some k → slice_get nodes i ≡ Some n → IsNode keys k n
 
--- numbers stay, a node that has its form keeps it, and what came since has its form and is one of these keys
+-- the node has its form, or its number waits for a round of its own
+abbrev pub HasFormOrWaits : {C : Type 0} → NodeEntry C → Type 0
+HasFormOrWaits {C} n = ((p : NodePlan C) × (n.plan ≡ Some p)) ⊎ ((n.plan ≡ None) × (n.round ≡ None))
+
+-- numbers and nodes stay, and what came since is one of these keys, and has its form or waits
 pub record IsGrown {S C : Type 0} (P : Key S → Type 0) (keys keys' : List (Key S)) (nodes nodes' : List (NodeEntry C)) : Type 0 where
   pub added : (ks : List (Key S)) × (keys' ≡ keys ++ ks) × Each P ks
   pub stay : (i : ℕ) (n : NodeEntry C) → slice_get nodes i ≡ Some n → slice_get nodes' i ≡ Some n
-  pub filled : (i : ℕ) (n : NodeEntry C) → length keys ≤ i → slice_get nodes' i ≡ Some n → (p : NodePlan C) × (n.plan ≡ Some p)
+  pub filled : (i : ℕ) (n : NodeEntry C) → length keys ≤ i → slice_get nodes' i ≡ Some n → HasFormOrWaits n
 
 -- a step that asked for these edges, and for which none of these causes stands
 pub record IsStep {S K R C : Type 0} (w : Parts S K R) (shape : C → K) (limit : ℕ) (es : List (Edge S)) (cs : List Cause) (keys keys' : List (Key S)) (nodes nodes' : List (NodeEntry C)) : Type 0 where
@@ -103,8 +101,6 @@ pub record IsStep {S K R C : Type 0} (w : Parts S K R) (shape : C → K) (limit 
   pub grown : IsGrown (ReachedFrom w es) keys keys' nodes nodes'
   pub settled : Each (Settled w keys') es
   pub clean : cs ≡ []
-  -- what these edges ask for leads down to each number that came
-  pub down : (i : ℕ) → length keys ≤ i → i < length keys' → DownFrom w keys' nodes' es i
 
 -- a number has got a form, and nothing else has changed
 abbrev pub Finishes : {C : Type 0} → List (NodeEntry C) → ℕ → List (NodeEntry C) → Type 0

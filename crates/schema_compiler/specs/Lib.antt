@@ -4,12 +4,16 @@ pub mod Compiling
 pub mod Referring
 pub mod Ordering
 pub mod Refusing
-pub mod Guarding
+pub mod Finding
 pub mod Filling
 pub mod Steps
 pub mod Options
 pub mod Carried
+pub mod Passing
+pub mod UnderWay
+pub mod Working
 pub mod Compilation
+pub mod Agreeing
 pub mod Rows
 pub mod Builtins
 pub mod Dialects

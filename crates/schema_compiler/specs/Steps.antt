@@ -7,9 +7,7 @@ use Rattle.schema_reports.specs.Plan.{Edge, Key, Part, Plan, option_list}
 use Rattle.schema_reports.specs.Reach.{Reached}
 use Rattle.schema_reports.specs.Refusals.{Cause}
 use Rattle.schema_reports.specs.Guarded.{NodeEdge, NodePart, NodePlan, form_edges, node_always, node_edges, node_these}
-use Rattle.schema_node.specs.NodeTable.{LeadsToFilled, NodeEntry}
-use Rattle.schema_compiler.specs.Compiling.{Each}
-use Rattle.schema_compiler.specs.Guarding.{LeadsDown, WaitsIfGuarded}
+use Rattle.schema_node.specs.NodeTable.{NodeEntry}
 use Rattle.schema_compiler.specs.Filling.{AreParts, IsGrown, IsMadePart, IsPlan, IsStep, IsTable, LeadsTo}
 
 -- the edges of a part, if there is one
@@ -18,51 +16,40 @@ part_edges None = []
 part_edges (Some x) = form_edges x.form
 
 module _ {S K R C : Type 0} (w : Parts S K R) (shape : C → K) (limit : ℕ) (keys keys' : List (Key S)) (nodes nodes' : List (NodeEntry C)) where
-  -- a key has this number, the next one if it had none before
+  -- a key has this number
   pub record IsNumbered (k : Key S) (n : ℕ) : Type 0 where
     pub table : IsTable w shape limit keys' nodes'
     pub grown : IsGrown (Reached w k) keys keys' nodes nodes'
     pub number : slice_get keys' n ≡ Some k
-    pub fresh : slice_get keys n ≢ Some k → n ≡ length keys
-    pub down : (i : ℕ) → length keys ≤ i → i < length keys' → LeadsDown w keys' nodes' n i
 
-  -- a key has a number, the next one if it had none before, and this edge leads there
+  -- a key has a number, and this edge leads there
   pub record IsEdgeTo (k : Key S) (path : Text) (e : NodeEdge) : Type 0 where
     pub table : IsTable w shape limit keys' nodes'
     pub grown : IsGrown (Reached w k) keys keys' nodes nodes'
     pub number : slice_get keys' e.node ≡ Some k
-    pub fresh : slice_get keys e.node ≢ Some k → e.node ≡ length keys
     pub at_path : e.path ≡ path
-    pub leads : LeadsToFilled nodes' e
-    pub waits : WaitsIfGuarded nodes' e
-    pub down : (i : ℕ) → length keys ≤ i → i < length keys' → LeadsDown w keys' nodes' e.node i
 
   -- what was asked for has a number, and this edge leads there; no edge where nothing was asked for
   pub record IsAnswered (asked : Option (Edge S)) (cs : List Cause) (o : Option NodeEdge) : Type 0 where
     pub step : IsStep w shape limit (option_list asked) cs keys keys' nodes nodes'
     pub leads : LeadsTo w keys' o asked
-    pub filled : Each (LeadsToFilled nodes') (option_list o)
-    pub waits : Each (WaitsIfGuarded nodes') (option_list o)
 
   module _ (es : List (Edge S)) (cs : List Cause) (k : Key S) where
     -- a step that made a member's part, if it is to have one
     pub record MakesPart (o : Option (NodePart C)) (wanted : Option (Part K)) : Type 0 where
       pub step : IsStep w shape limit es cs keys keys' nodes nodes'
-      pub made : IsMadePart w keys' shape nodes' k o wanted
-      pub waits : Each (WaitsIfGuarded nodes') (part_edges o)
+      pub made : IsMadePart w keys' shape k o wanted
 
     -- a step that made the parts of an object, and left the members that become annotations
     pub record MakesParts (xs : List (NodePart C)) (wanted : List (Part K)) (left wanted_left : Members) : Type 0 where
       pub step : IsStep w shape limit es cs keys keys' nodes nodes'
-      pub entries : AreParts w keys' shape nodes' k xs wanted
-      pub waits : Each (WaitsIfGuarded nodes') (node_edges (node_these xs))
+      pub entries : AreParts w keys' shape k xs wanted
       pub unknown : left ≡ wanted_left
 
     -- a step that made a key's plan and its annotations
     pub record MakesPlan (p : NodePlan C) (wanted : Plan K) (annotations wanted_annotations : Option Data) : Type 0 where
       pub step : IsStep w shape limit es cs keys keys' nodes nodes'
-      pub plan : IsPlan w keys' shape nodes' k p wanted
-      pub waits : Each (WaitsIfGuarded nodes') (node_edges p)
+      pub plan : IsPlan w keys' shape k p wanted
       pub annotated : annotations ≡ wanted_annotations
 
 -- the plan of a part that stands alone

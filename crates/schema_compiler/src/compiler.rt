@@ -4,7 +4,7 @@
 //! What it is given is in `given`, what it fills in `compiled`; `context` says what draft, vocabularies and options decide where
 //! a schema stands. Its steps are in `vocabularies`, `values`, `makers`, `subschema`, `targets` (over the references of `ref_`
 //! and `start`), `entries` and `annotations`.
-ghost use Rattle.std.specs.Prelude.{◌≡◌, ◌++◌, IfErr, IfOk, Option, Some, map, option_map, string_bytes};
+ghost use Rattle.std.specs.Prelude.{◌≡◌, ◌≢◌, ◌<◌, ◌++◌, ℕ, IfErr, IfOk, Option, Some, map, option_map, slice_get, string_bytes, true};
 ghost use Rattle.serde_json.specs.Data.{object};
 ghost use Rattle.serde_json.specs.View.{members_view, view};
 ghost use Rattle.schema_reports.specs.Instance.{Text};
@@ -23,6 +23,8 @@ ghost use Rattle.schema_compiler.specs.Carried.{Numbers, PlansNode, PlansObject,
 ghost use Rattle.schema_compiler.specs.Carried.{RefusesKey, RefusesMaker, RefusesMember, RefusesMembers};
 ghost use Rattle.schema_compiler.specs.Carried.{RefusesNode, RefusesObject, filled, task};
 ghost use Rattle.schema_compiler.specs.Carried.{keyword_absorbs, member_absorbs};
+ghost use Rattle.schema_compiler.specs.UnderWay.{GoesChild, GoesMaker, GoesMember, GoesMembers, GoesNode};
+ghost use Rattle.schema_compiler.specs.UnderWay.{GoesObject, GoesRefer, GoesTo, IsUnderWay, Reaches};
 
 use crate::compiler::annotations::{absorb, object_of, without};
 use crate::compiler::compiled::{Compiled, PlannedNode};
@@ -61,10 +63,12 @@ mod targets;
 pub(crate) mod text;
 mod values;
 mod vocabularies;
+mod worklist;
 
 /// Compiles the schema of a key and every schema that it reaches through subschemas and references. Returns their keys and
-/// nodes, one number for each key, the given key's being 0. A matcher, the runs of keywords, and the options' draft and base
-/// are not read, so the contract holds for all of them.
+/// nodes, one number for each key, the given key's being 0. At most `nested_limit` targets of `$ref` and `$dynamicRef` are
+/// compiled one inside another; the others wait on a list, and each is compiled in a round of its own. A matcher, the runs of
+/// keywords, and the options' draft and base are not read, so the contract holds for all of them.
 ///
 /// # Errors
 ///
@@ -76,6 +80,7 @@ pub fn compile<R: Resolver, K: Validate, T: KeywordTable<K>>(
     resolver: &R,
     table: &T,
     options: &CompileOptions,
+    nested_limit: usize,
     root: SchemaKey<R::State>,
 ) -> Result<Compiled<R::State, K>, BuildError>
     ensures compiled { IfOk result (λ m. (matcher : matching.Matcher)
@@ -83,7 +88,7 @@ pub fn compile<R: Resolver, K: Validate, T: KeywordTable<K>>(
         (base : Option Text) → IsCompilation (all_parts (R.resolving resolver.now)
         (record { owns = T.owned table.now; builtin = builtin; script = T.script table.now })
         options.now.formats (map string_bytes options.now.declared.items)
-        matcher keywords draft base) K.shape options.now.node_limit (key_of R.point root)
+        matcher keywords draft base) K.shape options.now.node_limit nested_limit (key_of R.point root)
         (map (key_of R.point) m.keys) m.nodes) }
     ensures refused { IfErr result (λ e. (matcher : matching.Matcher)
         (keywords : words.Keywords K.Shape (K.Run × words.Answer)) (draft : Option drafts.Draft)
@@ -97,14 +102,16 @@ pub fn compile<R: Resolver, K: Validate, T: KeywordTable<K>>(
         resolver,
         table,
         options,
+        nested_limit,
     };
     given.check_declared(&root.vocabularies)?;
     let mut compiled = Compiled::new(alloc);
-    let path = Location::new(alloc);
-    given.edge_to(&mut compiled, root, Reading::Unread, path)?;
-    // (the call says that the table is ranked)
+    let shared = Rc::new(alloc, root)?;
+    given.number_within(&mut compiled, &shared, None)?;
+    given.work_off(&mut compiled, &shared)?;
+    // (the call says that the table is ordered)
     let count = compiled.nodes.len();
-    let _ranked = count;
+    let _ordered = count;
     Ok(compiled)
 }
 
@@ -116,49 +123,62 @@ struct ObjectKeywords<K> {
 }
 
 impl<'p, R: Resolver, T> Given<'p, R, T> {
-    /// The edge to the node of a key, which is compiled first where it has no number. The edge is guarded where the node is
-    /// still being compiled. The value at the key's place is read only where the node is compiled and it was not read already.
+    /// The edge to the node of a key, which is compiled first where it has no number, or put on the list where it nests and as
+    /// many targets as may nest are open. The value at the key's place is read only where the node is compiled and it was not
+    /// read already.
     #[cycle(compile)]
     fn edge_to<K: Validate>(
         &self,
         compiled: &mut Compiled<R::State, K>,
         key: SchemaKey<R::State>,
         reading: Reading<'p>,
+        nests: bool,
         path: Location,
     ) -> Result<Edge, BuildError>
     where
         T: KeywordTable<K>,
         requires table { IsWell (task R.resolving T.owned T.script K.shape self.now)
             (filled R.point compiled.old) }
+        requires under_way { IsUnderWay (task R.resolving T.owned T.script K.shape self.now)
+            (filled R.point compiled.old) }
         requires reading { IsReading
             ((R.resolving self.now.resolver.now).value (place_of key.place)) reading }
         ensures edge { IfOk result (λ e. LeadsToKey
             (task R.resolving T.owned T.script K.shape self.now) (filled R.point compiled.old)
             (filled R.point compiled.new) (key_of R.point key) path (edge_of e)) }
+        ensures order { IfOk result (λ e. GoesTo
+            (task R.resolving T.owned T.script K.shape self.now) (filled R.point compiled.old)
+            (filled R.point compiled.new) (key_of R.point key) nests (edge_of e)) }
         ensures refused { IfErr result
             (RefusesKey (task R.resolving T.owned T.script K.shape self.now)
             (filled R.point compiled.old) (key_of R.point key)) }
     {
-        let number = self.number_of(compiled, key, reading)?;
+        let number = self.number_of(compiled, key, reading, nests)?;
         Ok(compiled.edge_at(number, path))
     }
 
-    // The number of a key, which is compiled first where it has none.
+    // The number of a key, which is compiled first where it has none, or put on the list.
     #[cycle(compile)]
     fn number_of<K: Validate>(
         &self,
         compiled: &mut Compiled<R::State, K>,
         key: SchemaKey<R::State>,
         reading: Reading<'p>,
+        nests: bool,
     ) -> Result<usize, BuildError>
     where
         T: KeywordTable<K>,
         requires table { IsWell (task R.resolving T.owned T.script K.shape self.now)
             (filled R.point compiled.old) }
+        requires under_way { IsUnderWay (task R.resolving T.owned T.script K.shape self.now)
+            (filled R.point compiled.old) }
         requires reading { IsReading
             ((R.resolving self.now.resolver.now).value (place_of key.place)) reading }
         ensures numbered { IfOk result (Numbers (task R.resolving T.owned T.script K.shape self.now)
             (filled R.point compiled.old) (filled R.point compiled.new) (key_of R.point key)) }
+        ensures order { IfOk result (λ n. Reaches
+            (task R.resolving T.owned T.script K.shape self.now) (filled R.point compiled.old)
+            (filled R.point compiled.new) (key_of R.point key) nests n) }
         ensures refused { IfErr result
             (RefusesKey (task R.resolving T.owned T.script K.shape self.now)
             (filled R.point compiled.old) (key_of R.point key)) }
@@ -167,11 +187,50 @@ impl<'p, R: Resolver, T> Given<'p, R, T> {
             return Ok(number);
         }
         let shared = Rc::new(self.alloc, key)?;
-        let number = self.reserve_within(compiled, &shared)?;
-        let planned = self.planned_node(compiled, &shared, reading)?;
+        if compiled.progress.is_full(nests, self.nested_limit) {
+            let number = self.number_within(compiled, &shared, None)?;
+            return Ok(number.0);
+        }
+        Ok(self.compiled_number(compiled, &shared, reading, nests)?)
+    }
+
+    // The next number, for a key that has none, which is compiled at once.
+    #[cycle(compile)]
+    fn compiled_number<K: Validate>(
+        &self,
+        compiled: &mut Compiled<R::State, K>,
+        key: &Rc<SchemaKey<R::State>>,
+        reading: Reading<'p>,
+        nests: bool,
+    ) -> Result<usize, BuildError>
+    where
+        T: KeywordTable<K>,
+        requires table { IsWell (task R.resolving T.owned T.script K.shape self.now)
+            (filled R.point compiled.old) }
+        requires under_way { IsUnderWay (task R.resolving T.owned T.script K.shape self.now)
+            (filled R.point compiled.old) }
+        requires absent { (i : ℕ) → slice_get (map (key_of R.point) compiled.old.keys) i ≢
+            Some (key_of R.point key.now.value) }
+        requires room { nests ≡ true → compiled.old.progress.depth < self.now.nested_limit }
+        requires reading { IsReading
+            ((R.resolving self.now.resolver.now).value (place_of key.now.value.place)) reading }
+        ensures numbered { IfOk result (Numbers (task R.resolving T.owned T.script K.shape self.now)
+            (filled R.point compiled.old) (filled R.point compiled.new) (key_of R.point key.now.value)) }
+        ensures order { IfOk result (λ n. Reaches
+            (task R.resolving T.owned T.script K.shape self.now) (filled R.point compiled.old)
+            (filled R.point compiled.new) (key_of R.point key.now.value) nests n) }
+        ensures refused { IfErr result
+            (RefusesKey (task R.resolving T.owned T.script K.shape self.now)
+            (filled R.point compiled.old) (key_of R.point key.now.value)) }
+    {
+        let outer = compiled.progress;
+        let number = self.begin_number(compiled, key, nests)?;
+        let planned = self.planned_node(compiled, key, reading)?;
+        let settled = !compiled.progress.reaches_unsettled;
+        compiled.progress = outer;
         compiled
             .nodes
-            .fill(number, planned.form, planned.annotations);
+            .fill(number, planned.form, planned.annotations, settled);
         Ok(number.0)
     }
 
@@ -187,12 +246,17 @@ impl<'p, R: Resolver, T> Given<'p, R, T> {
         T: KeywordTable<K>,
         requires table { IsWell (task R.resolving T.owned T.script K.shape self.now)
             (filled R.point compiled.old) }
+        requires under_way { IsUnderWay (task R.resolving T.owned T.script K.shape self.now)
+            (filled R.point compiled.old) }
         requires reading { IsReading
             ((R.resolving self.now.resolver.now).value (place_of key.now.place)) reading }
         ensures planned { IfOk result (λ n. PlansNode
             (task R.resolving T.owned T.script K.shape self.now) (filled R.point compiled.old)
             (filled R.point compiled.new) (key_of R.point key.now) (plan_of n.form)
             (option_map view n.annotations)) }
+        ensures order { IfOk result (λ n. GoesNode
+            (task R.resolving T.owned T.script K.shape self.now) (filled R.point compiled.old)
+            (filled R.point compiled.new) (key_of R.point key.now) (plan_of n.form)) }
         ensures refused { IfErr result (RefusesNode
             (task R.resolving T.owned T.script K.shape self.now) (filled R.point compiled.old)
             (key_of R.point key.now)) }
@@ -225,12 +289,18 @@ impl<'p, R: Resolver, T> Given<'p, R, T> {
         T: KeywordTable<K>,
         requires table { IsWell (task R.resolving T.owned T.script K.shape self.now)
             (filled R.point compiled.old) }
+        requires under_way { IsUnderWay (task R.resolving T.owned T.script K.shape self.now)
+            (filled R.point compiled.old) }
         requires object { (R.resolving self.now.resolver.now).value (place_of key.now.place) ≡
             Some (object (members_view members.now.entries)) }
         ensures planned { IfOk result (λ n. PlansObject
             (task R.resolving T.owned T.script K.shape self.now) (filled R.point compiled.old)
             (filled R.point compiled.new) (key_of R.point key.now) (members_view members.now.entries)
             (plan_of n.form) (option_map view n.annotations)) }
+        ensures order { IfOk result (λ n. GoesObject
+            (task R.resolving T.owned T.script K.shape self.now) (filled R.point compiled.old)
+            (filled R.point compiled.new) (key_of R.point key.now) (members_view members.now.entries)
+            (plan_of n.form)) }
         ensures refused { IfErr result (RefusesObject
             (task R.resolving T.owned T.script K.shape self.now) (filled R.point compiled.old)
             (key_of R.point key.now) (members_view members.now.entries)) }
@@ -269,12 +339,18 @@ impl<'p, R: Resolver, T> Given<'p, R, T> {
         T: KeywordTable<K>,
         requires table { IsWell (task R.resolving T.owned T.script K.shape self.now)
             (filled R.point compiled.old) }
+        requires under_way { IsUnderWay (task R.resolving T.owned T.script K.shape self.now)
+            (filled R.point compiled.old) }
         requires object { (R.resolving self.now.resolver.now).value (place_of key.now.place) ≡
             Some (object (members_view members.now.entries)) }
         ensures parts { IfOk result (λ o. MakesMembers
             (task R.resolving T.owned T.script K.shape self.now) (filled R.point compiled.old)
             (filled R.point compiled.new) (key_of R.point key.now) (members_view members.now.entries)
             (map entry_view o.entries.items) (members_view o.annotating.entries)) }
+        ensures order { IfOk result (λ o. GoesMembers
+            (task R.resolving T.owned T.script K.shape self.now) (filled R.point compiled.old)
+            (filled R.point compiled.new) (key_of R.point key.now) (members_view members.now.entries)
+            (map entry_view o.entries.items)) }
         ensures refused { IfErr result (RefusesMembers
             (task R.resolving T.owned T.script K.shape self.now) (filled R.point compiled.old)
             (key_of R.point key.now) (members_view members.now.entries)) }
@@ -311,6 +387,8 @@ impl<'p, R: Resolver, T> Given<'p, R, T> {
         T: KeywordTable<K>,
         requires table { IsWell (task R.resolving T.owned T.script K.shape self.now)
             (filled R.point compiled.old) }
+        requires under_way { IsUnderWay (task R.resolving T.owned T.script K.shape self.now)
+            (filled R.point compiled.old) }
         requires object { (R.resolving self.now.resolver.now).value (place_of key.now.place) ≡
             Some (object (members_view members.now.entries)) }
         ensures part { IfOk result (λ o. MakesMember
@@ -321,6 +399,10 @@ impl<'p, R: Resolver, T> Given<'p, R, T> {
             map string_bytes absorbed.old.items ++ member_absorbs
             (task R.resolving T.owned T.script K.shape self.now) (key_of R.point key.now)
             (members_view members.now.entries) (string_bytes name.now) (view value.now)) }
+        ensures order { IfOk result (λ o. GoesMember
+            (task R.resolving T.owned T.script K.shape self.now) (filled R.point compiled.old)
+            (filled R.point compiled.new) (key_of R.point key.now) (members_view members.now.entries)
+            (string_bytes name.now) (view value.now) (option_map entry_view o)) }
         ensures refused { IfErr result (RefusesMember
             (task R.resolving T.owned T.script K.shape self.now) (filled R.point compiled.old)
             (key_of R.point key.now) (members_view members.now.entries) (string_bytes name.now)
@@ -380,6 +462,8 @@ impl<'p, R: Resolver, T> Given<'p, R, T> {
         T: KeywordTable<K>,
         requires table { IsWell (task R.resolving T.owned T.script K.shape self.now)
             (filled R.point compiled.old) }
+        requires under_way { IsUnderWay (task R.resolving T.owned T.script K.shape self.now)
+            (filled R.point compiled.old) }
         requires object { (R.resolving self.now.resolver.now).value (place_of key.now.place) ≡
             Some (object (members_view members.now.entries)) }
         ensures part { IfOk result (λ o. MakesKeyword
@@ -390,6 +474,10 @@ impl<'p, R: Resolver, T> Given<'p, R, T> {
             map string_bytes absorbed.old.items ++ keyword_absorbs
             (task R.resolving T.owned T.script K.shape self.now) (key_of R.point key.now)
             (members_view members.now.entries) own (string_bytes name.now) priority is_leaf) }
+        ensures order { IfOk result (λ o. GoesMaker
+            (task R.resolving T.owned T.script K.shape self.now) (filled R.point compiled.old)
+            (filled R.point compiled.new) (key_of R.point key.now) (members_view members.now.entries) own
+            (string_bytes name.now) (option_map entry_view o)) }
         ensures refused { IfErr result (RefusesMaker
             (task R.resolving T.owned T.script K.shape self.now) (filled R.point compiled.old)
             (key_of R.point key.now) (members_view members.now.entries) own (string_bytes name.now)) }
@@ -431,9 +519,14 @@ impl<'p, R: Resolver, T> Given<'p, R, T> {
         T: KeywordTable<K>,
         requires table { IsWell (task R.resolving T.owned T.script K.shape self.now)
             (filled R.point compiled.old) }
+        requires under_way { IsUnderWay (task R.resolving T.owned T.script K.shape self.now)
+            (filled R.point compiled.old) }
         requires object { (R.resolving self.now.resolver.now).value (place_of key.now.place) ≡
             Some (object (members_view members.now.entries)) }
         ensures answered { IfOk result (λ e. AnswersChild
+            (task R.resolving T.owned T.script K.shape self.now) (filled R.point compiled.old)
+            (filled R.point compiled.new) (key_of R.point key.now) path.now (edge_of e)) }
+        ensures order { IfOk result (λ e. GoesChild
             (task R.resolving T.owned T.script K.shape self.now) (filled R.point compiled.old)
             (filled R.point compiled.new) (key_of R.point key.now) path.now (edge_of e)) }
         ensures refused { IfErr result (RefusesChild
@@ -449,7 +542,7 @@ impl<'p, R: Resolver, T> Given<'p, R, T> {
         };
         let below = context.in_subresource(members, path)?;
         let reading = Reading::Read(below.1);
-        Ok(self.edge_to(compiled, below.0, reading, location)?)
+        Ok(self.edge_to(compiled, below.0, reading, false, location)?)
     }
 
     /// The edge to a reference's target; none where the reference is skipped.
@@ -466,7 +559,13 @@ impl<'p, R: Resolver, T> Given<'p, R, T> {
         T: KeywordTable<K>,
         requires table { IsWell (task R.resolving T.owned T.script K.shape self.now)
             (filled R.point compiled.old) }
+        requires under_way { IsUnderWay (task R.resolving T.owned T.script K.shape self.now)
+            (filled R.point compiled.old) }
         ensures answered { IfOk result (λ o. AnswersReference
+            (task R.resolving T.owned T.script K.shape self.now) (filled R.point compiled.old)
+            (filled R.point compiled.new) (key_of R.point key.now) (string_bytes name.now)
+            (kind_of kind) (string_bytes text.now) (option_map edge_of o)) }
+        ensures order { IfOk result (λ o. GoesRefer
             (task R.resolving T.owned T.script K.shape self.now) (filled R.point compiled.old)
             (filled R.point compiled.new) (key_of R.point key.now) (string_bytes name.now)
             (kind_of kind) (string_bytes text.now) (option_map edge_of o)) }
@@ -478,7 +577,7 @@ impl<'p, R: Resolver, T> Given<'p, R, T> {
         match self.target_of(key, kind, text.as_str())? {
             None => Ok(None),
             Some(target) => {
-                let edge = self.edge_to(compiled, target, Reading::Unread, path)?;
+                let edge = self.edge_to(compiled, target, Reading::Unread, kind.nests(), path)?;
                 Ok(Some(edge))
             }
         }

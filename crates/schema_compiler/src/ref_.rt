@@ -1,11 +1,11 @@
 //! References: where they lead, the keys of their targets, and the keywords that they are.
-ghost use Rattle.std.specs.Prelude.{◌≡◌, ◌==◌, IfOk, IfErr, MatchResult, Ok, option_map, string_bytes, if◌then◌else◌};
+ghost use Rattle.std.specs.Prelude.{◌≡◌, ◌==◌, IfOk, IfErr, MatchResult, Ok, not, option_map, string_bytes, if◌then◌else◌};
 ghost use Rattle.std.specs.Str.Lossy.{utf8_lossy};
 ghost use Rattle.percent_encoding.specs.Percent.{percent_decode};
 ghost use Rattle.serde_json.specs.View.{view};
 ghost use Rattle.schema_reports.specs.Pointer.{pointer_to};
 ghost use Rattle.schema_reports.specs.Plan.{found, fragment, location_by, looked_up, resolved, start_by, referred_at, reference_named};
-ghost use Rattle.schema_reports.specs.Plan.{to_dynamic, to_recursive, to_ref, without_prefix};
+ghost use Rattle.schema_reports.specs.Plan.{is_recursive_ref, to_dynamic, to_recursive, to_ref, without_prefix};
 ghost use Rattle.schema_reports.specs.Refusals.{lookup_causes};
 ghost use Rattle.schema_node.specs.NodeViews.{entry_of as entry_view};
 ghost use Rattle.schema_node.specs.ResolverViews.{Refuses, found_of, place_of};
@@ -14,6 +14,7 @@ ghost use Rattle.schema_compiler.specs.Compiling.{resolving_parts, skips};
 ghost use Rattle.schema_compiler.specs.Carried.{IsWell, LeadsBy, MakesReference, RefusesReference, filled, task};
 ghost use Rattle.schema_compiler.specs.Referring.{IsReferredBy, by_flag, referred_by};
 ghost use Rattle.schema_compiler.specs.Refusing.{Names};
+ghost use Rattle.schema_compiler.specs.UnderWay.{GoesReference, IsUnderWay};
 
 use crate::compiler::compiled::Compiled;
 use crate::compiler::context::Context;
@@ -40,6 +41,15 @@ pub enum ReferenceKind {
     Dynamic,
     /// `$recursiveRef`.
     Recursive,
+}
+
+impl ReferenceKind {
+    /// Returns whether its target counts among those that nest: that of a `$recursiveRef` does not.
+    pub fn nests(self) -> bool
+        ensures nests { result ≡ not (is_recursive_ref (kind_of self)) }
+    {
+        !matches!(self, ReferenceKind::Recursive)
+    }
 }
 
 /// The reference keyword of a name, if it is one.
@@ -334,10 +344,16 @@ impl<'p, R: Resolver, T> Given<'p, R, T> {
         T: KeywordTable<K>,
         requires table { IsWell (task R.resolving T.owned T.script K.shape self.now)
             (filled R.point compiled.old) }
+        requires under_way { IsUnderWay (task R.resolving T.owned T.script K.shape self.now)
+            (filled R.point compiled.old) }
         ensures part { IfOk result (λ o. MakesReference
             (task R.resolving T.owned T.script K.shape self.now) (filled R.point compiled.old)
             (filled R.point compiled.new) (key_of R.point key.now) (string_bytes name.now) priority
             to_ref (view value.now) (option_map entry_view o)) }
+        ensures order { IfOk result (λ o. GoesReference
+            (task R.resolving T.owned T.script K.shape self.now) (filled R.point compiled.old)
+            (filled R.point compiled.new) (key_of R.point key.now) (string_bytes name.now) to_ref
+            (view value.now) (option_map entry_view o)) }
         ensures refused { IfErr result (RefusesReference
             (task R.resolving T.owned T.script K.shape self.now) (filled R.point compiled.old)
             (key_of R.point key.now) (string_bytes name.now) to_ref (view value.now)) }
@@ -365,10 +381,16 @@ impl<'p, R: Resolver, T> Given<'p, R, T> {
         T: KeywordTable<K>,
         requires table { IsWell (task R.resolving T.owned T.script K.shape self.now)
             (filled R.point compiled.old) }
+        requires under_way { IsUnderWay (task R.resolving T.owned T.script K.shape self.now)
+            (filled R.point compiled.old) }
         ensures part { IfOk result (λ o. MakesReference
             (task R.resolving T.owned T.script K.shape self.now) (filled R.point compiled.old)
             (filled R.point compiled.new) (key_of R.point key.now) (string_bytes name.now) priority
             to_dynamic (view value.now) (option_map entry_view o)) }
+        ensures order { IfOk result (λ o. GoesReference
+            (task R.resolving T.owned T.script K.shape self.now) (filled R.point compiled.old)
+            (filled R.point compiled.new) (key_of R.point key.now) (string_bytes name.now) to_dynamic
+            (view value.now) (option_map entry_view o)) }
         ensures refused { IfErr result (RefusesReference
             (task R.resolving T.owned T.script K.shape self.now) (filled R.point compiled.old)
             (key_of R.point key.now) (string_bytes name.now) to_dynamic (view value.now)) }
@@ -396,10 +418,16 @@ impl<'p, R: Resolver, T> Given<'p, R, T> {
         T: KeywordTable<K>,
         requires table { IsWell (task R.resolving T.owned T.script K.shape self.now)
             (filled R.point compiled.old) }
+        requires under_way { IsUnderWay (task R.resolving T.owned T.script K.shape self.now)
+            (filled R.point compiled.old) }
         ensures part { IfOk result (λ o. MakesReference
             (task R.resolving T.owned T.script K.shape self.now) (filled R.point compiled.old)
             (filled R.point compiled.new) (key_of R.point key.now) (string_bytes name.now) priority
             to_recursive (view value.now) (option_map entry_view o)) }
+        ensures order { IfOk result (λ o. GoesReference
+            (task R.resolving T.owned T.script K.shape self.now) (filled R.point compiled.old)
+            (filled R.point compiled.new) (key_of R.point key.now) (string_bytes name.now) to_recursive
+            (view value.now) (option_map entry_view o)) }
         ensures refused { IfErr result (RefusesReference
             (task R.resolving T.owned T.script K.shape self.now) (filled R.point compiled.old)
             (key_of R.point key.now) (string_bytes name.now) to_recursive (view value.now)) }
@@ -429,10 +457,16 @@ impl<'p, R: Resolver, T> Given<'p, R, T> {
         T: KeywordTable<K>,
         requires table { IsWell (task R.resolving T.owned T.script K.shape self.now)
             (filled R.point compiled.old) }
+        requires under_way { IsUnderWay (task R.resolving T.owned T.script K.shape self.now)
+            (filled R.point compiled.old) }
         ensures part { IfOk result (λ o. MakesReference
             (task R.resolving T.owned T.script K.shape self.now) (filled R.point compiled.old)
             (filled R.point compiled.new) (key_of R.point key.now) (string_bytes name.now) priority
             (kind_of kind) (view value.now) (option_map entry_view o)) }
+        ensures order { IfOk result (λ o. GoesReference
+            (task R.resolving T.owned T.script K.shape self.now) (filled R.point compiled.old)
+            (filled R.point compiled.new) (key_of R.point key.now) (string_bytes name.now) (kind_of kind)
+            (view value.now) (option_map entry_view o)) }
         ensures refused { IfErr result (RefusesReference
             (task R.resolving T.owned T.script K.shape self.now) (filled R.point compiled.old)
             (key_of R.point key.now) (string_bytes name.now) (kind_of kind) (view value.now)) }
@@ -463,10 +497,16 @@ impl<'p, R: Resolver, T> Given<'p, R, T> {
         T: KeywordTable<K>,
         requires table { IsWell (task R.resolving T.owned T.script K.shape self.now)
             (filled R.point compiled.old) }
+        requires under_way { IsUnderWay (task R.resolving T.owned T.script K.shape self.now)
+            (filled R.point compiled.old) }
         ensures part { IfOk result (λ o. MakesReference
             (task R.resolving T.owned T.script K.shape self.now) (filled R.point compiled.old)
             (filled R.point compiled.new) (key_of R.point key.now) (string_bytes name.now) priority
             (kind_of kind) (view value.now) (option_map entry_view o)) }
+        ensures order { IfOk result (λ o. GoesReference
+            (task R.resolving T.owned T.script K.shape self.now) (filled R.point compiled.old)
+            (filled R.point compiled.new) (key_of R.point key.now) (string_bytes name.now) (kind_of kind)
+            (view value.now) (option_map entry_view o)) }
         ensures refused { IfErr result (RefusesReference
             (task R.resolving T.owned T.script K.shape self.now) (filled R.point compiled.old)
             (key_of R.point key.now) (string_bytes name.now) (kind_of kind) (view value.now)) }

@@ -1,12 +1,12 @@
 //! The keys that were reached and their nodes, while they are filled.
-ghost use Rattle.std.specs.Prelude.{◌≡◌, ◌≢◌, ℕ, ◌<◌, ◌++◌, ◌∷◌, [], true, IfOk, IfErr, OnOk};
-ghost use Rattle.std.specs.Prelude.{map, Some, None, slice_get, length};
-ghost use Rattle.schema_node.specs.NodeTable.{NodeEntry, LeadsToFilled, IsReserved};
-ghost use Rattle.schema_node.specs.NodeViews.{edge_of, reserved_node};
+ghost use Rattle.std.specs.Prelude.{◌≡◌, ◌≢◌, ℕ, ◌<◌, ◌≤◌, ◌++◌, ◌∷◌, [], true, false, suc, IfOk, IfErr, OnOk};
+ghost use Rattle.std.specs.Prelude.{map, Some, None, slice_get, length, if◌then◌else◌};
 ghost use Rattle.schema_compiler.specs.KeyViews.{key_of};
 ghost use Rattle.schema_compiler.specs.Carried.{IsWell, RefusesKey, filled, task};
 ghost use Rattle.schema_compiler.specs.Compiling.{resolving_parts};
 ghost use Rattle.schema_compiler.specs.Filling.{shown_base};
+ghost use Rattle.schema_compiler.specs.Passing.{Numbered, PassesTo};
+ghost use Rattle.schema_compiler.specs.UnderWay.{IsUnderWay};
 ghost use Rattle.schema_compiler.specs.declared.compiler.error.BuildError.TheVariants as build;
 
 use crate::compiler::context::Context;
@@ -24,11 +24,21 @@ use std::alloc::Global;
 use std::hash::Hash;
 use std::rc::Rc;
 
-/// The result of a compilation: the keys that were reached, and at the same numbers their nodes.
+/// How far a compilation has come: the number that the round began with, how many targets of references are open one inside
+/// another, and whether an edge was made, since the innermost open number was begun, to one that is not settled.
+#[derive(Clone, Copy)]
+pub struct Progress {
+    pub round: usize,
+    pub depth: usize,
+    pub reaches_unsettled: bool,
+}
+
+/// The result of a compilation: the keys that were reached, and at the same numbers their nodes; and how far it has come.
 #[derive(Drop)]
 pub struct Compiled<S: Hash, K> {
     pub keys: Keys<S>,
     pub nodes: Nodes<K>,
+    pub progress: Progress,
 }
 
 /// What a key's node asks of an instance, and the members that no keyword is made of, as an object.
@@ -38,28 +48,74 @@ pub(crate) struct PlannedNode<K> {
     pub annotations: Option<Value>,
 }
 
+impl Progress {
+    /// A round that begins with this number: no target is open inside another yet.
+    pub(crate) fn at_round(number: usize) -> Progress
+        ensures round { result.round ≡ number }
+        ensures depth { result.depth ≡ 0 }
+        ensures settled { result.reaches_unsettled ≡ false }
+    {
+        Progress {
+            round: number,
+            depth: 0,
+            reaches_unsettled: false,
+        }
+    }
+
+    /// Whether the target of an edge has to wait: it nests, and as many targets as may nest are open.
+    pub(crate) fn is_full(self, nests: bool, limit: usize) -> bool
+        ensures full { result ≡ true → (nests ≡ true) × (limit ≤ self.depth) }
+        ensures room { result ≡ false → nests ≡ true → self.depth < limit }
+    {
+        nests && self.depth >= limit
+    }
+
+    /// The same round inside a number that is begun; one that nests counts as open.
+    pub(crate) fn inside(self, nests: bool, limit: usize) -> Progress
+        requires room { nests ≡ true → self.depth < limit }
+        ensures round { result.round ≡ self.round }
+        ensures depth { result.depth ≡ (if nests then suc self.depth else self.depth) }
+        ensures settled { result.reaches_unsettled ≡ false }
+    {
+        let depth = if nests { self.depth + 1 } else { self.depth };
+        Progress {
+            round: self.round,
+            depth,
+            reaches_unsettled: false,
+        }
+    }
+}
+
 impl<S: Hash + Drop, K: Validate> Compiled<S, K> {
     /// Returns a table with no key and no node.
     pub fn new(alloc: Global) -> Compiled<S, K>
         ensures keys { result.keys ≡ [] }
         ensures nodes { result.nodes ≡ [] }
+        ensures round { result.progress.round ≡ 0 }
+        ensures depth { result.progress.depth ≡ 0 }
+        ensures settled { result.progress.reaches_unsettled ≡ false }
     {
         Compiled {
             keys: Keys::new(alloc),
             nodes: Nodes::new(alloc),
+            progress: Progress::at_round(0),
         }
     }
 
-    /// The edge to a number that is there, which is guarded where the number is only reserved.
-    pub(crate) fn edge_at(&self, number: usize, path: Location) -> Edge
-        requires within { number < length self.now.nodes }
+    /// The edge to a number that is there, made now: guarded where the number is in progress, or an unsettled one of an earlier
+    /// round. Where the number is not settled, so is noted.
+    pub(crate) fn edge_at(&mut self, number: usize, path: Location) -> Edge
+        requires within { number < length self.old.nodes }
         ensures node { result.node.0 ≡ number }
         ensures path { result.path ≡ path }
-        ensures leads { LeadsToFilled self.now.nodes (edge_of result) }
-        ensures guarded { result.guarded ≡ true → IsReserved self.now.nodes number }
+        ensures keys { self.new.keys ≡ self.old.keys }
+        ensures nodes { self.new.nodes ≡ self.old.nodes }
+        ensures passes { PassesTo self.old.nodes number self.old.progress self.new.progress result.guarded }
     {
         let node = SchemaNode(number);
-        let guarded = !self.nodes.is_filled(node);
+        let guarded = self.nodes.guards_from(node, self.progress.round);
+        let settled = self.nodes.is_settled(node);
+        self.progress.reaches_unsettled = self.progress.reaches_unsettled || !settled;
         Edge {
             node,
             path,
@@ -69,15 +125,23 @@ impl<S: Hash + Drop, K: Validate> Compiled<S, K> {
 }
 
 impl<'p, R: Resolver, T> Given<'p, R, T> {
-    // Reserves the node of a key.
-    fn reserve_node<K: Validate>(
+    // Adds the node of a key: in progress in this round, or else waiting.
+    fn add_node<K: Validate>(
         &self,
         nodes: &mut Nodes<K>,
         key: &SchemaKey<R::State>,
+        round: Option<usize>,
     ) -> Result<SchemaNode, OutOfMemory>
-        ensures added { OnOk result (nodes.new ≡ nodes.old ++ reserved_node key.now.location
-            (shown_base (resolving_parts (R.resolving self.now.resolver.now)) (key_of R.point key.now))
-            key.now.start ∷ []) }
+        ensures added { OnOk result (nodes.new ≡ nodes.old ++ record {
+          location = key.now.location;
+          base = shown_base (resolving_parts (R.resolving self.now.resolver.now)) (key_of R.point key.now);
+          start = key.now.start;
+          round = round;
+          order = 0;
+          settled = false;
+          annotations = None;
+          plan = None;
+        } ∷ []) }
         ensures number { IfOk result (λ n. n.0 ≡ length nodes.old) }
     {
         let location = key.location.clone()?;
@@ -88,14 +152,18 @@ impl<'p, R: Resolver, T> Given<'p, R, T> {
             key,
         };
         let base = context.base_uri()?;
-        nodes.reserve(location, base, key.start)
+        match round {
+            Some(number) => nodes.reserve(location, base, key.start, number),
+            None => nodes.defer(location, base, key.start),
+        }
     }
 
-    // Gives a key the next number, with a node that is reserved.
-    fn reserve<K: Validate>(
+    // Gives a key the next number, with a node that is in progress in this round, or waits.
+    fn number_key<K: Validate>(
         &self,
         compiled: &mut Compiled<R::State, K>,
         key: &Rc<SchemaKey<R::State>>,
+        round: Option<usize>,
     ) -> Result<SchemaNode, BuildError>
     where
         T: KeywordTable<K>,
@@ -108,22 +176,23 @@ impl<'p, R: Resolver, T> Given<'p, R, T> {
             (filled R.point compiled.new)) }
         ensures keys { OnOk result (map (key_of R.point) compiled.new.keys ≡
             map (key_of R.point) compiled.old.keys ++ key_of R.point key.now.value ∷ []) }
-        ensures nodes { OnOk result ((n : NodeEntry K) ×
-            (compiled.new.nodes ≡ compiled.old.nodes ++ n ∷ []) × (n.plan ≡ None)) }
+        ensures nodes { OnOk result (Numbered compiled.old.nodes round compiled.new.nodes) }
+        ensures progress { OnOk result (compiled.new.progress ≡ compiled.old.progress) }
         ensures number { IfOk result (λ n. n.0 ≡ length compiled.old.nodes) }
         ensures memory { IfErr result (λ e. e ≡ build.OutOfMemory) }
     {
-        let number = self.reserve_node(&mut compiled.nodes, key)?;
+        let number = self.add_node(&mut compiled.nodes, key, round)?;
         let own = key.clone()?;
         compiled.keys.push(own)?;
         Ok(number)
     }
 
-    /// Gives a key the next number, with a node that is reserved, unless the limit is reached.
-    pub(crate) fn reserve_within<K: Validate>(
+    /// Gives a key the next number, with a node that is in progress in this round, or else waits, unless the limit is reached.
+    pub(crate) fn number_within<K: Validate>(
         &self,
         compiled: &mut Compiled<R::State, K>,
         key: &Rc<SchemaKey<R::State>>,
+        round: Option<usize>,
     ) -> Result<SchemaNode, BuildError>
     where
         T: KeywordTable<K>,
@@ -135,8 +204,8 @@ impl<'p, R: Resolver, T> Given<'p, R, T> {
             (filled R.point compiled.new)) }
         ensures keys { OnOk result (map (key_of R.point) compiled.new.keys ≡
             map (key_of R.point) compiled.old.keys ++ key_of R.point key.now.value ∷ []) }
-        ensures nodes { OnOk result ((n : NodeEntry K) ×
-            (compiled.new.nodes ≡ compiled.old.nodes ++ n ∷ []) × (n.plan ≡ None)) }
+        ensures nodes { OnOk result (Numbered compiled.old.nodes round compiled.new.nodes) }
+        ensures progress { OnOk result (compiled.new.progress ≡ compiled.old.progress) }
         ensures number { IfOk result (λ n. n.0 ≡ length compiled.old.nodes) }
         ensures refused { IfErr result
             (RefusesKey (task R.resolving T.owned T.script K.shape self.now)
@@ -145,6 +214,45 @@ impl<'p, R: Resolver, T> Given<'p, R, T> {
         if compiled.keys.len() >= self.options.node_limit {
             return Err(BuildError::NodeLimit(self.options.node_limit));
         }
-        Ok(self.reserve(compiled, key)?)
+        Ok(self.number_key(compiled, key, round)?)
+    }
+
+    /// Gives a key that is compiled at once the next number, with a node that is in progress in this round, unless the limit is
+    /// reached. What is made from now on is made inside it.
+    pub(crate) fn begin_number<K: Validate>(
+        &self,
+        compiled: &mut Compiled<R::State, K>,
+        key: &Rc<SchemaKey<R::State>>,
+        nests: bool,
+    ) -> Result<SchemaNode, BuildError>
+    where
+        T: KeywordTable<K>,
+        requires table { IsWell (task R.resolving T.owned T.script K.shape self.now)
+            (filled R.point compiled.old) }
+        requires under_way { IsUnderWay (task R.resolving T.owned T.script K.shape self.now)
+            (filled R.point compiled.old) }
+        requires absent { (i : ℕ) → slice_get (map (key_of R.point) compiled.old.keys) i ≢
+            Some (key_of R.point key.now.value) }
+        requires room { nests ≡ true → compiled.old.progress.depth < self.now.nested_limit }
+        ensures table { OnOk result (IsWell (task R.resolving T.owned T.script K.shape self.now)
+            (filled R.point compiled.new)) }
+        ensures under_way { OnOk result (IsUnderWay (task R.resolving T.owned T.script K.shape self.now)
+            (filled R.point compiled.new)) }
+        ensures keys { OnOk result (map (key_of R.point) compiled.new.keys ≡
+            map (key_of R.point) compiled.old.keys ++ key_of R.point key.now.value ∷ []) }
+        ensures nodes { OnOk result (Numbered compiled.old.nodes (Some compiled.old.progress.round) compiled.new.nodes) }
+        ensures round { OnOk result (compiled.new.progress.round ≡ compiled.old.progress.round) }
+        ensures depth { OnOk result (compiled.new.progress.depth ≡
+            (if nests then suc compiled.old.progress.depth else compiled.old.progress.depth)) }
+        ensures settled { OnOk result (compiled.new.progress.reaches_unsettled ≡ false) }
+        ensures number { IfOk result (λ n. n.0 ≡ length compiled.old.nodes) }
+        ensures refused { IfErr result
+            (RefusesKey (task R.resolving T.owned T.script K.shape self.now)
+            (filled R.point compiled.old) (key_of R.point key.now.value)) }
+    {
+        let outer = compiled.progress;
+        let number = self.number_within(compiled, key, Some(outer.round))?;
+        compiled.progress = outer.inside(nests, self.nested_limit);
+        Ok(number)
     }
 }

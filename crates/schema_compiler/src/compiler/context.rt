@@ -1,6 +1,6 @@
 //! The place where a schema is compiled: its key, with the memory, the resolver and the options of the compilation. Its
 //! draft, its vocabularies and its location, and what follows from them. References are in `ref_`, subschemas in `subschema`.
-ghost use Rattle.std.specs.Prelude.{◌≡◌, ◌≢◌, ◌||◌, ◌++◌, None, IfOk, MatchOption, not, unwrap_or, option_map, codes};
+ghost use Rattle.std.specs.Prelude.{◌≡◌, ◌≢◌, ◌||◌, ◌++◌, ◌∷◌, None, IfOk, IfSome, MatchOption, drop, not, unwrap_or, option_map, codes};
 ghost use Rattle.std.specs.Prelude.{string_bytes, if◌then◌else◌};
 ghost use Rattle.serde_json.specs.View.{view, members_view};
 ghost use Rattle.schema_reports.specs.Instance.{Text, member_of};
@@ -8,7 +8,7 @@ ghost use Rattle.schema_reports.specs.Pointer.{joined};
 ghost use Rattle.schema_reports.specs.Drafts.{ref_stands_alone};
 ghost use Rattle.schema_reports.specs.KeywordTable.{is_in_force};
 ghost use Rattle.schema_reports.specs.KeywordViews.{draft_of, vocabulary_of};
-ghost use Rattle.schema_reports.specs.Plan.{absolute_of};
+ghost use Rattle.schema_reports.specs.Plan.{absolute_of, encoded};
 ghost use Rattle.schema_compiler.specs.Builtins.{builtin};
 ghost use Rattle.schema_compiler.specs.Compiling.{resolving_parts};
 ghost use Rattle.schema_compiler.specs.Dialects.{asserts_formats, integer_valued_numbers};
@@ -32,6 +32,26 @@ pub struct Context<'p, 'c, R: Resolver> {
     pub resolver: &'p R,
     pub options: &'p CompileOptions,
     pub key: &'c SchemaKey<R::State>,
+}
+
+/// What absolute locations in a resource are made of: its URI, and how many bytes of a location lie outside it.
+#[derive(Drop)]
+pub struct DeferredAbsoluteLocation {
+    pub base: String,
+    pub resource_start: usize,
+}
+
+impl DeferredAbsoluteLocation {
+    /// Returns the absolute location of a location in the resource: the URI, `#`, and the location from where the resource
+    /// starts, as a fragment. Fails only if memory cannot be allocated.
+    pub fn resolve(self, location: &Location) -> Result<String, OutOfMemory>
+        ensures absolute { IfOk result (λ t. string_bytes t ≡
+            string_bytes self.base ++ (35 ∷ encoded (drop self.resource_start location.now))) }
+    {
+        let mut text = self.base;
+        push_fragment(&mut text, location.as_str(), self.resource_start)?;
+        Ok(text)
+    }
 }
 
 impl<'p, 'c, R: Resolver> Context<'p, 'c, R> {
@@ -80,6 +100,25 @@ impl<'p, 'c, R: Resolver> Context<'p, 'c, R> {
             return Ok(None);
         }
         Ok(Some(String::from_str(self.alloc, text_before_fragment(uri))?))
+    }
+
+    /// Returns what absolute locations in the schema's resource are made of, for one that is wanted later; none if that resource
+    /// has no URI that is shown. Fails only if memory cannot be allocated.
+    pub fn deferred_absolute_location(
+        &self,
+    ) -> Result<Option<DeferredAbsoluteLocation>, OutOfMemory>
+        ensures base { IfOk result (λ o. option_map (λ d. string_bytes d.base) o ≡
+            shown_base (resolving_parts (R.resolving self.now.resolver.now))
+            (key_of R.point self.now.key.now)) }
+        ensures start { IfOk result (λ o. IfSome o (λ d. d.resource_start ≡ self.now.key.now.start)) }
+    {
+        match self.base_uri()? {
+            None => Ok(None),
+            Some(base) => Ok(Some(DeferredAbsoluteLocation {
+                base,
+                resource_start: self.key.start,
+            })),
+        }
     }
 
     /// Returns the absolute location of a location in the schema's resource; none if that resource has no URI that is

@@ -12,12 +12,14 @@ pub struct CompileOptions {
     pub node_limit: usize,
 }
 
-/// The memory, the resolver, the keyword table and the options of a compilation. The compiler's functions are its methods;
-/// what they fill is a `Compiled`.
+/// The memory, the resolver, the keyword table and the options of a compilation, and how many targets of `$ref` and
+/// `$dynamicRef` may be open one inside another; one that is found then is compiled later. The compiler's functions are its
+/// methods; what they fill is a `Compiled`.
 #[derive_where(Clone, Copy)]
 pub struct Given<'p, R, T> {
     pub alloc: Global,
     pub resolver: &'p R,
     pub table: &'p T,
     pub options: &'p CompileOptions,
+    pub nested_limit: usize,
 }

@@ -1,6 +1,6 @@
 //! The keys that were reached, in the order of their numbers. A key is found by a hash, from number to number. It is shared with
 //! the step that compiles its node, since a copy of it is as long as its schema is deep.
-ghost use Rattle.std.specs.Prelude.{◌≡◌, ◌≢◌, ◌≤◌, ◌+◌, ◌++◌, ◌∷◌, ℕ, [], MatchOption, OnErr, OnOk, Some};
+ghost use Rattle.std.specs.Prelude.{◌≡◌, ◌≢◌, ◌≤◌, ◌<◌, ◌+◌, ◌++◌, ◌∷◌, ℕ, [], IfOk, MatchOption, OnErr, OnOk, Some};
 ghost use Rattle.std.specs.Prelude.{if◌then◌else◌, length, map, nat_eq, slice_get, vec_capacity, vec_len};
 ghost use Rattle.std.specs.HashMap.{IsUnchanged, get};
 ghost use Rattle.schema_compiler.specs.KeyViews.{key_of};
@@ -57,6 +57,14 @@ impl<S: Hash + Drop> Keys<S> {
         ensures count { result ≡ length self.now }
     {
         self.keys.len()
+    }
+
+    /// The key of a number, shared. Fails only if memory cannot be allocated.
+    pub(crate) fn shared(&self, number: usize) -> Result<Rc<SchemaKey<S>>, OutOfMemory>
+        requires within { number < length self.now }
+        ensures key { IfOk result (λ k. slice_get self.now number ≡ Some k.value) }
+    {
+        self.keys[number].clone()
     }
 
     /// Gives a key the next number.

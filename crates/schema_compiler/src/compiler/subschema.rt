@@ -152,7 +152,7 @@ impl<'p, 'c, R: Resolver> Context<'p, 'c, R> {
         ensures below { IfOk result (λ k.
             subschema (resolving_parts (R.resolving self.now.resolver.now))
             (key_of R.point self.now.key.now) path.now ≡
-            Some (record { key = key_of R.point k.0; path = pointer_to path.now; is_reference = false })) }
+            Some (record { key = key_of R.point k.0; path = pointer_to path.now; is_reference = false; is_recursive = false })) }
         ensures read { IfOk result (λ k. option_map (λ v. view v.now) k.1 ≡
             (R.resolving self.now.resolver.now).value (place_of k.0.place)) }
         ensures refused { IfErr result (Names

@@ -1,5 +1,5 @@
-use Rattle.std.proofs.Common.{Global, String, ℕ, suc, ◌<◌, length, ◌≡◌, ◌∷◌, [], ◌++◌, List, append_assoc, string_cmp, subst, map, refl, sym, ap, ap₂, ◌∙◌, arith, Some, None, rules, true, false, true≢false}
-use Rattle.std.specs.Prelude.{slice_get, IfErr, IfOk, Option, string_bytes, option_map, unwrap_or}
+use Rattle.std.proofs.Common.{Bool, Global, String, ℕ, suc, ◌<◌, length, ◌≡◌, ◌∷◌, [], ◌++◌, List, append_assoc, string_cmp, subst, map, refl, sym, ap, ap₂, ◌∙◌, arith, Some, None, rules, true, false, true≢false}
+use Rattle.std.specs.Prelude.{codes, not, slice_get, IfErr, IfOk, Option, string_bytes, option_map, unwrap_or}
 use Rattle.std.proofs.lemmas.List.{append-nil, length-map}
 use Rattle.std.proofs.lemmas.Result.{IfOk-weaker, err_from_is_err_and}
 use Rattle.std.proofs.lemmas.Grind.{common_steps}
@@ -11,28 +11,32 @@ use Rattle.serde_json.specs.View.{view, members_view}
 use Rattle.serde_json.proofs.Views.{Entry}
 use Rattle.schema_reports.specs.Instance.{Text}
 use Rattle.schema_reports.specs.Pointer.{pointer_to, joined}
-use Rattle.schema_reports.specs.Plan.{Edge, Part, Plan, making}
-use Rattle.schema_reports.specs.Reach.{asked_edges, at_first}
+use Rattle.schema_reports.specs.Plan.{Edge, Part, Plan, making, is_recursive_ref, option_list, to_ref}
+use Rattle.schema_reports.specs.Reach.{asked_edges, at_first, maker_edges, reference_edges}
 use Rattle.schema_reports.specs.Refusals.{Cause}
 use Rattle.schema_reports.specs.Units.{absorbed_by, absorbed_in, object_of, unknown, without}
-use Rattle.schema_reports.specs.Guarded.{NodeEdge, NodePlan, node_edges, node_these}
+use Rattle.schema_reports.specs.Guarded.{NodeEdge, NodePart, NodePlan, form_edges, node_edges, node_these}
 use Rattle.schema_node.specs.NodeTable.{IsFilled, NodeEntry}
 use Rattle.schema_node.specs.MakerViews.{maker_reply_of}
 use Rattle.schema_node.specs.NodeViews.{edge_of, entry_of, plan_of}
 use Rattle.schema_compiler.specs.KeyViews.{key_of, kind_of}
 use Rattle.schema_compiler.specs.Carried.{filled, task}
 use Rattle.schema_compiler.specs.Compiling.{In, reference_asked}
-use Rattle.schema_compiler.specs.Guarding.{DownFrom}
-use Rattle.schema_compiler.proofs.Lists.{length-more, there}
+use Rattle.schema_compiler.proofs.Lists.{length-more}
 use Rattle.schema_compiler.specs.Refusing.{Refused}
-use Rattle.schema_compiler.specs.Steps.{MakesPart, MakesPlan}
+use Rattle.schema_compiler.specs.Steps.{MakesPart, MakesPlan, part_edges}
+use Rattle.schema_compiler.specs.UnderWay.{Goes, Reaches}
+use Rattle.schema_compiler.specs.Carried.{Table}
+use Rattle.schema_compiler.specs.declared.compiler.compiled.Progress.{Progress}
+use Rattle.schema_reports.specs.Reach.{Reached}
 use Rattle.schema_compiler.proofs.Growing.{refusal_map, from_key, blames_key, grown_none, grown_map, step_none}
-use Rattle.schema_compiler.proofs.Tables.{are_filled, down_to, edges_older, finished_grown, finished_table, finishes, guards_now, numbered_after, reserved_after}
+use Rattle.schema_compiler.proofs.Tables.{finished_grown, finished_table, finishes, numbered_after, put_grown, put_number, reserved_after}
+use Rattle.schema_compiler.proofs.UnderWay.{goes_none, goes_to, may_be_filled, opened_way, reaches_found, reaches_opened, reaches_put}
 use Rattle.schema_compiler.proofs.References.{asked_refused, compile_clean, reference_clean, self_clean, asked_self, asked_edge, is_answered, is_skipped}
-use Rattle.schema_compiler.proofs.Entries.{all_entries, all_steps, so_far_none, so_far_more, member_refused}
-use Rattle.schema_compiler.proofs.Forms.{boolean_made, object_is, object_stands, other_refused}
-use Rattle.schema_compiler.proofs.Turns.{asked_begun, asked_compile, asked_refer, compile_refused, refer_refused, made_keyword, made_nothing, absorbed_keyword, absorbed_nothing}
-use Rattle.schema_compiler.proofs.MembersAsk.{own_is, reference_is, built_is, no_member, lone_is, lone_refused, members_are, members_refused, text_refused, other_text_refused, reference_absorbs, reference_made, planned_alone}
+use Rattle.schema_compiler.proofs.Entries.{all_entries, all_goes, all_steps, so_far_none, so_far_more, member_refused}
+use Rattle.schema_compiler.proofs.Forms.{boolean_goes, boolean_made, object_is, object_stands, other_refused}
+use Rattle.schema_compiler.proofs.Turns.{asked_begun, asked_compile, asked_refer, compile_refused, refer_refused, keyword_goes, made_keyword, made_nothing, nothing_goes, absorbed_keyword, absorbed_nothing}
+use Rattle.schema_compiler.proofs.MembersAsk.{own_is, reference_is, built_is, no_member, lone_is, lone_refused, members_are, members_refused, text_goes, alone_goes, text_refused, other_text_refused, reference_absorbs, reference_made, planned_alone}
 use Rattle.schema_compiler.proofs.Unknown.{made_known, kept_unknown, more_absorbed}
 use Rattle.schema_compiler.proofs.compiler.given.Given.+compile.Goals as goal
 
@@ -42,106 +46,138 @@ child_edge-returns-in_err-edge_to-clause-refused g t c =
     let s = task g.R.Resolver.resolving g.T.KeywordTable.owned g.T.KeywordTable.script g.K.Validate.shape c.args.self.now in
     let old = filled g.R.Resolver.point c.args.compiled.now in
     let p = err_from_is_err_and c.from_residual-in_err-edge_to.result c.from_residual-in_err-edge_to.ensures.1 in
-    rw (p.1, p.2) (asked_refused s.parts s.limit _ (record { key = v c.in_ok-below.below.0; path = pointer_to c.args.path.now; is_reference = false }) _ old.keys _ c.in_ok-below.ensures.below c.in_err-edge_to.ensures.refused)
+    rw (p.1, p.2) (asked_refused s.parts s.limit _ (record { key = v c.in_ok-below.below.0; path = pointer_to c.args.path.now; is_reference = false; is_recursive = false }) _ old.keys _ c.in_ok-below.ensures.below c.in_err-edge_to.ensures.refused)
 
 pub child_edge-returns-clause-answered : goal.child_edge-returns-clause-answered
 child_edge-returns-clause-answered g t c =
     let v = key_of g.R.Resolver.point in
     let s = task g.R.Resolver.resolving g.T.KeywordTable.owned g.T.KeywordTable.script g.K.Validate.shape c.args.self.now in
     let old = filled g.R.Resolver.point c.args.compiled.now in
-    is_answered s.parts s.shape s.limit _ (record { key = v c.in_ok-below.below.0; path = pointer_to c.args.path.now; is_reference = false }) _ old.keys (map v c.edge_to.new.compiled.keys) old.nodes c.edge_to.new.compiled.nodes (edge_of c.in_ok-edge_to.field-0) _ c.in_ok-below.ensures.below
-    (compile_clean s.parts (v c.args.key.now) c.args.path.now (record { key = v c.in_ok-below.below.0; path = pointer_to c.args.path.now; is_reference = false }) c.in_ok-below.ensures.below) (λ f. absurd (true≢false (sym f))) c.in_ok-location.ensures.pointer c.in_ok-edge_to.ensures.edge
+    is_answered s.parts s.shape s.limit _ (record { key = v c.in_ok-below.below.0; path = pointer_to c.args.path.now; is_reference = false; is_recursive = false }) _ old.keys (map v c.edge_to.new.compiled.keys) old.nodes c.edge_to.new.compiled.nodes (edge_of c.in_ok-edge_to.field-0) _ c.in_ok-below.ensures.below
+    (compile_clean s.parts (v c.args.key.now) c.args.path.now (record { key = v c.in_ok-below.below.0; path = pointer_to c.args.path.now; is_reference = false; is_recursive = false }) c.in_ok-below.ensures.below) (λ f. absurd (true≢false (sym f))) c.in_ok-location.ensures.pointer c.in_ok-edge_to.ensures.edge
+
+pub child_edge-returns-clause-order : goal.child_edge-returns-clause-order
+child_edge-returns-clause-order g t c =
+    let v = key_of g.R.Resolver.point in
+    let s = task g.R.Resolver.resolving g.T.KeywordTable.owned g.T.KeywordTable.script g.K.Validate.shape c.args.self.now in
+    let old = filled g.R.Resolver.point c.args.compiled.now in
+    let new = filled g.R.Resolver.point c.edge_to.new.compiled in
+    let edge : Edge _ = record { key = v c.in_ok-below.below.0; path = pointer_to c.args.path.now; is_reference = false; is_recursive = false } in
+    subst (λ (o : Option (Edge _)). Goes s old new (option_list o) (edge_of c.in_ok-edge_to.field-0 ∷ [])) (sym c.in_ok-below.ensures.below) (c.in_ok-edge_to.ensures.order edge refl refl)
 
 pub edge_to-returns-clause-edge : goal.edge_to-returns-clause-edge
 edge_to-returns-clause-edge g t c =
     let n = c.in_ok-number.ensures.numbered in
-    record {
-      table = n.table;
-      grown = n.grown;
-      number = rw c.edge_at.ensures.node (n.number);
-      fresh = rw c.edge_at.ensures.node (n.fresh);
-      at_path = c.edge_at.ensures.path;
-      leads = c.edge_at.ensures.leads;
-      waits = rw c.edge_at.ensures.node (c.edge_at.ensures.guarded);
-      down = rw c.edge_at.ensures.node (n.down);
-    }
+    rw (c.edge_at.ensures.keys, c.edge_at.ensures.nodes) (record { table = n.table; grown = n.grown; number = rw c.edge_at.ensures.node n.number; at_path = c.edge_at.ensures.path })
+
+pub edge_to-returns-clause-order : goal.edge_to-returns-clause-order
+edge_to-returns-clause-order g t c =
+    let v = key_of g.R.Resolver.point in
+    let s = task g.R.Resolver.resolving g.T.KeywordTable.owned g.T.KeywordTable.script g.K.Validate.shape c.args.self.now in
+    let passes = c.edge_at.ensures.passes in
+    goes_to s (filled g.R.Resolver.point c.args.compiled.now) (filled g.R.Resolver.point c.number_of.new.compiled) (filled g.R.Resolver.point c.edge_at.new.self) (v c.args.key) c.args.nests c.in_ok-number.number (edge_of c.edge_at.result) passes.entry
+    c.in_ok-number.ensures.order (ap (map v) c.edge_at.ensures.keys) c.edge_at.ensures.nodes passes.same_round passes.same_depth passes.loose passes.at c.edge_at.ensures.node passes.guard
 
 pub number_of-returns-in-Some-clause-numbered : goal.number_of-returns-in-Some-clause-numbered
 number_of-returns-in-Some-clause-numbered g t c =
     let old = filled g.R.Resolver.point c.args.compiled.now in
+    record { table = c.requires.table; grown = grown_none _ old.keys old.nodes c.requires.table.lengths; number = c.in-Some.ensures.found }
+
+pub number_of-returns-in-Some-clause-order : goal.number_of-returns-in-Some-clause-order
+number_of-returns-in-Some-clause-order g t c =
+    let v = key_of g.R.Resolver.point in
+    let s = task g.R.Resolver.resolving g.T.KeywordTable.owned g.T.KeywordTable.script g.K.Validate.shape c.args.self.now in
+    let old = filled g.R.Resolver.point c.args.compiled.now in
+    reaches_found s old (v c.args.key) c.args.nests _ c.requires.under_way c.requires.table.lengths c.in-Some.ensures.found
+
+pub number_of-returns-then-is_full-clause-numbered : goal.number_of-returns-then-is_full-clause-numbered
+number_of-returns-then-is_full-clause-numbered g t c =
+    let v = key_of g.R.Resolver.point in
+    let s = task g.R.Resolver.resolving g.T.KeywordTable.owned g.T.KeywordTable.script g.K.Validate.shape c.args.self.now in
+    let old = filled g.R.Resolver.point c.args.compiled.now in
+    let k = v c.args.key in
+    let n = c.in_ok-number.ensures.nodes in
+    let added = rw c.in_ok-shared.ensures.ok at c.in_ok-number.ensures.keys in
+    let keys' = map v c.number_within.new.compiled.keys in
+    let nodes' = c.number_within.new.compiled.nodes in
     record {
-      table = c.requires.table;
-      grown = grown_none _ old.keys old.nodes c.requires.table.lengths;
-      number = c.in-Some.ensures.found;
-      fresh = λ absent. absurd (absent c.in-Some.ensures.found);
-      down = λ i le lt. absurd (omega arith);
+      table = c.in_ok-number.ensures.table;
+      grown = put_grown (Reached s.parts k) old.keys keys' old.nodes nodes' k n.0 c.requires.table.lengths added n.1 n.2 n.3 at_first;
+      number = put_number old.keys keys' k c.in_ok-number.number.0 (c.in_ok-number.ensures.number ∙ c.requires.table.lengths) added;
     }
 
-pub number_of-returns-in_err-number-clause-refused : goal.number_of-returns-in_err-number-clause-refused
-number_of-returns-in_err-number-clause-refused g t c =
-    let p = err_from_is_err_and c.from_residual-in_err-number.result c.from_residual-in_err-number.ensures.1 in
-    rw (p.1, p.2) (rw c.in_ok-shared.ensures.ok at c.in_err-number.ensures.refused)
+pub number_of-returns-then-is_full-clause-order : goal.number_of-returns-then-is_full-clause-order
+number_of-returns-then-is_full-clause-order g t c =
+    let v = key_of g.R.Resolver.point in
+    let s = task g.R.Resolver.resolving g.T.KeywordTable.owned g.T.KeywordTable.script g.K.Validate.shape c.args.self.now in
+    let old = filled g.R.Resolver.point c.args.compiled.now in
+    let new = filled g.R.Resolver.point c.number_within.new.compiled in
+    let n = c.in_ok-number.ensures.nodes in
+    let full = c.is_full.ensures.full c.if-is_full.true in
+    let added = rw c.in_ok-shared.ensures.ok at c.in_ok-number.ensures.keys in
+    let same = c.in_ok-number.ensures.progress in
+    subst (λ (b : Bool). Reaches s old new (v c.args.key) b c.in_ok-number.number.0) (sym full.0)
+    (reaches_put s old new (v c.args.key) c.in_ok-number.number.0 n.0 c.requires.under_way c.in_default.ensures.found full.1 c.requires.table.lengths added n.1 n.2 n.3
+    (ap (λ (p : Progress). p.round) same) (ap (λ (p : Progress). p.depth) same) (ap (λ (p : Progress). p.reaches_unsettled) same) c.in_ok-number.ensures.number)
 
-pub number_of-returns-in_err-planned-clause-refused : goal.number_of-returns-in_err-planned-clause-refused
-number_of-returns-in_err-planned-clause-refused g t c =
+pub compiled_number-returns-in_err-planned-clause-refused : goal.compiled_number-returns-in_err-planned-clause-refused
+compiled_number-returns-in_err-planned-clause-refused g t c =
     let v = key_of g.R.Resolver.point in
     let s = task g.R.Resolver.resolving g.T.KeywordTable.owned g.T.KeywordTable.script g.K.Validate.shape c.args.self.now in
     let old = filled g.R.Resolver.point c.args.compiled.now in
     let p = err_from_is_err_and c.from_residual-in_err-planned.result c.from_residual-in_err-planned.ensures.1 in
-    let k = v c.args.key in
-    rw (p.1, p.2) (refusal_map s.limit _ _ _ _ old.keys (map v c.reserve_within.new.compiled.keys) (k ∷ []) (from_key s.parts k) (blames_key s.parts k) (rw c.in_ok-shared.ensures.ok at c.in_ok-number.ensures.keys) (at_first, tt) _ (rw (c.deref.ensures ∙ c.in_ok-shared.ensures.ok) at c.in_err-planned.ensures.refused))
+    let k = v c.args.key.now.value in
+    rw (p.1, p.2) (refusal_map s.limit _ _ _ _ old.keys (map v c.begin_number.new.compiled.keys) (k ∷ []) (from_key s.parts k) (blames_key s.parts k) c.in_ok-number.ensures.keys (at_first, tt) _ (rw c.deref.ensures at c.in_err-planned.ensures.refused))
 
-pub number_of-fill-requires-clause-reserved : goal.number_of-fill-requires-clause-reserved
-number_of-fill-requires-clause-reserved g t c =
-    let old = filled g.R.Resolver.point c.args.compiled.now in
-    let n = c.in_ok-number.ensures.nodes in
-    reserved_after old.nodes c.reserve_within.new.compiled.nodes c.planned_node.new.compiled.nodes n.0 c.in_ok-number.number.0 c.in_ok-number.ensures.number n.1 n.2 c.in_ok-planned.ensures.planned.step.grown.stay
-
-pub number_of-fill-requires-clause-ready : goal.number_of-fill-requires-clause-ready
-number_of-fill-requires-clause-ready g t c =
-    let v = key_of g.R.Resolver.point in
-    let s = task g.R.Resolver.resolving g.T.KeywordTable.owned g.T.KeywordTable.script g.K.Validate.shape c.args.self.now in
-    let m = c.in_ok-planned.ensures.planned in
-    are_filled s.parts s.shape s.limit (map v c.planned_node.new.compiled.keys) c.planned_node.new.compiled.nodes (v c.deref.result.now) (plan_of c.in_ok-planned.planned.form)
-    (record { plans = m.plan; settled = m.step.settled; clean = m.step.clean })
-
-pub number_of-returns-clause-numbered : goal.number_of-returns-clause-numbered
-number_of-returns-clause-numbered g t c =
+pub compiled_number-fill-requires : goal.compiled_number-fill-requires
+compiled_number-fill-requires g t c =
     let v = key_of g.R.Resolver.point in
     let s = task g.R.Resolver.resolving g.T.KeywordTable.owned g.T.KeywordTable.script g.K.Validate.shape c.args.self.now in
     let old = filled g.R.Resolver.point c.args.compiled.now in
     let n = c.in_ok-number.ensures.nodes in
-    let m = rw (c.deref.ensures ∙ c.in_ok-shared.ensures.ok) at c.in_ok-planned.ensures.planned in
-    let added = rw c.in_ok-shared.ensures.ok at c.in_ok-number.ensures.keys in
-    let k = v c.args.key in
+    let o = c.in_ok-planned.ensures.order in
+    let d = filled g.R.Resolver.point c.planned_node.new.compiled in
+    let there = reserved_after old.nodes c.begin_number.new.compiled.nodes d.nodes n.0 c.in_ok-number.number.0 c.in_ok-number.ensures.number n.1 o.stay in
+    record { ready = may_be_filled s d c.in_ok-number.number.0 n.0 (plan_of c.in_ok-planned.planned.form) o.under_way there n.2 (n.3 ∙ ap (λ (r : ℕ). Some r) (sym (o.same_round ∙ c.in_ok-number.ensures.round))) o.now }
+
+pub compiled_number-returns-clause-numbered : goal.compiled_number-returns-clause-numbered
+compiled_number-returns-clause-numbered g t c =
+    let v = key_of g.R.Resolver.point in
+    let s = task g.R.Resolver.resolving g.T.KeywordTable.owned g.T.KeywordTable.script g.K.Validate.shape c.args.self.now in
+    let old = filled g.R.Resolver.point c.args.compiled.now in
+    let n = c.in_ok-number.ensures.nodes in
+    let m = rw c.deref.ensures at c.in_ok-planned.ensures.planned in
+    let added = c.in_ok-number.ensures.keys in
+    let k = v c.args.key.now.value in
     let i = c.in_ok-number.number.0 in
     let p = plan_of c.in_ok-planned.planned.form in
     let annotations = c.in_ok-planned.planned.annotations in
-    let reserved = map v c.reserve_within.new.compiled.keys in
+    let begun = map v c.begin_number.new.compiled.keys in
     let planned = map v c.planned_node.new.compiled.keys in
-    let nodes' = c.reserve_within.new.compiled.nodes in
+    let nodes' = c.begin_number.new.compiled.nodes in
     let nodes'' = c.planned_node.new.compiled.nodes in
     let nodes-filled = c.fill.new.self in
-    let at = numbered_after old.keys reserved planned m.step.grown.added.0 k i (c.in_ok-number.ensures.number ∙ c.requires.table.lengths) added m.step.grown.added.1 in
-    let is_reserved = reserved_after old.nodes nodes' nodes'' n.0 i c.in_ok-number.ensures.number n.1 n.2 m.step.grown.stay in
-    let count : length reserved ≡ suc i = ap length added ∙ length-more old.keys k ∙ ap suc (sym (c.in_ok-number.ensures.number ∙ c.requires.table.lengths)) in
-    let formed : (j : ℕ) → i < j → j < length nodes'' → IsFilled nodes'' j = λ j more lt.
-    let x = there nodes'' j lt in
-    let f = m.step.grown.filled j x.0 (omega (arith, count)) x.1 in (x.0, f.0, x.1, f.1) in
-    let down : (j : ℕ) → i < j → j < length nodes'' → DownFrom s.parts planned nodes'' (asked_edges s.parts k) j = λ j more lt. m.step.down j (omega (arith, count)) (let e = m.step.table.lengths in omega arith) in
-    let older : (j : ℕ) (x : NodeEntry _) (q : NodePlan _) (e : NodeEdge) → j < i → slice_get nodes'' j ≡ Some x → x.plan ≡ Some q → In (node_edges q) e → e.node < i = λ j x q e lt here is inside.
-    let at_old = c.in_ok-number.ensures.number in
-    let w = edges_older s.parts s.shape s.limit old.keys old.nodes nodes' nodes'' n.0 c.requires.table n.1 m.step.grown.stay j x q e (omega (arith, at_old)) here is inside in omega (arith, at_old, w) in
+    let settled = not c.planned_node.new.compiled.progress.reaches_unsettled in
+    let at = numbered_after old.keys begun planned m.step.grown.added.0 k i (c.in_ok-number.ensures.number ∙ c.requires.table.lengths) added m.step.grown.added.1 in
     record {
-      table = finished_table s.parts s.shape s.limit planned nodes'' nodes-filled i k annotations p m.step.table at is_reserved c.fill.ensures.filled (record { plans = m.plan; settled = m.step.settled; clean = m.step.clean }) m.annotated
-          (guards_now s.parts s.shape s.limit planned nodes'' nodes-filled i k annotations p m.step.table at is_reserved c.fill.ensures.filled c.fill.ensures.last formed down m.waits older);
-      down = λ j le lt. down_to s.parts s.shape s.limit planned nodes'' nodes-filled i k annotations p m.step.table at is_reserved c.fill.ensures.filled c.fill.ensures.last formed down j
-          (let at_old = c.in_ok-number.ensures.number ∙ c.requires.table.lengths in omega (arith, at_old, le)) (let e = m.step.table.lengths in omega (arith, e, lt));
-      grown = finished_grown _ old.keys reserved planned planned old.nodes nodes' nodes'' nodes-filled k n.0 i
-          c.requires.table.lengths c.in_ok-number.ensures.number added n.1 at_first (grown_map _ _ _ _ _ _ (from_key s.parts k) m.step.grown) refl (finishes nodes'' nodes-filled i annotations p c.fill.ensures.filled);
+      table = finished_table s.parts s.shape s.limit planned nodes'' nodes-filled i k settled annotations p m.step.table at c.fill.ensures.filled (record { plans = m.plan; settled = m.step.settled; clean = m.step.clean }) m.annotated;
+      grown = finished_grown _ old.keys begun planned planned old.nodes nodes' nodes'' nodes-filled k n.0 i
+          c.requires.table.lengths c.in_ok-number.ensures.number added n.1 at_first (grown_map _ _ _ _ _ _ (from_key s.parts k) m.step.grown) refl (finishes nodes'' nodes-filled i settled annotations p c.fill.ensures.filled);
       number = at;
-      fresh = λ absent. c.in_ok-number.ensures.number ∙ c.requires.table.lengths;
     }
+
+pub compiled_number-returns-clause-order : goal.compiled_number-returns-clause-order
+compiled_number-returns-clause-order g t c =
+    let v = key_of g.R.Resolver.point in
+    let s = task g.R.Resolver.resolving g.T.KeywordTable.owned g.T.KeywordTable.script g.K.Validate.shape c.args.self.now in
+    let old = filled g.R.Resolver.point c.args.compiled.now in
+    let n = c.in_ok-number.ensures.nodes in
+    let b = filled g.R.Resolver.point c.begin_number.new.compiled in
+    let d = filled g.R.Resolver.point c.planned_node.new.compiled in
+    let new : Table _ _ = record { keys = d.keys; nodes = c.fill.new.self; round = old.round; depth = old.depth; loose = old.loose } in
+    reaches_opened s old b d new (v c.args.key.now.value) c.args.nests c.in_ok-number.number.0 n.0 c.in_ok-planned.planned.annotations (plan_of c.in_ok-planned.planned.form)
+    c.requires.under_way c.requires.absent c.requires.room c.requires.table.lengths c.in_ok-number.ensures.keys n.1 n.2 n.3 c.in_ok-number.ensures.round c.in_ok-number.ensures.depth c.in_ok-number.ensures.settled c.in_ok-number.ensures.number
+    (rw c.deref.ensures at c.in_ok-planned.ensures.order) c.fill.ensures.filled refl refl refl refl
 
 pub keywords_of-loop-name-init : goal.keywords_of-loop-name-init
 keywords_of-loop-name-init g t c =
@@ -152,7 +188,7 @@ keywords_of-loop-name-init g t c =
     record {
       can = tt;
       finite = tt;
-      so_far = rw (all, c.new-entries.ensures.items) (so_far_none s.parts s.shape s.limit (v c.args.key.now) (members_view c.args.members.now.entries) old.keys old.nodes c.requires.table);
+      so_far = rw (all, c.new-entries.ensures.items) (so_far_none s.parts s.shape s.limit s.nested (v c.args.key.now) (members_view c.args.members.now.entries) old.keys old.nodes old c.requires.table c.requires.under_way);
       unknown = ([], sym all, rw c.new-unknown.ensures.empty refl, rw c.new-absorbed.ensures.items refl);
     }
 
@@ -171,7 +207,7 @@ keywords_of-returns-in_err-entry-clause-refused g t c =
     let keys' = map v c.loop-name.compiled.keys in
     let nodes' = c.loop-name.compiled.nodes in
     let p = err_from_is_err_and c.from_residual.result c.from_residual.ensures.1 in
-    rw (p.1, p.2) (member_refused s.parts s.shape s.limit k whole name value rest es old.keys keys' old.nodes nodes' _ so c.in_err-entry.ensures.refused)
+    rw (p.1, p.2) (member_refused s.parts s.shape s.limit s.nested k whole name value rest es old.keys keys' old.nodes nodes' _ so c.in_err-entry.ensures.refused)
 
 pub keywords_of-loop-name-preserved-in-Continue-branch-3 : goal.keywords_of-loop-name-preserved-in-Continue-branch-3
 keywords_of-loop-name-preserved-in-Continue-branch-3 g t c =
@@ -200,11 +236,11 @@ keywords_of-loop-name-preserved-in-Continue-branch-3 g t c =
     record {
       can = tt;
       finite = tt;
-      so_far = rw c.in_ok-insert_by_priority-in-Some-2.ensures.placed (so_far_more s.parts s.shape s.limit k whole name value rest (Some (entry_of c.in-Some-2.entry)) es old.keys keys' keys'' old.nodes nodes' nodes'' so step made (rw c.in-Some-2.is at c.in_ok-entry.ensures.part.waits));
+      so_far = rw c.in_ok-insert_by_priority-in-Some-2.ensures.placed (so_far_more s.parts s.shape s.limit s.nested k whole name value rest (Some (entry_of c.in-Some-2.entry)) es old.keys keys' keys'' old.nodes nodes' nodes'' old (filled g.R.Resolver.point c.loop-name.compiled) (filled g.R.Resolver.point c.entry_of.new.compiled) so step made (rw c.in-Some-2.is at c.in_ok-entry.ensures.order));
       unknown = (
         done ++ member ∷ [],
         all',
-        made_known s.parts k whole s.shape keys'' nodes'' (entry_of c.in-Some-2.entry) done member (members_view c.loop-name.unknown.entries) made inv.2,
+        made_known s.parts k whole s.shape keys'' (entry_of c.in-Some-2.entry) done member (members_view c.loop-name.unknown.entries) made inv.2,
         more_absorbed s.parts k whole done member _ _ inv.3 c.in_ok-entry.ensures.absorbed,
       );
     }
@@ -236,11 +272,11 @@ keywords_of-loop-name-preserved g t c =
     record {
       can = tt;
       finite = tt;
-      so_far = so_far_more s.parts s.shape s.limit k whole name value rest None es old.keys keys' keys'' old.nodes nodes' nodes'' so step made tt;
+      so_far = so_far_more s.parts s.shape s.limit s.nested k whole name value rest None es old.keys keys' keys'' old.nodes nodes' nodes'' old (filled g.R.Resolver.point c.loop-name.compiled) (filled g.R.Resolver.point c.entry_of.new.compiled) so step made (rw c.in-None-2.is at c.in_ok-entry.ensures.order);
       unknown = (
         done ++ member ∷ [],
         all',
-        kept_unknown s.parts k whole s.shape keys'' nodes'' done member left (members_view c.loop-name.unknown.entries) (members_view c.keep_unknown.new.unknown.entries)
+        kept_unknown s.parts k whole s.shape keys'' done member left (members_view c.loop-name.unknown.entries) (members_view c.keep_unknown.new.unknown.entries)
             (subst (λ ms. IsStrictlySortedBy string_cmp (keys_of ms)) all c.iter-name-items.ensures.ordered) made inv.2 c.in_ok-keep_unknown-in-None-2.ensures.kept,
         more_absorbed s.parts k whole done member _ _ inv.3 c.in_ok-entry.ensures.absorbed,
       );
@@ -260,14 +296,21 @@ keywords_of-returns-clause-parts g t c =
     let nodes' = c.loop-name.compiled.nodes in
     let inv = c.loop-name.invariant.unknown in
     record {
-      step = all_steps s.parts s.shape s.limit k whole es old.keys keys' old.nodes nodes' so;
-      entries = all_entries s.parts s.shape s.limit k whole es old.keys keys' old.nodes nodes' so;
-      waits = so.waits;
+      step = all_steps s.parts s.shape s.limit s.nested k whole es old.keys keys' old.nodes nodes' so;
+      entries = all_entries s.parts s.shape s.limit s.nested k whole es old.keys keys' old.nodes nodes' so;
       unknown = c.without-annotating.ensures.left
           ∙ ap (λ (names : List (String Global)). without (map string_bytes names) (members_view c.loop-name.unknown.entries)) c.as_slice.ensures.value
           ∙ ap₂ (λ (names : List Text) (left : Members). without names left) inv.3 inv.2
           ∙ ap (λ (ms : List Entry). without (absorbed_in s.parts k whole (members_view ms)) (unknown s.parts k whole (members_view ms))) (sym (inv.1 ∙ ap (λ (ms : List Entry). inv.0 ++ ms) ended ∙ append-nil inv.0));
     }
+
+pub keywords_of-returns-clause-order : goal.keywords_of-returns-clause-order
+keywords_of-returns-clause-order g t c =
+    let v = key_of g.R.Resolver.point in
+    let s = task g.R.Resolver.resolving g.T.KeywordTable.owned g.T.KeywordTable.script g.K.Validate.shape c.args.self.now in
+    let old = filled g.R.Resolver.point c.args.compiled.now in
+    let so = rw c.in-None.ensures.steps.0 at c.loop-name.invariant.so_far in
+    all_goes s.parts s.shape s.limit s.nested (v c.args.key.now) (members_view c.args.members.now.entries) (map entry_of c.loop-name.entries.items) old.keys (map v c.loop-name.compiled.keys) old.nodes c.loop-name.compiled.nodes so
 
 pub entry_of-returns-then-owns-clause-refused : goal.entry_of-returns-then-owns-clause-refused
 entry_of-returns-then-owns-clause-refused g t c =
@@ -361,7 +404,7 @@ entry_of-returns-in-None-clause-part g t c =
     let owns = rw c.as_str-text.ensures.value at c.owns.ensures.owned in
     let row = rw c.as_str-text.ensures.value at c.in-None.ensures.row in
     no_member s.parts k whole name value (λ (es : List (Edge _)) (cs : List Cause) (p : Option (Part _)). MakesPart s.parts s.shape s.limit old.keys old.keys old.nodes old.nodes es cs k None p) (sym owns ∙ c.if-owns.false) row
-    (record { step = step_none s.parts s.shape s.limit old.keys old.nodes c.requires.table; made = tt; waits = tt })
+    (record { step = step_none s.parts s.shape s.limit old.keys old.nodes c.requires.table; made = tt })
 
 pub made_entry-loop-children-init : goal.made_entry-loop-children-init
 made_entry-loop-children-init g t c =
@@ -372,7 +415,7 @@ made_entry-loop-children-init g t c =
     let whole = members_view c.args.members.now.entries in
     let name = string_bytes c.args.name.now in
     let making = making s.parts k whole c.args.own name in
-    (rw c.new-children.ensures.items (asked_begun s.parts s.shape s.limit k name making _ (g.T.KeywordTable.waiting c.in_ok-maker.maker) old.keys old.nodes refl c.in_ok-maker.ensures.begins c.requires.table), refl)
+    (rw c.new-children.ensures.items (asked_begun s.parts s.shape s.limit s.nested k name making _ (g.T.KeywordTable.waiting c.in_ok-maker.maker) old.keys old.nodes old refl c.in_ok-maker.ensures.begins c.requires.table c.requires.under_way), refl)
 
 pub made_entry-returns-in_err-edge-in-Compile-clause-refused : goal.made_entry-returns-in_err-edge-in-Compile-clause-refused
 made_entry-returns-in_err-edge-in-Compile-clause-refused g t c =
@@ -392,7 +435,7 @@ made_entry-returns-in_err-edge-in-Compile-clause-refused g t c =
     let nodes' = c.loop-children.compiled.nodes in
     let takes = rw c.in-Compile.is at c.in_ok-path.ensures.takes in
     let p = err_from_is_err_and c.from_residual-in_err-edge-in-Compile.result c.from_residual-in_err-edge-in-Compile.ensures.1 in
-    rw (p.1, p.2) (compile_refused s.parts s.shape s.limit k name making waiting waiting' told es old.keys keys' old.nodes nodes' c.in-Compile.path _ inv takes c.in_err-edge-in-Compile.ensures.refused)
+    rw (p.1, p.2) (compile_refused s.parts s.shape s.limit s.nested k name making waiting waiting' told es old.keys keys' old.nodes nodes' c.in-Compile.path _ inv takes c.in_err-edge-in-Compile.ensures.refused)
 
 pub made_entry-loop-children-preserved-in-Compile : goal.made_entry-loop-children-preserved-in-Compile
 made_entry-loop-children-preserved-in-Compile g t c =
@@ -413,8 +456,8 @@ made_entry-loop-children-preserved-in-Compile g t c =
     let takes = rw c.in-Compile.is at c.in_ok-path.ensures.takes in
     let e = c.in_ok-edge-in-Compile.ensures.answered in (
       rw (c.in_ok-reply-in-Compile.ensures.kept, c.in_ok-reply-in-Compile.ensures.told)
-          (asked_compile s.parts s.shape s.limit k name making waiting waiting' told es old.keys keys' (map v c.child_edge.new.compiled.keys) old.nodes nodes' c.child_edge.new.compiled.nodes c.in-Compile.path (edge_of c.in_ok-edge-in-Compile.edge) (length c.loop-children.children.items)
-          inv takes (sym (length-map c.loop-children.children.items (option_map edge_of))) e.leads e.filled.0 e.waits.0 e.step),
+          (asked_compile s.parts s.shape s.limit s.nested k name making waiting waiting' told es old.keys keys' (map v c.child_edge.new.compiled.keys) old.nodes nodes' c.child_edge.new.compiled.nodes c.in-Compile.path (edge_of c.in_ok-edge-in-Compile.edge) (length c.loop-children.children.items)
+          inv takes (sym (length-map c.loop-children.children.items (option_map edge_of))) e.leads c.in_ok-edge-in-Compile.ensures.order e.step),
       c.loop-children.invariant.1,
     )
 
@@ -436,7 +479,7 @@ made_entry-returns-in_err-edge-in-Refer-clause-refused g t c =
     let nodes' = c.loop-children.compiled.nodes in
     let takes = rw c.in-Refer.is at c.in_ok-path.ensures.takes in
     let p = err_from_is_err_and c.from_residual-in_err-edge-in-Refer.result c.from_residual-in_err-edge-in-Refer.ensures.1 in
-    rw (p.1, p.2) (refer_refused s.parts s.shape s.limit k name making waiting waiting' told es old.keys keys' old.nodes nodes' c.in-Refer.text _ inv takes c.in_err-edge-in-Refer.ensures.refused)
+    rw (p.1, p.2) (refer_refused s.parts s.shape s.limit s.nested k name making waiting waiting' told es old.keys keys' old.nodes nodes' c.in-Refer.text _ inv takes c.in_err-edge-in-Refer.ensures.refused)
 
 pub made_entry-loop-children-preserved : goal.made_entry-loop-children-preserved
 made_entry-loop-children-preserved g t c =
@@ -457,8 +500,8 @@ made_entry-loop-children-preserved g t c =
     let takes = rw c.in-Refer.is at c.in_ok-path.ensures.takes in
     let e = c.in_ok-edge-in-Refer.ensures.answered in (
       rw c.in_ok-reply-in-Refer.ensures.kept
-          (asked_refer s.parts s.shape s.limit k name making waiting waiting' told _ es old.keys keys' (map v c.reference_edge.new.compiled.keys) old.nodes nodes' c.reference_edge.new.compiled.nodes c.in-Refer.text (option_map edge_of c.in_ok-edge-in-Refer.edge) (length c.loop-children.children.items)
-          inv takes (sym (length-map c.loop-children.children.items (option_map edge_of))) c.in_ok-reply-in-Refer.ensures.told e.leads e.filled e.waits e.step),
+          (asked_refer s.parts s.shape s.limit s.nested k name making waiting waiting' told _ es old.keys keys' (map v c.reference_edge.new.compiled.keys) old.nodes nodes' c.reference_edge.new.compiled.nodes c.in-Refer.text (option_map edge_of c.in_ok-edge-in-Refer.edge) (length c.loop-children.children.items)
+          inv takes (sym (length-map c.loop-children.children.items (option_map edge_of))) c.in_ok-reply-in-Refer.ensures.told e.leads c.in_ok-edge-in-Refer.ensures.order e.step),
       c.loop-children.invariant.1,
     )
 
@@ -479,8 +522,8 @@ made_entry-returns-in-Keyword-clause-part g t c =
     let keys' = map v c.loop-children.compiled.keys in
     let nodes' = c.loop-children.compiled.nodes in
     let takes = rw c.in-Keyword.is at c.in_ok-path.ensures.takes in
-    let made = made_keyword s.parts s.shape s.limit k name making waiting waiting' told es old.keys keys' old.nodes nodes' c.args.priority c.args.is_leaf c.in-Keyword.keyword c.in-Keyword.names inv takes in
-    rw c.in_ok-entry_named-in-Keyword.ensures.entry (record { step = made.0; made = made.1; waits = inv.waits })
+    let made = made_keyword s.parts s.shape s.limit s.nested k name making waiting waiting' told es old.keys keys' old.nodes nodes' c.args.priority c.args.is_leaf c.in-Keyword.keyword c.in-Keyword.names inv takes in
+    rw c.in_ok-entry_named-in-Keyword.ensures.entry (record { step = made.0; made = made.1 })
 
 pub made_entry-returns-in-Nothing-clause-part : goal.made_entry-returns-in-Nothing-clause-part
 made_entry-returns-in-Nothing-clause-part g t c =
@@ -499,8 +542,8 @@ made_entry-returns-in-Nothing-clause-part g t c =
     let keys' = map v c.loop-children.compiled.keys in
     let nodes' = c.loop-children.compiled.nodes in
     let takes = rw c.in-Nothing.is at c.in_ok-path.ensures.takes in
-    let made = made_nothing s.parts s.shape s.limit k name making waiting waiting' told es old.keys keys' old.nodes nodes' c.args.priority c.args.is_leaf inv takes in
-    record { step = made.0; made = made.1; waits = tt }
+    let made = made_nothing s.parts s.shape s.limit s.nested k name making waiting waiting' told es old.keys keys' old.nodes nodes' c.args.priority c.args.is_leaf inv takes in
+    record { step = made.0; made = made.1 }
 
 pub planned_object-returns-in_err-entry-in-Some-clause-refused : goal.planned_object-returns-in_err-entry-in-Some-clause-refused
 planned_object-returns-in_err-entry-in-Some-clause-refused g t c =
@@ -546,7 +589,7 @@ planned_object-returns-in_ok-keywords-in-None-clause-planned g t c =
     let keys' = map v c.keywords_of.new.compiled.keys in
     let nodes' = c.keywords_of.new.compiled.nodes in
     members_are s.parts k whole (λ (es : List (Edge _)) (cs : List Cause) (q : Plan _) (a : Option Data). MakesPlan s.parts s.shape s.limit old.keys keys' old.nodes nodes' es cs k (node_these (map entry_of c.in_ok-keywords-in-None.keywords.entries.items)) q (option_map view c.object_of.result) a) c.in-None.ensures.alone
-    (record { step = m.step; plan = m.entries; waits = m.waits; annotated = c.object_of.ensures.object ∙ ap object_of m.unknown })
+    (record { step = m.step; plan = m.entries; annotated = c.object_of.ensures.object ∙ ap object_of m.unknown })
 
 pub reference_edge-returns-in_err-target_of-clause-refused : goal.reference_edge-returns-in_err-target_of-clause-refused
 reference_edge-returns-in_err-target_of-clause-refused g t c =
@@ -568,7 +611,7 @@ reference_edge-returns-in_err-edge-in-Some-clause-refused g t c =
     let target = rw c.as_str-2.ensures.value at c.in_ok-target_of.ensures.target in
     let t = rw c.in-Some.is at target in
     let p = err_from_is_err_and c.from_residual-in_err-edge-in-Some.result c.from_residual-in_err-edge-in-Some.ensures.1 in
-    rw (p.1, p.2) (asked_refused s.parts s.limit (reference_asked s.parts k name kind text) (record { key = v c.in-Some.target; path = joined [] name; is_reference = true }) _ old.keys _ (asked_edge s.parts k name kind text (record { key = v c.in-Some.target; path = joined [] name; is_reference = true }) t.0 (t.1 name)) c.in_err-edge-in-Some.ensures.refused)
+    rw (p.1, p.2) (asked_refused s.parts s.limit (reference_asked s.parts k name kind text) (record { key = v c.in-Some.target; path = joined [] name; is_reference = true; is_recursive = is_recursive_ref kind }) _ old.keys _ (asked_edge s.parts k name kind text (record { key = v c.in-Some.target; path = joined [] name; is_reference = true; is_recursive = is_recursive_ref kind }) t.0 (t.1 name)) c.in_err-edge-in-Some.ensures.refused)
 
 pub reference_edge-returns-in-None-clause-answered : goal.reference_edge-returns-in-None-clause-answered
 reference_edge-returns-in-None-clause-answered g t c =
@@ -594,8 +637,8 @@ reference_edge-returns-in_ok-edge-in-Some-clause-answered g t c =
     let text = string_bytes c.args.text.now in
     let target = rw c.as_str-2.ensures.value at c.in_ok-target_of.ensures.target in
     let t = rw c.in-Some.is at target in
-    is_answered s.parts s.shape s.limit (reference_asked s.parts k name kind text) (record { key = v c.in-Some.target; path = joined [] name; is_reference = true }) _ old.keys (map v c.edge_to.new.compiled.keys) old.nodes c.edge_to.new.compiled.nodes (edge_of c.in_ok-edge-in-Some.edge) _ (asked_edge s.parts k name kind text (record { key = v c.in-Some.target; path = joined [] name; is_reference = true }) t.0 (t.1 name))
-    (reference_clean s.parts k name kind text (record { key = v c.in-Some.target; path = joined [] name; is_reference = true }) (t.1 name)) (λ f. t.2) (grind (arith, common_steps, c.in_ok-path.ensures)) c.in_ok-edge-in-Some.ensures.edge
+    is_answered s.parts s.shape s.limit (reference_asked s.parts k name kind text) (record { key = v c.in-Some.target; path = joined [] name; is_reference = true; is_recursive = is_recursive_ref kind }) _ old.keys (map v c.edge_to.new.compiled.keys) old.nodes c.edge_to.new.compiled.nodes (edge_of c.in_ok-edge-in-Some.edge) _ (asked_edge s.parts k name kind text (record { key = v c.in-Some.target; path = joined [] name; is_reference = true; is_recursive = is_recursive_ref kind }) t.0 (t.1 name))
+    (reference_clean s.parts k name kind text (record { key = v c.in-Some.target; path = joined [] name; is_reference = true; is_recursive = is_recursive_ref kind }) (t.1 name)) (λ f. t.2) (grind (arith, common_steps, c.in_ok-path.ensures)) c.in_ok-edge-in-Some.ensures.edge
 
 pub reference_by-returns-in_err-text-clause-refused : goal.reference_by-returns-in_err-text-clause-refused
 reference_by-returns-in_err-text-clause-refused g t c =
@@ -760,7 +803,7 @@ made_entry-returns-in-Keyword-clause-absorbed g t c =
     let before = map string_bytes c.args.absorbed.now.items in
     c.in_ok-absorb-in-Keyword.ensures.added ∙ ap (λ (so_far : List (String Global)). map string_bytes so_far ++ map string_bytes c.in-Keyword.names.items) c.loop-children.invariant.1
     ∙ ap (λ (names : List Text). before ++ names)
-    (sym (absorbed_keyword s.parts s.shape s.limit k name making waiting waiting' told es old.keys keys' old.nodes nodes' c.args.priority c.args.is_leaf c.in-Keyword.keyword c.in-Keyword.names inv takes))
+    (sym (absorbed_keyword s.parts s.shape s.limit s.nested k name making waiting waiting' told es old.keys keys' old.nodes nodes' c.args.priority c.args.is_leaf c.in-Keyword.keyword c.in-Keyword.names inv takes))
 
 pub made_entry-returns-in-Nothing-clause-absorbed : goal.made_entry-returns-in-Nothing-clause-absorbed
 made_entry-returns-in-Nothing-clause-absorbed g t c =
@@ -781,4 +824,186 @@ made_entry-returns-in-Nothing-clause-absorbed g t c =
     let takes = rw c.in-Nothing.is at c.in_ok-path.ensures.takes in
     let before = map string_bytes c.args.absorbed.now.items in
     ap (λ (so_far : List (String Global)). map string_bytes so_far) c.loop-children.invariant.1
-    ∙ sym (ap (λ (names : List Text). before ++ names) (absorbed_nothing s.parts s.shape s.limit k name making waiting waiting' told es old.keys keys' old.nodes nodes' c.args.priority c.args.is_leaf inv takes) ∙ append-nil before)
+    ∙ sym (ap (λ (names : List Text). before ++ names) (absorbed_nothing s.parts s.shape s.limit s.nested k name making waiting waiting' told es old.keys keys' old.nodes nodes' c.args.priority c.args.is_leaf inv takes) ∙ append-nil before)
+
+pub entry_of-returns-then-owns-clause-order : goal.entry_of-returns-then-owns-clause-order
+entry_of-returns-then-owns-clause-order g t c =
+    let v = key_of g.R.Resolver.point in
+    let s = task g.R.Resolver.resolving g.T.KeywordTable.owned g.T.KeywordTable.script g.K.Validate.shape c.args.self.now in
+    let old = filled g.R.Resolver.point c.args.compiled.now in
+    let k = v c.args.key.now in
+    let whole = members_view c.args.members.now.entries in
+    let name = string_bytes c.args.name.now in
+    let value = view c.args.value.now in
+    let owns = rw c.as_str-text.ensures.value at c.owns.ensures.owned in
+    own_is s.parts k whole name value (λ (es : List (Edge _)) (cs : List Cause) (p : Option (Part _)). IfOk c.made_entry.result (λ o. Goes s old (filled g.R.Resolver.point c.made_entry.new.compiled) es (part_edges (option_map entry_of o)))) (sym owns ∙ c.if-owns.true) c.made_entry.ensures.order
+
+pub entry_of-returns-in-Some-reference_kind-clause-order : goal.entry_of-returns-in-Some-reference_kind-clause-order
+entry_of-returns-in-Some-reference_kind-clause-order g t c =
+    let v = key_of g.R.Resolver.point in
+    let s = task g.R.Resolver.resolving g.T.KeywordTable.owned g.T.KeywordTable.script g.K.Validate.shape c.args.self.now in
+    let old = filled g.R.Resolver.point c.args.compiled.now in
+    let k = v c.args.key.now in
+    let whole = members_view c.args.members.now.entries in
+    let name = string_bytes c.args.name.now in
+    let value = view c.args.value.now in
+    let owns = rw c.as_str-text.ensures.value at c.owns.ensures.owned in
+    let row = rw c.as_str-text.ensures.value at c.in-Some.ensures.row in
+    let kind = rw c.as_str-text.ensures.value at c.in-Some-reference_kind.ensures.kind in
+    reference_is s.parts k whole name value (λ (es : List (Edge _)) (cs : List Cause) (p : Option (Part _)). IfOk c.reference_entry.result (λ o. Goes s old (filled g.R.Resolver.point c.reference_entry.new.compiled) es (part_edges (option_map entry_of o)))) _ (kind_of c.in-Some-reference_kind.kind) (sym owns ∙ c.if-owns.false) row kind c.reference_entry.ensures.order
+
+pub entry_of-returns-in-None-reference_kind-clause-order : goal.entry_of-returns-in-None-reference_kind-clause-order
+entry_of-returns-in-None-reference_kind-clause-order g t c =
+    let v = key_of g.R.Resolver.point in
+    let s = task g.R.Resolver.resolving g.T.KeywordTable.owned g.T.KeywordTable.script g.K.Validate.shape c.args.self.now in
+    let old = filled g.R.Resolver.point c.args.compiled.now in
+    let k = v c.args.key.now in
+    let whole = members_view c.args.members.now.entries in
+    let name = string_bytes c.args.name.now in
+    let value = view c.args.value.now in
+    let owns = rw c.as_str-text.ensures.value at c.owns.ensures.owned in
+    let row = rw c.as_str-text.ensures.value at c.in-Some.ensures.row in
+    let kind = rw c.as_str-text.ensures.value at c.in-None-reference_kind.ensures.kind in
+    built_is s.parts k whole name value (λ (es : List (Edge _)) (cs : List Cause) (p : Option (Part _)). IfOk c.made_entry-in-None-reference_kind.result (λ o. Goes s old (filled g.R.Resolver.point c.made_entry-in-None-reference_kind.new.compiled) es (part_edges (option_map entry_of o)))) _ (sym owns ∙ c.if-owns.false) row kind c.made_entry-in-None-reference_kind.ensures.order
+
+pub entry_of-returns-in-None-clause-order : goal.entry_of-returns-in-None-clause-order
+entry_of-returns-in-None-clause-order g t c =
+    let v = key_of g.R.Resolver.point in
+    let s = task g.R.Resolver.resolving g.T.KeywordTable.owned g.T.KeywordTable.script g.K.Validate.shape c.args.self.now in
+    let old = filled g.R.Resolver.point c.args.compiled.now in
+    let k = v c.args.key.now in
+    let whole = members_view c.args.members.now.entries in
+    let name = string_bytes c.args.name.now in
+    let value = view c.args.value.now in
+    let owns = rw c.as_str-text.ensures.value at c.owns.ensures.owned in
+    let row = rw c.as_str-text.ensures.value at c.in-None.ensures.row in
+    no_member s.parts k whole name value (λ (es : List (Edge _)) (cs : List Cause) (p : Option (Part _)). Goes s old old es []) (sym owns ∙ c.if-owns.false) row (goes_none s old c.requires.under_way)
+
+pub made_entry-returns-in-Keyword-clause-order : goal.made_entry-returns-in-Keyword-clause-order
+made_entry-returns-in-Keyword-clause-order g t c =
+    let v = key_of g.R.Resolver.point in
+    let s = task g.R.Resolver.resolving g.T.KeywordTable.owned g.T.KeywordTable.script g.K.Validate.shape c.args.self.now in
+    let old = filled g.R.Resolver.point c.args.compiled.now in
+    let k = v c.args.key.now in
+    let whole = members_view c.args.members.now.entries in
+    let name = string_bytes c.args.name.now in
+    let making = making s.parts k whole c.args.own name in
+    let inv = c.loop-children.invariant.0 in
+    let waiting = g.T.KeywordTable.waiting c.loop-children.maker in
+    let waiting' = g.T.KeywordTable.waiting c.turn.new.maker in
+    let told = maker_reply_of c.loop-children.reply in
+    let es = map (option_map edge_of) c.loop-children.children.items in
+    let keys' = map v c.loop-children.compiled.keys in
+    let nodes' = c.loop-children.compiled.nodes in
+    let takes = rw c.in-Keyword.is at c.in_ok-path.ensures.takes in
+    subst (λ (x : NodePart _). Goes s old (filled g.R.Resolver.point c.loop-children.compiled) (maker_edges s.parts k name making) (form_edges x.form)) (sym c.in_ok-entry_named-in-Keyword.ensures.entry) (keyword_goes s.parts s.shape s.limit s.nested k name making waiting waiting' told es old.keys keys' old.nodes nodes' c.in-Keyword.keyword c.in-Keyword.names inv takes)
+
+pub made_entry-returns-in-Nothing-clause-order : goal.made_entry-returns-in-Nothing-clause-order
+made_entry-returns-in-Nothing-clause-order g t c =
+    let v = key_of g.R.Resolver.point in
+    let s = task g.R.Resolver.resolving g.T.KeywordTable.owned g.T.KeywordTable.script g.K.Validate.shape c.args.self.now in
+    let old = filled g.R.Resolver.point c.args.compiled.now in
+    let k = v c.args.key.now in
+    let whole = members_view c.args.members.now.entries in
+    let name = string_bytes c.args.name.now in
+    let making = making s.parts k whole c.args.own name in
+    let inv = c.loop-children.invariant.0 in
+    let waiting = g.T.KeywordTable.waiting c.loop-children.maker in
+    let waiting' = g.T.KeywordTable.waiting c.turn.new.maker in
+    let told = maker_reply_of c.loop-children.reply in
+    let es = map (option_map edge_of) c.loop-children.children.items in
+    let keys' = map v c.loop-children.compiled.keys in
+    let nodes' = c.loop-children.compiled.nodes in
+    let takes = rw c.in-Nothing.is at c.in_ok-path.ensures.takes in
+    nothing_goes s.parts s.shape s.limit s.nested k name making waiting waiting' told es old.keys keys' old.nodes nodes' inv takes
+
+pub planned_object-returns-in_ok-node_alone-in-Some-clause-order : goal.planned_object-returns-in_ok-node_alone-in-Some-clause-order
+planned_object-returns-in_ok-node_alone-in-Some-clause-order g t c =
+    let v = key_of g.R.Resolver.point in
+    let s = task g.R.Resolver.resolving g.T.KeywordTable.owned g.T.KeywordTable.script g.K.Validate.shape c.args.self.now in
+    let old = filled g.R.Resolver.point c.args.compiled.now in
+    let k = v c.args.key.now in
+    let whole = members_view c.args.members.now.entries in
+    let new = filled g.R.Resolver.point c.compile_ref.new.compiled in
+    lone_is s.parts k whole (λ (es : List (Edge _)) (cs : List Cause) (q : Plan _) (a : Option Data). Goes s old new es (node_edges (plan_of c.in_ok-node_alone-in-Some.field-0.form))) (view c.in-Some.value.now) c.in-Some.ensures.alone
+    (subst (λ (p : NodePlan _). Goes s old new (reference_edges s.parts k (codes "$ref") to_ref (view c.in-Some.value.now)) (node_edges p)) (sym c.in_ok-node_alone-in-Some.ensures.plan)
+    (alone_goes s old new (reference_edges s.parts k (codes "$ref") to_ref (view c.in-Some.value.now)) (option_map entry_of c.in_ok-entry-in-Some.entry) (rw c.in_ok-name-in-Some.ensures.ok at c.in_ok-entry-in-Some.ensures.order)))
+
+pub planned_object-returns-in_ok-keywords-in-None-clause-order : goal.planned_object-returns-in_ok-keywords-in-None-clause-order
+planned_object-returns-in_ok-keywords-in-None-clause-order g t c =
+    let v = key_of g.R.Resolver.point in
+    let s = task g.R.Resolver.resolving g.T.KeywordTable.owned g.T.KeywordTable.script g.K.Validate.shape c.args.self.now in
+    let old = filled g.R.Resolver.point c.args.compiled.now in
+    let k = v c.args.key.now in
+    let whole = members_view c.args.members.now.entries in
+    let new = filled g.R.Resolver.point c.keywords_of.new.compiled in
+    members_are s.parts k whole (λ (es : List (Edge _)) (cs : List Cause) (q : Plan _) (a : Option Data). Goes s old new es (node_edges (node_these (map entry_of c.in_ok-keywords-in-None.keywords.entries.items)))) c.in-None.ensures.alone c.in_ok-keywords-in-None.ensures.order
+
+pub reference_edge-returns-in-None-clause-order : goal.reference_edge-returns-in-None-clause-order
+reference_edge-returns-in-None-clause-order g t c =
+    let v = key_of g.R.Resolver.point in
+    let s = task g.R.Resolver.resolving g.T.KeywordTable.owned g.T.KeywordTable.script g.K.Validate.shape c.args.self.now in
+    let old = filled g.R.Resolver.point c.args.compiled.now in
+    let k = v c.args.key.now in
+    let name = string_bytes c.args.name.now in
+    let kind = kind_of c.args.kind in
+    let text = string_bytes c.args.text.now in
+    let target = rw c.as_str-2.ensures.value at c.in_ok-target_of.ensures.target in
+    let h = rw c.in-None.is at target in
+    subst (λ (o : Option (Edge _)). Goes s old old (option_list o) []) (sym (asked_self s.parts k name kind text h)) (goes_none s old c.requires.under_way)
+
+pub reference_edge-returns-in_ok-edge-in-Some-clause-order : goal.reference_edge-returns-in_ok-edge-in-Some-clause-order
+reference_edge-returns-in_ok-edge-in-Some-clause-order g t c =
+    let v = key_of g.R.Resolver.point in
+    let s = task g.R.Resolver.resolving g.T.KeywordTable.owned g.T.KeywordTable.script g.K.Validate.shape c.args.self.now in
+    let old = filled g.R.Resolver.point c.args.compiled.now in
+    let k = v c.args.key.now in
+    let name = string_bytes c.args.name.now in
+    let kind = kind_of c.args.kind in
+    let text = string_bytes c.args.text.now in
+    let target = rw c.as_str-2.ensures.value at c.in_ok-target_of.ensures.target in
+    let t = rw c.in-Some.is at target in
+    let new = filled g.R.Resolver.point c.edge_to.new.compiled in
+    let edge : Edge _ = record { key = v c.in-Some.target; path = joined [] name; is_reference = true; is_recursive = is_recursive_ref kind } in
+    subst (λ (o : Option (Edge _)). Goes s old new (option_list o) (edge_of c.in_ok-edge-in-Some.edge ∷ [])) (sym (asked_edge s.parts k name kind text edge t.0 (t.1 name))) (c.in_ok-edge-in-Some.ensures.order edge refl (sym c.nests.ensures.nests))
+
+pub reference_by-returns-in-None-clause-order : goal.reference_by-returns-in-None-clause-order
+reference_by-returns-in-None-clause-order g t c =
+    let v = key_of g.R.Resolver.point in
+    let s = task g.R.Resolver.resolving g.T.KeywordTable.owned g.T.KeywordTable.script g.K.Validate.shape c.args.self.now in
+    let old = filled g.R.Resolver.point c.args.compiled.now in
+    let k = v c.args.key.now in
+    let name = string_bytes c.args.name.now in
+    let kind = kind_of c.args.kind in
+    let text = string_bytes c.in_ok-text.text.now in
+    text_goes s old (filled g.R.Resolver.point c.reference_edge.new.compiled) k name kind text (view c.args.value.now) [] c.in_ok-text.ensures.text (rw c.in-None.is at c.in_ok-reference_edge.ensures.order)
+
+pub reference_by-returns-in_ok-entry_named-in-Some-clause-order : goal.reference_by-returns-in_ok-entry_named-in-Some-clause-order
+reference_by-returns-in_ok-entry_named-in-Some-clause-order g t c =
+    let v = key_of g.R.Resolver.point in
+    let s = task g.R.Resolver.resolving g.T.KeywordTable.owned g.T.KeywordTable.script g.K.Validate.shape c.args.self.now in
+    let old = filled g.R.Resolver.point c.args.compiled.now in
+    let k = v c.args.key.now in
+    let name = string_bytes c.args.name.now in
+    let kind = kind_of c.args.kind in
+    let text = string_bytes c.in_ok-text.text.now in
+    subst (λ (x : NodePart _). Goes s old (filled g.R.Resolver.point c.reference_edge.new.compiled) (reference_edges s.parts k name kind (view c.args.value.now)) (form_edges x.form)) (sym c.in_ok-entry_named-in-Some.ensures.entry) (text_goes s old (filled g.R.Resolver.point c.reference_edge.new.compiled) k name kind text (view c.args.value.now) (edge_of c.in-Some.edge ∷ []) c.in_ok-text.ensures.text (rw c.in-Some.is at c.in_ok-reference_edge.ensures.order))
+
+pub planned_node-returns-in-Some-clause-order : goal.planned_node-returns-in-Some-clause-order
+planned_node-returns-in-Some-clause-order g t c =
+    let v = key_of g.R.Resolver.point in
+    let s = task g.R.Resolver.resolving g.T.KeywordTable.owned g.T.KeywordTable.script g.K.Validate.shape c.args.self.now in
+    let old = filled g.R.Resolver.point c.args.compiled.now in
+    let k = v c.args.key.now in
+    let object = ap (λ (o : Option Data). as_object (unwrap_or o null)) c.value_of-value.ensures.value in
+    object_stands s.parts k (λ (es : List (Edge _)) (cs : List Cause) (q : Plan _) (a : Option Data). IfOk c.planned_object.result (λ n. Goes s old (filled g.R.Resolver.point c.planned_object.new.compiled) es (node_edges (plan_of n.form)))) (members_view c.in-Some.members.now.entries) (object_is s.parts k _ (members_view c.in-Some.members.now.entries) (c.in-Some.ensures.object ∙ object)) c.planned_object.ensures.order
+
+pub planned_node-returns-in_ok-plain_form-in-None-clause-order : goal.planned_node-returns-in_ok-plain_form-in-None-clause-order
+planned_node-returns-in_ok-plain_form-in-None-clause-order g t c =
+    let v = key_of g.R.Resolver.point in
+    let s = task g.R.Resolver.resolving g.T.KeywordTable.owned g.T.KeywordTable.script g.K.Validate.shape c.args.self.now in
+    let old = filled g.R.Resolver.point c.args.compiled.now in
+    let k = v c.args.key.now in
+    let boolean = ap (λ (o : Option Data). as_bool (unwrap_or o null)) c.value_of-value.ensures.value in
+    let f = c.in_ok-plain_form-in-None.ensures.form in
+    boolean_goes s old k f.0 (plan_of c.in_ok-plain_form-in-None.field-0) (sym boolean ∙ f.1) f.2 c.requires.under_way

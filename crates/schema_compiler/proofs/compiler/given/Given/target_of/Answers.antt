@@ -3,7 +3,7 @@ use Rattle.std.specs.Prelude.{MatchOption, flat_map}
 use Rattle.std.proofs.lemmas.Result.{err_from_is_err_and}
 use Rattle.schema_reports.specs.Instance.{Text}
 use Rattle.schema_reports.specs.Pointer.{joined}
-use Rattle.schema_reports.specs.Plan.{is_self, reference_edge}
+use Rattle.schema_reports.specs.Plan.{is_self, reference_edge, is_recursive_ref}
 use Rattle.schema_reports.specs.Refusals.{undeclared}
 use Rattle.schema_compiler.specs.Compiling.{resolving_parts}
 use Rattle.schema_compiler.specs.KeyViews.{key_of, kind_of}
@@ -28,7 +28,7 @@ returns-in_err-check_target-clause-refused g c =
     let text = c.args.text.now in
     let p = err_from_is_err_and c.from_residual-in_err-check_target.result c.from_residual-in_err-check_target.ensures.1 in
     rw (p.1, p.2) (λ name keys. at_some _
-    (λ (t : SchemaKey g.row.R-State.Denot). (is_self r k kind text ≡ false) × ((n : Text) → reference_edge r k n kind text ≡ Some (record { key = v t; path = joined [] n; is_reference = true })))
+    (λ (t : SchemaKey g.row.R-State.Denot). (is_self r k kind text ≡ false) × ((n : Text) → reference_edge r k n kind text ≡ Some (record { key = v t; path = joined [] n; is_reference = true; is_recursive = is_recursive_ref kind })))
     (λ (t : SchemaKey g.row.R-State.Denot). Names (flat_map (undeclared w) t.vocabularies) c.in_err-check_target.field-0.0) _
     c.in_ok-target.target c.in_ok-target.ensures.target c.in_err-check_target.ensures.refused
-    (λ t a b. target_refused w c.args.self.now.options.now.node_limit k name kind text (record { key = v t; path = joined [] name; is_reference = true }) _ keys _ a.0 (a.1 name) refl b))
+    (λ t a b. target_refused w c.args.self.now.options.now.node_limit k name kind text (record { key = v t; path = joined [] name; is_reference = true; is_recursive = is_recursive_ref kind }) _ keys _ a.0 (a.1 name) refl b))

@@ -4,7 +4,7 @@ use Rattle.schema_reports.specs.Reach.{at_first}
 use Rattle.schema_compiler.specs.KeyViews.{key_of}
 use Rattle.schema_compiler.proofs.Lists.{length-more}
 use Rattle.schema_compiler.proofs.Tables.{pushed_distinct}
-use Rattle.schema_compiler.proofs.compiler.given.Given.reserve_within.Goals as goal
+use Rattle.schema_compiler.proofs.compiler.given.Given.number_within.Goals as goal
 
 pub returns-then-len-self-clause-refused : goal.returns-then-len-self-clause-refused
 returns-then-len-self-clause-refused g c =

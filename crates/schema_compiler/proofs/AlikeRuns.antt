@@ -1,0 +1,182 @@
+-- Tables whose plans are alike, with the same locations and annotations, run alike, and have the same sense.
+use Rattle.std.proofs.Common.{◌≡◌, ℕ, List, [], ◌∷◌, refl}
+use Rattle.std.specs.Prelude.{None, Some}
+use Rattle.std.proofs.Math.Path.{fun_ext}
+use Rattle.schema_reports.specs.Instance.{Place, Subject, Text}
+use Rattle.schema_reports.specs.Reports.{Outcome, Unit_, accepted}
+use Rattle.schema_reports.specs.Matching.{Assumptions, Completion, Matcher, completion_of, matching}
+use Rattle.schema_reports.specs.Keywords.{Below, Keywords, Marked, Mode, a_child, a_reservation, here}
+use Rattle.schema_reports.specs.Meaning.{both, false_outcome, keyword_outcome, reference_outcome}
+use Rattle.schema_reports.specs.Units.{false_unit, keyword_units, no_unit, plan_unit, reference_units, true_unit}
+use Rattle.schema_reports.specs.Runs.{Met, Run, keyword_met, no_run, plan_met}
+use Rattle.schema_reports.specs.Cover.{mode_of}
+use Rattle.schema_reports.specs.Guarded.{Children, NodeEdge, NodeForm, NodePart, NodePlan, Nodes, guarded_node, guarded_sense, guarded_within, node_always, node_asked, node_at, node_child, node_entries_of, node_keyword, node_looked, node_never, node_outcome, node_part, node_part_met, node_part_units, node_parts, node_reference, node_these, node_unit, same_edge, yes_outcome, yes_run}
+use Rattle.schema_compiler.specs.Agreeing.{AlikeForm, AlikeParts, AlikePlan}
+
+module _ {K R : Type 0} (keywords : Keywords K R) (matcher : Matcher) (nodes nodes' : Nodes K) (subject_of : Place → Subject)
+    (entries : (i : ℕ) → AlikePlan (nodes.entries i) (nodes'.entries i)) (locations : (i : ℕ) → nodes.location i ≡ nodes'.location i)
+    (absolutes : (i : ℕ) → nodes.absolute i ≡ nodes'.absolute i) (annotations : (i : ℕ) → nodes.annotations i ≡ nodes'.annotations i) where
+  at_same : (i : ℕ) (path : Text) (p : Place) → node_at keywords matcher nodes subject_of i path p ≡ node_at keywords matcher nodes' subject_of i path p
+  at_same i path p = λ j. record { place = p; path = path; location = locations i j; absolute = absolutes i j }
+
+  asked_same : {X : Type 0} (none : X) (es es' : Children) → ((i : ℕ) → node_child es i ≡ node_child es' i) → (go : NodeEdge → Below → X)
+      → node_asked keywords matcher nodes subject_of none es go ≡ node_asked keywords matcher nodes' subject_of none es' go
+  asked_same none es es' same go = fun_ext (λ q. (λ j. elim (same q.child j) [ None ↦ none | Some e ↦ go e q.below ]))
+
+  edges_same : (es es' : Children) → ((i : ℕ) → node_child es i ≡ node_child es' i) → (a b : Marked) → same_edge es a b ≡ same_edge es' a b
+  edges_same es es' same (a_child i) (a_child j) = rw (same i, same j) refl
+  edges_same es es' same (a_reservation i) (a_reservation j) = refl
+  edges_same es es' same (a_child i) (a_reservation j) = refl
+  edges_same es es' same (a_reservation i) (a_child j) = refl
+
+  same_edges : (es es' : Children) → ((i : ℕ) → node_child es i ≡ node_child es' i) → same_edge es ≡ same_edge es'
+  same_edges es es' same = λ j. λ a b. edges_same es es' same a b j
+
+  -- ---- what they say
+
+  module _ (c : Completion) (i : ℕ) (path : Text) (p : Place) (go : NodeEdge → Below → Outcome) where
+    part_same : (name name' : Text) → name ≡ name' → (x x' : NodeForm K) → AlikeForm x x' → node_part keywords matcher nodes subject_of c i path p go name x ≡ node_part keywords matcher nodes' subject_of c i path p go name' x'
+    part_same name name' n (node_keyword m es) (node_keyword m' es') h =
+        let meaning = h.0 in
+        let asked = asked_same accepted es es' h.1 go in
+        let place = at_same i path p in
+        λ j. keyword_outcome keywords (place j) (n j) (meaning j) (subject_of p) (matching matcher c) (asked j)
+    part_same name name' n (node_reference e) (node_reference e') h = let place = at_same i path p in λ j. reference_outcome (place j) (n j) (go (h j) here)
+    part_same name name' n (node_keyword m es) (node_reference e) h = absurd h
+    part_same name name' n (node_reference e) (node_keyword m es) h = absurd h
+
+    parts_same : (xs xs' : List (NodePart K)) → AlikeParts xs xs' → node_parts keywords matcher nodes subject_of c i path p go xs ≡ node_parts keywords matcher nodes' subject_of c i path p go xs'
+    parts_same [] [] h = refl
+    parts_same (x ∷ xs) (x' ∷ xs') h =
+        let first = part_same x.name x'.name (h.0).name x.form x'.form (h.0).form in
+        let rest = parts_same xs xs' h.1 in
+        λ j. both (first j) (rest j)
+    parts_same [] (x ∷ xs) h = absurd h
+    parts_same (x ∷ xs) [] h = absurd h
+
+    plan_outcome : (x x' : NodePlan K) → AlikePlan x x'
+        → ◌≡◌ {A = Outcome} (elim x [ node_always ↦ accepted | node_never ↦ false_outcome keywords.texts (node_at keywords matcher nodes subject_of i path p) (subject_of p) | node_these xs ↦ node_parts keywords matcher nodes subject_of c i path p go xs ])
+        (elim x' [ node_always ↦ accepted | node_never ↦ false_outcome keywords.texts (node_at keywords matcher nodes' subject_of i path p) (subject_of p) | node_these xs ↦ node_parts keywords matcher nodes' subject_of c i path p go xs ])
+    plan_outcome node_always node_always h = refl
+    plan_outcome node_never node_never h = let place = at_same i path p in λ j. false_outcome keywords.texts (place j) (subject_of p)
+    plan_outcome (node_these xs) (node_these xs') h = parts_same xs xs' h
+    plan_outcome node_always node_never h = absurd h
+    plan_outcome node_always (node_these xs) h = absurd h
+    plan_outcome node_never node_always h = absurd h
+    plan_outcome node_never (node_these xs) h = absurd h
+    plan_outcome (node_these xs) node_always h = absurd h
+    plan_outcome (node_these xs) node_never h = absurd h
+
+    outcome_same : node_outcome keywords matcher nodes subject_of c i path p go ≡ node_outcome keywords matcher nodes' subject_of c i path p go
+    outcome_same = plan_outcome (nodes.entries i) (nodes'.entries i) (entries i)
+
+  outcomes_same : (c : Completion) → node_outcome keywords matcher nodes subject_of c ≡ node_outcome keywords matcher nodes' subject_of c
+  outcomes_same c = λ j. λ i path p go. outcome_same c i path p go j
+
+  -- ---- their units
+
+  module _ (c : Completion) (i : ℕ) (path : Text) (p : Place) (go : NodeEdge → Below → Unit_) where
+    units_same : (name name' : Text) → name ≡ name' → (x x' : NodeForm K) → AlikeForm x x' → node_part_units keywords matcher nodes subject_of c i path p go name x ≡ node_part_units keywords matcher nodes' subject_of c i path p go name' x'
+    units_same name name' n (node_keyword m es) (node_keyword m' es') h =
+        let meaning = h.0 in
+        let asked = asked_same no_unit es es' h.1 go in
+        let place = at_same i path p in
+        λ j. keyword_units keywords (place j) (n j) (meaning j) (subject_of p) (matching matcher c) (asked j)
+    units_same name name' n (node_reference e) (node_reference e') h = let place = at_same i path p in λ j. reference_units (place j) (n j) (go (h j) here)
+    units_same name name' n (node_keyword m es) (node_reference e) h = absurd h
+    units_same name name' n (node_reference e) (node_keyword m es) h = absurd h
+
+    entries_same : (xs xs' : List (NodePart K)) → AlikeParts xs xs' → node_entries_of keywords matcher nodes subject_of c i path p go xs ≡ node_entries_of keywords matcher nodes' subject_of c i path p go xs'
+    entries_same [] [] h = refl
+    entries_same (x ∷ xs) (x' ∷ xs') h =
+        let first = units_same x.name x'.name (h.0).name x.form x'.form (h.0).form in
+        let priority = (h.0).priority in
+        let rest = entries_same xs xs' h.1 in
+        λ j. record { priority = priority j; units = first j } ∷ rest j
+    entries_same [] (x ∷ xs) h = absurd h
+    entries_same (x ∷ xs) [] h = absurd h
+
+    plan_units : (x x' : NodePlan K) → AlikePlan x x'
+        → ◌≡◌ {A = Unit_} (elim x [ node_always ↦ true_unit (node_at keywords matcher nodes subject_of i path p) | node_never ↦ false_unit keywords.texts (node_at keywords matcher nodes subject_of i path p) (subject_of p) | node_these xs ↦ plan_unit (node_at keywords matcher nodes subject_of i path p) (nodes.annotations i) (node_entries_of keywords matcher nodes subject_of c i path p go xs) ])
+        (elim x' [ node_always ↦ true_unit (node_at keywords matcher nodes' subject_of i path p) | node_never ↦ false_unit keywords.texts (node_at keywords matcher nodes' subject_of i path p) (subject_of p) | node_these xs ↦ plan_unit (node_at keywords matcher nodes' subject_of i path p) (nodes'.annotations i) (node_entries_of keywords matcher nodes' subject_of c i path p go xs) ])
+    plan_units node_always node_always h = let place = at_same i path p in λ j. true_unit (place j)
+    plan_units node_never node_never h = let place = at_same i path p in λ j. false_unit keywords.texts (place j) (subject_of p)
+    plan_units (node_these xs) (node_these xs') h =
+        let place = at_same i path p in
+        let all = entries_same xs xs' h in
+        λ j. plan_unit (place j) (annotations i j) (all j)
+    plan_units node_always node_never h = absurd h
+    plan_units node_always (node_these xs) h = absurd h
+    plan_units node_never node_always h = absurd h
+    plan_units node_never (node_these xs) h = absurd h
+    plan_units (node_these xs) node_always h = absurd h
+    plan_units (node_these xs) node_never h = absurd h
+
+    unit_same : node_unit keywords matcher nodes subject_of c i path p go ≡ node_unit keywords matcher nodes' subject_of c i path p go
+    unit_same = plan_units (nodes.entries i) (nodes'.entries i) (entries i)
+
+  -- ---- what their runs meet
+
+  module _ (as' : Assumptions) where
+    module _ (i : ℕ) (path : Text) (p : Place) (go : NodeEdge → Below → Run) where
+      abbrev says : NodeEdge → Below → Outcome
+      says = λ e b. (go e b).outcome tt
+
+      met_same : (name name' : Text) → name ≡ name' → (x x' : NodeForm K) → AlikeForm x x' → (mode : Mode) → node_part_met keywords matcher nodes subject_of as' i path p go name x mode ≡ node_part_met keywords matcher nodes' subject_of as' i path p go name' x' mode
+      met_same name name' n (node_keyword m es) (node_keyword m' es') h mode =
+          let meaning = h.0 in
+          let asked = asked_same no_run es es' h.1 go in
+          let place = at_same i path p in
+          let marks = same_edges es es' h.1 in
+          λ j. keyword_met keywords matcher as' (place j) (subject_of p) (asked j) (marks j) (n j) (meaning j) mode
+      met_same name name' n (node_reference e) (node_reference e') h mode = λ j. (go (h j) here).met mode
+      met_same name name' n (node_keyword m es) (node_reference e) h mode = absurd h
+      met_same name name' n (node_reference e) (node_keyword m es) h mode = absurd h
+
+      looked_same : (xs xs' : List (NodePart K)) → AlikeParts xs xs' → node_looked keywords matcher nodes subject_of as' i path p go xs ≡ node_looked keywords matcher nodes' subject_of as' i path p go xs'
+      looked_same [] [] h = refl
+      looked_same (x ∷ xs) (x' ∷ xs') h =
+          let leaf = (h.0).is_leaf in
+          let holds = part_same (completion_of as') i path p says x.name x'.name (h.0).name x.form x'.form (h.0).form in
+          let meets = met_same x.name x'.name (h.0).name x.form x'.form (h.0).form in
+          let rest = looked_same xs xs' h.1 in
+          λ j. record { is_leaf = leaf j; holds = (holds j).verdict; met = λ mode. meets mode j } ∷ rest j
+      looked_same [] (x ∷ xs) h = absurd h
+      looked_same (x ∷ xs) [] h = absurd h
+
+      plan_meets : (mode : Mode) (x x' : NodePlan K) → AlikePlan x x'
+          → ◌≡◌ {A = List Met} (elim x [ node_always ↦ [] | node_never ↦ [] | node_these xs ↦ plan_met mode (node_looked keywords matcher nodes subject_of as' i path p go xs) ])
+          (elim x' [ node_always ↦ [] | node_never ↦ [] | node_these xs ↦ plan_met mode (node_looked keywords matcher nodes' subject_of as' i path p go xs) ])
+      plan_meets mode node_always node_always h = refl
+      plan_meets mode node_never node_never h = refl
+      plan_meets mode (node_these xs) (node_these xs') h = let all = looked_same xs xs' h in λ j. plan_met mode (all j)
+      plan_meets mode node_always node_never h = absurd h
+      plan_meets mode node_always (node_these xs) h = absurd h
+      plan_meets mode node_never node_always h = absurd h
+      plan_meets mode node_never (node_these xs) h = absurd h
+      plan_meets mode (node_these xs) node_always h = absurd h
+      plan_meets mode (node_these xs) node_never h = absurd h
+
+      run_same : guarded_node keywords matcher nodes subject_of as' i path p go ≡ guarded_node keywords matcher nodes' subject_of as' i path p go
+      run_same = λ j. record {
+        outcome = λ t. outcome_same (completion_of as') i path p says j;
+        units = λ t. unit_same (completion_of as') i path p (λ e b. (go e b).units tt) j;
+        met = λ mode. plan_meets mode (nodes.entries i) (nodes'.entries i) (entries i) j;
+      }
+
+    runs_same : guarded_node keywords matcher nodes subject_of as' ≡ guarded_node keywords matcher nodes' subject_of as'
+    runs_same = λ j. λ i path p go. run_same i path p go j
+
+  yes_same : yes_run nodes ≡ yes_run nodes'
+  yes_same = λ j. λ i path p. record { outcome = λ t. accepted; units = λ t. true_unit (record { place = p; path = path; location = locations i j; absolute = absolutes i j }); met = λ m. [] }
+
+  pub guarded_runs_same : (as' : Assumptions) (n i : ℕ) (path : Text) (p : Place) (busy : List ℕ)
+      → guarded_within (yes_run nodes) (guarded_node keywords matcher nodes subject_of as') n i path p busy ≡ guarded_within (yes_run nodes') (guarded_node keywords matcher nodes' subject_of as') n i path p busy
+  guarded_runs_same as' n i path p busy = let runs = runs_same as' in λ j. guarded_within (yes_same j) (runs j) n i path p busy
+
+  pub guarded_senses_same : (n i : ℕ) → guarded_sense keywords matcher nodes subject_of n i ≡ guarded_sense keywords matcher nodes' subject_of n i
+  guarded_senses_same n i = λ j. record {
+    says = λ c. guarded_within yes_outcome (outcomes_same c j) n i [] [] [];
+    meets = λ call as'. (guarded_within (yes_same j) (runs_same as' j) n i [] [] []).met (mode_of call as');
+    is_match = matcher.is_match;
+  }

@@ -1,0 +1,17 @@
+-- What one step does to the table: a number is added, and an edge is made.
+use Rattle.std.specs.Prelude.{Bool, List, None, Option, Some, [], not, slice_get, ℕ, ◌++◌, ◌||◌, ◌∷◌, ◌≡◌}
+use Rattle.schema_node.specs.NodeTable.{NodeEntry, guards_at, is_settled_entry}
+use Rattle.schema_compiler.specs.declared.compiler.compiled.Progress.{Progress}
+
+-- a node without a form has come at the end, in this round, or waiting
+abbrev pub Numbered : {C : Type 0} → List (NodeEntry C) → Option ℕ → List (NodeEntry C) → Type 0
+Numbered {C} old round new = (n : NodeEntry C) × (new ≡ old ++ n ∷ []) × (n.plan ≡ None) × (n.round ≡ round)
+
+-- an edge was made to a number: guarded as the number stands, and noted where the number is not settled
+pub record PassesTo {C : Type 0} (nodes : List (NodeEntry C)) (i : ℕ) (old new : Progress) (guarded : Bool) : Type 0 where
+  pub entry : NodeEntry C
+  pub at : slice_get nodes i ≡ Some entry
+  pub guard : guarded ≡ guards_at old.round entry
+  pub loose : new.reaches_unsettled ≡ (old.reaches_unsettled || not (is_settled_entry entry))
+  pub same_round : new.round ≡ old.round
+  pub same_depth : new.depth ≡ old.depth

@@ -1,0 +1,33 @@
+-- How far the worklist is worked off: the numbers below one have their forms, each other one has its form or waits.
+use Rattle.std.specs.Prelude.{List, None, Option, Some, [], length, slice_get, ℕ, ◌<◌, ◌≡◌, ◌≤◌}
+use Rattle.schema_reports.specs.Plan.{Key}
+use Rattle.schema_reports.specs.Reach.{Reached}
+use Rattle.schema_node.specs.NodeTable.{IsFilled, NodeEntry}
+use Rattle.schema_compiler.specs.Compiling.{StandsBelow}
+use Rattle.schema_compiler.specs.Refusing.{IsRefusal}
+use Rattle.schema_compiler.specs.Filling.{IsGrown}
+use Rattle.schema_compiler.specs.Finding.{Course, WorksOff, at_root}
+use Rattle.schema_compiler.specs.Carried.{IsWell, Table, Task}
+use Rattle.schema_compiler.specs.UnderWay.{IsUnderWay, course_of}
+use Rattle.schema_compiler.specs.declared.compiler.error.BuildError.{BuildError}
+
+module _ {S K C : Type 0} (g : Task S K C) (root : Key S) where
+  -- the list is worked off up to this number
+  pub record IsAtNumber (t : Table S C) (i : ℕ) : Type 0 where
+    pub table : IsWell g t
+    pub under_way : IsUnderWay g t
+    pub grown : IsGrown (Reached g.parts root) [] t.keys [] t.nodes
+    pub below : (j : ℕ) → j < i → j < length t.nodes → IsFilled t.nodes j
+    -- each round so far began with a lower number
+    pub rounds : (j r : ℕ) (n : NodeEntry C) → slice_get t.nodes j ≡ Some n → n.round ≡ Some r → r < i
+    pub first : slice_get t.keys 0 ≡ Some root
+    -- what is still to come makes the whole
+    pub order : (c : Course S) → WorksOff g.parts g.nested i (course_of t) c → WorksOff g.parts g.nested 0 (at_root root) c
+
+  -- the list is worked off
+  abbrev pub IsWorkedOff : Table S C → Type 0
+  IsWorkedOff t = (i : ℕ) × (length t.keys ≤ i) × IsAtNumber t i
+
+  -- a refusal of the root's key, of which nothing is numbered
+  abbrev pub RefusesRootKey : BuildError → Type 0
+  RefusesRootKey e = IsRefusal g.limit [] (Reached g.parts root) (StandsBelow g.parts root) e

@@ -1,0 +1,15 @@
+//! What is proved of any two compilations of one schema, for all parts: each function states one law, and does nothing.
+
+ghost use Rattle.schema_compiler.specs.Agreeing.{OneOrder, TablesAgree};
+ghost use Rattle.schema_reports.specs.Parts.{Parts};
+
+/// The keys that a root reaches are found in one order, and how each number gets its form is determined too.
+pub fn keys_are_found_in_one_order<S, K, R>()
+    ensures one_order { (w : Parts S K R) → OneOrder w }
+{}
+
+/// Two compilations of one root, where as many targets of references may nest, give the same numbers to the same keys, guard the
+/// same edges and run alike, whatever their keywords are made of.
+pub fn tables_agree<S, K, R, C, D>()
+    ensures agree { (w : Parts S K R) (shape : C → K) (other : D → K) → TablesAgree w shape other }
+{}

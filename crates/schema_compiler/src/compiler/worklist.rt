@@ -1,0 +1,97 @@
+//! The worklist: keys that were found while as many targets of references as may nest were open. Each is compiled in a round
+//! of its own, in the order of finding, which is that of the numbers.
+ghost use Rattle.std.specs.Prelude.{◌<◌, IfErr, IfOk, length, suc};
+ghost use Rattle.schema_node.specs.NodeTable.{Waits};
+ghost use Rattle.schema_compiler.specs.KeyViews.{key_of};
+ghost use Rattle.schema_compiler.specs.Carried.{filled, task};
+ghost use Rattle.schema_compiler.specs.Working.{IsAtNumber, IsWorkedOff, RefusesRootKey};
+
+use crate::compiler::compiled::{Compiled, Progress};
+use crate::compiler::error::BuildError;
+use crate::compiler::given::Given;
+use crate::compiler::key::SchemaKey;
+use crate::compiler::values::Reading;
+use schema_node::context::keyword::Validate;
+use schema_node::context::resolver::Resolver;
+use schema_node::context::table::KeywordTable;
+use schema_node::node::SchemaNode;
+use std::rc::Rc;
+
+impl<'p, R: Resolver, T> Given<'p, R, T> {
+    // Compiles the key of a number that waits, in a round of its own.
+    fn compile_waiting<K: Validate>(
+        &self,
+        compiled: &mut Compiled<R::State, K>,
+        root: &Rc<SchemaKey<R::State>>,
+        number: usize,
+    ) -> Result<(), BuildError>
+    where
+        T: KeywordTable<K>,
+        requires at { IsAtNumber (task R.resolving T.owned T.script K.shape self.now)
+            (key_of R.point root.now.value) (filled R.point compiled.old) number }
+        requires waits { Waits compiled.old.nodes number }
+        ensures moved { IfOk result (λ _. IsAtNumber (task R.resolving T.owned T.script K.shape self.now)
+            (key_of R.point root.now.value) (filled R.point compiled.new) (suc number)) }
+        ensures refused { IfErr result (RefusesRootKey (task R.resolving T.owned T.script K.shape self.now)
+            (key_of R.point root.now.value)) }
+    {
+        let key = compiled.keys.shared(number)?;
+        compiled.nodes.begin(SchemaNode(number), number);
+        compiled.progress = Progress::at_round(number);
+        let planned = self.planned_node(compiled, &key, Reading::Unread)?;
+        let settled = !compiled.progress.reaches_unsettled;
+        compiled.nodes.fill(
+            SchemaNode(number),
+            planned.form,
+            planned.annotations,
+            settled,
+        );
+        Ok(())
+    }
+
+    // Goes on to the next number: compiles what waits at this one.
+    fn pass_number<K: Validate>(
+        &self,
+        compiled: &mut Compiled<R::State, K>,
+        root: &Rc<SchemaKey<R::State>>,
+        number: usize,
+    ) -> Result<(), BuildError>
+    where
+        T: KeywordTable<K>,
+        requires at { IsAtNumber (task R.resolving T.owned T.script K.shape self.now)
+            (key_of R.point root.now.value) (filled R.point compiled.old) number }
+        requires within { number < length compiled.old.keys }
+        ensures moved { IfOk result (λ _. IsAtNumber (task R.resolving T.owned T.script K.shape self.now)
+            (key_of R.point root.now.value) (filled R.point compiled.new) (suc number)) }
+        ensures refused { IfErr result (RefusesRootKey (task R.resolving T.owned T.script K.shape self.now)
+            (key_of R.point root.now.value)) }
+    {
+        if compiled.nodes.waits(SchemaNode(number)) {
+            return self.compile_waiting(compiled, root, number);
+        }
+        Ok(())
+    }
+
+    /// Compiles what waits, number by number, and what is found on the way, until no number waits.
+    pub(crate) fn work_off<K: Validate>(
+        &self,
+        compiled: &mut Compiled<R::State, K>,
+        root: &Rc<SchemaKey<R::State>>,
+    ) -> Result<(), BuildError>
+    where
+        T: KeywordTable<K>,
+        requires first { IsAtNumber (task R.resolving T.owned T.script K.shape self.now)
+            (key_of R.point root.now.value) (filled R.point compiled.old) 0 }
+        ensures done { IfOk result (λ _. IsWorkedOff (task R.resolving T.owned T.script K.shape self.now)
+            (key_of R.point root.now.value) (filled R.point compiled.new)) }
+        ensures refused { IfErr result (RefusesRootKey (task R.resolving T.owned T.script K.shape self.now)
+            (key_of R.point root.now.value)) }
+    {
+        let mut next = 0;
+        while next < compiled.keys.len() {
+            self.pass_number(compiled, root, next)?;
+            next += 1;
+        }
+        Ok(())
+    }
+}
