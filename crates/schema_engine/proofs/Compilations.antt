@@ -21,7 +21,9 @@ use Rattle.schema_compiler.specs.declared.compiler.error.BuildError.{BuildError}
 use Rattle.schema_engine.specs.Handed.{Options, parts_of, table_of}
 use Rattle.schema_engine.specs.Compiled.{IsCompiled, IsWhole}
 use Rattle.schema_engine.proofs.Reaches.{reach_of}
-use Rattle.schema_engine.proofs.OtherParts.{guards_too, reached_too, stands_too, numbered_too}
+use Rattle.schema_compiler.specs.Finding.{standing_of}
+use Rattle.schema_compiler.proofs.OtherCourses.{finds_all_too}
+use Rattle.schema_engine.proofs.OtherParts.{reached_too, stands_too, numbered_too}
 
 index_of : {A : Type 0} (xs : List A) (i : ℕ) (x d : A) → slice_get xs i ≡ Some x → slice_index_or xs i d ≡ x
 index_of [] i x d e = absurd (let f : ⊥ = cc in f)
@@ -36,8 +38,8 @@ builtin_is : builtin ≡ builtin_in
 unfolding builtin
 builtin_is = refl
 
-compiled_nodes : {S K R C : Type 0} (w : Parts S K R) (shape : C → K) (limit : ℕ) (root : Key S) (keys : List (Key S)) (nodes : List (NodeEntry C)) → IsCompilation w shape limit root keys nodes → IsCompiled w shape root nodes 0
-compiled_nodes w shape limit root keys nodes c = record {
+compiled_nodes : {S K R C : Type 0} (w : Parts S K R) (shape : C → K) (limit nested : ℕ) (root : Key S) (keys : List (Key S)) (nodes : List (NodeEntry C)) → IsCompilation w shape limit nested root keys nodes → IsCompiled w shape root nodes 0
+compiled_nodes w shape limit nested root keys nodes c = record {
   keys = keys;
   lengths = c.lengths;
   numbers = c.numbers;
@@ -47,9 +49,9 @@ compiled_nodes w shape limit root keys nodes c = record {
   compiles = c.compiles;
 }
 
-whole_nodes : {S K R C : Type 0} (w : Parts S K R) (shape : C → K) (limit : ℕ) (root : Key S) (keys : List (Key S)) (nodes : List (NodeEntry C)) → IsCompilation w shape limit root keys nodes → IsWhole w shape root nodes 0
+whole_nodes : {S K R C : Type 0} (w : Parts S K R) (shape : C → K) (limit nested : ℕ) (root : Key S) (keys : List (Key S)) (nodes : List (NodeEntry C)) → IsCompilation w shape limit nested root keys nodes → IsWhole w shape nested root nodes 0
 unfolding compiled_nodes
-whole_nodes w shape limit root keys nodes c = record { compiled = compiled_nodes w shape limit root keys nodes c; filled = c.filled; whole = c.whole; guards = c.guards }
+whole_nodes w shape limit nested root keys nodes c = record { compiled = compiled_nodes w shape limit nested root keys nodes c; filled = c.filled; whole = c.whole; order = c.order; guards = c.guards }
 
 module _ {S K R R' : Type 0} (resolver : Resolver S) (table : Table K) (matcher matcher' : Matcher) (keywords : Keywords K R) (keywords' : Keywords K R') (options : Options) where
   abbrev w : Parts S K R
@@ -69,13 +71,14 @@ module _ {S K R R' : Type 0} (resolver : Resolver S) (table : Table K) (matcher 
     compiles = λ cause stands. c.compiles cause (stands_too resolver table matcher' matcher keywords' keywords options stands);
   }
 
-  pub whole_too : {C : Type 0} (shape : C → K) (root : Key S) (nodes : List (NodeEntry C)) (number : ℕ) → IsWhole w shape root nodes number → IsWhole w' shape root nodes number
+  pub whole_too : {C : Type 0} (shape : C → K) (nested : ℕ) (root : Key S) (nodes : List (NodeEntry C)) (number : ℕ) → IsWhole w shape nested root nodes number → IsWhole w' shape nested root nodes number
   unfolding compiled_too
-  whole_too shape root nodes number c = record {
+  whole_too shape nested root nodes number c = record {
     compiled = compiled_too shape root nodes number c.compiled;
     filled = c.filled;
     whole = λ k r. c.whole k (reached_too resolver table matcher' matcher keywords' keywords options r);
-    guards = guards_too resolver table matcher matcher' keywords keywords' options c.compiled.keys nodes number c.guards;
+    order = finds_all_too w w' (λ k. refl) nested root c.compiled.keys (map standing_of nodes) c.order;
+    guards = c.guards;
   }
 
 -- what is said of the compiler's table is said of the standard's
@@ -86,15 +89,15 @@ module _ {S K R : Type 0} (resolver : Resolver S) (owns : Text → Bool) (script
   abbrev given : Parts S K R
   given = all_parts resolver (record { owns = owns; builtin = builtin; script = script }) options.formats options.declared matcher keywords options.draft options.base
 
-  pub compiled_in : {C : Type 0} (shape : C → K) (limit : ℕ) (root : Key S) (keys : List (Key S)) (nodes : List (NodeEntry C)) → IsCompilation given shape limit root keys nodes → IsCompiled (over builtin_in) shape root nodes 0
-  compiled_in shape limit root keys nodes c = subst (λ row. IsCompiled (over row) shape root nodes 0) builtin_is (compiled_nodes (over builtin) shape limit root keys nodes c)
+  pub compiled_in : {C : Type 0} (shape : C → K) (limit nested : ℕ) (root : Key S) (keys : List (Key S)) (nodes : List (NodeEntry C)) → IsCompilation given shape limit nested root keys nodes → IsCompiled (over builtin_in) shape root nodes 0
+  compiled_in shape limit nested root keys nodes c = subst (λ row. IsCompiled (over row) shape root nodes 0) builtin_is (compiled_nodes (over builtin) shape limit nested root keys nodes c)
 
-  pub whole_in : {C : Type 0} (shape : C → K) (limit : ℕ) (root : Key S) (keys : List (Key S)) (nodes : List (NodeEntry C)) → IsCompilation given shape limit root keys nodes → IsWhole (over builtin_in) shape root nodes 0
-  whole_in shape limit root keys nodes c = subst (λ row. IsWhole (over row) shape root nodes 0) builtin_is (whole_nodes (over builtin) shape limit root keys nodes c)
+  pub whole_in : {C : Type 0} (shape : C → K) (limit nested : ℕ) (root : Key S) (keys : List (Key S)) (nodes : List (NodeEntry C)) → IsCompilation given shape limit nested root keys nodes → IsWhole (over builtin_in) shape nested root nodes 0
+  whole_in shape limit nested root keys nodes c = subst (λ row. IsWhole (over row) shape nested root nodes 0) builtin_is (whole_nodes (over builtin) shape limit nested root keys nodes c)
 
   -- the keys are those that the root reaches, and no more than the limit
-  pub reach_in : ((a b : S) → Decides (resolver.same_state a b) (a ≡ b)) → {C : Type 0} (shape : C → K) (limit : ℕ) (root : Key S) (keys : List (Key S)) (nodes : List (NodeEntry C)) → IsCompilation given shape limit root keys nodes → IsReach (over builtin_in) root keys
-  reach_in law shape limit root keys nodes c = subst (λ row. IsReach (over row) root keys) builtin_is (reach_of (over builtin) law shape limit root keys nodes c)
+  pub reach_in : ((a b : S) → Decides (resolver.same_state a b) (a ≡ b)) → {C : Type 0} (shape : C → K) (limit nested : ℕ) (root : Key S) (keys : List (Key S)) (nodes : List (NodeEntry C)) → IsCompilation given shape limit nested root keys nodes → IsReach (over builtin_in) root keys
+  reach_in law shape limit nested root keys nodes c = subst (λ row. IsReach (over row) root keys) builtin_is (reach_of (over builtin) law shape limit nested root keys nodes c)
 
   pub refuses_in : (limit : ℕ) (root : Key S) (e : BuildError) → RefusesRoot given limit root e → RefusesRoot (over builtin_in) limit root e
   refuses_in limit root e h = subst (λ row. RefusesRoot (over row) limit root e) builtin_is h

@@ -8,3 +8,4 @@ pub mod RootKeys
 pub mod PlainAnswers
 pub mod Reaches
 pub mod Pointing
+mod Nesting

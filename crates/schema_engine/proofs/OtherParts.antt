@@ -12,7 +12,6 @@ use Rattle.schema_reports.specs.Refusals.{Cause, Aimed, the_root, referred_by, S
 use Rattle.schema_reports.specs.Guarded.{NodeForm, node_keyword, node_reference, NodePart, NodePlan, node_always, node_never, node_these, Nodes}
 use Rattle.schema_reports.specs.Numbered.{Numbers, SameForm, SameParts, SamePlan, StandsFor, AreNumbered}
 use Rattle.schema_node.specs.NodeTable.{NodeEntry}
-use Rattle.schema_compiler.specs.Guarding.{GoesDown, GuardsWaysBack, LeadsBack, LeadsDown, goes_on, stays}
 use Rattle.schema_engine.specs.Handed.{Options, parts_of}
 
 module _ {S K R R' : Type 0} (resolver : Resolver S) (table : Table K) (matcher matcher' : Matcher) (keywords : Keywords K R) (keywords' : Keywords K R') (options : Options) where
@@ -60,20 +59,6 @@ module _ {S K R R' : Type 0} (resolver : Resolver S) (table : Table K) (matcher 
 
     stands_for_too : (i : ℕ) → StandsFor w keys nodes i k → StandsFor w' keys nodes i k
     stands_for_too i s = record { entries = plan_too (nodes.entries i) (plan w k) s.entries; location = s.location; absolute = s.absolute; annotations = s.annotations }
-
-  module _ {C : Type 0} (keys : List (Key S)) (nodes : List (NodeEntry C)) where
-    step_too : {i j : ℕ} → GoesDown w keys nodes i j → GoesDown w' keys nodes i j
-    step_too h = record { key = h.key; edge = h.edge; at = h.at; asks = h.asks; to = h.to; there = h.there; lower = h.lower }
-
-    down_too : {i j : ℕ} → LeadsDown w keys nodes i j → LeadsDown w' keys nodes i j
-    down_too stays = stays
-    down_too (goes_on before step) = goes_on (down_too before) (step_too step)
-
-    back_too : (t i : ℕ) → LeadsBack w keys nodes t i → LeadsBack w' keys nodes t i
-    back_too t i h = record { upper = h.upper; lower = h.lower; ranks = h.ranks; down = down_too h.down }
-
-    pub guards_too : (root : ℕ) → GuardsWaysBack w keys nodes root → GuardsWaysBack w' keys nodes root
-    guards_too root g = record { down = λ i lt. down_too (g.down i lt); back = λ i n p e at formed inside guarded. back_too e.node i (g.back i n p e at formed inside guarded) }
 
   pub numbered_too : (keys : Numbers S) (nodes : Nodes K) → AreNumbered w keys nodes → AreNumbered w' keys nodes
   numbered_too keys nodes n = record { stands = λ i k is. stands_for_too keys nodes k i (n.stands i k is); once = n.once; guards = n.guards }

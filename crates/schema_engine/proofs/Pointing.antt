@@ -80,7 +80,7 @@ module _ {S K R C M : Type 0} (resolver : Resolver S) (table : Table K) (matcher
   sense_at texts instance m n = guarded_sense (words texts) m (numbered shape p.nodes) (subject_in instance) n p.root
 
   module _ (absorbed : K → List Text) (is_whole : K → Bool) (each : (texts : Bool) → EachKeepsAbsorbing (words texts) absorbed) (scripts : EachScript absorbed is_whole table)
-      (program : IsProgramOf resolver table matcher options schema shape matching p) where
+      {nested : ℕ} (program : IsProgramOf resolver table matcher options nested schema shape matching p) where
     leads : (texts : Bool) (instance : Data) (root : Key S) → program.root ≡ root → (n : ℕ) → EachLeads (w texts) root instance (sense_at texts instance (matching p.matcher) n)
     leads texts instance root same n = subst (λ m. EachLeads (w texts) root instance (sense_at texts instance m n)) (sym program.matcher_is) (λ c.
         node_errors_lead (w texts) absorbed (map Some program.compiled.compiled.keys) (numbered shape p.nodes) (each texts) (makers absorbed is_whole table scripts)

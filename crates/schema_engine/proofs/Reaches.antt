@@ -49,7 +49,7 @@ module _ {S K R : Type 0} (w : Parts S K R) (law : (a b : S) → Decides (w.reso
   number_of : (keys : List (Key S)) (i : ℕ) (k : Key S) → slice_get keys i ≡ Some k → slice_get (map Some keys) i ≡ Some (Some k)
   number_of keys i k h = slice_get-map Some keys i ∙ ap (option_map Some) h
 
-  module _ {C : Type 0} (shape : C → K) (limit : ℕ) (root : Key S) (keys : List (Key S)) (nodes : List (NodeEntry C)) (c : IsCompilation w shape limit root keys nodes) where
+  module _ {C : Type 0} (shape : C → K) (limit nested : ℕ) (root : Key S) (keys : List (Key S)) (nodes : List (NodeEntry C)) (c : IsCompilation w shape limit nested root keys nodes) where
     once : AllPairs (different w) keys
     once i j x lt within =
         let a = slice_index_or keys i x in

@@ -13,7 +13,7 @@ use Rattle.schema_node.specs.NodeTable.{NodeEntry, numbered}
 use Rattle.schema_compiler.specs.declared.compiler.error.BuildError.{BuildError}
 use Rattle.schema_engine.specs.Compiled.{IsCompiled}
 use Rattle.schema_compiler.specs.Compiling.{no_keywords, no_matcher}
-use Rattle.schema_engine.specs.Handed.{Handed, Options, parts_of}
+use Rattle.schema_engine.specs.Handed.{Handed, Options, default_nested, parts_of}
 use Rattle.schema_engine.specs.Pointing.{EachPoints, FirstPoints}
 use Rattle.schema_engine.specs.Program.{FromSomeDepth, Program}
 use Rattle.schema_engine.specs.ProgramOf.{IsProgramOf}
@@ -33,12 +33,11 @@ module _ {S K R C M : Type 0} (h : Handed S K R C M) (options : Options) (schema
   abbrev pub PointsPlainly : Program C M → Type 0
   PointsPlainly p = PointsIntoSchema h.resolver h.table h.matcher h.words options schema h.shape h.matching p
 
-  -- its nodes correspond one to one to the keys that the root's key reaches, its guarded edges are those that lead back up
-  -- (a guarded edge's target does not rank lower than its source and leads down to it by edges that nothing guards, as the
-  -- root's number leads down to every number), its draft is the root's, and its matcher answers
-  -- as the one that is handed in
-  abbrev pub IsCompiledFrom : Program C M → Type 0
-  IsCompiledFrom p = IsProgramOf h.resolver h.table h.matcher options schema h.shape h.matching p
+  -- its nodes correspond one to one to the keys that the root's key reaches, found in the one order that the schema and the
+  -- limit on nested targets give; an edge is guarded exactly where its target was in progress when it was made, or an unsettled
+  -- number of an earlier round; its draft is the root's, and its matcher answers as the one that is handed in
+  abbrev pub IsCompiledFrom : ℕ → Program C M → Type 0
+  IsCompiledFrom nested p = IsProgramOf h.resolver h.table h.matcher options nested schema h.shape h.matching p
 
   -- no cause of refusal stands for what the root reaches, and that is no more than the limit
   abbrev pub SchemaBuilds : Type 0
@@ -57,12 +56,12 @@ module _ {S K R C M : Type 0} (h : Handed S K R C M) (options : Options) (schema
 
     -- a fact about what the nodes compiled from the schema say from some depth on, where chains of references return too
     abbrev pub GuardedlyOf : (Bool → Sense → Type 0) → Type 0
-    GuardedlyOf fact = (p : Program C M) × IsProgramOf h.resolver h.table h.matcher options schema h.shape h.matching p
+    GuardedlyOf fact = (p : Program C M) × IsProgramOf h.resolver h.table h.matcher options default_nested schema h.shape h.matching p
         × FromSomeDepth h.shape h.words h.is_whole h.matching p instance fact
 
     -- a fact about such nodes, and about the root's key under which their errors point
     abbrev pub PointingOf : (Parts S K R → Key S → Sense → Bool → Type 0) → Type 0
-    PointingOf fact = (p : Program C M) × IsProgramOf h.resolver h.table h.matcher options schema h.shape h.matching p
+    PointingOf fact = (p : Program C M) × IsProgramOf h.resolver h.table h.matcher options default_nested schema h.shape h.matching p
         × OfSchema h.resolver h.table h.matcher h.words options schema instance
         (λ texts w root. means.FromSomeDepth (h.words texts) (h.matching p.matcher) (numbered h.shape p.nodes) p.root instance (λ v. fact w root v texts))
 

@@ -7,7 +7,7 @@ use Rattle.schema_reports.specs.Refusals.{Compiles}
 use Rattle.schema_reports.specs.Guarded.{NodePlan}
 use Rattle.schema_reports.specs.Numbered.{AreNumbered, Ranked}
 use Rattle.schema_node.specs.NodeTable.{NodeEntry, numbered}
-use Rattle.schema_compiler.specs.Guarding.{GuardsWaysBack}
+use Rattle.schema_compiler.specs.Finding.{FindsAll, GuardsByStanding, standing_of}
 
 pub record IsCompiled {S K R C : Type 0} (w : Parts S K R) (shape : C → K) (root : Key S) (nodes : List (NodeEntry C)) (number : ℕ) : Type 0 where
   pub keys : List (Key S)
@@ -19,10 +19,11 @@ pub record IsCompiled {S K R C : Type 0} (w : Parts S K R) (shape : C → K) (ro
   pub compiles : Compiles w root
 
 -- and numbers and keys correspond one to one: every number has its form, and every key that the root reaches has a number;
--- and which edges are guarded: the root's number leads down to every number, by what keys ask for as far as ranks fall, and a
--- guarded edge's target does not rank lower than its source and leads down to it
-pub record IsWhole {S K R C : Type 0} (w : Parts S K R) (shape : C → K) (root : Key S) (nodes : List (NodeEntry C)) (number : ℕ) : Type 0 where
+-- and which edges are guarded: the keys are found in the one order that the schema and the limit on nested targets give, and
+-- an edge is guarded exactly where its target was in progress when it was made, or an unsettled number of an earlier round
+pub record IsWhole {S K R C : Type 0} (w : Parts S K R) (shape : C → K) (nested : ℕ) (root : Key S) (nodes : List (NodeEntry C)) (number : ℕ) : Type 0 where
   pub compiled : IsCompiled w shape root nodes number
   pub filled : (i : ℕ) (n : NodeEntry C) → slice_get nodes i ≡ Some n → (p : NodePlan C) × (n.plan ≡ Some p)
   pub whole : (k : Key S) → Reached w root k → (i : ℕ) × (slice_get compiled.keys i ≡ Some k)
-  pub guards : GuardsWaysBack w compiled.keys nodes number
+  pub order : FindsAll w nested root compiled.keys (map standing_of nodes)
+  pub guards : GuardsByStanding nodes

@@ -26,6 +26,10 @@ pub record Options : Type 0 where
 abbrev pub default_options : Options
 default_options = record { draft = None; base = None; formats = None; declared = []; limit = 65536 }
 
+-- how many targets of references are compiled one inside another, where no call says otherwise
+abbrev pub default_nested : ℕ
+default_nested = 8
+
 -- the table that a keyword table and the built-in one make together
 abbrev pub table_of : {K : Type 0} → (Text → Bool) → (Draft → Vocabularies → Text → Option Builtin) → (Bool → Text → Members → Draft → Vocabularies → Bool → Script K) → Table K
 table_of owns builtin script = record { owns = owns; builtin = builtin; script = script }

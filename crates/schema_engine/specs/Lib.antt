@@ -9,3 +9,4 @@ pub mod Roots
 pub mod ProgramOf
 pub mod Asked
 pub mod Called
+pub mod Nesting

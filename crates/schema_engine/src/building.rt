@@ -2,7 +2,7 @@
 ghost use Rattle.std.specs.Prelude.{◌≡◌, IfOk, IfErr};
 ghost use Rattle.serde_json.specs.View.{view};
 ghost use Rattle.schema_engine.specs.Called.{IsCompiledFrom, MeansPlainly, PointsPlainly, SchemaBuilds, SchemaRefused};
-ghost use Rattle.schema_engine.specs.Handed.{default_options, handed};
+ghost use Rattle.schema_engine.specs.Handed.{default_nested, default_options, handed};
 
 use crate::options::ValidationOptions;
 use crate::validator::Validator;
@@ -43,7 +43,7 @@ impl<K: Validate, M: Matcher> Validator<K, M> {
             default_options (view schema.now) v) }
         ensures program { IfOk result (λ v. IsCompiledFrom
             (handed S.Resolver T.KeywordTable K.Validate M.Matcher.own resolver.now table.now matcher.now)
-            default_options (view schema.now) v) }
+            default_options (view schema.now) default_nested v) }
         ensures built { IfOk result (λ _. SchemaBuilds
             (handed S.Resolver T.KeywordTable K.Validate M.Matcher.own resolver.now table.now matcher.now)
             default_options (view schema.now)) }

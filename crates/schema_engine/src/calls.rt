@@ -1,7 +1,6 @@
 //! One instance asked of a schema: built by the default options and asked in one call.
 ghost use Rattle.std.specs.Prelude.{Bool, IfOk, IfErr, IfSome, All};
 ghost use Rattle.serde_json.specs.View.{view};
-ghost use Rattle.schema_node.specs.Marks.{TakesNoMarks};
 ghost use Rattle.schema_reports.specs.ReportViews.{BorrowsItsPlace};
 ghost use Rattle.schema_engine.specs.Answers.{refusal_of};
 ghost use Rattle.schema_engine.specs.Called.{DecidesGuardedly, DecidesPlainly, SchemaRefused};
@@ -32,7 +31,6 @@ pub fn is_valid<S: Resolver, T: KeywordTable<K>, K: Validate, M: Matcher>(
     resolver: &S,
     matcher: &M,
 ) -> Result<bool, BuildError>
-    requires unmarked { (texts : Bool) → TakesNoMarks (K.words texts) }
     ensures answer { IfOk result (λ valid. DecidesPlainly
         (handed S.Resolver T.KeywordTable K.Validate M.Matcher.own resolver.now table.now matcher.now)
         default_options (view schema.now) (view instance.now) valid) }
@@ -61,7 +59,6 @@ pub fn validate<'i, S: Resolver, T: KeywordTable<K>, K: Validate, M: Matcher>(
     resolver: &S,
     matcher: &M,
 ) -> Result<Result<(), ValidationError<'i>>, BuildError>
-    requires unmarked { (texts : Bool) → TakesNoMarks (K.words texts) }
     ensures answer { IfOk result (λ r. FirstPlainly
         (handed S.Resolver T.KeywordTable K.Validate M.Matcher.own resolver.now table.now matcher.now)
         default_options (view schema.now) (view instance.now) (refusal_of r)) }
@@ -93,7 +90,6 @@ pub fn iter_errors<'i, S: Resolver, T: KeywordTable<K>, K: Validate, M: Matcher>
     resolver: &S,
     matcher: &M,
 ) -> Result<ErrorIterator<'i>, BuildError>
-    requires unmarked { (texts : Bool) → TakesNoMarks (K.words texts) }
     ensures answer { IfOk result (λ es. ErrorsPlainly
         (handed S.Resolver T.KeywordTable K.Validate M.Matcher.own resolver.now table.now matcher.now)
         default_options (view schema.now) (view instance.now) es) }

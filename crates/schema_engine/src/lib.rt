@@ -4,6 +4,7 @@
 pub mod building;
 pub mod calls;
 pub mod compiled;
+pub mod laws;
 pub mod options;
 pub mod validator;
 

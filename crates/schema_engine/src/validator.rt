@@ -6,7 +6,6 @@ ghost use Rattle.schema_reports.specs.Unfinished.{starting};
 ghost use Rattle.schema_reports.specs.ReportViews.{BorrowsItsPlace};
 ghost use Rattle.schema_node.specs.FaultViews.{errors_in};
 ghost use Rattle.schema_node.specs.KeywordViews.{mode_of, reply_of};
-ghost use Rattle.schema_node.specs.Marks.{TakesNoMarks};
 ghost use Rattle.schema_node.specs.NodeRuns.{reply_by};
 ghost use Rattle.schema_reports.specs.Reports.{Outcome};
 ghost use Rattle.schema_reports.specs.Keywords.{for_all, for_first, for_units, for_verdict};
@@ -123,7 +122,6 @@ impl<K: Validate, M: Matcher> Validator<K, M> {
         mode: Mode,
         matches: MatchAssumptions<'i>,
     ) -> Result<(MatchAssumptions<'i>, Reply<'i>), OutOfMemory>
-        requires unmarked { (texts : Bool) → TakesNoMarks (K.words texts) }
         requires wanted { ¬ (mode_of mode ≡ for_units) }
         ensures says { IfOk result (λ r. RunReplies
             K.Validate M.Matcher.own self.now (view instance.now) mode matches.entry.assumptions r.1) }
@@ -155,7 +153,6 @@ impl<K: Validate, M: Matcher> Validator<K, M> {
         instance: &'i Value,
         matches: MatchAssumptions<'i>,
     ) -> Result<(MatchAssumptions<'i>, bool), OutOfMemory>
-        requires unmarked { (texts : Bool) → TakesNoMarks (K.words texts) }
         ensures says { IfOk result (λ r. RunDecides
             K.Validate M.Matcher.own self.now (view instance.now) matches.entry.assumptions r.1) }
         ensures meets { IfOk result (λ r. RunMeets
@@ -171,7 +168,6 @@ impl<K: Validate, M: Matcher> Validator<K, M> {
 
     // Whether every outcome of the unfinished matches accepts.
     fn valid_under_each(&self, alloc: Global, instance: &Value) -> Result<bool, OutOfMemory>
-        requires unmarked { (texts : Bool) → TakesNoMarks (K.words texts) }
         ensures depth { IfOk result (λ valid. DecidesFromSomeDepth
             K.Validate M.Matcher.own self.now (view instance.now) valid) }
     {
@@ -192,7 +188,6 @@ impl<K: Validate, M: Matcher> Validator<K, M> {
         alloc: Global,
         instance: &'i Value,
     ) -> Result<(MatchAssumptions<'i>, Option<ValidationError<'i>>), OutOfMemory>
-        requires unmarked { (texts : Bool) → TakesNoMarks (K.words texts) }
         ensures says { IfOk result (λ r. RunFindsFirst
             K.Validate M.Matcher.own self.now (view instance.now) [] r.1) }
         ensures meets { IfOk result (λ r. RunMeets
@@ -215,7 +210,6 @@ impl<K: Validate, M: Matcher> Validator<K, M> {
         instance: &'i Value,
         matches: MatchAssumptions<'i>,
     ) -> Result<(MatchAssumptions<'i>, Vec<ValidationError<'i>>), OutOfMemory>
-        requires unmarked { (texts : Bool) → TakesNoMarks (K.words texts) }
         ensures says { IfOk result (λ r. RunListsErrors
             K.Validate M.Matcher.own self.now (view instance.now) matches.entry.assumptions r.1.items) }
         ensures meets { IfOk result (λ r. RunMeets
@@ -237,7 +231,6 @@ impl<K: Validate, M: Matcher> Validator<K, M> {
         alloc: Global,
         instance: &'i Value,
     ) -> Result<Option<ValidationError<'i>>, OutOfMemory>
-        requires unmarked { (texts : Bool) → TakesNoMarks (K.words texts) }
         ensures depth { IfOk result (λ e. FirstFromSomeDepth
             K.Validate M.Matcher.own self.now (view instance.now) e) }
         ensures borrows { IfOk result (λ e. IfSome e (BorrowsItsPlace (view instance.now))) }
@@ -261,7 +254,6 @@ impl<K: Validate, M: Matcher> Validator<K, M> {
         alloc: Global,
         instance: &'i Value,
     ) -> Result<Vec<ValidationError<'i>>, OutOfMemory>
-        requires unmarked { (texts : Bool) → TakesNoMarks (K.words texts) }
         ensures depth { IfOk result (λ es. ErrorsFromSomeDepth
             K.Validate M.Matcher.own self.now (view instance.now) es.items) }
         ensures borrows { IfOk result (λ es. All (BorrowsItsPlace (view instance.now)) es.items) }
@@ -286,7 +278,6 @@ impl<K: Validate, M: Matcher> Validator<K, M> {
     ///
     /// Fails out of memory.
     pub fn is_valid(&self, alloc: Global, instance: &Value) -> Result<bool, OutOfMemory>
-        requires unmarked { (texts : Bool) → TakesNoMarks (K.words texts) }
         ensures depth { IfOk result (λ valid. DecidesFromSomeDepth
             K.Validate M.Matcher.own self.now (view instance.now) valid) }
         ensures senses { IfOk result (λ valid. DecidesInEverySense
@@ -308,7 +299,6 @@ impl<K: Validate, M: Matcher> Validator<K, M> {
         alloc: Global,
         instance: &'i Value,
     ) -> Result<Result<(), ValidationError<'i>>, OutOfMemory>
-        requires unmarked { (texts : Bool) → TakesNoMarks (K.words texts) }
         ensures depth { IfOk result (λ r. FirstFromSomeDepth
             K.Validate M.Matcher.own self.now (view instance.now) (refusal_of r)) }
         ensures senses { IfOk result (λ r. FirstInEverySense
@@ -333,7 +323,6 @@ impl<K: Validate, M: Matcher> Validator<K, M> {
         alloc: Global,
         instance: &'i Value,
     ) -> Result<ErrorIterator<'i>, OutOfMemory>
-        requires unmarked { (texts : Bool) → TakesNoMarks (K.words texts) }
         ensures depth { IfOk result (λ es. ErrorsFromSomeDepth
             K.Validate M.Matcher.own self.now (view instance.now) es) }
         ensures senses { IfOk result (λ es. ErrorsInEverySense

@@ -2,7 +2,7 @@
 ghost use Rattle.std.specs.Prelude.{IfOk, IfErr};
 ghost use Rattle.serde_json.specs.View.{view};
 ghost use Rattle.schema_engine.specs.Called.{IsCompiledFrom, MeansPlainly, PointsPlainly, SchemaBuilds, SchemaRefused};
-ghost use Rattle.schema_engine.specs.Handed.{handed};
+ghost use Rattle.schema_engine.specs.Handed.{default_nested, handed};
 
 use crate::compiled::of_compiled;
 use crate::options::ValidationOptions;
@@ -18,11 +18,14 @@ use schema_node::node::SchemaNode;
 use serde_json::Value;
 use std::alloc::Global;
 
+/// How many targets of references are compiled one inside another, where no call says otherwise.
+const NESTED_LIMIT: usize = 8;
+
 impl ValidationOptions {
     /// Builds a validator of a schema. The resolver has to have the schema as the document under the root's base: that is
     /// what is compiled, and what the contract speaks of. Where no chain of references returns, the validator means the plain
     /// meaning of schema and parts. Returns or none, each error that it gives points at a keyword of the schema and at a value
-    /// inside the instance.
+    /// inside the instance. At most 8 targets of references are compiled one inside another.
     ///
     /// # Errors
     ///
@@ -44,7 +47,42 @@ impl ValidationOptions {
             self.now (view schema.now) v) }
         ensures program { IfOk result (λ v. IsCompiledFrom
             (handed S.Resolver T.KeywordTable K.Validate M.Matcher.own resolver.now table.now matcher.now)
+            self.now (view schema.now) default_nested v) }
+        ensures built { IfOk result (λ _. SchemaBuilds
+            (handed S.Resolver T.KeywordTable K.Validate M.Matcher.own resolver.now table.now matcher.now)
+            self.now (view schema.now)) }
+        ensures refused { IfErr result (λ e. SchemaRefused
+            (handed S.Resolver T.KeywordTable K.Validate M.Matcher.own resolver.now table.now matcher.now)
+            self.now (view schema.now) e) }
+    {
+        self.build_nested(alloc, schema, table, resolver, matcher, NESTED_LIMIT)
+    }
+
+    /// Builds a validator of a schema as `build` does, but with at most `nested` targets of references compiled one inside
+    /// another. Where no chain of references returns, this limit changes no answer; it decides how much stack the build takes,
+    /// and which edges of a cycle of references are guarded.
+    ///
+    /// # Errors
+    ///
+    /// Fails where `build` fails: the limit decides nothing of that.
+    pub fn build_nested<S: Resolver, T: KeywordTable<K>, K: Validate, M: Matcher>(
+        &self,
+        alloc: Global,
+        schema: &Value,
+        table: &T,
+        resolver: &S,
+        matcher: &M,
+        nested: usize,
+    ) -> Result<Validator<K, M>, BuildError>
+        ensures means { IfOk result (λ v. MeansPlainly
+            (handed S.Resolver T.KeywordTable K.Validate M.Matcher.own resolver.now table.now matcher.now)
             self.now (view schema.now) v) }
+        ensures points { IfOk result (λ v. PointsPlainly
+            (handed S.Resolver T.KeywordTable K.Validate M.Matcher.own resolver.now table.now matcher.now)
+            self.now (view schema.now) v) }
+        ensures program { IfOk result (λ v. IsCompiledFrom
+            (handed S.Resolver T.KeywordTable K.Validate M.Matcher.own resolver.now table.now matcher.now)
+            self.now (view schema.now) nested v) }
         ensures built { IfOk result (λ _. SchemaBuilds
             (handed S.Resolver T.KeywordTable K.Validate M.Matcher.own resolver.now table.now matcher.now)
             self.now (view schema.now)) }
@@ -54,7 +92,7 @@ impl ValidationOptions {
     {
         let root = root_key(alloc, resolver, self, schema)?;
         let draft = root.draft;
-        let compiled = compile(alloc, resolver, table, &self.compiling, root)?;
+        let compiled = compile(alloc, resolver, table, &self.compiling, nested, root)?;
         let nodes = compiled.nodes;
         let validator = of_compiled(
             schema,

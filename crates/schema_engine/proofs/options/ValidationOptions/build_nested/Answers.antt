@@ -16,7 +16,7 @@ use Rattle.schema_reports.specs.ErrorsLead.{EachKeepsAbsorbing}
 use Rattle.schema_reports.proofs.TurnsGiveRuns.{keeps_of_turns}
 use Rattle.schema_engine.proofs.Pointing.{points_into}
 use Rattle.schema_engine.proofs.RootKeys.{one_root_key, root_key_of, root_key_too}
-use Rattle.schema_engine.proofs.options.ValidationOptions.build.Goals as goal
+use Rattle.schema_engine.proofs.options.ValidationOptions.build_nested.Goals as goal
 
 pub of_compiled-requires : goal.of_compiled-requires
 of_compiled-requires g c =
@@ -61,9 +61,9 @@ returns-clause-means g c =
     let key = v c.in_ok-root.root in
     let keys = map v c.in_ok-compiled.compiled.keys in
     let nodes = c.in_ok-compiled.compiled.nodes in
-    let done = subst (λ (o : Options). IsCompilation (all_parts r (record { owns = owns; builtin = builtin; script = script }) o.formats o.declared m words o.draft o.base) shape o.limit key keys nodes) c.self.view_is
+    let done = subst (λ (o : Options). IsCompilation (all_parts r (record { owns = owns; builtin = builtin; script = script }) o.formats o.declared m words o.draft o.base) shape o.limit c.args.nested key keys nodes) c.self.view_is
     (c.in_ok-compiled.ensures.compiled m words (option_map draft_of inside.draft) (option_map string_bytes inside.base)) in
-    let compiled = compiled_too r table m no_matcher words no_keywords options shape key nodes 0 (compiled_in r owns script m words options shape options.limit key keys nodes done) in
+    let compiled = compiled_too r table m no_matcher words no_keywords options shape key nodes 0 (compiled_in r owns script m words options shape options.limit c.args.nested key keys nodes done) in
     let is_root = root_key_too r no_table table no_matcher no_matcher no_keywords no_keywords options schema key c.in_ok-root.ensures.key in
     c.in_ok-validator.ensures.means options (λ other root.
     subst (λ k. IsCompiled (parts_of r table no_matcher no_keywords options) shape k nodes 0)
@@ -85,15 +85,15 @@ returns-clause-program g c =
     let key = v c.in_ok-root.root in
     let keys = map v c.in_ok-compiled.compiled.keys in
     let nodes = c.in_ok-compiled.compiled.nodes in
-    let done = subst (λ (o : Options). IsCompilation (all_parts r (record { owns = owns; builtin = builtin; script = script }) o.formats o.declared m words o.draft o.base) shape o.limit key keys nodes) c.self.view_is
+    let done = subst (λ (o : Options). IsCompilation (all_parts r (record { owns = owns; builtin = builtin; script = script }) o.formats o.declared m words o.draft o.base) shape o.limit c.args.nested key keys nodes) c.self.view_is
     (c.in_ok-compiled.ensures.compiled m words (option_map draft_of inside.draft) (option_map string_bytes inside.base)) in
-    let compiled = whole_too r table m no_matcher words no_keywords options shape key nodes 0 (whole_in r owns script m words options shape options.limit key keys nodes done) in
+    let compiled = whole_too r table m no_matcher words no_keywords options shape c.args.nested key nodes 0 (whole_in r owns script m words options shape options.limit c.args.nested key keys nodes done) in
     let made = c.in_ok-validator.ensures.made in
     record {
       root = key;
       is_root = root_key_too r no_table table no_matcher no_matcher no_keywords no_keywords options schema key c.in_ok-root.ensures.key;
-      compiled = subst (λ number. IsWhole (parts_of r table no_matcher no_keywords options) shape key c.in_ok-validator.validator.nodes number) (sym made.1)
-          (subst (λ ns. IsWhole (parts_of r table no_matcher no_keywords options) shape key ns 0) (sym made.0) compiled);
+      compiled = subst (λ number. IsWhole (parts_of r table no_matcher no_keywords options) shape c.args.nested key c.in_ok-validator.validator.nodes number) (sym made.1)
+          (subst (λ ns. IsWhole (parts_of r table no_matcher no_keywords options) shape c.args.nested key ns 0) (sym made.0) compiled);
       drafted = c.in_ok-root.ensures.drafted ∙ ap Ok (sym made.2);
       matcher_is = c.in_ok-validator.ensures.matcher;
     }
@@ -125,9 +125,9 @@ returns-clause-built g c = λ texts.
     let key = v c.in_ok-root.root in
     let keys = map v c.in_ok-compiled.compiled.keys in
     let nodes = c.in_ok-compiled.compiled.nodes in
-    let done = subst (λ (o : Options). IsCompilation (all_parts r (record { owns = owns; builtin = builtin; script = script }) o.formats o.declared m words o.draft o.base) shape o.limit key keys nodes) c.self.view_is
+    let done = subst (λ (o : Options). IsCompilation (all_parts r (record { owns = owns; builtin = builtin; script = script }) o.formats o.declared m words o.draft o.base) shape o.limit c.args.nested key keys nodes) c.self.view_is
     (c.in_ok-compiled.ensures.compiled m words (option_map draft_of inside.draft) (option_map string_bytes inside.base)) in
-    let compiled = compiled_in r owns script m words options shape options.limit key keys nodes done in
+    let compiled = compiled_in r owns script m words options shape options.limit c.args.nested key keys nodes done in
     let is_root = root_key_too r no_table table no_matcher m no_keywords words options schema key c.in_ok-root.ensures.key in
     record {
       root = key;
@@ -135,6 +135,6 @@ returns-clause-built g c = λ texts.
       alone = λ other h. one_root_key (parts_of r table m words options) schema other key h is_root;
       compiles = compiled.compiles;
       keys = keys;
-      reach = reach_in r owns script m words options (g.met.S.Resolver.same c.args.resolver.now) shape options.limit key keys nodes done;
+      reach = reach_in r owns script m words options (g.met.S.Resolver.same c.args.resolver.now) shape options.limit c.args.nested key keys nodes done;
       within = done.within;
     }

@@ -1,0 +1,153 @@
+-- One sense determines what each call answers, up to the site of its failure; so two validators that mean the plain meaning of one
+-- schema answer alike.
+use Rattle.std.proofs.Common.{Bool, List, [], ap, false, inl, inr, map, refl, sym, true, ◌∙◌, ◌∷◌, ◌≡◌, ◌⊎◌}
+use Rattle.std.specs.Prelude.{None, Option, Some, is_none, option_map}
+use Rattle.serde_json.specs.Data.{Data}
+use Rattle.schema_reports.specs.Cover.{Call, Decides, Sense, branch_at, is_valid, iter_errors, validate}
+use Rattle.schema_reports.specs.Deciding.{decides_or_not}
+use Rattle.schema_reports.specs.Headline as h
+use Rattle.schema_reports.specs.Keywords.{Answer}
+use Rattle.schema_reports.specs.Reports.{Error}
+use Rattle.schema_reports.specs.ReportViews.{error_of}
+use Rattle.schema_reports.specs.Shared.{Kept, keep, leave, none}
+use Rattle.schema_reports.specs.SharedResults.{is_empty}
+use Rattle.schema_reports.specs.declared.reports.ValidationError.{ValidationError}
+use Rattle.schema_node.specs.declared.context.keyword.Validate.{Ghosts as KeywordMembers}
+use Rattle.schema_node.specs.declared.context.matcher.Matcher.{Ghosts as MatcherMembers}
+use Rattle.schema_node.specs.declared.context.resolver.Resolver.{Ghosts as ResolverMembers}
+use Rattle.schema_node.specs.declared.context.table.KeywordTable.{Ghosts as TableMembers}
+use Rattle.schema_engine.specs.Called.{MeansPlainly, PlainlyOf}
+use Rattle.schema_engine.specs.Handed.{Handed, Options}
+use Rattle.schema_engine.specs.Nesting.{AllErrorsAgree, ErrorsAgree, FirstErrorsAgree, FirstsAgree, SameErrors, SameFirst, VerdictsAgree, handed_to_both as both}
+use Rattle.schema_engine.specs.Program.{OfEverySense, Program}
+use Rattle.schema_engine.specs.Spoken.{ErrorsAnswered, FirstAnswered}
+use Rattle.schema_engine.proofs.PlainAnswers.{plainly_from}
+
+module _ (v : Sense) where
+  -- ---- the verdict
+
+  pub same_verdict : (call : Call) (b b' : Bool) → h.VerdictSays v call b → h.VerdictSays v call b' → b ≡ b'
+  same_verdict call b b' says says' = go (decides_or_not v call)
+    where
+      alike : (b b' : Bool) → (b ≡ true → b' ≡ true) → (b' ≡ true → b ≡ true) → b ≡ b'
+      alike true b' to from = sym (to refl)
+      alike false true to from = from refl
+      alike false false to from = refl
+
+      go : Decides v call ⊎ ¬ (Decides v call) → b ≡ b'
+      go (inl d) = alike b b' (λ e. (says'.0 d).1 ((says.0 d).0 e)) (λ e. (says.0 d).1 ((says'.0 d).0 e))
+      go (inr n) = says.1 n ∙ sym (says'.1 n)
+
+  -- ---- the first error
+
+  one_first : {es : List Error} {o o' : Option Error} → h.FirstShared v es o → h.FirstShared v es o' → o ≡ o'
+  one_first h.none h.none = refl
+  one_first (h.here s) (h.here s') = refl
+  one_first (h.here s) (h.later n k) = absurd (n s)
+  one_first (h.later n k) (h.here s) = absurd (n s)
+  one_first (h.later n k) (h.later n' k') = one_first k k'
+
+  by_shared : (shared shared' o o' : Option Error) → shared ≡ shared' → h.IsFirst v shared o → h.IsFirst v shared' o' → SameFirst v o o'
+  by_shared (Some e) (Some e') o o' same is is' = inl (is ∙ (same ∙ sym is'))
+  by_shared (Some e) None o o' same is is' = absurd (cc same)
+  by_shared None (Some e) o o' same is is' = absurd (cc same)
+  by_shared None None None None same is is' = inl refl
+  by_shared None None None (Some e) same is is' = let ((c, nay), fails) = is' in absurd (cc (is c, nay))
+  by_shared None None (Some e) None same is is' = let ((c, nay), fails) = is in absurd (cc (is' c, nay))
+  by_shared None None (Some e) (Some e') same is is' = inr ((e, is.1, refl), (e', is'.1, refl))
+
+  pub same_first : (o o' : Option Error) → h.FirstSays v o → h.FirstSays v o' → SameFirst v o o'
+  same_first o o' says says' = go (decides_or_not v validate)
+    where
+      go : Decides v validate ⊎ ¬ (Decides v validate) → SameFirst v o o'
+      go (inl d) = let (shared, first, is) = says.0 d in let (shared', first', is') = says'.0 d in by_shared shared shared' o o' (one_first first first') is is'
+      go (inr n) = inr (says.1 n, says'.1 n)
+
+  -- where no match is met there is no failure
+  pub first_alone : (o o' : Option Error) → branch_at v validate [] ≡ None → SameFirst v o o' → o ≡ o'
+  first_alone o o' e (inl same) = same
+  first_alone o o' e (inr ((x, fails, is), other)) = absurd (cc (e, fails.is_first))
+
+  pub firsts_agree : (texts : Bool) (o o' : Option ValidationError) → FirstAnswered v texts o → FirstAnswered v texts o' → FirstsAgree v texts o o'
+  firsts_agree true o o' says says' = same_first (option_map (error_of true) o) (option_map (error_of true) o') says says'
+  firsts_agree false o o' says says' = record {
+    verdict = same_verdict validate (is_none o) (is_none o') says.verdict says'.verdict;
+    undecided = λ n. (says.undecided n, says'.undecided n);
+    alone = λ e. first_alone (option_map (error_of false) o) (option_map (error_of false) o') e
+        (same_first (option_map (error_of false) o) (option_map (error_of false) o') (says.alone e) (says'.alone e));
+  }
+
+  -- ---- all errors
+
+  one_kept : {es kept kept' : List Error} → Kept v es kept → Kept v es kept' → kept ≡ kept'
+  one_kept none none = refl
+  one_kept (keep {e = e} s k) (keep s' k') = ap (λ z. e ∷ z) (one_kept k k')
+  one_kept (keep s k) (leave n k') = absurd (n s)
+  one_kept (leave n k) (keep s k') = absurd (n s)
+  one_kept (leave n k) (leave n' k') = one_kept k k'
+
+  by_kept : (shared shared' es es' : List Error) → shared ≡ shared' → h.IsListed v iter_errors shared es → h.IsListed v iter_errors shared' es' → SameErrors v es es'
+  by_kept (f ∷ fs) (f' ∷ fs') es es' same is is' = inl (is ∙ (same ∙ sym is'))
+  by_kept (f ∷ fs) [] es es' same is is' = absurd (cc same)
+  by_kept [] (f ∷ fs) es es' same is is' = absurd (cc same)
+  by_kept [] [] [] [] same is is' = inl refl
+  by_kept [] [] [] (e ∷ es) same is is' = let ((c, nay), fails, last) = is' in absurd (cc (is c, nay))
+  by_kept [] [] (e ∷ es) [] same is is' = let ((c, nay), fails, last) = is in absurd (cc (is' c, nay))
+  by_kept [] [] (e ∷ es) (e' ∷ es') same is is' = let (some, fails, last) = is in let (some', fails', last') = is' in
+      inr ((e, fails, ap (λ z. e ∷ z) last), (e', fails', ap (λ z. e' ∷ z) last'))
+
+  pub same_errors : (es es' : List Error) → h.ErrorsSay v es → h.ErrorsSay v es' → SameErrors v es es'
+  same_errors es es' says says' = go (decides_or_not v iter_errors)
+    where
+      go : Decides v iter_errors ⊎ ¬ (Decides v iter_errors) → SameErrors v es es'
+      go (inl d) = let (shared, kept, is) = says.0 d in let (shared', kept', is') = says'.0 d in by_kept shared shared' es es' (one_kept kept kept') is is'
+      go (inr n) = inr (says.1 n, says'.1 n)
+
+  pub errors_alone : (es es' : List Error) → branch_at v iter_errors [] ≡ None → SameErrors v es es' → es ≡ es'
+  errors_alone es es' e (inl same) = same
+  errors_alone es es' e (inr ((x, fails, is), other)) = absurd (cc (e, fails.is_first))
+
+  pub errors_agree : (texts : Bool) (es es' : List ValidationError) → ErrorsAnswered v texts es → ErrorsAnswered v texts es' → ErrorsAgree v texts es es'
+  errors_agree true es es' says says' = same_errors (map (error_of true) es) (map (error_of true) es') says says'
+  errors_agree false es es' says says' = record {
+    verdict = same_verdict iter_errors (is_empty es) (is_empty es') says.verdict says'.verdict;
+    undecided = λ n. (says.undecided n, says'.undecided n);
+    alone = λ e. errors_alone (map (error_of false) es) (map (error_of false) es') e
+        (same_errors (map (error_of false) es) (map (error_of false) es') (says.alone e) (says'.alone e));
+  }
+
+-- ---- two validators of one schema
+
+module _ {A State S T C Maker Run K M : Type 0} (resolvers : ResolverMembers A State S) (tables : TableMembers T C Maker Run K) (keywords : KeywordMembers C Run K) (matchers : MatcherMembers M) (resolver : A) (table : T) (matcher : M) where
+  -- what is handed in to both
+  abbrev parts : Handed S K (Run × Answer) C M
+  parts = both resolvers tables keywords matchers resolver table matcher
+
+  -- what a validator says of every sense that its nodes mean
+  abbrev Says : Program C M → Data → (Bool → Sense → Type 0) → Type 0
+  Says p instance = OfEverySense keywords.shape keywords.words keywords.is_whole matchers.matching p instance
+
+  -- where it means the plain meaning, this is said of the plain meaning
+  of_plain : (options : Options) (schema : Data) (p : Program C M) → MeansPlainly parts options schema p → (instance : Data) (fact : Bool → Sense → Type 0) → Says p instance fact → PlainlyOf parts options schema instance fact
+  of_plain options schema p means instance fact =
+      plainly_from parts.resolver parts.table parts.matcher parts.words options schema parts.shape parts.is_whole parts.matching p instance fact means
+
+  -- so what both say is said of one sense
+  both_plainly : (options : Options) (schema : Data) (p p' : Program C M) → MeansPlainly parts options schema p → MeansPlainly parts options schema p'
+      → (instance : Data) (fact fact' says : Bool → Sense → Type 0) → ((texts : Bool) (v : Sense) → fact texts v → fact' texts v → says texts v)
+      → Says p instance fact → Says p' instance fact' → PlainlyOf parts options schema instance says
+  both_plainly options schema p p' means means' instance fact fact' says agree told told' = λ texts root is_root speaks no_return keys reach n deep. agree texts _
+      (of_plain options schema p means instance fact told texts root is_root speaks no_return keys reach n deep)
+      (of_plain options schema p' means' instance fact' told' texts root is_root speaks no_return keys reach n deep)
+
+  pub verdicts : VerdictsAgree resolvers tables keywords matchers resolver table matcher
+  verdicts options schema p p' means means' instance b b' = both_plainly options schema p p' means means' instance
+      (λ texts v. h.VerdictSays v is_valid b) (λ texts v. h.VerdictSays v is_valid b') (λ texts v. b ≡ b') (λ texts v. same_verdict v is_valid b b')
+
+  pub first_errors : FirstErrorsAgree resolvers tables keywords matchers resolver table matcher
+  first_errors options schema p p' means means' instance o o' = both_plainly options schema p p' means means' instance
+      (λ texts v. FirstAnswered v texts o) (λ texts v. FirstAnswered v texts o') (λ texts v. FirstsAgree v texts o o') (λ texts v. firsts_agree v texts o o')
+
+  pub all_errors : AllErrorsAgree resolvers tables keywords matchers resolver table matcher
+  all_errors options schema p p' means means' instance es es' = both_plainly options schema p p' means means' instance
+      (λ texts v. ErrorsAnswered v texts es) (λ texts v. ErrorsAnswered v texts es') (λ texts v. ErrorsAgree v texts es es') (λ texts v. errors_agree v texts es es')
