@@ -1,5 +1,6 @@
 //! `count_references KIND N`: builds a validator of a schema with N definitions, each referred to once, by `pointer`, by `name`
-//! or by `identifier`. It prints how many errors an instance has that each of them refuses; what the build costs is counted.
+//! or by `identifier`, or, as a `chain`, each by a pointer in the one before it. It prints how many errors an instance has that
+//! the first two refuse, or none for a chain; what the build costs is counted.
 #![tactic(auto)]
 
 use bench_keywords::keyword::BenchKeyword;
@@ -20,6 +21,7 @@ enum Kind {
     Pointer,
     Name,
     Identifier,
+    Chain,
 }
 
 /// The kind of this name, or `pointer`.
@@ -28,6 +30,8 @@ fn kind_of(word: &[u8]) -> Kind {
         Kind::Name
     } else if word == b"identifier".as_slice() {
         Kind::Identifier
+    } else if word == b"chain".as_slice() {
+        Kind::Chain
     } else {
         Kind::Pointer
     }
@@ -50,6 +54,7 @@ fn push_reference(text: &mut String, kind: Kind, number: u32) -> Result<(), OutO
         Kind::Pointer => write!(text, "\"p{number}\":{{\"$ref\":\"#/$defs/d{number}\"}},"),
         Kind::Name => write!(text, "\"p{number}\":{{\"$ref\":\"#a{number}\"}},"),
         Kind::Identifier => write!(text, "\"p{number}\":{{\"$ref\":\"http://x/d{number}#a\"}},"),
+        Kind::Chain => Ok(()),
     }
 }
 
@@ -65,6 +70,10 @@ fn push_definition(text: &mut String, kind: Kind, number: u32) -> Result<(), Out
             text,
             "\"d{number}\":{{\"$id\":\"http://x/d{number}\",\"$anchor\":\"a\",\"type\":\"integer\"}},"
         ),
+        Kind::Chain => {
+            let next = number.saturating_add(1);
+            write!(text, "\"d{number}\":{{\"$ref\":\"#/$defs/d{next}\"}},")
+        }
     }
 }
 
@@ -74,11 +83,11 @@ fn schema_text(alloc: Global, kind: Kind, count: u32) -> Result<String, OutOfMem
     for number in 0..count {
         push_reference(&mut text, kind, number)?;
     }
-    text.push_str("\"p\":{}},\"$defs\":{")?;
+    text.push_str("\"p\":{\"$ref\":\"#/$defs/d0\"}},\"$defs\":{")?;
     for number in 0..count {
         push_definition(&mut text, kind, number)?;
     }
-    text.push_str("\"d\":{}}}")?;
+    write!(text, "\"d{count}\":{{}}}}}}")?;
     Ok(text)
 }
 

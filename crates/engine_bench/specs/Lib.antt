@@ -1,4 +1,6 @@
 pub mod Detours
+pub mod DetourUnits
+pub mod MarkingTable
 pub mod ProgramWords
 pub mod ProgramFaults
 pub mod ProgramTexts

@@ -11,7 +11,7 @@ use Rattle.schema_reports.specs.Making.{Table}
 use Rattle.schema_reports.specs.Matching.{Matcher}
 use Rattle.schema_reports.specs.Resolving.{Resolver}
 use Rattle.schema_compiler.specs.declared.compiler.error.BuildError.{BuildError}
-use Rattle.schema_engine.specs.Handed.{Options, default_options, parts_of, table_of}
+use Rattle.schema_engine.specs.Handed.{default_nested, Options, default_options, parts_of, table_of}
 use Rattle.schema_engine.specs.Program.{FromSomeDepth, Program}
 use Rattle.schema_engine.specs.ProgramOf.{IsProgramOf}
 use Rattle.schema_engine.specs.Promised.{MeansSchema, OfSchema}
@@ -76,7 +76,7 @@ module _ {ts : List Text} (a : Asked ts) where
 
   -- a validator is compiled from it
   abbrev pub IsCompiledFrom : Program BenchKeyword (List Text) → Type 0
-  IsCompiledFrom p = IsProgramOf (bench_resolving a.resolver) bench_table (bench_matcher a.unfinished) default_options a.schema shape_of bench_matcher p
+  IsCompiledFrom p = IsProgramOf (bench_resolving a.resolver) bench_table (bench_matcher a.unfinished) default_options default_nested a.schema shape_of bench_matcher p
 
 -- what the words ask for, of a schema that builds: answered by the plain meaning of their schema with the bench's parts and
 -- default options, and, where chains of references return, by what the nodes compiled from it say from some depth on

@@ -61,17 +61,17 @@ fn object_entry(alloc: Global) -> Result<Entry<BenchKeyword>, OutOfMemory>
 /// A validator of objects whose member `n`, where there is one, is such an object again.
 fn a_validator(alloc: Global) -> Result<Validator<BenchKeyword, BenchMatcher>, OutOfMemory> {
     let mut nodes = Nodes::new(alloc);
-    let root = nodes.reserve(Location::new(alloc), None, 0)?;
+    let root = nodes.reserve(Location::new(alloc), None, 0, 0)?;
     let mut entries = Vec::new(alloc);
     entries.push(object_entry(alloc)?)?;
     entries.push(member_entry(alloc, root)?)?;
-    nodes.fill(root, NodeForm::Keywords(entries), None);
+    nodes.fill(root, NodeForm::Keywords(entries), None, false);
     let matcher = BenchMatcher::new(Vec::new(alloc));
     Ok(Validator::of_nodes(nodes, root, Draft::Draft202012, matcher))
 }
 
 /// The text so many times.
-fn times(alloc: Global, text: &str, count: usize) -> Result<String, OutOfMemory> {
+pub fn times(alloc: Global, text: &str, count: usize) -> Result<String, OutOfMemory> {
     let mut whole = String::new(alloc);
     for _ in 0..count {
         whole.push_str(text)?;

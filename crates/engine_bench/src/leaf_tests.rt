@@ -82,6 +82,7 @@ fn match_at<'s>(patterns: &'s [String], text: &'s str, left: usize) -> Step<'s>
 }
 
 impl Validate for DetourKeyword {
+    ghost use Rattle.engine_bench.specs.DetourUnits.{detour_asks_no_units};
     ghost use Rattle.std.specs.Prelude.{map, refl, string_bytes};
     ghost use Rattle.bench_keywords.specs.BenchShape.{is_whole};
     ghost use Rattle.bench_keywords.specs.Shapes.{shape_of};
@@ -143,6 +144,8 @@ impl Validate for DetourKeyword {
     ghost turn_laws = { detour_turns };
 
     ghost function_laws = { detour_functions };
+
+    ghost asks_no_units = { detour_asks_no_units };
 }
 
 /// The keyword `"pattern": "b"`, which goes a detour over six patterns.
@@ -171,8 +174,8 @@ fn a_validator(
         form: EntryForm::Keyword(keyword, Vec::new(alloc)),
     })?;
     let mut nodes = Nodes::new(alloc);
-    let root = nodes.reserve(Location::new(alloc), None, 0)?;
-    nodes.fill(root, NodeForm::Keywords(entries), None);
+    let root = nodes.reserve(Location::new(alloc), None, 0, 0)?;
+    nodes.fill(root, NodeForm::Keywords(entries), None, false);
     let matcher = BenchMatcher::new(patterns);
     Ok(Validator::of_nodes(nodes, root, Draft::Draft202012, matcher))
 }

@@ -9,6 +9,10 @@ mod failing_matcher_tests;
 #[cfg(test)]
 mod leaf_tests;
 #[cfg(test)]
+mod mark_tests;
+#[cfg(test)]
+mod nesting_tests;
+#[cfg(test)]
 mod option_tests;
 pub mod program;
 #[cfg(test)]

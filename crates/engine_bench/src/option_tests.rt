@@ -13,7 +13,7 @@ use serde_json::Value;
 use std::alloc::Global;
 
 /// The number of a refusal; 0 where the schema builds.
-fn number_of(built: Result<Validator<BenchKeyword, BenchMatcher>, BuildError>) -> u8 {
+pub fn number_of(built: Result<Validator<BenchKeyword, BenchMatcher>, BuildError>) -> u8 {
     match built {
         Ok(_validator) => 0,
         Err(error) => error.number(),
@@ -38,7 +38,7 @@ fn limited(alloc: Global, resolver: &BenchResolver, schema: &Value, keys: usize)
 }
 
 /// Whether a limit of so many keys builds the schema, and a limit of fewer refuses it.
-fn needs_keys(
+pub fn needs_keys(
     alloc: Global,
     schema: &Value,
     keys: usize,
@@ -73,7 +73,7 @@ const CHAIN: &str = r##"{"$ref":"#/$defs/c0","$defs":{
   "c8":{"$ref":"#/$defs/c9"},"c9":{"type":"string"}}}"##;
 
 /// The JSON value of this text; `null` where it is none.
-fn value_of(alloc: Global, text: &str) -> Result<Value, OutOfMemory> {
+pub fn value_of(alloc: Global, text: &str) -> Result<Value, OutOfMemory> {
     match Value::from_str(alloc, text) {
         Ok(value) => Ok(value),
         Err(_) => Ok(Value::Null),

@@ -68,7 +68,7 @@ fn has_errors(
 }
 
 /// Whether a schema was built, and answers as its row says.
-fn is_answered(
+pub fn is_answered(
     alloc: Global,
     built: Result<Validator<BenchKeyword, BenchMatcher>, BuildError>,
     row: &Value,
@@ -92,7 +92,7 @@ fn answers(
 }
 
 /// Whether a schema that is one document answers as its row says.
-fn holds(alloc: Global, row: &Value) -> Result<bool, OutOfMemory> {
+pub fn holds(alloc: Global, row: &Value) -> Result<bool, OutOfMemory> {
     let resolver = BenchResolver::new(alloc, column(row, 0), VocabularySet::new(alloc))?;
     answers(alloc, &ValidationOptions::new(alloc), &resolver, row)
 }

@@ -1,9 +1,10 @@
 //! Each public call that needs no keyword type once, with values of the standard.
 ghost use Rattle.std.specs.Prelude.{◌≡◌, []};
 
+use schema_node::context::keyword::Marked;
 use schema_node::context::schema_place::{SchemaPath, SchemaPlace, SchemaStep};
 use schema_node::context::validation::ValidationContext;
-use schema_node::node::{Entry, EntryForm, NodeForm, Nodes, SchemaNode};
+use schema_node::node::{Edge, Entry, EntryForm, NodeForm, Nodes, SchemaNode};
 use schema_reports::instance::{InstanceStep, Place};
 use schema_reports::location::{Location, LocationSegment, OutOfMemory};
 use std::alloc::Global;
@@ -150,6 +151,58 @@ fn pairs_in_progress(rt: HostRuntime) -> Result<(), OutOfMemory> {
     Ok(())
 }
 
+/// Children that lead to these nodes, none of them guarded.
+fn children_to(alloc: Global, nodes: &[usize]) -> Result<Vec<Option<Edge>>, OutOfMemory> {
+    let mut children = Vec::new(alloc);
+    for node in nodes {
+        children.push(Some(Edge {
+            node: SchemaNode(*node),
+            path: Location::new(alloc),
+            guarded: false,
+        }))?;
+    }
+    Ok(children)
+}
+
+// Of three children the first two lead to one node, so they are one mark. One that is held is not added again: once the last
+// mark that was added is taken away, it is gone, and so is the first after it.
+#[test]
+fn marks_of_a_run(rt: HostRuntime) -> Result<(), OutOfMemory> {
+    let alloc = rt.alloc();
+    let children = children_to(alloc, &[4, 4, 5])?;
+    let mut context = ValidationContext::new(alloc);
+    let first = context.enter_marking(children.as_slice(), Marked::Child(0));
+    let other = context.enter_marking(children.as_slice(), Marked::Child(2));
+    let again = context.enter_marking(children.as_slice(), Marked::Child(0));
+    let alike = context.enter_marking(children.as_slice(), Marked::Child(1));
+    context.exit_marking();
+    let other_gone = context.enter_marking(children.as_slice(), Marked::Child(2));
+    context.exit_marking();
+    context.exit_marking();
+    let first_gone = context.enter_marking(children.as_slice(), Marked::Child(1));
+    drop(context);
+    drop(children);
+    assert!(rt; !first? && !other?);
+    assert!(rt; again? && alike?);
+    assert!(rt; !other_gone? && !first_gone?);
+    Ok(())
+}
+
+// Two reservations are two, and none is a child.
+#[test]
+fn reservations_are_marked(rt: HostRuntime) -> Result<(), OutOfMemory> {
+    let alloc = rt.alloc();
+    let mut context = ValidationContext::new(alloc);
+    let child = context.enter_marking(&[], Marked::Child(0));
+    let first = context.enter_marking(&[], Marked::Reservation(0));
+    let second = context.enter_marking(&[], Marked::Reservation(1));
+    let again = context.enter_marking(&[], Marked::Reservation(0));
+    drop(context);
+    assert!(rt; !child? && !first? && !second?);
+    assert!(rt; again?);
+    Ok(())
+}
+
 /// A copy of the root's location.
 fn copied_root(alloc: Global) -> Result<Location, OutOfMemory> {
     let here = Location::new(alloc);
@@ -170,15 +223,15 @@ fn nodes_show(
 ) -> Result<bool, OutOfMemory>
     requires empty { nodes.old ≡ [] }
 {
-    let root = nodes.reserve(here, None, 0)?;
-    let never = nodes.reserve(below, None, 0)?;
+    let root = nodes.reserve(here, None, 0, 0)?;
+    let never = nodes.reserve(below, None, 0, 0)?;
     let reserved = nodes.len() == 2 && !nodes.is_filled(root);
     let without = nodes.validators(root).len() == 0;
-    nodes.fill(never, NodeForm::Never, None);
+    nodes.fill(never, NodeForm::Never, None, false);
     let filled = nodes.is_filled(never);
     let one = nodes.validators(never).len() == 1;
     let none_single = nodes.single_validator(never).is_none();
-    nodes.fill(root, NodeForm::Always, None);
+    nodes.fill(root, NodeForm::Always, None, false);
     let both_filled = nodes.is_filled(root);
     let root_without = nodes.validators(root).len() == 0;
     let root_single = nodes.single_validator(root).is_none();

@@ -2,7 +2,7 @@ use Rattle.std.proofs.Common.{List, ap, map, string_bytes, subst}
 use Rattle.schema_reports.specs.Instance.{Text}
 use Rattle.std.proofs.lemmas.Result.{err_from_is_err_and}
 use Rattle.serde_json.specs.View.{view}
-use Rattle.schema_engine.specs.Handed.{default_options, parts_of}
+use Rattle.schema_engine.specs.Handed.{default_nested, default_options, parts_of}
 use Rattle.schema_engine.specs.ProgramOf.{IsProgramOf}
 use Rattle.schema_engine.specs.Roots.{Builds, RefusesBuild}
 use Rattle.bench_parts.specs.BenchAnswers.{bench_resolving}
@@ -63,6 +63,6 @@ returns-clause-answer c =
       plain = c.in_ok-ask.ensures.means (bench_resolving r) bench_table (bench_matcher unfinished) default_options schema
           (subst (λ (ps : List Text). BenchMeans (bench_resolving r) bench_table (bench_matcher ps) default_options schema validator) same c.in_ok-validator.ensures.means);
       program = validator;
-      compiled = subst (λ (ps : List Text). IsProgramOf (bench_resolving r) bench_table (bench_matcher ps) default_options schema shape_of bench_matcher validator) same c.in_ok-validator.ensures.program;
+      compiled = subst (λ (ps : List Text). IsProgramOf (bench_resolving r) bench_table (bench_matcher ps) default_options default_nested schema shape_of bench_matcher validator) same c.in_ok-validator.ensures.program;
       guarded = c.in_ok-ask.ensures.depth;
     }

@@ -3,12 +3,8 @@ use Rattle.schema_reports.specs.ReportViews.{error_of}
 use Rattle.schema_reports.specs.declared.reports.ValidationError.{ValidationError}
 use Rattle.schema_node.specs.KeywordViews.{is_nil}
 use Rattle.engine_bench.specs.ProgramTexts.{errors_text}
-use Rattle.bench_keywords.proofs.Unmarked.{bench_takes_no_marks}
 use Rattle.engine_bench.proofs.ErrorLists.{all_counted, all_printed}
 use Rattle.engine_bench.proofs.program.answers.errors.Goals as goal
-
-pub iter_errors-requires : goal.iter_errors-requires
-iter_errors-requires c = record { unmarked = bench_takes_no_marks }
 
 pub returns-clause-senses : goal.returns-clause-senses
 returns-clause-senses c =
