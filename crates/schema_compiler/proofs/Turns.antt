@@ -1,5 +1,5 @@
 -- How a maker's turns are followed, and what it has asked for so far.
-use Rattle.std.proofs.Common.{◌≡◌, ℕ, suc, max, Bool, cond, List, [], ◌∷◌, ◌++◌, length, map, refl, ap, sym, ◌∙◌, ◌⊎◌, ⊎_elim, subst, append_assoc}
+use Rattle.std.proofs.Common.{◌≡◌, ◌<◌, arith, ℕ, suc, max, Bool, cond, List, [], ◌∷◌, ◌++◌, length, map, refl, ap, sym, ◌∙◌, ◌⊎◌, ⊎_elim, subst, append_assoc}
 use Rattle.std.specs.Prelude.{Option, Some, None, String, string_bytes, filter_map, flat_map, Vec}
 use Rattle.std.specs.declared.alloc.Global.{Global}
 use Rattle.std.proofs.lemmas.List.{append-nil}
@@ -126,6 +126,20 @@ module _ {C K : Type 0} (shape : C → K) where
   refer_step n (then_end (a_keyword m' absorbed)) t' w h = absurd h
   refer_step n (then_end nothing) t' w h = absurd h
   refer_step n (then_end (refused x)) t' w h = absurd h
+
+  -- after a reference was asked for, there are fewer turns to come
+  pub fewer_refer : (waiting waiting' : Waiting K) (told told' : Told) (n : ℕ) (text : String Global) (o : Option NodeEdge) (m : ℕ) → IsDue waiting told n → TakesTurn shape waiting told (Refer text) waiting' → told' ≡ answers o m
+      → turns (resumed waiting' told') < turns (resumed waiting told)
+  fewer_refer waiting waiting' told told' n text None m due takes is =
+      let st = refer_step n (resumed waiting told) text waiting' (due_step waiting told n (Refer text) waiting' due takes) in
+      let before : turns (resumed waiting told) ≡ suc (max (turns st.0) (turns st.1)) = ap turns st.2 in
+      let now : turns (resumed waiting' told') ≡ turns st.1 = ap (λ w. turns (resumed w told')) st.3 ∙ ap (λ y. turns (resumed (waits n st.0 st.1) y)) is in
+      omega (arith, before, now)
+  fewer_refer waiting waiting' told told' n text (Some e) m due takes is =
+      let st = refer_step n (resumed waiting told) text waiting' (due_step waiting told n (Refer text) waiting' due takes) in
+      let before : turns (resumed waiting told) ≡ suc (max (turns st.0) (turns st.1)) = ap turns st.2 in
+      let now : turns (resumed waiting' told') ≡ turns st.0 = ap (λ w. turns (resumed w told')) st.3 ∙ ap (λ y. turns (resumed (waits n st.0 st.1) y)) is in
+      omega (arith, before, now)
 
   pub pending_step : (n : ℕ) (s : Script K) (kind : PendingKind) (w : Waiting K) → IsStepOf shape n s (Pending kind) w
       → (free : Script K) × (held : Script K) × (s ≡ then_pending (purpose_of kind) free held) × (w ≡ wants_pending n free held)

@@ -1,6 +1,6 @@
 //! The numbers that makers reserve: each is in force until its maker ends, and stands for a node of the keyword that was made
 //! alone, or of no entry. They are only ever marked, and counted apart from the numbers of nodes.
-ghost use Rattle.std.specs.Prelude.{◌≡◌, ◌++◌, ◌∷◌, [], IfOk, MatchOption, OnErr, OnOk, length, string_bytes};
+ghost use Rattle.std.specs.Prelude.{◌≡◌, ◌++◌, ◌∷◌, [], IfOk, MatchOption, OnErr, OnOk, length, map, string_bytes};
 ghost use Rattle.schema_node.specs.MakerViews.{purpose_of};
 ghost use Rattle.schema_node.specs.ResolverViews.{place_of};
 ghost use Rattle.schema_compiler.specs.Reserving.{IsPending, NonePending, in_force, is_for, with_node, with_nodes_from};
@@ -65,6 +65,32 @@ impl Reservation {
     }
 }
 
+// The number of the last one that is for this purpose and this object, and in force.
+fn last_pending(items: &[Reservation], kind: PendingKind, object: &SchemaPlace) -> Option<PendingSchemaNode>
+    ensures pending { MatchOption result (NonePending (map reserved_of items.now) (purpose_of kind) (place_of object.now))
+        (λ n. IsPending (map reserved_of items.now) (purpose_of kind) (place_of object.now) n.0) }
+{
+    let mut number = items.len();
+    while number > 0 {
+        number -= 1;
+        if items[number].is_for(kind, object) {
+            return Some(PendingSchemaNode(number));
+        }
+    }
+    None
+}
+
+// Those from a number on get this node, where they are in force.
+fn fill_from(items: &mut Vec<Reservation>, from: usize, node: ReservedNode)
+    ensures filled { map reserved_of items.new.items ≡ with_nodes_from from (node_of node) (map reserved_of items.old.items) }
+{
+    let mut number = from;
+    while number < items.len() {
+        items[number].fill(node);
+        number += 1;
+    }
+}
+
 impl Reservations {
     /// No number is reserved.
     pub(crate) fn new(alloc: Global) -> Reservations
@@ -87,14 +113,7 @@ impl Reservations {
         ensures pending { MatchOption result (NonePending self.now (purpose_of kind) (place_of object.now))
             (λ n. IsPending self.now (purpose_of kind) (place_of object.now) n.0) }
     {
-        let mut number = self.items.len();
-        while number > 0 {
-            number -= 1;
-            if self.items[number].is_for(kind, object) {
-                return Some(PendingSchemaNode(number));
-            }
-        }
-        None
+        last_pending(self.items.as_slice(), kind, object)
     }
 
     /// What a maker is told that asks for the number pending for this purpose and this object.
@@ -135,10 +154,6 @@ impl Reservations {
     pub(crate) fn give_up(&mut self, from: usize, node: ReservedNode)
         ensures given_up { self.new ≡ with_nodes_from from (node_of node) self.old }
     {
-        let mut number = from;
-        while number < self.items.len() {
-            self.items[number].fill(node);
-            number += 1;
-        }
+        fill_from(&mut self.items, from, node);
     }
 }

@@ -38,7 +38,7 @@ use Rattle.schema_compiler.proofs.ReservedTold.{pending_told, reserved_told}
 use Rattle.schema_compiler.proofs.References.{asked_refused, compile_clean, reference_clean, self_clean, asked_self, asked_edge, is_answered, is_skipped}
 use Rattle.schema_compiler.proofs.Entries.{all_entries, all_goes, all_steps, so_far_none, so_far_more, member_refused}
 use Rattle.schema_compiler.proofs.Forms.{boolean_goes, boolean_made, object_is, object_stands, other_refused}
-use Rattle.schema_compiler.proofs.Turns.{asked_begun, asked_compile, asked_pending, asked_refer, asked_reserve, asks_alike, compile_refused, refer_refused, keyword_goes, made_keyword, made_nothing, nothing_goes, absorbed_keyword, absorbed_nothing}
+use Rattle.schema_compiler.proofs.Turns.{asked_begun, asked_compile, asked_pending, asked_refer, asked_reserve, asks_alike, compile_refused, fewer_refer, refer_refused, keyword_goes, made_keyword, made_nothing, nothing_goes, absorbed_keyword, absorbed_nothing}
 use Rattle.schema_compiler.proofs.MembersAsk.{own_is, reference_is, built_is, no_member, lone_is, lone_refused, members_are, members_refused, text_goes, alone_goes, text_refused, other_text_refused, reference_absorbs, reference_made, planned_alone}
 use Rattle.schema_compiler.proofs.Unknown.{made_known, kept_unknown, more_absorbed}
 use Rattle.schema_compiler.proofs.compiler.given.Given.+compile.Goals as goal
@@ -418,8 +418,9 @@ made_entry-loop-children-init g t c =
     let whole = members_view c.args.members.now.entries in
     let name = string_bytes c.args.name.now in
     let making = making s.parts k whole c.args.own name in
-    let alike = asks_alike g.K.Validate.absorbed g.K.Validate.is_whole whole _ (g.met.T.KeywordTable.right c.args.self.now.table.now c.args.own name whole k.target.draft k.target.vocabularies (checks_formats s.parts k)) in
-    (rw c.new-children.ensures.items (asked_begun s.parts s.shape s.limit s.nested k name making _ (g.T.KeywordTable.waiting c.in_ok-maker.maker) old.keys old.nodes old refl alike c.in_ok-maker.ensures.begins c.requires.table c.requires.under_way), refl)
+    let script = g.T.KeywordTable.script c.args.self.now.table.now c.args.own name whole k.target.draft k.target.vocabularies (checks_formats s.parts k) in
+    let alike = asks_alike g.K.Validate.absorbed g.K.Validate.is_whole whole script (g.met.T.KeywordTable.right c.args.self.now.table.now c.args.own name whole k.target.draft k.target.vocabularies (checks_formats s.parts k)) in
+    (rw c.new-children.ensures.items (asked_begun s.parts s.shape s.limit s.nested k name making script (g.T.KeywordTable.waiting c.in_ok-maker.maker) old.keys old.nodes old refl alike c.in_ok-maker.ensures.begins c.requires.table c.requires.under_way), refl)
 
 pub made_entry-returns-in_err-edge-in-Compile-clause-refused : goal.made_entry-returns-in_err-edge-in-Compile-clause-refused
 made_entry-returns-in_err-edge-in-Compile-clause-refused g t c =
@@ -484,6 +485,15 @@ made_entry-returns-in_err-edge-in-Refer-clause-refused g t c =
     let takes = rw c.in-Refer.is at c.in_ok-path.ensures.takes in
     let p = err_from_is_err_and c.from_residual-in_err-edge-in-Refer.result c.from_residual-in_err-edge-in-Refer.ensures.1 in
     rw (p.1, p.2) (refer_refused s.parts s.shape s.limit s.nested k name making waiting waiting' told es old.keys keys' old.nodes nodes' c.in-Refer.text _ inv takes c.in_err-edge-in-Refer.ensures.refused)
+
+pub made_entry-loop-children-smaller-in-Refer : goal.made_entry-loop-children-smaller-in-Refer
+made_entry-loop-children-smaller-in-Refer g t c =
+    let inv = c.loop-children.invariant.0 in
+    let waiting = g.T.KeywordTable.waiting c.loop-children.maker in
+    let waiting' = g.T.KeywordTable.waiting c.turn.new.maker in
+    let told = maker_reply_of c.loop-children.reply in
+    let takes = rw c.in-Refer.is at c.in_ok-path.ensures.takes in
+    fewer_refer g.K.Validate.shape waiting waiting' told _ _ c.in-Refer.text (option_map edge_of c.in_ok-edge-in-Refer.edge) _ inv.due takes c.in_ok-reply-in-Refer.ensures.told
 
 pub made_entry-loop-children-preserved-in-Refer : goal.made_entry-loop-children-preserved-in-Refer
 made_entry-loop-children-preserved-in-Refer g t c =
@@ -567,7 +577,7 @@ made_entry-returns-in-Keyword-clause-reserved g t c =
     let es = map (option_map edge_of) c.loop-children.children.items in
     let keys' = map v c.loop-children.compiled.keys in
     let nodes' = c.loop-children.compiled.nodes in
-    ends_held k.target.place name of_its_keyword c.len-first.result old.reserved _ _ inv.holds c.len-first.ensures.count c.give_up-in-Keyword.ensures.given_up
+    ends_held k.target.place name of_its_keyword c.len-first.result old.reserved _ _ inv.holds c.len-first.ensures.count c.give_up.ensures.given_up
 
 pub made_entry-returns-in-Nothing-clause-reserved : goal.made_entry-returns-in-Nothing-clause-reserved
 made_entry-returns-in-Nothing-clause-reserved g t c =
@@ -978,8 +988,8 @@ made_entry-returns-in-Keyword-clause-order g t c =
     let keys' = map v c.loop-children.compiled.keys in
     let nodes' = c.loop-children.compiled.nodes in
     let takes = rw c.in-Keyword.is at c.in_ok-path.ensures.takes in
-    let rs = c.give_up-in-Keyword.new.self in
-    let ends = ends_held k.target.place name of_its_keyword c.len-first.result old.reserved _ rs inv.holds c.len-first.ensures.count c.give_up-in-Keyword.ensures.given_up in
+    let rs = c.give_up.new.self in
+    let ends = ends_held k.target.place name of_its_keyword c.len-first.result old.reserved _ rs inv.holds c.len-first.ensures.count c.give_up.ensures.given_up in
     subst (λ (x : NodePart _). Goes s old (having (filled g.R.Resolver.point c.loop-children.compiled) rs) (maker_edges s.parts k name making) (form_edges x.form)) (sym c.in_ok-entry_named-in-Keyword.ensures.entry)
     (keyword_goes s.parts s.shape s.limit s.nested k name making waiting waiting' told es old.keys keys' old.nodes nodes' c.in-Keyword.keyword c.in-Keyword.names inv takes rs (ends_reserves k.target.place name of_its_keyword old.reserved rs refl ends))
 
