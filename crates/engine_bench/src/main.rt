@@ -9,6 +9,8 @@ mod deep_tests;
 #[cfg(test)]
 mod failing_matcher_tests;
 #[cfg(test)]
+mod growing_tests;
+#[cfg(test)]
 mod leaf_tests;
 #[cfg(test)]
 mod mark_tests;
