@@ -9,3 +9,4 @@ pub mod PlainAnswers
 pub mod Reaches
 pub mod Pointing
 mod Nesting
+mod BuildsAgree

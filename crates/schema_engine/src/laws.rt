@@ -1,5 +1,5 @@
-//! What is proved of any two validators of one schema, for all parts: each function states one law, and does nothing.
-ghost use Rattle.schema_engine.specs.Nesting.{AllErrorsAgree, FirstErrorsAgree, VerdictsAgree};
+//! What is proved of any two builds or validators of one schema, for all parts: each function states one law, and does nothing.
+ghost use Rattle.schema_engine.specs.Nesting.{AllErrorsAgree, BuildsAgree, FirstErrorsAgree, VerdictsAgree};
 
 use schema_node::context::keyword::Validate;
 use schema_node::context::matcher::Matcher;
@@ -19,4 +19,12 @@ pub fn limits_agree<S: Resolver, T: KeywordTable<K>, K: Validate, M: Matcher>()
         → FirstErrorsAgree S.Resolver T.KeywordTable K.Validate M.Matcher.own resolver table matcher }
     ensures errors { (resolver : S) (table : T) (matcher : M)
         → AllErrorsAgree S.Resolver T.KeywordTable K.Validate M.Matcher.own resolver table matcher }
+{}
+
+/// One limit on nested targets builds a schema exactly if any other does, want of memory aside. Neither what `build` and
+/// `build_nested` promise of a schema that builds nor what they promise of one that is refused names this limit; so where one
+/// build of a schema succeeded, another by the same options is refused for want of memory alone.
+pub fn builds_agree<S: Resolver, T: KeywordTable<K>, K: Validate, M: Matcher>()
+    ensures memory { (resolver : S) (table : T) (matcher : M)
+        → BuildsAgree S.Resolver T.KeywordTable K.Validate M.Matcher.own resolver table matcher }
 {}
