@@ -10,3 +10,5 @@ pub mod Reaches
 pub mod Pointing
 mod Nesting
 mod BuildsAgree
+mod OneTable
+mod FreeCalls

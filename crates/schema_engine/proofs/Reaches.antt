@@ -24,7 +24,7 @@ any_at p (y ∷ xs) (suc i) x e h =
     let rest = any_at p xs i x e h in
     let go : (b : Bool) → (b || list_any p xs) ≡ true = elim [ true ↦ refl | false ↦ rest ] in go (p y)
 
-get_at : {A : Type 0} (xs : List A) (i : ℕ) (d : A) → i < length xs → slice_get xs i ≡ Some (slice_index_or xs i d)
+pub get_at : {A : Type 0} (xs : List A) (i : ℕ) (d : A) → i < length xs → slice_get xs i ≡ Some (slice_index_or xs i d)
 get_at [] i d h = absurd (omega arith)
 get_at (x ∷ xs) zero d h = refl
 get_at (x ∷ xs) (suc i) d h = get_at xs i d (omega arith)
