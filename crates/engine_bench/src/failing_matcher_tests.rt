@@ -1,6 +1,6 @@
 //! A matcher whose engine fails.
 use bench_keywords::keyword::BenchKeyword;
-use bench_parts::resolver::BenchResolver;
+use bench_resolver::resolver::BenchResolver;
 use bench_parts::table::BenchTable;
 use schema_engine::validate;
 use schema_node::context::matcher::Matcher;

@@ -8,7 +8,7 @@ use crate::option_tests::{needs_keys, number_of, value_of};
 use crate::reference_tests::{holds, is_answered};
 use bench_keywords::keyword::BenchKeyword;
 use bench_parts::matcher::BenchMatcher;
-use bench_parts::resolver::BenchResolver;
+use bench_resolver::resolver::BenchResolver;
 use bench_parts::table::BenchTable;
 use schema_compiler::compiler::error::BuildError;
 use schema_engine::keywords::VocabularySet;

@@ -23,7 +23,7 @@ use crate::program::faults::Fault;
 use crate::program::requests::{Request, request_in};
 use bench_keywords::keyword::BenchKeyword;
 use bench_parts::matcher::BenchMatcher;
-use bench_parts::resolver::BenchResolver;
+use bench_resolver::resolver::BenchResolver;
 use bench_parts::table::BenchTable;
 use schema_engine::validator::Validator;
 use schema_reports::keywords::VocabularySet;

@@ -1,7 +1,7 @@
 //! A call that was refused memory leaves the validator as it was: asked again, it gives the row's answer.
 use bench_keywords::keyword::BenchKeyword;
 use bench_parts::matcher::BenchMatcher;
-use bench_parts::resolver::BenchResolver;
+use bench_resolver::resolver::BenchResolver;
 use bench_parts::table::BenchTable;
 use schema_compiler::compiler::error::BuildError;
 use schema_engine::validator::Validator;
