@@ -1,4 +1,4 @@
--- The value at a place that lies at a path below an object whose members are at hand.
+-- The value at a place that lies at a path below an object whose members are at hand, and at one step.
 use Rattle.std.proofs.Common.{◌≡◌, ◌<◌, ◌∙◌, ◌∷◌, [], List, None, Option, Some, ap, drop, get_or, length, map, option_and_then, option_map, refl, sym, arith}
 use Rattle.std.specs.Prelude.{slice_get}
 use Rattle.serde_json.specs.Data.{Data}
@@ -19,6 +19,10 @@ data-is (Some (a_name k)) d h = cc
 pub data-of-values : {A : Type 0} (f : A → Data) (o : Option A) → data_of (option_map (λ a. a_value (f a)) o) ≡ option_map f o
 data-of-values f None = refl
 data-of-values f (Some a) = refl
+
+pub map_then : {A B C : Type 0} (f : A → B) (g : B → C) (o : Option A) → option_map (λ a. g (f a)) o ≡ option_map g (option_map f o)
+map_then f g None = refl
+map_then f g (Some a) = refl
 
 below_of : (o : Option Document) (outer : SchemaPlace) (q : Place) (whole : Data) → value_of o outer ≡ Some whole
     → value_of o (at_path outer q) ≡ data_of (subject_from q (a_value whole))

@@ -248,14 +248,8 @@ impl<'a> Resolver for BenchResolver<'a> {
         reference: &str,
         dynamic: bool,
     ) -> Result<Target<BenchState>, LookupError> {
-        looked_up(
-            alloc,
-            &self.documents,
-            &self.resources,
-            state,
-            reference,
-            dynamic,
-        )
+        let resources = &self.resources;
+        looked_up(alloc, &self.documents, resources, state, reference, dynamic)
     }
 
     fn lookup_recursive_ref(
@@ -274,15 +268,7 @@ impl<'a> Resolver for BenchResolver<'a> {
         place: &SchemaPlace,
     ) -> Result<BenchState, LookupError> {
         let value = self.documents.value_at(place);
-        entered(
-            alloc,
-            &self.documents,
-            &self.resources,
-            state,
-            draft,
-            place,
-            value,
-        )
+        self.in_subresource_read(alloc, state, draft, place, value)
     }
 
     fn in_subresource_read(
@@ -293,10 +279,11 @@ impl<'a> Resolver for BenchResolver<'a> {
         place: &SchemaPlace,
         value: Option<&Value>,
     ) -> Result<BenchState, LookupError> {
+        let resources = &self.resources;
         entered(
             alloc,
             &self.documents,
-            &self.resources,
+            resources,
             state,
             draft,
             place,
@@ -340,11 +327,10 @@ impl<'a> Resolver for BenchResolver<'a> {
 
     fn draft_for(&self, alloc: Global, value: &Value) -> Result<Draft, LookupError> {
         match detected(Draft::Draft202012, value) {
-            Draft::Unknown => Err(refusal(
-                alloc,
-                "this resolver does not know the draft of the schema",
-                "",
-            )),
+            Draft::Unknown => {
+                let text = "this resolver does not know the draft of the schema";
+                Err(refusal(alloc, text, ""))
+            }
             draft => Ok(draft),
         }
     }

@@ -1,5 +1,5 @@
 //! The drafts that values name.
-ghost use Rattle.std.specs.Prelude.{◌≡◌, ◌||◌, bytes_eq, option_map};
+ghost use Rattle.std.specs.Prelude.{◌≡◌, option_map};
 ghost use Rattle.serde_json.specs.View.{view};
 ghost use Rattle.schema_reports.specs.KeywordViews.{draft_of};
 ghost use Rattle.bench_resolver.specs.BenchResolving.{detected, draft_of_uri, text_member};
@@ -17,60 +17,24 @@ pub fn text_member<'v>(value: &'v Value, name: &str) -> Option<&'v str>
     }
 }
 
-/// Whether a text is one of two.
-fn is_either(text: &str, one: &str, other: &str) -> bool
-    ensures either { result ≡ bytes_eq text.now one.now || bytes_eq text.now other.now }
-{
-    text == one || text == other
-}
-
 /// The draft that a URI names, with or without a last `#`.
 fn draft_of_uri(uri: &str) -> Draft
     ensures draft { draft_of result ≡ draft_of_uri uri.now }
 {
-    if is_either(
-        uri,
-        "http://json-schema.org/draft-04/schema",
-        "http://json-schema.org/draft-04/schema#",
-    ) {
-        return Draft::Draft4;
+    match uri {
+        "http://json-schema.org/draft-04/schema" | "http://json-schema.org/draft-04/schema#" =>
+            Draft::Draft4,
+        "http://json-schema.org/draft-06/schema" | "http://json-schema.org/draft-06/schema#" =>
+            Draft::Draft6,
+        "http://json-schema.org/draft-07/schema" | "http://json-schema.org/draft-07/schema#" =>
+            Draft::Draft7,
+        "https://json-schema.org/draft/2019-09/schema"
+        | "https://json-schema.org/draft/2019-09/schema#" => Draft::Draft201909,
+        "https://json-schema.org/draft/2020-12/schema"
+        | "https://json-schema.org/draft/2020-12/schema#" => Draft::Draft202012,
+        "https://json-schema.org/schema" | "https://json-schema.org/schema#" => Draft::Draft202012,
+        _ => Draft::Unknown,
     }
-    if is_either(
-        uri,
-        "http://json-schema.org/draft-06/schema",
-        "http://json-schema.org/draft-06/schema#",
-    ) {
-        return Draft::Draft6;
-    }
-    if is_either(
-        uri,
-        "http://json-schema.org/draft-07/schema",
-        "http://json-schema.org/draft-07/schema#",
-    ) {
-        return Draft::Draft7;
-    }
-    if is_either(
-        uri,
-        "https://json-schema.org/draft/2019-09/schema",
-        "https://json-schema.org/draft/2019-09/schema#",
-    ) {
-        return Draft::Draft201909;
-    }
-    if is_either(
-        uri,
-        "https://json-schema.org/draft/2020-12/schema",
-        "https://json-schema.org/draft/2020-12/schema#",
-    ) {
-        return Draft::Draft202012;
-    }
-    if is_either(
-        uri,
-        "https://json-schema.org/schema",
-        "https://json-schema.org/schema#",
-    ) {
-        return Draft::Draft202012;
-    }
-    Draft::Unknown
 }
 
 /// The draft of a value inside a schema of this draft.

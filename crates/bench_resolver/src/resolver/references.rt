@@ -36,22 +36,16 @@ use std::alloc::Global;
 fn nothing_there(alloc: Global, reference: &str) -> LookupError
     ensures refused { RefusesWith (nothing_there reference.now) result }
 {
-    refusal(
-        alloc,
-        "nothing stands where this reference points: ",
-        reference,
-    )
+    let text = "nothing stands where this reference points: ";
+    refusal(alloc, text, reference)
 }
 
 /// The refusal of a reference to a resource that is not there.
 fn no_resource(alloc: Global, reference: &str) -> LookupError
     ensures refused { RefusesWith (no_resource reference.now) result }
 {
-    refusal(
-        alloc,
-        "this resolver has no resource for the reference ",
-        reference,
-    )
+    let text = "this resolver has no resource for the reference ";
+    refusal(alloc, text, reference)
 }
 
 /// The target at the end of a path below a resource's root. Each subschema on the way that has an identifier is entered, and the
@@ -292,14 +286,10 @@ fn recursive_in(
     ensures target { IfOk result (λ o. option_map (found_of point_of) o ≡ recursive_in resources.now (point_of state.now) number) }
 {
     match resources.get(number) {
-        Some(resource) => {
-            if resource.is_recursive {
-                Ok(Some(target_root(alloc, number, resource, state)?))
-            } else {
-                Ok(None)
-            }
+        Some(resource) if resource.is_recursive => {
+            Ok(Some(target_root(alloc, number, resource, state)?))
         }
-        None => Ok(None),
+        _ => Ok(None),
     }
 }
 

@@ -60,11 +60,8 @@ pub fn enter(
 fn no_identified(alloc: Global, id: &str) -> LookupError
     ensures refused { RefusesWith (no_identified id.now) result }
 {
-    refusal(
-        alloc,
-        "this resolver finds no resource of its own for the identifier ",
-        id,
-    )
+    let text = "this resolver finds no resource of its own for the identifier ";
+    refusal(alloc, text, id)
 }
 
 /// The state in the resource with a URI, where it begins at a place with this identifier.

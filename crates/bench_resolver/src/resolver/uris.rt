@@ -65,9 +65,6 @@ pub fn resolve_uri(alloc: Global, base: &str, reference: &str) -> Result<String,
     if is_absolute(reference) {
         return Ok(String::from_str(alloc, reference)?);
     }
-    Err(refusal(
-        alloc,
-        "this resolver does not resolve the reference ",
-        reference,
-    ))
+    let text = "this resolver does not resolve the reference ";
+    Err(refusal(alloc, text, reference))
 }
