@@ -279,16 +279,9 @@ impl<'a> Resolver for BenchResolver<'a> {
         place: &SchemaPlace,
         value: Option<&Value>,
     ) -> Result<BenchState, LookupError> {
+        let documents = &self.documents;
         let resources = &self.resources;
-        entered(
-            alloc,
-            &self.documents,
-            resources,
-            state,
-            draft,
-            place,
-            value,
-        )
+        entered(alloc, documents, resources, state, draft, place, value)
     }
 
     fn resolve_uri(

@@ -11,10 +11,7 @@ use serde_json::Value;
 pub fn text_member<'v>(value: &'v Value, name: &str) -> Option<&'v str>
     ensures text { option_map (λ t. t.now) result ≡ text_member name.now (view value.now) }
 {
-    match value.get(name) {
-        Some(member) => member.as_str(),
-        None => None,
-    }
+    value.get(name)?.as_str()
 }
 
 /// The draft that a URI names, with or without a last `#`.

@@ -96,10 +96,7 @@ impl Resources {
     pub fn under(&self, uri: &str) -> Option<&Resource>
         ensures resource { option_map (λ r. resource_of r.now) result ≡ resource_under self.now uri.now }
     {
-        match self.number_of(uri) {
-            Some(number) => self.get(number),
-            None => None,
-        }
+        self.get(self.number_of(uri)?)
     }
 
     /// The number of the resource with a URI, where it begins at a place.
