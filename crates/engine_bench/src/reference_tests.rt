@@ -4,9 +4,9 @@
 //! the last `null` where there is none; or `[schema, reference]`, where the resolver refuses the reference with a text that names it.
 use bench_keywords::keyword::BenchKeyword;
 use bench_parts::matcher::BenchMatcher;
+use bench_parts::table::BenchTable;
 use bench_resolver::resolver::BenchResolver;
 use bench_resolver::resolver::documents::Document;
-use bench_parts::table::BenchTable;
 use schema_compiler::compiler::error::BuildError;
 use schema_engine::keywords::{Draft, VocabularySet};
 use schema_engine::options::ValidationOptions;
