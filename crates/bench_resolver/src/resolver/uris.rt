@@ -1,5 +1,5 @@
 //! References and URIs (sections 3 and 4 of RFC 3986).
-ghost use Rattle.std.specs.Prelude.{◌≡◌, ◌++◌, MatchResult, Ok, codes, option_map, string_bytes};
+ghost use Rattle.std.specs.Prelude.{◌≡◌, ◌++◌, MatchResult, Ok, option_map, string_bytes};
 ghost use Rattle.schema_node.specs.ResolverViews.{Refuses};
 ghost use Rattle.bench_resolver.specs.BenchUris.{fragment_of, is_absolute, own_uri, resolve_uri};
 

@@ -10,7 +10,7 @@ use crate::resolver::drafts::detected;
 use crate::resolver::identifiers::identifier;
 use crate::resolver::places::{root_place, value_after};
 use crate::resolver::subschemas::subschemas;
-use schema_node::context::schema_place::{SchemaPath, SchemaPlace};
+use schema_node::context::schema_place::SchemaPath;
 use schema_reports::keywords::Draft;
 use schema_reports::location::OutOfMemory;
 use serde_json::Value;
