@@ -1,6 +1,6 @@
 //! What a `Context` answers that no call of the engine asks: a table's makers may.
 use crate::option_tests::value_of;
-use bench_parts::resolver::BenchResolver;
+use bench_resolver::resolver::BenchResolver;
 use schema_compiler::compiler::context::{Context, DeferredAbsoluteLocation};
 use schema_compiler::compiler::given::CompileOptions;
 use schema_compiler::compiler::key::SchemaKey;

@@ -2,7 +2,7 @@
 use crate::option_tests::value_of;
 use bench_keywords::keyword::BenchKeyword;
 use bench_parts::matcher::BenchMatcher;
-use bench_parts::resolver::BenchResolver;
+use bench_resolver::resolver::BenchResolver;
 use bench_parts::table::BenchTable;
 use schema_compiler::compiler::error::BuildError;
 use schema_engine::keywords::VocabularySet;

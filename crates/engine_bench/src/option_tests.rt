@@ -1,8 +1,8 @@
 //! The worked rows of options: limits, vocabularies, drafts and bases; and the calls that build and ask in one.
 use bench_keywords::keyword::BenchKeyword;
 use bench_parts::matcher::BenchMatcher;
-use bench_parts::resolver::BenchResolver;
 use bench_parts::table::BenchTable;
+use bench_resolver::resolver::BenchResolver;
 use schema_compiler::compiler::error::BuildError;
 use schema_engine::keywords::{Draft, Vocabulary, VocabularySet};
 use schema_engine::options::ValidationOptions;
