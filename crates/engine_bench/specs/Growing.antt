@@ -9,7 +9,11 @@ use Rattle.bench_parts.specs.BenchAnswers.{bench_resolving}
 
 -- the state is how many lookups there were, which is refused where it would pass what 64 bits hold
 abbrev pub next : ℕ → Result (Found ℕ) Text
-next n = if nat_lt n 18446744073709551615 then Ok (record { place = root_place; state = suc n; draft = draft_7 }) else Err (codes "no more states")
+next n =
+    if nat_lt n 18446744073709551615 then
+    Ok (record { place = root_place; state = suc n; draft = draft_7 })
+    else
+    Err (codes "no more states")
 
 abbrev pub growing : BenchDocument → Resolver ℕ
 growing r = record {
