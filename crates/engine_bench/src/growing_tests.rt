@@ -5,9 +5,9 @@ ghost use Rattle.engine_bench.specs.Growing.{next};
 
 use crate::option_tests::{number_of, value_of};
 use bench_parts::matcher::BenchMatcher;
+use bench_parts::table::BenchTable;
 use bench_resolver::resolver::BenchResolver;
 use bench_resolver::resolver::places::root_place;
-use bench_parts::table::BenchTable;
 use schema_engine::keywords::{Draft, VocabularySet};
 use schema_engine::options::ValidationOptions;
 use schema_node::context::resolver::{LookupError, Resolver, Target};

@@ -301,11 +301,11 @@ module _ {S K C : Type 0} (w : Parts S K (Unit {0})) (shape : C → K) (limit ne
       let all : AsksAlike (then_pending (purpose_of kind) st.0 st.1) = subst AsksAlike st.2 a.alike in
       let before : making ≡ after a.requests (followed (is_self w k to_ref) st.0) = a.so_far ∙ ap (λ s. after a.requests (followed (is_self w k to_ref) s)) st.2 in
       subst (λ y. Asked making y told' es keys keys' nodes nodes' t t') (sym st.3) (⊎_elim
-          (λ none. subst (λ y. Asked making (wants_pending (length a.requests) st.0 st.1) y es keys keys' nodes nodes' t t') (sym none)
-          (record { requests = a.requests; due = refl; so_far = before; children = a.children; alike = all.1; goes = a.goes; holds = a.holds; steps = a.steps }))
-          (λ one. subst (λ y. Asked making (wants_pending (length a.requests) st.0 st.1) y es keys keys' nodes nodes' t t') (sym one)
-          (record { requests = a.requests; due = refl; so_far = before ∙ ap (after a.requests) (all.0 (is_self w k to_ref)); children = a.children; alike = all.2; goes = a.goes; holds = a.holds; steps = a.steps }))
-          is)
+      (λ none. subst (λ y. Asked making (wants_pending (length a.requests) st.0 st.1) y es keys keys' nodes nodes' t t') (sym none)
+      (record { requests = a.requests; due = refl; so_far = before; children = a.children; alike = all.1; goes = a.goes; holds = a.holds; steps = a.steps }))
+      (λ one. subst (λ y. Asked making (wants_pending (length a.requests) st.0 st.1) y es keys keys' nodes nodes' t t') (sym one)
+      (record { requests = a.requests; due = refl; so_far = before ∙ ap (after a.requests) (all.0 (is_self w k to_ref)); children = a.children; alike = all.2; goes = a.goes; holds = a.holds; steps = a.steps }))
+      is)
 
   -- a number is reserved
   pub asked_reserve : (making : Making K) (waiting waiting' : Waiting K) (told told' : Told) (es : Children) (keys keys' : List (Key S)) (nodes nodes' : List (NodeEntry C)) {t t' : Table S C} (kind : PendingKind) (rs : List Reserved) (r : Reserved)

@@ -66,7 +66,11 @@ impl Reservation {
 }
 
 // The number of the last one that is for this purpose and this object, and in force.
-fn last_pending(items: &[Reservation], kind: PendingKind, object: &SchemaPlace) -> Option<PendingSchemaNode>
+fn last_pending(
+    items: &[Reservation],
+    kind: PendingKind,
+    object: &SchemaPlace,
+) -> Option<PendingSchemaNode>
     ensures pending { MatchOption result (NonePending (map reserved_of items.now) (purpose_of kind) (place_of object.now))
         (λ n. IsPending (map reserved_of items.now) (purpose_of kind) (place_of object.now) n.0) }
 {
@@ -109,7 +113,11 @@ impl Reservations {
     }
 
     /// Returns the number that was reserved last for this purpose and this object, of those that are in force.
-    pub(crate) fn pending(&self, kind: PendingKind, object: &SchemaPlace) -> Option<PendingSchemaNode>
+    pub(crate) fn pending(
+        &self,
+        kind: PendingKind,
+        object: &SchemaPlace,
+    ) -> Option<PendingSchemaNode>
         ensures pending { MatchOption result (NonePending self.now (purpose_of kind) (place_of object.now))
             (λ n. IsPending self.now (purpose_of kind) (place_of object.now) n.0) }
     {
