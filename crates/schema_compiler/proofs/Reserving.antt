@@ -1,12 +1,12 @@
 -- Reserved numbers: how what is reserved on the way adds up, and how a maker's own are given up.
 use Rattle.std.proofs.Common.{◌≡◌, ℕ, suc, zero, ◌<◌, Bool, true, false, List, [], ◌∷◌, ◌++◌, length, map, refl, ap, sym, ◌∙◌, subst, append_assoc, arith, true≢false}
-use Rattle.std.specs.Prelude.{None, Option, Some, if◌then◌else◌, slice_get, slice_set}
+use Rattle.std.specs.Prelude.{Some, if◌then◌else◌, slice_get, slice_set}
 use Rattle.std.proofs.lemmas.List.{append-nil}
 use Rattle.schema_reports.specs.Instance.{Text}
 use Rattle.schema_reports.specs.Drafts.{SchemaPlace}
 use Rattle.schema_compiler.specs.Compiling.{Each}
 use Rattle.schema_compiler.specs.Carried.{Table}
-use Rattle.schema_compiler.specs.Reserving.{Ends, Holds, IsGivenUp, IsOwn, Reserved, ReservedNode, Reserves, in_force, is_in_force, of_its_keyword, of_no_entry, with_node, with_nodes_from}
+use Rattle.schema_compiler.specs.Reserving.{Ends, Holds, IsGivenUp, IsOwn, Reserved, ReservedNode, Reserves, is_in_force, with_node, with_nodes_from}
 use Rattle.schema_compiler.proofs.Lists.{each_append, each_map}
 
 -- a table with these numbers reserved

@@ -5,7 +5,7 @@ use Rattle.std.specs.declared.alloc.Global.{Global}
 use Rattle.std.proofs.lemmas.List.{append-nil}
 use Rattle.schema_reports.specs.Instance.{Text, Place}
 use Rattle.schema_reports.specs.Parts.{Parts}
-use Rattle.schema_reports.specs.Making.{Made, Making, Purpose, Request, Script, a_keyword, after_request, compile, followed, nothing, refer, refused, then_compile, then_end, then_pending, then_refer, then_reserve}
+use Rattle.schema_reports.specs.Making.{Made, Making, Request, Script, a_keyword, after_request, compile, followed, nothing, refer, refused, then_compile, then_end, then_pending, then_refer, then_reserve}
 use Rattle.schema_reports.specs.Plan.{Edge, Key, found, is_self, part_made, requested, subschema, to_ref, option_list}
 use Rattle.schema_reports.specs.Reach.{maker_edges}
 use Rattle.schema_reports.specs.Units.{absorbed_by}
@@ -21,16 +21,15 @@ use Rattle.schema_node.specs.MakerViews.{IsStepOf, MakesRightly, PendingChangesN
 use Rattle.schema_node.specs.declared.context.table.MakerStep.{MakerStep}
 use Rattle.schema_node.specs.declared.context.table.MakerStep.TheVariants.{Compile, Refer, Pending, Reserve, Keyword, Nothing, Refuse}
 use Rattle.schema_node.specs.declared.context.table.PendingKind.{PendingKind}
-use Rattle.schema_reports.specs.Drafts.{SchemaPlace}
 use Rattle.serde_json.specs.Data.{Members}
-use Rattle.schema_compiler.specs.Reserving.{Ends, Holds, Reserved, ReservedNode, Reserves, is_in_force}
+use Rattle.schema_compiler.specs.Reserving.{Holds, Reserved, Reserves}
 use Rattle.schema_compiler.proofs.Reserving.{having, holds_none, holds_one, holds_then, reserves_none}
-use Rattle.schema_compiler.specs.Compiling.{Each, answers, reference_asked}
+use Rattle.schema_compiler.specs.Compiling.{answers, reference_asked}
 use Rattle.schema_compiler.specs.Carried.{Table, Task}
 use Rattle.schema_compiler.specs.UnderWay.{Goes, IsUnderWay}
 use Rattle.schema_compiler.proofs.UnderWay.{goes_having, goes_made, goes_none, goes_then}
 use Rattle.schema_compiler.specs.Filling.{AreChildren, IsMadePart, IsStep, IsTable, LeadsTo}
-use Rattle.schema_compiler.proofs.Lists.{each_append, length-more}
+use Rattle.schema_compiler.proofs.Lists.{length-more}
 use Rattle.schema_compiler.proofs.Growing.{children_stay, grown_stays, refused_first, refused_later, step_none, step_then}
 
 -- the script that a maker goes on with, by what it is told

@@ -1,5 +1,5 @@
 -- How far the worklist is worked off: the numbers below one have their forms, each other one has its form or waits.
-use Rattle.std.specs.Prelude.{List, None, Option, Some, [], length, slice_get, ℕ, ◌<◌, ◌≡◌, ◌≤◌}
+use Rattle.std.specs.Prelude.{Some, [], length, slice_get, ℕ, ◌<◌, ◌≡◌, ◌≤◌}
 use Rattle.schema_reports.specs.Plan.{Key}
 use Rattle.schema_reports.specs.Reach.{Reached}
 use Rattle.schema_node.specs.NodeTable.{IsFilled, NodeEntry}

@@ -1,11 +1,11 @@
-use Rattle.std.proofs.Common.{◌≡◌, [], ◌∷◌, ℕ, map, Some, ap, sym, ◌∙◌, subst, arith}
-use Rattle.std.specs.Prelude.{slice_get, string_bytes}
+use Rattle.std.proofs.Common.{map, ap, ◌∙◌}
+use Rattle.std.specs.Prelude.{string_bytes}
 use Rattle.std.proofs.lemmas.Result.{err_from_is_err_and}
 use Rattle.schema_compiler.specs.KeyViews.{key_of}
 use Rattle.schema_compiler.specs.Builtins.{builtin}
 use Rattle.schema_compiler.specs.Carried.{filled}
 use Rattle.schema_compiler.specs.declared.compiler.compiled.Progress.{Progress}
-use Rattle.schema_compiler.proofs.Compiled.{compiled, none_in_none, refuses_root, vocabulary_refuses}
+use Rattle.schema_compiler.proofs.Compiled.{compiled, refuses_root, vocabulary_refuses}
 use Rattle.schema_compiler.proofs.Working.{all_formed, all_found, at_first_number}
 use Rattle.schema_compiler.proofs.compiler.compile.Goals as goal
 

@@ -1,8 +1,8 @@
-use Rattle.std.proofs.Common.{◌≡◌, ℕ, ◌<◌, ◌≤◌, ◌+◌, suc, Some, List, length, map, refl, ap, sym, ◌∙◌, arith, rules}
+use Rattle.std.proofs.Common.{◌≡◌, ℕ, ◌<◌, ◌+◌, suc, Some, length, map, refl, ap, sym, ◌∙◌, arith}
 use Rattle.std.specs.Prelude.{option_map, slice_get, slice_set}
 use Rattle.std.proofs.lemmas.List.{length-map, map-set}
 use Rattle.std.proofs.lemmas.Option.{slice_get-map, slice_get_read}
-use Rattle.schema_compiler.specs.Reserving.{Reserved, with_node, with_nodes_from}
+use Rattle.schema_compiler.specs.Reserving.{with_node, with_nodes_from}
 use Rattle.schema_compiler.specs.ReservedViews.{node_of, reserved_of}
 use Rattle.schema_compiler.proofs.Reserving.{filled_all, filled_next}
 use Rattle.schema_compiler.proofs.compiler.reservations.fill_from.Goals as goal

@@ -1,5 +1,5 @@
-use Rattle.std.proofs.Common.{Bool, Global, String, ℕ, suc, ◌<◌, length, ◌≡◌, ◌∷◌, [], ◌++◌, List, append_assoc, string_cmp, subst, map, refl, sym, ap, ap₂, ◌∙◌, arith, Some, None, rules, true, false, true≢false}
-use Rattle.std.specs.Prelude.{codes, not, slice_get, IfErr, IfOk, Option, string_bytes, option_map, unwrap_or}
+use Rattle.std.proofs.Common.{Bool, Global, String, ℕ, length, ◌≡◌, ◌∷◌, [], ◌++◌, List, append_assoc, string_cmp, subst, map, refl, sym, ap, ap₂, ◌∙◌, arith, Some, None, rules, true, false, true≢false}
+use Rattle.std.specs.Prelude.{codes, not, IfErr, IfOk, Option, string_bytes, option_map, unwrap_or}
 use Rattle.std.proofs.lemmas.List.{append-nil, length-map}
 use Rattle.std.proofs.lemmas.Result.{IfOk-weaker, err_from_is_err_and}
 use Rattle.std.proofs.lemmas.Grind.{common_steps}
@@ -12,17 +12,15 @@ use Rattle.serde_json.proofs.Views.{Entry}
 use Rattle.schema_reports.specs.Instance.{Text}
 use Rattle.schema_reports.specs.Pointer.{pointer_to, joined}
 use Rattle.schema_reports.specs.Plan.{Edge, Part, Plan, checks_formats, making, is_recursive_ref, option_list, to_ref}
-use Rattle.schema_reports.specs.Reach.{asked_edges, at_first, maker_edges, reference_edges}
+use Rattle.schema_reports.specs.Reach.{at_first, maker_edges, reference_edges}
 use Rattle.schema_reports.specs.Refusals.{Cause}
 use Rattle.schema_reports.specs.Units.{absorbed_by, absorbed_in, object_of, unknown, without}
-use Rattle.schema_reports.specs.Guarded.{NodeEdge, NodePart, NodePlan, form_edges, node_edges, node_these}
-use Rattle.schema_node.specs.NodeTable.{IsFilled, NodeEntry}
+use Rattle.schema_reports.specs.Guarded.{NodePart, NodePlan, form_edges, node_edges, node_these}
 use Rattle.schema_node.specs.MakerViews.{maker_reply_of}
 use Rattle.schema_node.specs.NodeViews.{edge_of, entry_of, plan_of}
 use Rattle.schema_compiler.specs.KeyViews.{key_of, kind_of}
 use Rattle.schema_compiler.specs.Carried.{filled, task}
-use Rattle.schema_compiler.specs.Compiling.{In, reference_asked}
-use Rattle.schema_compiler.proofs.Lists.{length-more}
+use Rattle.schema_compiler.specs.Compiling.{reference_asked}
 use Rattle.schema_compiler.specs.Refusing.{Refused}
 use Rattle.schema_compiler.specs.Steps.{MakesPart, MakesPlan, part_edges}
 use Rattle.schema_compiler.specs.UnderWay.{Goes, Reaches}
@@ -31,7 +29,7 @@ use Rattle.schema_compiler.specs.declared.compiler.compiled.Progress.{Progress}
 use Rattle.schema_reports.specs.Reach.{Reached}
 use Rattle.schema_compiler.proofs.Growing.{refusal_map, from_key, blames_key, grown_none, grown_map, step_none}
 use Rattle.schema_compiler.proofs.Tables.{finished_grown, finished_table, finishes, numbered_after, put_grown, put_number, reserved_after}
-use Rattle.schema_compiler.proofs.UnderWay.{goes_none, goes_to, may_be_filled, opened_way, reaches_found, reaches_opened, reaches_put}
+use Rattle.schema_compiler.proofs.UnderWay.{goes_none, goes_to, may_be_filled, reaches_found, reaches_opened, reaches_put}
 use Rattle.schema_compiler.specs.Reserving.{of_its_keyword, of_no_entry}
 use Rattle.schema_compiler.proofs.Reserving.{ends_held, ends_reserves, having}
 use Rattle.schema_compiler.proofs.ReservedTold.{pending_told, reserved_told}
