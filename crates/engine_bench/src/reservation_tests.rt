@@ -37,12 +37,15 @@ fn built_items(
     options.build_nested(alloc, schema, &ItemsTable {}, &resolver, &matcher, nested)
 }
 
-/// Adds the numbers that the keywords of a node were given.
+/// Adds the numbers that the keywords of a node were given, if there is such a node.
 fn push_numbers(
     validator: &Validator<ItemsKeyword, BenchMatcher>,
     node: usize,
     numbers: &mut Vec<PendingSchemaNode>,
 ) -> Result<(), OutOfMemory> {
+    if node >= validator.nodes().len() {
+        return Ok(());
+    }
     for asked in validator.nodes().validators(SchemaNode(node)) {
         if let NodeValidator::Keyword(keyword) = asked {
             if let Some(number) = keyword.number {
