@@ -1,5 +1,5 @@
-//! The table of `x-items`, and of `type`, which is made as if its value were "array". The maker of `x-items` asks for the number that is pending for items of its object, reserves
-//! one where there is none, and asks for its value.
+//! The table of `x-items`, and of `type`, which is made as if its value were "array". The maker of `x-items` asks for the number
+//! that is pending for items of its object, reserves one where there is none, and asks for its value.
 ghost use Rattle.std.specs.Prelude.{◌≡◌, ◌∷◌, [], IfOk};
 ghost use Rattle.schema_reports.specs.Instance.{to_member};
 ghost use Rattle.schema_node.specs.MakerViews.{maker_reply_of};
