@@ -39,8 +39,8 @@ builtin_script true = then_end (a_keyword ArrayType [])
 builtin_script false = then_end nothing
 
 abbrev pub items_script : Bool → Text → Members → Draft → Vocabularies → Bool → Script ItemsPlan
-items_script true name members draft vocabularies formats = own_script
-items_script false name members draft vocabularies formats = builtin_script (bytes_eq name (codes "type"))
+items_script true name owner draft vocabularies formats = own_script
+items_script false name owner draft vocabularies formats = builtin_script (bytes_eq name (codes "type"))
 
 abbrev pub waiting : ItemsMaker → Waiting ItemsPlan
 waiting maker.Begins = begun own_script
@@ -76,11 +76,11 @@ Given None (the_number m) = Unit {0}
 Given None a_skip = Unit {0}
 Given None none_pending = Unit {0}
 
-builtin_right : (members : Members) (b : Bool) → MakesRightly items_absorbed (λ m. true) members (builtin_script b)
-builtin_right members true = (refl, (λ none. refl), tt)
-builtin_right members false = tt
+builtin_right : (owner : Members) (b : Bool) → MakesRightly items_absorbed (λ m. true) owner (builtin_script b)
+builtin_right owner true = (refl, (λ none. refl), tt)
+builtin_right owner false = tt
 
-pub items_right : (own : Bool) (name : Text) (members : Members) (draft : Draft) (vocabularies : Vocabularies) (formats : Bool)
-    → MakesRightly items_absorbed (λ m. true) members (items_script own name members draft vocabularies formats)
-items_right true name members draft vocabularies formats = ((λ is_self. refl), (tt, (refl, (λ none. refl), tt)), (tt, (refl, (λ none. refl), tt)))
-items_right false name members draft vocabularies formats = builtin_right members (bytes_eq name (codes "type"))
+pub items_right : (own : Bool) (name : Text) (owner : Members) (draft : Draft) (vocabularies : Vocabularies) (formats : Bool)
+    → MakesRightly items_absorbed (λ m. true) owner (items_script own name owner draft vocabularies formats)
+items_right true name owner draft vocabularies formats = ((λ is_self. refl), (tt, (refl, (λ none. refl), tt)), (tt, (refl, (λ none. refl), tt)))
+items_right false name owner draft vocabularies formats = builtin_right owner (bytes_eq name (codes "type"))
