@@ -6,7 +6,6 @@ use Rattle.serde_json.specs.Find.{as_array, as_number}
 use Rattle.schema_reports.specs.Instance.{Place, Text, to_item, to_member}
 use Rattle.schema_reports.specs.Drafts.{Draft, draft_2020_12, draft_unknown}
 use Rattle.schema_reports.specs.Reports.{Error}
-use Rattle.bench_parts.specs.BenchResolving.{is_schema}
 
 -- the error of a value of another type, at its place
 abbrev pub mistyped : Place → Error
@@ -46,6 +45,14 @@ abbrev mutual
   pub fault_in_members : Draft → Place → Members → Option Error
   fault_in_members d place no_members = None
   fault_in_members d place (member k v ms) = earlier (member_fault d (place ++ to_member k ∷ []) k v) (earlier (fault_in d (place ++ to_member k ∷ []) v) (fault_in_members d place ms))
+
+abbrev pub is_schema : Data → Bool
+is_schema (object ms) = true
+is_schema (boolean b) = true
+is_schema (null) = false
+is_schema (number n) = false
+is_schema (string t) = false
+is_schema (array ds) = false
 
 -- a document that is neither object nor boolean is refused as a whole
 abbrev pub document_fault : Draft → Data → Option Error

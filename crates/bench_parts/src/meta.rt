@@ -5,9 +5,9 @@ ghost use Rattle.serde_json.specs.View.{items_view, members_view, view};
 ghost use Rattle.schema_reports.specs.Instance.{a_value, subject_at};
 ghost use Rattle.schema_reports.specs.KeywordViews.{draft_of};
 ghost use Rattle.schema_reports.specs.ReportViews.{BorrowsItsPlace, error_of};
-ghost use Rattle.bench_parts.specs.BenchMeta.{fault_in, fault_in_items, fault_in_members, is_2020_12, member_fault, mistyped};
+ghost use Rattle.bench_parts.specs.BenchMeta.{fault_in, fault_in_items, fault_in_members, is_2020_12, is_schema, member_fault};
+ghost use Rattle.bench_parts.specs.BenchMeta.{mistyped};
 
-use crate::resolver::subschemas::is_schema;
 use schema_node::context::meta::MetaValidators;
 use schema_reports::instance::{Instance, InstanceStep, Place};
 use schema_reports::keywords::Draft;
@@ -44,6 +44,13 @@ fn mistyped<'v>(
         keyword: String::from_str(alloc, "type")?,
         text,
     })
+}
+
+/// Whether a value is an object or a boolean.
+fn is_schema(value: &Value) -> bool
+    ensures schema { result ≡ is_schema (view value.now) }
+{
+    value.is_object() || value.is_boolean()
 }
 
 /// Whether `items` takes one schema alone in the draft.

@@ -4,7 +4,7 @@
 use array_keywords::{ArrayKeyword, ArrayTable};
 use bench_parts::by_value::TableByValue;
 use bench_parts::matcher::BenchMatcher;
-use bench_parts::resolver::BenchResolver;
+use bench_resolver::resolver::BenchResolver;
 use keyword_ways::planned::Planned;
 use schema_engine::keywords::VocabularySet;
 use schema_engine::validator::Validator;

@@ -10,7 +10,7 @@ use Rattle.schema_reports.specs.Resolving.{Resolver}
 use Rattle.schema_engine.specs.Handed.{Options}
 use Rattle.schema_engine.specs.Program.{OfEverySense, Program}
 use Rattle.bench_parts.specs.BenchMatching.{bench_matcher}
-use Rattle.bench_parts.specs.BenchStates.{Point}
+use Rattle.bench_resolver.specs.BenchStates.{Point}
 use Rattle.bench_keywords.specs.BenchShape.{BenchShape, is_whole}
 use Rattle.engine_bench.specs.ProgramAnswers.{Answers}
 use Rattle.engine_bench.specs.ProgramMeaning.{AnswersPlainly, BenchMeans, OfPlainMeaning}

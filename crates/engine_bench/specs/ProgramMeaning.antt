@@ -16,11 +16,11 @@ use Rattle.schema_engine.specs.Program.{FromSomeDepth, Program}
 use Rattle.schema_engine.specs.ProgramOf.{IsProgramOf}
 use Rattle.schema_engine.specs.Promised.{MeansSchema, OfSchema}
 use Rattle.schema_engine.specs.Roots.{Builds, RefusesBuild}
-use Rattle.bench_parts.specs.BenchAnswers.{bench_resolving}
-use Rattle.bench_parts.specs.BenchResolving.{document_uri}
-use Rattle.bench_parts.specs.BenchDocuments.{BenchDocument, HasCustom, HasDrafts}
+use Rattle.bench_resolver.specs.BenchAnswers.{bench_resolving}
+use Rattle.bench_resolver.specs.BenchResolving.{document_uri}
+use Rattle.bench_resolver.specs.BenchDocuments.{BenchDocument, HasCustom, HasDrafts}
 use Rattle.bench_parts.specs.BenchMatching.{bench_matcher}
-use Rattle.bench_parts.specs.BenchStates.{Point}
+use Rattle.bench_resolver.specs.BenchStates.{Point}
 use Rattle.bench_parts.specs.Makers.{bench_script}
 use Rattle.bench_keywords.specs.BenchShape.{BenchShape, is_whole}
 use Rattle.engine_bench.specs.ProgramAnswers.{Answers}

@@ -1,7 +1,7 @@
 //! A matcher whose engine fails.
 use bench_keywords::keyword::BenchKeyword;
-use bench_parts::resolver::BenchResolver;
 use bench_parts::table::BenchTable;
+use bench_resolver::resolver::BenchResolver;
 use schema_engine::validate;
 use schema_node::context::matcher::Matcher;
 use schema_reports::keywords::VocabularySet;

@@ -3,9 +3,13 @@
 #![tactic(auto)]
 
 #[cfg(test)]
+mod context_tests;
+#[cfg(test)]
 mod deep_tests;
 #[cfg(test)]
 mod failing_matcher_tests;
+#[cfg(test)]
+mod growing_tests;
 #[cfg(test)]
 mod leaf_tests;
 #[cfg(test)]
@@ -17,6 +21,8 @@ mod option_tests;
 pub mod program;
 #[cfg(test)]
 mod reference_tests;
+#[cfg(test)]
+mod reservation_tests;
 #[cfg(test)]
 mod retry_tests;
 

@@ -1,7 +1,7 @@
 //! A keyword that marks its children, run by the engine: its marks are its own.
 use bench_parts::by_value::{Children, MakesByValue, MemberKeyword, TableByValue};
 use bench_parts::matcher::BenchMatcher;
-use bench_parts::resolver::BenchResolver;
+use bench_resolver::resolver::BenchResolver;
 use law_tests::both_once::BothOnce;
 use schema_engine::keywords::VocabularySet;
 use schema_engine::validator::Validator;

@@ -8,8 +8,8 @@ use crate::option_tests::{needs_keys, number_of, value_of};
 use crate::reference_tests::{holds, is_answered};
 use bench_keywords::keyword::BenchKeyword;
 use bench_parts::matcher::BenchMatcher;
-use bench_parts::resolver::BenchResolver;
 use bench_parts::table::BenchTable;
+use bench_resolver::resolver::BenchResolver;
 use schema_compiler::compiler::error::BuildError;
 use schema_engine::keywords::VocabularySet;
 use schema_engine::options::ValidationOptions;
@@ -120,18 +120,16 @@ fn limited_apart(alloc: Global, resolver: &BenchResolver, schema: &Value, keys: 
     number_of(built_nested(alloc, resolver, &options, schema, 0))
 }
 
-/// Whether, with no target compiled inside another, a limit of so many keys builds the schema, and a limit of fewer refuses it.
-fn needs_keys_apart(
-    alloc: Global,
-    schema: &Value,
-    keys: usize,
-    fewer: usize,
-) -> Result<bool, OutOfMemory> {
+/// Whether, with no target compiled inside another, a limit of so many keys builds the schema, and a limit of one fewer refuses it.
+fn needs_keys_apart(alloc: Global, schema: &Value, keys: usize) -> Result<bool, OutOfMemory> {
     let resolver = BenchResolver::new(alloc, schema, VocabularySet::new(alloc))?;
     let enough = limited_apart(alloc, &resolver, schema, keys);
-    let few = limited_apart(alloc, &resolver, schema, fewer);
+    let few = limited_apart(alloc, &resolver, schema, keys.saturating_sub(1));
     Ok(enough == 0 && few == 8)
 }
+
+/// How many keys the longest chain has: those of its definitions, and the root's.
+const KEYS_OF_THE_LONGEST: usize = 10_001;
 
 /// The schema of a chain of ten thousand definitions.
 fn longest(alloc: Global) -> Result<Value, OutOfMemory> {
@@ -143,14 +141,14 @@ fn longest(alloc: Global) -> Result<Value, OutOfMemory> {
 #[test]
 fn ten_thousand_definitions_are_built(rt: HostRuntime) -> Result<(), OutOfMemory> {
     let alloc = rt.alloc();
-    assert!(rt; needs_keys(alloc, &longest(alloc)?, 10_001, 10_000)?);
+    assert!(rt; needs_keys(alloc, &longest(alloc)?, KEYS_OF_THE_LONGEST)?);
     Ok(())
 }
 
 #[test]
 fn ten_thousand_definitions_are_built_apart(rt: HostRuntime) -> Result<(), OutOfMemory> {
     let alloc = rt.alloc();
-    assert!(rt; needs_keys_apart(alloc, &longest(alloc)?, 10_001, 10_000)?);
+    assert!(rt; needs_keys_apart(alloc, &longest(alloc)?, KEYS_OF_THE_LONGEST)?);
     Ok(())
 }
 

@@ -1,8 +1,8 @@
 //! The worked rows of options: limits, vocabularies, drafts and bases; and the calls that build and ask in one.
 use bench_keywords::keyword::BenchKeyword;
 use bench_parts::matcher::BenchMatcher;
-use bench_parts::resolver::BenchResolver;
 use bench_parts::table::BenchTable;
+use bench_resolver::resolver::BenchResolver;
 use schema_compiler::compiler::error::BuildError;
 use schema_engine::keywords::{Draft, Vocabulary, VocabularySet};
 use schema_engine::options::ValidationOptions;
@@ -37,16 +37,11 @@ fn limited(alloc: Global, resolver: &BenchResolver, schema: &Value, keys: usize)
     refusal(alloc, resolver, schema, &options)
 }
 
-/// Whether a limit of so many keys builds the schema, and a limit of fewer refuses it.
-pub fn needs_keys(
-    alloc: Global,
-    schema: &Value,
-    keys: usize,
-    fewer: usize,
-) -> Result<bool, OutOfMemory> {
+/// Whether a limit of so many keys builds the schema, and a limit of one fewer refuses it.
+pub fn needs_keys(alloc: Global, schema: &Value, keys: usize) -> Result<bool, OutOfMemory> {
     let resolver = BenchResolver::new(alloc, schema, VocabularySet::new(alloc))?;
     let enough = limited(alloc, &resolver, schema, keys);
-    let few = limited(alloc, &resolver, schema, fewer);
+    let few = limited(alloc, &resolver, schema, keys.saturating_sub(1));
     Ok(enough == 0 && few == 8)
 }
 
@@ -55,7 +50,7 @@ fn a_key_is_compiled_once(rt: HostRuntime) -> Result<(), OutOfMemory> {
     let alloc = rt.alloc();
     let text =
         r##"{"properties":{"a":{"$ref":"#/$defs/s"},"b":{"$ref":"#/$defs/s"}},"$defs":{"s":{"type":"string"}}}"##;
-    assert!(rt; needs_keys(alloc, &value_of(alloc, text)?, 4, 3)?);
+    assert!(rt; needs_keys(alloc, &value_of(alloc, text)?, 4)?);
     Ok(())
 }
 
@@ -63,7 +58,7 @@ fn a_key_is_compiled_once(rt: HostRuntime) -> Result<(), OutOfMemory> {
 #[test]
 fn a_chain_has_eleven_keys(rt: HostRuntime) -> Result<(), OutOfMemory> {
     let alloc = rt.alloc();
-    assert!(rt; needs_keys(alloc, &value_of(alloc, CHAIN)?, 11, 10)?);
+    assert!(rt; needs_keys(alloc, &value_of(alloc, CHAIN)?, 11)?);
     Ok(())
 }
 
@@ -110,7 +105,7 @@ fn doubled(alloc: Global, before: &str, between: &str, after: &str) -> Result<Va
 fn two_uses_of_one_definition_are_one_node(rt: HostRuntime) -> Result<(), OutOfMemory> {
     let alloc = rt.alloc();
     let members = doubled(alloc, r#"{"properties":{"a":"#, r#","b":"#, "}}")?;
-    assert!(rt; needs_keys(alloc, &members, 122, 121)?);
+    assert!(rt; needs_keys(alloc, &members, 122)?);
     Ok(())
 }
 
@@ -118,7 +113,7 @@ fn two_uses_of_one_definition_are_one_node(rt: HostRuntime) -> Result<(), OutOfM
 fn two_parts_of_one_definition_are_one_node(rt: HostRuntime) -> Result<(), OutOfMemory> {
     let alloc = rt.alloc();
     let parts = doubled(alloc, r#"{"allOf":["#, ",", "]}")?;
-    assert!(rt; needs_keys(alloc, &parts, 122, 121)?);
+    assert!(rt; needs_keys(alloc, &parts, 122)?);
     Ok(())
 }
 

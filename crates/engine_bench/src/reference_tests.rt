@@ -4,13 +4,14 @@
 //! the last `null` where there is none; or `[schema, reference]`, where the resolver refuses the reference with a text that names it.
 use bench_keywords::keyword::BenchKeyword;
 use bench_parts::matcher::BenchMatcher;
-use bench_parts::resolver::BenchResolver;
-use bench_parts::resolver::documents::Document;
 use bench_parts::table::BenchTable;
+use bench_resolver::resolver::BenchResolver;
+use bench_resolver::resolver::documents::Document;
 use schema_compiler::compiler::error::BuildError;
 use schema_engine::keywords::{Draft, VocabularySet};
 use schema_engine::options::ValidationOptions;
 use schema_engine::validator::Validator;
+use schema_node::context::keyword::Validate;
 use schema_reports::location::OutOfMemory;
 use schema_reports::reports::ValidationError;
 use serde_json::Value;
@@ -53,9 +54,9 @@ fn is_next(
 }
 
 /// Whether these are all errors of an instance, in their order.
-fn has_errors(
+fn has_errors<K: Validate>(
     alloc: Global,
-    validator: &Validator<BenchKeyword, BenchMatcher>,
+    validator: &Validator<K, BenchMatcher>,
     instance: &Value,
     expected: &[Value],
 ) -> Result<bool, OutOfMemory> {
@@ -68,9 +69,9 @@ fn has_errors(
 }
 
 /// Whether a schema was built, and answers as its row says.
-pub fn is_answered(
+pub fn is_answered<K: Validate>(
     alloc: Global,
-    built: Result<Validator<BenchKeyword, BenchMatcher>, BuildError>,
+    built: Result<Validator<K, BenchMatcher>, BuildError>,
     row: &Value,
 ) -> Result<bool, OutOfMemory> {
     match built {

@@ -1,8 +1,8 @@
 //! A call that was refused memory leaves the validator as it was: asked again, it gives the row's answer.
 use bench_keywords::keyword::BenchKeyword;
 use bench_parts::matcher::BenchMatcher;
-use bench_parts::resolver::BenchResolver;
 use bench_parts::table::BenchTable;
+use bench_resolver::resolver::BenchResolver;
 use schema_compiler::compiler::error::BuildError;
 use schema_engine::validator::Validator;
 use schema_reports::keywords::VocabularySet;

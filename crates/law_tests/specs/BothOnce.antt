@@ -1,8 +1,8 @@
 -- A keyword with two children that holds where both accept. Its run marks each, and does not ask the second where that is
 -- marked already: then it is the first one again, and answers alike.
-use Rattle.std.proofs.Common.{◌≡◌, ◌∙◌, ℕ, zero, suc, ◌+◌, ◌<◌, ◌&&◌, ◌||◌, ◌⊎◌, ◌∷◌, [], List, Bool, true, false, refl, sym, ap, ap₂, arith, inl, inr}
+use Rattle.std.proofs.Common.{◌≡◌, ◌∙◌, ℕ, zero, suc, ◌<◌, ◌&&◌, ◌||◌, ◌⊎◌, ◌∷◌, [], List, Bool, true, false, refl, sym, ap, ap₂, arith, inl, inr}
 use Rattle.std.specs.List.{list_any}
-use Rattle.std.specs.Prelude.{All, Contains, if◌then◌else◌, ⊤}
+use Rattle.std.specs.Prelude.{All, if◌then◌else◌, ⊤}
 use Rattle.std.proofs.lemmas.List.Elements.{All-nil, All-cons, All-head, All-tail, All-weaker}
 use Rattle.schema_reports.specs.Instance.{Subject, Text}
 use Rattle.schema_reports.specs.Reports.{Unit_, report_of}

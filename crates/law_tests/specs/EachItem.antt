@@ -1,13 +1,13 @@
 -- A keyword that asks its only child of each item, the last one first. Its run holds how many items are left, which it stores
 -- as it begins; so it asks rightly, and ends in so many turns, only where no more are left than there are.
 use Rattle.std.proofs.Common.{◌≡◌, ◌∙◌, ℕ, zero, suc, ◌+◌, ◌<◌, ◌≤◌, ◌&&◌, ◌⊎◌, ◌∷◌, [], List, Bool, true, false, not, refl, sym, ap, ap₂, arith, inl, inr}
-use Rattle.std.specs.Prelude.{All, Contains, if◌then◌else◌, ⊤, ◌↔◌}
+use Rattle.std.specs.Prelude.{All, Contains, ⊤}
 use Rattle.std.specs.List.{list_all}
 use Rattle.std.proofs.lemmas.List.Elements.{All-nil, All-cons, All-head, All-tail, All-weaker, Contains-append_right}
 use Rattle.schema_reports.specs.Instance.{Subject, Text}
 use Rattle.schema_reports.specs.Reports.{Unit_, report_of}
 use Rattle.schema_reports.specs.Keywords.{Answer, Answers, Keywords, Marked, Mode, Question, Reply, Turn, all_of_it, ask, done, first_of_it, for_all, for_first, for_units, for_verdict, no_reply, truth, unit_of_it}
-use Rattle.schema_reports.specs.Laws.{AsksRightly, IsPresent, IsRight, PassesUnchanged, StandsInside, first_fault, steps_below}
+use Rattle.schema_reports.specs.Laws.{AsksRightly, IsPresent, IsRight, steps_below}
 use Rattle.schema_reports.specs.Matching.{Matching}
 use Rattle.schema_reports.specs.Turns.{FunctionLaws, Standing, TurnLaws, next, step_at, turned}
 use Rattle.schema_node.specs.KeywordViews.{fresh}

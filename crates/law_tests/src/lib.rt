@@ -4,5 +4,8 @@
 
 pub mod both_once;
 pub mod each_item;
+pub mod items;
+pub mod items_table;
+pub mod marking;
 pub mod refusals;
 pub mod refusing;

@@ -3,8 +3,8 @@
 
 use bench_keywords::keyword::BenchKeyword;
 use bench_parts::matcher::BenchMatcher;
-use bench_parts::resolver::BenchResolver;
 use bench_parts::table::BenchTable;
+use bench_resolver::resolver::BenchResolver;
 use schema_engine::keywords::VocabularySet;
 use schema_engine::validator::Validator;
 use serde_json::Value;

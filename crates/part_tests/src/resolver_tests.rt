@@ -1,7 +1,7 @@
 //! Where references lead, by the example of section 6 of RFC 6901, with names, resources, drafts and vocabularies, through the
 //! trait's bound.
-use bench_parts::resolver::BenchResolver;
-use bench_parts::resolver::documents::Document;
+use bench_resolver::resolver::BenchResolver;
+use bench_resolver::resolver::documents::Document;
 use schema_node::context::resolver::{LookupError, Resolver, Target};
 use schema_node::context::schema_place::SchemaPlace;
 use schema_reports::keywords::{Draft, Vocabulary, VocabularySet};

@@ -10,7 +10,7 @@ use Rattle.schema_reports.specs.Units.{annotations_of, object_annotations}
 use Rattle.schema_reports.specs.Guarded.{NodePlan, node_edges}
 use Rattle.schema_node.specs.NodeTable.{NodeEntry}
 use Rattle.schema_node.specs.NodeViews.{boolean_plan}
-use Rattle.schema_compiler.specs.Compiling.{Each, object_edges}
+use Rattle.schema_compiler.specs.Compiling.{object_edges}
 use Rattle.schema_compiler.specs.Refusing.{Names, Refused}
 use Rattle.schema_compiler.specs.Filling.{IsPlan, IsTable}
 use Rattle.schema_compiler.specs.Steps.{MakesPlan}

@@ -9,7 +9,7 @@ use Rattle.schema_reports.specs.Making.{Request}
 use Rattle.schema_reports.specs.Plan.{Edge, Form, Key, Part, Plan, always, keyword, never, plan, reference, these, requested}
 use Rattle.schema_reports.specs.Reach.{Reached, asked_by, asked_edges, asked_for, at_first}
 use Rattle.schema_reports.specs.Refusals.{Cause, causes, undeclared}
-use Rattle.schema_reports.specs.Guarded.{NodeEdge, NodeForm, NodePart, NodePlan, Children, form_edges, node_always, node_keyword, node_never, node_reference, node_these}
+use Rattle.schema_reports.specs.Guarded.{NodeEdge, NodeForm, NodePart, NodePlan, Children, node_always, node_keyword, node_never, node_reference, node_these}
 use Rattle.schema_node.specs.NodeTable.{NodeEntry}
 use Rattle.schema_compiler.specs.Compiling.{Blames, Each, In, ReachedFrom, Settled, StandsBelow}
 use Rattle.schema_compiler.specs.Refusing.{AreDistinct, IsRefusal, Names, Refused}

@@ -3,6 +3,8 @@ pub mod Chains
 pub mod Fragments
 pub mod Lists
 pub mod Courses
+pub mod Reserving
+pub mod ReservedTold
 pub mod OtherCourses
 pub mod UnderWay
 pub mod Working

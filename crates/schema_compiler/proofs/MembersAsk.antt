@@ -15,7 +15,7 @@ use Rattle.schema_reports.specs.Guarded.{NodeEdge, NodePart, NodePlan, form_edge
 use Rattle.serde_json.specs.View.{view}
 use Rattle.serde_json.specs.declared.value.Value.{Value}
 use Rattle.schema_node.specs.NodeTable.{NodeEntry}
-use Rattle.schema_compiler.specs.Compiling.{Each, member_causes, member_edges, object_edges, reference_asked}
+use Rattle.schema_compiler.specs.Compiling.{member_causes, member_edges, object_edges, reference_asked}
 use Rattle.schema_compiler.specs.Refusing.{Names, Refused}
 use Rattle.schema_compiler.specs.Filling.{IsMadePart, IsPlan, LeadsTo}
 use Rattle.schema_compiler.specs.Steps.{IsAnswered, MakesPart, MakesPlan, alone, part_edges}

@@ -1,5 +1,5 @@
 -- What a reference asks for, and the steps to one subschema or one target.
-use Rattle.std.proofs.Common.{◌≡◌, ℕ, ◌<◌, ◌≤◌, length, Bool, true, false, cond, List, [], ◌∷◌, refl, ap, sym, ◌∙◌, subst, true≢false}
+use Rattle.std.proofs.Common.{◌≡◌, ℕ, Bool, true, false, cond, List, [], ◌∷◌, refl, ap, sym, ◌∙◌, subst, true≢false}
 use Rattle.std.specs.Prelude.{Option, Some, None, Result, Ok, Err, flat_map, option_map, unwrap_or}
 use Rattle.serde_json.specs.Data.{string}
 use Rattle.schema_reports.specs.Instance.{Text, Place}

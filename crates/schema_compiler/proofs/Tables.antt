@@ -1,12 +1,12 @@
 -- The table where a number is reserved, and where it gets its form.
-use Rattle.std.proofs.Common.{Bool, ◌≡◌, ◌≢◌, ℕ, suc, ◌<◌, ◌≤◌, inl, inr, List, [], ◌∷◌, ◌++◌, length, refl, ap, sym, ◌∙◌, subst, arith, append_assoc}
+use Rattle.std.proofs.Common.{Bool, ◌≡◌, ◌≢◌, ℕ, suc, ◌<◌, inl, inr, List, [], ◌∷◌, ◌++◌, length, refl, ap, sym, ◌∙◌, subst, arith, append_assoc}
 use Rattle.std.specs.Prelude.{Option, Some, None, option_map, slice_get}
 use Rattle.std.proofs.lemmas.Option.{slice_get_within}
 use Rattle.serde_json.specs.View.{view}
 use Rattle.serde_json.specs.declared.value.Value.{Value}
 use Rattle.schema_reports.specs.Parts.{Parts}
 use Rattle.schema_reports.specs.Units.{annotations_of}
-use Rattle.schema_reports.specs.Plan.{Key, plan}
+use Rattle.schema_reports.specs.Plan.{Key}
 use Rattle.schema_reports.specs.Guarded.{NodePlan}
 use Rattle.schema_node.specs.NodeTable.{Begins, Fills, NodeEntry, Waits, begun_in, filled, filled_count}
 use Rattle.schema_compiler.specs.Refusing.{AreDistinct}

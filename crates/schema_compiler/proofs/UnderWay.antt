@@ -17,6 +17,8 @@ use Rattle.schema_compiler.specs.Filling.{HasFormOrWaits}
 use Rattle.schema_compiler.specs.Finding.{Course, Finds, GuardsByStanding, IsNew, Standing, WorksOff, and_then, begun, closed, formed, formed_count, guards_edge, in_a_round, is_formed, is_open, is_opened, is_put, is_settled, nests, no_more, passed, put, round_begun, standing_of, waits, was_found}
 use Rattle.schema_compiler.specs.Carried.{Table, Task}
 use Rattle.schema_compiler.specs.UnderWay.{EdgeNow, EdgesWithin, Goes, GoesTo, IsUnderWay, Reaches, course_of}
+use Rattle.schema_compiler.specs.Reserving.{Reserved, Reserves}
+use Rattle.schema_compiler.proofs.Reserving.{having, reserves_between, reserves_none, reserves_same, reserves_then}
 use Rattle.schema_compiler.proofs.Courses.{finds_append, formed_counts}
 use Rattle.schema_compiler.proofs.Lists.{all_of, each_append, each_in, each_map, equal_or, get-append, get-end, get-pushed, get-set_other, get-set_same, length-more, longer, set-length, some_is}
 
@@ -319,7 +321,7 @@ module _ {C : Type 0} (ns : List (NodeEntry C)) (i round : ℕ) (n : NodeEntry C
 module _ {S K C : Type 0} (g : Task S K C) where
   -- nothing is asked for; one after another; and other edges that were made, all the same
   pub goes_none : (t : Table S C) → IsUnderWay g t → Goes g t t [] []
-  goes_none t u = record { finds = no_more; now = tt; under_way = u; stay = λ i n e. e; same_round = refl; same_depth = refl; looser = λ e. e }
+  goes_none t u = record { finds = no_more; now = tt; under_way = u; stay = λ i n e. e; same_round = refl; same_depth = refl; looser = λ e. e; reserves = reserves_none t.reserved }
 
   -- edges that were made stay as they were made
   edge_stays : (t t' : Table S C) → ((i : ℕ) (n : NodeEntry C) → slice_get t.nodes i ≡ Some n → slice_get t'.nodes i ≡ Some n) → t'.round ≡ t.round → (t.loose ≡ true → t'.loose ≡ true)
@@ -340,6 +342,7 @@ module _ {S K C : Type 0} (g : Task S K C) where
     same_round = b.same_round ∙ a.same_round;
     same_depth = b.same_depth ∙ a.same_depth;
     looser = λ e. b.looser (a.looser e);
+    reserves = reserves_then t.reserved t'.reserved t''.reserved a.reserves b.reserves;
   }
 
   pub goes_made : (t t' : Table S C) (es : List (Edge S)) (made made' : List NodeEdge) → Goes g t t' es made → Each (EdgeNow t') made' → Goes g t t' es made'
@@ -351,12 +354,26 @@ module _ {S K C : Type 0} (g : Task S K C) where
     same_round = a.same_round;
     same_depth = a.same_depth;
     looser = a.looser;
+    reserves = a.reserves;
+  }
+
+  -- the same with other numbers reserved
+  pub goes_having : (t t' : Table S C) (rs rs' : List Reserved) (es : List (Edge S)) (made : List NodeEdge) → Goes g t t' es made → Reserves rs rs' → Goes g (having t rs) (having t' rs') es made
+  goes_having t t' rs rs' es made a reserves = record {
+    finds = a.finds;
+    now = each_map (EdgeNow t') (EdgeNow (having t' rs')) made (λ e now. record { entry = now.entry; at = now.at; guard = now.guard; loose = now.loose }) a.now;
+    under_way = let u = a.under_way in record { guards = u.guards; within = u.within; rounds = u.rounds; opens = u.opens; formed = u.formed; nested = u.nested };
+    stay = a.stay;
+    same_round = a.same_round;
+    same_depth = a.same_depth;
+    looser = a.looser;
+    reserves = reserves;
   }
 
   -- an edge is made to the number of a key
-  pub goes_to : (t t' t'' : Table S C) (k : Key S) (nesting : Bool) (i : ℕ) (made : NodeEdge) (entry : NodeEntry C) → Reaches g t t' k nesting i → t''.keys ≡ t'.keys → t''.nodes ≡ t'.nodes → t''.round ≡ t'.round → t''.depth ≡ t'.depth
+  pub goes_to : (t t' t'' : Table S C) (k : Key S) (nesting : Bool) (i : ℕ) (made : NodeEdge) (entry : NodeEntry C) → Reaches g t t' k nesting i → t''.reserved ≡ t'.reserved → t''.keys ≡ t'.keys → t''.nodes ≡ t'.nodes → t''.round ≡ t'.round → t''.depth ≡ t'.depth
       → t''.loose ≡ (t'.loose || not (is_settled_entry entry)) → slice_get t'.nodes i ≡ Some entry → made.node ≡ i → made.guarded ≡ guards_at t'.round entry → GoesTo g t t'' k nesting made
-  goes_to t t' t'' k nesting i made entry reaches keys nodes round depth loose at node guard e of_key of_nesting = record {
+  goes_to t t' t'' k nesting i made entry reaches reserved keys nodes round depth loose at node guard e of_key of_nesting = record {
     finds = and_then (course_of t') i (reaches.visits e of_key of_nesting) (subst (λ (c : Course S). Finds g.parts g.nested (passed (course_of t') i) [] c) passes no_more);
     now = (
       record {
@@ -372,6 +389,7 @@ module _ {S K C : Type 0} (g : Task S K C) where
     same_round = round ∙ reaches.same_round;
     same_depth = depth ∙ reaches.same_depth;
     looser = λ f. loose ∙ ap (λ (b : Bool). b || not (is_settled_entry entry)) (reaches.same_loose ∙ f);
+    reserves = reserves_same t.reserved t'.reserved t''.reserved reaches.reserves reserved;
   } where
     or_true : (b : Bool) → (b || true) ≡ true
     or_true = elim [ true ↦ refl | false ↦ refl ]
@@ -391,6 +409,7 @@ module _ {S K C : Type 0} (g : Task S K C) where
     same_round = refl;
     same_depth = refl;
     same_loose = refl;
+    reserves = reserves_none t.reserved;
     within = let l = slice_get_within t.keys i k at in omega arith;
   }
 
@@ -425,8 +444,8 @@ module _ {S K C : Type 0} (g : Task S K C) where
 
   -- a new key is put on the list
   pub reaches_put : (t t' : Table S C) (k : Key S) (i : ℕ) (n : NodeEntry C) → IsUnderWay g t → IsNew (course_of t) k → g.nested ≤ t.depth → length t.nodes ≡ length t.keys → t'.keys ≡ t.keys ++ k ∷ [] → t'.nodes ≡ t.nodes ++ n ∷ []
-      → n.plan ≡ None → n.round ≡ None → t'.round ≡ t.round → t'.depth ≡ t.depth → t'.loose ≡ t.loose → i ≡ length t.nodes → Reaches g t t' k true i
-  reaches_put t t' k i n u new full lengths keys nodes none no_round round depth loose at = record {
+      → n.plan ≡ None → n.round ≡ None → t'.round ≡ t.round → t'.depth ≡ t.depth → t'.loose ≡ t.loose → t'.reserved ≡ t.reserved → i ≡ length t.nodes → Reaches g t t' k true i
+  reaches_put t t' k i n u new full lengths keys nodes none no_round round depth loose reserved at = record {
     visits = λ e of_key of_nesting. is_put (is_new t k e of_key new) of_nesting full
         (course_is (course_of t') (put (course_of t) e.key) (key_more t t' k e of_key keys) (standing_more t t' n waits nodes (stands_waiting n none no_round)) round depth loose)
         (at ∙ lengths);
@@ -435,6 +454,7 @@ module _ {S K C : Type 0} (g : Task S K C) where
     same_round = round;
     same_depth = depth;
     same_loose = loose;
+    reserves = reserves_same t.reserved t.reserved t'.reserved (reserves_none t.reserved) reserved;
     within = let l : length t'.nodes ≡ suc (length t.nodes) = ap length nodes ∙ length-more t.nodes n in omega arith;
   }
 
@@ -477,9 +497,9 @@ module _ {S K C : Type 0} (g : Task S K C) where
 
   -- t: before; o: the number added and begun; d: all that its key asks for is found; t': the number has its form
   pub reaches_opened : (t o d t' : Table S C) (k : Key S) (nesting : Bool) (i : ℕ) (n : NodeEntry C) (annotations : Option Value) (p : NodePlan C) → IsUnderWay g t → IsNew (course_of t) k → (nesting ≡ true → t.depth < g.nested) → length t.nodes ≡ length t.keys
-      → o.keys ≡ t.keys ++ k ∷ [] → o.nodes ≡ t.nodes ++ n ∷ [] → n.plan ≡ None → n.round ≡ Some t.round → o.round ≡ t.round → o.depth ≡ (if nesting then suc t.depth else t.depth) → o.loose ≡ false → i ≡ length t.nodes
+      → o.keys ≡ t.keys ++ k ∷ [] → o.nodes ≡ t.nodes ++ n ∷ [] → n.plan ≡ None → n.round ≡ Some t.round → o.round ≡ t.round → o.depth ≡ (if nesting then suc t.depth else t.depth) → o.loose ≡ false → o.reserved ≡ t.reserved → t'.reserved ≡ d.reserved → i ≡ length t.nodes
       → Goes g o d (asked_edges g.parts k) (node_edges p) → Fills d.nodes i (not d.loose) annotations p t'.nodes → t'.keys ≡ d.keys → t'.round ≡ t.round → t'.depth ≡ t.depth → t'.loose ≡ t.loose → Reaches g t t' k nesting i
-  reaches_opened t o d t' k nesting i n annotations p u new room lengths o_keys o_nodes none of o_round o_depth o_loose at goes fills keys round depth loose = record {
+  reaches_opened t o d t' k nesting i n annotations p u new room lengths o_keys o_nodes none of o_round o_depth o_loose o_reserved reserved at goes fills keys round depth loose = record {
     visits = λ e of_key of_nesting. is_opened (course_of d) (is_new t k e of_key new) (λ f. room (sym of_nesting ∙ f)) (inner e of_key of_nesting) (closes e) (at ∙ lengths);
     under_way = filled_way d t' i n annotations p goes.under_way there none of_now goes.now fills (round ∙ sym now_round) (let l = u.nested in rw depth l);
     stay = λ j m is.
@@ -490,6 +510,7 @@ module _ {S K C : Type 0} (g : Task S K C) where
     same_round = round;
     same_depth = depth;
     same_loose = loose;
+    reserves = reserves_between t.reserved o.reserved d.reserved t'.reserved o_reserved goes.reserves reserved;
     within =
         let l = slice_get_within d.nodes i n there in
         let len : length t'.nodes ≡ length d.nodes = ap length fills.2 ∙ set-length d.nodes i (filled fills.0 (filled_count d.nodes) (not d.loose) annotations p) in

@@ -2,23 +2,23 @@
 use Rattle.std.proofs.Common.{◌≡◌, ◌≢◌, ℕ, suc, zero, ◌<◌, ◌≤◌, inl, inr, List, [], ◌∷◌, ◌++◌, length, map, refl, ap, sym, ◌∙◌, subst, arith}
 use Rattle.std.specs.Prelude.{Option, Some, None, false, option_map, slice_get, not, unwrap_or}
 use Rattle.std.proofs.lemmas.Option.{slice_get-map, slice_get_within}
-use Rattle.serde_json.specs.View.{view}
 use Rattle.serde_json.specs.declared.value.Value.{Value}
 use Rattle.schema_reports.specs.Plan.{Edge, Key}
 use Rattle.schema_reports.specs.Reach.{Reached, asked_edges, at_first}
-use Rattle.schema_reports.specs.Refusals.{Cause, causes}
-use Rattle.schema_reports.specs.Units.{annotations_of}
-use Rattle.schema_reports.specs.Guarded.{NodeEdge, NodePlan, node_edges}
+use Rattle.schema_reports.specs.Refusals.{causes}
+use Rattle.schema_reports.specs.Guarded.{NodePlan, node_edges}
 use Rattle.schema_node.specs.NodeTable.{Begins, Fills, IsBegun, IsFilled, MayBeFilled, NodeEntry, Waits, begun_in, filled, filled_count}
-use Rattle.schema_compiler.specs.Compiling.{Blames, Each, In, ReachedFrom, StandsBelow}
-use Rattle.schema_compiler.specs.Refusing.{IsRefusal, Refused}
-use Rattle.schema_compiler.specs.Filling.{HasFormOrWaits, IsGrown, IsPlanned, IsTable}
-use Rattle.schema_compiler.specs.Finding.{Course, FindsAll, Standing, WorksOff, at_end, at_root, is_formed, is_open, passes_over, standing_of, waits}
+use Rattle.schema_compiler.specs.Compiling.{Blames, Each, ReachedFrom, StandsBelow}
+use Rattle.schema_compiler.specs.Refusing.{Refused}
+use Rattle.schema_compiler.specs.Filling.{HasFormOrWaits, IsGrown}
+use Rattle.schema_compiler.specs.Finding.{Course, FindsAll, WorksOff, at_end, at_root, is_formed, is_open, passes_over, standing_of, waits}
 use Rattle.schema_compiler.specs.Carried.{IsWell, Table, Task}
-use Rattle.schema_compiler.specs.UnderWay.{Goes, IsUnderWay, course_of}
+use Rattle.schema_compiler.specs.UnderWay.{Goes, course_of}
 use Rattle.schema_compiler.specs.Working.{IsAtNumber, RefusesRootKey}
 use Rattle.schema_compiler.specs.declared.compiler.error.BuildError.{BuildError}
-use Rattle.schema_compiler.proofs.Lists.{below_or, each_append, each_in, each_map, equal_or, get-append, get-set_other, get-set_same, some_is, there}
+use Rattle.schema_compiler.specs.Reserving.{IsGivenUp}
+use Rattle.schema_compiler.proofs.Reserving.{all_given_up}
+use Rattle.schema_compiler.proofs.Lists.{below_or, each_append, each_map, equal_or, get-append, get-set_other, get-set_same, some_is, there}
 use Rattle.schema_compiler.proofs.Growing.{blames_key, from_key, reach_on, refusal_map}
 use Rattle.schema_compiler.proofs.UnderWay.{course_is, may_be_filled, round_done, stands_waiting}
 
@@ -51,8 +51,8 @@ module _ {S K C : Type 0} (g : Task S K C) (root : Key S) where
   each_at (x ∷ ks) (suc j) q h at = each_at ks j q h.1 at
 
   -- the root's key waits, and is all that was found
-  pub at_first_number : (t : Table S C) (n : NodeEntry C) → IsWell g t → t.keys ≡ root ∷ [] → t.nodes ≡ n ∷ [] → n.plan ≡ None → n.round ≡ None → t.round ≡ 0 → t.depth ≡ 0 → t.loose ≡ false → IsAtNumber g root t 0
-  at_first_number t n well keys nodes none unbegun round depth loose =
+  pub at_first_number : (t : Table S C) (n : NodeEntry C) → IsWell g t → t.keys ≡ root ∷ [] → t.nodes ≡ n ∷ [] → n.plan ≡ None → n.round ≡ None → t.round ≡ 0 → t.depth ≡ 0 → t.loose ≡ false → t.reserved ≡ [] → IsAtNumber g root t 0
+  at_first_number t n well keys nodes none unbegun round depth loose reserved =
       let only : (j : ℕ) (m : NodeEntry C) → slice_get t.nodes j ≡ Some m → m ≡ n = λ j m at. the_only j m (subst (λ (ns : List (NodeEntry C)). slice_get ns j ≡ Some m) nodes at) in
       let no_plan : (j : ℕ) (m : NodeEntry C) → slice_get t.nodes j ≡ Some m → m.plan ≡ None = λ j m at. ap (λ (x : NodeEntry C). x.plan) (only j m at) ∙ none in
       let no_round : (j : ℕ) (m : NodeEntry C) → slice_get t.nodes j ≡ Some m → m.round ≡ None = λ j m at. ap (λ (x : NodeEntry C). x.round) (only j m at) ∙ unbegun in
@@ -72,6 +72,7 @@ module _ {S K C : Type 0} (g : Task S K C) (root : Key S) where
         below = λ j l w. absurd (omega arith);
         rounds = λ j r m at is. absurd (let a = no_round j m at in let f : ⊥ = cc in f);
         first = ap (λ ks. slice_get ks 0) keys;
+        given_up = subst (Each IsGivenUp) (sym reserved) tt;
         order = λ c works. subst (λ (d : Course S). WorksOff g.parts g.nested 0 d c) begins works;
       }
     where
@@ -93,16 +94,17 @@ module _ {S K C : Type 0} (g : Task S K C) (root : Key S) where
         below = λ j l w. elim (equal_or j i) [ inl e ↦ subst (IsFilled t.nodes) (sym e) formed | inr ne ↦ a.below j (omega (arith, ne)) w ];
         rounds = λ j r n at is. let l = a.rounds j r n at is in omega arith;
         first = a.first;
+        given_up = a.given_up;
         order = λ c works. a.order c (passes_over lt
             (λ e. formed_stands formed.0 formed.1 formed.3 (some_is (standing_of formed.0) waits (sym (slice_get-map standing_of t.nodes i ∙ ap (option_map standing_of) formed.2) ∙ e)))
             works);
       }
 
   -- a round has ended
-  pub at_rounds_end : (t b d t' : Table S C) (k : Key S) (i : ℕ) (annotations : Option Value) (p : NodePlan C) → IsAtNumber g root t i → slice_get t.keys i ≡ Some k → Waits t.nodes i → Begins t.nodes i i b.nodes → b.keys ≡ t.keys → b.round ≡ i → b.depth ≡ 0 → b.loose ≡ false
+  pub at_rounds_end : (t b d t' : Table S C) (k : Key S) (i : ℕ) (annotations : Option Value) (p : NodePlan C) → IsAtNumber g root t i → slice_get t.keys i ≡ Some k → Waits t.nodes i → Begins t.nodes i i b.nodes → b.keys ≡ t.keys → b.round ≡ i → b.depth ≡ 0 → b.loose ≡ false → b.reserved ≡ t.reserved → t'.reserved ≡ d.reserved
       → Goes g b d (asked_edges g.parts k) (node_edges p) → IsGrown (ReachedFrom g.parts (asked_edges g.parts k)) b.keys d.keys b.nodes d.nodes → IsWell g t'
       → Fills d.nodes i (not d.loose) annotations p t'.nodes → t'.keys ≡ d.keys → t'.round ≡ d.round → t'.depth ≡ d.depth → t'.loose ≡ d.loose → IsAtNumber g root t' (suc i)
-  at_rounds_end t b d t' k i annotations p a at waiting begins b_keys b_round b_depth b_loose goes grown well fills keys round depth loose =
+  at_rounds_end t b d t' k i annotations p a at waiting begins b_keys b_round b_depth b_loose b_reserved reserved goes grown well fills keys round depth loose =
       let done = round_done g t b d t' k i annotations p a.table.lengths at waiting begins b_keys b_round b_depth b_loose goes fills keys round depth loose in
       let reached_k : Reached g.parts root k = each_at t.keys i k (each_reached t i a) at in
       let added : d.keys ≡ t.keys ++ grown.added.0 = grown.added.1 ∙ ap (λ ks. ks ++ grown.added.0) b_keys in
@@ -131,6 +133,7 @@ module _ {S K C : Type 0} (g : Task S K C) (root : Key S) where
         ];
         rounds = λ j r n there' is. let l = done.0.rounds j r n there' is in let e = round ∙ goes.same_round ∙ b_round in omega arith;
         first = subst (λ ks. slice_get ks 0 ≡ Some root) (sym keys) (subst (λ ks. slice_get ks 0 ≡ Some root) (sym added) (get-append t.keys grown.added.0 0 root a.first));
+        given_up = all_given_up t.reserved b.reserved d.reserved t'.reserved a.given_up b_reserved goes.reserves reserved;
         order = λ c works. a.order c (done.1 c works);
       }
 

@@ -19,6 +19,7 @@ use Rattle.schema_compiler.specs.Options.{given_parts}
 use Rattle.schema_compiler.specs.Compiling.{StandsBelow, member_causes, member_edges, object_edges, reference_asked}
 use Rattle.schema_compiler.specs.Refusing.{IsRefusal, Refused}
 use Rattle.schema_compiler.specs.Filling.{IsPlanned, IsTable}
+use Rattle.schema_compiler.specs.Reserving.{Reserved}
 use Rattle.schema_compiler.specs.Steps.{IsAnswered, IsEdgeTo, IsNumbered, MakesPart, MakesParts, MakesPlan}
 use Rattle.schema_compiler.specs.declared.compiler.error.BuildError.{BuildError}
 use Rattle.schema_compiler.specs.declared.compiler.key.SchemaKey.{SchemaKey}
@@ -33,13 +34,14 @@ pub record Task (S K C : Type 0) : Type 0 where
   pub nested : ℕ
 
 -- the keys and the nodes so far; the number that the round began with, how many targets of references are open, and whether
--- an edge was made, since the innermost open number was begun, to one that is not settled
+-- an edge was made, since the innermost open number was begun, to one that is not settled; and the numbers that makers reserved
 pub record Table (S C : Type 0) : Type 0 where
   pub keys : List (Key S)
   pub nodes : List (NodeEntry C)
   pub round : ℕ
   pub depth : ℕ
   pub loose : Bool
+  pub reserved : List Reserved
 
 -- what is given, by the senses of resolver, table and keywords
 abbrev pub task : {R T S K C : Type 0} → (R → Resolver S) → (T → Text → Bool) → (T → Bool → Text → Members → Draft → Vocabularies → Bool → Script K) → (C → K) → Given R T → Task S K C
@@ -64,6 +66,7 @@ filled point c = record {
   round = c.progress.round;
   depth = c.progress.depth;
   loose = c.progress.reaches_unsettled;
+  reserved = c.reservations;
 }
 
 module _ {S K C : Type 0} (g : Task S K C) where

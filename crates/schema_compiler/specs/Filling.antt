@@ -1,6 +1,6 @@
 -- The table of keys and nodes while it is filled: what a number's node says of its key, and how the table grows.
 use Rattle.std.specs.List.{starts_with}
-use Rattle.std.specs.Prelude.{List, None, Option, Some, [], codes, if◌then◌else◌, length, option_map, slice_get, slice_set, ℕ, ◌++◌, ◌==◌, ◌∷◌, ◌≡◌, ◌<◌, ◌≤◌, ◌⊎◌}
+use Rattle.std.specs.Prelude.{List, None, Option, Some, [], codes, if◌then◌else◌, length, option_map, slice_get, slice_set, ℕ, ◌++◌, ◌==◌, ◌∷◌, ◌≡◌, ◌≤◌, ◌⊎◌}
 use Rattle.schema_reports.specs.Instance.{Text}
 use Rattle.schema_reports.specs.Parts.{Parts}
 use Rattle.schema_reports.specs.Plan.{Edge, Form, Key, Part, Plan, always, keyword, never, plan, reference, reference_edge, these, without_fragment, requested}
@@ -9,7 +9,7 @@ use Rattle.serde_json.specs.View.{view}
 use Rattle.schema_reports.specs.Units.{annotations_of}
 use Rattle.schema_reports.specs.Reach.{asked_edges}
 use Rattle.schema_reports.specs.Refusals.{Cause, causes}
-use Rattle.schema_reports.specs.Guarded.{NodeEdge, NodeForm, NodePart, NodePlan, form_edges, node_always, node_keyword, node_never, node_reference, node_these, Children}
+use Rattle.schema_reports.specs.Guarded.{NodeEdge, NodeForm, NodePart, NodePlan, node_always, node_keyword, node_never, node_reference, node_these, Children}
 use Rattle.schema_node.specs.NodeTable.{NodeEntry}
 use Rattle.schema_compiler.specs.Compiling.{Each, ReachedFrom, Settled}
 use Rattle.schema_compiler.specs.Refusing.{AreDistinct}

@@ -5,6 +5,8 @@ pub mod Referring
 pub mod Ordering
 pub mod Refusing
 pub mod Finding
+pub mod Reserving
+pub mod ReservedViews
 pub mod Filling
 pub mod Steps
 pub mod Options

@@ -10,6 +10,7 @@ use Rattle.schema_compiler.specs.Compiling.{Each, In, member_edges, object_edges
 use Rattle.schema_compiler.specs.Finding.{Course, Finds, GuardsByStanding, Visits, nests, standing_of}
 use Rattle.schema_compiler.specs.Carried.{Table, Task}
 use Rattle.schema_compiler.specs.Steps.{part_edges}
+use Rattle.schema_compiler.specs.Reserving.{Reserves}
 
 -- how far the finding of keys has come
 abbrev pub course_of : {S C : Type 0} → Table S C → Course S
@@ -50,6 +51,8 @@ module _ {S K C : Type 0} (g : Task S K C) (t t' : Table S C) where
     pub same_round : t'.round ≡ t.round
     pub same_depth : t'.depth ≡ t.depth
     pub looser : t.loose ≡ true → t'.loose ≡ true
+    -- what was reserved on the way is given up
+    pub reserves : Reserves t.reserved t'.reserved
 
   module _ (k : Key S) where
     -- the key has this number, as the target of an edge that nests or does not
@@ -60,6 +63,7 @@ module _ {S K C : Type 0} (g : Task S K C) (t t' : Table S C) where
       pub same_round : t'.round ≡ t.round
       pub same_depth : t'.depth ≡ t.depth
       pub same_loose : t'.loose ≡ t.loose
+      pub reserves : Reserves t.reserved t'.reserved
       pub within : i < length t'.nodes
 
     abbrev pub GoesTo : Bool → NodeEdge → Type 0

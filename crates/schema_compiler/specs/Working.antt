@@ -1,9 +1,10 @@
 -- How far the worklist is worked off: the numbers below one have their forms, each other one has its form or waits.
-use Rattle.std.specs.Prelude.{List, None, Option, Some, [], length, slice_get, ℕ, ◌<◌, ◌≡◌, ◌≤◌}
+use Rattle.std.specs.Prelude.{Some, [], length, slice_get, ℕ, ◌<◌, ◌≡◌, ◌≤◌}
 use Rattle.schema_reports.specs.Plan.{Key}
 use Rattle.schema_reports.specs.Reach.{Reached}
 use Rattle.schema_node.specs.NodeTable.{IsFilled, NodeEntry}
-use Rattle.schema_compiler.specs.Compiling.{StandsBelow}
+use Rattle.schema_compiler.specs.Compiling.{Each, StandsBelow}
+use Rattle.schema_compiler.specs.Reserving.{IsGivenUp}
 use Rattle.schema_compiler.specs.Refusing.{IsRefusal}
 use Rattle.schema_compiler.specs.Filling.{IsGrown}
 use Rattle.schema_compiler.specs.Finding.{Course, WorksOff, at_root}
@@ -21,6 +22,8 @@ module _ {S K C : Type 0} (g : Task S K C) (root : Key S) where
     -- each round so far began with a lower number
     pub rounds : (j r : ℕ) (n : NodeEntry C) → slice_get t.nodes j ≡ Some n → n.round ≡ Some r → r < i
     pub first : slice_get t.keys 0 ≡ Some root
+    -- no reservation is in force
+    pub given_up : Each IsGivenUp t.reserved
     -- what is still to come makes the whole
     pub order : (c : Course S) → WorksOff g.parts g.nested i (course_of t) c → WorksOff g.parts g.nested 0 (at_root root) c
 

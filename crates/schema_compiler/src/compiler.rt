@@ -23,6 +23,8 @@ ghost use Rattle.schema_compiler.specs.Carried.{Numbers, PlansNode, PlansObject,
 ghost use Rattle.schema_compiler.specs.Carried.{RefusesKey, RefusesMaker, RefusesMember, RefusesMembers};
 ghost use Rattle.schema_compiler.specs.Carried.{RefusesNode, RefusesObject, filled, task};
 ghost use Rattle.schema_compiler.specs.Carried.{keyword_absorbs, member_absorbs};
+ghost use Rattle.schema_compiler.specs.Compiling.{Each};
+ghost use Rattle.schema_compiler.specs.Reserving.{Ends, IsGivenUp, node_made};
 ghost use Rattle.schema_compiler.specs.UnderWay.{GoesChild, GoesMaker, GoesMember, GoesMembers, GoesNode};
 ghost use Rattle.schema_compiler.specs.UnderWay.{GoesObject, GoesRefer, GoesTo, IsUnderWay, Reaches};
 
@@ -35,6 +37,7 @@ use crate::compiler::given::{CompileOptions, Given};
 use crate::compiler::key::SchemaKey;
 use crate::compiler::keys::find;
 use crate::compiler::makers::keep_edge;
+use crate::compiler::reservations::ReservedNode;
 use crate::compiler::values::Reading;
 use crate::ref_::{ReferenceKind, reference_kind};
 use schema_node::context::keyword::Validate;
@@ -57,6 +60,7 @@ pub mod given;
 pub mod key;
 mod keys;
 mod makers;
+pub mod reservations;
 mod start;
 mod subschema;
 mod targets;
@@ -90,6 +94,7 @@ pub fn compile<R: Resolver, K: Validate, T: KeywordTable<K>>(
         options.now.formats (map string_bytes options.now.declared.items)
         matcher keywords draft base) K.shape options.now.node_limit nested_limit (key_of R.point root)
         (map (key_of R.point) m.keys) m.nodes) }
+    ensures reserved { IfOk result (λ m. Each IsGivenUp m.reservations) }
     ensures refused { IfErr result (λ e. (matcher : matching.Matcher)
         (keywords : words.Keywords K.Shape (K.Run × words.Answer)) (draft : Option drafts.Draft)
         (base : Option Text) → RefusesRoot (all_parts (R.resolving resolver.now)
@@ -478,10 +483,13 @@ impl<'p, R: Resolver, T> Given<'p, R, T> {
             (task R.resolving T.owned T.script K.shape self.now) (filled R.point compiled.old)
             (filled R.point compiled.new) (key_of R.point key.now) (members_view members.now.entries) own
             (string_bytes name.now) (option_map entry_view o)) }
+        ensures reserved { IfOk result (λ o. Ends (place_of key.now.place) (string_bytes name.now)
+            (node_made (option_map entry_view o)) compiled.old.reservations compiled.new.reservations) }
         ensures refused { IfErr result (RefusesMaker
             (task R.resolving T.owned T.script K.shape self.now) (filled R.point compiled.old)
             (key_of R.point key.now) (members_view members.now.entries) own (string_bytes name.now)) }
     {
+        let first = compiled.reservations.len();
         let mut maker = self.maker_of(key, members, own, name)?;
         let mut children = Vec::new(self.alloc);
         let mut reply = MakerReply::Begun;
@@ -495,12 +503,26 @@ impl<'p, R: Resolver, T> Given<'p, R, T> {
                     let edge = self.reference_edge(compiled, key, name, ReferenceKind::Ref, &text)?;
                     reply = keep_edge(&mut children, edge)?;
                 }
+                MakerStep::Pending(kind) => {
+                    reply = compiled.reservations.pending_reply(kind, &key.place);
+                }
+                MakerStep::Reserve(kind) => {
+                    reply = compiled.reservations.reserve(kind, &key.place, name)?;
+                }
                 MakerStep::Keyword(keyword, names) => {
                     absorb(absorbed, names)?;
+                    compiled
+                        .reservations
+                        .give_up(first, ReservedNode::OfItsKeyword);
                     let form = EntryForm::Keyword(keyword, children);
                     return Ok(Some(entry_named(name, priority, is_leaf, form)?));
                 }
-                MakerStep::Nothing => return Ok(None),
+                MakerStep::Nothing => {
+                    compiled
+                        .reservations
+                        .give_up(first, ReservedNode::OfNoEntry);
+                    return Ok(None);
+                }
                 MakerStep::Refuse(error) => return Err(BuildError::KeywordRefused(error)),
             }
         }

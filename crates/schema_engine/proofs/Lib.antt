@@ -9,3 +9,6 @@ pub mod PlainAnswers
 pub mod Reaches
 pub mod Pointing
 mod Nesting
+mod BuildsAgree
+mod OneTable
+mod FreeCalls

@@ -11,7 +11,6 @@ use Rattle.schema_reports.specs.Reach.{Reached, at_first, asked_by}
 use Rattle.schema_reports.specs.Refusals.{Cause, Aimed, the_root, referred_by, Stands, stands_at, is_required}
 use Rattle.schema_reports.specs.Guarded.{NodeForm, node_keyword, node_reference, NodePart, NodePlan, node_always, node_never, node_these, Nodes}
 use Rattle.schema_reports.specs.Numbered.{Numbers, SameForm, SameParts, SamePlan, StandsFor, AreNumbered}
-use Rattle.schema_node.specs.NodeTable.{NodeEntry}
 use Rattle.schema_engine.specs.Handed.{Options, parts_of}
 
 module _ {S K R R' : Type 0} (resolver : Resolver S) (table : Table K) (matcher matcher' : Matcher) (keywords : Keywords K R) (keywords' : Keywords K R') (options : Options) where

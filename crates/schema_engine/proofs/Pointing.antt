@@ -12,7 +12,7 @@ use Rattle.schema_reports.specs.Keywords.{Keywords}
 use Rattle.schema_reports.specs.Parts.{Parts}
 use Rattle.schema_reports.specs.Plan.{Key}
 use Rattle.schema_reports.specs.Cover.{Sense, iter_errors, validate}
-use Rattle.schema_reports.specs.Headline.{FirstShared, IsFailure, IsFirst, OneFailure}
+use Rattle.schema_reports.specs.Headline.{FirstShared, IsFailure, IsFirst}
 use Rattle.schema_reports.specs.ReportViews.{error_of}
 use Rattle.schema_reports.specs.declared.reports.ValidationError.{ValidationError}
 use Rattle.schema_reports.specs.ErrorsLead.{EachKeepsAbsorbing, EachLeads, MakesAbsorbing, PointsAt}

@@ -24,19 +24,19 @@ any_at p (y ∷ xs) (suc i) x e h =
     let rest = any_at p xs i x e h in
     let go : (b : Bool) → (b || list_any p xs) ≡ true = elim [ true ↦ refl | false ↦ rest ] in go (p y)
 
-get_at : {A : Type 0} (xs : List A) (i : ℕ) (d : A) → i < length xs → slice_get xs i ≡ Some (slice_index_or xs i d)
+pub get_at : {A : Type 0} (xs : List A) (i : ℕ) (d : A) → i < length xs → slice_get xs i ≡ Some (slice_index_or xs i d)
 get_at [] i d h = absurd (omega arith)
 get_at (x ∷ xs) zero d h = refl
 get_at (x ∷ xs) (suc i) d h = get_at xs i d (omega arith)
 
 module _ {S K R : Type 0} (w : Parts S K R) (law : (a b : S) → Decides (w.resolver.same_state a b) (a ≡ b)) where
   -- a key is the same as itself, and two that are the same are one
-  same_itself : (a : Key S) → same_key w a a ≡ true
+  pub same_itself : (a : Key S) → same_key w a a ≡ true
   same_itself a =
       both _ _ (both _ _ (both _ _ (both _ _ (both _ _ (both _ _ (schema_place_itself a.target.place) ((law a.target.state a.target.state).1 refl)) (draft_itself a.target.draft)) (vocabularies_itself a.target.vocabularies))
       ((bytes_eq-Decides a.location a.location).1 refl)) ((bytes_eq-Decides a.base a.base).1 refl)) (eq-eqb a.start a.start refl)
 
-  same_true : (a b : Key S) → same_key w a b ≡ true → a ≡ b
+  pub same_true : (a b : Key S) → same_key w a b ≡ true → a ≡ b
   same_true a b h =
       let h1 = and_parts _ _ h in
       let h2 = and_parts _ _ h1.0 in

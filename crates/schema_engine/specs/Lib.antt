@@ -10,3 +10,4 @@ pub mod ProgramOf
 pub mod Asked
 pub mod Called
 pub mod Nesting
+pub mod FreeCalls

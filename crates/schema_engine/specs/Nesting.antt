@@ -1,7 +1,7 @@
 -- The limit on how many targets of references are compiled one inside another changes no answer. Two validators that mean the
 -- plain meaning of one schema, as builds with any two limits give them, answer alike of every instance where no chain of
 -- references returns: the verdicts are equal, and so are the errors. Only where both calls give the failure of a match that stays
--- unfinished may each show it at a site of its own.
+-- unfinished may each show it at a site of its own. Nor does the limit change whether a schema builds, want of memory aside.
 use Rattle.std.specs.Prelude.{Bool, List, None, Option, Some, [], false, is_none, map, option_map, true, ◌≡◌, ◌⊎◌}
 use Rattle.serde_json.specs.Data.{Data}
 use Rattle.schema_reports.specs.Cover.{Decides, Sense, branch_at, iter_errors, validate}
@@ -15,8 +15,10 @@ use Rattle.schema_node.specs.declared.context.keyword.Validate.{Ghosts as Keywor
 use Rattle.schema_node.specs.declared.context.matcher.Matcher.{Ghosts as MatcherMembers}
 use Rattle.schema_node.specs.declared.context.resolver.Resolver.{Ghosts as ResolverMembers}
 use Rattle.schema_node.specs.declared.context.table.KeywordTable.{Ghosts as TableMembers}
+use Rattle.schema_compiler.specs.declared.compiler.error.BuildError.{BuildError}
+use Rattle.schema_compiler.specs.declared.compiler.error.BuildError.TheVariants.{OutOfMemory}
 use Rattle.schema_engine.specs.Asked.{DecidesInEverySense, ErrorsInEverySense, FirstInEverySense}
-use Rattle.schema_engine.specs.Called.{MeansPlainly, PlainlyOf}
+use Rattle.schema_engine.specs.Called.{MeansPlainly, PlainlyOf, SchemaBuilds, SchemaRefused}
 use Rattle.schema_engine.specs.Handed.{Handed, Options, handed}
 use Rattle.schema_engine.specs.Program.{Program}
 
@@ -87,3 +89,10 @@ module _ {A State S T C Maker Run K M : Type 0} (resolvers : ResolverMembers A S
   AllErrorsAgree = OfBoth (λ options schema p p'. (instance : Data) (es es' : List ValidationError)
       → ErrorsInEverySense keywords matchers p instance es → ErrorsInEverySense keywords matchers p' instance es'
       → PlainlyOf handed_to_both options schema instance (λ texts v. ErrorsAgree v texts es es'))
+
+  -- ---- two builds of one schema
+
+  -- where a build succeeds, whatever its limit on nested targets, another by the same options is refused for want of memory alone
+  abbrev pub BuildsAgree : Type 0
+  BuildsAgree = (options : Options) (schema : Data) (e : BuildError)
+      → SchemaBuilds handed_to_both options schema → SchemaRefused handed_to_both options schema e → e ≡ OutOfMemory

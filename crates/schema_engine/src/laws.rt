@@ -1,5 +1,9 @@
-//! What is proved of any two validators of one schema, for all parts: each function states one law, and does nothing.
-ghost use Rattle.schema_engine.specs.Nesting.{AllErrorsAgree, FirstErrorsAgree, VerdictsAgree};
+//! What is proved of any two builds, validators or calls of one schema, for all parts: each function states one law, and does
+//! nothing.
+ghost use Rattle.schema_engine.specs.FreeCalls.{NoneIffEmpty, OneErrorList, OneFirstError, OneSense, OneVerdict};
+ghost use Rattle.schema_engine.specs.FreeCalls.{TrueIffEmpty, TrueIffNone};
+ghost use Rattle.schema_engine.specs.Handed.{handed};
+ghost use Rattle.schema_engine.specs.Nesting.{AllErrorsAgree, BuildsAgree, FirstErrorsAgree, VerdictsAgree};
 
 use schema_node::context::keyword::Validate;
 use schema_node::context::matcher::Matcher;
@@ -19,4 +23,35 @@ pub fn limits_agree<S: Resolver, T: KeywordTable<K>, K: Validate, M: Matcher>()
         → FirstErrorsAgree S.Resolver T.KeywordTable K.Validate M.Matcher.own resolver table matcher }
     ensures errors { (resolver : S) (table : T) (matcher : M)
         → AllErrorsAgree S.Resolver T.KeywordTable K.Validate M.Matcher.own resolver table matcher }
+{}
+
+/// One limit on nested targets builds a schema exactly if any other does, want of memory aside. Neither what `build` and
+/// `build_nested` promise of a schema that builds nor what they promise of one that is refused names this limit; so where one
+/// build of a schema succeeded, another by the same options is refused for want of memory alone.
+pub fn builds_agree<S: Resolver, T: KeywordTable<K>, K: Validate, M: Matcher>()
+    ensures memory { (resolver : S) (table : T) (matcher : M)
+        → BuildsAgree S.Resolver T.KeywordTable K.Validate M.Matcher.own resolver table matcher }
+{}
+
+/// The calls `is_valid`, `validate` and `iter_errors` of one schema and one instance agree, also where chains of references
+/// return, though each compiles nodes of its own: any two validators that are compiled from one schema, by the same options and
+/// the same limit on nested targets, have one sense at every depth. So two verdicts are equal, and two first errors or two lists of
+/// errors agree as those of two validators do in `limits_agree`. And of two calls that both decide, one finds no error exactly if
+/// the other does: `is_valid` by answering true, `validate` none, and `iter_errors` the empty list. For the verdicts and for whether
+/// there is an error it does not matter whether texts of errors are spoken of.
+pub fn free_calls_agree<S: Resolver, T: KeywordTable<K>, K: Validate, M: Matcher>()
+    ensures sense { (resolver : S) (table : T) (matcher : M)
+        → OneSense (handed S.Resolver T.KeywordTable K.Validate M.Matcher.own resolver table matcher) }
+    ensures verdict { (resolver : S) (table : T) (matcher : M)
+        → OneVerdict (handed S.Resolver T.KeywordTable K.Validate M.Matcher.own resolver table matcher) }
+    ensures first { (resolver : S) (table : T) (matcher : M)
+        → OneFirstError (handed S.Resolver T.KeywordTable K.Validate M.Matcher.own resolver table matcher) }
+    ensures errors { (resolver : S) (table : T) (matcher : M)
+        → OneErrorList (handed S.Resolver T.KeywordTable K.Validate M.Matcher.own resolver table matcher) }
+    ensures true_none { (resolver : S) (table : T) (matcher : M)
+        → TrueIffNone (handed S.Resolver T.KeywordTable K.Validate M.Matcher.own resolver table matcher) }
+    ensures true_empty { (resolver : S) (table : T) (matcher : M)
+        → TrueIffEmpty (handed S.Resolver T.KeywordTable K.Validate M.Matcher.own resolver table matcher) }
+    ensures none_empty { (resolver : S) (table : T) (matcher : M)
+        → NoneIffEmpty (handed S.Resolver T.KeywordTable K.Validate M.Matcher.own resolver table matcher) }
 {}

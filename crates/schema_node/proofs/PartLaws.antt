@@ -6,7 +6,7 @@ use Rattle.serde_json.specs.Data.{Data, null, Members}
 use Rattle.serde_json.specs.Written.{members_have_float}
 use Rattle.schema_reports.specs.Instance.{Text, Place, subject_at, a_value}
 use Rattle.schema_reports.specs.Parts.{Parts}
-use Rattle.schema_reports.specs.Making.{compile, refer, Script, then_compile, then_refer, then_end, Made, a_keyword, nothing, refused, followed, Making}
+use Rattle.schema_reports.specs.Making.{compile, refer, Script, then_compile, then_refer, then_pending, then_reserve, then_end, Made, a_keyword, nothing, refused, followed, Making}
 use Rattle.schema_reports.specs.Numbered.{ValuesInside, IsBelow}
 use Rattle.schema_node.specs.ResolverViews.{IsInside}
 use Rattle.schema_node.specs.MakerViews.{IsStrictlyBelow, IsMade, MakesRightly}
@@ -33,6 +33,8 @@ module _ {K : Type 0} (absorbed : K → List Text) (is_whole : K → Bool) (obje
   asks_below (then_compile path s) h = All-cons IsBelow (compile path) _ (below_compile path h.0) (asks_below s h.1)
   asks_below (then_refer text s skipped) h = All-cons IsBelow (refer text) _ tt
       (either (λ m. All IsBelow m.requests) (is_self text) (followed is_self skipped) (followed is_self s) (asks_below skipped h.1) (asks_below s h.0))
+  asks_below (then_pending purpose free held) h = asks_below free h.1
+  asks_below (then_reserve purpose s) h = asks_below s h
   asks_below (then_end m) h = none IsBelow
 
   made_whole : (m : Made K) (k : K) (names : List Text) → IsMade absorbed is_whole object m → m ≡ a_keyword k names → members_have_float object ≡ false → is_whole k ≡ true
@@ -46,6 +48,8 @@ module _ {K : Type 0} (absorbed : K → List Text) (is_whole : K → Bool) (obje
   makes_whole (then_refer text s skipped) h k names e f =
       (either (λ m. m.ends ≡ a_keyword k names → is_whole k ≡ true) (is_self text) (followed is_self skipped) (followed is_self s)
       (λ q. makes_whole skipped h.1 k names q f) (λ q. makes_whole s h.0 k names q f)) e
+  makes_whole (then_pending purpose free held) h k names e f = makes_whole free h.1 k names e f
+  makes_whole (then_reserve purpose s) h k names e f = makes_whole s h k names e f
   makes_whole (then_end m) h k names e f = made_whole m k names h e f
 
   -- and hands on the names that it absorbs
@@ -59,4 +63,6 @@ module _ {K : Type 0} (absorbed : K → List Text) (is_whole : K → Bool) (obje
   makes_absorbed (then_refer text s skipped) h k names e =
       (either (λ m. m.ends ≡ a_keyword k names → names ≡ absorbed k) (is_self text) (followed is_self skipped) (followed is_self s)
       (λ q. makes_absorbed skipped h.1 k names q) (λ q. makes_absorbed s h.0 k names q)) e
+  makes_absorbed (then_pending purpose free held) h k names e = makes_absorbed free h.1 k names e
+  makes_absorbed (then_reserve purpose s) h k names e = makes_absorbed s h k names e
   makes_absorbed (then_end m) h k names e = made_absorbed m k names h e

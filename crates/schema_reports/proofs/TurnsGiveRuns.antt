@@ -1,5 +1,5 @@
 -- The laws of `begin` and of one turn make whole runs end rightly.
-use Rattle.std.proofs.Common.{arith, ◌≡◌, ℕ, zero, suc, ◌<◌, List, [], ◌∷◌, refl, sym, subst, ◌∙◌, ◌⊎◌, inl, inr}
+use Rattle.std.proofs.Common.{arith, ◌≡◌, ℕ, zero, suc, ◌<◌, List, [], refl, sym, subst, ◌∙◌, ◌⊎◌, inl, inr}
 use Rattle.std.specs.Prelude.{Bool, Option, Some}
 use Rattle.std.specs.List.{list_any}
 use Rattle.schema_reports.specs.Instance.{Subject, Text}

@@ -60,8 +60,9 @@ all_valid g = g.valid && list_all (λ a. a.valid) g.absorbed
 abbrev pub Answers : Type 0
 Answers = Question → Outcome
 
--- what a run marks: a child, or a number that its maker had reserved, each by the place of its request among those of
--- the maker. A reservation has a key of its own, so two reservations are two, also where they are for one purpose
+-- what a run marks: a child, by the place of its request among those of the maker, or a number that was pending or that the
+-- maker reserved, by its place among those that the maker got. Where nothing is pending each has a key of its own, so two
+-- places are two
 pub data Marked : Type 0 where
   a_child : ℕ → Marked
   a_reservation : ℕ → Marked

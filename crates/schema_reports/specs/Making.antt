@@ -17,11 +17,18 @@ pub data Made (K : Type 0) : Type 0 where
   nothing : Made K
   refused : OwnedError → Made K
 
+-- what a maker reserves a number for
+pub data Purpose : Type 0 where
+  for_properties for_items : Purpose
+
 -- what a maker does: it asks, and goes on in one way where it got a number, and in another where a reference was
--- skipped because it leads to the very object; then it ends
+-- skipped because it leads to the very object; it asks for the number that is pending for a purpose, and goes on in one way
+-- where there is none, and in another where it got it; it reserves one; then it ends
 pub data Script (K : Type 0) : Type 0 where
   then_compile : Place → Script K → Script K
   then_refer : Text → Script K → Script K → Script K
+  then_pending : Purpose → Script K → Script K → Script K
+  then_reserve : Purpose → Script K → Script K
   then_end : Made K → Script K
 
 -- a maker's requests in order, and how it ends
@@ -32,10 +39,13 @@ pub record Making (K : Type 0) : Type 0 where
 abbrev pub after_request : {K : Type 0} → Request → Making K → Making K
 after_request r m = record { requests = r ∷ m.requests; ends = m.ends }
 
--- what a maker asks for and how it ends; `is_self` says which references lead to the very object
+-- which subschemas and references a maker asks for and how it ends, where no number is pending; `is_self` says which
+-- references lead to the very object
 abbrev pub followed : {K : Type 0} → (Text → Bool) → Script K → Making K
 followed is_self (then_compile path s) = after_request (compile path) (followed is_self s)
 followed is_self (then_refer text s skipped) = after_request (refer text) (if is_self text then followed is_self skipped else followed is_self s)
+followed is_self (then_pending purpose free held) = followed is_self free
+followed is_self (then_reserve purpose s) = followed is_self s
 followed is_self (then_end m) = record { requests = []; ends = m }
 
 -- an entry of the table of built-in keywords

@@ -1,6 +1,6 @@
 -- What a keyword type states of its keywords, said of how a run begins and of one turn.
 use Rattle.std.specs.List.{list_any}
-use Rattle.std.specs.Prelude.{All, Bool, List, [], true, ℕ, ◌<◌, ◌↔◌, ◌∷◌, ◌≡◌, ◌⊎◌}
+use Rattle.std.specs.Prelude.{All, Bool, List, [], true, ℕ, ◌<◌, ◌↔◌, ◌≡◌, ◌⊎◌}
 use Rattle.schema_reports.specs.Instance.{Subject, Text}
 use Rattle.schema_reports.specs.Reports.{Unit_, report_of}
 use Rattle.schema_reports.specs.Matching.{Matching}

@@ -9,7 +9,7 @@ ghost use Rattle.schema_reports.specs.ReportViews.{error_of};
 ghost use Rattle.schema_engine.specs.Handed.{Options};
 ghost use Rattle.schema_engine.specs.Program.{FromSomeDepth, OfEverySense};
 ghost use Rattle.bench_parts.specs.BenchMatching.{bench_matcher};
-ghost use Rattle.bench_parts.specs.BenchStates.{Point};
+ghost use Rattle.bench_resolver.specs.BenchStates.{Point};
 ghost use Rattle.bench_keywords.specs.BenchShape.{BenchShape, is_whole};
 ghost use Rattle.engine_bench.specs.ProgramAnswers.{Answers};
 ghost use Rattle.engine_bench.specs.ProgramMeaning.{AnswersPlainly, BenchMeans};

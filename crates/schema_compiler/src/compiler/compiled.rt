@@ -14,6 +14,7 @@ use crate::compiler::error::BuildError;
 use crate::compiler::given::Given;
 use crate::compiler::key::SchemaKey;
 use crate::compiler::keys::Keys;
+use crate::compiler::reservations::Reservations;
 use schema_node::context::keyword::Validate;
 use schema_node::context::resolver::Resolver;
 use schema_node::context::table::KeywordTable;
@@ -33,12 +34,15 @@ pub struct Progress {
     pub reaches_unsettled: bool,
 }
 
-/// The result of a compilation: the keys that were reached, and at the same numbers their nodes; and how far it has come.
+/// The result of a compilation: the keys that were reached, and at the same numbers their nodes; how far it has come; and the
+/// numbers that makers reserved.
 #[derive(Drop)]
 pub struct Compiled<S: Hash, K> {
     pub keys: Keys<S>,
     pub nodes: Nodes<K>,
     pub progress: Progress,
+    /// The numbers that makers reserved.
+    pub reservations: Reservations,
 }
 
 /// What a key's node asks of an instance, and the members that no keyword is made of, as an object.
@@ -94,11 +98,13 @@ impl<S: Hash + Drop, K: Validate> Compiled<S, K> {
         ensures round { result.progress.round ≡ 0 }
         ensures depth { result.progress.depth ≡ 0 }
         ensures settled { result.progress.reaches_unsettled ≡ false }
+        ensures unreserved { result.reservations ≡ [] }
     {
         Compiled {
             keys: Keys::new(alloc),
             nodes: Nodes::new(alloc),
             progress: Progress::at_round(0),
+            reservations: Reservations::new(alloc),
         }
     }
 
@@ -110,6 +116,7 @@ impl<S: Hash + Drop, K: Validate> Compiled<S, K> {
         ensures path { result.path ≡ path }
         ensures keys { self.new.keys ≡ self.old.keys }
         ensures nodes { self.new.nodes ≡ self.old.nodes }
+        ensures reserved { self.new.reservations ≡ self.old.reservations }
         ensures passes { PassesTo self.old.nodes number self.old.progress self.new.progress result.guarded }
     {
         let node = SchemaNode(number);
@@ -178,6 +185,7 @@ impl<'p, R: Resolver, T> Given<'p, R, T> {
             map (key_of R.point) compiled.old.keys ++ key_of R.point key.now.value ∷ []) }
         ensures nodes { OnOk result (Numbered compiled.old.nodes round compiled.new.nodes) }
         ensures progress { OnOk result (compiled.new.progress ≡ compiled.old.progress) }
+        ensures reserved { OnOk result (compiled.new.reservations ≡ compiled.old.reservations) }
         ensures number { IfOk result (λ n. n.0 ≡ length compiled.old.nodes) }
         ensures memory { IfErr result (λ e. e ≡ build.OutOfMemory) }
     {
@@ -206,6 +214,7 @@ impl<'p, R: Resolver, T> Given<'p, R, T> {
             map (key_of R.point) compiled.old.keys ++ key_of R.point key.now.value ∷ []) }
         ensures nodes { OnOk result (Numbered compiled.old.nodes round compiled.new.nodes) }
         ensures progress { OnOk result (compiled.new.progress ≡ compiled.old.progress) }
+        ensures reserved { OnOk result (compiled.new.reservations ≡ compiled.old.reservations) }
         ensures number { IfOk result (λ n. n.0 ≡ length compiled.old.nodes) }
         ensures refused { IfErr result
             (RefusesKey (task R.resolving T.owned T.script K.shape self.now)
@@ -245,6 +254,7 @@ impl<'p, R: Resolver, T> Given<'p, R, T> {
         ensures depth { OnOk result (compiled.new.progress.depth ≡
             (if nests then suc compiled.old.progress.depth else compiled.old.progress.depth)) }
         ensures settled { OnOk result (compiled.new.progress.reaches_unsettled ≡ false) }
+        ensures reserved { OnOk result (compiled.new.reservations ≡ compiled.old.reservations) }
         ensures number { IfOk result (λ n. n.0 ≡ length compiled.old.nodes) }
         ensures refused { IfErr result
             (RefusesKey (task R.resolving T.owned T.script K.shape self.now)

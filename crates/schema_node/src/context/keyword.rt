@@ -33,8 +33,8 @@ pub enum Below<'s> {
     NameOf(&'s str),
 }
 
-/// What a run marks: a child, or a number that the maker had reserved, each by the number of the maker's request. Two
-/// reservations are two, also where they are for one purpose.
+/// What a run marks: a child, by the number of the maker's request, or a number that was pending or that the maker reserved,
+/// by its place among those that the maker got. Two places are two, whichever numbers stand there.
 #[derive(Clone, Copy)]
 pub enum Marked {
     Child(usize),

@@ -10,6 +10,7 @@ ghost use Rattle.schema_node.specs.MakerViews.{Waiting, begun, is_own, name_of, 
 
 use crate::context::keyword::Validate;
 use crate::context::schema_place::SchemaPath;
+use crate::node::PendingSchemaNode;
 use schema_reports::keywords::{Draft, VocabularySet};
 use schema_reports::location::OutOfMemory;
 use schema_reports::reports::OwnedError;
@@ -23,13 +24,23 @@ pub enum KeywordOrigin<'s> {
     Builtin(&'s str),
 }
 
+/// What a maker reserves a number for.
+#[derive(Clone, Copy, PartialEq, Eq)]
+pub enum PendingKind {
+    Properties,
+    Items,
+}
+
 /// What the next turn of a maker is told: nothing at first; the number of its request, by which its keyword asks the
-/// child; or that the reference leads to the very object and is skipped.
+/// child; that the reference leads to the very object and is skipped; the number that is pending, if one is; or the number
+/// that was reserved. Of requests, subschemas and references alone are counted.
 #[derive(Clone, Copy)]
 pub enum MakerReply {
     Begun,
     Child(usize),
     Skipped,
+    Pending(Option<PendingSchemaNode>),
+    Reserved(PendingSchemaNode),
 }
 
 /// What a maker asks for, or how it ends: with a keyword and the names of those that it absorbs, with nothing, or with a
@@ -40,12 +51,18 @@ pub enum MakerStep<K> {
     Compile(SchemaPath),
     /// The text is compiled as a reference at the keyword's location.
     Refer(String),
+    /// The number is told that was reserved last for this and the object, by a maker that has not ended.
+    Pending(PendingKind),
+    /// The next number is reserved, until the maker ends: for a node of its keyword alone, or of no entry. Such a number is
+    /// only ever marked.
+    Reserve(PendingKind),
     Keyword(K, Vec<String>),
     Nothing,
     Refuse(OwnedError),
 }
 
-/// The table. What a maker does is a script, in which no node number occurs.
+/// The table. What a maker does is a script, in which no node number occurs. Whether a number is pending or none, a maker
+/// asks for the same subschemas and references, and ends alike.
 pub trait KeywordTable<K: Validate> {
     type Maker: Drop;
 

@@ -5,7 +5,7 @@ use Rattle.serde_json.specs.View.{view}
 use Rattle.schema_engine.specs.Handed.{default_nested, default_options, parts_of}
 use Rattle.schema_engine.specs.ProgramOf.{IsProgramOf}
 use Rattle.schema_engine.specs.Roots.{Builds, RefusesBuild}
-use Rattle.bench_parts.specs.BenchAnswers.{bench_resolving}
+use Rattle.bench_resolver.specs.BenchAnswers.{bench_resolving}
 use Rattle.bench_parts.specs.BenchMatching.{bench_matcher}
 use Rattle.engine_bench.specs.ProgramMeaning.{Asked, BenchMeans, bench_table}
 use Rattle.engine_bench.specs.ProgramViews.{texts}

@@ -1,11 +1,11 @@
-use Rattle.std.proofs.Common.{◌≡◌, [], ◌∷◌, ℕ, map, Some, ap, sym, ◌∙◌, subst, arith}
-use Rattle.std.specs.Prelude.{slice_get, string_bytes}
+use Rattle.std.proofs.Common.{map, ap, ◌∙◌}
+use Rattle.std.specs.Prelude.{string_bytes}
 use Rattle.std.proofs.lemmas.Result.{err_from_is_err_and}
 use Rattle.schema_compiler.specs.KeyViews.{key_of}
 use Rattle.schema_compiler.specs.Builtins.{builtin}
 use Rattle.schema_compiler.specs.Carried.{filled}
 use Rattle.schema_compiler.specs.declared.compiler.compiled.Progress.{Progress}
-use Rattle.schema_compiler.proofs.Compiled.{compiled, none_in_none, refuses_root, vocabulary_refuses}
+use Rattle.schema_compiler.proofs.Compiled.{compiled, refuses_root, vocabulary_refuses}
 use Rattle.schema_compiler.proofs.Working.{all_formed, all_found, at_first_number}
 use Rattle.schema_compiler.proofs.compiler.compile.Goals as goal
 
@@ -16,7 +16,8 @@ work_off-requires g c =
     let same = c.in_ok-number_within.ensures.progress in
     record {
       first = at_first_number _ (v c.in_ok-shared.shared.value) (filled g.R.Resolver.point c.number_within.new.compiled) n.0 c.in_ok-number_within.ensures.table (rw c.new-compiled.ensures.keys at c.in_ok-number_within.ensures.keys) n.1 n.2 n.3
-          (ap (λ (p : Progress). p.round) same ∙ c.new-compiled.ensures.round) (ap (λ (p : Progress). p.depth) same ∙ c.new-compiled.ensures.depth) (ap (λ (p : Progress). p.reaches_unsettled) same ∙ c.new-compiled.ensures.settled);
+          (ap (λ (p : Progress). p.round) same ∙ c.new-compiled.ensures.round) (ap (λ (p : Progress). p.depth) same ∙ c.new-compiled.ensures.depth) (ap (λ (p : Progress). p.reaches_unsettled) same ∙ c.new-compiled.ensures.settled)
+          (c.in_ok-number_within.ensures.reserved ∙ c.new-compiled.ensures.unreserved);
     }
 
 pub returns-clause-compiled : goal.returns-clause-compiled
@@ -29,6 +30,9 @@ returns-clause-compiled g c =
     λ matcher keywords draft base. compiled (g.R.Resolver.resolving c.args.resolver.now) (record { owns = g.T.KeywordTable.owned c.args.table.now; builtin = builtin; script = g.T.KeywordTable.script c.args.table.now })
     c.args.options.now.formats (map string_bytes c.args.options.now.declared.items) matcher keywords draft base g.K.Validate.shape new.keys new.nodes c.args.options.now.node_limit c.args.nested_limit (v c.args.root)
     at.table at.grown (all_formed _ (v c.args.root) new done.0 at done.1) at.first r.0 r.1 c.in_ok-check_declared.ensures.declared (all_found _ (v c.args.root) new done.0 at done.1) at.under_way.guards at.under_way.within
+
+pub returns-clause-reserved : goal.returns-clause-reserved
+returns-clause-reserved g c = c.in_ok-work_off.ensures.done.2.given_up
 
 pub returns-in_err-check_declared-clause-refused : goal.returns-in_err-check_declared-clause-refused
 returns-in_err-check_declared-clause-refused g c =

@@ -1,9 +1,7 @@
 use Rattle.std.proofs.Common.{[], sym, subst}
-use Rattle.std.specs.Prelude.{All}
 use Rattle.std.proofs.lemmas.List.Elements.{All-head}
 use Rattle.serde_json.specs.View.{view}
 use Rattle.schema_reports.specs.ReportViews.{BorrowsItsPlace}
-use Rattle.schema_node.specs.FaultViews.{errors_in}
 use Rattle.schema_engine.proofs.validator.Validator.first.Goals as goal
 
 pub returns-in-First-Some-clause-borrows : goal.returns-in-First-Some-clause-borrows

@@ -1,5 +1,5 @@
-use Rattle.std.proofs.Common.{Bool, Global, String, ℕ, suc, ◌<◌, length, ◌≡◌, ◌∷◌, [], ◌++◌, List, append_assoc, string_cmp, subst, map, refl, sym, ap, ap₂, ◌∙◌, arith, Some, None, rules, true, false, true≢false}
-use Rattle.std.specs.Prelude.{codes, not, slice_get, IfErr, IfOk, Option, string_bytes, option_map, unwrap_or}
+use Rattle.std.proofs.Common.{Bool, Global, String, ℕ, length, ◌≡◌, ◌∷◌, [], ◌++◌, List, append_assoc, string_cmp, subst, map, refl, sym, ap, ap₂, ◌∙◌, arith, Some, None, rules, true, false, true≢false}
+use Rattle.std.specs.Prelude.{codes, not, IfErr, IfOk, Option, string_bytes, option_map, unwrap_or}
 use Rattle.std.proofs.lemmas.List.{append-nil, length-map}
 use Rattle.std.proofs.lemmas.Result.{IfOk-weaker, err_from_is_err_and}
 use Rattle.std.proofs.lemmas.Grind.{common_steps}
@@ -11,18 +11,16 @@ use Rattle.serde_json.specs.View.{view, members_view}
 use Rattle.serde_json.proofs.Views.{Entry}
 use Rattle.schema_reports.specs.Instance.{Text}
 use Rattle.schema_reports.specs.Pointer.{pointer_to, joined}
-use Rattle.schema_reports.specs.Plan.{Edge, Part, Plan, making, is_recursive_ref, option_list, to_ref}
-use Rattle.schema_reports.specs.Reach.{asked_edges, at_first, maker_edges, reference_edges}
+use Rattle.schema_reports.specs.Plan.{Edge, Part, Plan, checks_formats, making, is_recursive_ref, option_list, to_ref}
+use Rattle.schema_reports.specs.Reach.{at_first, maker_edges, reference_edges}
 use Rattle.schema_reports.specs.Refusals.{Cause}
 use Rattle.schema_reports.specs.Units.{absorbed_by, absorbed_in, object_of, unknown, without}
-use Rattle.schema_reports.specs.Guarded.{NodeEdge, NodePart, NodePlan, form_edges, node_edges, node_these}
-use Rattle.schema_node.specs.NodeTable.{IsFilled, NodeEntry}
+use Rattle.schema_reports.specs.Guarded.{NodePart, NodePlan, form_edges, node_edges, node_these}
 use Rattle.schema_node.specs.MakerViews.{maker_reply_of}
 use Rattle.schema_node.specs.NodeViews.{edge_of, entry_of, plan_of}
 use Rattle.schema_compiler.specs.KeyViews.{key_of, kind_of}
 use Rattle.schema_compiler.specs.Carried.{filled, task}
-use Rattle.schema_compiler.specs.Compiling.{In, reference_asked}
-use Rattle.schema_compiler.proofs.Lists.{length-more}
+use Rattle.schema_compiler.specs.Compiling.{reference_asked}
 use Rattle.schema_compiler.specs.Refusing.{Refused}
 use Rattle.schema_compiler.specs.Steps.{MakesPart, MakesPlan, part_edges}
 use Rattle.schema_compiler.specs.UnderWay.{Goes, Reaches}
@@ -31,11 +29,14 @@ use Rattle.schema_compiler.specs.declared.compiler.compiled.Progress.{Progress}
 use Rattle.schema_reports.specs.Reach.{Reached}
 use Rattle.schema_compiler.proofs.Growing.{refusal_map, from_key, blames_key, grown_none, grown_map, step_none}
 use Rattle.schema_compiler.proofs.Tables.{finished_grown, finished_table, finishes, numbered_after, put_grown, put_number, reserved_after}
-use Rattle.schema_compiler.proofs.UnderWay.{goes_none, goes_to, may_be_filled, opened_way, reaches_found, reaches_opened, reaches_put}
+use Rattle.schema_compiler.proofs.UnderWay.{goes_none, goes_to, may_be_filled, reaches_found, reaches_opened, reaches_put}
+use Rattle.schema_compiler.specs.Reserving.{of_its_keyword, of_no_entry}
+use Rattle.schema_compiler.proofs.Reserving.{ends_held, ends_reserves, having}
+use Rattle.schema_compiler.proofs.ReservedTold.{pending_told, reserved_told}
 use Rattle.schema_compiler.proofs.References.{asked_refused, compile_clean, reference_clean, self_clean, asked_self, asked_edge, is_answered, is_skipped}
 use Rattle.schema_compiler.proofs.Entries.{all_entries, all_goes, all_steps, so_far_none, so_far_more, member_refused}
 use Rattle.schema_compiler.proofs.Forms.{boolean_goes, boolean_made, object_is, object_stands, other_refused}
-use Rattle.schema_compiler.proofs.Turns.{asked_begun, asked_compile, asked_refer, compile_refused, refer_refused, keyword_goes, made_keyword, made_nothing, nothing_goes, absorbed_keyword, absorbed_nothing}
+use Rattle.schema_compiler.proofs.Turns.{asked_begun, asked_compile, asked_pending, asked_refer, asked_reserve, asks_alike, compile_refused, fewer_refer, refer_refused, keyword_goes, made_keyword, made_nothing, nothing_goes, absorbed_keyword, absorbed_nothing}
 use Rattle.schema_compiler.proofs.MembersAsk.{own_is, reference_is, built_is, no_member, lone_is, lone_refused, members_are, members_refused, text_goes, alone_goes, text_refused, other_text_refused, reference_absorbs, reference_made, planned_alone}
 use Rattle.schema_compiler.proofs.Unknown.{made_known, kept_unknown, more_absorbed}
 use Rattle.schema_compiler.proofs.compiler.given.Given.+compile.Goals as goal
@@ -76,7 +77,7 @@ edge_to-returns-clause-order g t c =
     let s = task g.R.Resolver.resolving g.T.KeywordTable.owned g.T.KeywordTable.script g.K.Validate.shape c.args.self.now in
     let passes = c.edge_at.ensures.passes in
     goes_to s (filled g.R.Resolver.point c.args.compiled.now) (filled g.R.Resolver.point c.number_of.new.compiled) (filled g.R.Resolver.point c.edge_at.new.self) (v c.args.key) c.args.nests c.in_ok-number.number (edge_of c.edge_at.result) passes.entry
-    c.in_ok-number.ensures.order (ap (map v) c.edge_at.ensures.keys) c.edge_at.ensures.nodes passes.same_round passes.same_depth passes.loose passes.at c.edge_at.ensures.node passes.guard
+    c.in_ok-number.ensures.order c.edge_at.ensures.reserved (ap (map v) c.edge_at.ensures.keys) c.edge_at.ensures.nodes passes.same_round passes.same_depth passes.loose passes.at c.edge_at.ensures.node passes.guard
 
 pub number_of-returns-in-Some-clause-numbered : goal.number_of-returns-in-Some-clause-numbered
 number_of-returns-in-Some-clause-numbered g t c =
@@ -118,7 +119,7 @@ number_of-returns-then-is_full-clause-order g t c =
     let same = c.in_ok-number.ensures.progress in
     subst (λ (b : Bool). Reaches s old new (v c.args.key) b c.in_ok-number.number.0) (sym full.0)
     (reaches_put s old new (v c.args.key) c.in_ok-number.number.0 n.0 c.requires.under_way c.in_default.ensures.found full.1 c.requires.table.lengths added n.1 n.2 n.3
-    (ap (λ (p : Progress). p.round) same) (ap (λ (p : Progress). p.depth) same) (ap (λ (p : Progress). p.reaches_unsettled) same) c.in_ok-number.ensures.number)
+    (ap (λ (p : Progress). p.round) same) (ap (λ (p : Progress). p.depth) same) (ap (λ (p : Progress). p.reaches_unsettled) same) c.in_ok-number.ensures.reserved c.in_ok-number.ensures.number)
 
 pub compiled_number-returns-in_err-planned-clause-refused : goal.compiled_number-returns-in_err-planned-clause-refused
 compiled_number-returns-in_err-planned-clause-refused g t c =
@@ -174,9 +175,9 @@ compiled_number-returns-clause-order g t c =
     let n = c.in_ok-number.ensures.nodes in
     let b = filled g.R.Resolver.point c.begin_number.new.compiled in
     let d = filled g.R.Resolver.point c.planned_node.new.compiled in
-    let new : Table _ _ = record { keys = d.keys; nodes = c.fill.new.self; round = old.round; depth = old.depth; loose = old.loose } in
+    let new : Table _ _ = record { keys = d.keys; nodes = c.fill.new.self; round = old.round; depth = old.depth; loose = old.loose; reserved = d.reserved } in
     reaches_opened s old b d new (v c.args.key.now.value) c.args.nests c.in_ok-number.number.0 n.0 c.in_ok-planned.planned.annotations (plan_of c.in_ok-planned.planned.form)
-    c.requires.under_way c.requires.absent c.requires.room c.requires.table.lengths c.in_ok-number.ensures.keys n.1 n.2 n.3 c.in_ok-number.ensures.round c.in_ok-number.ensures.depth c.in_ok-number.ensures.settled c.in_ok-number.ensures.number
+    c.requires.under_way c.requires.absent c.requires.room c.requires.table.lengths c.in_ok-number.ensures.keys n.1 n.2 n.3 c.in_ok-number.ensures.round c.in_ok-number.ensures.depth c.in_ok-number.ensures.settled c.in_ok-number.ensures.reserved refl c.in_ok-number.ensures.number
     (rw c.deref.ensures at c.in_ok-planned.ensures.order) c.fill.ensures.filled refl refl refl refl
 
 pub keywords_of-loop-name-init : goal.keywords_of-loop-name-init
@@ -415,7 +416,9 @@ made_entry-loop-children-init g t c =
     let whole = members_view c.args.members.now.entries in
     let name = string_bytes c.args.name.now in
     let making = making s.parts k whole c.args.own name in
-    (rw c.new-children.ensures.items (asked_begun s.parts s.shape s.limit s.nested k name making _ (g.T.KeywordTable.waiting c.in_ok-maker.maker) old.keys old.nodes old refl c.in_ok-maker.ensures.begins c.requires.table c.requires.under_way), refl)
+    let script = g.T.KeywordTable.script c.args.self.now.table.now c.args.own name whole k.target.draft k.target.vocabularies (checks_formats s.parts k) in
+    let alike = asks_alike g.K.Validate.absorbed g.K.Validate.is_whole whole script (g.met.T.KeywordTable.right c.args.self.now.table.now c.args.own name whole k.target.draft k.target.vocabularies (checks_formats s.parts k)) in
+    (rw c.new-children.ensures.items (asked_begun s.parts s.shape s.limit s.nested k name making script (g.T.KeywordTable.waiting c.in_ok-maker.maker) old.keys old.nodes old refl alike c.in_ok-maker.ensures.begins c.requires.table c.requires.under_way), refl)
 
 pub made_entry-returns-in_err-edge-in-Compile-clause-refused : goal.made_entry-returns-in_err-edge-in-Compile-clause-refused
 made_entry-returns-in_err-edge-in-Compile-clause-refused g t c =
@@ -481,8 +484,17 @@ made_entry-returns-in_err-edge-in-Refer-clause-refused g t c =
     let p = err_from_is_err_and c.from_residual-in_err-edge-in-Refer.result c.from_residual-in_err-edge-in-Refer.ensures.1 in
     rw (p.1, p.2) (refer_refused s.parts s.shape s.limit s.nested k name making waiting waiting' told es old.keys keys' old.nodes nodes' c.in-Refer.text _ inv takes c.in_err-edge-in-Refer.ensures.refused)
 
-pub made_entry-loop-children-preserved : goal.made_entry-loop-children-preserved
-made_entry-loop-children-preserved g t c =
+pub made_entry-loop-children-smaller-in-Refer : goal.made_entry-loop-children-smaller-in-Refer
+made_entry-loop-children-smaller-in-Refer g t c =
+    let inv = c.loop-children.invariant.0 in
+    let waiting = g.T.KeywordTable.waiting c.loop-children.maker in
+    let waiting' = g.T.KeywordTable.waiting c.turn.new.maker in
+    let told = maker_reply_of c.loop-children.reply in
+    let takes = rw c.in-Refer.is at c.in_ok-path.ensures.takes in
+    fewer_refer g.K.Validate.shape waiting waiting' told _ _ c.in-Refer.text (option_map edge_of c.in_ok-edge-in-Refer.edge) _ inv.due takes c.in_ok-reply-in-Refer.ensures.told
+
+pub made_entry-loop-children-preserved-in-Refer : goal.made_entry-loop-children-preserved-in-Refer
+made_entry-loop-children-preserved-in-Refer g t c =
     let v = key_of g.R.Resolver.point in
     let s = task g.R.Resolver.resolving g.T.KeywordTable.owned g.T.KeywordTable.script g.K.Validate.shape c.args.self.now in
     let old = filled g.R.Resolver.point c.args.compiled.now in
@@ -504,6 +516,84 @@ made_entry-loop-children-preserved g t c =
           inv takes (sym (length-map c.loop-children.children.items (option_map edge_of))) c.in_ok-reply-in-Refer.ensures.told e.leads c.in_ok-edge-in-Refer.ensures.order e.step),
       c.loop-children.invariant.1,
     )
+
+pub made_entry-loop-children-preserved-in-Pending : goal.made_entry-loop-children-preserved-in-Pending
+made_entry-loop-children-preserved-in-Pending g t c =
+    let v = key_of g.R.Resolver.point in
+    let s = task g.R.Resolver.resolving g.T.KeywordTable.owned g.T.KeywordTable.script g.K.Validate.shape c.args.self.now in
+    let old = filled g.R.Resolver.point c.args.compiled.now in
+    let k = v c.args.key.now in
+    let whole = members_view c.args.members.now.entries in
+    let name = string_bytes c.args.name.now in
+    let making = making s.parts k whole c.args.own name in
+    let inv = c.loop-children.invariant.0 in
+    let waiting = g.T.KeywordTable.waiting c.loop-children.maker in
+    let waiting' = g.T.KeywordTable.waiting c.turn.new.maker in
+    let told = maker_reply_of c.loop-children.reply in
+    let es = map (option_map edge_of) c.loop-children.children.items in
+    let keys' = map v c.loop-children.compiled.keys in
+    let nodes' = c.loop-children.compiled.nodes in
+    let takes = rw c.in-Pending.is at c.in_ok-path.ensures.takes in (
+      asked_pending s.parts s.shape s.limit s.nested k name making waiting waiting' told _ es old.keys keys' old.nodes nodes' c.in-Pending.kind inv takes (pending_told _ _ _ _ c.pending_reply-reply.ensures.told),
+      c.loop-children.invariant.1,
+    )
+
+pub made_entry-loop-children-preserved : goal.made_entry-loop-children-preserved
+made_entry-loop-children-preserved g t c =
+    let v = key_of g.R.Resolver.point in
+    let s = task g.R.Resolver.resolving g.T.KeywordTable.owned g.T.KeywordTable.script g.K.Validate.shape c.args.self.now in
+    let old = filled g.R.Resolver.point c.args.compiled.now in
+    let k = v c.args.key.now in
+    let whole = members_view c.args.members.now.entries in
+    let name = string_bytes c.args.name.now in
+    let making = making s.parts k whole c.args.own name in
+    let inv = c.loop-children.invariant.0 in
+    let waiting = g.T.KeywordTable.waiting c.loop-children.maker in
+    let waiting' = g.T.KeywordTable.waiting c.turn.new.maker in
+    let told = maker_reply_of c.loop-children.reply in
+    let es = map (option_map edge_of) c.loop-children.children.items in
+    let keys' = map v c.loop-children.compiled.keys in
+    let nodes' = c.loop-children.compiled.nodes in
+    let takes = rw c.in-Reserve.is at c.in_ok-path.ensures.takes in (
+      asked_reserve s.parts s.shape s.limit s.nested k name making waiting waiting' told _ es old.keys keys' old.nodes nodes' c.in-Reserve.kind c.reserve.new.self _ inv takes (reserved_told _ _ c.in_ok-reply-in-Reserve.ensures.told) refl refl c.in_ok-reply-in-Reserve.ensures.reserved,
+      c.loop-children.invariant.1,
+    )
+
+pub made_entry-returns-in-Keyword-clause-reserved : goal.made_entry-returns-in-Keyword-clause-reserved
+made_entry-returns-in-Keyword-clause-reserved g t c =
+    let v = key_of g.R.Resolver.point in
+    let s = task g.R.Resolver.resolving g.T.KeywordTable.owned g.T.KeywordTable.script g.K.Validate.shape c.args.self.now in
+    let old = filled g.R.Resolver.point c.args.compiled.now in
+    let k = v c.args.key.now in
+    let whole = members_view c.args.members.now.entries in
+    let name = string_bytes c.args.name.now in
+    let making = making s.parts k whole c.args.own name in
+    let inv = c.loop-children.invariant.0 in
+    let waiting = g.T.KeywordTable.waiting c.loop-children.maker in
+    let waiting' = g.T.KeywordTable.waiting c.turn.new.maker in
+    let told = maker_reply_of c.loop-children.reply in
+    let es = map (option_map edge_of) c.loop-children.children.items in
+    let keys' = map v c.loop-children.compiled.keys in
+    let nodes' = c.loop-children.compiled.nodes in
+    ends_held k.target.place name of_its_keyword c.len-first.result old.reserved _ _ inv.holds c.len-first.ensures.count c.give_up.ensures.given_up
+
+pub made_entry-returns-in-Nothing-clause-reserved : goal.made_entry-returns-in-Nothing-clause-reserved
+made_entry-returns-in-Nothing-clause-reserved g t c =
+    let v = key_of g.R.Resolver.point in
+    let s = task g.R.Resolver.resolving g.T.KeywordTable.owned g.T.KeywordTable.script g.K.Validate.shape c.args.self.now in
+    let old = filled g.R.Resolver.point c.args.compiled.now in
+    let k = v c.args.key.now in
+    let whole = members_view c.args.members.now.entries in
+    let name = string_bytes c.args.name.now in
+    let making = making s.parts k whole c.args.own name in
+    let inv = c.loop-children.invariant.0 in
+    let waiting = g.T.KeywordTable.waiting c.loop-children.maker in
+    let waiting' = g.T.KeywordTable.waiting c.turn.new.maker in
+    let told = maker_reply_of c.loop-children.reply in
+    let es = map (option_map edge_of) c.loop-children.children.items in
+    let keys' = map v c.loop-children.compiled.keys in
+    let nodes' = c.loop-children.compiled.nodes in
+    ends_held k.target.place name of_no_entry c.len-first.result old.reserved _ _ inv.holds c.len-first.ensures.count c.give_up-in-Nothing.ensures.given_up
 
 pub made_entry-returns-in-Keyword-clause-part : goal.made_entry-returns-in-Keyword-clause-part
 made_entry-returns-in-Keyword-clause-part g t c =
@@ -896,7 +986,10 @@ made_entry-returns-in-Keyword-clause-order g t c =
     let keys' = map v c.loop-children.compiled.keys in
     let nodes' = c.loop-children.compiled.nodes in
     let takes = rw c.in-Keyword.is at c.in_ok-path.ensures.takes in
-    subst (λ (x : NodePart _). Goes s old (filled g.R.Resolver.point c.loop-children.compiled) (maker_edges s.parts k name making) (form_edges x.form)) (sym c.in_ok-entry_named-in-Keyword.ensures.entry) (keyword_goes s.parts s.shape s.limit s.nested k name making waiting waiting' told es old.keys keys' old.nodes nodes' c.in-Keyword.keyword c.in-Keyword.names inv takes)
+    let rs = c.give_up.new.self in
+    let ends = ends_held k.target.place name of_its_keyword c.len-first.result old.reserved _ rs inv.holds c.len-first.ensures.count c.give_up.ensures.given_up in
+    subst (λ (x : NodePart _). Goes s old (having (filled g.R.Resolver.point c.loop-children.compiled) rs) (maker_edges s.parts k name making) (form_edges x.form)) (sym c.in_ok-entry_named-in-Keyword.ensures.entry)
+    (keyword_goes s.parts s.shape s.limit s.nested k name making waiting waiting' told es old.keys keys' old.nodes nodes' c.in-Keyword.keyword c.in-Keyword.names inv takes rs (ends_reserves k.target.place name of_its_keyword old.reserved rs refl ends))
 
 pub made_entry-returns-in-Nothing-clause-order : goal.made_entry-returns-in-Nothing-clause-order
 made_entry-returns-in-Nothing-clause-order g t c =
@@ -915,7 +1008,9 @@ made_entry-returns-in-Nothing-clause-order g t c =
     let keys' = map v c.loop-children.compiled.keys in
     let nodes' = c.loop-children.compiled.nodes in
     let takes = rw c.in-Nothing.is at c.in_ok-path.ensures.takes in
-    nothing_goes s.parts s.shape s.limit s.nested k name making waiting waiting' told es old.keys keys' old.nodes nodes' inv takes
+    let rs = c.give_up-in-Nothing.new.self in
+    let ends = ends_held k.target.place name of_no_entry c.len-first.result old.reserved _ rs inv.holds c.len-first.ensures.count c.give_up-in-Nothing.ensures.given_up in
+    nothing_goes s.parts s.shape s.limit s.nested k name making waiting waiting' told es old.keys keys' old.nodes nodes' inv takes rs (ends_reserves k.target.place name of_no_entry old.reserved rs refl ends)
 
 pub planned_object-returns-in_ok-node_alone-in-Some-clause-order : goal.planned_object-returns-in_ok-node_alone-in-Some-clause-order
 planned_object-returns-in_ok-node_alone-in-Some-clause-order g t c =

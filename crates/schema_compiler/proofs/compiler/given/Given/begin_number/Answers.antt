@@ -1,6 +1,4 @@
-use Rattle.std.proofs.Common.{Bool, true, false, ℕ, suc, cond, ◌≡◌, ◌≤◌, ◌<◌, ap, refl, sym, ◌∙◌, arith}
 use Rattle.schema_compiler.specs.Carried.{filled, task}
-use Rattle.schema_compiler.specs.declared.compiler.compiled.Progress.{Progress}
 use Rattle.schema_compiler.proofs.UnderWay.{deeper, opened_way}
 use Rattle.schema_compiler.proofs.compiler.given.Given.begin_number.Goals as goal
 

@@ -1,5 +1,5 @@
-use Rattle.std.proofs.Common.{◌≡◌, ℕ, List, [], ◌∷◌, Some, length, map, refl, ap, sym, ◌∙◌, subst, arith}
-use Rattle.std.specs.Prelude.{not, option_map, slice_get}
+use Rattle.std.proofs.Common.{refl, ap, ◌∙◌}
+use Rattle.std.specs.Prelude.{not, option_map}
 use Rattle.std.proofs.lemmas.Option.{slice_get-map}
 use Rattle.std.proofs.lemmas.Result.{err_from_is_err_and}
 use Rattle.schema_reports.specs.Reach.{asked_edges}
@@ -22,7 +22,7 @@ pub planned_node-requires-clause-under_way : goal.planned_node-requires-clause-u
 planned_node-requires-clause-under_way g c =
     let s = task g.R.Resolver.resolving g.T.KeywordTable.owned g.T.KeywordTable.script g.K.Validate.shape c.args.self.now in
     let old = filled g.R.Resolver.point c.args.compiled.now in
-    let begun : Table _ _ = record { keys = old.keys; nodes = c.begin.new.self; round = c.at_round-compiled.result.round; depth = c.at_round-compiled.result.depth; loose = c.at_round-compiled.result.reaches_unsettled } in
+    let begun : Table _ _ = record { keys = old.keys; nodes = c.begin.new.self; round = c.at_round-compiled.result.round; depth = c.at_round-compiled.result.depth; loose = c.at_round-compiled.result.reaches_unsettled; reserved = old.reserved } in
     begun_way s old begun c.args.number (each_stands s (key_of g.R.Resolver.point c.args.root.now.value) old c.args.number c.requires.at) c.requires.at.under_way (λ j n q at is. c.requires.at.rounds j q n at is)
     c.requires.waits c.begin.ensures.begun c.at_round-compiled.ensures.round c.at_round-compiled.ensures.depth
 
@@ -39,7 +39,7 @@ pub fill-requires : goal.fill-requires
 fill-requires g c =
     let s = task g.R.Resolver.resolving g.T.KeywordTable.owned g.T.KeywordTable.script g.K.Validate.shape c.args.self.now in
     let old = filled g.R.Resolver.point c.args.compiled.now in
-    let begun : Table _ _ = record { keys = old.keys; nodes = c.begin.new.self; round = c.at_round-compiled.result.round; depth = c.at_round-compiled.result.depth; loose = c.at_round-compiled.result.reaches_unsettled } in
+    let begun : Table _ _ = record { keys = old.keys; nodes = c.begin.new.self; round = c.at_round-compiled.result.round; depth = c.at_round-compiled.result.depth; loose = c.at_round-compiled.result.reaches_unsettled; reserved = old.reserved } in
     let found = filled g.R.Resolver.point c.planned_node.new.compiled in
     record { ready = round_fills s (key_of g.R.Resolver.point c.args.root.now.value) old begun found c.args.number _ (plan_of c.in_ok-planned.planned.form) c.requires.waits c.begin.ensures.begun c.at_round-compiled.ensures.round c.in_ok-planned.ensures.order }
 
@@ -50,9 +50,9 @@ returns-clause-moved g c =
     let old = filled g.R.Resolver.point c.args.compiled.now in
     let root = v c.args.root.now.value in
     let k = v c.in_ok-key.key.value in
-    let begun : Table _ _ = record { keys = old.keys; nodes = c.begin.new.self; round = c.at_round-compiled.result.round; depth = c.at_round-compiled.result.depth; loose = c.at_round-compiled.result.reaches_unsettled } in
+    let begun : Table _ _ = record { keys = old.keys; nodes = c.begin.new.self; round = c.at_round-compiled.result.round; depth = c.at_round-compiled.result.depth; loose = c.at_round-compiled.result.reaches_unsettled; reserved = old.reserved } in
     let found = filled g.R.Resolver.point c.planned_node.new.compiled in
-    let new : Table _ _ = record { keys = found.keys; nodes = c.fill.new.self; round = found.round; depth = found.depth; loose = found.loose } in
+    let new : Table _ _ = record { keys = found.keys; nodes = c.fill.new.self; round = found.round; depth = found.depth; loose = found.loose; reserved = found.reserved } in
     let m = rw c.deref.ensures at c.in_ok-planned.ensures.planned in
     let o = rw c.deref.ensures at c.in_ok-planned.ensures.order in
     let p = plan_of c.in_ok-planned.planned.form in
@@ -60,7 +60,7 @@ returns-clause-moved g c =
     let settled = not found.loose in
     let at = slice_get-map v c.args.compiled.now.keys c.args.number ∙ ap (option_map v) c.in_ok-key.ensures.key in
     let at-found = key_stays s root begun found k c.args.number (ReachedFrom s.parts (asked_edges s.parts k)) at m.step.grown in
-    at_rounds_end s root old begun found new k c.args.number annotations p c.requires.at at c.requires.waits c.begin.ensures.begun refl c.at_round-compiled.ensures.round c.at_round-compiled.ensures.depth c.at_round-compiled.ensures.settled
+    at_rounds_end s root old begun found new k c.args.number annotations p c.requires.at at c.requires.waits c.begin.ensures.begun refl c.at_round-compiled.ensures.round c.at_round-compiled.ensures.depth c.at_round-compiled.ensures.settled refl refl
     o m.step.grown
     (finished_table s.parts s.shape s.limit found.keys found.nodes c.fill.new.self c.args.number k settled annotations p m.step.table at-found c.fill.ensures.filled (record { plans = m.plan; settled = m.step.settled; clean = m.step.clean }) m.annotated)
     c.fill.ensures.filled refl refl refl refl

@@ -1,6 +1,5 @@
 use Rattle.std.proofs.Common.{arith, sym, ◌∙◌}
-use Rattle.std.specs.List.{list_any}
-use Rattle.std.specs.Prelude.{[], bytes_eq, false, map, refl, string_bytes, true, ◌++◌, ◌∷◌, ◌≡◌}
+use Rattle.std.specs.Prelude.{map, string_bytes, true, ◌≡◌}
 use Rattle.schema_reports.specs.VocabularySets.{custom_of, placed_text}
 use Rattle.schema_reports.proofs.RisingTexts.{placed_rises}
 use Rattle.schema_reports.proofs.VocabularyLists.{custom_of-listed, flags, listed-placed, listed-raised}

@@ -1,9 +1,0 @@
-use Rattle.std.proofs.Common.{◌≡◌, ◌++◌, drop, map}
-use Rattle.std.specs.Prelude.{flat_map}
-use Rattle.bench_parts.specs.BenchResources.{names_at, names_in}
-use Rattle.bench_parts.specs.BenchNameViews.{name_of}
-use Rattle.bench_parts.specs.BenchViews.{visited_of}
-use Rattle.bench_parts.proofs.resolver.names.names_in.Given as goal
-
-abbrev pub invariant-loop-visited : goal.invariant-loop-visited
-invariant-loop-visited l = names_in (visited_of l.root) ≡ map name_of l.names.items ++ flat_map names_at (map visited_of (drop l.visited-index l.visited-items))

@@ -1,0 +1,16 @@
+pub mod PlaceLists
+pub mod Unescaping
+pub mod PathsNamed
+pub mod OnWay
+pub mod Indexes
+pub mod PointerTexts
+pub mod PointersLead
+pub mod Insides
+pub mod BenchRows
+pub mod Arrivals
+pub mod Fragments
+pub mod Numbers
+pub mod Resources
+pub mod Walks
+pub mod DocumentLists
+pub mod Starts

@@ -1,0 +1,60 @@
+-- What the resolver of some documents answers. (Core 2020-12, 8.2 and 9.1)
+use Rattle.std.specs.List.{list_any}
+use Rattle.std.specs.Prelude.{List, None, Option, Some, [], bytes_eq, map, slice_get, ℕ, ◌≡◌, ◌∷◌, string_bytes}
+use Rattle.schema_reports.specs.Instance.{Text}
+use Rattle.schema_reports.specs.Drafts.{Draft, Vocabularies, at_path}
+use Rattle.schema_reports.specs.Resolving.{Entrance, Resolver}
+use Rattle.schema_node.specs.declared.context.resolver.LookupError.{LookupError}
+use Rattle.schema_node.specs.declared.context.resolver.LookupError.TheVariants.{OutOfMemory, Refused}
+use Rattle.bench_resolver.specs.BenchResolving.{detected, identifier, known_keywords, root_draft, subschemas_of, without_fragment}
+use Rattle.bench_resolver.specs.BenchDocuments.{BenchDocument, Document, documents_of, value_in, vocabularies_in}
+use Rattle.bench_resolver.specs.BenchUris.{resolve_uri}
+use Rattle.bench_resolver.specs.BenchResources.{Resource, number_of, place_of_resource, resources_of}
+use Rattle.bench_resolver.specs.BenchStates.{Point, entered, root_of, same_point}
+use Rattle.bench_resolver.specs.BenchLookups.{looked_up, looked_up_recursive}
+
+-- where a run begins: with one resource entered
+abbrev pub entrance_in : ℕ → Resource → Entrance Point
+entrance_in n r = record { place = place_of_resource r; state = record { base = r.uri; entered = n ∷ [] } }
+
+abbrev pub entrance_at : List Resource → Option ℕ → Option (Entrance Point)
+entrance_at resources None = None
+entrance_at resources (Some n) = elim (slice_get resources n) [ None ↦ None | Some r ↦ Some (entrance_in n r) ]
+
+abbrev pub entrance : List Resource → Text → Option (Entrance Point)
+entrance resources uri = entrance_at resources (number_of (without_fragment uri) resources)
+
+-- a resolver of documents in a default draft, with the vocabularies of each draft
+abbrev pub resolving_of : Draft → (Draft → Vocabularies) → List Document → List Resource → Resolver Point
+resolving_of default_draft vocabularies documents resources = record {
+  same_state = same_point;
+  value = value_in documents;
+  root = entrance resources;
+  lookup = looked_up resources documents;
+  lookup_recursive = looked_up_recursive resources;
+  in_subresource = λ s d p. entered resources documents s d p (value_in documents p);
+  resolve_uri = λ s reference. resolve_uri s.base reference;
+  base_uri = λ s. s.base;
+  resource_root = root_of resources;
+  find_vocabularies = λ s d p. vocabularies d;
+  detect = detected;
+  draft_for = root_draft;
+  id = identifier;
+  subresources_of = λ d p. map (at_path p) (subschemas_of (value_in documents p));
+  is_known_keyword = λ d name. list_any (bytes_eq name) known_keywords;
+}
+
+abbrev pub table_of : BenchDocument → List Resource
+table_of r = resources_of r.default_draft (documents_of r)
+
+abbrev pub bench_resolving : BenchDocument → Resolver Point
+bench_resolving r = resolving_of r.default_draft (λ d. vocabularies_in d r.vocabularies) (documents_of r) (table_of r)
+
+-- the root's URI without a fragment
+abbrev pub base_of : BenchDocument → Text
+base_of r = without_fragment r.uri
+
+-- a refusal with this text, or want of memory
+abbrev pub RefusesWith : Text → LookupError → Type 0
+RefusesWith t (Refused text) = string_bytes text ≡ t
+RefusesWith t OutOfMemory = Unit {0}

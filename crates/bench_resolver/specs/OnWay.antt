@@ -1,0 +1,36 @@
+-- A subschema lies one or two steps below its schema: so these steps say whether a path leads to one, and no list of all
+-- subschemas is needed. (Core 2020-12, 8.2 and 9.2; RFC 6901)
+use Rattle.std.specs.Prelude.{Bool, List, None, Option, Some, false, flat_map, ℕ, ◌&&◌, ◌++◌, ◌+◌, ◌||◌}
+use Rattle.serde_json.specs.Data.{Data, Items, Members, array, item, member, no_items, no_members, object}
+use Rattle.serde_json.specs.Find.{get}
+use Rattle.schema_reports.specs.Instance.{Place, Step, same_step, to_item, to_member}
+use Rattle.bench_resolver.specs.BenchResolving.{below_list, below_object, below_value, is_schema, names_of_lists, names_of_objects, names_of_values}
+
+-- the subschemas that lie two steps below a schema, and those that lie one step below
+abbrev pub pairs_below : Data → List Place
+pairs_below d = flat_map (λ k. below_object k (get k d)) names_of_objects ++ flat_map (λ k. below_list k (get k d)) names_of_lists
+
+abbrev pub singles_below : Data → List Place
+singles_below d = flat_map (λ k. below_value k (get k d)) names_of_values
+
+-- whether a step leads to a schema among the members, and among the items, of which the first has the index i
+abbrev pub member_among : Step → Members → Bool
+member_among s no_members = false
+member_among s (member l d ms) = (is_schema d && same_step s (to_member l)) || member_among s ms
+
+abbrev pub item_among : Step → ℕ → Items → Bool
+item_among s i no_items = false
+item_among s i (item d ds) = (is_schema d && same_step s (to_item i)) || item_among s (i + 1) ds
+
+abbrev pub leads_to_member : Step → Data → Bool
+leads_to_member s (object ms) = member_among s ms
+leads_to_member s _ = false
+
+abbrev pub leads_to_item : Step → Data → Bool
+leads_to_item s (array ds) = item_among s 0 ds
+leads_to_item s _ = false
+
+-- whether a schema stands there
+abbrev pub schema_found : Option Data → Bool
+schema_found None = false
+schema_found (Some d) = is_schema d

@@ -1,0 +1,358 @@
+//! The resolver.
+ghost use Rattle.std.specs.Prelude.{◌≡◌, [], IfOk, IsSome, Some, map, string_bytes};
+ghost use Rattle.serde_json.specs.View.{view};
+ghost use Rattle.schema_reports.specs.Drafts.{draft_2020_12};
+ghost use Rattle.schema_reports.specs.KeywordViews.{draft_of};
+ghost use Rattle.bench_resolver.specs.BenchResolving.{document_uri, root_place};
+ghost use Rattle.bench_resolver.specs.BenchDocuments.{HasCustom, HasDrafts};
+ghost use Rattle.bench_resolver.specs.BenchAnswers.{base_of, bench_resolving};
+ghost use Rattle.bench_resolver.specs.BenchViews.{given_of};
+
+pub mod documents;
+pub mod drafts;
+pub mod identifiers;
+pub mod known;
+pub mod names;
+pub mod numbers;
+pub mod on_way;
+pub mod places;
+pub mod pointers;
+pub mod references;
+pub mod resources;
+pub mod rows;
+pub mod states;
+pub mod subschemas;
+pub mod uris;
+pub mod vocabularies;
+pub mod walk;
+
+use crate::resolver::documents::{Document, Documents};
+use crate::resolver::drafts::detected;
+use crate::resolver::identifiers::{identifier, without_fragment};
+use crate::resolver::known::is_known;
+use crate::resolver::places::{refusal, root_place, value_inside};
+use crate::resolver::references::{looked_up, looked_up_recursive};
+use crate::resolver::resources::{Resources, resources_of};
+use crate::resolver::states::entered;
+use crate::resolver::subschemas::subschemas;
+use crate::resolver::uris::resolve_uri;
+use crate::resolver::vocabularies::DraftVocabularies;
+use schema_node::context::resolver::{LookupError, Resolver, Target};
+use schema_node::context::schema_place::{SchemaPath, SchemaPlace};
+use schema_reports::keywords::{Draft, VocabularySet};
+use schema_reports::location::OutOfMemory;
+use serde_json::{Map, Value};
+use std::alloc::Global;
+use std::marker::Model;
+
+/// Where a run of the resolver is: in the resource under a base URI, after the resources that it entered, by their numbers.
+#[derive(Clone, PartialEq, Eq, Hash, Drop)]
+pub struct BenchState {
+    base: String,
+    entered: Vec<usize>,
+}
+
+/// A state apart from its representation; it holds no value.
+#[derive(Drop)]
+pub struct StatePoint {}
+
+impl Model for StatePoint {
+    ghost use Rattle.std.specs.Prelude.{[]};
+    ghost use Rattle.bench_resolver.specs.BenchStates.{Point};
+
+    ghost Value = { Point };
+
+    ghost view = { λ _. record { base = []; entered = [] } };
+}
+
+/// A resolver of some documents. It finds a resource by its URI, and in it what a pointer or a name leads to. Resources are the
+/// documents, and the subschemas that have an identifier of their own. References that are neither a fragment nor a URI with its
+/// scheme are refused.
+#[derive(Drop)]
+pub struct BenchResolver<'a> {
+    documents: Documents<'a>,
+    default_draft: Draft,
+    vocabularies: DraftVocabularies,
+    resources: Resources,
+}
+
+impl<'a> Model for BenchResolver<'a> {
+    ghost use Rattle.std.specs.Prelude.{◌≡◌, map, string_bytes};
+    ghost use Rattle.std.specs.Coded.{codes};
+    ghost use Rattle.serde_json.specs.contracts.value.Value as value;
+    ghost use Rattle.schema_reports.specs.KeywordViews.{draft_of};
+    ghost use Rattle.bench_resolver.specs.BenchDocuments.{BenchDocument};
+    ghost use Rattle.bench_resolver.specs.BenchResources.{resources_of};
+    ghost use Rattle.bench_resolver.specs.BenchViews.{given_of, held};
+
+    ghost Value = { BenchDocument };
+
+    ghost coded = { Prim.hlevel (codes, value.the_row.coded) };
+
+    ghost view = { λ r. record {
+      uri = string_bytes r.documents.uri;
+      document = r.documents.root.now;
+      others = map given_of r.documents.others.items;
+      default_draft = draft_of r.default_draft;
+      vocabularies = r.vocabularies;
+    } };
+
+    ghost invariant = { λ r. r.resources ≡ resources_of (draft_of r.default_draft) (held r.documents) };
+}
+
+impl<'a> BenchResolver<'a> {
+    /// A resolver of this document in the draft 2020-12. The document is found under its root's identifier without a fragment, or
+    /// under `json-schema:///`. The vocabularies are required ones: they are in force in every draft, beside the draft's own.
+    ///
+    /// # Errors
+    ///
+    /// Fails only if memory cannot be allocated.
+    pub fn new(
+        alloc: Global,
+        document: &'a Value,
+        vocabularies: VocabularySet,
+    ) -> Result<BenchResolver<'a>, OutOfMemory>
+        ensures document { IfOk result (λ r. r.document ≡ document.now) }
+        ensures uri { IfOk result (λ r. r.uri ≡ document_uri draft_2020_12 (view document.now)) }
+        ensures alone { IfOk result (λ r. r.others ≡ []) }
+        ensures draft { IfOk result (λ r. r.default_draft ≡ draft_2020_12) }
+        ensures drafts { IfOk result (λ r. HasDrafts vocabularies r.vocabularies) }
+        ensures custom { IfOk result (λ r. HasCustom vocabularies r.vocabularies) }
+        ensures root_value { IfOk result (λ r. (bench_resolving r).value root_place ≡ Some (view document.now)) }
+        ensures root { IfOk result (λ r. IsSome ((bench_resolving r).root (base_of r))) }
+    {
+        BenchResolver::with_draft(alloc, Draft::Draft202012, document, vocabularies)
+    }
+
+    /// The same in another default draft: the one that the document and the way to a target are read by, where no `$schema` says
+    /// otherwise. A build takes the root's draft from its own option, or else 2020-12.
+    ///
+    /// # Errors
+    ///
+    /// Fails only if memory cannot be allocated.
+    pub fn with_draft(
+        alloc: Global,
+        draft: Draft,
+        document: &'a Value,
+        vocabularies: VocabularySet,
+    ) -> Result<BenchResolver<'a>, OutOfMemory>
+        ensures document { IfOk result (λ r. r.document ≡ document.now) }
+        ensures uri { IfOk result (λ r. r.uri ≡ document_uri (draft_of draft) (view document.now)) }
+        ensures alone { IfOk result (λ r. r.others ≡ []) }
+        ensures draft { IfOk result (λ r. r.default_draft ≡ draft_of draft) }
+        ensures drafts { IfOk result (λ r. HasDrafts vocabularies r.vocabularies) }
+        ensures custom { IfOk result (λ r. HasCustom vocabularies r.vocabularies) }
+        ensures root_value { IfOk result (λ r. (bench_resolving r).value root_place ≡ Some (view document.now)) }
+        ensures root { IfOk result (λ r. IsSome ((bench_resolving r).root (base_of r))) }
+    {
+        let uri = match identifier(detected(draft, document), document) {
+            Some(uri) => String::from_str(alloc, without_fragment(uri))?,
+            None => String::from_str(alloc, "json-schema:///")?,
+        };
+        let root = Document {
+            uri,
+            value: document,
+        };
+        BenchResolver::with_documents(alloc, draft, root, Vec::new(alloc), vocabularies)
+    }
+
+    /// A resolver of several documents, each found under the URI that it is given with. The first is the root's.
+    ///
+    /// # Errors
+    ///
+    /// Fails only if memory cannot be allocated.
+    pub fn with_documents(
+        alloc: Global,
+        draft: Draft,
+        root: Document<'a>,
+        others: Vec<Document<'a>>,
+        vocabularies: VocabularySet,
+    ) -> Result<BenchResolver<'a>, OutOfMemory>
+        ensures document { IfOk result (λ r. r.document ≡ root.entry.value.now) }
+        ensures uri { IfOk result (λ r. r.uri ≡ string_bytes root.entry.uri) }
+        ensures others { IfOk result (λ r. r.others ≡ map given_of others.entry.items) }
+        ensures draft { IfOk result (λ r. r.default_draft ≡ draft_of draft) }
+        ensures drafts { IfOk result (λ r. HasDrafts vocabularies r.vocabularies) }
+        ensures custom { IfOk result (λ r. HasCustom vocabularies r.vocabularies) }
+        ensures root_value { IfOk result (λ r. (bench_resolving r).value root_place ≡ Some (view root.entry.value.now)) }
+        ensures root { IfOk result (λ r. IsSome ((bench_resolving r).root (base_of r))) }
+    {
+        let documents = Documents {
+            uri: root.uri,
+            root: root.value,
+            others,
+        };
+        let resources = resources_of(alloc, draft, &documents)?;
+        Ok(BenchResolver {
+            documents,
+            default_draft: draft,
+            vocabularies: DraftVocabularies::with_required(vocabularies)?,
+            resources,
+        })
+    }
+}
+
+impl<'a> Resolver for BenchResolver<'a> {
+    ghost use Rattle.bench_resolver.specs.BenchViews.{point_of as state_point};
+    ghost use Rattle.bench_resolver.specs.ResolverLaws.{cloned_points, same_points, values_stand_inside};
+
+    type State = BenchState;
+
+    type Point = StatePoint;
+
+    ghost point = { state_point };
+
+    ghost resolving = { bench_resolving };
+
+    fn contains_resource(&self, uri: &str) -> bool {
+        self.resources.under(without_fragment(uri)).is_some()
+    }
+
+    fn root(
+        &self,
+        alloc: Global,
+        uri: &str,
+    ) -> Result<Option<(BenchState, SchemaPlace)>, OutOfMemory> {
+        let Some(number) = self.resources.number_of(without_fragment(uri)) else {
+            return Ok(None);
+        };
+        let Some(resource) = self.resources.get(number) else {
+            return Ok(None);
+        };
+        let mut entered = Vec::new(alloc);
+        entered.push(number)?;
+        let state = BenchState {
+            base: resource.uri.clone()?,
+            entered,
+        };
+        Ok(Some((state, resource.place()?)))
+    }
+
+    fn value(&self, place: &SchemaPlace) -> Option<&Value> {
+        self.documents.value_at(place)
+    }
+
+    fn value_below<'v>(
+        &'v self,
+        members: &'v Map<String, Value>,
+        path: &SchemaPath,
+        place: &SchemaPlace,
+    ) -> Option<&'v Value> {
+        value_inside(&self.documents, members, path, place)
+    }
+
+    fn lookup(
+        &self,
+        alloc: Global,
+        state: &BenchState,
+        reference: &str,
+        dynamic: bool,
+    ) -> Result<Target<BenchState>, LookupError> {
+        let resources = &self.resources;
+        looked_up(alloc, &self.documents, resources, state, reference, dynamic)
+    }
+
+    fn lookup_recursive_ref(
+        &self,
+        alloc: Global,
+        state: &BenchState,
+    ) -> Result<Target<BenchState>, LookupError> {
+        looked_up_recursive(alloc, &self.resources, state)
+    }
+
+    fn in_subresource(
+        &self,
+        alloc: Global,
+        state: &BenchState,
+        draft: Draft,
+        place: &SchemaPlace,
+    ) -> Result<BenchState, LookupError> {
+        let value = self.documents.value_at(place);
+        self.in_subresource_read(alloc, state, draft, place, value)
+    }
+
+    fn in_subresource_read(
+        &self,
+        alloc: Global,
+        state: &BenchState,
+        draft: Draft,
+        place: &SchemaPlace,
+        value: Option<&Value>,
+    ) -> Result<BenchState, LookupError> {
+        let documents = &self.documents;
+        let resources = &self.resources;
+        entered(alloc, documents, resources, state, draft, place, value)
+    }
+
+    fn resolve_uri(
+        &self,
+        alloc: Global,
+        state: &BenchState,
+        reference: &str,
+    ) -> Result<String, LookupError> {
+        resolve_uri(alloc, state.base.as_str(), reference)
+    }
+
+    fn base_uri<'s>(&self, state: &'s BenchState) -> &'s str {
+        state.base.as_str()
+    }
+
+    fn resource_root(&self, alloc: Global, state: &BenchState) -> Result<SchemaPlace, OutOfMemory> {
+        match self.resources.under(state.base.as_str()) {
+            Some(resource) => resource.place(),
+            None => Ok(root_place(alloc)),
+        }
+    }
+
+    fn find_vocabularies(
+        &self,
+        _alloc: Global,
+        _state: &BenchState,
+        draft: Draft,
+        _place: &SchemaPlace,
+    ) -> Result<VocabularySet, OutOfMemory> {
+        self.vocabularies.in_draft(draft)
+    }
+
+    fn detect(&self, draft: Draft, value: &Value) -> Draft {
+        detected(draft, value)
+    }
+
+    fn draft_for(&self, alloc: Global, value: &Value) -> Result<Draft, LookupError> {
+        match detected(Draft::Draft202012, value) {
+            Draft::Unknown => {
+                let text = "this resolver does not know the draft of the schema";
+                Err(refusal(alloc, text, ""))
+            }
+            draft => Ok(draft),
+        }
+    }
+
+    fn id<'v>(&self, draft: Draft, value: &'v Value) -> Option<&'v str> {
+        identifier(draft, value)
+    }
+
+    fn subresources_of(
+        &self,
+        alloc: Global,
+        _draft: Draft,
+        place: &SchemaPlace,
+    ) -> Result<Vec<SchemaPlace>, OutOfMemory> {
+        match self.documents.value_at(place) {
+            Some(schema) => subschemas(alloc, place, schema),
+            None => Ok(Vec::new(alloc)),
+        }
+    }
+
+    fn is_known_keyword(&self, _draft: Draft, name: &str) -> bool {
+        is_known(name)
+    }
+
+    ghost same = { λ r a b. same_points a b };
+
+    ghost equal = { λ s t. same_points (state_point s) (state_point t) };
+
+    ghost cloned = { λ s t same. cloned_points s t same.0 same.1.0 };
+
+    ghost inside = { values_stand_inside };
+}

@@ -1,0 +1,159 @@
+//! Whether a path leads from a schema to one of its subschemas, by the steps of the path.
+ghost use Rattle.std.specs.Prelude.{◌≡◌, ◌∷◌, [], flat_map, option_map};
+ghost use Rattle.std.specs.List.{list_any};
+ghost use Rattle.serde_json.specs.Find.{get};
+ghost use Rattle.serde_json.specs.View.{view};
+ghost use Rattle.schema_reports.specs.Instance.{same_place, same_step, to_member};
+ghost use Rattle.schema_node.specs.SchemaViews.{schema_step_of};
+ghost use Rattle.bench_resolver.specs.BenchResolving.{below_list, below_object, below_value, names_of_lists, names_of_objects};
+ghost use Rattle.bench_resolver.specs.BenchLookups.{is_subschema};
+ghost use Rattle.bench_resolver.specs.OnWay.{leads_to_item, leads_to_member, pairs_below, schema_found, singles_below};
+
+use crate::resolver::subschemas::is_schema;
+use schema_node::context::schema_place::{SchemaPath, SchemaStep};
+use serde_json::Value;
+
+/// Whether a step leads to the member of this name.
+fn is_named(step: &SchemaStep, keyword: &str) -> bool
+    ensures named { result ≡ same_step (schema_step_of step.now) (to_member keyword.now) }
+{
+    match step {
+        SchemaStep::Member(name) => name.as_str() == keyword,
+        SchemaStep::Item(_) => false,
+    }
+}
+
+/// Whether there is a value and it is a schema.
+fn is_schema_there(value: Option<&Value>) -> bool
+    ensures there { result ≡ schema_found (option_map (λ v. view v.now) value.entry) }
+{
+    match value {
+        Some(value) => is_schema(value),
+        None => false,
+    }
+}
+
+/// Whether a step leads from an object to a member that is a schema.
+fn leads_to_member(value: &Value, step: &SchemaStep) -> bool
+    ensures leads { result ≡ leads_to_member (schema_step_of step.now) (view value.now) }
+{
+    let Some(members) = value.as_object() else {
+        return false;
+    };
+    // (the call says that the names stand in order, so that a name stands once)
+    let _count = members.len();
+    match step {
+        SchemaStep::Member(name) => is_schema_there(value.get(name.as_str())),
+        SchemaStep::Item(_) => false,
+    }
+}
+
+/// Whether a step leads from a list to an item that is a schema.
+fn leads_to_item(value: &Value, step: &SchemaStep) -> bool
+    ensures leads { result ≡ leads_to_item (schema_step_of step.now) (view value.now) }
+{
+    match step {
+        SchemaStep::Member(_) => false,
+        SchemaStep::Item(index) => is_schema_there(value.get(*index)),
+    }
+}
+
+/// Whether two steps lead to a schema in the object under this name.
+fn in_object(schema: &Value, keyword: &str, first: &SchemaStep, second: &SchemaStep) -> bool
+    ensures among { result ≡ list_any (same_place (schema_step_of first.now ∷ schema_step_of second.now ∷ []))
+        (below_object keyword.now (get keyword.now (view schema.now))) }
+{
+    if !is_named(first, keyword) {
+        return false;
+    }
+    match schema.get(keyword) {
+        Some(value) => leads_to_member(value, second),
+        None => false,
+    }
+}
+
+/// Whether two steps lead to a schema in the list under this name.
+fn in_list(schema: &Value, keyword: &str, first: &SchemaStep, second: &SchemaStep) -> bool
+    ensures among { result ≡ list_any (same_place (schema_step_of first.now ∷ schema_step_of second.now ∷ []))
+        (below_list keyword.now (get keyword.now (view schema.now))) }
+{
+    if !is_named(first, keyword) {
+        return false;
+    }
+    match schema.get(keyword) {
+        Some(value) => leads_to_item(value, second),
+        None => false,
+    }
+}
+
+/// Whether a step leads to the schema under this name.
+fn at_value(schema: &Value, keyword: &str, step: &SchemaStep) -> bool
+    ensures among { result ≡ list_any (same_place (schema_step_of step.now ∷ []))
+        (below_value keyword.now (get keyword.now (view schema.now))) }
+{
+    if !is_named(step, keyword) {
+        return false;
+    }
+    match schema.get(keyword) {
+        Some(value) => is_schema(value),
+        None => false,
+    }
+}
+
+/// Whether two steps lead to a schema in one of the objects.
+#[tactic(auto, using(crate::proofs::OnWay::three))]
+fn in_objects(schema: &Value, first: &SchemaStep, second: &SchemaStep) -> bool
+    ensures among { result ≡ list_any (same_place (schema_step_of first.now ∷ schema_step_of second.now ∷ []))
+        (flat_map (λ k. below_object k (get k (view schema.now))) names_of_objects) }
+{
+    in_object(schema, "$defs", first, second)
+        || in_object(schema, "definitions", first, second)
+        || in_object(schema, "properties", first, second)
+}
+
+/// Whether two steps lead to a schema in one of the lists.
+#[tactic(auto, using(crate::proofs::OnWay::four))]
+fn in_lists(schema: &Value, first: &SchemaStep, second: &SchemaStep) -> bool
+    ensures among { result ≡ list_any (same_place (schema_step_of first.now ∷ schema_step_of second.now ∷ []))
+        (flat_map (λ k. below_list k (get k (view schema.now))) names_of_lists) }
+{
+    in_list(schema, "allOf", first, second)
+        || in_list(schema, "anyOf", first, second)
+        || in_list(schema, "oneOf", first, second)
+        || in_list(schema, "prefixItems", first, second)
+}
+
+/// Whether two steps lead to a schema in one of the objects and lists.
+fn is_pair(schema: &Value, first: &SchemaStep, second: &SchemaStep) -> bool
+    ensures among { result ≡ list_any (same_place (schema_step_of first.now ∷ schema_step_of second.now ∷ []))
+        (pairs_below (view schema.now)) }
+{
+    in_objects(schema, first, second) || in_lists(schema, first, second)
+}
+
+/// Whether a step leads to one of the other schemas.
+#[tactic(auto, using(crate::proofs::OnWay::six))]
+fn is_single(schema: &Value, step: &SchemaStep) -> bool
+    ensures among { result ≡ list_any (same_place (schema_step_of step.now ∷ [])) (singles_below (view schema.now)) }
+{
+    at_value(schema, "not", step)
+        || at_value(schema, "if", step)
+        || at_value(schema, "then", step)
+        || at_value(schema, "else", step)
+        || at_value(schema, "items", step)
+        || at_value(schema, "propertyNames", step)
+}
+
+/// Whether a path leads from a schema to one of its subschemas.
+pub fn is_subschema(path: &SchemaPath, schema: &Value) -> bool
+    ensures subschema { result ≡ is_subschema path.now (view schema.now) }
+{
+    let steps = path.steps();
+    if steps.len() == 2 {
+        return is_pair(schema, &steps[0], &steps[1]);
+    }
+    if steps.len() == 1 {
+        return is_single(schema, &steps[0]);
+    }
+    false
+}

@@ -1,0 +1,352 @@
+//! Where references lead.
+ghost use Rattle.std.specs.Prelude.{◌≡◌, [], IfOk, MatchResult, Ok, option_and_then, option_map, slice_get};
+ghost use Rattle.serde_json.specs.View.{view};
+ghost use Rattle.schema_reports.specs.Parts.{Parts};
+ghost use Rattle.schema_node.specs.ResolverViews.{found_of, Refuses};
+ghost use Rattle.bench_resolver.specs.BenchAnswers.{RefusesWith};
+ghost use Rattle.bench_resolver.specs.BenchDocuments.{value_in};
+ghost use Rattle.bench_resolver.specs.BenchLookups.{arrived, dynamic_in, first_dynamic, first_recursive, looked_up, looked_up_recursive};
+ghost use Rattle.bench_resolver.specs.BenchLookups.{no_base, no_resource, nothing_there, recursive_in, target_by_fragment, target_by_name};
+ghost use Rattle.bench_resolver.specs.BenchLookups.{target_by_pointer, target_named, target_root};
+ghost use Rattle.bench_resolver.specs.BenchResources.{name_number, place_of_resource};
+ghost use Rattle.bench_resolver.specs.BenchStart.{StartsAtInnermost};
+ghost use Rattle.bench_resolver.specs.BenchStates.{Point};
+ghost use Rattle.bench_resolver.specs.BenchNameViews.{name_of};
+ghost use Rattle.bench_resolver.specs.BenchResourceViews.{resource_of};
+ghost use Rattle.bench_resolver.specs.BenchViews.{held, point_of};
+
+use crate::resolver::BenchState;
+use crate::resolver::documents::Documents;
+use crate::resolver::drafts::detected;
+use crate::resolver::identifiers::without_fragment;
+use crate::resolver::names::Name;
+use crate::resolver::on_way::is_subschema;
+use crate::resolver::places::{refusal, value_below};
+use crate::resolver::pointers::{decoded, path_of_pointer};
+use crate::resolver::resources::{Resource, Resources};
+use crate::resolver::states::{enter, entered_below};
+use crate::resolver::uris::{fragment_of, resolve_uri};
+use schema_node::context::resolver::{LookupError, Target};
+use schema_node::context::schema_place::{SchemaPath, SchemaPlace};
+use schema_reports::location::OutOfMemory;
+use serde_json::Value;
+use std::alloc::Global;
+
+/// The refusal of a reference that points to nothing.
+fn nothing_there(alloc: Global, reference: &str) -> LookupError
+    ensures refused { RefusesWith (nothing_there reference.now) result }
+{
+    let text = "nothing stands where this reference points: ";
+    refusal(alloc, text, reference)
+}
+
+/// The refusal of a reference to a resource that is not there.
+fn no_resource(alloc: Global, reference: &str) -> LookupError
+    ensures refused { RefusesWith (no_resource reference.now) result }
+{
+    let text = "this resolver has no resource for the reference ";
+    refusal(alloc, text, reference)
+}
+
+/// The target at the end of a path below a resource's root. Each subschema on the way that has an identifier is entered, and the
+/// draft is taken on each of them and on the target.
+fn arrived(
+    alloc: Global,
+    resources: &Resources,
+    reference: &str,
+    resource: &Resource,
+    root: &Value,
+    path: &SchemaPath,
+    state: BenchState,
+) -> Result<Target<BenchState>, LookupError>
+    ensures leads { let r = resource_of resource.now in
+        let schema = view root.now in
+        let leads = arrived resources.now reference.now r.document r.draft schema [] schema r.path (point_of state) path.now in
+        MatchResult result (λ t. leads ≡ Ok (found_of point_of t)) (Refuses leads) }
+{
+    let mut place = resource.place()?;
+    let mut state = state;
+    let mut draft = resource.draft;
+    let mut schema = root;
+    let mut since = SchemaPath::root(alloc);
+    let mut reached = root;
+    for step in path.steps() {
+        let Some(below) = value_below(reached, step) else {
+            return Err(nothing_there(alloc, reference));
+        };
+        since.push(step.clone()?)?;
+        place.path.push(step.clone()?)?;
+        reached = below;
+        if is_subschema(&since, schema) {
+            draft = detected(draft, below);
+            state = entered_below(alloc, resources, state, draft, &place, below)?;
+            schema = below;
+            since = SchemaPath::root(alloc);
+        }
+    }
+    Ok(Target {
+        place,
+        state,
+        draft: detected(draft, reached),
+    })
+}
+
+/// The target of a pointer below a resource's root.
+fn target_by_pointer(
+    alloc: Global,
+    documents: &Documents<'_>,
+    resources: &Resources,
+    reference: &str,
+    resource: &Resource,
+    state: BenchState,
+    pointer: &str,
+) -> Result<Target<BenchState>, LookupError>
+    ensures leads { let r = resource_of resource.now in let leads = target_by_pointer resources.now reference.now r (point_of state)
+        pointer.now (value_in (held documents.now) (place_of_resource r)) in
+        MatchResult result (λ t. leads ≡ Ok (found_of point_of t)) (Refuses leads) }
+{
+    let place = resource.place()?;
+    let Some(root) = documents.value_at(&place) else {
+        return Err(nothing_there(alloc, reference));
+    };
+    let pointer = decoded(alloc, pointer)?;
+    let Some(path) = path_of_pointer(alloc, pointer.as_str(), root)? else {
+        return Err(nothing_there(alloc, reference));
+    };
+    arrived(alloc, resources, reference, resource, root, &path, state)
+}
+
+/// The target that has a name.
+fn target_named(
+    alloc: Global,
+    number: usize,
+    resource: &Resource,
+    state: &BenchState,
+    name: &Name,
+) -> Result<Target<BenchState>, OutOfMemory>
+    ensures target { IfOk result (λ t. found_of point_of t
+        ≡ target_named number (resource_of resource.now) (point_of state.now) (name_of name.now)) }
+{
+    Ok(Target {
+        place: SchemaPlace {
+            document: resource.document,
+            path: name.path.clone()?,
+        },
+        state: enter(alloc, state, number, resource.uri.as_str())?,
+        draft: name.draft,
+    })
+}
+
+/// The target that has a dynamic name in the resource of a number.
+fn dynamic_in(
+    alloc: Global,
+    resources: &Resources,
+    state: &BenchState,
+    name: &str,
+    number: usize,
+) -> Result<Option<Target<BenchState>>, OutOfMemory>
+    ensures target { IfOk result (λ o. option_map (found_of point_of) o ≡ dynamic_in resources.now (point_of state.now) name.now number) }
+{
+    let Some(resource) = resources.get(number) else {
+        return Ok(None);
+    };
+    match resource.names.find_dynamic(name) {
+        Some(name) => Ok(Some(target_named(alloc, number, resource, state, name)?)),
+        None => Ok(None),
+    }
+}
+
+/// The target that has a dynamic name in the first resource that was entered and has it.
+fn first_dynamic(
+    alloc: Global,
+    resources: &Resources,
+    state: &BenchState,
+    name: &str,
+) -> Result<Option<Target<BenchState>>, OutOfMemory>
+    ensures target { IfOk result (λ o. option_map (found_of point_of) o
+        ≡ first_dynamic resources.now (point_of state.now) name.now (point_of state.now).entered) }
+{
+    for number in &state.entered {
+        if let Some(target) = dynamic_in(alloc, resources, state, name, *number)? {
+            return Ok(Some(target));
+        }
+    }
+    Ok(None)
+}
+
+/// The target of a name in a resource. A dynamic reference to a dynamic name leads to the first resource that was entered and has
+/// that dynamic name.
+fn target_by_name(
+    alloc: Global,
+    resources: &Resources,
+    reference: &str,
+    number: usize,
+    resource: &Resource,
+    state: &BenchState,
+    dynamic: bool,
+    text: &str,
+) -> Result<Target<BenchState>, LookupError>
+    ensures leads { let r = resource_of resource.now in let name = option_and_then (slice_get r.names) (name_number text.now r.names) in
+        let leads = target_by_name resources.now reference.now number r (point_of state.now) dynamic text.now name in
+        MatchResult result (λ t. leads ≡ Ok (found_of point_of t)) (Refuses leads) }
+{
+    let Some(name) = resource.names.find(text) else {
+        return Err(refusal(alloc, "nothing has the name of the reference ", reference));
+    };
+    if dynamic && name.is_dynamic {
+        if let Some(target) = first_dynamic(alloc, resources, state, text)? {
+            return Ok(target);
+        }
+    }
+    Ok(target_named(alloc, number, resource, state, name)?)
+}
+
+/// The target that is a resource's root.
+fn target_root(
+    alloc: Global,
+    number: usize,
+    resource: &Resource,
+    state: &BenchState,
+) -> Result<Target<BenchState>, OutOfMemory>
+    ensures target { IfOk result (λ t. found_of point_of t ≡ target_root number (resource_of resource.now) (point_of state.now)) }
+{
+    Ok(Target {
+        place: resource.place()?,
+        state: enter(alloc, state, number, resource.uri.as_str())?,
+        draft: resource.draft,
+    })
+}
+
+/// The target of a fragment in a resource: its root, by a pointer, or by a name.
+fn target_by_fragment(
+    alloc: Global,
+    documents: &Documents<'_>,
+    resources: &Resources,
+    reference: &str,
+    number: usize,
+    resource: &Resource,
+    state: &BenchState,
+    dynamic: bool,
+    fragment: &str,
+) -> Result<Target<BenchState>, LookupError>
+    ensures leads { let leads = target_by_fragment resources.now (held documents.now) reference.now number (resource_of resource.now)
+        (point_of state.now) dynamic fragment.now in MatchResult result (λ t. leads ≡ Ok (found_of point_of t)) (Refuses leads) }
+{
+    if fragment.is_empty() {
+        return Ok(target_root(alloc, number, resource, state)?);
+    }
+    if fragment.as_bytes()[0] == b'/' {
+        let inside = enter(alloc, state, number, resource.uri.as_str())?;
+        return target_by_pointer(
+            alloc, documents, resources, reference, resource, inside, fragment,
+        );
+    }
+    target_by_name(
+        alloc, resources, reference, number, resource, state, dynamic, fragment,
+    )
+}
+
+/// Where a reference leads: a place, the state there and its draft.
+///
+/// # Errors
+///
+/// A refusal, which names the reference, of one that cannot be resolved, that leads to no resource, or in it to nothing; one of a
+/// subschema on the way whose identifier no resource at its place has; and `OutOfMemory` if memory cannot be allocated.
+pub fn looked_up(
+    alloc: Global,
+    documents: &Documents<'_>,
+    resources: &Resources,
+    state: &BenchState,
+    reference: &str,
+    dynamic: bool,
+) -> Result<Target<BenchState>, LookupError>
+    ensures leads { let leads = looked_up resources.now (held documents.now) (point_of state.now) reference.now dynamic in
+        MatchResult result (λ t. leads ≡ Ok (found_of point_of t)) (Refuses leads) }
+{
+    let uri = resolve_uri(alloc, state.base.as_str(), reference)?;
+    let Some(number) = resources.number_of(without_fragment(uri.as_str())) else {
+        return Err(no_resource(alloc, reference));
+    };
+    let Some(resource) = resources.get(number) else {
+        return Err(no_resource(alloc, reference));
+    };
+    let fragment = fragment_of(uri.as_str());
+    target_by_fragment(
+        alloc, documents, resources, reference, number, resource, state, dynamic, fragment,
+    )
+}
+
+/// The root of the resource of a number, where it is recursive.
+fn recursive_in(
+    alloc: Global,
+    resources: &Resources,
+    state: &BenchState,
+    number: usize,
+) -> Result<Option<Target<BenchState>>, OutOfMemory>
+    ensures target { IfOk result (λ o. option_map (found_of point_of) o ≡ recursive_in resources.now (point_of state.now) number) }
+{
+    match resources.get(number) {
+        Some(resource) if resource.is_recursive => {
+            Ok(Some(target_root(alloc, number, resource, state)?))
+        }
+        _ => Ok(None),
+    }
+}
+
+/// The root of the first resource that was entered and is recursive.
+fn first_recursive(
+    alloc: Global,
+    resources: &Resources,
+    state: &BenchState,
+) -> Result<Option<Target<BenchState>>, OutOfMemory>
+    ensures target { IfOk result (λ o. option_map (found_of point_of) o
+        ≡ first_recursive resources.now (point_of state.now) (point_of state.now).entered) }
+{
+    for number in &state.entered {
+        if let Some(target) = recursive_in(alloc, resources, state, *number)? {
+            return Ok(Some(target));
+        }
+    }
+    Ok(None)
+}
+
+/// The refusal of a base that no resource has.
+fn no_base(alloc: Global, base: &str) -> LookupError
+    ensures refused { RefusesWith (no_base base.now) result }
+{
+    refusal(alloc, "this resolver has no resource under the base ", base)
+}
+
+/// Where a `$recursiveRef` leads: to the root of the resource, or, where that is recursive, to the first root entered that is.
+///
+/// # Errors
+///
+/// A refusal of a state whose base no resource has, and `OutOfMemory` if memory cannot be allocated.
+pub fn looked_up_recursive(
+    alloc: Global,
+    resources: &Resources,
+    state: &BenchState,
+) -> Result<Target<BenchState>, LookupError>
+    ensures leads { let leads = looked_up_recursive resources.now (point_of state.now) in
+        MatchResult result (λ t. leads ≡ Ok (found_of point_of t)) (Refuses leads) }
+{
+    let Some(number) = resources.number_of(state.base.as_str()) else {
+        return Err(no_base(alloc, state.base.as_str()));
+    };
+    let Some(resource) = resources.get(number) else {
+        return Err(no_base(alloc, state.base.as_str()));
+    };
+    if resource.is_recursive {
+        if let Some(target) = first_recursive(alloc, resources, state)? {
+            return Ok(target);
+        }
+    }
+    Ok(target_root(alloc, number, resource, state)?)
+}
+
+/// What lies outside the resource of a pointer's target is the pointer's part up to the innermost subschema with an identifier
+/// that the pointer passes into or ends at, counted from the root of the resource that the reference's URI names. The function does
+/// nothing when it runs.
+pub fn starts_at_the_innermost_resource<K, R>()
+    ensures starts { (w : Parts Point K R) → StartsAtInnermost w }
+{}

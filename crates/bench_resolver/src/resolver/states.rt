@@ -1,0 +1,160 @@
+//! Where a run of the resolver is.
+ghost use Rattle.std.specs.Prelude.{◌≡◌, IfOk, MatchResult, Ok, nat_eq, option_map};
+ghost use Rattle.std.specs.List.{list_any};
+ghost use Rattle.serde_json.specs.View.{view};
+ghost use Rattle.schema_reports.specs.KeywordViews.{draft_of};
+ghost use Rattle.schema_node.specs.ResolverViews.{Refuses, place_of};
+ghost use Rattle.bench_resolver.specs.BenchAnswers.{RefusesWith};
+ghost use Rattle.bench_resolver.specs.BenchStates.{enter, entered, entered_below, entered_by, entered_root, no_identified};
+ghost use Rattle.bench_resolver.specs.BenchViews.{held, point_of};
+
+use crate::resolver::BenchState;
+use crate::resolver::documents::Documents;
+use crate::resolver::identifiers::identifier;
+use crate::resolver::places::refusal;
+use crate::resolver::resources::Resources;
+use crate::resolver::uris::own_uri;
+use schema_node::context::resolver::LookupError;
+use schema_node::context::schema_place::SchemaPlace;
+use schema_reports::keywords::Draft;
+use schema_reports::location::OutOfMemory;
+use serde_json::Value;
+use std::alloc::Global;
+
+/// Whether a number is one of these.
+fn has_number(numbers: &[usize], number: usize) -> bool
+    ensures has { result ≡ list_any (nat_eq number) numbers.now }
+{
+    for other in numbers {
+        if number == *other {
+            return true;
+        }
+    }
+    false
+}
+
+/// The state in a resource: one that was not entered before is added at the end.
+///
+/// # Errors
+///
+/// Fails only if memory cannot be allocated.
+pub fn enter(
+    alloc: Global,
+    state: &BenchState,
+    number: usize,
+    uri: &str,
+) -> Result<BenchState, OutOfMemory>
+    ensures entered { IfOk result (λ s. point_of s ≡ enter number uri.now (point_of state.now)) }
+{
+    let mut entered = state.entered.clone()?;
+    if !has_number(&entered, number) {
+        entered.push(number)?;
+    }
+    Ok(BenchState {
+        base: String::from_str(alloc, uri)?,
+        entered,
+    })
+}
+
+/// The refusal of an identifier.
+fn no_identified(alloc: Global, id: &str) -> LookupError
+    ensures refused { RefusesWith (no_identified id.now) result }
+{
+    let text = "this resolver finds no resource of its own for the identifier ";
+    refusal(alloc, text, id)
+}
+
+/// The state in the resource with a URI, where it begins at a place with this identifier.
+fn entered_by(
+    alloc: Global,
+    resources: &Resources,
+    place: &SchemaPlace,
+    id: &str,
+    state: &BenchState,
+    uri: Option<&str>,
+) -> Result<BenchState, LookupError>
+    ensures entered { let entered = entered_by resources.now (place_of place.now) id.now (point_of state.now)
+        (option_map (λ t. t.now) uri.entry) in MatchResult result (λ s. entered ≡ Ok (point_of s)) (Refuses entered) }
+{
+    let Some(uri) = uri else {
+        return Err(no_identified(alloc, id));
+    };
+    match resources.number_at(place, uri) {
+        Some(number) => Ok(enter(alloc, state, number, uri)?),
+        None => Err(no_identified(alloc, id)),
+    }
+}
+
+/// The state inside a schema below a document's root.
+///
+/// # Errors
+///
+/// A refusal of an identifier that no resource at this place has, and `OutOfMemory` if memory cannot be allocated.
+pub fn entered_below(
+    alloc: Global,
+    resources: &Resources,
+    state: BenchState,
+    draft: Draft,
+    place: &SchemaPlace,
+    schema: &Value,
+) -> Result<BenchState, LookupError>
+    ensures entered { let entered = entered_below resources.now (point_of state) (draft_of draft) (place_of place.now) (view schema.now)
+        in MatchResult result (λ s. entered ≡ Ok (point_of s)) (Refuses entered) }
+{
+    match identifier(draft, schema) {
+        Some(id) => entered_by(alloc, resources, place, id, &state, own_uri(id)),
+        None => Ok(state),
+    }
+}
+
+/// The state inside a document's root.
+fn entered_root(
+    alloc: Global,
+    documents: &Documents<'_>,
+    resources: &Resources,
+    state: BenchState,
+    draft: Draft,
+    place: &SchemaPlace,
+    schema: &Value,
+) -> Result<BenchState, LookupError>
+    ensures entered { let entered = entered_root resources.now (held documents.now) (point_of state) (draft_of draft)
+        (place_of place.now) (view schema.now) in MatchResult result (λ s. entered ≡ Ok (point_of s)) (Refuses entered) }
+{
+    match identifier(draft, schema) {
+        Some(id) => {
+            let uri = documents.uri_of(place.document);
+            entered_by(alloc, resources, place, id, &state, uri)
+        }
+        None => Ok(state),
+    }
+}
+
+/// The state inside what stands at a place.
+///
+/// # Errors
+///
+/// A refusal of an identifier that no resource at this place has, and `OutOfMemory` if memory cannot be allocated.
+pub fn entered(
+    alloc: Global,
+    documents: &Documents<'_>,
+    resources: &Resources,
+    state: &BenchState,
+    draft: Draft,
+    place: &SchemaPlace,
+    value: Option<&Value>,
+) -> Result<BenchState, LookupError>
+    ensures entered { let entered = entered resources.now (held documents.now) (point_of state.now) (draft_of draft) (place_of place.now)
+        (option_map (λ v. view v.now) value.entry) in MatchResult result (λ s. entered ≡ Ok (point_of s)) (Refuses entered) }
+{
+    let state = state.clone()?;
+    match value {
+        None => Ok(state),
+        Some(schema) => {
+            if place.path.len() == 0 {
+                entered_root(alloc, documents, resources, state, draft, place, schema)
+            } else {
+                entered_below(alloc, resources, state, draft, place, schema)
+            }
+        }
+    }
+}

@@ -1,0 +1,50 @@
+-- What the laws name of `x-items` and `type`, and that they keep them.
+use Rattle.std.proofs.Common.{◌∙◌, ℕ, Bool, List, sym}
+use Rattle.schema_reports.specs.Instance.{Subject, Text}
+use Rattle.schema_reports.specs.Keywords.{Answer, Keywords}
+use Rattle.schema_reports.specs.Turns.{FunctionLaws, Standing, TurnLaws}
+use Rattle.schema_node.specs.UnitQuestions.{AsksNoUnits}
+use Rattle.keyword_ways.specs.OwnWays.{own_absorbed, own_can_be, own_ends, own_fits, own_function_laws, own_remaining, own_turn_laws, own_words, spoken_ways}
+use Rattle.keyword_ways.specs.Plans.{plan_ways, plans_present}
+use Rattle.keyword_ways.specs.Ways.{Way}
+use Rattle.keyword_ways.specs.WayUnits.{WantsNone, mode-kept, step_for_less}
+use Rattle.keyword_ways.specs.declared.run.Progress.{Progress}
+use Rattle.law_tests.specs.Items.{marks, name, planned, told, way_marks}
+use Rattle.law_tests.specs.Marking as marking
+use Rattle.law_tests.specs.declared.items.ItemsPlan.{ItemsPlan}
+
+abbrev pub ways : ItemsPlan → Subject → Way
+ways = plan_ways planned name told
+
+abbrev pub ItemsRun : Type 0
+ItemsRun = marking.Run marks (own_words ways)
+
+abbrev pub items_words : Bool → Keywords ItemsPlan ItemsRun
+items_words = marking.words marks (own_words ways)
+
+abbrev pub items_absorbed : ItemsPlan → List Text
+items_absorbed = own_absorbed ways
+
+abbrev pub items_remaining : ItemsPlan → Subject → ItemsRun → ℕ
+items_remaining = marking.remaining marks (own_words ways) items_absorbed (own_remaining ways) (own_can_be ways) (own_ends ways) (own_fits ways)
+
+abbrev pub items_can_be : Bool → ItemsPlan → Subject → ItemsRun → Type 0
+items_can_be = marking.can_be marks (own_words ways) items_absorbed (own_remaining ways) (own_can_be ways) (own_ends ways) (own_fits ways)
+
+abbrev pub items_ends : Bool → ItemsPlan → Standing ItemsRun → Answer
+items_ends = marking.ends marks (own_words ways) items_absorbed (own_remaining ways) (own_can_be ways) (own_ends ways) (own_fits ways)
+
+abbrev pub items_fits : Bool → ItemsPlan → Standing ItemsRun → Type 0
+items_fits = marking.fits marks (own_words ways) items_absorbed (own_remaining ways) (own_can_be ways) (own_ends ways) (own_fits ways)
+
+pub items_turns : (texts : Bool) (m : ItemsPlan) → TurnLaws (items_words texts) m (items_absorbed m) (items_remaining m) (items_can_be texts m) (items_ends texts m) (items_fits texts m)
+items_turns = marking.turns_keep marks (own_words ways) items_absorbed (own_remaining ways) (own_can_be ways) (own_ends ways) (own_fits ways) (own_turn_laws ways)
+    (λ texts m s r reply. way_marks (spoken_ways ways texts m s) r.0.mode r.0.stage reply)
+
+pub items_functions : (texts : Bool) (m : ItemsPlan) → FunctionLaws (items_words texts) m (items_absorbed m)
+items_functions = marking.functions_keep marks (own_words ways) items_absorbed (own_remaining ways) (own_can_be ways) (own_ends ways) (own_fits ways)
+    (own_function_laws ways (plans_present planned name told))
+
+pub items_units : (texts : Bool) → AsksNoUnits (items_words texts)
+items_units = marking.asks_no_units marks (own_words ways) (λ (r : Progress × Answer). WantsNone r.0.mode) (λ texts m s r reply h. h)
+    (λ texts m s r reply h. step_for_less (spoken_ways ways texts m s) r.0.mode r.0.stage reply h) (λ texts m s mode none e. none (sym (mode-kept mode) ∙ e))

@@ -1,0 +1,183 @@
+//! `x-items`, whose value is a schema that each item of an array is asked by, and `type` with the value "array". A run of `x-items`
+//! marks the number that its maker was given while it asks.
+ghost use Rattle.std.specs.Prelude.{◌≡◌, All, Bool, IfOk, true};
+ghost use Rattle.serde_json.specs.Data.{Data};
+ghost use Rattle.schema_reports.specs.InstanceViews.{subject_of};
+ghost use Rattle.schema_reports.specs.ReportViews.{BorrowsItsPlace};
+ghost use Rattle.schema_node.specs.FaultViews.{errors_in, faults_in, PassesBorrowed};
+ghost use Rattle.schema_node.specs.KeywordViews.{Tells, answer_of, reply_of, turn_of};
+ghost use Rattle.law_tests.specs.Items.{marks};
+ghost use Rattle.law_tests.specs.ItemsWords.{items_words, ways};
+ghost use Rattle.law_tests.specs.Marking.{shown, worked};
+ghost use Rattle.keyword_ways.specs.OwnWays.{own_words};
+
+use crate::marking::{Stage, after_step, first_stage};
+use keyword_ways::items::is_list;
+use keyword_ways::planned::{Asks, Plan, Planned, PlannedKeyword};
+use keyword_ways::run::Progress;
+use schema_node::context::keyword::{Answer, Marked, Mode, Reply, Step, Validate};
+use schema_node::node::PendingSchemaNode;
+use schema_reports::instance::Instance;
+use schema_reports::location::OutOfMemory;
+use std::alloc::Global;
+
+/// How a keyword goes about an instance.
+#[derive(Clone, Copy)]
+pub enum ItemsPlan {
+    /// `type` with the value "array".
+    ArrayType,
+    /// `x-items`, whose value is its only child.
+    EachItem,
+}
+
+impl PlannedKeyword for ItemsPlan {
+    ghost use Rattle.std.specs.Prelude.{true};
+    ghost use Rattle.law_tests.specs.Items.{name, planned, told};
+
+    type Shape = ItemsPlan;
+
+    ghost shape = { λ k. k };
+
+    ghost is_whole = { λ k. true };
+
+    ghost planned = { planned };
+
+    ghost named = { name };
+
+    ghost told = { told };
+
+    fn plan(&self, instance: Instance<'_>) -> Plan {
+        match self {
+            ItemsPlan::ArrayType => Plan::Tells(is_list(instance)),
+            ItemsPlan::EachItem => Plan::PassesOn(Asks::Items),
+        }
+    }
+
+    fn name(&self) -> &'static str {
+        match self {
+            ItemsPlan::ArrayType => "type",
+            ItemsPlan::EachItem => "x-items",
+        }
+    }
+
+    fn text(&self, alloc: Global, instance: Instance<'_>) -> Result<String, OutOfMemory> {
+        match self {
+            ItemsPlan::ArrayType => {
+                let mut text = instance.text(alloc)?;
+                text.push_str(" is not of type \"array\"")?;
+                Ok(text)
+            }
+            ItemsPlan::EachItem => Ok(String::new(alloc)),
+        }
+    }
+}
+
+/// A keyword, and the number that the maker of `x-items` was given.
+#[derive(Drop)]
+pub struct ItemsKeyword {
+    pub planned: Planned<ItemsPlan>,
+    pub number: Option<PendingSchemaNode>,
+}
+
+impl ItemsKeyword {
+    // Whether its runs mark.
+    fn marks(&self) -> bool
+        ensures marks { result ≡ marks self.now.planned.keyword }
+    {
+        match self.planned.keyword {
+            ItemsPlan::ArrayType => false,
+            ItemsPlan::EachItem => true,
+        }
+    }
+
+    // A turn while it works.
+    fn work<'s, 'i: 's>(
+        &'s self,
+        alloc: Global,
+        run: &mut (Stage, Progress),
+        instance: Instance<'i>,
+        reply: Reply<'i>,
+        answer: &mut Answer<'i>,
+    ) -> Result<Step<'s>, OutOfMemory>
+        ensures turns { IfOk result (λ _. (texts : Bool) → Tells texts true (subject_of instance.entry)
+            → worked marks (own_words ways) texts self.now.planned.keyword (subject_of instance.entry)
+            (run.old.1, answer_of texts answer.old) (reply_of texts reply.entry) ≡ (run.new, answer_of texts answer.new)) }
+        ensures steps { IfOk result (λ step. (texts : Bool) → Tells texts true (subject_of instance.entry)
+            → shown (marks self.now.planned.keyword) ((own_words ways texts).step self.now.planned.keyword
+            (subject_of instance.entry) (run.old.1, answer_of texts answer.old) (reply_of texts reply.entry)) ≡ turn_of step) }
+        ensures borrows { IfOk result (λ _. (root : Data) → All (BorrowsItsPlace root) (errors_in reply.entry)
+            → All (PassesBorrowed root) (faults_in answer.old) → All (PassesBorrowed root) (faults_in answer.new)) }
+    {
+        let step = self
+            .planned
+            .turn(alloc, &mut run.1, instance, reply, answer)?;
+        let after = after_step(step, self.marks());
+        run.0 = after.0;
+        Ok(after.1)
+    }
+}
+
+impl Validate for ItemsKeyword {
+    ghost use Rattle.std.specs.Prelude.{refl, true};
+    ghost use Rattle.law_tests.specs.ItemsWords.{items_absorbed, items_can_be, items_ends, items_fits, items_functions};
+    ghost use Rattle.law_tests.specs.ItemsWords.{items_remaining, items_turns, items_units, items_words};
+
+    type Run = (Stage, Progress);
+
+    type Shape = ItemsPlan;
+
+    ghost words = { items_words };
+
+    ghost shape = { λ k. k.planned.keyword };
+
+    ghost absorbed = { items_absorbed };
+
+    ghost is_whole = { λ m. true };
+
+    ghost remaining = { items_remaining };
+
+    ghost can_be = { items_can_be };
+
+    ghost ends = { items_ends };
+
+    ghost fits = { items_fits };
+
+    fn begin(
+        &self,
+        alloc: Global,
+        instance: Instance,
+        mode: Mode,
+    ) -> Result<(Stage, Progress), OutOfMemory> {
+        let progress = self.planned.begin(alloc, instance, mode)?;
+        Ok((first_stage(self.marks()), progress))
+    }
+
+    fn turn<'s, 'i: 's>(
+        &'s self,
+        alloc: Global,
+        run: &mut (Stage, Progress),
+        instance: Instance<'i>,
+        reply: Reply<'i>,
+        answer: &mut Answer<'i>,
+    ) -> Result<Step<'s>, OutOfMemory> {
+        match run.0 {
+            Stage::Marks => {
+                run.0 = Stage::Enters;
+                Ok(Step::Mark(Marked::Reservation(0)))
+            }
+            Stage::Enters => self.work(alloc, run, instance, Reply::Nothing, answer),
+            Stage::Works => self.work(alloc, run, instance, reply, answer),
+            Stage::Over => Ok(Step::Done),
+        }
+    }
+
+    ghost speaks = { λ texts. refl };
+
+    ghost answers = { λ texts run a. refl };
+
+    ghost turn_laws = { items_turns };
+
+    ghost function_laws = { items_functions };
+
+    ghost asks_no_units = { items_units };
+}

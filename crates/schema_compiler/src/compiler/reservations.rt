@@ -1,0 +1,167 @@
+//! The numbers that makers reserve: each is in force until its maker ends, and stands for a node of the keyword that was made
+//! alone, or of no entry. They are only ever marked, and counted apart from the numbers of nodes.
+ghost use Rattle.std.specs.Prelude.{◌≡◌, ◌++◌, ◌∷◌, [], IfOk, MatchOption, OnErr, OnOk, length, map, string_bytes};
+ghost use Rattle.schema_node.specs.MakerViews.{purpose_of};
+ghost use Rattle.schema_node.specs.ResolverViews.{place_of};
+ghost use Rattle.schema_compiler.specs.Reserving.{IsPending, NonePending, in_force, is_for, with_node, with_nodes_from};
+ghost use Rattle.schema_compiler.specs.ReservedViews.{TellsPending, TellsReserved, node_of, reserved_of};
+
+use schema_node::context::schema_place::SchemaPlace;
+use schema_node::context::table::{MakerReply, PendingKind};
+use schema_node::node::PendingSchemaNode;
+use schema_reports::location::OutOfMemory;
+use std::alloc::Global;
+use std::marker::Model;
+
+/// What a reserved number stands for: nothing yet, as its maker goes on; a node of the maker's keyword alone; or one of no
+/// entry, where the maker made nothing.
+#[derive(Clone, Copy, PartialEq, Eq)]
+pub enum ReservedNode {
+    InForce,
+    OfItsKeyword,
+    OfNoEntry,
+}
+
+/// A number that the maker of a keyword reserved for a purpose: the place of the object, and the keyword's name.
+#[derive(Drop)]
+pub struct Reservation {
+    pub kind: PendingKind,
+    pub object: SchemaPlace,
+    pub keyword: String,
+    pub node: ReservedNode,
+}
+
+/// The numbers that were reserved, in order. A contract sees them as a list.
+#[derive(Drop)]
+pub struct Reservations {
+    items: Vec<Reservation>,
+}
+
+impl Model for Reservations {
+    ghost use Rattle.std.specs.Prelude.{List, map};
+    ghost use Rattle.schema_compiler.specs.Reserving.{Reserved};
+    ghost use Rattle.schema_compiler.specs.ReservedViews.{reserved_of};
+
+    ghost Value = { List Reserved };
+
+    ghost view = { λ r. map reserved_of r.items.items };
+}
+
+impl Reservation {
+    // Whether it is for this purpose and this object, and in force.
+    fn is_for(&self, kind: PendingKind, object: &SchemaPlace) -> bool
+        ensures is { result ≡ is_for (purpose_of kind) (place_of object.now) (reserved_of self.now) }
+    {
+        self.kind == kind && self.node == ReservedNode::InForce && self.object == *object
+    }
+
+    // Gets its node, where it is in force.
+    fn fill(&mut self, node: ReservedNode)
+        ensures filled { reserved_of self.new ≡ with_node (node_of node) (reserved_of self.old) }
+    {
+        if self.node == ReservedNode::InForce {
+            self.node = node;
+        }
+    }
+}
+
+// The number of the last one that is for this purpose and this object, and in force.
+fn last_pending(
+    items: &[Reservation],
+    kind: PendingKind,
+    object: &SchemaPlace,
+) -> Option<PendingSchemaNode>
+    ensures pending { MatchOption result (NonePending (map reserved_of items.now) (purpose_of kind) (place_of object.now))
+        (λ n. IsPending (map reserved_of items.now) (purpose_of kind) (place_of object.now) n.0) }
+{
+    let mut number = items.len();
+    while number > 0 {
+        number -= 1;
+        if items[number].is_for(kind, object) {
+            return Some(PendingSchemaNode(number));
+        }
+    }
+    None
+}
+
+// Those from a number on get this node, where they are in force.
+fn fill_from(items: &mut Vec<Reservation>, from: usize, node: ReservedNode)
+    ensures filled { map reserved_of items.new.items ≡ with_nodes_from from (node_of node) (map reserved_of items.old.items) }
+{
+    let mut number = from;
+    while number < items.len() {
+        items[number].fill(node);
+        number += 1;
+    }
+}
+
+impl Reservations {
+    /// No number is reserved.
+    pub(crate) fn new(alloc: Global) -> Reservations
+        ensures none { result ≡ [] }
+    {
+        Reservations {
+            items: Vec::new(alloc),
+        }
+    }
+
+    /// Returns how many numbers were reserved.
+    pub fn len(&self) -> usize
+        ensures count { result ≡ length self.now }
+    {
+        self.items.len()
+    }
+
+    /// Returns the number that was reserved last for this purpose and this object, of those that are in force.
+    pub(crate) fn pending(
+        &self,
+        kind: PendingKind,
+        object: &SchemaPlace,
+    ) -> Option<PendingSchemaNode>
+        ensures pending { MatchOption result (NonePending self.now (purpose_of kind) (place_of object.now))
+            (λ n. IsPending self.now (purpose_of kind) (place_of object.now) n.0) }
+    {
+        last_pending(self.items.as_slice(), kind, object)
+    }
+
+    /// What a maker is told that asks for the number pending for this purpose and this object.
+    pub(crate) fn pending_reply(&self, kind: PendingKind, object: &SchemaPlace) -> MakerReply
+        ensures told { TellsPending self.now (purpose_of kind) (place_of object.now) result }
+    {
+        MakerReply::Pending(self.pending(kind, object))
+    }
+
+    /// Reserves the next number, for the maker of this keyword. Returns what it is told. On `Err` nothing has changed.
+    pub(crate) fn reserve(
+        &mut self,
+        kind: PendingKind,
+        object: &SchemaPlace,
+        keyword: &String,
+    ) -> Result<MakerReply, OutOfMemory>
+        ensures reserved { OnOk result (self.new ≡ self.old ++ record {
+          purpose = purpose_of kind;
+          object = place_of object.now;
+          keyword = string_bytes keyword.now;
+          node = in_force;
+        } ∷ []) }
+        ensures told { IfOk result (λ reply. TellsReserved (length self.old) reply) }
+        ensures unchanged { OnErr result (self.new ≡ self.old) }
+    {
+        let number = self.items.len();
+        let reservation = Reservation {
+            kind,
+            object: object.clone()?,
+            keyword: keyword.clone()?,
+            node: ReservedNode::InForce,
+        };
+        self.items.push(reservation)?;
+        Ok(MakerReply::Reserved(PendingSchemaNode(number)))
+    }
+
+    /// Gives up what is in force from a number on: each stands for this node.
+    pub(crate) fn give_up(&mut self, from: usize, node: ReservedNode)
+        ensures given_up { self.new ≡ with_nodes_from from (node_of node) self.old }
+    {
+        fill_from(&mut self.items, from, node);
+    }
+}

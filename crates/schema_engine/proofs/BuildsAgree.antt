@@ -1,0 +1,87 @@
+-- A schema that builds is refused by no build but for want of memory: each other refusal names a cause that stands, or says that
+-- more keys are reached than there are.
+use Rattle.std.proofs.Common.{ap, arith, inl, inr, length, refl, subst, sym, true, List, ℕ, ◌∙◌, ◌≡◌}
+use Rattle.std.specs.Prelude.{All, AllPairs, Decides, Err, Ok, Result, string_bytes, ◌≤◌}
+use Rattle.std.specs.Cmp.{IsEquivalence, both_ways}
+use Rattle.std.proofs.lemmas.List.Elements.{All-contains}
+use Rattle.std.proofs.lemmas.Map.Keys.{IsDistinct-from_apart}
+use Rattle.std.proofs.lemmas.Map.Made.{length-le_from_is_member}
+use Rattle.std.proofs.lemmas.Map.Views.{Contains-from_any}
+use Rattle.serde_json.specs.Data.{Data}
+use Rattle.schema_reports.specs.Instance.{Text}
+use Rattle.schema_reports.specs.Drafts.{Draft}
+use Rattle.schema_reports.specs.Parts.{Parts}
+use Rattle.schema_reports.specs.Plan.{Key, same_key}
+use Rattle.schema_reports.specs.Reach.{IsReach, Reached, ReachesMoreThan, different}
+use Rattle.schema_reports.specs.Refusals.{Cause, Stands}
+use Rattle.schema_reports.specs.Root.{base_of, root_draft}
+use Rattle.schema_compiler.specs.declared.compiler.error.BuildError.{BuildError}
+use Rattle.schema_compiler.specs.declared.compiler.error.BuildError.TheVariants.{KeywordRefused, Lookup, MetaSchema, MissingRoot}
+use Rattle.schema_compiler.specs.declared.compiler.error.BuildError.TheVariants.{NodeLimit, NotASchema, OutOfMemory, ReferenceNotText}
+use Rattle.schema_compiler.specs.declared.compiler.error.BuildError.TheVariants.{UnsupportedVocabulary}
+use Rattle.schema_engine.specs.Roots.{Builds, IsMissingBase, IsRootKey, RefusesBuild}
+use Rattle.schema_engine.proofs.Reaches.{same_itself, same_true}
+
+one_ok : {A E : Type 0} (r : Result A E) (a b : A) → r ≡ Ok a → r ≡ Ok b → a ≡ b
+one_ok r a b p q = cc
+
+module _ {S K R : Type 0} (w : Parts S K R) (law : (a b : S) → Decides (w.resolver.same_state a b) (a ≡ b)) where
+  -- ---- distinct keys that are reached are no more than all keys that are reached
+
+  turned : (a b : Key S) → same_key w a b ≡ true → same_key w b a ≡ true
+  turned a b e = subst (λ k. same_key w k a ≡ true) (same_true w law a b e) (same_itself w law a)
+
+  same_keys : IsEquivalence (same_key w)
+  same_keys = record {
+    refl = same_itself w law;
+    symm = λ a b. both_ways (same_key w a b) (same_key w b a) (turned a b) (turned b a);
+    congr = λ a b k e. ap (λ x. same_key w x k) (same_true w law a b e);
+  }
+
+  no_more : (root : Key S) (keys others : List (Key S)) → IsReach w root keys → All (Reached w root) others → AllPairs (different w) others
+      → length others ≤ length keys
+  no_more root keys others reach sound once = length-le_from_is_member same_keys others keys
+      (IsDistinct-from_apart (same_key w) others once)
+      (λ k there. reach.whole k (All-contains (Reached w root) others k sound (Contains-from_any (same_true w law) k others there)))
+
+  -- ---- no cause of refusal is left but memory
+
+  module _ (schema : Data) (limit : ℕ) (builds : Builds w schema limit) where
+    no_cause : (cause : Cause) (root : Key S) → IsRootKey w schema root → Stands w root cause → ⊥
+    no_cause cause root is stands = builds.compiles cause (subst (λ k. Stands w k cause) (builds.alone root is) stands)
+
+    not_past : (root : Key S) → IsRootKey w schema root → ReachesMoreThan w limit root → ⊥
+    not_past root is (others, sound, once, more) =
+        let same = builds.alone root is in
+        let few = no_more builds.root builds.keys others builds.reach (subst (λ k. All (Reached w k) others) same sound) once in
+        let within = builds.within in
+        omega (arith, few, within, more)
+
+    has_draft : (text : Text) → root_draft w schema ≡ Err text → ⊥
+    has_draft text e = cc (sym e ∙ builds.is_root.drafted)
+
+    has_base : (uri : Text) → IsMissingBase w schema uri → ⊥
+    has_base uri m =
+        let found = builds.is_root in
+        let same : m.draft ≡ found.draft = one_ok (root_draft w schema) m.draft found.draft m.drafted found.drafted in
+        let one_base = ap (λ (d : Draft). w.resolver.root (base_of w d schema)) same in
+        cc (sym m.missing ∙ (ap (λ u. w.resolver.root u) m.is_base ∙ (one_base ∙ found.entered)))
+
+    pub memory_alone : (e : BuildError) → RefusesBuild w schema limit e → e ≡ OutOfMemory
+    memory_alone (NotASchema l) (inl void) = absurd void
+    memory_alone (NotASchema l) (inr (root, is, stands)) = absurd (no_cause _ root is stands)
+    memory_alone (ReferenceNotText l) (inl void) = absurd void
+    memory_alone (ReferenceNotText l) (inr (root, is, stands)) = absurd (no_cause _ root is stands)
+    memory_alone (Lookup text) (inl refused) = absurd (has_draft (string_bytes text) refused)
+    memory_alone (Lookup text) (inr (root, is, stands)) = absurd (no_cause _ root is stands)
+    memory_alone (KeywordRefused x) (inl void) = absurd void
+    memory_alone (KeywordRefused x) (inr (root, is, stands)) = absurd (no_cause _ root is stands)
+    memory_alone (UnsupportedVocabulary uri) (inl void) = absurd void
+    memory_alone (UnsupportedVocabulary uri) (inr (root, is, stands)) = absurd (no_cause _ root is stands)
+    memory_alone (MetaSchema x) (inl void) = absurd void
+    memory_alone (MetaSchema x) (inr (root, is, void)) = absurd void
+    memory_alone (MissingRoot uri) (inl missing) = absurd (has_base (string_bytes uri) missing)
+    memory_alone (MissingRoot uri) (inr (root, is, void)) = absurd void
+    memory_alone (NodeLimit n) (inl void) = absurd void
+    memory_alone (NodeLimit n) (inr (root, is, (limited, more))) = absurd (not_past root is more)
+    memory_alone OutOfMemory h = refl

@@ -1,0 +1,162 @@
+-- Calls of one schema and one instance speak of one sense, and so agree.
+use Rattle.std.proofs.Common.{arith, false, refl, sym, true, Bool, List, [], map, ◌+◌, ◌∷◌, ◌≡◌, subst}
+use Rattle.std.specs.Prelude.{None, Option, Some, is_none, option_map}
+use Rattle.std.specs.Cmp.{both_ways}
+use Rattle.serde_json.specs.Data.{Data}
+use Rattle.schema_reports.specs.Cover.{Call, Decides, Sense, is_valid, iter_errors, validate}
+use Rattle.schema_reports.specs.Deciding.{none_where_accepted}
+use Rattle.schema_reports.specs.Headline.{VerdictSays}
+use Rattle.schema_reports.specs.Laws.{EachKeeps}
+use Rattle.schema_reports.specs.Members.{Follows}
+use Rattle.schema_reports.specs.Numbered.{subject_in}
+use Rattle.schema_reports.specs.ReportViews.{error_of}
+use Rattle.schema_reports.specs.Reports.{Error}
+use Rattle.schema_reports.specs.SharedResults.{is_empty}
+use Rattle.schema_reports.specs.declared.reports.ValidationError.{ValidationError}
+use Rattle.schema_reports.proofs.GuardedSense.{all_nodes_follow}
+use Rattle.schema_reports.proofs.Sentences.{listed_none}
+use Rattle.schema_node.specs.NodeTable.{numbered}
+use Rattle.schema_engine.specs.Called.{GuardedlyOf, IsCompiledFrom}
+use Rattle.schema_engine.specs.FreeCalls as calls
+use Rattle.schema_engine.specs.FreeCalls.{OfAllCompiled}
+use Rattle.schema_engine.specs.Handed.{Handed, Options, default_nested}
+use Rattle.schema_engine.specs.Nesting.{ErrorsAgree, FirstsAgree}
+use Rattle.schema_engine.specs.Program.{FromSomeDepth, Program}
+use Rattle.schema_engine.specs.Spoken.{ErrorsAnswered, FirstAnswered}
+use Rattle.schema_engine.proofs.Nesting.{errors_agree, firsts_agree, same_verdict}
+use Rattle.schema_engine.proofs.OneTable.{speak_alike}
+
+-- ---- the verdict in what is answered
+
+none_mapped : (f : ValidationError → Error) (o : Option ValidationError) → is_none o ≡ true → option_map f o ≡ None
+none_mapped f None e = refl
+none_mapped f (Some x) e = absurd (cc e)
+
+none_from : (f : ValidationError → Error) (o : Option ValidationError) → option_map f o ≡ None → is_none o ≡ true
+none_from f None e = refl
+none_from f (Some x) e = absurd (cc e)
+
+some_there : (f : ValidationError → Error) (o : Option ValidationError) (e : Error) → option_map f o ≡ Some e → is_none o ≡ false
+some_there f None e is = absurd (cc is)
+some_there f (Some x) e is = refl
+
+empty_mapped : (f : ValidationError → Error) (es : List ValidationError) → is_empty es ≡ true → map f es ≡ []
+empty_mapped f [] e = refl
+empty_mapped f (x ∷ es) e = absurd (cc e)
+
+empty_from : (f : ValidationError → Error) (es : List ValidationError) → map f es ≡ [] → is_empty es ≡ true
+empty_from f [] e = refl
+empty_from f (x ∷ es) e = absurd (cc e)
+
+one_there : (f : ValidationError → Error) (es : List ValidationError) (e : Error) → map f es ≡ e ∷ [] → is_empty es ≡ false
+one_there f [] e is = absurd (cc is)
+one_there f (x ∷ es) e is = refl
+
+module _ (v : Sense) (follows : Follows v) where
+  first_verdict : (texts : Bool) (o : Option ValidationError) → FirstAnswered v texts o → VerdictSays v validate (is_none o)
+  first_verdict false o says = says.verdict
+  first_verdict true o says = (
+    λ decides.
+        let none = none_where_accepted v follows (option_map (error_of true) o) says decides in
+        (λ e. none.0 (none_mapped (error_of true) o e), λ each. none_from (error_of true) o (none.1 each)),
+    λ undecided. let (e, fails, is) = says.1 undecided in some_there (error_of true) o e is,
+  )
+
+  errors_verdict : (texts : Bool) (es : List ValidationError) → ErrorsAnswered v texts es → VerdictSays v iter_errors (is_empty es)
+  errors_verdict false es says = says.verdict
+  errors_verdict true es says = (
+    λ decides.
+        let none = listed_none v iter_errors follows (map (error_of true) es) (says.0 decides) in
+        (λ e. none.0 (empty_mapped (error_of true) es e), λ each. empty_from (error_of true) es (none.1 each)),
+    λ undecided. let (e, fails, is) = says.1 undecided in one_there (error_of true) es e is,
+  )
+
+  -- two calls that decide have one verdict
+  both_decide : (call call' : Call) (b b' : Bool) → VerdictSays v call b → VerdictSays v call' b'
+      → Decides v call → Decides v call' → b ≡ b'
+  both_decide call call' b b' says says' d d' = both_ways b b' (λ e. (says'.0 d').1 ((says.0 d).0 e)) (λ e. (says.0 d).1 ((says'.0 d').0 e))
+
+-- ---- two calls speak of one sense
+
+-- what is said by the answers of the calls, texts being spoken of or not
+abbrev Verdict : Bool → Bool → Sense → Type 0
+Verdict b texts v = VerdictSays v is_valid b
+
+abbrev First : Option ValidationError → Bool → Sense → Type 0
+First o texts v = FirstAnswered v texts o
+
+abbrev Errors : List ValidationError → Bool → Sense → Type 0
+Errors es texts v = ErrorsAnswered v texts es
+
+-- a fact where both calls decide
+abbrev WhereBoth : Call → Call → Type 0 → Bool → Sense → Type 0
+WhereBoth call call' fact texts v = Decides v call → Decides v call' → fact
+
+module _ {S K R C M : Type 0} (h : Handed S K R C M) where
+  pub one_sense : calls.OneSense h
+  one_sense options schema nested p p' of of' instance texts = speak_alike h options schema nested p p' of of' texts instance
+
+  module _ (options : Options) (schema instance : Data) where
+    -- what the nodes of a validator say from some depth on
+    abbrev Says : Program C M → (Bool → Sense → Type 0) → Type 0
+    Says p fact = FromSomeDepth h.shape h.words h.is_whole h.matching p instance fact
+
+    abbrev IsOf : Program C M → Type 0
+    IsOf p = IsCompiledFrom h options schema default_nested p
+
+    moved : (fact : Bool → Sense → Type 0) (p p' : Program C M) → IsOf p → IsOf p' → Says p fact → Says p' fact
+    moved fact p p' of of' told = λ texts speaks.
+        let alike = speak_alike h options schema default_nested p' p of' of texts instance in
+        let (deep, f) = told texts (alike.speaks speaks) in
+        (deep, λ n more. subst (fact texts) (sym (alike.senses n)) (f n more))
+
+    -- what a call says is so of all nodes that are compiled from the schema
+    of_all : (fact : Bool → Sense → Type 0) → GuardedlyOf h options schema instance fact → OfAllCompiled h options schema instance fact
+    of_all fact (p, of, told) p' of' = moved fact p p' of of' told
+
+  module _ (keeps : (texts : Bool) → EachKeeps (h.words texts)) where
+    -- so what follows from two answers for one sense is so of all these nodes
+    both_say : (options : Options) (schema instance : Data) (fact fact' says : Bool → Sense → Type 0)
+        → ((texts : Bool) (v : Sense) → Follows v → fact texts v → fact' texts v → says texts v)
+        → GuardedlyOf h options schema instance fact → GuardedlyOf h options schema instance fact'
+        → OfAllCompiled h options schema instance says
+    both_say options schema instance fact fact' says joined told told' p of = λ texts speaks.
+        let (deep, f) = of_all options schema instance fact told p of texts speaks in
+        let (deep', f') = of_all options schema instance fact' told' p of texts speaks in
+        let nodes = numbered h.shape p.nodes in
+        let follow = all_nodes_follow (h.words texts) (keeps texts) (h.matching p.matcher) nodes (subject_in instance) in
+        (deep + deep', λ n more. joined texts _ (follow n p.root) (f n (omega (arith, more))) (f' n (omega (arith, more))))
+
+    -- ---- the laws
+
+    pub one_verdict : calls.OneVerdict h
+    one_verdict options schema instance b b' told told' =
+        let all = both_say options schema instance (Verdict b) (Verdict b') (λ texts v. b ≡ b')
+        (λ texts v follows. same_verdict v is_valid b b') told told' in
+        let (deep, f) = all told.0 told.1 false (λ e. absurd (cc e)) in f deep (omega arith)
+
+    pub one_first_error : calls.OneFirstError h
+    one_first_error options schema instance o o' = both_say options schema instance (First o) (First o')
+        (λ texts v. FirstsAgree v texts o o') (λ texts v follows. firsts_agree v texts o o')
+
+    pub one_error_list : calls.OneErrorList h
+    one_error_list options schema instance es es' = both_say options schema instance (Errors es) (Errors es')
+        (λ texts v. ErrorsAgree v texts es es') (λ texts v follows. errors_agree v texts es es')
+
+    pub true_iff_none : calls.TrueIffNone h
+    true_iff_none options schema instance b o = both_say options schema instance (Verdict b) (First o)
+        (WhereBoth is_valid validate (b ≡ is_none o))
+        (λ texts v follows says first. both_decide v follows is_valid validate b (is_none o) says (first_verdict v follows texts o first))
+
+    pub true_iff_empty : calls.TrueIffEmpty h
+    true_iff_empty options schema instance b es = both_say options schema instance (Verdict b) (Errors es)
+        (WhereBoth is_valid iter_errors (b ≡ is_empty es))
+        (λ texts v follows says errors.
+        both_decide v follows is_valid iter_errors b (is_empty es) says (errors_verdict v follows texts es errors))
+
+    pub none_iff_empty : calls.NoneIffEmpty h
+    none_iff_empty options schema instance o es = both_say options schema instance (First o) (Errors es)
+        (WhereBoth validate iter_errors (is_none o ≡ is_empty es))
+        (λ texts v follows first errors.
+        both_decide v follows validate iter_errors (is_none o) (is_empty es) (first_verdict v follows texts o first)
+        (errors_verdict v follows texts es errors))

@@ -1,0 +1,88 @@
+-- The calls of a schema and an instance agree with each other, also where chains of references return. Each call compiles nodes of
+-- its own, and its answer is what these say from some depth on; but all nodes that are compiled from one schema by the same options
+-- and the same limit on nested targets have one sense, so that calls of one schema and one instance speak of one sense.
+use Rattle.std.specs.Prelude.{Bool, List, Option, is_none, ℕ, ◌≡◌}
+use Rattle.serde_json.specs.Data.{Data}
+use Rattle.schema_reports.specs.Cover.{Decides, Sense, is_valid, iter_errors, validate}
+use Rattle.schema_reports.specs.Guarded.{guarded_sense}
+use Rattle.schema_reports.specs.Numbered.{subject_in}
+use Rattle.schema_reports.specs.SharedResults.{is_empty}
+use Rattle.schema_reports.specs.declared.reports.ValidationError.{ValidationError}
+use Rattle.schema_node.specs.NodeTable.{numbered}
+use Rattle.schema_engine.specs.Called.{DecidesGuardedly, ErrorsGuardedly, FirstGuardedly, IsCompiledFrom}
+use Rattle.schema_engine.specs.Handed.{Handed, Options, default_nested}
+use Rattle.schema_engine.specs.Nesting.{ErrorsAgree, FirstsAgree}
+use Rattle.schema_engine.specs.Program.{FromSomeDepth, Program, Speaks}
+
+-- what is handed in
+module _ {S K R C M : Type 0} (h : Handed S K R C M) where
+  -- ---- two validators that are compiled from one schema
+
+  module _ (instance : Data) (texts : Bool) where
+    -- texts of errors are spoken of in what a validator says of the instance
+    abbrev SpeaksOf : Program C M → Type 0
+    SpeaksOf p = Speaks h.shape h.words h.is_whole h.matching p instance texts
+
+    -- what its root's node says of the instance, with questions of a depth
+    abbrev sense_of : Program C M → ℕ → Sense
+    sense_of p n = guarded_sense (h.words texts) (h.matching p.matcher) (numbered h.shape p.nodes) (subject_in instance) n p.root
+
+    -- two validators speak alike of an instance: texts are spoken of for the one only where they are for the other, and at every
+    -- depth their roots' nodes have one sense
+    pub record SpeakAlike (p p' : Program C M) : Type 0 where
+      pub speaks : SpeaksOf p → SpeaksOf p'
+      pub senses : (n : ℕ) → sense_of p n ≡ sense_of p' n
+
+  -- validators that are compiled from one schema, by the same options and the same limit on nested targets, speak alike of every instance
+  abbrev pub OneSense : Type 0
+  OneSense = (options : Options) (schema : Data) (nested : ℕ) (p p' : Program C M)
+      → IsCompiledFrom h options schema nested p → IsCompiledFrom h options schema nested p'
+      → (instance : Data) (texts : Bool) → SpeakAlike instance texts p p'
+
+  -- ---- two calls of one schema and one instance, by the same options
+
+  -- what is said of calls
+  abbrev OfCalls : (Options → Data → Data → Type 0) → Type 0
+  OfCalls says = (options : Options) (schema instance : Data) → says options schema instance
+
+  -- a fact about what nodes compiled from the schema say from some depth on, whichever these are
+  abbrev pub OfAllCompiled : Options → Data → Data → (Bool → Sense → Type 0) → Type 0
+  OfAllCompiled options schema instance fact = (p : Program C M) → IsCompiledFrom h options schema default_nested p
+      → FromSomeDepth h.shape h.words h.is_whole h.matching p instance fact
+
+  -- two verdicts of `is_valid` are equal
+  abbrev pub OneVerdict : Type 0
+  OneVerdict = OfCalls (λ options schema instance. (b b' : Bool)
+      → DecidesGuardedly h options schema instance b → DecidesGuardedly h options schema instance b' → b ≡ b')
+
+  -- two first errors of `validate` agree as those of two validators do: both are none, or the errors are equal; or both are the
+  -- failure; and where texts are not spoken of, what is said then
+  abbrev pub OneFirstError : Type 0
+  OneFirstError = OfCalls (λ options schema instance. (o o' : Option ValidationError)
+      → FirstGuardedly h options schema instance o → FirstGuardedly h options schema instance o'
+      → OfAllCompiled options schema instance (λ texts v. FirstsAgree v texts o o'))
+
+  -- two lists of errors of `iter_errors` agree as those of two validators do: they are equal; or both are the failure alone; and
+  -- where texts are not spoken of, what is said then
+  abbrev pub OneErrorList : Type 0
+  OneErrorList = OfCalls (λ options schema instance. (es es' : List ValidationError)
+      → ErrorsGuardedly h options schema instance es → ErrorsGuardedly h options schema instance es'
+      → OfAllCompiled options schema instance (λ texts v. ErrorsAgree v texts es es'))
+
+  -- where both calls decide, `is_valid` answers true exactly if `validate` answers none
+  abbrev pub TrueIffNone : Type 0
+  TrueIffNone = OfCalls (λ options schema instance. (b : Bool) (o : Option ValidationError)
+      → DecidesGuardedly h options schema instance b → FirstGuardedly h options schema instance o
+      → OfAllCompiled options schema instance (λ texts v. Decides v is_valid → Decides v validate → b ≡ is_none o))
+
+  -- where both calls decide, `is_valid` answers true exactly if `iter_errors` gives the empty list
+  abbrev pub TrueIffEmpty : Type 0
+  TrueIffEmpty = OfCalls (λ options schema instance. (b : Bool) (es : List ValidationError)
+      → DecidesGuardedly h options schema instance b → ErrorsGuardedly h options schema instance es
+      → OfAllCompiled options schema instance (λ texts v. Decides v is_valid → Decides v iter_errors → b ≡ is_empty es))
+
+  -- where both calls decide, `validate` answers none exactly if `iter_errors` gives the empty list
+  abbrev pub NoneIffEmpty : Type 0
+  NoneIffEmpty = OfCalls (λ options schema instance. (o : Option ValidationError) (es : List ValidationError)
+      → FirstGuardedly h options schema instance o → ErrorsGuardedly h options schema instance es
+      → OfAllCompiled options schema instance (λ texts v. Decides v validate → Decides v iter_errors → is_none o ≡ is_empty es))
