@@ -3,9 +3,9 @@ use Rattle.std.specs.Prelude.{Err, None, Ok, Result, Some, [], codes, if◌then�
 use Rattle.schema_reports.specs.Instance.{Text}
 use Rattle.schema_reports.specs.Drafts.{draft_7}
 use Rattle.schema_reports.specs.Resolving.{Found, Resolver}
-use Rattle.bench_parts.specs.BenchResolving.{root_place}
-use Rattle.bench_parts.specs.BenchDocuments.{BenchDocument}
-use Rattle.bench_parts.specs.BenchAnswers.{bench_resolving}
+use Rattle.bench_resolver.specs.BenchResolving.{root_place}
+use Rattle.bench_resolver.specs.BenchDocuments.{BenchDocument}
+use Rattle.bench_resolver.specs.BenchAnswers.{bench_resolving}
 
 -- the state is how many lookups there were, which is refused where it would pass what 64 bits hold
 abbrev pub next : ℕ → Result (Found ℕ) Text

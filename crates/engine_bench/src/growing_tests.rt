@@ -39,7 +39,7 @@ fn next(alloc: Global, lookups: u64) -> Result<Target<u64>, LookupError>
 
 impl<'a> Resolver for GrowingResolver<'a> {
     ghost use Rattle.std.proofs.lemmas.Bool.{eq-eqb as true_where_same, eqb-true as same_where_true};
-    ghost use Rattle.bench_parts.specs.ResolverLaws.{values_stand_inside};
+    ghost use Rattle.bench_resolver.specs.ResolverLaws.{values_stand_inside};
     ghost use Rattle.engine_bench.specs.Growing.{growing};
 
     type State = u64;
