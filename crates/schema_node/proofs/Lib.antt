@@ -24,3 +24,4 @@ pub mod SchemaPaths
 pub mod FilledNumbers
 pub mod Stamped
 pub mod Escaping
+pub mod MeetsAgain

@@ -6,6 +6,7 @@ pub mod NodeTable
 pub mod NodeViews
 pub mod Progress
 pub mod Matches
+pub mod Remembering
 pub mod UnitQuestions
 pub mod MarkViews
 pub mod NodeMeets

@@ -53,3 +53,4 @@ pub mod SamePlaces
 pub mod SearchGives
 pub mod Outcomes
 pub mod HashIndex
+pub mod Remembering

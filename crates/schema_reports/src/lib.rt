@@ -7,6 +7,7 @@ pub mod keywords;
 pub mod location;
 pub mod numbers;
 pub mod paths;
+pub mod remembering;
 pub mod reports;
 pub mod rows;
 pub mod text;

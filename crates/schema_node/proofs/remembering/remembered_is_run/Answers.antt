@@ -1,0 +1,5 @@
+use Rattle.schema_node.proofs.MeetsAgain as lemmas
+use Rattle.schema_node.proofs.remembering.remembered_is_run.Goals as goal
+
+pub returns : goal.returns
+returns g c = λ keywords. lemmas.remembered_is_run keywords
