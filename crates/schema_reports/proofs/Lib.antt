@@ -68,3 +68,5 @@ pub mod SitesInside
 pub mod HashIndexed
 pub mod MatchesIndexed
 pub mod KeysIndexed
+pub mod SamePaths
+pub mod MetAgain

@@ -50,6 +50,8 @@ pub mod Search
 pub mod Searched
 pub mod SharedResults
 pub mod SamePlaces
+pub mod PlaceInputs
 pub mod SearchGives
 pub mod Outcomes
 pub mod HashIndex
+pub mod Remembering

@@ -34,7 +34,7 @@ step_equal (to_name k) (to_member l) h = absurd (true≢false (sym h))
 step_equal (to_name k) (to_item l) h = absurd (true≢false (sym h))
 step_equal (to_name k) (to_name l) h = ap to_name ((bytes_eq-Decides k l).0 h)
 
-place_equal : (p q : Place) → same_place p q ≡ true → p ≡ q
+pub place_equal : (p q : Place) → same_place p q ≡ true → p ≡ q
 place_equal [] [] h = refl
 place_equal [] (t ∷ q) h = absurd (true≢false (sym h))
 place_equal (s ∷ p) [] h = absurd (true≢false (sym h))

@@ -1,9 +1,10 @@
 //! Instances and their places.
 ghost use Rattle.std.specs.Prelude.{◌≡◌, List, [], ◌∷◌, ◌++◌, IfOk, option_map, Option, Some, None, map, IfSome, false};
-ghost use Rattle.std.specs.Prelude.{length, string_bytes};
+ghost use Rattle.std.specs.Prelude.{fold, length, string_bytes};
 ghost use Rattle.schema_reports.specs.Instance.{same_place, same_step, after_step, to_member, to_item, to_name};
 ghost use Rattle.std.specs.Cmp.{partial_equiv_from_equiv};
 ghost use Rattle.schema_reports.specs.SamePlaces.{places_equiv};
+ghost use Rattle.schema_reports.specs.PlaceInputs.{place_input, same_input, step_input};
 ghost use Rattle.schema_reports.specs.Pointer.{is_shown, pointer_to, shown_place, step_text};
 ghost use Rattle.schema_reports.specs.InstanceTexts.{subject_has_float};
 ghost use Rattle.schema_reports.specs.Meaning.{subject_text};
@@ -18,6 +19,7 @@ mod at;
 use crate::location::{Location, LocationSegment, OutOfMemory};
 use serde_json::Value;
 use std::alloc::{AllocError, Global};
+use std::hash::{Hash, Hasher};
 use std::marker::Model;
 
 /// What is validated: a value, or the name of a member, which is validated as a string.
@@ -262,6 +264,39 @@ impl<'i> PartialEq for Place<'i> {
 
 impl<'i> Eq for Place<'i> {
     ghost laws = { places_equiv };
+}
+
+// Feeds a step: the number of its kind, and then its name or its index.
+fn hash_step<H: Hasher>(step: InstanceStep<'_>, state: &mut H)
+    ensures fed { state.new ≡ fold H.write state.old (step_input (step_of step.entry)) }
+{
+    match step {
+        InstanceStep::Member(name) => {
+            state.write_u8(0);
+            name.hash(state);
+        }
+        InstanceStep::Item(index) => {
+            state.write_u8(1);
+            index.hash(state);
+        }
+        InstanceStep::NameOf(name) => {
+            state.write_u8(2);
+            name.hash(state);
+        }
+    }
+}
+
+impl<'i> Hash for Place<'i> {
+    ghost hash_input = { place_input };
+
+    ghost respects_eq = { same_input };
+
+    /// Feeds each step in turn.
+    fn hash<H: Hasher>(&self, state: &mut H) {
+        for step in self.steps.iter() {
+            hash_step(*step, state);
+        }
+    }
 }
 
 impl<'i> Clone for Place<'i> {
