@@ -89,7 +89,7 @@ pair_left m k xs e d is l g = rw (is, add-one k) (take-suc xs k d l ∙ ap (λ (
 pub depths_first : (m : ℕ) (xs : List InProgress) → KnowsDepths xs → KnowsDepths (take m xs)
 depths_first m xs h = depths_front (take m xs) (drop m xs) (subst KnowsDepths (sym (take-append-drop m xs)) h)
 
-pair_push : (old : List InProgress) (e : InProgress) → map pair_of (old ++ e ∷ []) ≡ map pair_of old ++ pair_of e ∷ []
+pub pair_push : (old : List InProgress) (e : InProgress) → map pair_of (old ++ e ∷ []) ≡ map pair_of old ++ pair_of e ∷ []
 pair_push [] e = refl
 pair_push (x ∷ old) e = ap (λ r. pair_of x ∷ r) (pair_push old e)
 

@@ -24,3 +24,8 @@ pub mod SchemaPaths
 pub mod FilledNumbers
 pub mod Stamped
 pub mod Escaping
+pub mod MeetsAgain
+pub mod VerdictMaps
+pub mod Alone
+pub mod RightVerdicts
+pub mod GoesOn

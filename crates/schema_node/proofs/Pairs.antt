@@ -194,7 +194,7 @@ distinct_left old new None h d = subst (λ (r : List InProgress). Distinct (map 
 distinct_left old new (Some e) h d = distinct_popped old new e h d
 
 -- what is left once the last is taken away
-snoc_first : {X : Type 0} (xs ys : List X) (x y : X) → xs ++ x ∷ [] ≡ ys ++ y ∷ [] → (xs ≡ ys) × (x ≡ y)
+pub snoc_first : {X : Type 0} (xs ys : List X) (x y : X) → xs ++ x ∷ [] ≡ ys ++ y ∷ [] → (xs ≡ ys) × (x ≡ y)
 snoc_first [] [] x y h = (refl, cc)
 snoc_first [] (b ∷ []) x y h = absurd (let f : ⊥ = cc in f)
 snoc_first [] (b ∷ c ∷ ys) x y h = absurd (let f : ⊥ = cc in f)

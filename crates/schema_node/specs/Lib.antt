@@ -5,7 +5,10 @@ pub mod MakerViews
 pub mod NodeTable
 pub mod NodeViews
 pub mod Progress
+pub mod Verdicts
+pub mod VerdictViews
 pub mod Matches
+pub mod Remembering
 pub mod UnitQuestions
 pub mod MarkViews
 pub mod NodeMeets
@@ -13,8 +16,10 @@ pub mod ProgressViews
 pub mod FaultViews
 pub mod AnswerModes
 pub mod EvaluationPaths
+pub mod KeptPaths
 pub mod EvaluationPlaces
 pub mod NodeRuns
+pub mod RightVerdicts
 pub mod RunStates
 pub mod Turning
 pub mod ValidatorViews

@@ -46,6 +46,12 @@ Joins a b r = (mode : Mode) (o o' : Outcome) → a ≡ reply_by mode o → b ≡
 abbrev pub Stamps : Option Text → Reply → Reply → Type 0
 Stamps location a r = (mode : Mode) (o : Outcome) → a ≡ reply_by mode o → r ≡ reply_by mode (record { verdict = o.verdict; errors = map (stamped location) o.errors })
 
+-- the second reply says what the first does, and passes no errors but its; for the verdict it is one
+pub record SaysTheSame (mode : Mode) (a r : code.Reply) : Type 0 where
+  pub says : (texts : Bool) (o : Outcome) → reply_of texts a ≡ reply_by mode o → reply_of texts r ≡ reply_by mode o
+  pub told : mode ≡ for_verdict → (texts : Bool) → reply_of texts r ≡ truth (accepts (reply_of texts a))
+  pub borrows : (root : Data) → All (BorrowsItsPlace root) (errors_in a) → All (BorrowsItsPlace root) (errors_in r)
+
 -- where a node is at work
 abbrev pub entry_where : {K : Type 0} → NodeEntry K → Text → Place → Where
 entry_where n path p = record { place = p; path = path; location = n.location; absolute = absolute_in n }

@@ -29,9 +29,19 @@ Enters n p old b new = (IsTrue b ↔ Contains old (n, p)) × (new ≡ (if b then
 abbrev pub EndsWith : ℕ → Place → Pairs → Type 0
 EndsWith n p es = (rest : Pairs) × (es ≡ rest ++ (n, p) ∷ [])
 
--- what a run holds: the pairs in progress, what it assumes of unfinished matches and remembers of those that it met, and the
--- marks of the keyword's run that is at work, the last one first
+-- a verdict of each of some pairs, no pair twice
+abbrev pub Verdicts : Type 0
+Verdicts = List ((ℕ × Place) × Bool)
+
+-- what a run holds: the pairs in progress, what it assumes of unfinished matches and remembers of those that it met, the marks of
+-- the keyword's run that is at work, the last one first, the verdicts that it remembers, and how many guarded visits it counted
 pub record Context : Type 0 where
   pub in_progress : Pairs
   pub remembered : Remembered
   pub marking : List Marked
+  pub verdicts : Verdicts
+  pub visits : ℕ
+
+-- a run that has begun, with what it remembers of matches
+abbrev pub begun : Remembered → Context
+begun r = record { in_progress = []; remembered = r; marking = []; verdicts = []; visits = 0 }

@@ -1,16 +1,17 @@
 -- What a run is made with and does not change, and what it is asked; and what each of its functions answers, over the two.
-use Rattle.std.specs.Prelude.{◌≡◌, ◌<◌, ◌≤◌, ℕ, Bool, All, List, Some, false, length, map, option_map}
+use Rattle.std.specs.List.{list_any}
+use Rattle.std.specs.Prelude.{◌≡◌, ◌<◌, ◌≤◌, ◌==◌, ◌∷◌, [], ℕ, Bool, All, List, None, Some, false, length, map, option_map, true}
 use Rattle.serde_json.specs.Data.{Data}
 use Rattle.schema_reports.specs.Instance.{Place, Subject, Text, subject_at}
 use Rattle.schema_reports.specs.InstanceViews.{subject_of}
-use Rattle.schema_reports.specs.Keywords.{Answer, Keywords, Mode, Question as ChildQuestion, for_units}
+use Rattle.schema_reports.specs.Keywords.{Answer, Keywords, Mode, Question as ChildQuestion, for_units, for_verdict, truth}
 use Rattle.schema_reports.specs.Laws.{IsRight}
 use Rattle.schema_reports.specs.Meaning.{Where}
 use Rattle.schema_reports.specs.Matching.{Extends, Matcher, completion_of, matching}
 use Rattle.schema_reports.specs.Reports.{Outcome}
 use Rattle.schema_reports.specs.ReportViews.{BorrowsItsPlace}
 use Rattle.schema_reports.specs.Runs.{Run, reply_in}
-use Rattle.schema_reports.specs.Guarded.{Children, NodeEdge, NodeForm, NodePart, Nodes, guarded_node, guarded_within, node_keyword, same_edge, yes_run}
+use Rattle.schema_reports.specs.Guarded.{Children, NodeEdge, NodeForm, NodePart, Nodes, guarded_node, guarded_within, node_keyword, node_reference, node_these, same_edge, yes_run}
 use Rattle.schema_reports.specs.Numbered.{Ranked, left, subject_in}
 use Rattle.schema_node.specs.EvaluationPaths.{path_of}
 use Rattle.schema_node.specs.EvaluationPlaces.{steps_to}
@@ -22,7 +23,9 @@ use Rattle.schema_node.specs.NodeRuns.{ChildReplies, EdgeReplies, FormReplies, N
 use Rattle.schema_node.specs.NodeTable.{NodeEntry, numbered}
 use Rattle.schema_node.specs.NodeViews.{edge_of}
 use Rattle.schema_node.specs.Progress.{Context, NoDeeper, busy_at}
+use Rattle.schema_node.specs.RightVerdicts.{AreRight, LaysOut, Layout}
 use Rattle.schema_node.specs.Turning.{unit_with}
+use Rattle.schema_node.specs.Verdicts.{MayKeep, read_verdict, verdict_of}
 use Rattle.schema_node.specs.declared.context.keyword.Answer as code_answer
 use Rattle.schema_node.specs.declared.context.keyword.Reply as code
 use Rattle.schema_node.specs.declared.node.question.Engine.{Engine}
@@ -77,12 +80,26 @@ pub record Keeps (old new : Context) : Type 0 where
   pub assumptions : new.remembered.assumptions ≡ old.remembered.assumptions
   pub marking : new.marking ≡ old.marking
 
--- a number of the table may be asked: the table is ranked, no pair in progress lies deeper, and units are not what is wanted
+-- the verdicts that the run remembers are right of what stands at each place
+abbrev pub RemembersRightly : {K R : Type 0} → Setting K R → Layout → Context → Type 0
+RemembersRightly g layout c = AreRight g.words g.is_whole g.nodes g.count g.matcher c.remembered.assumptions c.remembered layout c.verdicts
+
+-- the question is asked of what stands at its place
+abbrev pub IsLaidOut : Layout → Asking → Type 0
+IsLaidOut layout q = LaysOut layout q.place q.subject
+
+-- a number of the table may be asked: the table is ranked, no pair in progress lies deeper, units are not what is wanted, and the
+-- verdicts that are remembered are right of what stands at each place, the question's among them
 pub record MayRun {K R : Type 0} (g : Setting K R) (q : Asking) (c : Context) (i : ℕ) : Type 0 where
   pub known : i < g.count
   pub ranked : Ranked g.nodes g.count
   pub above : NoDeeper q.place c.in_progress
   pub wanted : ¬ (q.mode ≡ for_units)
+  pub goes_on : (layout : Layout) × IsLaidOut layout q × RemembersRightly g layout c
+
+-- and they stay right, whatever more of them are remembered
+abbrev pub StaysRight : {K R : Type 0} → Setting K R → Asking → Context → Context → Type 0
+StaysRight g q c c' = (layout : Layout) → IsLaidOut layout q → RemembersRightly g layout c → RemembersRightly g layout c'
 
 -- a keyword with its children, as the form of an entry
 abbrev pub form_at_work : {C K : Type 0} → (C → K) → NamedKeyword C → NodeForm K
@@ -158,6 +175,39 @@ module _ {K R : Type 0} (g : Setting K R) (q : Asking) (c : Context) where
 
     abbrev pub RunMeets : ℕ → Type 0
     RunMeets i = OfWholeRun i (λ texts run. MeetsEach g.matcher c.remembered (run.met q.mode) c'.remembered)
+
+-- after a run they are right of what stands in each root value in which its question's subject stands at the place
+abbrev pub RunRemembers : {K R : Type 0} → Setting K R → Asking → Context → Type 0
+RunRemembers g q c' = (root : Data) → IsAskedOf root q → RemembersRightly g (subject_in root) c'
+
+-- what a run goes on with: its verdicts are right of what stands at each place
+abbrev pub GoesOn : {K R : Type 0} → Setting K R → Asking → Context → Type 0
+GoesOn g q c = (layout : Layout) × IsLaidOut layout q × RemembersRightly g layout c
+
+-- ---- a verdict that is read, and one that is kept
+
+-- where a guarded edge is asked across for the verdict, and its pair is not in progress: the reply is a verdict, the one that is
+-- read, and nothing changes; where none is read, it is kept wherever it may be
+pub record ReadsOrKeeps (q : Asking) (c c' : Context) (i : ℕ) (r : code.Reply) : Type 0 where
+  pub verdict : Bool
+  pub told : (texts : Bool) → reply_of texts r ≡ truth verdict
+  pub read : (v : Bool) → read_verdict i q.place c ≡ Some v → (v ≡ verdict) × (c' ≡ c)
+  pub kept : read_verdict i q.place c ≡ None → MayKeep i q.place q.subject c.visits c' → verdict_of i q.place c'.verdicts ≡ Some verdict
+
+module _ (q : Asking) (c c' : Context) where
+  abbrev pub EdgeRemembers : NodeEdge → code.Reply → Type 0
+  EdgeRemembers e r = q.mode ≡ for_verdict → e.guarded ≡ true → list_any (λ i. i == e.node) (busy_at q.place c.in_progress) ≡ false → ReadsOrKeeps q c c' e.node r
+
+  -- a reference does so
+  abbrev pub FormRemembers : {K : Type 0} → NodeForm K → code.Reply → Type 0
+  FormRemembers form r = (e : NodeEdge) → form ≡ node_reference e → EdgeRemembers e r
+
+  -- and a node whose one entry it is
+  abbrev pub PartsRemember : {K : Type 0} → List (NodePart K) → code.Reply → Type 0
+  PartsRemember {K} xs r = (x : NodePart K) → xs ≡ x ∷ [] → FormRemembers x.form r
+
+  abbrev pub NodeRemembers : {K : Type 0} → Nodes K → ℕ → code.Reply → Type 0
+  NodeRemembers {K} nodes i r = (xs : List (NodePart K)) → nodes.entries i ≡ node_these xs → PartsRemember xs r
 
 -- a keyword's run has begun, and its answer is fresh
 abbrev pub HasBegun : {K R : Type 0} → Setting K (R × Answer) → Asking → K → R → code_answer.Answer → Type 0

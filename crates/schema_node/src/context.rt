@@ -1,4 +1,5 @@
 //! The traits of the parts that are handed in, and the context of a run.
+pub mod kept_paths;
 pub mod keyword;
 pub(crate) mod marks;
 pub mod matcher;
@@ -7,3 +8,4 @@ pub mod resolver;
 pub mod schema_place;
 pub mod table;
 pub mod validation;
+mod verdicts;

@@ -7,15 +7,16 @@ ghost use Rattle.schema_node.specs.NodeTable.{NodeEntry, IsReserved, Waits, IsBe
 ghost use Rattle.schema_node.specs.NodeTable.{Adds, Fills, Begins, ComesLast, IsOrdered, IsNewRound, guards_at, is_settled_entry};
 
 pub mod absolute;
-mod evaluation_path;
+pub mod evaluation_path;
 mod evaluation_place;
 mod faults;
 mod matches;
 mod question;
+mod remembered;
 mod replies;
 pub mod run;
 mod sites;
-mod spots;
+pub(crate) mod spots;
 pub mod validators;
 
 use schema_reports::location::{Location, OutOfMemory};

@@ -6,6 +6,7 @@ ghost use Rattle.schema_reports.specs.InstanceViews.{subject_of};
 ghost use Rattle.schema_reports.specs.Keywords as spec;
 ghost use Rattle.schema_reports.specs.Turns.{Standing, TurnLaws, FunctionLaws};
 ghost use Rattle.schema_reports.specs.ReportViews.{BorrowsItsPlace};
+ghost use Rattle.schema_reports.specs.Remembering.{EachAsksVerdicts};
 ghost use Rattle.schema_node.specs.FaultViews.{errors_in, faults_in, PassesBorrowed};
 ghost use Rattle.schema_node.specs.KeywordViews.{mode_of, reply_of, answer_of, fresh, turn_of, Tells};
 ghost use Rattle.schema_node.specs.UnitQuestions.{AsksNoUnits};
@@ -170,4 +171,6 @@ pub trait Validate: Drop {
     ghost function_laws: { (texts : Bool) (m : Self.Shape) → FunctionLaws (words texts) m (absorbed m) };
     // units are asked for by evaluations alone
     ghost asks_no_units: { (texts : Bool) → AsksNoUnits (words texts) };
+    // a run for the verdict asks for verdicts, whatever is replied
+    ghost asks_verdicts: { (texts : Bool) → EachAsksVerdicts (words texts) };
 }

@@ -5,19 +5,26 @@ ghost use Rattle.std.specs.Prelude.{◌==◌};
 ghost use Rattle.schema_reports.specs.Guarded.{same_edge};
 ghost use Rattle.schema_reports.specs.Matching.{assumed};
 ghost use Rattle.schema_reports.specs.MatchViews.{reason_of};
+ghost use Rattle.schema_reports.specs.Pointer.{joined};
 ghost use Rattle.schema_reports.specs.Runs.{with_mark, without_last};
 ghost use Rattle.schema_reports.specs.Unfinished.{meet, or_no, starting};
+ghost use Rattle.schema_node.specs.EvaluationPaths.{path_of};
 ghost use Rattle.schema_node.specs.KeywordViews.{marked_of};
 ghost use Rattle.schema_node.specs.Matches.{after_match, comes_out};
 ghost use Rattle.schema_node.specs.NodeViews.{edge_of};
-ghost use Rattle.schema_node.specs.Progress.{busy_at, Distinct, Enters, EndsWith};
+ghost use Rattle.schema_node.specs.Progress.{begun, busy_at, Distinct, Enters, EndsWith};
+ghost use Rattle.schema_node.specs.Verdicts.{MayKeep, Remembers, is_alone, is_container, one_more, read_verdict};
+ghost use Rattle.schema_reports.specs.InstanceViews.{subject_of};
 
+use crate::context::kept_paths::KeptPaths;
 use crate::context::keyword::Marked;
 use crate::context::marks::Marks;
 use crate::context::matcher::Matcher;
+use crate::context::verdicts::Verdicts;
+use crate::node::evaluation_path::EvaluationPath;
 use crate::node::{Edge, SchemaNode};
-use schema_reports::instance::Place;
-use schema_reports::location::OutOfMemory;
+use schema_reports::instance::{Instance, Place};
+use schema_reports::location::{Location, OutOfMemory};
 use schema_reports::unfinished_matches::{Match, MatchAssumptions, MatchSite, Reason};
 use std::alloc::Global;
 use std::marker::Model;
@@ -32,13 +39,31 @@ struct InProgress<'i> {
     deepest: usize,
 }
 
+/// How many guarded visits a verdict has to take, its own included, so that it is remembered.
+const MEMO_MIN_VISITS: u64 = 16;
+
 /// The pairs of a node and a place that are in progress, the last entered last, and no pair twice; what the run assumes of
-/// unfinished matches, and remembers of those that it met; and the marks of the keyword's run that is at work.
+/// unfinished matches, and remembers of those that it met; the marks of the keyword's run that is at work; and the verdicts that
+/// the run remembers of guarded questions, with how many of these it visited. A context is one run's. Contracts do not see the
+/// paths that it keeps.
 #[derive(Drop)]
 pub struct ValidationContext<'i> {
     pairs: Vec<InProgress<'i>>,
     matches: MatchAssumptions<'i>,
     marking: Marks,
+    verdicts: Verdicts<'i>,
+    visits: u64,
+    kept_paths: KeptPaths,
+}
+
+// Whether the instance is an array or an object.
+fn is_container(instance: Instance<'_>) -> bool
+    ensures container { result ≡ is_container (subject_of instance.entry) }
+{
+    match instance {
+        Instance::Value(value) => value.is_array() || value.is_object(),
+        Instance::Name(_) => false,
+    }
 }
 
 impl<'i> Model for ValidationContext<'i> {
@@ -48,28 +73,38 @@ impl<'i> Model for ValidationContext<'i> {
 
     ghost Value = { Context };
 
-    ghost view = { λ c. record { in_progress = map pair_of c.pairs.items; remembered = c.matches; marking = c.marking } };
+    ghost view = { λ c. record {
+      in_progress = map pair_of c.pairs.items;
+      remembered = c.matches;
+      marking = c.marking;
+      verdicts = c.verdicts;
+      visits = c.visits;
+    } };
 
     ghost invariant = { λ c. Distinct (map pair_of c.pairs.items) × KnowsDepths c.pairs.items };
 }
 
 impl<'i> ValidationContext<'i> {
-    /// Returns a context with nothing in progress, nothing assumed and nothing marked.
+    /// Returns a context with nothing in progress, nothing assumed, nothing marked and no verdict remembered.
     pub fn new(alloc: Global) -> ValidationContext<'i>
-        ensures empty { result ≡ record { in_progress = []; remembered = starting []; marking = [] } }
+        ensures empty { result ≡ begun (starting []) }
     {
         ValidationContext::assuming(alloc, MatchAssumptions::new(alloc))
     }
 
-    /// Returns a context with nothing in progress and nothing marked, with these assumptions and what is remembered with them.
+    /// Returns a context with nothing in progress, nothing marked and no verdict remembered, with these assumptions and what is
+    /// remembered with them.
     pub fn assuming(alloc: Global, matches: MatchAssumptions<'i>) -> ValidationContext<'i>
-        ensures assumes { result ≡ record { in_progress = []; remembered = matches.entry; marking = [] } }
+        ensures assumes { result ≡ begun matches.entry }
     {
         let pairs = Vec::new(alloc);
         ValidationContext {
             pairs,
             matches,
             marking: Marks::new(alloc),
+            verdicts: Verdicts::new(alloc),
+            visits: 0,
+            kept_paths: KeptPaths::new(alloc),
         }
     }
 
@@ -117,6 +152,8 @@ impl<'i> ValidationContext<'i> {
         ensures distinct { Distinct self.new.in_progress }
         ensures remembered { self.new.remembered ≡ self.old.remembered }
         ensures marking { self.new.marking ≡ self.old.marking }
+        ensures verdicts { self.new.verdicts ≡ self.old.verdicts }
+        ensures visits { self.new.visits ≡ self.old.visits }
     {
         if self.is_in_progress(node, place) {
             return Ok(true);
@@ -137,6 +174,8 @@ impl<'i> ValidationContext<'i> {
         ensures left { self.old.in_progress ≡ self.new.in_progress ++ (node.0, place.now) ∷ [] }
         ensures remembered { self.new.remembered ≡ self.old.remembered }
         ensures marking { self.new.marking ≡ self.old.marking }
+        ensures verdicts { self.new.verdicts ≡ self.old.verdicts }
+        ensures visits { self.new.visits ≡ self.old.visits }
     {
         self.pairs.pop();
     }
@@ -156,6 +195,8 @@ impl<'i> ValidationContext<'i> {
         ensures unchanged { IfErr result (λ _. self.new ≡ self.old) }
         ensures in_progress { self.new.in_progress ≡ self.old.in_progress }
         ensures remembered { self.new.remembered ≡ self.old.remembered }
+        ensures verdicts { self.new.verdicts ≡ self.old.verdicts }
+        ensures visits { self.new.visits ≡ self.old.visits }
     {
         self.marking.enter(children, marked)
     }
@@ -165,6 +206,8 @@ impl<'i> ValidationContext<'i> {
         ensures left { self.new.marking ≡ without_last self.old.marking }
         ensures in_progress { self.new.in_progress ≡ self.old.in_progress }
         ensures remembered { self.new.remembered ≡ self.old.remembered }
+        ensures verdicts { self.new.verdicts ≡ self.old.verdicts }
+        ensures visits { self.new.visits ≡ self.old.visits }
     {
         self.marking.exit();
     }
@@ -175,6 +218,8 @@ impl<'i> ValidationContext<'i> {
         ensures none { self.new.marking ≡ [] }
         ensures in_progress { self.new.in_progress ≡ self.old.in_progress }
         ensures remembered { self.new.remembered ≡ self.old.remembered }
+        ensures verdicts { self.new.verdicts ≡ self.old.verdicts }
+        ensures visits { self.new.visits ≡ self.old.visits }
     {
         mem::replace(&mut self.marking, Marks::new(alloc))
     }
@@ -184,6 +229,8 @@ impl<'i> ValidationContext<'i> {
         ensures back { self.new.marking ≡ aside }
         ensures in_progress { self.new.in_progress ≡ self.old.in_progress }
         ensures remembered { self.new.remembered ≡ self.old.remembered }
+        ensures verdicts { self.new.verdicts ≡ self.old.verdicts }
+        ensures visits { self.new.visits ≡ self.old.visits }
     {
         self.marking = aside;
     }
@@ -206,6 +253,8 @@ impl<'i> ValidationContext<'i> {
             ((M.matching matcher.now).is_match pattern.now subject.now)) }
         ensures in_progress { self.new.in_progress ≡ self.old.in_progress }
         ensures marking { self.new.marking ≡ self.old.marking }
+        ensures verdicts { self.new.verdicts ≡ self.old.verdicts }
+        ensures visits { self.new.visits ≡ self.old.visits }
         ensures unchanged { OnErr result (self.new ≡ self.old) }
     {
         match matcher.is_match(alloc, pattern, subject)? {
@@ -232,9 +281,115 @@ impl<'i> ValidationContext<'i> {
             })) }
         ensures in_progress { self.new.in_progress ≡ self.old.in_progress }
         ensures marking { self.new.marking ≡ self.old.marking }
+        ensures verdicts { self.new.verdicts ≡ self.old.verdicts }
+        ensures visits { self.new.visits ≡ self.old.visits }
         ensures unchanged { OnErr result (self.new ≡ self.old) }
     {
         Ok(self.matches.resolve(pattern, subject, reason, site)?)
+    }
+
+    // Whether no other node is in progress at the place.
+    fn is_alone(&self, node: SchemaNode, place: &Place<'i>) -> bool
+        ensures alone { result ≡ is_alone node.0 place.now self.now.in_progress }
+    {
+        let depth = place.len();
+        let mut left = self.pairs.len();
+        while left > 0 {
+            left -= 1;
+            let pair = &self.pairs[left];
+            if pair.deepest < depth {
+                return true;
+            }
+            if pair.node != node && pair.place == *place {
+                return false;
+            }
+        }
+        true
+    }
+
+    /// Returns the verdict that is remembered of the node at the place, unless another node is in progress at that place. It
+    /// allocates nothing.
+    pub fn get_cached_result(&self, node: SchemaNode, place: &Place<'i>) -> Option<bool>
+        ensures read { result ≡ read_verdict node.0 place.now self.now }
+    {
+        let found = self.verdicts.get(node, place)?;
+        if self.is_alone(node, place) {
+            Some(found)
+        } else {
+            None
+        }
+    }
+
+    /// Counts a visit to a guarded node, and returns the mark that goes to `cache_result`: how many visits there were before. The
+    /// count stays at the greatest `u64` once it is there. It allocates nothing.
+    pub fn start_ref_visit(&mut self) -> u64
+        ensures mark { result ≡ self.old.visits }
+        ensures counted { self.new ≡ record self.old { visits = one_more self.old.visits } }
+    {
+        let mark = self.visits;
+        self.visits = mark.saturating_add(1);
+        mark
+    }
+
+    /// Returns how many guarded visits were counted. It allocates nothing.
+    pub(crate) fn visits(&self) -> u64
+        ensures visits { result ≡ self.now.visits }
+    {
+        self.visits
+    }
+
+    /// Remembers the verdict of the node on the instance at the place, if the instance is an array or an object, no other node is
+    /// in progress at the place, and at least 16 visits were counted since the mark. Otherwise nothing changes.
+    ///
+    /// # Errors
+    ///
+    /// Fails only if memory cannot be allocated. Then nothing has changed.
+    pub fn cache_result(
+        &mut self,
+        node: SchemaNode,
+        place: &Place<'i>,
+        instance: Instance<'i>,
+        verdict: bool,
+        mark: u64,
+    ) -> Result<(), OutOfMemory>
+        ensures kept { OnOk result (MayKeep node.0 place.now (subject_of instance.entry) mark self.old
+            → Remembers node.0 place.now verdict self.old.verdicts self.new.verdicts) }
+        ensures others { OnOk result (¬ MayKeep node.0 place.now (subject_of instance.entry) mark self.old
+            → self.new ≡ self.old) }
+        ensures frame { self.new ≡ record self.old { verdicts = self.new.verdicts } }
+        ensures unchanged { OnErr result (self.new ≡ self.old) }
+    {
+        if self.visits.saturating_sub(mark) < MEMO_MIN_VISITS {
+            return Ok(());
+        }
+        if !is_container(instance) || !self.is_alone(node, place) {
+            return Ok(());
+        }
+        self.verdicts.insert(node, place.clone()?, verdict)
+    }
+
+    /// Forgets all verdicts and visits, for a run that begins. It allocates nothing.
+    pub(crate) fn forget_verdicts(&mut self)
+        ensures forgotten { self.new ≡ record self.old { verdicts = []; visits = 0 } }
+    {
+        self.verdicts.clear();
+        self.visits = 0;
+    }
+
+    /// Returns the path of a keyword of this name after the path, and of what follows: always the one that
+    /// `EvaluationPath::of_keyword` makes. Once many paths under a reference were asked for, those are kept when they are made, and
+    /// read when they are asked for again; what contracts see of the context stays. Fails only if memory cannot be allocated.
+    pub fn evaluation_path(
+        &mut self,
+        alloc: Global,
+        path: &EvaluationPath<'_>,
+        name: &str,
+        rest: &str,
+    ) -> Result<Location, OutOfMemory>
+        ensures path { IfOk result (λ l. l ≡ joined (path_of path.now) name.now ++ rest.now) }
+        ensures stays { self.new ≡ self.old }
+    {
+        self.kept_paths.evaluation_path(alloc, path, name, rest)
     }
 
     /// Returns `true` if the string is a pattern of ECMA-262, as the matcher says.

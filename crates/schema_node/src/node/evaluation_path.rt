@@ -1,15 +1,19 @@
 //! The path that led to a node, which allocates nothing until it is asked for.
-ghost use Rattle.std.specs.Prelude.{◌≡◌, ◌++◌, IfOk, string_bytes};
-ghost use Rattle.schema_node.specs.EvaluationPaths.{path_of};
+ghost use Rattle.std.specs.Prelude.{◌≡◌, ◌++◌, Bool, IfOk, string_bytes, true};
+ghost use Rattle.schema_reports.specs.Pointer.{joined};
+ghost use Rattle.schema_node.specs.EvaluationPaths.{is_under_reference, path_of};
 
+use crate::node::spots::path_from;
 use schema_reports::location::{Location, OutOfMemory};
 use std::alloc::Global;
 
-/// A path that was given, or the path before an edge and what the edge adds to it.
+/// A path that was given, the path before an edge and what the edge adds to it, or the same path where it goes on under a
+/// reference.
 #[derive(Clone, Copy)]
 pub enum EvaluationPath<'p> {
     Given(&'p Location),
     Across(&'p EvaluationPath<'p>, &'p Location),
+    UnderReference(&'p EvaluationPath<'p>),
 }
 
 // Writes the path at the end of a text.
@@ -22,6 +26,7 @@ fn push_path(text: &mut String, path: &EvaluationPath<'_>) -> Result<(), OutOfMe
             push_path(text, before)?;
             Ok(text.push_str(added.as_str())?)
         }
+        EvaluationPath::UnderReference(before) => push_path(text, before),
     }
 }
 
@@ -36,8 +41,28 @@ impl<'p> EvaluationPath<'p> {
     /// The path after an edge that adds this to it.
     pub fn across(&'p self, added: &'p Location) -> EvaluationPath<'p>
         ensures appended { path_of result ≡ path_of self.now ++ added.now }
+        ensures under { is_under_reference result ≡ is_under_reference self.now }
     {
         EvaluationPath::Across(self, added)
+    }
+
+    /// The same path, where it goes on under a reference.
+    pub fn under_reference(&'p self) -> EvaluationPath<'p>
+        ensures same { path_of result ≡ path_of self.now }
+        ensures under { is_under_reference result ≡ true }
+    {
+        EvaluationPath::UnderReference(self)
+    }
+
+    /// Returns `true` if the path, or one that it goes on from, is under a reference.
+    pub fn is_under_reference(&self) -> bool
+        ensures under { result ≡ is_under_reference self.now }
+    {
+        match self {
+            EvaluationPath::Given(_) => false,
+            EvaluationPath::Across(before, _) => before.is_under_reference(),
+            EvaluationPath::UnderReference(_) => true,
+        }
     }
 
     /// Returns the path as an owned location. Fails only if memory cannot be allocated.
@@ -47,5 +72,13 @@ impl<'p> EvaluationPath<'p> {
         let mut text = String::new(alloc);
         push_path(&mut text, self)?;
         Location::from_escaped(alloc, text.as_str())
+    }
+
+    /// Returns the path of a keyword of this name after the path, and of what follows. Fails only if memory cannot be allocated.
+    pub fn of_keyword(&self, alloc: Global, name: &str, rest: &str) -> Result<Location, OutOfMemory>
+        ensures path { IfOk result (λ l. l ≡ joined (path_of self.now) name.now ++ rest.now) }
+    {
+        let before = self.made(alloc)?;
+        path_from(alloc, &before, name, rest)
     }
 }

@@ -18,6 +18,7 @@ ghost use Rattle.schema_node.specs.NodeTable.{keyword_absolute};
 ghost use Rattle.schema_node.specs.NodeViews.{node_of};
 
 use crate::context::keyword::{Answer, Fault, Mode, OwnError, Reply};
+use crate::context::validation::ValidationContext;
 use crate::node::Node;
 use crate::node::question::Question;
 use crate::node::replies::{keyword_location, stamped_error};
@@ -82,6 +83,7 @@ fn error_places<'i, K>(
     name: &String,
     question: &Question<'_, 'i>,
     found: &OwnError<'i>,
+    context: &mut ValidationContext<'i>,
 ) -> Result<ErrorPlaces<'i>, OutOfMemory>
     ensures place { IfOk result (λ p. p.place ≡ steps_to question.now.place.now ++ map step_of found.now.below.items) }
     ensures schema_path { IfOk result (λ p. p.schema_path
@@ -92,11 +94,12 @@ fn error_places<'i, K>(
         ++ string_bytes found.now.path) }
     ensures absolute { IfOk result (λ p. option_map string_bytes p.absolute_keyword_location
         ≡ keyword_absolute (node_of node.now) (string_bytes name.now)) }
+    ensures stays { context.new ≡ context.old }
 {
     let first = spot_name(&found.absorbed, name);
     let rest = found.path.as_str();
     let schema_path = path_from(alloc, &node.location, first, rest)?;
-    let evaluation_path = path_from(alloc, &question.path.made(alloc)?, first, rest)?;
+    let evaluation_path = context.evaluation_path(alloc, question.path, first, rest)?;
     let absolute_keyword_location = keyword_location(alloc, node, name)?;
     let place = place_below(question.place, found.below.as_slice())?;
     Ok(ErrorPlaces {
@@ -114,14 +117,16 @@ fn own_error<'i, K>(
     name: &String,
     question: &Question<'_, 'i>,
     found: OwnError<'i>,
+    context: &mut ValidationContext<'i>,
 ) -> Result<ValidationError<'i>, OutOfMemory>
     ensures error { IfOk result (λ e. (texts : Bool) → error_of texts e
         ≡ fault_error (where_asked (node_of node.now) (asking question.now))
         (string_bytes name.now) (own (own_of texts found.entry))) }
     ensures borrows { IfOk result (λ e. (root : Data) → IsAskedOf root (asking question.now)
         → IsPresent (subject_of question.now.instance) (map step_of found.entry.below.items) → BorrowsItsPlace root e) }
+    ensures stays { context.new ≡ context.old }
 {
-    let places = error_places(alloc, node, name, question, &found)?;
+    let places = error_places(alloc, node, name, question, &found, context)?;
     let instance = instance_below(question.instance, found.below.as_slice());
     Ok(ValidationError {
         instance,
@@ -141,15 +146,17 @@ fn error_by<'i, K>(
     name: &String,
     question: &Question<'_, 'i>,
     fault: Fault<'i>,
+    context: &mut ValidationContext<'i>,
 ) -> Result<ValidationError<'i>, OutOfMemory>
     ensures error { IfOk result (λ e. (texts : Bool) → error_of texts e
         ≡ fault_error (where_asked (node_of node.now) (asking question.now))
         (string_bytes name.now) (fault_of texts fault.entry)) }
     ensures borrows { IfOk result (λ e. (root : Data) → IsAskedOf root (asking question.now)
         → LiesInside root (subject_of question.now.instance) fault.entry → BorrowsItsPlace root e) }
+    ensures stays { context.new ≡ context.old }
 {
     match fault {
-        Fault::Own(found) => own_error(alloc, node, name, question, found),
+        Fault::Own(found) => own_error(alloc, node, name, question, found, context),
         Fault::Passed(error) => stamped_error(alloc, node, name, error),
     }
 }
@@ -161,16 +168,18 @@ fn errors_by<'i, K>(
     name: &String,
     question: &Question<'_, 'i>,
     faults: Vec<Fault<'i>>,
+    context: &mut ValidationContext<'i>,
 ) -> Result<Vec<ValidationError<'i>>, OutOfMemory>
     ensures errors { IfOk result (λ es. (texts : Bool) → map (error_of texts) es.items
         ≡ map (fault_error (where_asked (node_of node.now) (asking question.now))
         (string_bytes name.now)) (map (fault_of texts) faults.entry.items)) }
     ensures borrows { IfOk result (λ es. (root : Data) → IsAskedOf root (asking question.now)
         → All (LiesInside root (subject_of question.now.instance)) faults.entry.items → All (BorrowsItsPlace root) es.items) }
+    ensures stays { context.new ≡ context.old }
 {
     let mut errors = Vec::with_capacity(alloc, faults.len())?;
     for fault in faults {
-        errors.push(error_by(alloc, node, name, question, fault)?)?;
+        errors.push(error_by(alloc, node, name, question, fault, context)?)?;
     }
     Ok(errors)
 }
@@ -235,6 +244,7 @@ fn first_finished<'i, K>(
     name: &String,
     question: &Question<'_, 'i>,
     answer: Answer<'i>,
+    context: &mut ValidationContext<'i>,
 ) -> Result<Reply<'i>, OutOfMemory>
     ensures reply { IfOk result (λ r. (texts : Bool) → reply_of texts r
         ≡ answer_reply for_first (where_asked (node_of node.now) (asking question.now))
@@ -242,11 +252,12 @@ fn first_finished<'i, K>(
     ensures borrows { IfOk result (λ r. (root : Data) → IsAskedOf root (asking question.now)
         → FaultsLieInside for_first root (subject_of question.now.instance) answer.entry
         → All (BorrowsItsPlace root) (errors_in r)) }
+    ensures stays { context.new ≡ context.old }
 {
     match first_fault(answer) {
         None => Ok(Reply::First(None)),
         Some(fault) => {
-            let error = error_by(alloc, node, name, question, fault)?;
+            let error = error_by(alloc, node, name, question, fault, context)?;
             Ok(Reply::First(Some(Box::new(alloc, error)?)))
         }
     }
@@ -260,6 +271,7 @@ fn all_finished<'i, K>(
     name: &String,
     question: &Question<'_, 'i>,
     answer: Answer<'i>,
+    context: &mut ValidationContext<'i>,
 ) -> Result<Reply<'i>, OutOfMemory>
     ensures reply { IfOk result (λ r. (texts : Bool) → reply_of texts r
         ≡ answer_reply for_all (where_asked (node_of node.now) (asking question.now))
@@ -267,9 +279,10 @@ fn all_finished<'i, K>(
     ensures borrows { IfOk result (λ r. (root : Data) → IsAskedOf root (asking question.now)
         → FaultsLieInside for_all root (subject_of question.now.instance) answer.entry
         → All (BorrowsItsPlace root) (errors_in r)) }
+    ensures stays { context.new ≡ context.old }
 {
     let faults = all_faults(alloc, answer)?;
-    let errors = errors_by(alloc, node, name, question, faults)?;
+    let errors = errors_by(alloc, node, name, question, faults, context)?;
     Ok(Reply::All(errors))
 }
 
@@ -280,6 +293,7 @@ pub fn finished<'i, K>(
     name: &String,
     question: &Question<'_, 'i>,
     answer: Answer<'i>,
+    context: &mut ValidationContext<'i>,
 ) -> Result<Reply<'i>, OutOfMemory>
     ensures reply { IfOk result (λ r. (texts : Bool) → reply_of texts r
         ≡ answer_reply (mode_of question.now.mode) (where_asked (node_of node.now) (asking question.now))
@@ -287,11 +301,12 @@ pub fn finished<'i, K>(
     ensures borrows { IfOk result (λ r. (root : Data) → IsAskedOf root (asking question.now)
         → FaultsLieInside (mode_of question.now.mode) root (subject_of question.now.instance) answer.entry
         → All (BorrowsItsPlace root) (errors_in r)) }
+    ensures stays { context.new ≡ context.old }
 {
     match question.mode {
         Mode::Verdict => Ok(Reply::Truth(is_accepting(answer))),
-        Mode::First => first_finished(alloc, node, name, question, answer),
-        Mode::All => all_finished(alloc, node, name, question, answer),
+        Mode::First => first_finished(alloc, node, name, question, answer, context),
+        Mode::All => all_finished(alloc, node, name, question, answer, context),
         Mode::Evaluate => Ok(Reply::Nothing),
     }
 }

@@ -43,6 +43,7 @@ pub fn asked_match<'i, K, M: Matcher>(
         ((M.matching engine.now.matcher.now).is_match pattern.now subject.now)) }
     ensures in_progress { context.new.in_progress ≡ context.old.in_progress }
     ensures marking { context.new.marking ≡ context.old.marking }
+    ensures verdicts { context.new.verdicts ≡ context.old.verdicts }
 {
     match engine.matcher.is_match(engine.alloc, pattern, subject)? {
         Match::Finished(matches) => Ok(matches),

@@ -16,6 +16,7 @@ ghost use Rattle.schema_node.specs.RunStates.{FindsRightly, HasBegun, Keeps, May
 ghost use Rattle.schema_node.specs.RunStates.{ChildSays, EdgeSays, FormSays, NodeSays, PartsSay};
 ghost use Rattle.schema_node.specs.RunStates.{MeetsChild, MeetsEdge, MeetsEntry, MeetsForm, MeetsNode, MeetsParts};
 ghost use Rattle.schema_node.specs.RunStates.{RunBorrows, RunMeets, RunReplies, RunSpeaks};
+ghost use Rattle.schema_node.specs.RunStates.{EdgeRemembers, FormRemembers, GoesOn, NodeRemembers, PartsRemember, RunRemembers, StaysRight};
 
 use crate::context::keyword::{Answer, Below, Mode, Reply, Step, Validate};
 use crate::context::marks::child_edge;
@@ -26,6 +27,7 @@ use crate::node::evaluation_place::EvaluationPlace;
 use crate::node::faults::{begun, finished};
 use crate::node::matches::asked_match;
 use crate::node::question::{Engine, NamedKeyword, Question};
+use crate::node::remembered::{begin_visit, kept_reply, remembered_verdict};
 use crate::node::replies::{accepted, is_settled, is_yes, joined, refused, stamped_reply};
 use crate::node::spots::after;
 use crate::node::{Edge, Entry, EntryForm, NodeForm, Nodes, SchemaNode};
@@ -88,6 +90,10 @@ fn run_node<'i, K: Validate, M: Matcher>(
     ensures meets { IfOk result (λ _. MeetsNode
         (setting K.words K.is_whole K.shape M.matching engine.now) (asking question.now)
         context.old context.new node.0) }
+    ensures stays { IfOk result (λ _. StaysRight
+        (setting K.words K.is_whole K.shape M.matching engine.now) (asking question.now) context.old context.new) }
+    ensures remembers { IfOk result (λ r. NodeRemembers (asking question.now) context.old context.new
+        (numbered K.shape engine.now.nodes.now) node.0 r) }
 {
     let found = engine.nodes.node(node);
     match &found.form {
@@ -125,6 +131,10 @@ fn run_entries<'i, K: Validate, M: Matcher>(
     ensures meets { IfOk result (λ _. MeetsParts
         (setting K.words K.is_whole K.shape M.matching engine.now) (asking question.now)
         context.old context.new node.0 (map (shaped_part K.shape) (map entry_of entries.now))) }
+    ensures stays { IfOk result (λ _. StaysRight
+        (setting K.words K.is_whole K.shape M.matching engine.now) (asking question.now) context.old context.new) }
+    ensures remembers { IfOk result (λ r. PartsRemember (asking question.now) context.old context.new
+        (map (shaped_part K.shape) (map entry_of entries.now)) r) }
 {
     let mut found = accepted(engine.alloc, question.mode);
     for entry in entries {
@@ -156,6 +166,10 @@ fn run_entry<'i, K: Validate, M: Matcher>(
     ensures meets { IfOk result (λ _. MeetsEntry
         (setting K.words K.is_whole K.shape M.matching engine.now) (asking question.now)
         context.old context.new node.0 (shaped_part K.shape (entry_of entry.now))) }
+    ensures stays { IfOk result (λ _. StaysRight
+        (setting K.words K.is_whole K.shape M.matching engine.now) (asking question.now) context.old context.new) }
+    ensures remembers { IfOk result (λ r. FormRemembers (asking question.now) context.old context.new
+        (shaped_form K.shape (form_of entry.now.form)) r) }
 {
     if asks_verdict_first(entry, question.mode) {
         let asked = Question {
@@ -192,6 +206,10 @@ fn run_form<'i, K: Validate, M: Matcher>(
     ensures meets { IfOk result (λ _. MeetsForm
         (setting K.words K.is_whole K.shape M.matching engine.now) (asking question.now)
         context.old context.new node.0 (string_bytes entry.now.name) (shaped_form K.shape (form_of entry.now.form))) }
+    ensures stays { IfOk result (λ _. StaysRight
+        (setting K.words K.is_whole K.shape M.matching engine.now) (asking question.now) context.old context.new) }
+    ensures remembers { IfOk result (λ r. FormRemembers (asking question.now) context.old context.new
+        (shaped_form K.shape (form_of entry.now.form)) r) }
 {
     match &entry.form {
         EntryForm::Keyword(keyword, children) => {
@@ -203,7 +221,14 @@ fn run_form<'i, K: Validate, M: Matcher>(
             run_keyword(engine, node, &named, question, context)
         }
         EntryForm::Reference(edge) => {
-            let reply = run_edge(engine, edge, question, context)?;
+            let path = question.path.under_reference();
+            let asked = Question {
+                instance: question.instance,
+                place: question.place,
+                path: &path,
+                mode: question.mode,
+            };
+            let reply = run_edge(engine, edge, &asked, context)?;
             stamped_reply(engine.alloc, engine.nodes.node(node), &entry.name, reply)
         }
     }
@@ -228,6 +253,8 @@ fn run_keyword<'i, K: Validate, M: Matcher>(
     ensures meets { IfOk result (λ _. MeetsForm
         (setting K.words K.is_whole K.shape M.matching engine.now) (asking question.now)
         context.old context.new node.0 (string_bytes keyword.now.name.now) (form_at_work K.shape keyword.now)) }
+    ensures stays { IfOk result (λ _. StaysRight
+        (setting K.words K.is_whole K.shape M.matching engine.now) (asking question.now) context.old context.new) }
 {
     let mut run = keyword
         .keyword
@@ -250,6 +277,7 @@ fn run_keyword<'i, K: Validate, M: Matcher>(
         keyword.name,
         question,
         answer,
+        context,
     )
 }
 
@@ -280,6 +308,8 @@ fn run_turns<'i, K: Validate, M: Matcher>(
     ensures meets { IfOk result (λ _. MeetsForm
         (setting K.words K.is_whole K.shape M.matching engine.now) (asking question.now)
         context.old context.new node.0 (string_bytes keyword.now.name.now) (form_at_work K.shape keyword.now)) }
+    ensures stays { IfOk result (λ _. StaysRight
+        (setting K.words K.is_whole K.shape M.matching engine.now) (asking question.now) context.old context.new) }
 {
     let children = keyword.children;
     let mut reply = Reply::Nothing;
@@ -349,6 +379,8 @@ fn run_child<'i, K: Validate, M: Matcher>(
     ensures meets { IfOk result (λ _. MeetsChild
         (setting K.words K.is_whole K.shape M.matching engine.now) (asking question.now)
         context.old context.new node.0 (map (option_map edge_of) children.now) (record { child = child; below = below_of below.entry })) }
+    ensures stays { IfOk result (λ _. StaysRight
+        (setting K.words K.is_whole K.shape M.matching engine.now) (asking question.now) context.old context.new) }
 {
     match child_edge(children, child) {
         None => Ok(accepted(engine.alloc, question.mode)),
@@ -368,7 +400,8 @@ fn run_child<'i, K: Validate, M: Matcher>(
     }
 }
 
-// The reply of the node that an edge leads to; yes where the edge is guarded and the pair is in progress.
+// The reply of the node that an edge leads to; yes where the edge is guarded and the pair is in progress. Where it is guarded and
+// the verdict is wanted, one that the run remembers is the reply, and one that is computed is remembered where it may be.
 #[cycle(run)]
 fn run_edge<'i, K: Validate, M: Matcher>(
     engine: &Engine<'_, K, M>,
@@ -385,6 +418,10 @@ fn run_edge<'i, K: Validate, M: Matcher>(
     ensures meets { IfOk result (λ _. MeetsEdge
         (setting K.words K.is_whole K.shape M.matching engine.now) (asking question.now)
         context.old context.new (edge_of edge.now)) }
+    ensures stays { IfOk result (λ _. StaysRight
+        (setting K.words K.is_whole K.shape M.matching engine.now) (asking question.now) context.old context.new) }
+    ensures remembers { IfOk result (λ r. EdgeRemembers (asking question.now) context.old context.new
+        (edge_of edge.now) r) }
 {
     let whole = question.path.across(&edge.path);
     if !edge.guarded {
@@ -407,7 +444,13 @@ fn run_edge<'i, K: Validate, M: Matcher>(
         path: &whole,
         mode: question.mode,
     };
-    let reply = run_node(engine, edge.node, &asked, context)?;
+    if let Some(valid) = remembered_verdict(context, edge.node, &here, question.mode) {
+        context.exit(edge.node, &here);
+        return Ok(Reply::Truth(valid));
+    }
+    let mark = begin_visit(context, question.mode);
+    let computed = run_node(engine, edge.node, &asked, context)?;
+    let reply = kept_reply(context, edge.node, &here, &asked, computed, mark)?;
     context.exit(edge.node, &here);
     Ok(reply)
 }
@@ -425,7 +468,8 @@ impl<K: Validate> Nodes<K> {
     /// Runs a node over the instance at a place, for its verdict, its first error or all errors, with the path that led to
     /// it. The reply is of the mode. A match that the matcher leaves unfinished comes out as the context assumes it to, or
     /// else as no, and the context remembers it. The pairs in progress and the marks are as before, except on `Err`. Each error
-    /// borrows the instance at its place.
+    /// borrows the instance at its place. Verdicts that the context remembers are forgotten first; each that it remembers after the
+    /// run is what the node says at the place with its own pair alone in progress there.
     pub fn run<'i, M: Matcher>(
         &self,
         alloc: Global,
@@ -448,6 +492,47 @@ impl<K: Validate> Nodes<K> {
             context.old context.new node.0) }
         ensures speaks { IfOk result (λ r. RunSpeaks (asking_first question.now) r) }
         ensures borrows { IfOk result (λ r. RunBorrows (asking_first question.now) r) }
+        ensures right { IfOk result (λ _. RunRemembers
+            (setting_over K.words K.is_whole K.shape self.now (M.matching matcher.now)) (asking_first question.now)
+            context.new) }
+    {
+        context.forget_verdicts();
+        self.run_further(alloc, matcher, node, question, context)
+    }
+
+    /// Runs a node as a part of a run that has begun: as `run` does, but verdicts that the run remembers are read, and stay
+    /// remembered. For the verdict a node whose one entry is a guarded reference, its target's pair not in progress, gives the
+    /// verdict that `get_cached_result` reads, where it reads one, and leaves the context as it was; else the verdict is
+    /// remembered where it took enough visits, on an array or an object, with no other node in progress at the place.
+    pub fn run_further<'i, M: Matcher>(
+        &self,
+        alloc: Global,
+        matcher: &M,
+        node: SchemaNode,
+        question: &FirstQuestion<'_, 'i>,
+        context: &mut ValidationContext<'i>,
+    ) -> Result<Reply<'i>, OutOfMemory>
+        requires known { node.0 < length self.now }
+        requires above { NoDeeper question.now.place.now context.old.in_progress }
+        requires wanted { ¬ (mode_of question.now.mode ≡ for_units) }
+        requires goes_on { GoesOn (setting_over K.words K.is_whole K.shape self.now (M.matching matcher.now))
+            (asking_first question.now) context.old }
+        ensures kept { IfOk result (λ _. context.new.in_progress ≡ context.old.in_progress) }
+        ensures assumes { IfOk result (λ _. context.new.remembered.assumptions ≡ context.old.remembered.assumptions) }
+        ensures marking { IfOk result (λ _. context.new.marking ≡ context.old.marking) }
+        ensures replies { IfOk result (λ r. RunReplies
+            (setting_over K.words K.is_whole K.shape self.now (M.matching matcher.now)) (asking_first question.now)
+            context.old node.0 r) }
+        ensures meets { IfOk result (λ _. RunMeets
+            (setting_over K.words K.is_whole K.shape self.now (M.matching matcher.now)) (asking_first question.now)
+            context.old context.new node.0) }
+        ensures speaks { IfOk result (λ r. RunSpeaks (asking_first question.now) r) }
+        ensures borrows { IfOk result (λ r. RunBorrows (asking_first question.now) r) }
+        ensures stays { IfOk result (λ _. StaysRight
+            (setting_over K.words K.is_whole K.shape self.now (M.matching matcher.now)) (asking_first question.now)
+            context.old context.new) }
+        ensures remembers { IfOk result (λ r. NodeRemembers (asking_first question.now) context.old context.new
+            (numbered K.shape self.now) node.0 r) }
     {
         // (the use says that the table is ranked)
         let _ = &self.nodes;

@@ -1,54 +1,45 @@
-use Rattle.std.proofs.Common.{◌∙◌, suc, arith, length, refl, subst}
+use Rattle.std.proofs.Common.{◌∙◌, ap, length, subst, sym}
 use Rattle.schema_reports.specs.InstanceViews.{subject_of}
-use Rattle.schema_reports.specs.Numbered.{left, subject_in}
-use Rattle.schema_node.specs.KeywordViews.{mode_of}
-use Rattle.schema_node.specs.Matches.{settling}
-use Rattle.schema_node.specs.NodeMeets.{reading}
-use Rattle.schema_node.specs.NodeTable.{IsOrdered, numbered}
-use Rattle.schema_node.specs.Progress.{busy_at}
-use Rattle.schema_node.proofs.KeywordTurns.{silent, silent_reads}
-use Rattle.schema_node.proofs.Matches.{completes_once}
-use Rattle.schema_node.proofs.NodeOutcomes.{reply_is}
-use Rattle.schema_node.proofs.RankedTable.{ranked_table}
+use Rattle.schema_reports.specs.Numbered.{subject_in}
+use Rattle.schema_node.specs.NodeTable.{numbered}
+use Rattle.schema_node.specs.Progress.{Context, NoDeeper}
 use Rattle.schema_node.proofs.Replies.{if_ok_mono}
+use Rattle.schema_node.proofs.RightVerdicts.{layout_from, lays_out_from, none_right, root_lays_out}
 use Rattle.schema_node.proofs.node.Nodes.run.Goals as goal
 
-pub run_node-requires : goal.run_node-requires
-run_node-requires g c = record {
-  may = record {
-    known = c.requires.known;
-    ranked = ranked_table g.K.Validate.shape c.args.self.now c.self.inside.finished (subst (λ ns. IsOrdered ns c.self.inside.finished) c.self.view_is c.self.invariant);
-    above = rw c.given-place.ensures.same c.requires.above;
-    wanted = c.requires.wanted;
-  };
-}
+pub run_further-requires : goal.run_further-requires
+run_further-requires g c =
+    let ns = numbered g.K.Validate.shape c.args.self.now in
+    let p = c.args.question.now.place.now in
+    let s = subject_of c.args.question.now.instance in
+    let c1 = c.forget_verdicts.new.self in
+    record {
+      known = c.requires.known;
+      above = subst (NoDeeper p) (sym (ap (λ (z : Context). z.in_progress) c.forget_verdicts.ensures.forgotten)) c.requires.above;
+      wanted = c.requires.wanted;
+      goes_on = (layout_from p s, lays_out_from p s, none_right g.K.Validate.words g.K.Validate.is_whole ns (length c.args.self.now) (g.M.Matcher.matching c.args.matcher.now) c1.remembered.assumptions c1.remembered (layout_from p s) c1.verdicts (ap (λ (z : Context). z.verdicts) c.forget_verdicts.ensures.forgotten));
+    }
+
+pub returns-clause-kept : goal.returns-clause-kept
+returns-clause-kept g c = if_ok_mono c.run_further.result _ _ (λ r e. e ∙ ap (λ (z : Context). z.in_progress) c.forget_verdicts.ensures.forgotten) c.run_further.ensures.kept
+
+pub returns-clause-assumes : goal.returns-clause-assumes
+returns-clause-assumes g c = if_ok_mono c.run_further.result _ _ (λ r e. e ∙ ap (λ (z : Context). z.remembered.assumptions) c.forget_verdicts.ensures.forgotten) c.run_further.ensures.assumes
+
+pub returns-clause-marking : goal.returns-clause-marking
+returns-clause-marking g c = if_ok_mono c.run_further.result _ _ (λ r e. e ∙ ap (λ (z : Context). z.marking) c.forget_verdicts.ensures.forgotten) c.run_further.ensures.marking
 
 pub returns-clause-replies : goal.returns-clause-replies
-returns-clause-replies g c =
-    let as' = c.args.context.now.remembered.assumptions in
-    let w = settling (g.M.Matcher.matching c.args.matcher.now) as' in
-    if_ok_mono c.run_node.result _ _ (λ r says root texts at_place tells once n enough.
-    (says (reading w texts root n) (record { stands = at_place; tells = tells; matcher = refl; completes = completes_once as' once }) enough).same
-    ∙ reply_is (g.K.Validate.words texts) w.matcher (numbered g.K.Validate.shape c.args.self.now) (subject_in root) as' (mode_of c.args.question.now.mode) c.requires.wanted n c.args.node.0 c.args.question.now.path.now c.args.question.now.place.now (busy_at c.args.question.now.place.now c.args.context.now.in_progress))
-    (rw (c.given-path.ensures.same, c.given-place.ensures.same) at c.run_node.ensures.says)
+returns-clause-replies g c = rw c.forget_verdicts.ensures.forgotten at c.run_further.ensures.replies
 
 pub returns-clause-meets : goal.returns-clause-meets
-returns-clause-meets g c =
-    let as' = c.args.context.now.remembered.assumptions in
-    if_ok_mono c.run_node.result _ _ (λ r meets root texts at_place tells once n enough.
-    meets texts root n (record { stands = at_place; tells = tells; matcher = refl; completes = completes_once as' once }) enough)
-    (rw (c.given-path.ensures.same, c.given-place.ensures.same) at c.run_node.ensures.meets)
+returns-clause-meets g c = rw c.forget_verdicts.ensures.forgotten at c.run_further.ensures.meets
 
-pub returns-clause-borrows : goal.returns-clause-borrows
-returns-clause-borrows g c =
+pub returns-clause-right : goal.returns-clause-right
+returns-clause-right g c = if_ok_mono c.run_further.result _ _ (λ r stays root at_place.
+    let p = c.args.question.now.place.now in
     let ns = numbered g.K.Validate.shape c.args.self.now in
-    let w = settling (g.M.Matcher.matching c.args.matcher.now) c.args.context.now.remembered.assumptions in
-    let d = left ns (length c.args.self.now) c.args.node.0 (subject_of c.args.question.now.instance) (busy_at c.args.question.now.place.now c.args.context.now.in_progress) in
-    if_ok_mono c.run_node.result _ _ (λ r says root at_place. (says (silent w root (suc d)) (silent_reads g.K.Validate.is_whole ns (length c.args.self.now) w c.args.question.now.place.now (subject_of c.args.question.now.instance) root (suc d) at_place) (omega arith)).borrows) (rw (c.given-path.ensures.same, c.given-place.ensures.same) at c.run_node.ensures.says)
-
-pub returns-clause-speaks : goal.returns-clause-speaks
-returns-clause-speaks g c =
-    let ns = numbered g.K.Validate.shape c.args.self.now in
-    let w = settling (g.M.Matcher.matching c.args.matcher.now) c.args.context.now.remembered.assumptions in
-    let d = left ns (length c.args.self.now) c.args.node.0 (subject_of c.args.question.now.instance) (busy_at c.args.question.now.place.now c.args.context.now.in_progress) in
-    if_ok_mono c.run_node.result _ _ (λ r says root at_place. (_, (says (silent w root (suc d)) (silent_reads g.K.Validate.is_whole ns (length c.args.self.now) w c.args.question.now.place.now (subject_of c.args.question.now.instance) root (suc d) at_place) (omega arith)).same)) (rw (c.given-path.ensures.same, c.given-place.ensures.same) at c.run_node.ensures.says)
+    let c1 = c.forget_verdicts.new.self in
+    stays (subject_in root) (root_lays_out root p (subject_of c.args.question.now.instance) at_place)
+    (none_right g.K.Validate.words g.K.Validate.is_whole ns (length c.args.self.now) (g.M.Matcher.matching c.args.matcher.now) c1.remembered.assumptions c1.remembered (subject_in root) c1.verdicts (ap (λ (z : Context). z.verdicts) c.forget_verdicts.ensures.forgotten)))
+    c.run_further.ensures.stays

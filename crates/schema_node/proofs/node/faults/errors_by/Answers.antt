@@ -1,4 +1,4 @@
-use Rattle.std.proofs.Common.{string_bytes, All, subst}
+use Rattle.std.proofs.Common.{◌∙◌, string_bytes, All, subst}
 use Rattle.schema_reports.specs.InstanceViews.{subject_of}
 use Rattle.schema_reports.specs.Meaning.{fault_error}
 use Rattle.schema_reports.specs.ReportViews.{error_of, BorrowsItsPlace}
@@ -21,4 +21,5 @@ loop-fault-preserved g c = record {
       let left = subst (All (LiesInside root s)) c.in-Some.ensures.steps.0 i.1 in
       let this = c.in_ok-error_by.ensures.borrows root at_place (all_first (LiesInside root s) _ _ left) in
       (rw c.in_ok-push.ensures.items (all_pushed (BorrowsItsPlace root) c.loop-fault.errors.items c.in_ok-error_by.field-0 i.0 this), all_rest (LiesInside root s) _ _ left);
+  stays = c.in_ok-error_by.ensures.stays ∙ c.loop-fault.invariant.stays;
 }

@@ -19,4 +19,5 @@ invariant-loop-fault g l =
     record {
       so_far : (texts : Bool) → map (error_of texts) l.errors.items ++ map f (map (fault_of texts) (into_iter_items l.fault-iterator)) ≡ map f (map (fault_of texts) l.fn.faults.items);
       borrows : (root : Data) → subject_at root (steps_to l.question.place.now) ≡ Some (subject_of l.question.instance) → All (LiesInside root (subject_of l.question.instance)) l.fn.faults.items → All (BorrowsItsPlace root) l.errors.items × All (LiesInside root (subject_of l.question.instance)) (into_iter_items l.fault-iterator);
+      stays : l.context ≡ l.fn.context;
     }

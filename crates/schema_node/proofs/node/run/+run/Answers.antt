@@ -2,7 +2,7 @@ use Rattle.std.proofs.lemmas.List.Elements.{All-nil}
 use Rattle.std.specs.Prelude.{All}
 use Rattle.schema_reports.specs.ReportViews.{BorrowsItsPlace}
 use Rattle.schema_node.specs.FaultViews.{PassesBorrowed}
-use Rattle.std.proofs.Common.{◌≡◌, ◌∙◌, ◌+◌, ◌*◌, ◌<◌, ◌≤◌, ℕ, Bool, suc, arith, sym, refl, ap, subst, map, option_map, string_bytes, length, Some, false, List, [], ◌∷◌, ◌++◌, drop}
+use Rattle.std.proofs.Common.{◌≡◌, ◌∙◌, ◌+◌, ◌*◌, ◌<◌, ◌≤◌, ℕ, Bool, suc, arith, sym, refl, ap, subst, map, option_map, string_bytes, length, Some, false, true≢false, List, [], ◌∷◌, ◌++◌, drop}
 use Rattle.schema_reports.specs.InstanceViews.{subject_of, step_of}
 use Rattle.schema_reports.specs.Instance.{Text}
 use Rattle.schema_reports.specs.Keywords.{Marked, MatchPoint, Mode, Question, ask, done, ecma, mark, match_text, no_reply, truth, unmark}
@@ -18,19 +18,24 @@ use Rattle.schema_reports.specs.Guarded.{node_at, node_never, same_edge}
 use Rattle.schema_node.specs.KeywordViews.{below_of, marked_of, mode_of, reply_of, answer_of, point_of}
 use Rattle.schema_node.specs.Matches.{after_match, settling}
 use Rattle.schema_node.specs.NodeMeets.{ChildMeets, EdgeMeets, EntryMeets, FormMeets, child_run, part_looked, parts_looked, reading}
-use Rattle.schema_node.specs.NodeTable.{numbered, shaped_part}
-use Rattle.schema_node.specs.NodeViews.{edge_of, entry_of, node_of, plan_of}
-use Rattle.schema_node.specs.NodeRuns.{ChildReplies, NodeReplies, EdgeReplies, Reading, Reads, child_says, edge_needs, entry_where, parts_say, refuses, reply_by}
-use Rattle.schema_node.specs.Progress.{NoDeeper, busy_at}
+use Rattle.schema_node.specs.NodeTable.{numbered, shaped_form, shaped_part}
+use Rattle.schema_node.specs.NodeViews.{edge_of, entry_of, form_of, node_of, plan_of}
+use Rattle.schema_node.specs.NodeRuns.{ChildReplies, EdgeReplies, Reading, Reads, child_says, edge_needs, entry_where, parts_say, refuses, reply_by}
+use Rattle.schema_node.specs.Progress.{Context, NoDeeper, busy_at}
+use Rattle.schema_node.specs.RightVerdicts.{LaysOut}
+use Rattle.schema_node.specs.RunStates.{EdgeRemembers, MeetsNode, NodeSays, RemembersRightly, StaysRight, asking, setting}
+use Rattle.schema_node.specs.declared.context.keyword.Reply.TheVariants as told
+use Rattle.schema_node.proofs.GoesOn.{alone_remembers, asked_across, computed_meets, computed_remembers, computed_says, computed_stays, ended_remembers, pairs_back, planned_remembers, read_meets_edge, read_says, right_matched, right_same, stamped_remembers}
+use Rattle.schema_node.proofs.RightVerdicts.{laid_below}
 use Rattle.schema_node.specs.Turning.{unit_with}
 use Rattle.schema_node.proofs.Pairs.{busy-below, busy-pushed, deeper-below, deeper-pushed, entered_new, entered_old}
 use Rattle.schema_node.proofs.KeywordTurns.{can_be_in, less_after, less_first, asked, asks_less, marked, mark_taken, matched, matches_present, told_pattern, asks_present, begins, ended_right, falls_turned, faults_lie, keyword_says, right_reply, silent, silent_reads, tells_nothing}
 use Rattle.schema_reports.proofs.Alike.{asked_alike}
 use Rattle.schema_node.proofs.Replies.{if_ok_always, if_ok_both, if_ok_mono}
-use Rattle.schema_node.proofs.NodeRuns.{agrees_answers, agrees_says, child_below, child_here, edge_busy, edge_entered, falls_below, falls_here, form_reference, leaf_accepts, needs_of_entered, node_by_plan, one_entry, settled_entries, stands_in, start_entries, where_is}
+use Rattle.schema_node.proofs.NodeRuns.{agrees_answers, agrees_says, child_below, child_here, edge_busy, falls_below, falls_here, form_reference, leaf_accepts, needs_of_entered, node_by_plan, one_entry, settled_entries, stands_in, start_entries, where_is}
 use Rattle.schema_node.proofs.Matches.{after_assumes, moved, meets_append, meets_same}
 use Rattle.schema_node.proofs.KeywordMeets.{meets_all, meets_asked, meets_begun, meets_mark_taken, meets_marked, meets_matched, meets_nothing}
-use Rattle.schema_node.proofs.NodeMeets.{child_replies, end_met, last_met, leaf_holds, leaf_no, leaf_yes, meets_below, meets_busy, meets_entered, meets_here, meets_never, meets_reference, meets_these, next_met, nothing_refused, other_entry, stops_at}
+use Rattle.schema_node.proofs.NodeMeets.{child_replies, end_met, last_met, leaf_holds, leaf_no, leaf_yes, meets_below, meets_busy, meets_here, meets_never, meets_reference, meets_these, next_met, nothing_refused, other_entry, stops_at}
 use Rattle.schema_node.proofs.NodeParts.{absolute_is, drop_at, drop_past, keyword_children, part_at, plain_there, plan_is, reference_edge, replies_refused, tells_keyword}
 use Rattle.schema_node.specs.declared.node.Entry.{Entry}
 use Rattle.schema_node.proofs.node.run.+run.Goals as goal
@@ -72,7 +77,7 @@ run_child-run_edge-requires g t c =
     let e = edge_of c.in-Some.edge.now in
     let k = c.requires.children c.args.child e (sym c.in-Some.ensures.edge) in
     let l = falls_here g.K.Validate.words g.K.Validate.is_whole ns (length c.args.engine.now.nodes.now) (settling (g.M.Matcher.matching c.args.engine.now.matcher.now) c.args.context.now.remembered.assumptions) c.requires.may.ranked c.args.node.0 (subject_of c.args.question.now.instance) (busy_at (steps_to c.args.question.now.place.now) c.args.context.now.in_progress) e c.requires.may.known k in
-    λ κs h. (lower_edge _ _ _ t 0 refl l c.decreases, (h.0, (h.1.0, (h.1.1.0, (h.1.1.1, record { known = (c.requires.may.ranked c.args.node.0 c.requires.may.known e k).0; ranked = c.requires.may.ranked; above = c.requires.may.above; wanted = c.requires.may.wanted })))))
+    λ κs h. (lower_edge _ _ _ t 0 refl l c.decreases, (h.0, (h.1.0, (h.1.1.0, (h.1.1.1, record { known = (c.requires.may.ranked c.args.node.0 c.requires.may.known e k).0; ranked = c.requires.may.ranked; above = c.requires.may.above; wanted = c.requires.may.wanted; goes_on = c.requires.may.goes_on })))))
 
 pub run_child-run_edge-requires-in-Some-one_below : goal.run_child-run_edge-requires-in-Some-one_below
 run_child-run_edge-requires-in-Some-one_below g t c =
@@ -86,7 +91,9 @@ run_child-run_edge-requires-in-Some-one_below g t c =
     let deeper = subst (λ q. NoDeeper q es) (sym c.below-lower.ensures.below) (deeper-below p step es c.requires.may.above) in
     let l = falls_below g.K.Validate.words g.K.Validate.is_whole ns (length c.args.engine.now.nodes.now) (settling (g.M.Matcher.matching c.args.engine.now.matcher.now) c.args.context.now.remembered.assumptions) c.requires.may.ranked c.args.node.0 (subject_of c.args.question.now.instance) (subject_of c.in-Some-one_below.inner) step (busy_at p es) e c.requires.may.known k c.in-Some-one_below.ensures.below.1 in
     let n = ap (edge_needs ns (length c.args.engine.now.nodes.now) e (subject_of c.in-Some-one_below.inner)) none in
-    λ κs h. (lower_edge _ _ _ t 0 n l c.decreases, (h.0, (h.1.0, (h.1.1.0, (h.1.1.1, record { known = (c.requires.may.ranked c.args.node.0 c.requires.may.known e k).0; ranked = c.requires.may.ranked; above = deeper; wanted = c.requires.may.wanted })))))
+    let (layout, laid, right) = c.requires.may.goes_on in
+    let below = laid_below layout p (subject_of c.args.question.now.instance) (subject_of c.in-Some-one_below.inner) step (steps_to c.below-lower.result) laid c.below-lower.ensures.below c.in-Some-one_below.ensures.below.1 in
+    λ κs h. (lower_edge _ _ _ t 0 n l c.decreases, (h.0, (h.1.0, (h.1.1.0, (h.1.1.1, record { known = (c.requires.may.ranked c.args.node.0 c.requires.may.known e k).0; ranked = c.requires.may.ranked; above = deeper; wanted = c.requires.may.wanted; goes_on = (layout, below, right) })))))
 
 pub run_child-returns-in-None-one_below-clause-says : goal.run_child-returns-in-None-one_below-clause-says
 run_child-returns-in-None-one_below-clause-says g t c =
@@ -129,25 +136,21 @@ run_edge-run_node-requires-2 g t c =
     let p = steps_to c.args.question.now.place.now in
     let e = edge_of c.args.edge.now in
     let s = subject_of c.args.question.now.instance in
-    let new = entered_new e.node p c.args.context.now.in_progress c.in_ok-enter.field-0 c.enter.new.self.in_progress (rw c.in_ok-here.ensures.same at c.in_ok-enter.ensures.enters) c.if-branch.false in
-    let busy : busy_at p c.enter.new.self.in_progress ≡ e.node ∷ busy_at p c.args.context.now.in_progress = ap (busy_at p) new.1 ∙ busy-pushed p e.node c.args.context.now.in_progress in
-    let needs = needs_of_entered g.K.Validate.words g.K.Validate.is_whole ns (length c.args.engine.now.nodes.now) (settling (g.M.Matcher.matching c.args.engine.now.matcher.now) c.args.context.now.remembered.assumptions) s (busy_at p c.args.context.now.in_progress) e c.if-not-edge.false new.0 in
+    let entered = entered_new e.node p c.args.context.now.in_progress c.in_ok-enter.field-0 c.enter.new.self.in_progress (rw c.in_ok-here.ensures.same at c.in_ok-enter.ensures.enters) c.if-branch.false in
+    let pairs = ap (λ (z : Context). z.in_progress) c.begin_visit-mark.ensures.counted in
+    let new : c.begin_visit-mark.new.context.in_progress ≡ c.args.context.now.in_progress ++ (e.node, p) ∷ [] = pairs ∙ entered.1 in
+    let busy : busy_at p c.begin_visit-mark.new.context.in_progress ≡ e.node ∷ busy_at p c.args.context.now.in_progress = ap (busy_at p) new ∙ busy-pushed p e.node c.args.context.now.in_progress in
+    let needs = needs_of_entered g.K.Validate.words g.K.Validate.is_whole ns (length c.args.engine.now.nodes.now) (settling (g.M.Matcher.matching c.args.engine.now.matcher.now) c.args.context.now.remembered.assumptions) s (busy_at p c.args.context.now.in_progress) e c.if-not-edge.false entered.0 in
     let there : steps_to c.given-place.result ≡ p = c.given-place.ensures.same ∙ c.in_ok-here.ensures.same in
-    let l = ap (λ q. left ns (length c.args.engine.now.nodes.now) e.node s (busy_at q c.enter.new.self.in_progress)) there ∙ ap (left ns (length c.args.engine.now.nodes.now) e.node s) busy in
-    let deeper = subst (λ q. NoDeeper q c.enter.new.self.in_progress) (sym there) (subst (NoDeeper p) (sym new.1) (deeper-pushed p e.node c.args.context.now.in_progress c.requires.may.above)) in
-    λ κs h. (lower_entered _ _ _ t l needs c.decreases, (h.0, (h.1.0, (h.1.1.0, (h.1.1.1, record { known = c.requires.may.known; ranked = c.requires.may.ranked; above = deeper; wanted = c.requires.may.wanted })))))
-
-pub run_edge-returns-clause-says : goal.run_edge-returns-clause-says
-run_edge-returns-clause-says g t c =
-    let ns = numbered g.K.Validate.shape c.args.engine.now.nodes.now in
-    let p = steps_to c.args.question.now.place.now in
-    let e = edge_of c.args.edge.now in
-    let s = subject_of c.args.question.now.instance in
-    let new = entered_new e.node p c.args.context.now.in_progress c.in_ok-enter.field-0 c.enter.new.self.in_progress (rw c.in_ok-here.ensures.same at c.in_ok-enter.ensures.enters) c.if-branch.false in
-    let busy : busy_at p c.enter.new.self.in_progress ≡ e.node ∷ busy_at p c.args.context.now.in_progress = ap (busy_at p) new.1 ∙ busy-pushed p e.node c.args.context.now.in_progress in
-    let answer = subst (λ path. NodeReplies g.K.Validate.words g.K.Validate.is_whole ns (length c.args.engine.now.nodes.now) (settling (g.M.Matcher.matching c.args.engine.now.matcher.now) c.args.context.now.remembered.assumptions) (mode_of c.args.question.now.mode) path p (busy_at p c.enter.new.self.in_progress) s e.node c.in_ok-reply.reply) c.across-whole.ensures.appended (rw (c.given-place.ensures.same, c.in_ok-here.ensures.same, c.enter.ensures.remembered) at c.in_ok-reply.ensures.says) in
-    let answer' = subst (λ busy. NodeReplies g.K.Validate.words g.K.Validate.is_whole ns (length c.args.engine.now.nodes.now) (settling (g.M.Matcher.matching c.args.engine.now.matcher.now) c.args.context.now.remembered.assumptions) (mode_of c.args.question.now.mode) (path_of c.args.question.now.path.now ++ e.path) p busy s e.node c.in_ok-reply.reply) busy answer in
-    edge_entered g.K.Validate.words g.K.Validate.is_whole ns (length c.args.engine.now.nodes.now) (settling (g.M.Matcher.matching c.args.engine.now.matcher.now) c.args.context.now.remembered.assumptions) s (busy_at p c.args.context.now.in_progress) e (mode_of c.args.question.now.mode) (path_of c.args.question.now.path.now) p c.in_ok-reply.reply c.if-not-edge.false new.0 answer'
+    let l = ap (λ q. left ns (length c.args.engine.now.nodes.now) e.node s (busy_at q c.begin_visit-mark.new.context.in_progress)) there ∙ ap (left ns (length c.args.engine.now.nodes.now) e.node s) busy in
+    let deeper = subst (λ q. NoDeeper q c.begin_visit-mark.new.context.in_progress) (sym there) (subst (NoDeeper p) (sym new) (deeper-pushed p e.node c.args.context.now.in_progress c.requires.may.above)) in
+    let (layout, laid, right) = c.requires.may.goes_on in
+    let set = setting g.K.Validate.words g.K.Validate.is_whole g.K.Validate.shape g.M.Matcher.matching c.args.engine.now in
+    let met = ap (λ (z : Context). z.remembered) c.begin_visit-mark.ensures.counted ∙ c.enter.ensures.remembered in
+    let read = ap (λ (z : Context). z.verdicts) c.begin_visit-mark.ensures.counted ∙ c.enter.ensures.verdicts in
+    let laid' = subst (λ q. LaysOut layout q s) (sym there) laid in
+    let right' = right_same set layout c.args.context.now c.begin_visit-mark.new.context met read right in
+    λ κs h. (lower_entered _ _ _ t l needs c.decreases, (h.0, (h.1.0, (h.1.1.0, (h.1.1.1, record { known = c.requires.may.known; ranked = c.requires.may.ranked; above = deeper; wanted = c.requires.may.wanted; goes_on = (layout, laid', right') })))))
 
 pub run_form-run_edge-requires : goal.run_form-run_edge-requires
 run_form-run_edge-requires g t c =
@@ -155,7 +158,7 @@ run_form-run_edge-requires g t c =
     let e = edge_of c.in-Reference.edge in
     let k = reference_edge ns c.args.node.0 e (rw c.in-Reference.is at c.requires.form) in
     let l = falls_here g.K.Validate.words g.K.Validate.is_whole ns (length c.args.engine.now.nodes.now) (settling (g.M.Matcher.matching c.args.engine.now.matcher.now) c.args.context.now.remembered.assumptions) c.requires.may.ranked c.args.node.0 (subject_of c.args.question.now.instance) (busy_at (steps_to c.args.question.now.place.now) c.args.context.now.in_progress) e c.requires.may.known k in
-    λ κs h. (lower_edge _ _ _ t 3 refl l c.decreases, (h.0, (h.1.0, (h.1.1.0, (h.1.1.1, record { known = (c.requires.may.ranked c.args.node.0 c.requires.may.known e k).0; ranked = c.requires.may.ranked; above = c.requires.may.above; wanted = c.requires.may.wanted })))))
+    λ κs h. (lower_edge _ _ _ t 3 refl l c.decreases, (h.0, (h.1.0, (h.1.1.0, (h.1.1.1, record { known = (c.requires.may.ranked c.args.node.0 c.requires.may.known e k).0; ranked = c.requires.may.ranked; above = c.requires.may.above; wanted = c.requires.may.wanted; goes_on = c.requires.may.goes_on })))))
 
 pub run_form-returns-in-Keyword-clause-says : goal.run_form-returns-in-Keyword-clause-says
 run_form-returns-in-Keyword-clause-says g t c = rw (c.in-Keyword.is, ← c.as_slice.ensures.value) c.run_keyword.ensures.says
@@ -168,7 +171,7 @@ run_form-returns-in_ok-reply-in-Reference-clause-says g t c =
     let l = falls_here g.K.Validate.words g.K.Validate.is_whole ns (length c.args.engine.now.nodes.now) (settling (g.M.Matcher.matching c.args.engine.now.matcher.now) c.args.context.now.remembered.assumptions) c.requires.may.ranked c.args.node.0 (subject_of c.args.question.now.instance) (busy_at (steps_to c.args.question.now.place.now) c.args.context.now.in_progress) e c.requires.may.known k in
     let at_node = absolute_is g.K.Validate.shape c.args.engine.now.nodes.now c.args.node.0 (node_of c.node.result.now) (string_bytes c.args.entry.now.name) c.node.ensures.found in
     rw c.in-Reference.is (if_ok_both c.stamped_reply.result _ _ _ (λ r stamped borrows. form_reference g.K.Validate.words g.K.Validate.is_whole ns (length c.args.engine.now.nodes.now) (settling (g.M.Matcher.matching c.args.engine.now.matcher.now) c.args.context.now.remembered.assumptions) (mode_of c.args.question.now.mode) (path_of c.args.question.now.path.now) (steps_to c.args.question.now.place.now) (busy_at (steps_to c.args.question.now.place.now) c.args.context.now.in_progress) (subject_of c.args.question.now.instance) c.args.node.0 (string_bytes c.args.entry.now.name) e
-    c.in_ok-reply-in-Reference.reply r _ at_node l stamped borrows c.in_ok-reply-in-Reference.ensures.says) c.stamped_reply.ensures.stamped c.stamped_reply.ensures.borrows)
+    c.in_ok-reply-in-Reference.reply r _ at_node l stamped borrows (subst (λ path. EdgeReplies g.K.Validate.words g.K.Validate.is_whole ns (length c.args.engine.now.nodes.now) (settling (g.M.Matcher.matching c.args.engine.now.matcher.now) c.args.context.now.remembered.assumptions) (mode_of c.args.question.now.mode) path (steps_to c.args.question.now.place.now) (busy_at (steps_to c.args.question.now.place.now) c.args.context.now.in_progress) (subject_of c.args.question.now.instance) e c.in_ok-reply-in-Reference.reply) c.under_reference-path.ensures.same c.in_ok-reply-in-Reference.ensures.says)) c.stamped_reply.ensures.stamped c.stamped_reply.ensures.borrows)
 
 pub run_node-run_entries-requires : goal.run_node-run_entries-requires
 run_node-run_entries-requires g t c =
@@ -196,6 +199,9 @@ run_node-returns-in-Keywords-clause-says g t c =
 
 pub run_entries-loop-entry-init : goal.run_entries-loop-entry-init
 run_entries-loop-entry-init g t c = record {
+  stays = λ layout laid right. right;
+  first = λ e. (refl, c.accepted-found.ensures.accepts);
+  remembers = λ l. absurd (omega (arith, l));
   marking = refl;
   kept = refl;
   assumes = refl;
@@ -211,10 +217,13 @@ run_entries-run_entry-requires g t c =
     let kept = c.loop-entry.invariant.kept in
     let l = ap (λ es. left ns (length c.args.engine.now.nodes.now) c.args.node.0 (subject_of c.args.question.now.instance) (busy_at p es)) kept in
     let here = part_at entry_of (shaped_part g.K.Validate.shape) c.args.entries.now c.loop-entry.entry-index c.entry-item.result c.loop-entry-test.true c.entry-item.is in
-    λ κs h. (lower_same _ _ t 5 0 l c.decreases, (h.0, (h.1.0, (h.1.1.0, (h.1.1.1, (record { known = c.requires.may.known; ranked = c.requires.may.ranked; above = subst (NoDeeper p) (sym kept) c.requires.may.above; wanted = c.requires.may.wanted }, (c.requires.parts.0, c.requires.parts.1, shaped_part g.K.Validate.shape (entry_of c.entry-item.result), c.requires.parts.2 _ here, refl)))))))
+    λ κs h. (lower_same _ _ t 5 0 l c.decreases, (h.0, (h.1.0, (h.1.1.0, (h.1.1.1, (record { known = c.requires.may.known; ranked = c.requires.may.ranked; above = subst (NoDeeper p) (sym kept) c.requires.may.above; wanted = c.requires.may.wanted; goes_on = (c.requires.may.goes_on.0, c.requires.may.goes_on.1, c.loop-entry.invariant.stays c.requires.may.goes_on.0 c.requires.may.goes_on.1 c.requires.may.goes_on.2) }, (c.requires.parts.0, c.requires.parts.1, shaped_part g.K.Validate.shape (entry_of c.entry-item.result), c.requires.parts.2 _ here, refl)))))))
 
 pub run_entries-loop-entry-preserved : goal.run_entries-loop-entry-preserved
 run_entries-loop-entry-preserved g t c = record {
+  stays = λ layout laid right. c.in_ok-more.ensures.stays layout laid (c.loop-entry.invariant.stays layout laid right);
+  first = λ e. absurd (omega (arith, e));
+  remembers = λ l. alone_remembers (asking c.args.question.now) entry_of (shaped_part g.K.Validate.shape) c.args.entries.now c.loop-entry.entry-index c.entry-item.result c.loop-entry-test.true c.entry-item.is c.args.context.now c.loop-entry.context c.run_entry.new.context c.loop-entry.found c.in_ok-more.more c.in_ok-found.found c.loop-entry.invariant.first c.in_ok-found.ensures.both c.in_ok-more.ensures.remembers;
   kept = c.in_ok-more.ensures.keeps.in_progress ∙ c.loop-entry.invariant.kept;
   assumes = c.in_ok-more.ensures.keeps.assumptions ∙ c.loop-entry.invariant.assumes;
   marking = c.in_ok-more.ensures.keeps.marking ∙ c.loop-entry.invariant.marking;
@@ -277,6 +286,7 @@ run_turns-turns-init g t c =
     record {
       kept = refl;
       assumes = refl;
+      stays = λ layout laid right. right;
       for_less = less_first (g.K.Validate.words false) (g.K.Validate.shape c.args.keyword.now.keyword.now) (g.K.Validate.absorbed (g.K.Validate.shape c.args.keyword.now.keyword.now)) (g.K.Validate.remaining (g.K.Validate.shape c.args.keyword.now.keyword.now)) (g.K.Validate.can_be false (g.K.Validate.shape c.args.keyword.now.keyword.now)) (g.K.Validate.ends false (g.K.Validate.shape c.args.keyword.now.keyword.now)) (g.K.Validate.fits false (g.K.Validate.shape c.args.keyword.now.keyword.now)) (g.met.K.Validate.turn_laws false (g.K.Validate.shape c.args.keyword.now.keyword.now)) s (mode_of c.args.question.now.mode) (c.args.run.now, answer_of false c.args.answer.now) (g.met.K.Validate.asks_no_units false m s (mode_of c.args.question.now.mode) c.requires.may.wanted)
           (c.requires.begun false);
       borrows = λ root at_place. (All-nil (BorrowsItsPlace root), subst (All (PassesBorrowed root)) (sym c.requires.no_faults) (All-nil (PassesBorrowed root)));
@@ -303,7 +313,7 @@ run_turns-run_child-requires g t c =
     let q : Question = record { child = c.in-Ask.child; below = below_of c.in-Ask.below } in
     let there = asks_present (g.K.Validate.words false) (g.K.Validate.shape c.args.keyword.now.keyword.now) (g.K.Validate.absorbed (g.K.Validate.shape c.args.keyword.now.keyword.now)) (g.K.Validate.remaining (g.K.Validate.shape c.args.keyword.now.keyword.now)) (g.K.Validate.can_be false (g.K.Validate.shape c.args.keyword.now.keyword.now)) (g.K.Validate.ends false (g.K.Validate.shape c.args.keyword.now.keyword.now)) (g.K.Validate.fits false (g.K.Validate.shape c.args.keyword.now.keyword.now)) (g.met.K.Validate.turn_laws false (g.K.Validate.shape c.args.keyword.now.keyword.now)) s (c.turns.run, answer_of false c.turns.answer) told q (mode_of c.in-Ask.wanted) c.turns.invariant.for_less ((g.met.K.Validate.function_laws false m).present s) step in
     let less = asks_less (g.K.Validate.words false) (g.K.Validate.shape c.args.keyword.now.keyword.now) (g.K.Validate.absorbed (g.K.Validate.shape c.args.keyword.now.keyword.now)) (g.K.Validate.remaining (g.K.Validate.shape c.args.keyword.now.keyword.now)) (g.K.Validate.can_be false (g.K.Validate.shape c.args.keyword.now.keyword.now)) (g.K.Validate.ends false (g.K.Validate.shape c.args.keyword.now.keyword.now)) (g.K.Validate.fits false (g.K.Validate.shape c.args.keyword.now.keyword.now)) (g.met.K.Validate.turn_laws false (g.K.Validate.shape c.args.keyword.now.keyword.now)) s (c.turns.run, answer_of false c.turns.answer) told q (mode_of c.in-Ask.wanted) c.turns.invariant.for_less step in
-    λ κs h. (lower_same _ _ t 1 0 l c.decreases, (h.0, (h.1.0, (h.1.1.0, (h.1.1.1, (record { known = c.requires.may.known; ranked = c.requires.may.ranked; above = subst (NoDeeper p) (sym kept) c.requires.may.above; wanted = less }, (keyword_children ns c.args.node.0 m es c.requires.form, there)))))))
+    λ κs h. (lower_same _ _ t 1 0 l c.decreases, (h.0, (h.1.0, (h.1.1.0, (h.1.1.1, (record { known = c.requires.may.known; ranked = c.requires.may.ranked; above = subst (NoDeeper p) (sym kept) c.requires.may.above; wanted = less; goes_on = (c.requires.may.goes_on.0, c.requires.may.goes_on.1, c.turns.invariant.stays c.requires.may.goes_on.0 c.requires.may.goes_on.1 c.requires.may.goes_on.2) }, (keyword_children ns c.args.node.0 m es c.requires.form, there)))))))
 
 pub run_turns-returns-in-Done-clause-right : goal.run_turns-returns-in-Done-clause-right
 run_turns-returns-in-Done-clause-right g t c = λ x reads l.
@@ -330,7 +340,7 @@ run_keyword-run_turns-requires g t c =
     let s = subject_of c.args.question.now.instance in
     let kept = c.set_aside-aside.ensures.in_progress in
     let l = ap (λ es. left ns (length c.args.engine.now.nodes.now) c.args.node.0 s (busy_at p es)) kept in
-    λ κs h. (lower_same _ _ t 2 0 l c.decreases, (h.0, (h.1.0, (h.1.1.0, (h.1.1.1, (record { known = c.requires.may.known; ranked = c.requires.may.ranked; above = subst (NoDeeper p) (sym kept) c.requires.may.above; wanted = c.requires.may.wanted }, (c.requires.form, (begun, (c.begun-answer.ensures.no_faults, c.set_aside-aside.ensures.none)))))))))
+    λ κs h. (lower_same _ _ t 2 0 l c.decreases, (h.0, (h.1.0, (h.1.1.0, (h.1.1.1, (record { known = c.requires.may.known; ranked = c.requires.may.ranked; above = subst (NoDeeper p) (sym kept) c.requires.may.above; wanted = c.requires.may.wanted; goes_on = (c.requires.may.goes_on.0, c.requires.may.goes_on.1, right_same (setting g.K.Validate.words g.K.Validate.is_whole g.K.Validate.shape g.M.Matcher.matching c.args.engine.now) c.requires.may.goes_on.0 c.args.context.now c.set_aside-aside.new.self c.set_aside-aside.ensures.remembered c.set_aside-aside.ensures.verdicts c.requires.may.goes_on.2) }, (c.requires.form, (begun, (c.begun-answer.ensures.no_faults, c.set_aside-aside.ensures.none)))))))))
 
 pub run_keyword-returns-clause-says : goal.run_keyword-returns-clause-says
 run_keyword-returns-clause-says g t c =
@@ -357,7 +367,7 @@ run_keyword-returns-clause-says g t c =
     c.finished.ensures.reply c.finished.ensures.borrows
 
 pub run_keyword-returns-clause-meets : goal.run_keyword-returns-clause-meets
-run_keyword-returns-clause-meets g t c = if_ok_always c.finished.result _ (rw (c.set_aside-aside.ensures.in_progress, c.set_aside-aside.ensures.remembered, ← c.put_back.ensures.remembered) at c.in_ok-run_turns.ensures.meets)
+run_keyword-returns-clause-meets g t c = if_ok_always c.finished.result _ (rw (c.set_aside-aside.ensures.in_progress, c.set_aside-aside.ensures.remembered, ← c.put_back.ensures.remembered, ← c.finished.ensures.stays) at c.in_ok-run_turns.ensures.meets)
 
 pub run_edge-returns-then-branch-clause-meets : goal.run_edge-returns-then-branch-clause-meets
 run_edge-returns-then-branch-clause-meets g t c =
@@ -369,19 +379,6 @@ run_edge-returns-then-branch-clause-meets g t c =
     let e = edge_of c.args.edge.now in
     let old = entered_old e.node p c.args.context.now.in_progress c.in_ok-enter.field-0 c.enter.new.self.in_progress (rw c.in_ok-here.ensures.same at c.in_ok-enter.ensures.enters) c.if-branch.true in
     meets_busy g.K.Validate.words g.K.Validate.is_whole ns (length c.args.engine.now.nodes.now) w s busy e (mode_of c.args.question.now.mode) (path_of c.args.question.now.path.now) p _ _ c.if-not-edge.false old.0 (sym c.enter.ensures.remembered)
-
-pub run_edge-returns-clause-meets : goal.run_edge-returns-clause-meets
-run_edge-returns-clause-meets g t c =
-    let ns = numbered g.K.Validate.shape c.args.engine.now.nodes.now in
-    let w = settling (g.M.Matcher.matching c.args.engine.now.matcher.now) c.args.context.now.remembered.assumptions in
-    let p = steps_to c.args.question.now.place.now in
-    let s = subject_of c.args.question.now.instance in
-    let busy = busy_at p c.args.context.now.in_progress in
-    let e = edge_of c.args.edge.now in
-    let new = entered_new e.node p c.args.context.now.in_progress c.in_ok-enter.field-0 c.enter.new.self.in_progress (rw c.in_ok-here.ensures.same at c.in_ok-enter.ensures.enters) c.if-branch.false in
-    let busy' : busy_at p c.enter.new.self.in_progress ≡ e.node ∷ busy = ap (busy_at p) new.1 ∙ busy-pushed p e.node c.args.context.now.in_progress in
-    let met = rw (c.across-whole.ensures.appended, c.given-place.ensures.same, c.in_ok-here.ensures.same, busy', c.enter.ensures.remembered) at c.in_ok-reply.ensures.meets in
-    rw c.exit.ensures.remembered (meets_entered g.K.Validate.words g.K.Validate.is_whole ns (length c.args.engine.now.nodes.now) w s busy e (mode_of c.args.question.now.mode) (path_of c.args.question.now.path.now) p _ _ c.if-not-edge.false new.0 met)
 
 pub run_entries-returns-then-is_settled-clause-meets : goal.run_entries-returns-then-is_settled-clause-meets
 run_entries-returns-then-is_settled-clause-meets g t c = λ texts root depth reads l.
@@ -470,7 +467,8 @@ run_form-returns-in_ok-reply-in-Reference-clause-meets g t c =
     let e = edge_of c.in-Reference.edge in
     let k = reference_edge ns c.args.node.0 e (rw c.in-Reference.is at c.requires.form) in
     let l = falls_here g.K.Validate.words g.K.Validate.is_whole ns (length c.args.engine.now.nodes.now) w c.requires.may.ranked c.args.node.0 s busy e c.requires.may.known k in
-    rw c.in-Reference.is (if_ok_always c.stamped_reply.result _ (meets_reference g.K.Validate.words g.K.Validate.is_whole ns (length c.args.engine.now.nodes.now) w (mode_of c.args.question.now.mode) (path_of c.args.question.now.path.now) p busy s c.args.node.0 (string_bytes c.args.entry.now.name) e _ _ l c.in_ok-reply-in-Reference.ensures.meets))
+    let met = subst (λ path. EdgeMeets g.K.Validate.words g.K.Validate.is_whole ns (length c.args.engine.now.nodes.now) w (mode_of c.args.question.now.mode) path p busy s c.args.context.now.remembered c.run_edge.new.context.remembered e) c.under_reference-path.ensures.same c.in_ok-reply-in-Reference.ensures.meets in
+    rw c.in-Reference.is (if_ok_always c.stamped_reply.result _ (meets_reference g.K.Validate.words g.K.Validate.is_whole ns (length c.args.engine.now.nodes.now) w (mode_of c.args.question.now.mode) (path_of c.args.question.now.path.now) p busy s c.args.node.0 (string_bytes c.args.entry.now.name) e _ _ l met))
 
 pub run_node-returns-in-Never-clause-meets : goal.run_node-returns-in-Never-clause-meets
 run_node-returns-in-Never-clause-meets g t c =
@@ -525,6 +523,7 @@ run_turns-turns-preserved-in-Ask g t c =
     record {
       kept = c.in_ok-reply-in-Ask.ensures.keeps.in_progress ∙ c.turns.invariant.kept;
       assumes = c.in_ok-reply-in-Ask.ensures.keeps.assumptions ∙ c.turns.invariant.assumes;
+      stays = λ layout laid right. c.in_ok-reply-in-Ask.ensures.stays layout laid (c.turns.invariant.stays layout laid right);
       for_less = less_after (g.K.Validate.words false) (g.K.Validate.shape c.args.keyword.now.keyword.now) (g.K.Validate.absorbed (g.K.Validate.shape c.args.keyword.now.keyword.now)) (g.K.Validate.remaining (g.K.Validate.shape c.args.keyword.now.keyword.now)) (g.K.Validate.can_be false (g.K.Validate.shape c.args.keyword.now.keyword.now)) (g.K.Validate.ends false (g.K.Validate.shape c.args.keyword.now.keyword.now)) (g.K.Validate.fits false (g.K.Validate.shape c.args.keyword.now.keyword.now)) (g.met.K.Validate.turn_laws false (g.K.Validate.shape c.args.keyword.now.keyword.now)) s (c.turns.run, answer_of false c.turns.answer) (c.turn.new.run, answer_of false c.turn.new.answer) told (reply_of false c.in_ok-reply-in-Ask.reply) (ask q (mode_of c.in-Ask.wanted)) c.turns.invariant.for_less turn step (ask_goes_on q (mode_of c.in-Ask.wanted));
       borrows = λ root at_place.
           let i = c.turns.invariant.borrows root at_place in
@@ -614,6 +613,7 @@ run_turns-turns-preserved-in-Match g t c =
     record {
       kept = c.asked_match.ensures.in_progress ∙ c.turns.invariant.kept;
       assumes = ap (λ (r : Remembered). r.assumptions) c.in_ok-matches-in-Match.ensures.met ∙ after_assumes _ _ answer ∙ c.turns.invariant.assumes;
+      stays = λ layout laid right. right_matched (setting g.K.Validate.words g.K.Validate.is_whole g.K.Validate.shape g.M.Matcher.matching c.args.engine.now) layout c.turns.context c.asked_match.new.context _ answer refl c.asked_match.ensures.verdicts c.in_ok-matches-in-Match.ensures.met (c.turns.invariant.stays layout laid right);
       for_less = less_after (g.K.Validate.words false) m (g.K.Validate.absorbed m) (g.K.Validate.remaining m) (g.K.Validate.can_be false m) (g.K.Validate.ends false m) (g.K.Validate.fits false m) (g.met.K.Validate.turn_laws false m) s (c.turns.run, answer_of false c.turns.answer) (c.turn.new.run, answer_of false c.turn.new.answer) told (truth c.in_ok-matches-in-Match.matches) (match_text a point) c.turns.invariant.for_less turn step (match_goes_on a point);
       borrows = λ root at_place.
           let i = c.turns.invariant.borrows root at_place in
@@ -651,6 +651,7 @@ run_turns-turns-preserved-in-Ecma g t c =
     record {
       kept = c.turns.invariant.kept;
       assumes = c.turns.invariant.assumes;
+      stays = c.turns.invariant.stays;
       for_less = less_after (g.K.Validate.words false) m (g.K.Validate.absorbed m) (g.K.Validate.remaining m) (g.K.Validate.can_be false m) (g.K.Validate.ends false m) (g.K.Validate.fits false m) (g.met.K.Validate.turn_laws false m) s (c.turns.run, answer_of false c.turns.answer) (c.turn.new.run, answer_of false c.turn.new.answer) told (truth c.in_ok-valid-in-Ecma.valid) (ecma text) c.turns.invariant.for_less turn step (ecma_goes_on text);
       borrows = λ root at_place.
           let i = c.turns.invariant.borrows root at_place in
@@ -709,6 +710,7 @@ run_turns-turns-preserved-in-Mark g t c =
     record {
       kept = c.enter_marking.ensures.in_progress ∙ c.turns.invariant.kept;
       assumes = ap (λ (r : Remembered). r.assumptions) c.enter_marking.ensures.remembered ∙ c.turns.invariant.assumes;
+      stays = λ layout laid right. right_same (setting g.K.Validate.words g.K.Validate.is_whole g.K.Validate.shape g.M.Matcher.matching c.args.engine.now) layout c.turns.context c.enter_marking.new.self c.enter_marking.ensures.remembered c.enter_marking.ensures.verdicts (c.turns.invariant.stays layout laid right);
       for_less = less_after (g.K.Validate.words false) m (g.K.Validate.absorbed m) (g.K.Validate.remaining m) (g.K.Validate.can_be false m) (g.K.Validate.ends false m) (g.K.Validate.fits false m) (g.met.K.Validate.turn_laws false m) s (c.turns.run, answer_of false c.turns.answer) (c.turn.new.run, answer_of false c.turn.new.answer) told (truth c.in_ok-held-in-Mark.held) (mark (marked_of c.in-Mark.marked)) c.turns.invariant.for_less turn step (mark_goes_on (marked_of c.in-Mark.marked));
       borrows = λ root at_place.
           let i = c.turns.invariant.borrows root at_place in
@@ -750,6 +752,7 @@ run_turns-turns-preserved g t c =
     record {
       kept = c.exit_marking.ensures.in_progress ∙ c.turns.invariant.kept;
       assumes = ap (λ (r : Remembered). r.assumptions) c.exit_marking.ensures.remembered ∙ c.turns.invariant.assumes;
+      stays = λ layout laid right. right_same (setting g.K.Validate.words g.K.Validate.is_whole g.K.Validate.shape g.M.Matcher.matching c.args.engine.now) layout c.turns.context c.exit_marking.new.self c.exit_marking.ensures.remembered c.exit_marking.ensures.verdicts (c.turns.invariant.stays layout laid right);
       for_less = less_after (g.K.Validate.words false) m (g.K.Validate.absorbed m) (g.K.Validate.remaining m) (g.K.Validate.can_be false m) (g.K.Validate.ends false m) (g.K.Validate.fits false m) (g.met.K.Validate.turn_laws false m) s (c.turns.run, answer_of false c.turns.answer) (c.turn.new.run, answer_of false c.turn.new.answer) told no_reply unmark c.turns.invariant.for_less turn step unmark_goes_on;
       borrows = λ root at_place.
           let i = c.turns.invariant.borrows root at_place in
@@ -783,3 +786,151 @@ run_entries-returns-clause-meets g t c = λ texts root depth reads l.
     let looked = λ (es : List (Entry g.row.K.Denot)). parts_looked g.K.Validate.words ns w texts root depth c.args.node.0 (path_of c.args.question.now.path.now) p (busy_at p c.args.context.now.in_progress) (map (shaped_part g.K.Validate.shape) (map entry_of es)) in
     end_met w.matcher (mode_of c.args.question.now.mode) (looked (drop c.loop-entry.entry-index c.args.entries.now)) (plan_met (mode_of c.args.question.now.mode) (looked c.args.entries.now)) c.args.context.now.remembered c.loop-entry.context.remembered
     (ap looked (drop_past c.args.entries.now c.loop-entry.entry-index c.loop-entry-test.false)) (c.loop-entry.invariant.met texts root depth reads l)
+
+pub run_edge-returns-then-branch-clause-remembers : goal.run_edge-returns-then-branch-clause-remembers
+run_edge-returns-then-branch-clause-remembers g t c = λ mode guarded free.
+    let p = steps_to c.args.question.now.place.now in
+    let e = edge_of c.args.edge.now in
+    let old = entered_old e.node p c.args.context.now.in_progress c.in_ok-enter.field-0 c.enter.new.self.in_progress (rw c.in_ok-here.ensures.same at c.in_ok-enter.ensures.enters) c.if-branch.true in
+    absurd (true≢false (sym old.0 ∙ free))
+
+pub run_edge-returns-in-Some-clause-says : goal.run_edge-returns-in-Some-clause-says
+run_edge-returns-in-Some-clause-says g t c =
+    let set = setting g.K.Validate.words g.K.Validate.is_whole g.K.Validate.shape g.M.Matcher.matching c.args.engine.now in
+    let q = asking c.args.question.now in
+    let p = steps_to c.args.question.now.place.now in
+    let e = edge_of c.args.edge.now in
+    let entered = entered_new e.node p c.args.context.now.in_progress c.in_ok-enter.field-0 c.enter.new.self.in_progress (rw c.in_ok-here.ensures.same at c.in_ok-enter.ensures.enters) c.if-branch.false in
+    let found = sym (rw c.in_ok-here.ensures.same at c.in-Some.ensures.read) in
+    read_says set q e c.args.context.now c.if-not-edge.false entered.0 c.enter.new.self c.exit.new.self c.in-Some.valid (told.Truth c.in-Some.valid) entered.1 c.enter.ensures.verdicts found (λ texts. refl) c.requires.may.goes_on refl
+
+pub run_edge-returns-in-Some-clause-meets : goal.run_edge-returns-in-Some-clause-meets
+run_edge-returns-in-Some-clause-meets g t c =
+    let set = setting g.K.Validate.words g.K.Validate.is_whole g.K.Validate.shape g.M.Matcher.matching c.args.engine.now in
+    let q = asking c.args.question.now in
+    let p = steps_to c.args.question.now.place.now in
+    let e = edge_of c.args.edge.now in
+    let entered = entered_new e.node p c.args.context.now.in_progress c.in_ok-enter.field-0 c.enter.new.self.in_progress (rw c.in_ok-here.ensures.same at c.in_ok-enter.ensures.enters) c.if-branch.false in
+    let found = sym (rw c.in_ok-here.ensures.same at c.in-Some.ensures.read) in
+    read_meets_edge set q e c.args.context.now c.if-not-edge.false entered.0 c.enter.new.self c.exit.new.self c.in-Some.valid (told.Truth c.in-Some.valid) entered.1 c.enter.ensures.verdicts found (λ texts. refl) c.requires.may.goes_on (c.exit.ensures.remembered ∙ c.enter.ensures.remembered)
+
+pub run_edge-returns-clause-says : goal.run_edge-returns-clause-says
+run_edge-returns-clause-says g t c =
+    let set = setting g.K.Validate.words g.K.Validate.is_whole g.K.Validate.shape g.M.Matcher.matching c.args.engine.now in
+    let q = asking c.args.question.now in
+    let p = steps_to c.args.question.now.place.now in
+    let e = edge_of c.args.edge.now in
+    let entered = entered_new e.node p c.args.context.now.in_progress c.in_ok-enter.field-0 c.enter.new.self.in_progress (rw c.in_ok-here.ensures.same at c.in_ok-enter.ensures.enters) c.if-branch.false in
+    let c2 = c.begin_visit-mark.new.context in
+    let c3 = c.run_node-2.new.context in
+    let pairs : c2.in_progress ≡ c.args.context.now.in_progress ++ (e.node, p) ∷ [] = ap (λ (z : Context). z.in_progress) c.begin_visit-mark.ensures.counted ∙ entered.1 in
+    let met : c2.remembered ≡ c.args.context.now.remembered = ap (λ (z : Context). z.remembered) c.begin_visit-mark.ensures.counted ∙ c.enter.ensures.remembered in
+    let there : steps_to c.given-place.result ≡ p = c.given-place.ensures.same ∙ c.in_ok-here.ensures.same in
+    let at_asked : (record { subject = q.subject; place = steps_to c.given-place.result; path = path_of c.across-whole.result; mode = q.mode }) ≡ asked_across set q e c.args.context.now c.if-not-edge.false entered.0
+    = λ i. record { subject = q.subject; place = there i; path = c.across-whole.ensures.appended i; mode = q.mode } in
+    let says = subst (λ z. NodeSays set z c2 e.node c.in_ok-computed.computed) at_asked c.in_ok-computed.ensures.says in
+    let meets = subst (λ z. MeetsNode set z c2 c3 e.node) at_asked c.in_ok-computed.ensures.meets in
+    let keeps = c.in_ok-computed.ensures.keeps in
+    computed_says set q e c.args.context.now c.if-not-edge.false entered.0 c.enter.new.self c2 c3 c.kept_reply.new.context c.exit-2.new.self c.begin_visit-mark.result c.in_ok-computed.computed c.in_ok-reply.reply pairs met says meets keeps c.in_ok-reply.ensures.same
+
+pub run_edge-returns-clause-meets : goal.run_edge-returns-clause-meets
+run_edge-returns-clause-meets g t c =
+    let set = setting g.K.Validate.words g.K.Validate.is_whole g.K.Validate.shape g.M.Matcher.matching c.args.engine.now in
+    let q = asking c.args.question.now in
+    let p = steps_to c.args.question.now.place.now in
+    let e = edge_of c.args.edge.now in
+    let entered = entered_new e.node p c.args.context.now.in_progress c.in_ok-enter.field-0 c.enter.new.self.in_progress (rw c.in_ok-here.ensures.same at c.in_ok-enter.ensures.enters) c.if-branch.false in
+    let c2 = c.begin_visit-mark.new.context in
+    let c3 = c.run_node-2.new.context in
+    let pairs : c2.in_progress ≡ c.args.context.now.in_progress ++ (e.node, p) ∷ [] = ap (λ (z : Context). z.in_progress) c.begin_visit-mark.ensures.counted ∙ entered.1 in
+    let met : c2.remembered ≡ c.args.context.now.remembered = ap (λ (z : Context). z.remembered) c.begin_visit-mark.ensures.counted ∙ c.enter.ensures.remembered in
+    let there : steps_to c.given-place.result ≡ p = c.given-place.ensures.same ∙ c.in_ok-here.ensures.same in
+    let at_asked : (record { subject = q.subject; place = steps_to c.given-place.result; path = path_of c.across-whole.result; mode = q.mode }) ≡ asked_across set q e c.args.context.now c.if-not-edge.false entered.0
+    = λ i. record { subject = q.subject; place = there i; path = c.across-whole.ensures.appended i; mode = q.mode } in
+    let says = subst (λ z. NodeSays set z c2 e.node c.in_ok-computed.computed) at_asked c.in_ok-computed.ensures.says in
+    let meets = subst (λ z. MeetsNode set z c2 c3 e.node) at_asked c.in_ok-computed.ensures.meets in
+    let keeps = c.in_ok-computed.ensures.keeps in
+    let met5 = c.exit-2.ensures.remembered ∙ ap (λ (z : Context). z.remembered) c.kept_reply.ensures.frame in
+    computed_meets set q e c.args.context.now c.if-not-edge.false entered.0 c.enter.new.self c2 c3 c.kept_reply.new.context c.exit-2.new.self c.begin_visit-mark.result c.in_ok-computed.computed c.in_ok-reply.reply pairs met says meets keeps c.in_ok-reply.ensures.same met5
+
+pub run_edge-returns-clause-stays : goal.run_edge-returns-clause-stays
+run_edge-returns-clause-stays g t c =
+    let set = setting g.K.Validate.words g.K.Validate.is_whole g.K.Validate.shape g.M.Matcher.matching c.args.engine.now in
+    let q = asking c.args.question.now in
+    let p = steps_to c.args.question.now.place.now in
+    let e = edge_of c.args.edge.now in
+    let entered = entered_new e.node p c.args.context.now.in_progress c.in_ok-enter.field-0 c.enter.new.self.in_progress (rw c.in_ok-here.ensures.same at c.in_ok-enter.ensures.enters) c.if-branch.false in
+    let c2 = c.begin_visit-mark.new.context in
+    let c3 = c.run_node-2.new.context in
+    let pairs : c2.in_progress ≡ c.args.context.now.in_progress ++ (e.node, p) ∷ [] = ap (λ (z : Context). z.in_progress) c.begin_visit-mark.ensures.counted ∙ entered.1 in
+    let met : c2.remembered ≡ c.args.context.now.remembered = ap (λ (z : Context). z.remembered) c.begin_visit-mark.ensures.counted ∙ c.enter.ensures.remembered in
+    let there : steps_to c.given-place.result ≡ p = c.given-place.ensures.same ∙ c.in_ok-here.ensures.same in
+    let at_asked : (record { subject = q.subject; place = steps_to c.given-place.result; path = path_of c.across-whole.result; mode = q.mode }) ≡ asked_across set q e c.args.context.now c.if-not-edge.false entered.0
+    = λ i. record { subject = q.subject; place = there i; path = c.across-whole.ensures.appended i; mode = q.mode } in
+    let says = subst (λ z. NodeSays set z c2 e.node c.in_ok-computed.computed) at_asked c.in_ok-computed.ensures.says in
+    let meets = subst (λ z. MeetsNode set z c2 c3 e.node) at_asked c.in_ok-computed.ensures.meets in
+    let keeps = c.in_ok-computed.ensures.keeps in
+    let read = ap (λ (z : Context). z.verdicts) c.begin_visit-mark.ensures.counted ∙ c.enter.ensures.verdicts in
+    let stays = subst (λ z. StaysRight set z c2 c3) at_asked c.in_ok-computed.ensures.stays in
+    let kept = rw c.in_ok-here.ensures.same at c.in_ok-reply.ensures.kept in
+    let few = rw c.in_ok-here.ensures.same at c.in_ok-reply.ensures.few in
+    computed_stays set q e c.args.context.now c.if-not-edge.false entered.0 c.enter.new.self c2 c3 c.kept_reply.new.context c.exit-2.new.self c.begin_visit-mark.result c.in_ok-computed.computed c.in_ok-reply.reply pairs met says meets keeps c.in_ok-reply.ensures.same
+    g.met.K.Validate.asks_verdicts kept read stays few c.kept_reply.ensures.other_modes (ap (λ (z : Context). z.remembered) c.kept_reply.ensures.frame) c.exit-2.ensures.remembered c.exit-2.ensures.verdicts
+
+pub run_edge-returns-clause-remembers : goal.run_edge-returns-clause-remembers
+run_edge-returns-clause-remembers g t c =
+    let set = setting g.K.Validate.words g.K.Validate.is_whole g.K.Validate.shape g.M.Matcher.matching c.args.engine.now in
+    let q = asking c.args.question.now in
+    let p = steps_to c.args.question.now.place.now in
+    let e = edge_of c.args.edge.now in
+    let entered = entered_new e.node p c.args.context.now.in_progress c.in_ok-enter.field-0 c.enter.new.self.in_progress (rw c.in_ok-here.ensures.same at c.in_ok-enter.ensures.enters) c.if-branch.false in
+    let c2 = c.begin_visit-mark.new.context in
+    let c3 = c.run_node-2.new.context in
+    let pairs : c2.in_progress ≡ c.args.context.now.in_progress ++ (e.node, p) ∷ [] = ap (λ (z : Context). z.in_progress) c.begin_visit-mark.ensures.counted ∙ entered.1 in
+    let met : c2.remembered ≡ c.args.context.now.remembered = ap (λ (z : Context). z.remembered) c.begin_visit-mark.ensures.counted ∙ c.enter.ensures.remembered in
+    let there : steps_to c.given-place.result ≡ p = c.given-place.ensures.same ∙ c.in_ok-here.ensures.same in
+    let at_asked : (record { subject = q.subject; place = steps_to c.given-place.result; path = path_of c.across-whole.result; mode = q.mode }) ≡ asked_across set q e c.args.context.now c.if-not-edge.false entered.0
+    = λ i. record { subject = q.subject; place = there i; path = c.across-whole.ensures.appended i; mode = q.mode } in
+    let says = subst (λ z. NodeSays set z c2 e.node c.in_ok-computed.computed) at_asked c.in_ok-computed.ensures.says in
+    let meets = subst (λ z. MeetsNode set z c2 c3 e.node) at_asked c.in_ok-computed.ensures.meets in
+    let keeps = c.in_ok-computed.ensures.keeps in
+    let kept = rw c.in_ok-here.ensures.same at c.in_ok-reply.ensures.kept in
+    let none = sym (rw c.in_ok-here.ensures.same at c.in_default.ensures.read) in
+    let left = ap (λ (z : Context). z.in_progress) c.kept_reply.ensures.frame ∙ keeps.in_progress in
+    let back = pairs_back set q e c.args.context.now c.if-not-edge.false entered.0 c2 c.exit-2.new.self pairs (sym left ∙ rw c.in_ok-here.ensures.same at c.exit-2.ensures.left) in
+    let visits = c.exit-2.ensures.visits ∙ ap (λ (z : Context). z.visits) c.kept_reply.ensures.frame in
+    computed_remembers set q e c.args.context.now c.if-not-edge.false entered.0 c.enter.new.self c2 c3 c.kept_reply.new.context c.exit-2.new.self c.begin_visit-mark.result c.in_ok-computed.computed c.in_ok-reply.reply pairs met says meets keeps c.in_ok-reply.ensures.same
+    g.met.K.Validate.asks_verdicts kept entered.1 c.enter.ensures.verdicts none (c.begin_visit-mark.ensures.mark ∙ c.enter.ensures.visits) back visits c.exit-2.ensures.verdicts
+
+pub run_entries-returns-then-is_settled-clause-stays : goal.run_entries-returns-then-is_settled-clause-stays
+run_entries-returns-then-is_settled-clause-stays g t c = λ layout laid right. c.in_ok-more.ensures.stays layout laid (c.loop-entry.invariant.stays layout laid right)
+
+pub run_entries-returns-then-is_settled-clause-remembers : goal.run_entries-returns-then-is_settled-clause-remembers
+run_entries-returns-then-is_settled-clause-remembers g t c =
+    alone_remembers (asking c.args.question.now) entry_of (shaped_part g.K.Validate.shape) c.args.entries.now c.loop-entry.entry-index c.entry-item.result c.loop-entry-test.true c.entry-item.is c.args.context.now c.loop-entry.context c.run_entry.new.context c.loop-entry.found c.in_ok-more.more c.in_ok-found.found c.loop-entry.invariant.first c.in_ok-found.ensures.both c.in_ok-more.ensures.remembers
+
+pub run_entries-returns-clause-remembers : goal.run_entries-returns-clause-remembers
+run_entries-returns-clause-remembers g t c =
+    ended_remembers (asking c.args.question.now) entry_of (shaped_part g.K.Validate.shape) c.args.entries.now c.loop-entry.entry-index c.loop-entry-test.false c.args.context.now c.loop-entry.context c.loop-entry.found c.loop-entry.invariant.remembers
+
+pub run_entry-returns-then-asks_verdict_first-clause-stays : goal.run_entry-returns-then-asks_verdict_first-clause-stays
+run_entry-returns-then-asks_verdict_first-clause-stays g t c = if_ok_mono c.run_form-then-asks_verdict_first.result _ _ (λ r stays layout laid right. stays layout laid (c.in_ok-verdict.ensures.stays layout laid right)) c.run_form-then-asks_verdict_first.ensures.stays
+
+pub run_form-returns-in_ok-reply-in-Reference-clause-remembers : goal.run_form-returns-in_ok-reply-in-Reference-clause-remembers
+run_form-returns-in_ok-reply-in-Reference-clause-remembers g t c =
+    let q = asking c.args.question.now in
+    let e = edge_of c.in-Reference.edge in
+    let remembers = subst (λ path. EdgeRemembers (record { subject = q.subject; place = q.place; path = path; mode = q.mode }) c.args.context.now c.run_edge.new.context e c.in_ok-reply-in-Reference.reply) c.under_reference-path.ensures.same c.in_ok-reply-in-Reference.ensures.remembers in
+    if_ok_mono c.stamped_reply.result _ _ (λ r stamps. stamped_remembers q c.args.context.now c.run_edge.new.context e _ c.in_ok-reply-in-Reference.reply r _ (ap (λ z. shaped_form g.K.Validate.shape (form_of z)) c.in-Reference.is) stamps remembers) c.stamped_reply.ensures.stamped
+
+pub run_keyword-returns-clause-stays : goal.run_keyword-returns-clause-stays
+run_keyword-returns-clause-stays g t c = if_ok_always c.finished.result _ (λ layout laid right.
+    let set = setting g.K.Validate.words g.K.Validate.is_whole g.K.Validate.shape g.M.Matcher.matching c.args.engine.now in
+    let right1 = right_same set layout c.args.context.now c.set_aside-aside.new.self c.set_aside-aside.ensures.remembered c.set_aside-aside.ensures.verdicts right in
+    subst (RemembersRightly set layout) (sym c.finished.ensures.stays)
+    (right_same set layout c.run_turns.new.context c.put_back.new.self c.put_back.ensures.remembered c.put_back.ensures.verdicts (c.in_ok-run_turns.ensures.stays layout laid right1)))
+
+pub run_node-returns-in-Keywords-clause-remembers : goal.run_node-returns-in-Keywords-clause-remembers
+run_node-returns-in-Keywords-clause-remembers g t c =
+    let plan = plan_is g.K.Validate.shape c.args.engine.now.nodes.now c.args.node.0 (node_of c.node-found.result.now) _ c.node-found.ensures.found (ap (option_map plan_of) c.in-Some.is ∙ ap (λ f. Some (plan_of f)) c.in-Keywords.is) in
+    if_ok_mono c.run_entries.result _ _ (λ r remembers. planned_remembers (asking c.args.question.now) c.args.context.now c.run_entries.new.context (numbered g.K.Validate.shape c.args.engine.now.nodes.now) c.args.node.0 _ r plan remembers) (rw c.as_slice.ensures.value at c.run_entries.ensures.remembers)

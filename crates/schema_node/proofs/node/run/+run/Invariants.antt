@@ -1,9 +1,9 @@
-use Rattle.std.proofs.Common.{◌≡◌, ◌≤◌, ◌+◌, ◌*◌, ◌++◌, ℕ, Bool, List, false, length, map, drop, option_map, string_bytes, Some}
+use Rattle.std.proofs.Common.{◌≡◌, ◌≤◌, ◌<◌, ◌+◌, ◌*◌, ◌++◌, ℕ, Bool, List, false, length, map, drop, option_map, string_bytes, Some}
 use Rattle.std.specs.Prelude.{All}
 use Rattle.serde_json.specs.Data.{Data}
 use Rattle.schema_reports.specs.Instance.{subject_at}
 use Rattle.schema_reports.specs.InstanceViews.{subject_of}
-use Rattle.schema_reports.specs.Reports.{Outcome}
+use Rattle.schema_reports.specs.Reports.{Outcome, accepted}
 use Rattle.schema_reports.specs.ReportViews.{BorrowsItsPlace}
 use Rattle.schema_reports.specs.Meaning.{both}
 use Rattle.schema_reports.specs.Numbered.{left, subject_in}
@@ -17,7 +17,8 @@ use Rattle.schema_node.specs.NodeTable.{numbered, shaped_part}
 use Rattle.schema_node.specs.NodeViews.{edge_of, entry_of}
 use Rattle.schema_node.specs.Matches.{MeetsEach, settling}
 use Rattle.schema_node.specs.NodeMeets.{child_run, parts_looked, reading}
-use Rattle.schema_node.specs.NodeRuns.{Reading, Reads, Replies, child_says, edge_needs, parts_say, refuses}
+use Rattle.schema_node.specs.NodeRuns.{Reading, Reads, Replies, child_says, edge_needs, parts_say, refuses, reply_by}
+use Rattle.schema_node.specs.RunStates.{PartsRemember, StaysRight, asking, setting}
 use Rattle.schema_node.proofs.KeywordMeets.{MeetsSoFar}
 use Rattle.schema_node.specs.Progress.{busy_at}
 use Rattle.schema_node.specs.Turning.{OnItsWay, StaysWithoutUnits}
@@ -62,6 +63,9 @@ invariant-run_entries-loop-entry g l =
           × (both o (parts_say g.K.Validate.words ns x l.node.0 (path_of l.question.path.now) (steps_to l.question.place.now) busy (map (shaped_part g.K.Validate.shape) (map entry_of (drop l.entry-index l.entries))))
           ≡ parts_say g.K.Validate.words ns x l.node.0 (path_of l.question.path.now) (steps_to l.question.place.now) busy (map (shaped_part g.K.Validate.shape) (map entry_of l.entries)));
       unsettled : (texts : Bool) → refuses (reply_of texts l.found) ≡ false;
+      stays : StaysRight (setting g.K.Validate.words g.K.Validate.is_whole g.K.Validate.shape g.M.Matcher.matching l.engine) (asking l.question) l.initial.context l.context;
+      first : l.entry-index ≡ 0 → (l.context ≡ l.initial.context) × ((texts : Bool) → reply_of texts l.found ≡ reply_by (mode_of l.question.mode) accepted);
+      remembers : 0 < l.entry-index → PartsRemember (asking l.question) l.initial.context l.context (map (shaped_part g.K.Validate.shape) (map entry_of l.entries)) l.found;
       met : (texts : Bool) (root : Data) (depth : ℕ) → Reads g.K.Validate.is_whole ns (length l.engine.nodes.now) w (steps_to l.question.place.now) s (reading w texts root depth) → left ns (length l.engine.nodes.now) l.node.0 s busy ≤ depth
           → (before : List Met) × MeetsEach w.matcher l.initial.context.remembered before l.context.remembered
           × (before ++ plan_met (mode_of l.question.mode) (parts_looked g.K.Validate.words ns w texts root depth l.node.0 (path_of l.question.path.now) (steps_to l.question.place.now) busy (map (shaped_part g.K.Validate.shape) (map entry_of (drop l.entry-index l.entries))))
@@ -79,6 +83,7 @@ invariant-run_turns-turns g l =
     record {
       kept : l.context.in_progress ≡ l.initial.context.in_progress;
       assumes : l.context.remembered.assumptions ≡ l.initial.context.remembered.assumptions;
+      stays : StaysRight (setting g.K.Validate.words g.K.Validate.is_whole g.K.Validate.shape g.M.Matcher.matching l.engine) (asking l.question) l.initial.context l.context;
       for_less : StaysWithoutUnits (g.K.Validate.words false) m s (g.K.Validate.remaining m s) (g.K.Validate.can_be false m s) (l.run, answer_of false l.answer) (reply_of false l.reply);
       borrows : (root : Data) → subject_at root (steps_to l.question.place.now) ≡ Some (subject_of l.question.instance) → All (BorrowsItsPlace root) (errors_in l.reply) × All (PassesBorrowed root) (faults_in l.answer);
       leads : (x : Reading) → Reads g.K.Validate.is_whole ns (length l.engine.nodes.now) w (steps_to l.question.place.now) s x → left ns (length l.engine.nodes.now) l.node.0 s busy ≤ x.depth
