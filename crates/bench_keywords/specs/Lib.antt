@@ -5,3 +5,4 @@ pub mod Words
 pub mod Laws
 pub mod Shapes
 pub mod UnitsAsked
+pub mod VerdictsAsked

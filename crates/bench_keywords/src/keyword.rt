@@ -195,6 +195,7 @@ fn turn_at<'s, 'i: 's>(
 
 impl Validate for BenchKeyword {
     ghost use Rattle.bench_keywords.specs.UnitsAsked.{bench_asks_no_units};
+    ghost use Rattle.bench_keywords.specs.VerdictsAsked.{bench_asks_verdicts};
     ghost use Rattle.std.specs.Prelude.{refl};
     ghost use Rattle.bench_keywords.specs.BenchShape.{is_whole};
     ghost use Rattle.bench_keywords.specs.Words.{any_run, ends_in, fits_in, turns_left, words};
@@ -263,4 +264,6 @@ impl Validate for BenchKeyword {
     ghost function_laws = { functions_keep };
 
     ghost asks_no_units = { bench_asks_no_units };
+
+    ghost asks_verdicts = { bench_asks_verdicts };
 }

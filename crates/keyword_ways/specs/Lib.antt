@@ -14,4 +14,5 @@ pub mod Places
 pub mod FaultLists
 pub mod OwnWays
 pub mod WayUnits
+pub mod WayVerdicts
 pub mod Plans

@@ -105,6 +105,7 @@ pub struct Leaf<L: LeafKeyword> {
 
 impl<L: LeafKeyword> Validate for Leaf<L> {
     ghost use Rattle.keyword_ways.specs.WayUnits.{own_ask_no_units};
+    ghost use Rattle.keyword_ways.specs.WayVerdicts.{own_ask_verdicts};
     ghost use Rattle.std.specs.Prelude.{refl};
     ghost use Rattle.keyword_ways.specs.OwnWays.{leaf_present, leaf_ways, own_absorbed, own_ends, own_fits, own_function_laws};
     ghost use Rattle.keyword_ways.specs.OwnWays.{own_can_be, own_remaining, own_turn_laws, own_words};
@@ -159,4 +160,6 @@ impl<L: LeafKeyword> Validate for Leaf<L> {
         (leaf_present L.called L.accepts L.error_text) };
 
     ghost asks_no_units = { own_ask_no_units (leaf_ways L.called L.accepts L.error_text) };
+
+    ghost asks_verdicts = { own_ask_verdicts (leaf_ways L.called L.accepts L.error_text) };
 }

@@ -59,6 +59,7 @@ pub struct Keyword<K: OwnKeyword> {
 
 impl<K: OwnKeyword> Validate for Keyword<K> {
     ghost use Rattle.keyword_ways.specs.WayUnits.{own_ask_no_units};
+    ghost use Rattle.keyword_ways.specs.WayVerdicts.{own_ask_verdicts};
     ghost use Rattle.std.specs.Prelude.{refl};
     ghost use Rattle.keyword_ways.specs.OwnWays.{own_absorbed, own_can_be, own_ends, own_fits, own_function_laws, own_remaining};
     ghost use Rattle.keyword_ways.specs.OwnWays.{own_turn_laws, own_words};
@@ -112,4 +113,6 @@ impl<K: OwnKeyword> Validate for Keyword<K> {
     ghost function_laws = { own_function_laws K.way K.present };
 
     ghost asks_no_units = { own_ask_no_units K.way };
+
+    ghost asks_verdicts = { own_ask_verdicts K.way };
 }

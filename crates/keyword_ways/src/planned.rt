@@ -224,6 +224,7 @@ fn turn_judging<'s, 'i, P: PlannedKeyword>(
 
 impl<P: PlannedKeyword> Validate for Planned<P> {
     ghost use Rattle.keyword_ways.specs.WayUnits.{own_ask_no_units};
+    ghost use Rattle.keyword_ways.specs.WayVerdicts.{own_ask_verdicts};
     ghost use Rattle.keyword_ways.specs.OwnWays.{own_absorbed, own_ends, own_fits, own_remaining, own_words};
     ghost use Rattle.keyword_ways.specs.OwnWays.{own_can_be, own_function_laws, own_turn_laws};
     ghost use Rattle.keyword_ways.specs.Plans.{plans_present};
@@ -298,4 +299,6 @@ impl<P: PlannedKeyword> Validate for Planned<P> {
     ghost function_laws = { own_function_laws (plan_ways P.planned P.named P.told) (plans_present P.planned P.named P.told) };
 
     ghost asks_no_units = { own_ask_no_units (plan_ways P.planned P.named P.told) };
+
+    ghost asks_verdicts = { own_ask_verdicts (plan_ways P.planned P.named P.told) };
 }

@@ -9,6 +9,7 @@ use Rattle.schema_reports.specs.Reports.{Unit_, report_of}
 use Rattle.schema_reports.specs.Keywords.{Answer, Answers, Keywords, Marked, Mode, Question, Reply, Turn, a_child, all_of_it, ask, done, first_of_it, for_all, for_first, for_units, for_verdict, here, mark, no_reply, truth, unit_of_it}
 use Rattle.schema_reports.specs.Laws.{AnsweredAlike, AsksRightly, IsPresent, IsRight, steps_below}
 use Rattle.schema_reports.specs.Matching.{Matching}
+use Rattle.schema_reports.specs.Remembering.{AlwaysAsksVerdict, AsksVerdict, EachAsksVerdicts}
 use Rattle.schema_reports.specs.Runs.{with_mark}
 use Rattle.schema_reports.specs.Turns.{FunctionLaws, Standing, TurnLaws, marks_after, next, reply_to, step_at, turned}
 use Rattle.schema_node.specs.KeywordViews.{fresh}
@@ -234,9 +235,24 @@ step_for_less stage.AsksSecond true = tt
 step_for_less stage.AsksSecond false = λ e. let f : ⊥ = cc in f
 step_for_less stage.Ends said = tt
 
-asks_verdicts : (texts : Bool) (m : ⊤) (s : Subject) (n : ℕ) (r : Once × Answer) (reply : Reply) → AlwaysAsksForLess (once_words texts) m s n r reply
-asks_verdicts texts m s zero r reply = tt
-asks_verdicts texts m s (suc n) r reply = (step_for_less r.0.0 (says_yes reply), λ next. asks_verdicts texts m s n ((once_words texts).turn m s r reply) next)
+always_for_less : (texts : Bool) (m : ⊤) (s : Subject) (n : ℕ) (r : Once × Answer) (reply : Reply) → AlwaysAsksForLess (once_words texts) m s n r reply
+always_for_less texts m s zero r reply = tt
+always_for_less texts m s (suc n) r reply = (step_for_less r.0.0 (says_yes reply), λ next. always_for_less texts m s n ((once_words texts).turn m s r reply) next)
 
 pub once_units : (texts : Bool) → AsksNoUnits (once_words texts)
-once_units texts m s mode none = asks_verdicts texts m s 5 ((stage.MarksFirst, true), fresh mode) no_reply
+once_units texts m s mode none = always_for_less texts m s 5 ((stage.MarksFirst, true), fresh mode) no_reply
+
+step_for_verdict : (t : Stage) (said : Bool) → AsksVerdict (step_once t said)
+step_for_verdict stage.MarksFirst said = tt
+step_for_verdict stage.AsksFirst said = refl
+step_for_verdict stage.MarksSecond said = tt
+step_for_verdict stage.AsksSecond true = tt
+step_for_verdict stage.AsksSecond false = refl
+step_for_verdict stage.Ends said = tt
+
+always_verdicts : (texts : Bool) (m : ⊤) (s : Subject) (n : ℕ) (r : Once × Answer) (reply : Reply) → AlwaysAsksVerdict (once_words texts) m s n r reply
+always_verdicts texts m s zero r reply = tt
+always_verdicts texts m s (suc n) r reply = (step_for_verdict r.0.0 (says_yes reply), λ next. always_verdicts texts m s n ((once_words texts).turn m s r reply) next)
+
+pub once_verdicts : (texts : Bool) → EachAsksVerdicts (once_words texts)
+once_verdicts texts m s = always_verdicts texts m s 5 ((stage.MarksFirst, true), fresh for_verdict) no_reply

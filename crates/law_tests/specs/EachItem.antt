@@ -9,6 +9,7 @@ use Rattle.schema_reports.specs.Reports.{Unit_, report_of}
 use Rattle.schema_reports.specs.Keywords.{Answer, Answers, Keywords, Marked, Mode, Question, Reply, Turn, all_of_it, ask, done, first_of_it, for_all, for_first, for_units, for_verdict, no_reply, truth, unit_of_it}
 use Rattle.schema_reports.specs.Laws.{AsksRightly, IsPresent, IsRight, steps_below}
 use Rattle.schema_reports.specs.Matching.{Matching}
+use Rattle.schema_reports.specs.Remembering.{AlwaysAsksVerdict, AsksVerdict, EachAsksVerdicts}
 use Rattle.schema_reports.specs.Turns.{FunctionLaws, Standing, TurnLaws, next, step_at, turned}
 use Rattle.schema_node.specs.KeywordViews.{fresh}
 use Rattle.schema_node.specs.UnitQuestions.{AlwaysAsksForLess, AsksForLess, AsksNoUnits}
@@ -199,9 +200,20 @@ step_for_less : (n : ℕ) → AsksForLess (step_left n)
 step_for_less zero = tt
 step_for_less (suc n) = λ e. let f : ⊥ = cc in f
 
-asks_verdicts : (texts : Bool) (m : ⊤) (s : Subject) (n : ℕ) (r : Left × Answer) (reply : Reply) → AlwaysAsksForLess (each_words texts) m s n r reply
-asks_verdicts texts m s zero r reply = tt
-asks_verdicts texts m s (suc n) r reply = (step_for_less r.0.0, λ next. asks_verdicts texts m s n ((each_words texts).turn m s r reply) next)
+always_for_less : (texts : Bool) (m : ⊤) (s : Subject) (n : ℕ) (r : Left × Answer) (reply : Reply) → AlwaysAsksForLess (each_words texts) m s n r reply
+always_for_less texts m s zero r reply = tt
+always_for_less texts m s (suc n) r reply = (step_for_less r.0.0, λ next. always_for_less texts m s n ((each_words texts).turn m s r reply) next)
 
 pub each_units : (texts : Bool) → AsksNoUnits (each_words texts)
-each_units texts m s mode none = asks_verdicts texts m s (item_count s + 1) ((item_count s, true), fresh mode) no_reply
+each_units texts m s mode none = always_for_less texts m s (item_count s + 1) ((item_count s, true), fresh mode) no_reply
+
+step_for_verdict : (n : ℕ) → AsksVerdict (step_left n)
+step_for_verdict zero = tt
+step_for_verdict (suc n) = refl
+
+always_verdicts : (texts : Bool) (m : ⊤) (s : Subject) (n : ℕ) (r : Left × Answer) (reply : Reply) → AlwaysAsksVerdict (each_words texts) m s n r reply
+always_verdicts texts m s zero r reply = tt
+always_verdicts texts m s (suc n) r reply = (step_for_verdict r.0.0, λ next. always_verdicts texts m s n ((each_words texts).turn m s r reply) next)
+
+pub each_verdicts : (texts : Bool) → EachAsksVerdicts (each_words texts)
+each_verdicts texts m s = always_verdicts texts m s (item_count s + 1) ((item_count s, true), fresh for_verdict) no_reply

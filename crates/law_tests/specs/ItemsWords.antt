@@ -1,13 +1,15 @@
 -- What the laws name of `x-items` and `type`, and that they keep them.
-use Rattle.std.proofs.Common.{◌∙◌, ℕ, Bool, List, sym}
+use Rattle.std.proofs.Common.{◌∙◌, ℕ, Bool, List, refl, sym}
 use Rattle.schema_reports.specs.Instance.{Subject, Text}
 use Rattle.schema_reports.specs.Keywords.{Answer, Keywords}
+use Rattle.schema_reports.specs.Remembering.{EachAsksVerdicts}
 use Rattle.schema_reports.specs.Turns.{FunctionLaws, Standing, TurnLaws}
 use Rattle.schema_node.specs.UnitQuestions.{AsksNoUnits}
 use Rattle.keyword_ways.specs.OwnWays.{own_absorbed, own_can_be, own_ends, own_fits, own_function_laws, own_remaining, own_turn_laws, own_words, spoken_ways}
 use Rattle.keyword_ways.specs.Plans.{plan_ways, plans_present}
 use Rattle.keyword_ways.specs.Ways.{Way}
 use Rattle.keyword_ways.specs.WayUnits.{WantsNone, mode-kept, step_for_less}
+use Rattle.keyword_ways.specs.WayVerdicts.{WantsVerdict, step_for_verdict}
 use Rattle.keyword_ways.specs.declared.run.Progress.{Progress}
 use Rattle.law_tests.specs.Items.{marks, name, planned, told, way_marks}
 use Rattle.law_tests.specs.Marking as marking
@@ -48,3 +50,7 @@ items_functions = marking.functions_keep marks (own_words ways) items_absorbed (
 pub items_units : (texts : Bool) → AsksNoUnits (items_words texts)
 items_units = marking.asks_no_units marks (own_words ways) (λ (r : Progress × Answer). WantsNone r.0.mode) (λ texts m s r reply h. h)
     (λ texts m s r reply h. step_for_less (spoken_ways ways texts m s) r.0.mode r.0.stage reply h) (λ texts m s mode none e. none (sym (mode-kept mode) ∙ e))
+
+pub items_verdicts : (texts : Bool) → EachAsksVerdicts (items_words texts)
+items_verdicts = marking.asks_verdicts marks (own_words ways) (λ (r : Progress × Answer). WantsVerdict r.0.mode) (λ texts m s r reply h. h)
+    (λ texts m s r reply h. step_for_verdict (spoken_ways ways texts m s) r.0.mode r.0.stage reply h) (λ texts m s. refl)

@@ -2,6 +2,7 @@ pub mod Refusals
 pub mod Refusing
 pub mod EachItem
 pub mod BothOnce
+pub mod InVain
 pub mod Marking
 pub mod Items
 pub mod ItemsWords

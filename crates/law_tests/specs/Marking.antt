@@ -4,8 +4,9 @@
 use Rattle.std.proofs.Common.{◌≡◌, ℕ, zero, suc, ◌+◌, ◌<◌, ◌⊎◌, [], List, Bool, true, false, refl, ap, arith, inl, inr}
 use Rattle.std.specs.Prelude.{if◌then◌else◌}
 use Rattle.schema_reports.specs.Instance.{Subject, Text}
-use Rattle.schema_reports.specs.Keywords.{Answer, Keywords, Mode, Reply, Turn, a_reservation, ask, done, ecma, for_units, mark, match_text, no_reply, unmark}
+use Rattle.schema_reports.specs.Keywords.{Answer, Keywords, Mode, Reply, Turn, a_reservation, ask, done, ecma, for_units, for_verdict, mark, match_text, no_reply, unmark}
 use Rattle.schema_reports.specs.Laws.{AsksRightly}
+use Rattle.schema_reports.specs.Remembering.{AlwaysAsksVerdict, AsksVerdict, EachAsksVerdicts}
 use Rattle.schema_reports.specs.Turns.{FunctionLaws, Standing, TurnLaws, marks_after, next, reply_to, step_at, turned}
 use Rattle.schema_node.specs.UnitQuestions.{AlwaysAsksForLess, AsksForLess, AsksNoUnits}
 use Rattle.law_tests.specs.declared.marking.Stage.{Stage}
@@ -298,3 +299,38 @@ module _ {M P : Type 0} (marks : M → Bool) (other : Bool → Keywords M (P × 
 
     pub asks_no_units : ((texts : Bool) (m : M) (s : Subject) (mode : Mode) → ¬ (mode ≡ for_units) → Less ((other texts).begin m s mode)) → (texts : Bool) → AsksNoUnits (words texts)
     asks_no_units starts texts = λ m s mode none. always_less texts m s ((words texts).most_turns m s) ((words texts).begin m s mode) no_reply (starts texts m s mode none)
+
+  -- ---- a run for the verdict asks for verdicts, where the other's does
+
+  module _ (Verdict : P × Answer → Type 0) (verdict_turn : (texts : Bool) (m : M) (s : Subject) (r : P × Answer) (reply : Reply) → Verdict r → Verdict ((other texts).turn m s r reply))
+      (verdict_step : (texts : Bool) (m : M) (s : Subject) (r : P × Answer) (reply : Reply) → Verdict r → AsksVerdict ((other texts).step m s r reply)) where
+    shown_verdict : (b : Bool) (t : Turn) → AsksVerdict t → AsksVerdict (shown b t)
+    shown_verdict true done h = tt
+    shown_verdict false done h = tt
+    shown_verdict b (ask q mode) h = h
+    shown_verdict b (match_text a point) h = h
+    shown_verdict b (mark i) h = tt
+    shown_verdict b unmark h = tt
+    shown_verdict b (ecma text) h = tt
+
+    step_verdict : (texts : Bool) (m : M) (s : Subject) (t : Stage) (r : P × Answer) (reply : Reply) → Verdict r → AsksVerdict (step_of texts m s t r reply)
+    step_verdict texts m s stage.Marks r reply h = tt
+    step_verdict texts m s stage.Enters r reply h = shown_verdict (marks m) _ (verdict_step texts m s r no_reply h)
+    step_verdict texts m s stage.Works r reply h = shown_verdict (marks m) _ (verdict_step texts m s r reply h)
+    step_verdict texts m s stage.Over r reply h = tt
+
+    turn_verdict : (texts : Bool) (m : M) (s : Subject) (t : Stage) (r : P × Answer) (reply : Reply) → Verdict r → Verdict (inside (turn_at texts m s t r reply))
+    turn_verdict texts m s stage.Marks r reply h = h
+    turn_verdict texts m s stage.Enters r reply h = verdict_turn texts m s r no_reply h
+    turn_verdict texts m s stage.Works r reply h = verdict_turn texts m s r reply h
+    turn_verdict texts m s stage.Over r reply h = h
+
+    always_verdict : (texts : Bool) (m : M) (s : Subject) (n : ℕ) (r : Run) (reply : Reply) → Verdict (inside r) → AlwaysAsksVerdict (words texts) m s n r reply
+    always_verdict texts m s zero r reply h = tt
+    always_verdict texts m s (suc n) r reply h = (
+      step_verdict texts m s r.0.0 (inside r) reply h,
+      λ again. always_verdict texts m s n (turn_at texts m s r.0.0 (inside r) reply) again (turn_verdict texts m s r.0.0 (inside r) reply h),
+    )
+
+    pub asks_verdicts : ((texts : Bool) (m : M) (s : Subject) → Verdict ((other texts).begin m s for_verdict)) → (texts : Bool) → EachAsksVerdicts (words texts)
+    asks_verdicts starts texts = λ m s. always_verdict texts m s ((words texts).most_turns m s) ((words texts).begin m s for_verdict) no_reply (starts texts m s)

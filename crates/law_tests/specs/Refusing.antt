@@ -7,6 +7,7 @@ use Rattle.schema_reports.specs.Reports.{Unit_}
 use Rattle.schema_reports.specs.Keywords.{Answer, Answers, Keywords, Marked, Mode, Question, Reply, done, for_all, for_first, for_units, for_verdict, no_reply}
 use Rattle.schema_reports.specs.Laws.{IsRight, PassesUnchanged, StandsInside}
 use Rattle.schema_reports.specs.Matching.{Matching}
+use Rattle.schema_reports.specs.Remembering.{AlwaysAsksVerdict, EachAsksVerdicts}
 use Rattle.schema_reports.specs.Turns.{FunctionLaws, Standing, TurnLaws}
 use Rattle.schema_node.specs.KeywordViews.{fresh}
 use Rattle.schema_node.specs.UnitQuestions.{AlwaysAsksForLess, AsksNoUnits}
@@ -75,7 +76,7 @@ refusing_functions texts m = record {
   passes = λ s matches a. All-cons (PassesUnchanged a []) (refusal texts) [] tt (All-nil _);
 }
 
--- ---- it asks nothing, so no units
+-- ---- it asks nothing, so no units, and no more than verdicts
 
 asks_nothing : (texts : Bool) (m : ⊤) (s : Subject) (n : ℕ) (r : ⊤ × Answer) (reply : Reply) → AlwaysAsksForLess (refusing_words texts) m s n r reply
 asks_nothing texts m s zero r reply = tt
@@ -83,3 +84,10 @@ asks_nothing texts m s (suc n) r reply = (tt, λ next. asks_nothing texts m s n 
 
 pub refusing_units : (texts : Bool) → AsksNoUnits (refusing_words texts)
 refusing_units texts m s mode none = asks_nothing texts m s 1 (tt, fresh mode) no_reply
+
+always_verdicts : (texts : Bool) (m : ⊤) (s : Subject) (n : ℕ) (r : ⊤ × Answer) (reply : Reply) → AlwaysAsksVerdict (refusing_words texts) m s n r reply
+always_verdicts texts m s zero r reply = tt
+always_verdicts texts m s (suc n) r reply = (tt, λ next. always_verdicts texts m s n ((refusing_words texts).turn m s r reply) next)
+
+pub refusing_verdicts : (texts : Bool) → EachAsksVerdicts (refusing_words texts)
+refusing_verdicts texts m s = always_verdicts texts m s 1 (tt, fresh for_verdict) no_reply

@@ -35,7 +35,7 @@ fn says_yes(reply: Reply<'_>) -> bool
 }
 
 impl Validate for BothOnce {
-    ghost use Rattle.law_tests.specs.BothOnce.{once_units};
+    ghost use Rattle.law_tests.specs.BothOnce.{once_units, once_verdicts};
     ghost use Rattle.std.specs.Prelude.{refl, true};
     ghost use Rattle.law_tests.specs.BothOnce.{once_absorbed, once_can_be, once_ends, once_fits, once_functions};
     ghost use Rattle.law_tests.specs.BothOnce.{once_left, once_turns, once_words};
@@ -117,4 +117,6 @@ impl Validate for BothOnce {
     ghost function_laws = { once_functions };
 
     ghost asks_no_units = { once_units };
+
+    ghost asks_verdicts = { once_verdicts };
 }

@@ -26,7 +26,7 @@ fn says_no(reply: Reply<'_>) -> bool
 }
 
 impl Validate for EachItem {
-    ghost use Rattle.law_tests.specs.EachItem.{each_units};
+    ghost use Rattle.law_tests.specs.EachItem.{each_units, each_verdicts};
     ghost use Rattle.std.specs.Prelude.{refl, true};
     ghost use Rattle.law_tests.specs.EachItem.{each_absorbed, each_can_be, each_ends, each_fits, each_functions};
     ghost use Rattle.law_tests.specs.EachItem.{each_left, each_turns, each_words};
@@ -87,4 +87,6 @@ impl Validate for EachItem {
     ghost function_laws = { each_functions };
 
     ghost asks_no_units = { each_units };
+
+    ghost asks_verdicts = { each_verdicts };
 }

@@ -120,7 +120,7 @@ impl ItemsKeyword {
 impl Validate for ItemsKeyword {
     ghost use Rattle.std.specs.Prelude.{refl, true};
     ghost use Rattle.law_tests.specs.ItemsWords.{items_absorbed, items_can_be, items_ends, items_fits, items_functions};
-    ghost use Rattle.law_tests.specs.ItemsWords.{items_remaining, items_turns, items_units, items_words};
+    ghost use Rattle.law_tests.specs.ItemsWords.{items_remaining, items_turns, items_units, items_verdicts, items_words};
 
     type Run = (Stage, Progress);
 
@@ -180,4 +180,6 @@ impl Validate for ItemsKeyword {
     ghost function_laws = { items_functions };
 
     ghost asks_no_units = { items_units };
+
+    ghost asks_verdicts = { items_verdicts };
 }

@@ -1,9 +1,11 @@
 //! Keyword types that keep the laws, as a test of the laws: one whose run has no state at all, one whose run counts what is left of
-//! a length that it stores as it begins, and one that marks its children and skips one that is marked already.
+//! a length that it stores as it begins, one that marks its children and skips one that is marked already, and one that asks its child
+//! and drops what is replied.
 #![tactic(auto)]
 
 pub mod both_once;
 pub mod each_item;
+pub mod in_vain;
 pub mod items;
 pub mod items_table;
 pub mod marking;

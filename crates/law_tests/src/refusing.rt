@@ -10,7 +10,7 @@ use std::alloc::Global;
 pub struct Refusing {}
 
 impl Validate for Refusing {
-    ghost use Rattle.law_tests.specs.Refusing.{refusing_units};
+    ghost use Rattle.law_tests.specs.Refusing.{refusing_units, refusing_verdicts};
     ghost use Rattle.std.specs.Prelude.{refl, true};
     ghost use Rattle.law_tests.specs.Refusing.{refusing_absorbed, refusing_can_be, refusing_ends, refusing_fits};
     ghost use Rattle.law_tests.specs.Refusing.{refusing_functions, refusing_left, refusing_turns, refusing_words};
@@ -61,4 +61,6 @@ impl Validate for Refusing {
     ghost function_laws = { refusing_functions };
 
     ghost asks_no_units = { refusing_units };
+
+    ghost asks_verdicts = { refusing_verdicts };
 }
