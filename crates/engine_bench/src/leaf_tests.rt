@@ -83,6 +83,7 @@ fn match_at<'s>(patterns: &'s [String], text: &'s str, left: usize) -> Step<'s>
 
 impl Validate for DetourKeyword {
     ghost use Rattle.engine_bench.specs.DetourUnits.{detour_asks_no_units};
+    ghost use Rattle.engine_bench.specs.DetourVerdicts.{detour_asks_verdicts};
     ghost use Rattle.std.specs.Prelude.{map, refl, string_bytes};
     ghost use Rattle.bench_keywords.specs.BenchShape.{is_whole};
     ghost use Rattle.bench_keywords.specs.Shapes.{shape_of};
@@ -146,6 +147,8 @@ impl Validate for DetourKeyword {
     ghost function_laws = { detour_functions };
 
     ghost asks_no_units = { detour_asks_no_units };
+
+    ghost asks_verdicts = { detour_asks_verdicts };
 }
 
 /// The keyword `"pattern": "b"`, which goes a detour over six patterns.

@@ -22,6 +22,8 @@ pub mod program;
 #[cfg(test)]
 mod reference_tests;
 #[cfg(test)]
+mod remembering_tests;
+#[cfg(test)]
 mod reservation_tests;
 #[cfg(test)]
 mod retry_tests;

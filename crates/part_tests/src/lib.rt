@@ -10,4 +10,8 @@ mod meta_tests;
 #[cfg(test)]
 mod node_tests;
 #[cfg(test)]
+mod path_tests;
+#[cfg(test)]
 mod resolver_tests;
+#[cfg(test)]
+mod verdict_tests;
