@@ -4,6 +4,7 @@ use schema_node::node::SchemaNode;
 use schema_reports::instance::{Instance, InstanceStep, Place};
 use schema_reports::location::OutOfMemory;
 use serde_json::{Map, Value};
+use std::alloc::Global;
 
 /// Counts so many visits.
 fn visit(context: &mut ValidationContext<'_>, count: usize) {
@@ -62,19 +63,27 @@ fn hold_in_turn<'i>(
     )
 }
 
+/// Whether both hold in turn at a member of the root, where node 2 is in progress at the root or is not.
+fn hold_at_a_member(
+    alloc: Global,
+    instance: Instance<'_>,
+    is_below: bool,
+) -> Result<bool, OutOfMemory> {
+    let root = Place::root(alloc);
+    let place = root.below(InstanceStep::Member("a"))?;
+    let mut context = ValidationContext::new(alloc);
+    if is_below && context.enter(SchemaNode(2), &root)? {
+        return Ok(false);
+    }
+    hold_in_turn(&mut context, &place, instance)
+}
+
 #[test]
 fn a_verdict_is_kept_and_read(rt: HostRuntime) -> Result<(), OutOfMemory> {
     let alloc = rt.alloc();
     let list = Value::Array(Vec::new(alloc));
-    let root = Place::root(alloc);
-    let place = root.below(InstanceStep::Member("a"))?;
-    let mut context = ValidationContext::new(alloc);
-    let hold = hold_in_turn(&mut context, &place, Instance::Value(&list));
-    drop(context);
-    drop(place);
-    drop(root);
-    drop(list);
-    assert!(rt; hold?);
+    let hold = hold_at_a_member(alloc, Instance::Value(&list), false)?;
+    assert!(rt; hold);
     Ok(())
 }
 
@@ -83,46 +92,28 @@ fn a_verdict_is_kept_and_read(rt: HostRuntime) -> Result<(), OutOfMemory> {
 fn a_verdict_is_kept_below_another(rt: HostRuntime) -> Result<(), OutOfMemory> {
     let alloc = rt.alloc();
     let members = Value::Object(Map::new(alloc));
-    let root = Place::root(alloc);
-    let place = root.below(InstanceStep::Member("a"))?;
-    let mut context = ValidationContext::new(alloc);
-    let above = context.enter(SchemaNode(2), &root);
-    let hold = hold_in_turn(&mut context, &place, Instance::Value(&members));
-    drop(context);
-    drop(place);
-    drop(root);
-    drop(members);
-    assert!(rt; !above?);
-    assert!(rt; hold?);
+    let hold = hold_at_a_member(alloc, Instance::Value(&members), true)?;
+    assert!(rt; hold);
     Ok(())
 }
 
-/// Whether no verdict is kept of the instance after 20 visits.
-fn is_never_kept<'i>(
-    context: &mut ValidationContext<'i>,
-    place: &Place<'i>,
-    instance: Instance<'i>,
-) -> Result<bool, OutOfMemory> {
+/// Whether no verdict is kept of the instance at a member of the root, after 20 visits.
+fn is_never_kept(alloc: Global, instance: Instance<'_>) -> Result<bool, OutOfMemory> {
+    let root = Place::root(alloc);
+    let place = root.below(InstanceStep::Member("a"))?;
+    let mut context = ValidationContext::new(alloc);
     let mark = context.start_ref_visit();
-    visit(context, 20);
-    context.cache_result(SchemaNode(1), place, instance, true, mark)?;
-    Ok(context.get_cached_result(SchemaNode(1), place).is_none())
+    visit(&mut context, 20);
+    context.cache_result(SchemaNode(1), &place, instance, true, mark)?;
+    Ok(context.get_cached_result(SchemaNode(1), &place).is_none())
 }
 
 #[test]
 fn no_verdict_is_kept_of_texts(rt: HostRuntime) -> Result<(), OutOfMemory> {
     let alloc = rt.alloc();
     let text = Value::String(String::from_str(alloc, "b")?);
-    let root = Place::root(alloc);
-    let place = root.below(InstanceStep::Member("a"))?;
-    let mut context = ValidationContext::new(alloc);
-    let of_text = is_never_kept(&mut context, &place, Instance::Value(&text));
-    let of_name = is_never_kept(&mut context, &place, Instance::Name("a"));
-    drop(context);
-    drop(place);
-    drop(root);
-    drop(text);
-    assert!(rt; of_text?);
-    assert!(rt; of_name?);
+    let of_text = is_never_kept(alloc, Instance::Value(&text))?;
+    let of_name = is_never_kept(alloc, Instance::Name("a"))?;
+    assert!(rt; of_text && of_name);
     Ok(())
 }
