@@ -42,6 +42,12 @@ pub mod RowsFused
 pub mod LocationViews
 pub mod InstanceViews
 pub mod ReportViews
+pub mod UnitViews
+pub mod UnitLevels
+pub mod EvaluationResults
+pub mod UnitOrder
+pub mod EntryUnits
+pub mod UnitsOrdered
 pub mod InstanceTexts
 pub mod Owned
 pub mod MatchViews

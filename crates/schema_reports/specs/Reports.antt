@@ -35,10 +35,10 @@ pub record Described : Type 0 where
   pub name : Text
   pub text : Text
 
--- what a unit says of itself
+-- what a unit says of itself; the place of the instance as a pointer (RFC 6901)
 pub record Report : Type 0 where
   pub valid : Bool
-  pub place : Place
+  pub instance_location : Text
   pub evaluation_path : Text
   pub schema_path : Text
   pub absolute : Option Text

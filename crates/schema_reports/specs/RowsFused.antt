@@ -3,6 +3,7 @@ use Rattle.std.specs.List.{list_all}
 use Rattle.std.specs.Prelude.{Bool, List, None, Option, Some, [], bytes_eq, codes, decimal, false, flat_map, if◌then◌else◌, is_some, map, nat_le, true, unwrap_or, ℕ, ⊤, ◌&&◌, ◌++◌, ◌+◌, ◌==◌, ◌∷◌, ◌≡◌}
 use Rattle.serde_json.specs.Data.{Data, Items, Members, array, item, member, no_items, no_members, number, object, unsigned}
 use Rattle.schema_reports.specs.Instance.{Place, Subject, Text, a_value, member_of, to_item, to_member}
+use Rattle.schema_reports.specs.Pointer.{pointer_to}
 use Rattle.schema_reports.specs.Reports.{Described, Error, Unit_, report_of, unit, units_of}
 use Rattle.schema_reports.specs.Drafts.{draft_2020_12}
 use Rattle.schema_reports.specs.Matching.{Completion, Matching}
@@ -148,7 +149,7 @@ less_text = codes "[\"a\"] has less than 2 items"
 
 -- a unit of the row: a keyword's or a schema's, at a place
 abbrev pub row_unit : Bool → Place → Text → List Described → List Unit_ → Unit_
-row_unit valid place path errors children = unit (record { valid = valid; place = place; evaluation_path = path; schema_path = path; absolute = None; annotations = None; errors = errors }) (units_of children)
+row_unit valid place path errors children = unit (record { valid = valid; instance_location = pointer_to place; evaluation_path = path; schema_path = path; absolute = None; annotations = None; errors = errors }) (units_of children)
 
 abbrev pub row_units : Unit_
 row_units = row_unit false [] [] [] (

@@ -3,7 +3,7 @@ use Rattle.std.specs.List.{list_all}
 use Rattle.std.specs.Prelude.{Bool, List, None, Option, Some, [], bytes_eq, codes, false, filter, flat_map, if◌then◌else◌, map, nat_le, not, true, ℕ, ◌++◌, ◌∷◌}
 use Rattle.serde_json.specs.Data.{Data, Members, member, no_members, object}
 use Rattle.schema_reports.specs.Instance.{Place, Subject, Text, member_of}
-use Rattle.schema_reports.specs.Pointer.{joined}
+use Rattle.schema_reports.specs.Pointer.{joined, pointer_to}
 use Rattle.schema_reports.specs.Reports.{Described, Unit_, children_of, report_of, unit, units_of}
 use Rattle.schema_reports.specs.Drafts.{ref_stands_alone}
 use Rattle.schema_reports.specs.Matching.{Completion, Matching, matching}
@@ -13,13 +13,13 @@ use Rattle.schema_reports.specs.Plan.{Edge, Form, Key, Part, always, keyword, ne
 use Rattle.schema_reports.specs.Meaning.{Where, asked, at, false_text, referred_to, subject, unfolded}
 
 abbrev pub no_unit : Unit_
-no_unit = unit (record { valid = true; place = []; evaluation_path = []; schema_path = []; absolute = None; annotations = None; errors = [] }) (units_of [])
+no_unit = unit (record { valid = true; instance_location = []; evaluation_path = []; schema_path = []; absolute = None; annotations = None; errors = [] }) (units_of [])
 
 -- the unit of a keyword, or of one that is absorbed
 abbrev pub keyword_unit : Where → Named → Unit_
 keyword_unit x a = unit (record {
   valid = a.valid;
-  place = x.place;
+  instance_location = pointer_to x.place;
   evaluation_path = joined x.path a.name;
   schema_path = joined x.location a.name;
   absolute = x.absolute (joined x.location a.name);
@@ -61,7 +61,7 @@ entry_units xs = let absorbed = flat_map (λ x. x.units.1) xs in
     map (λ a. a.1) (filter is_type absorbed) ++ in_order (map (λ a. a.1) (filter (λ a. not (is_type a)) absorbed)) xs
 
 abbrev pub schema_unit : Where → Bool → Option Data → List Described → List Unit_ → Unit_
-schema_unit x valid annotations errors children = unit (record { valid = valid; place = x.place; evaluation_path = x.path; schema_path = x.location; absolute = x.absolute x.location; annotations = annotations; errors = errors }) (units_of children)
+schema_unit x valid annotations errors children = unit (record { valid = valid; instance_location = pointer_to x.place; evaluation_path = x.path; schema_path = x.location; absolute = x.absolute x.location; annotations = annotations; errors = errors }) (units_of children)
 
 abbrev pub true_unit : Where → Unit_
 true_unit x = schema_unit x true None [] []

@@ -2,6 +2,9 @@
 #![tactic(auto)]
 
 pub mod covers;
+pub mod evaluation;
+pub mod evaluation_order;
+pub mod evaluation_result;
 pub mod instance;
 pub mod keywords;
 pub mod location;

@@ -1,0 +1,114 @@
+//! Evaluations: what each place of a schema says of a place of an instance, unit by unit. (Core 2020-12, 12.4)
+ghost use Rattle.std.specs.Prelude.{◌≡◌, [], ◌++◌, ◌∷◌, Bool, IfOk, OnErr, map};
+ghost use Rattle.std.specs.List.{list_all};
+ghost use Rattle.schema_reports.specs.Reports.{report_of};
+ghost use Rattle.schema_reports.specs.UnitViews.{unit_of};
+
+use crate::location::{Location, OutOfMemory};
+use std::alloc::Global;
+use std::marker::Model;
+
+/// What a keyword says of an instance beside its verdict: any value.
+pub type Annotations = serde_json::Value;
+
+/// An error of a unit: the name of its keyword, and its text.
+#[derive(Drop)]
+pub struct ErrorDescription {
+    pub keyword: String,
+    pub text: String,
+}
+
+/// What a unit says of itself: its verdict; the way through the schemas that led to it; its URI, `None` if its schema resource
+/// has no identifier; its place in the schema; the instance's place; its annotations; and the errors of its own.
+/// Each location is a JSON Pointer (RFC 6901).
+#[derive(Drop)]
+pub struct UnitReport {
+    pub valid: bool,
+    pub evaluation_path: Location,
+    pub absolute_keyword_location: Option<String>,
+    pub schema_location: Location,
+    pub instance_location: Location,
+    pub annotations: Option<Annotations>,
+    pub errors: Vec<ErrorDescription>,
+}
+
+/// A unit of an evaluation: what it says of itself, and the units inside it, in their order.
+#[derive(Drop)]
+pub struct EvaluationNode {
+    pub report: UnitReport,
+    pub children: Vec<EvaluationNode>,
+}
+
+/// The units inside a unit, in their order. Contracts see a list.
+#[derive(Drop)]
+pub struct ChildList {
+    nodes: Vec<EvaluationNode>,
+}
+
+impl Model for ChildList {
+    ghost use Rattle.std.specs.Prelude.{List};
+    ghost use Rattle.std.specs.Coded.{codes};
+    ghost use Rattle.schema_reports.specs.declared.evaluation.EvaluationNode.{EvaluationNode};
+    ghost use Rattle.schema_reports.specs.contracts.evaluation.EvaluationNode as node;
+
+    ghost Value = { List EvaluationNode };
+
+    ghost coded = { Prim.hlevel (codes, node.the_row.coded) };
+
+    ghost view = { λ l. l.nodes.items };
+}
+
+impl ChildList {
+    /// Returns a list with no units.
+    pub fn new(alloc: Global) -> ChildList
+        ensures empty { result ≡ [] }
+    {
+        ChildList {
+            nodes: Vec::new(alloc),
+        }
+    }
+
+    /// Returns a list with the one unit. Fails only if memory cannot be allocated.
+    pub fn of(alloc: Global, node: EvaluationNode) -> Result<ChildList, OutOfMemory>
+        ensures one { IfOk result (λ l. l ≡ node ∷ []) }
+    {
+        let mut list = ChildList::new(alloc);
+        list.push(node)?;
+        Ok(list)
+    }
+
+    /// Returns a list with these units, in their order.
+    pub fn from_nodes(nodes: Vec<EvaluationNode>) -> ChildList
+        ensures nodes { result ≡ nodes.items }
+    {
+        ChildList { nodes }
+    }
+
+    /// Adds a unit at the end. Fails only if memory cannot be allocated, and then the list is as it was.
+    pub fn push(&mut self, node: EvaluationNode) -> Result<(), OutOfMemory>
+        ensures pushed { IfOk result (λ _. self.new ≡ self.old ++ node ∷ []) }
+        ensures unchanged { OnErr result (self.new ≡ self.old) }
+    {
+        self.nodes.push(node)?;
+        Ok(())
+    }
+
+    /// Returns whether each unit of the list is valid.
+    pub fn all_valid(&self) -> bool
+        ensures verdict { (texts : Bool) → result ≡ list_all (λ u. (report_of u).valid) (map (unit_of texts) self.now) }
+    {
+        for node in &self.nodes {
+            if !node.report.valid {
+                return false;
+            }
+        }
+        true
+    }
+
+    /// Returns the units, in their order.
+    pub fn into_nodes(self) -> Vec<EvaluationNode>
+        ensures nodes { result.items ≡ self }
+    {
+        self.nodes
+    }
+}
