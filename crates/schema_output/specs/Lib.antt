@@ -1,0 +1,4 @@
+pub mod ErrorUnits
+pub mod Output
+pub mod EntryViews
+pub mod Rows

@@ -1,0 +1,70 @@
+//! Units made of the errors of a run. (Core 2020-12, 12.3 and 12.4)
+ghost use Rattle.std.specs.Prelude.{◌≡◌, Bool, IfOk, map};
+ghost use Rattle.schema_reports.specs.ReportViews.{error_of};
+ghost use Rattle.schema_reports.specs.UnitViews.{unit_of};
+ghost use Rattle.schema_output.specs.ErrorUnits.{error_unit, errors_unit, root_unit};
+
+use schema_reports::evaluation::{ErrorDescription, EvaluationNode, UnitReport};
+use schema_reports::location::{Location, OutOfMemory};
+use schema_reports::reports::ValidationError;
+use std::alloc::Global;
+
+// The unit of one error, which is the unit's own.
+fn error_unit(alloc: Global, error: ValidationError<'_>) -> Result<EvaluationNode, OutOfMemory>
+    ensures unit { IfOk result (λ n. (texts : Bool) → unit_of texts n ≡ error_unit (error_of texts error.entry)) }
+{
+    let instance_location = error.instance_path(alloc)?;
+    let mut errors = Vec::new(alloc);
+    errors.push(ErrorDescription {
+        keyword: error.keyword,
+        text: error.text,
+    })?;
+    Ok(EvaluationNode {
+        report: UnitReport {
+            valid: false,
+            evaluation_path: error.evaluation_path,
+            absolute_keyword_location: None,
+            schema_location: error.schema_path,
+            instance_location,
+            annotations: None,
+            errors,
+        },
+        children: Vec::new(alloc),
+    })
+}
+
+// A root of this verdict with these units inside it, which says nothing else.
+fn root_unit(alloc: Global, valid: bool, children: Vec<EvaluationNode>) -> EvaluationNode
+    ensures unit { (texts : Bool) → unit_of texts result ≡ root_unit valid (map (unit_of texts) children.items) }
+{
+    EvaluationNode {
+        report: UnitReport {
+            valid,
+            evaluation_path: Location::new(alloc),
+            absolute_keyword_location: None,
+            schema_location: Location::new(alloc),
+            instance_location: Location::new(alloc),
+            annotations: None,
+            errors: Vec::new(alloc),
+        },
+        children,
+    }
+}
+
+/// Returns a root with one unit inside it for each error, in their order. The root is valid exactly if there is no error, and its
+/// locations are empty; an error's unit is invalid, and has the error's locations, its keyword and its text. No unit has an
+/// absolute location or annotations. Fails only if memory cannot be allocated.
+pub fn unit_of_errors(
+    alloc: Global,
+    errors: Vec<ValidationError<'_>>,
+) -> Result<EvaluationNode, OutOfMemory>
+    ensures unit { IfOk result
+        (λ n. (texts : Bool) → unit_of texts n ≡ errors_unit (map (error_of texts) errors.entry.items)) }
+{
+    let valid = errors.is_empty();
+    let mut children = Vec::new(alloc);
+    for error in errors {
+        children.push(error_unit(alloc, error)?)?;
+    }
+    Ok(root_unit(alloc, valid, children))
+}

@@ -1,0 +1,69 @@
+//! An evaluation of an instance: its units, and what is shown of them. (Core 2020-12, 12.4)
+ghost use Rattle.std.specs.Prelude.{◌≡◌, Bool, IfOk, map, true};
+ghost use Rattle.serde_json.specs.View.{view};
+ghost use Rattle.schema_reports.specs.Reports.{report_of};
+ghost use Rattle.schema_reports.specs.UnitViews.{unit_of};
+ghost use Rattle.schema_output.specs.EntryViews.{shown_of};
+ghost use Rattle.schema_output.specs.Output.{output_list, shown_in};
+
+use crate::errors::{EvaluationErrors, push_errors};
+use crate::list::output_list;
+use schema_reports::evaluation::EvaluationNode;
+use schema_reports::location::OutOfMemory;
+use serde_json::Value;
+use std::alloc::Global;
+use std::marker::Model;
+
+/// What evaluating an instance gave: a unit, and the units inside it. Contracts see the outermost unit.
+#[derive(Drop)]
+pub struct Evaluation {
+    root: EvaluationNode,
+}
+
+impl Model for Evaluation {
+    ghost use Rattle.schema_reports.specs.declared.evaluation.EvaluationNode.{EvaluationNode};
+    ghost use Rattle.schema_reports.specs.contracts.evaluation.EvaluationNode as node;
+
+    ghost Value = { EvaluationNode };
+
+    ghost coded = { node.the_row.coded };
+
+    ghost view = { λ e. e.root };
+}
+
+impl Evaluation {
+    /// Returns the evaluation with this unit outermost.
+    pub fn new(root: EvaluationNode) -> Evaluation
+        ensures root { result ≡ root }
+    {
+        Evaluation { root }
+    }
+
+    /// Returns whether the outermost unit is valid, which says whether the instance is.
+    pub fn is_valid(&self) -> bool
+        ensures verdict { (texts : Bool) → result ≡ (report_of (unit_of texts self.now)).valid }
+    {
+        self.root.report.valid
+    }
+
+    /// Returns the output in the list format: an object with the verdict, `valid`, and with an object for each unit, `details`, a
+    /// unit before the units inside it. A unit's object has `valid`, `evaluationPath`, `schemaLocation`, which is the absolute
+    /// location where there is one, and `instanceLocation`; `errors`, where there are any, the text of the first error of each
+    /// keyword; and `annotations`, where there are any, which are `droppedAnnotations` in an invalid unit. Fails only if memory
+    /// cannot be allocated.
+    pub fn list(&self, alloc: Global) -> Result<Value, OutOfMemory>
+        ensures list { IfOk result (λ v. view v ≡ output_list (unit_of true self.now)) }
+    {
+        output_list(alloc, &self.root)
+    }
+
+    /// Returns an iterator over the errors of the units, each with its unit: a unit's errors in their order, and before those of
+    /// the units inside it. Fails only if memory cannot be allocated.
+    pub fn iter_errors(&self, alloc: Global) -> Result<EvaluationErrors<'_>, OutOfMemory>
+        ensures errors { IfOk result (λ es. (texts : Bool) → map (shown_of texts) es ≡ shown_in (unit_of texts self.now)) }
+    {
+        let mut entries = Vec::new(alloc);
+        push_errors(&self.root, &mut entries)?;
+        Ok(EvaluationErrors::new(entries))
+    }
+}

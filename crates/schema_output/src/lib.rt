@@ -1,0 +1,8 @@
+//! The output of an evaluation: as a list, as its errors one by one, and as units made of the errors of a run.
+#![tactic(auto)]
+
+pub mod error_units;
+pub mod errors;
+pub mod evaluation;
+pub mod list;
+pub mod rows;

@@ -1,0 +1,12 @@
+//! Worked rows: what the definitions show of small evaluations.
+ghost use Rattle.schema_output.specs.Rows.{ErrorIsListed, FirstErrorStands, RefusedIsListed, StringIsListed};
+
+/// The worked rows hold: each clause is one row, and it names what the definitions show of a small evaluation.
+///
+/// The rows are computed from the definitions alone. The function does nothing when it runs.
+pub fn worked_rows()
+    ensures string_is_listed { StringIsListed }
+    ensures refused_is_listed { RefusedIsListed }
+    ensures first_error_stands { FirstErrorStands }
+    ensures error_is_listed { ErrorIsListed }
+{}
