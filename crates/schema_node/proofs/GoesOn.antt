@@ -18,7 +18,7 @@ use Rattle.schema_node.specs.NodeRuns.{Joins, NodeReplies, SaysTheSame, Stamps, 
 use Rattle.schema_node.specs.Progress.{Context, busy_at}
 use Rattle.schema_node.specs.RightVerdicts.{AreRight, IsRightVerdict, Layout}
 use Rattle.schema_node.specs.RunStates.{Asking, EdgeRemembers, EdgeSays, FormRemembers, GoesOn, Keeps, MeetsEdge, MeetsNode, NodeRemembers, NodeSays, PartsRemember, ReadsOrKeeps, RemembersRightly, Setting, StaysRight}
-use Rattle.schema_node.specs.Verdicts.{MayKeep, Remembers, is_alone, least_visits, read_in_mode, read_verdict, verdict_of}
+use Rattle.schema_node.specs.Verdicts.{MayKeep, Remembers, is_alone, least_visits, one_more, read_in_mode, read_verdict, verdict_of, visited_in_mode}
 use Rattle.schema_node.specs.declared.context.keyword.Reply as code
 use Rattle.schema_node.proofs.Matches.{after_assumes}
 use Rattle.schema_node.proofs.RightVerdicts.{accepts_alike, alone_entered, alone_is_none, computed_right, kept_or_not, read_alone, read_entered, read_meets, read_replies, right_after_match, right_kept}
@@ -48,7 +48,7 @@ module _ {K R : Type 0} (g : Setting K R) (layout : Layout) where
 
 module _ (q : Asking) (c c' : Context) (i : ℕ) where
   pub retold : (r r' : code.Reply) (h : ReadsOrKeeps q c c' i r) → ((texts : Bool) → reply_of texts r' ≡ truth h.verdict) → ReadsOrKeeps q c c' i r'
-  retold r r' h e = record { verdict = h.verdict; told = e; read = h.read; kept = h.kept }
+  retold r r' h e = record { verdict = h.verdict; told = e; read = h.read; counted = h.counted; kept = h.kept }
 
   abbrev just : Bool → Outcome
   just v = record { verdict = v; errors = [] }
@@ -176,6 +176,7 @@ module _ {K R : Type 0} (g : Setting K R) (q : Asking) (e : NodeEdge) (c : Conte
       verdict = v;
       told = told;
       read = λ v' h. (some_same v' v (sym h ∙ read_now), same);
+      counted = λ none. absurd (cc (sym none ∙ read_now));
       kept = λ none may. absurd (cc (sym none ∙ read_now));
     }
 
@@ -228,13 +229,14 @@ module _ {K R : Type 0} (g : Setting K R) (q : Asking) (e : NodeEdge) (c : Conte
           right_same g layout c4 c5 met5 read5 right4
 
       pub computed_remembers : c1.in_progress ≡ c.in_progress ++ (e.node, q.place) ∷ [] → c1.verdicts ≡ c.verdicts → read_in_mode q.mode e.node q.place c1 ≡ None → mark ≡ c.visits → c5.in_progress ≡ c.in_progress
-          → c5.visits ≡ c3.visits → c5.verdicts ≡ c4.verdicts → EdgeRemembers q c c5 e r
-      computed_remembers pairs1 read1 none at_mark back visits read5 mode guarded' free' =
+          → c5.visits ≡ c3.visits → visited_in_mode q.mode c.visits ≤ c3.visits → c5.verdicts ≡ c4.verdicts → EdgeRemembers q c c5 e r
+      computed_remembers pairs1 read1 none at_mark back visits more read5 mode guarded' free' =
           let none_read : read_verdict e.node q.place c ≡ None = sym (read_entered e.node q.place c c1 pairs1 read1) ∙ subst (λ m. read_in_mode m e.node q.place c1 ≡ None) mode none in
           record {
             verdict = accepts (reply_of false computed);
             told = λ texts. same.told mode texts ∙ ap truth (accepts_alike computed texts false);
             read = λ v h. absurd (cc (sym none_read ∙ h));
+            counted = λ none'. subst (λ z. one_more c.visits ≤ z) (sym visits) (subst (λ m. visited_in_mode m c.visits ≤ c3.visits) mode more);
             kept = λ none' may.
                 let may3 : MayKeep e.node q.place q.subject mark c3 = record {
                   container = may.container;

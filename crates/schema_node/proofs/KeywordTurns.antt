@@ -9,7 +9,7 @@ use Rattle.schema_reports.specs.Guarded.{Nodes, node_at}
 use Rattle.schema_reports.specs.Numbered.{subject_in}
 use Rattle.schema_node.specs.NodeTable.{NodeEntry, numbered}
 use Rattle.schema_node.proofs.NodeRuns.{stands_in, where_is}
-use Rattle.schema_reports.specs.Reports.{Error}
+use Rattle.schema_reports.specs.Reports.{Error, Unit_, report_of}
 use Rattle.schema_reports.specs.Matching.{Pair, completed, matching, settled}
 use Rattle.schema_reports.specs.Keywords.{Answer, Answers, Fault, Keywords, Marked, MatchPoint, Mode, Question, Reply, Turn, all_of_it, ask, done, ecma, first_of_it, for_all, for_first, for_units, for_verdict, mark, match_text, no_reply, truth, unmark}
 use Rattle.schema_reports.specs.Meaning.{Where, fault_error, keyword_outcome}
@@ -21,7 +21,7 @@ use Rattle.schema_node.specs.FaultViews.{FaultsLieInside, LiesInside, PassesBorr
 use Rattle.schema_node.specs.Matches.{Settling}
 use Rattle.schema_node.proofs.Matches.{decides, deciding}
 use Rattle.schema_node.specs.NodeRuns.{Reading, Reads, entry_where, reply_by}
-use Rattle.schema_node.specs.Turning.{OnItsWay, StaysWithoutUnits, stands_at, unit_with}
+use Rattle.schema_node.specs.Turning.{EvaluatesOn, OnItsWay, StaysWithoutUnits, stands_at, unit_with}
 use Rattle.schema_node.specs.UnitQuestions.{AlwaysAsksForLess, AsksForLess}
 use Rattle.schema_node.specs.declared.context.keyword.Fault as code
 use Rattle.schema_node.specs.declared.context.keyword.Fault.TheVariants as fault
@@ -32,60 +32,92 @@ module _ {K R : Type 0} (keywords : Keywords K R) (m : K) (absorbed : List Text)
     (laws : TurnLaws keywords m absorbed remaining can_be end_of Fits) where
   -- ---- in a reading
 
-  module _ (s : Subject) (x : Reading) (mode : Mode) (answers : Answers) (same : Marked → Marked → Bool) where
+  module _ (s : Subject) (x : Reading) (mode : Mode) (answers : Answers) (units : Question → Unit_) (same : Marked → Marked → Bool) where
     abbrev OnWay : List Marked → R → Reply → Type 0
-    OnWay = OnItsWay keywords m can_be end_of Fits s x mode answers same
+    OnWay = EvaluatesOn keywords m can_be end_of Fits s x mode answers units same
 
-    pub begins : (marks : List Marked) (r : R) → marks ≡ [] → ((q : Question) → Agrees (answers q)) → AnsweredAlike same answers → keywords.begin m s mode ≡ r → OnWay marks r no_reply
-    begins marks r none agree alike e =
-        let h = laws.begins s mode (matching x.matcher x.completion) answers (λ q. unit_with (answers q)) same agree (λ q. refl) alike in
+    pub begins_on : (marks : List Marked) (r : R) → marks ≡ [] → ((q : Question) → Agrees (answers q)) → ((q : Question) → (report_of (units q)).valid ≡ (answers q).verdict) → AnsweredAlike same answers → keywords.begin m s mode ≡ r → OnWay marks r no_reply
+    begins_on marks r none agree valid alike e =
+        let h = laws.begins s mode (matching x.matcher x.completion) answers units same agree valid alike in
         subst (λ l. OnWay l r no_reply) (sym none) (subst (λ u. OnWay [] u no_reply) e (record { can = laws.starts s mode; fits = h.0; right = h.1 }))
 
+    abbrev To : List Marked → Turn → Reply
+    To = reply_to keywords m s (matching x.matcher x.completion) answers units same
+
+    abbrev Marks : List Marked → Turn → List Marked
+    Marks = marks_after keywords m s (matching x.matcher x.completion) answers units same
+
+    -- a turn that gets the true reply, and the marks after it
+    pub went : (marks marks' : List Marked) (r r' : R) (reply reply' : Reply) (t : Turn) → OnWay marks r reply → keywords.turn m s r reply ≡ r' → keywords.step m s r reply ≡ t → ¬ (t ≡ done) → Marks marks t ≡ marks' → To marks t ≡ reply' → OnWay marks' r' reply'
+    went marks marks' r r' reply reply' t way is e more held told =
+        let st : Standing R = stands_at s x answers units same marks r reply in
+        let k = laws.keeps st way.fits (λ d. more (sym e ∙ d)) in
+        let holds : Marks marks (keywords.step m s r reply) ≡ marks' = ap (Marks marks) e ∙ held in
+        let replied : To marks (keywords.step m s r reply) ≡ reply' = ap (To marks) e ∙ told in
+        let there : next keywords m st ≡ stands_at s x answers units same marks' r' reply'
+        = λ i. record { subject = s; matches = matching x.matcher x.completion; answers = answers; unit_at = units; same = same; marks = holds i; state = is i; reply = replied i } in
+        record { can = subst (can_be s) is (laws.goes_on s r reply way.can); fits = subst Fits there k.0; right = subst (IsRight keywords m s (matching x.matcher x.completion) answers units same mode) (sym k.1 ∙ ap end_of there) way.right }
+
+    pub asked_on : (marks marks' : List Marked) (r r' : R) (reply reply' : Reply) (q : Question) (w : Mode) → marks' ≡ marks → OnWay marks r reply → keywords.turn m s r reply ≡ r' → keywords.step m s r reply ≡ ask q w → reply' ≡ answer_in keywords m s (matching x.matcher x.completion) answers units same w q → OnWay marks' r' reply'
+    asked_on marks marks' r r' reply reply' q w kept way t e a = went marks marks' r r' reply reply' (ask q w) way t e (λ f. cc f) (sym kept) (sym a)
+
+    pub matched_on : (marks marks' : List Marked) (r r' : R) (reply reply' : Reply) (a : Pair) (point : MatchPoint) → marks' ≡ marks → OnWay marks r reply → keywords.turn m s r reply ≡ r' → keywords.step m s r reply ≡ match_text a point
+        → reply' ≡ truth (settled (completed x.completion a) (x.matcher.is_match a.pattern a.subject)) → OnWay marks' r' reply'
+    matched_on marks marks' r r' reply reply' a point kept way t e is = went marks marks' r r' reply reply' (match_text a point) way t e (λ f. cc f) (sym kept) (sym is)
+
+    pub told_pattern_on : (marks marks' : List Marked) (r r' : R) (reply reply' : Reply) (text : Text) → marks' ≡ marks → OnWay marks r reply → keywords.turn m s r reply ≡ r' → keywords.step m s r reply ≡ ecma text → reply' ≡ truth (x.matcher.is_ecma text) → OnWay marks' r' reply'
+    told_pattern_on marks marks' r r' reply reply' text kept way t e is = went marks marks' r r' reply reply' (ecma text) way t e (λ f. cc f) (sym kept) (sym is)
+
+    pub marked_on : (marks marks' : List Marked) (r r' : R) (reply reply' : Reply) (i : Marked) → marks' ≡ with_mark same i marks → OnWay marks r reply → keywords.turn m s r reply ≡ r' → keywords.step m s r reply ≡ mark i → reply' ≡ truth (list_any (same i) marks) → OnWay marks' r' reply'
+    marked_on marks marks' r r' reply reply' i held way t e is = went marks marks' r r' reply reply' (mark i) way t e (λ f. cc f) (sym held) (sym is)
+
+    pub mark_taken_on : (marks marks' : List Marked) (r r' : R) (reply reply' : Reply) → marks' ≡ without_last marks → OnWay marks r reply → keywords.turn m s r reply ≡ r' → keywords.step m s r reply ≡ unmark → reply' ≡ no_reply → OnWay marks' r' reply'
+    mark_taken_on marks marks' r r' reply reply' left way t e is = went marks marks' r r' reply reply' unmark way t e (λ f. cc f) (sym left) (sym is)
+
+    pub ended_on : (marks : List Marked) (r r' : R) (reply : Reply) (a : Answer) → OnWay marks r reply → keywords.turn m s r reply ≡ r' → keywords.answer r' ≡ a → keywords.step m s r reply ≡ done
+        → IsRight keywords m s (matching x.matcher x.completion) answers units same mode a
+    ended_on marks r r' reply a way t is e =
+        let k = laws.stands (stands_at s x answers units same marks r reply) way.fits e in
+        subst (IsRight keywords m s (matching x.matcher x.completion) answers units same mode) (sym k ∙ ap keywords.answer t ∙ is) way.right
+
+  -- ---- in a reading, of a run that asks for no units
+
+  module _ (s : Subject) (x : Reading) (mode : Mode) (answers : Answers) (same : Marked → Marked → Bool) where
+    abbrev bare : Question → Unit_
+    bare q = unit_with (answers q)
+
+    abbrev OnBareWay : List Marked → R → Reply → Type 0
+    OnBareWay = OnItsWay keywords m can_be end_of Fits s x mode answers same
+
+    pub begins : (marks : List Marked) (r : R) → marks ≡ [] → ((q : Question) → Agrees (answers q)) → AnsweredAlike same answers → keywords.begin m s mode ≡ r → OnBareWay marks r no_reply
+    begins marks r none agree alike e = begins_on s x mode answers bare same marks r none agree (λ q. refl) alike e
+
     -- a reply in a mode is the true one
-    true_reply : (q : Question) (w : Mode) → ¬ (w ≡ for_units) → reply_by w (answers q) ≡ answer_in keywords m s (matching x.matcher x.completion) answers (λ q. unit_with (answers q)) same w q
+    true_reply : (q : Question) (w : Mode) → ¬ (w ≡ for_units) → reply_by w (answers q) ≡ answer_in keywords m s (matching x.matcher x.completion) answers bare same w q
     true_reply q for_verdict h = refl
     true_reply q for_first h = refl
     true_reply q for_all h = refl
     true_reply q for_units h = absurd (h refl)
 
-    abbrev To : List Marked → Turn → Reply
-    To = reply_to keywords m s (matching x.matcher x.completion) answers (λ q. unit_with (answers q)) same
+    pub asked : (marks marks' : List Marked) (r r' : R) (reply reply' : Reply) (q : Question) (w : Mode) → marks' ≡ marks → ¬ (w ≡ for_units) → OnBareWay marks r reply → keywords.turn m s r reply ≡ r' → keywords.step m s r reply ≡ ask q w → reply' ≡ reply_by w (answers q) → OnBareWay marks' r' reply'
+    asked marks marks' r r' reply reply' q w kept less way t e a = asked_on s x mode answers bare same marks marks' r r' reply reply' q w kept way t e (a ∙ true_reply q w less)
 
-    abbrev Marks : List Marked → Turn → List Marked
-    Marks = marks_after keywords m s (matching x.matcher x.completion) answers (λ q. unit_with (answers q)) same
+    pub matched : (marks marks' : List Marked) (r r' : R) (reply reply' : Reply) (a : Pair) (point : MatchPoint) → marks' ≡ marks → OnBareWay marks r reply → keywords.turn m s r reply ≡ r' → keywords.step m s r reply ≡ match_text a point
+        → reply' ≡ truth (settled (completed x.completion a) (x.matcher.is_match a.pattern a.subject)) → OnBareWay marks' r' reply'
+    matched = matched_on s x mode answers bare same
 
-    -- a turn that gets the true reply, and the marks after it
-    went : (marks marks' : List Marked) (r r' : R) (reply reply' : Reply) (t : Turn) → OnWay marks r reply → keywords.turn m s r reply ≡ r' → keywords.step m s r reply ≡ t → ¬ (t ≡ done) → Marks marks t ≡ marks' → To marks t ≡ reply' → OnWay marks' r' reply'
-    went marks marks' r r' reply reply' t way is e more held told =
-        let st : Standing R = stands_at s x answers same marks r reply in
-        let k = laws.keeps st way.fits (λ d. more (sym e ∙ d)) in
-        let holds : Marks marks (keywords.step m s r reply) ≡ marks' = ap (Marks marks) e ∙ held in
-        let replied : To marks (keywords.step m s r reply) ≡ reply' = ap (To marks) e ∙ told in
-        let there : next keywords m st ≡ stands_at s x answers same marks' r' reply'
-        = λ i. record { subject = s; matches = matching x.matcher x.completion; answers = answers; unit_at = λ q. unit_with (answers q); same = same; marks = holds i; state = is i; reply = replied i } in
-        record { can = subst (can_be s) is (laws.goes_on s r reply way.can); fits = subst Fits there k.0; right = subst (IsRight keywords m s (matching x.matcher x.completion) answers (λ q. unit_with (answers q)) same mode) (sym k.1 ∙ ap end_of there) way.right }
+    pub told_pattern : (marks marks' : List Marked) (r r' : R) (reply reply' : Reply) (text : Text) → marks' ≡ marks → OnBareWay marks r reply → keywords.turn m s r reply ≡ r' → keywords.step m s r reply ≡ ecma text → reply' ≡ truth (x.matcher.is_ecma text) → OnBareWay marks' r' reply'
+    told_pattern = told_pattern_on s x mode answers bare same
 
-    pub asked : (marks marks' : List Marked) (r r' : R) (reply reply' : Reply) (q : Question) (w : Mode) → marks' ≡ marks → ¬ (w ≡ for_units) → OnWay marks r reply → keywords.turn m s r reply ≡ r' → keywords.step m s r reply ≡ ask q w → reply' ≡ reply_by w (answers q) → OnWay marks' r' reply'
-    asked marks marks' r r' reply reply' q w kept less way t e a = went marks marks' r r' reply reply' (ask q w) way t e (λ f. cc f) (sym kept) (sym (true_reply q w less) ∙ sym a)
+    pub marked : (marks marks' : List Marked) (r r' : R) (reply reply' : Reply) (i : Marked) → marks' ≡ with_mark same i marks → OnBareWay marks r reply → keywords.turn m s r reply ≡ r' → keywords.step m s r reply ≡ mark i → reply' ≡ truth (list_any (same i) marks) → OnBareWay marks' r' reply'
+    marked = marked_on s x mode answers bare same
 
-    pub matched : (marks marks' : List Marked) (r r' : R) (reply reply' : Reply) (a : Pair) (point : MatchPoint) → marks' ≡ marks → OnWay marks r reply → keywords.turn m s r reply ≡ r' → keywords.step m s r reply ≡ match_text a point
-        → reply' ≡ truth (settled (completed x.completion a) (x.matcher.is_match a.pattern a.subject)) → OnWay marks' r' reply'
-    matched marks marks' r r' reply reply' a point kept way t e is = went marks marks' r r' reply reply' (match_text a point) way t e (λ f. cc f) (sym kept) (sym is)
+    pub mark_taken : (marks marks' : List Marked) (r r' : R) (reply reply' : Reply) → marks' ≡ without_last marks → OnBareWay marks r reply → keywords.turn m s r reply ≡ r' → keywords.step m s r reply ≡ unmark → reply' ≡ no_reply → OnBareWay marks' r' reply'
+    mark_taken = mark_taken_on s x mode answers bare same
 
-    pub told_pattern : (marks marks' : List Marked) (r r' : R) (reply reply' : Reply) (text : Text) → marks' ≡ marks → OnWay marks r reply → keywords.turn m s r reply ≡ r' → keywords.step m s r reply ≡ ecma text → reply' ≡ truth (x.matcher.is_ecma text) → OnWay marks' r' reply'
-    told_pattern marks marks' r r' reply reply' text kept way t e is = went marks marks' r r' reply reply' (ecma text) way t e (λ f. cc f) (sym kept) (sym is)
-
-    pub marked : (marks marks' : List Marked) (r r' : R) (reply reply' : Reply) (i : Marked) → marks' ≡ with_mark same i marks → OnWay marks r reply → keywords.turn m s r reply ≡ r' → keywords.step m s r reply ≡ mark i → reply' ≡ truth (list_any (same i) marks) → OnWay marks' r' reply'
-    marked marks marks' r r' reply reply' i held way t e is = went marks marks' r r' reply reply' (mark i) way t e (λ f. cc f) (sym held) (sym is)
-
-    pub mark_taken : (marks marks' : List Marked) (r r' : R) (reply reply' : Reply) → marks' ≡ without_last marks → OnWay marks r reply → keywords.turn m s r reply ≡ r' → keywords.step m s r reply ≡ unmark → reply' ≡ no_reply → OnWay marks' r' reply'
-    mark_taken marks marks' r r' reply reply' left way t e is = went marks marks' r r' reply reply' unmark way t e (λ f. cc f) (sym left) (sym is)
-
-    pub ended_right : (marks : List Marked) (r r' : R) (reply : Reply) (a : Answer) → OnWay marks r reply → keywords.turn m s r reply ≡ r' → keywords.answer r' ≡ a → keywords.step m s r reply ≡ done
-        → IsRight keywords m s (matching x.matcher x.completion) answers (λ q. unit_with (answers q)) same mode a
-    ended_right marks r r' reply a way t is e =
-        let k = laws.stands (stands_at s x answers same marks r reply) way.fits e in
-        subst (IsRight keywords m s (matching x.matcher x.completion) answers (λ q. unit_with (answers q)) same mode) (sym k ∙ ap keywords.answer t ∙ is) way.right
+    pub ended_right : (marks : List Marked) (r r' : R) (reply : Reply) (a : Answer) → OnBareWay marks r reply → keywords.turn m s r reply ≡ r' → keywords.answer r' ≡ a → keywords.step m s r reply ≡ done
+        → IsRight keywords m s (matching x.matcher x.completion) answers bare same mode a
+    ended_right = ended_on s x mode answers bare same
 
   -- ---- whatever is replied
 
@@ -110,6 +142,16 @@ module _ {K R : Type 0} (keywords : Keywords K R) (m : K) (absorbed : List Text)
         go (inl d) = absurd (more (sym e ∙ d))
         go (inr l) = subst (λ u. remaining s u < remaining s r) is l
 
+    -- a run stays in a state that it can be in, and asks of what is there
+    pub can_after : (r r' : R) (reply : Reply) → can_be s r → keywords.turn m s r reply ≡ r' → can_be s r'
+    can_after r r' reply can is = subst (can_be s) is (laws.goes_on s r reply can)
+
+    pub asks_there : (r : R) (reply : Reply) (q : Question) (w : Mode) → can_be s r → All (λ q. IsPresent s (steps_below q.below)) (keywords.may_ask m s) → keywords.step m s r reply ≡ ask q w → IsPresent s (steps_below q.below)
+    asks_there r reply q w can h e = All-contains (λ q. IsPresent s (steps_below q.below)) (keywords.may_ask m s) q h (subst (AsksRightly keywords m s absorbed) e (laws.asks s r reply can))
+
+    pub matches_there : (r : R) (reply : Reply) (a : Pair) (point : MatchPoint) → can_be s r → keywords.step m s r reply ≡ match_text a point → IsPresent s point.spot.below
+    matches_there r reply a point can e = let inside : SpotInside s absorbed point.spot = subst (AsksRightly keywords m s absorbed) e (laws.asks s r reply can) in inside.0
+
     pub less_after : (r r' : R) (reply reply' : Reply) (t : Turn) → ForLess r reply → keywords.turn m s r reply ≡ r' → keywords.step m s r reply ≡ t → ¬ (t ≡ done) → ForLess r' reply'
     less_after r r' reply reply' t (zero, l, h, can) is e more = absurd (omega arith)
     less_after r r' reply reply' t (suc n, l, h, can) is e more =
@@ -121,11 +163,11 @@ module _ {K R : Type 0} (keywords : Keywords K R) (m : K) (absorbed : List Text)
     asks_less r reply q w h e = subst AsksForLess e (is_for_less r reply h)
 
     pub asks_present : (r : R) (reply : Reply) (q : Question) (w : Mode) → ForLess r reply → All (λ q. IsPresent s (steps_below q.below)) (keywords.may_ask m s) → keywords.step m s r reply ≡ ask q w → IsPresent s (steps_below q.below)
-    asks_present r reply q w on h e = All-contains (λ q. IsPresent s (steps_below q.below)) (keywords.may_ask m s) q h (subst (AsksRightly keywords m s absorbed) e (laws.asks s r reply (can_be_in r reply on)))
+    asks_present r reply q w on h e = asks_there r reply q w (can_be_in r reply on) h e
 
     -- and a match is asked for inside the instance
     pub matches_present : (r : R) (reply : Reply) (a : Pair) (point : MatchPoint) → ForLess r reply → keywords.step m s r reply ≡ match_text a point → IsPresent s point.spot.below
-    matches_present r reply a point on e = let inside : SpotInside s absorbed point.spot = subst (AsksRightly keywords m s absorbed) e (laws.asks s r reply (can_be_in r reply on)) in inside.0
+    matches_present r reply a point on e = matches_there r reply a point (can_be_in r reply on) e
 
 -- ---- what the answer says at the end
 

@@ -29,3 +29,5 @@ pub mod VerdictMaps
 pub mod Alone
 pub mod RightVerdicts
 pub mod GoesOn
+mod NodeUnits
+mod UnitsAsked

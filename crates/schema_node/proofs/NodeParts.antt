@@ -59,6 +59,10 @@ drop_past xs i h = drop_of_length-le xs h
 pub plan_is : {K S : Type 0} (shape : K → S) (ns : List (NodeEntry K)) (i : ℕ) (n : NodeEntry K) (plan : NodePlan K) → slice_get ns i ≡ Some n → n.plan ≡ Some plan → (numbered shape ns).entries i ≡ shaped shape plan
 plan_is shape ns i n plan e f = ap (λ o. shaped shape (plan_in o)) e ∙ ap (λ o. shaped shape (unwrap_or o node_always)) f
 
+-- a node without a form accepts
+pub plan_none : {K S : Type 0} (shape : K → S) (ns : List (NodeEntry K)) (i : ℕ) (n : NodeEntry K) → slice_get ns i ≡ Some n → n.plan ≡ None → (numbered shape ns).entries i ≡ node_always
+plan_none shape ns i n e f = ap (λ o. shaped shape (plan_in o)) e ∙ ap (λ o. shaped shape (unwrap_or o node_always)) f
+
 module _ {K : Type 0} (nodes : Nodes K) (i : ℕ) where
   pub reference_edge : (e : NodeEdge) → HasForm nodes i (node_reference e) → Contains (node_edges (nodes.entries i)) e
   reference_edge e (xs, is, y, in_xs, f) = subst (λ o. Contains (node_edges o) e) (sym is) (in_flat_map (λ y. form_edges y.form) xs y e in_xs (subst (λ o. Contains (form_edges o) e) (sym f) (zero, omega arith, refl)))

@@ -227,7 +227,7 @@ module _ {K R : Type 0} (words : Bool → Keywords K R) (nodes : Nodes K)
       back v w [] fs h k e = ap (λ u. u && w) (h refl) ∙ k e
       back v w (y ∷ es) fs h k e = absurd (let q : ⊥ = cc in q)
 
-  agrees_edge : (go : ℕ → Text → Place → List ℕ → Outcome) → ((i : ℕ) (path : Text) (p : Place) (busy : List ℕ) → Agrees (go i path p busy)) → (path : Text) (p : Place) (busy : List ℕ) (e : NodeEdge) (b : Below)
+  pub agrees_edge : (go : ℕ → Text → Place → List ℕ → Outcome) → ((i : ℕ) (path : Text) (p : Place) (busy : List ℕ) → Agrees (go i path p busy)) → (path : Text) (p : Place) (busy : List ℕ) (e : NodeEdge) (b : Below)
       → Agrees (across yes_outcome (node_says words nodes x) go path p busy e b)
   agrees_edge go h path p busy e b = by e.guarded (list_any (λ i. i == e.node) _) _ _ (h e.node _ _ _) (h e.node _ _ _)
     where

@@ -154,6 +154,7 @@ accepts_alike code.TheVariants.Nothing texts texts' = refl
 accepts_alike (code.TheVariants.Truth b) texts texts' = refl
 accepts_alike (code.TheVariants.First e) texts texts' = refl
 accepts_alike (code.TheVariants.All es) texts texts' = refl
+accepts_alike (code.TheVariants.Unit u) texts texts' = refl
 
 -- ---- verdicts that are right
 

@@ -23,6 +23,7 @@ errors_in (reply.Truth b) = []
 errors_in (reply.First None) = []
 errors_in (reply.First (Some e)) = e.value ∷ []
 errors_in (reply.All es) = es.items
+errors_in (reply.Unit u) = []
 
 -- the reply that an answer gives in a mode, to a keyword of this name at work there
 abbrev pub answer_reply : spec.Mode → Where → Text → spec.Answer → spec.Reply
@@ -37,7 +38,7 @@ faults_in (answer.Verdict b) = []
 faults_in (answer.First None) = []
 faults_in (answer.First (Some f)) = f.value ∷ []
 faults_in (answer.All fs) = fs.items
-faults_in (answer.Evaluation b es) = []
+faults_in (answer.Evaluation r absorbed) = []
 
 -- an error that is passed on borrows its place
 abbrev pub PassesBorrowed : Data → Fault → Type 0

@@ -4,7 +4,8 @@ use Rattle.schema_reports.specs.Instance.{Subject, Text, to_member, to_item, to_
 use Rattle.schema_reports.specs.InstanceTexts.{subject_has_float}
 use Rattle.schema_reports.specs.InstanceViews.{step_of}
 use Rattle.schema_reports.specs.ReportViews.{spoken, error_of}
-use Rattle.schema_reports.specs.Reports.{Described}
+use Rattle.schema_reports.specs.UnitViews.{unit_of}
+use Rattle.schema_reports.specs.EvaluationResults.{gives_with}
 use Rattle.schema_reports.specs.Keywords as spec
 use Rattle.schema_node.specs.declared.context.keyword.Mode.{Mode}
 use Rattle.schema_node.specs.declared.context.keyword.Mode.TheVariants as mode
@@ -22,7 +23,6 @@ use Rattle.schema_node.specs.declared.context.keyword.Reply.TheVariants as reply
 use Rattle.schema_node.specs.declared.context.keyword.OwnError.{OwnError}
 use Rattle.schema_node.specs.declared.context.keyword.Fault.{Fault}
 use Rattle.schema_node.specs.declared.context.keyword.Fault.TheVariants as fault
-use Rattle.schema_node.specs.declared.context.keyword.ErrorDescription.{ErrorDescription}
 use Rattle.schema_node.specs.declared.context.keyword.Answer.{Answer}
 use Rattle.schema_node.specs.declared.context.keyword.Answer.TheVariants as answer
 
@@ -71,6 +71,7 @@ reply_of texts reply.Nothing = spec.no_reply
 reply_of texts (reply.Truth b) = spec.truth b
 reply_of texts (reply.First e) = spec.first_of_it (option_map (λ b. error_of texts b.value) e)
 reply_of texts (reply.All es) = spec.all_of_it (map (error_of texts) es.items)
+reply_of texts (reply.Unit u) = spec.unit_of_it (unit_of texts u.value)
 
 abbrev pub own_of : Bool → OwnError → spec.Own
 own_of texts e = record {
@@ -98,15 +99,16 @@ option_list (Some a) = a ∷ []
 abbrev pub with_errors : spec.Mode → List spec.Fault → spec.Answer
 with_errors m fs = record { mode = m; verdict = is_nil fs; errors = fs; gives = record no_gives { valid = is_nil fs } }
 
-abbrev pub described_of : Bool → ErrorDescription → Described
-described_of texts e = record { name = string_bytes e.keyword; text = spoken texts (string_bytes e.text) }
+-- in an evaluation the verdict is that of the keyword's own unit and of each that it absorbs
+abbrev pub with_gives : spec.Gives → spec.Answer
+with_gives g = record { mode = spec.for_units; verdict = spec.all_valid g; errors = []; gives = g }
 
 -- an answer shows its mode; a keyword that absorbs none has its own verdict in its unit
 abbrev pub answer_of : Bool → Answer → spec.Answer
 answer_of texts (answer.Verdict b) = record { mode = spec.for_verdict; verdict = b; errors = []; gives = record no_gives { valid = b } }
 answer_of texts (answer.First f) = with_errors spec.for_first (option_list (option_map (λ b. fault_of texts b.value) f))
 answer_of texts (answer.All fs) = with_errors spec.for_all (map (fault_of texts) fs.items)
-answer_of texts (answer.Evaluation b es) = record { mode = spec.for_units; verdict = b; errors = []; gives = record no_gives { valid = b; errors = map (described_of texts) es.items } }
+answer_of texts (answer.Evaluation r absorbed) = with_gives (gives_with texts r absorbed.items)
 
 -- how an answer of a mode begins
 abbrev pub fresh : spec.Mode → spec.Answer

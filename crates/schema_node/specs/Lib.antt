@@ -22,4 +22,6 @@ pub mod NodeRuns
 pub mod RightVerdicts
 pub mod RunStates
 pub mod Turning
+pub mod NodeUnits
+pub mod UnitStates
 pub mod ValidatorViews

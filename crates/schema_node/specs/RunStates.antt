@@ -25,7 +25,7 @@ use Rattle.schema_node.specs.NodeViews.{edge_of}
 use Rattle.schema_node.specs.Progress.{Context, NoDeeper, busy_at}
 use Rattle.schema_node.specs.RightVerdicts.{AreRight, LaysOut, Layout}
 use Rattle.schema_node.specs.Turning.{unit_with}
-use Rattle.schema_node.specs.Verdicts.{MayKeep, read_verdict, verdict_of}
+use Rattle.schema_node.specs.Verdicts.{MayKeep, one_more, read_verdict, verdict_of}
 use Rattle.schema_node.specs.declared.context.keyword.Answer as code_answer
 use Rattle.schema_node.specs.declared.context.keyword.Reply as code
 use Rattle.schema_node.specs.declared.node.question.Engine.{Engine}
@@ -187,11 +187,12 @@ GoesOn g q c = (layout : Layout) × IsLaidOut layout q × RemembersRightly g lay
 -- ---- a verdict that is read, and one that is kept
 
 -- where a guarded edge is asked across for the verdict, and its pair is not in progress: the reply is a verdict, the one that is
--- read, and nothing changes; where none is read, it is kept wherever it may be
+-- read, and nothing changes; where none is read, the visit is counted, and the verdict is kept wherever it may be
 pub record ReadsOrKeeps (q : Asking) (c c' : Context) (i : ℕ) (r : code.Reply) : Type 0 where
   pub verdict : Bool
   pub told : (texts : Bool) → reply_of texts r ≡ truth verdict
   pub read : (v : Bool) → read_verdict i q.place c ≡ Some v → (v ≡ verdict) × (c' ≡ c)
+  pub counted : read_verdict i q.place c ≡ None → one_more c.visits ≤ c'.visits
   pub kept : read_verdict i q.place c ≡ None → MayKeep i q.place q.subject c.visits c' → verdict_of i q.place c'.verdicts ≡ Some verdict
 
 module _ (q : Asking) (c c' : Context) where

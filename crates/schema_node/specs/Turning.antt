@@ -3,7 +3,7 @@ use Rattle.std.specs.Prelude.{◌<◌, ℕ, Bool, List, [], None}
 use Rattle.schema_reports.specs.Instance.{Subject}
 use Rattle.schema_reports.specs.Reports.{Outcome, Unit_, no_units, unit}
 use Rattle.schema_reports.specs.Matching.{matching}
-use Rattle.schema_reports.specs.Keywords.{Answer, Answers, Keywords, Marked, Mode, Reply}
+use Rattle.schema_reports.specs.Keywords.{Answer, Answers, Keywords, Marked, Mode, Question, Reply}
 use Rattle.schema_reports.specs.Laws.{IsRight}
 use Rattle.schema_reports.specs.Turns.{Standing}
 use Rattle.schema_node.specs.UnitQuestions.{AlwaysAsksForLess}
@@ -11,15 +11,15 @@ use Rattle.schema_node.specs.NodeRuns.{Reading}
 
 -- a unit that has the verdict of an outcome
 abbrev pub unit_with : Outcome → Unit_
-unit_with o = unit (record { valid = o.verdict; place = []; evaluation_path = []; schema_path = []; absolute = None; annotations = None; errors = [] }) no_units
+unit_with o = unit (record { valid = o.verdict; instance_location = []; evaluation_path = []; schema_path = []; absolute = None; annotations = None; errors = [] }) no_units
 
--- a run in a reading, with what says which marks are one, and the marks that it holds
-abbrev pub stands_at : {R : Type 0} → Subject → Reading → Answers → (Marked → Marked → Bool) → List Marked → R → Reply → Standing R
-stands_at s x answers same marks r reply = record {
+-- a run in a reading, with the units that its questions have, what says which marks are one, and the marks that it holds
+abbrev pub stands_at : {R : Type 0} → Subject → Reading → Answers → (Question → Unit_) → (Marked → Marked → Bool) → List Marked → R → Reply → Standing R
+stands_at s x answers units same marks r reply = record {
   subject = s;
   matches = matching x.matcher x.completion;
   answers = answers;
-  unit_at = λ q. unit_with (answers q);
+  unit_at = units;
   same = same;
   marks = marks;
   state = r;
@@ -27,10 +27,14 @@ stands_at s x answers same marks r reply = record {
 }
 
 -- it stands well, in a state that a run can be in, and ends in what is right
-pub record OnItsWay {K R : Type 0} (keywords : Keywords K R) (m : K) (can_be : Subject → R → Type 0) (end_of : Standing R → Answer) (Fits : Standing R → Type 0) (s : Subject) (x : Reading) (mode : Mode) (answers : Answers) (same : Marked → Marked → Bool) (marks : List Marked) (r : R) (reply : Reply) : Type 0 where
+pub record EvaluatesOn {K R : Type 0} (keywords : Keywords K R) (m : K) (can_be : Subject → R → Type 0) (end_of : Standing R → Answer) (Fits : Standing R → Type 0) (s : Subject) (x : Reading) (mode : Mode) (answers : Answers) (units : Question → Unit_) (same : Marked → Marked → Bool) (marks : List Marked) (r : R) (reply : Reply) : Type 0 where
   pub can : can_be s r
-  pub fits : Fits (stands_at s x answers same marks r reply)
-  pub right : IsRight keywords m s (matching x.matcher x.completion) answers (λ q. unit_with (answers q)) same mode (end_of (stands_at s x answers same marks r reply))
+  pub fits : Fits (stands_at s x answers units same marks r reply)
+  pub right : IsRight keywords m s (matching x.matcher x.completion) answers units same mode (end_of (stands_at s x answers units same marks r reply))
+
+-- so does a run that asks for no units, whatever those are
+abbrev pub OnItsWay : {K R : Type 0} → Keywords K R → K → (Subject → R → Type 0) → (Standing R → Answer) → (Standing R → Type 0) → Subject → Reading → Mode → Answers → (Marked → Marked → Bool) → List Marked → R → Reply → Type 0
+OnItsWay keywords m can_be end_of Fits s x mode answers same marks r reply = EvaluatesOn keywords m can_be end_of Fits s x mode answers (λ q. unit_with (answers q)) same marks r reply
 
 -- for more turns than are left it asks no child for its units, from a state that a run can be in
 abbrev pub StaysWithoutUnits : {K R : Type 0} → Keywords K R → K → Subject → (R → ℕ) → (R → Type 0) → R → Reply → Type 0

@@ -6,11 +6,14 @@ ghost use Rattle.schema_reports.specs.InstanceViews.{subject_of};
 ghost use Rattle.schema_reports.specs.Keywords as spec;
 ghost use Rattle.schema_reports.specs.Turns.{Standing, TurnLaws, FunctionLaws};
 ghost use Rattle.schema_reports.specs.ReportViews.{BorrowsItsPlace};
+ghost use Rattle.schema_reports.specs.EvaluationResults.{gives_with};
 ghost use Rattle.schema_reports.specs.Remembering.{EachAsksVerdicts};
 ghost use Rattle.schema_node.specs.FaultViews.{errors_in, faults_in, PassesBorrowed};
 ghost use Rattle.schema_node.specs.KeywordViews.{mode_of, reply_of, answer_of, fresh, turn_of, Tells};
 ghost use Rattle.schema_node.specs.UnitQuestions.{AsksNoUnits};
 
+use schema_reports::evaluation::EvaluationNode;
+use schema_reports::evaluation_result::{AbsorbedResult, EvaluationResult};
 use schema_reports::instance::{Instance, InstanceStep};
 use schema_reports::location::OutOfMemory;
 use schema_reports::reports::ValidationError;
@@ -71,14 +74,15 @@ pub enum Step<'s> {
     Done,
 }
 
-/// What the next turn is told: nothing, or what was asked for. An error alone is in a box, so that a reply is a few words
-/// long whatever its mode.
+/// What the next turn is told: nothing, or what was asked for. An error or a unit alone is in a box, so that a reply is a few
+/// words long whatever its mode.
 #[derive(Drop)]
 pub enum Reply<'i> {
     Nothing,
     Truth(bool),
     First(Option<Box<ValidationError<'i>>>),
     All(Vec<ValidationError<'i>>),
+    Unit(Box<EvaluationNode>),
 }
 
 /// An error of the keyword's own. The engine joins the paths.
@@ -98,20 +102,37 @@ pub enum Fault<'i> {
     Passed(ValidationError<'i>),
 }
 
-/// An error of the keyword's own, as its unit has it: the name that it goes by, and its text.
-#[derive(Drop)]
-pub struct ErrorDescription {
-    pub keyword: String,
-    pub text: String,
-}
-
-/// What a run has found so far, by its mode. In an evaluation that is a verdict, and the errors of the keyword's own.
+/// What a run has found so far, by its mode. In an evaluation that is what the keyword's own unit has, and what those have of the
+/// keywords that it absorbs, in their order.
 #[derive(Drop)]
 pub enum Answer<'i> {
     Verdict(bool),
     First(Option<Box<Fault<'i>>>),
     All(Vec<Fault<'i>>),
-    Evaluation(bool, Vec<ErrorDescription>),
+    Evaluation(EvaluationResult, Vec<AbsorbedResult>),
+}
+
+impl<'i> Answer<'i> {
+    /// Returns what the keyword's own unit has by this answer, and what those have of the keywords that it absorbs. An answer of
+    /// another mode has its verdict alone.
+    pub fn into_evaluation(self, alloc: Global) -> (EvaluationResult, Vec<AbsorbedResult>)
+        ensures gives { (texts : Bool) → gives_with texts result.0 result.1.items ≡ (answer_of texts self.entry).gives }
+    {
+        let accepting = match self {
+            Answer::Verdict(valid) => valid,
+            Answer::First(first) => first.is_none(),
+            Answer::All(faults) => faults.is_empty(),
+            Answer::Evaluation(own, absorbed) => return (own, absorbed),
+        };
+        if accepting {
+            (EvaluationResult::valid_empty(alloc), Vec::new(alloc))
+        } else {
+            (
+                EvaluationResult::invalid_empty(alloc, Vec::new(alloc)),
+                Vec::new(alloc),
+            )
+        }
+    }
 }
 
 /// A keyword. What it may ask, when it holds and which faults it finds are functions of what is known of it apart from

@@ -325,6 +325,7 @@ impl<'i> ValidationContext<'i> {
     pub fn start_ref_visit(&mut self) -> u64
         ensures mark { result ≡ self.old.visits }
         ensures counted { self.new ≡ record self.old { visits = one_more self.old.visits } }
+        ensures more { self.old.visits ≤ self.new.visits }
     {
         let mark = self.visits;
         self.visits = mark.saturating_add(1);

@@ -23,6 +23,7 @@ use crate::node::Node;
 use crate::node::question::Question;
 use crate::node::replies::{keyword_location, stamped_error};
 use crate::node::spots::{after, path_from, place_below};
+use schema_reports::evaluation_result::{EvaluationResult, accepts};
 use schema_reports::instance::{Instance, InstanceStep, Place};
 use schema_reports::location::{Location, OutOfMemory};
 use schema_reports::reports::ValidationError;
@@ -38,7 +39,9 @@ pub fn begun<'i>(alloc: Global, mode: Mode) -> Answer<'i>
         Mode::Verdict => Answer::Verdict(true),
         Mode::First => Answer::First(None),
         Mode::All => Answer::All(Vec::new(alloc)),
-        Mode::Evaluate => Answer::Evaluation(true, Vec::new(alloc)),
+        Mode::Evaluate => {
+            Answer::Evaluation(EvaluationResult::valid_empty(alloc), Vec::new(alloc))
+        }
     }
 }
 
@@ -192,7 +195,7 @@ fn is_accepting(answer: Answer<'_>) -> bool
         Answer::Verdict(yes) => yes,
         Answer::First(found) => found.is_none(),
         Answer::All(faults) => faults.is_empty(),
-        Answer::Evaluation(yes, _) => yes,
+        Answer::Evaluation(own, absorbed) => accepts(&own, absorbed.as_slice()),
     }
 }
 

@@ -44,6 +44,7 @@ pub fn asked_match<'i, K, M: Matcher>(
     ensures in_progress { context.new.in_progress ≡ context.old.in_progress }
     ensures marking { context.new.marking ≡ context.old.marking }
     ensures verdicts { context.new.verdicts ≡ context.old.verdicts }
+    ensures visits { context.new.visits ≡ context.old.visits }
 {
     match engine.matcher.is_match(engine.alloc, pattern, subject)? {
         Match::Finished(matches) => Ok(matches),

@@ -1,5 +1,5 @@
 //! Verdicts of guarded nodes that a run remembers, and those that it comes to remember.
-ghost use Rattle.std.specs.Prelude.{◌≡◌, Bool, IfOk, OnOk};
+ghost use Rattle.std.specs.Prelude.{◌≡◌, ◌≤◌, Bool, IfOk, OnOk};
 ghost use Rattle.schema_reports.specs.InstanceViews.{subject_of};
 ghost use Rattle.schema_reports.specs.Keywords.{for_verdict};
 ghost use Rattle.schema_node.specs.KeywordViews.{mode_of, reply_of};
@@ -36,6 +36,7 @@ pub fn remembered_verdict<'i>(
 pub fn begin_visit(context: &mut ValidationContext<'_>, mode: Mode) -> u64
     ensures mark { result ≡ context.old.visits }
     ensures counted { context.new ≡ record context.old { visits = visited_in_mode (mode_of mode) context.old.visits } }
+    ensures more { context.old.visits ≤ context.new.visits }
 {
     match mode {
         Mode::Verdict => context.start_ref_visit(),

@@ -47,6 +47,7 @@ pub fn is_settled(reply: &Reply<'_>) -> bool
         Reply::Truth(yes) => !*yes,
         Reply::First(found) => found.is_some(),
         Reply::All(_) => false,
+        Reply::Unit(_) => false,
     }
 }
 
@@ -59,6 +60,7 @@ pub fn is_yes(reply: Reply<'_>) -> bool
         Reply::Truth(yes) => yes,
         Reply::First(_) => false,
         Reply::All(_) => false,
+        Reply::Unit(_) => false,
     }
 }
 
@@ -112,6 +114,7 @@ pub fn joined<'i>(found: Reply<'i>, more: Reply<'i>) -> Result<Reply<'i>, OutOfM
         }
         Reply::First(error) => Ok(joined_first(error, more)),
         Reply::All(errors) => joined_all(errors, more),
+        Reply::Unit(_) => Ok(more),
     }
 }
 
@@ -213,6 +216,7 @@ fn stamped_by_base<'i, K>(
             let errors = stamped_errors(alloc, node, name, errors)?;
             Ok(Reply::All(errors))
         }
+        Reply::Unit(unit) => Ok(Reply::Unit(unit)),
     }
 }
 
@@ -263,8 +267,8 @@ pub fn refused<'i, K>(
     }
 }
 
-// The error of the schema `false`.
-fn false_error<'i, K>(
+/// The error of the schema `false`.
+pub fn false_error<'i, K>(
     alloc: Global,
     node: &Node<K>,
     question: &Question<'_, 'i>,

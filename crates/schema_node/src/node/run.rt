@@ -1,5 +1,5 @@
 //! Runs of nodes over instances.
-ghost use Rattle.std.specs.Prelude.{◌≡◌, ◌<◌, [], Bool, IfOk, true, false, Some, MatchOption};
+ghost use Rattle.std.specs.Prelude.{◌≡◌, ◌<◌, ◌≤◌, [], Bool, IfOk, true, false, Some, MatchOption};
 ghost use Rattle.std.specs.Prelude.{length, map, option_map, string_bytes};
 ghost use Rattle.schema_reports.specs.Instance.{after_step};
 ghost use Rattle.schema_reports.specs.InstanceViews.{subject_of, step_of};
@@ -36,7 +36,7 @@ use schema_reports::location::{Location, OutOfMemory};
 use std::alloc::Global;
 
 // What stands one step below, and the step; none where the question is asked here.
-fn one_below<'i>(
+pub(crate) fn one_below<'i>(
     instance: Instance<'i>,
     below: Below<'_>,
 ) -> Option<(Instance<'i>, InstanceStep<'i>)>
@@ -84,6 +84,7 @@ fn run_node<'i, K: Validate, M: Matcher>(
     requires may { MayRun (setting K.words K.is_whole K.shape M.matching engine.now) (asking question.now)
         context.old node.0 }
     ensures keeps { IfOk result (λ _. Keeps context.old context.new) }
+    ensures counts { IfOk result (λ _. context.old.visits ≤ context.new.visits) }
     ensures says { IfOk result (λ r. NodeSays
         (setting K.words K.is_whole K.shape M.matching engine.now) (asking question.now)
         context.old node.0 r) }
@@ -125,6 +126,7 @@ fn run_entries<'i, K: Validate, M: Matcher>(
         context.old node.0 }
     requires parts { HasParts (numbered K.shape engine.now.nodes.now) node.0 (map (shaped_part K.shape) (map entry_of entries.now)) }
     ensures keeps { IfOk result (λ _. Keeps context.old context.new) }
+    ensures counts { IfOk result (λ _. context.old.visits ≤ context.new.visits) }
     ensures says { IfOk result (λ r. PartsSay
         (setting K.words K.is_whole K.shape M.matching engine.now) (asking question.now)
         context.old node.0 (map (shaped_part K.shape) (map entry_of entries.now)) r) }
@@ -160,6 +162,7 @@ fn run_entry<'i, K: Validate, M: Matcher>(
         context.old node.0 }
     requires form { HasForm (numbered K.shape engine.now.nodes.now) node.0 (shaped_form K.shape (form_of entry.now.form)) }
     ensures keeps { IfOk result (λ _. Keeps context.old context.new) }
+    ensures counts { IfOk result (λ _. context.old.visits ≤ context.new.visits) }
     ensures says { IfOk result (λ r. FormSays
         (setting K.words K.is_whole K.shape M.matching engine.now) (asking question.now)
         context.old node.0 (string_bytes entry.now.name) (shaped_form K.shape (form_of entry.now.form)) r) }
@@ -200,6 +203,7 @@ fn run_form<'i, K: Validate, M: Matcher>(
         context.old node.0 }
     requires form { HasForm (numbered K.shape engine.now.nodes.now) node.0 (shaped_form K.shape (form_of entry.now.form)) }
     ensures keeps { IfOk result (λ _. Keeps context.old context.new) }
+    ensures counts { IfOk result (λ _. context.old.visits ≤ context.new.visits) }
     ensures says { IfOk result (λ r. FormSays
         (setting K.words K.is_whole K.shape M.matching engine.now) (asking question.now)
         context.old node.0 (string_bytes entry.now.name) (shaped_form K.shape (form_of entry.now.form)) r) }
@@ -247,6 +251,7 @@ fn run_keyword<'i, K: Validate, M: Matcher>(
         context.old node.0 }
     requires form { HasForm (numbered K.shape engine.now.nodes.now) node.0 (form_at_work K.shape keyword.now) }
     ensures keeps { IfOk result (λ _. Keeps context.old context.new) }
+    ensures counts { IfOk result (λ _. context.old.visits ≤ context.new.visits) }
     ensures says { IfOk result (λ r. FormSays
         (setting K.words K.is_whole K.shape M.matching engine.now) (asking question.now)
         context.old node.0 (string_bytes keyword.now.name.now) (form_at_work K.shape keyword.now) r) }
@@ -301,6 +306,7 @@ fn run_turns<'i, K: Validate, M: Matcher>(
     requires no_marks { context.old.marking ≡ [] }
     ensures kept { IfOk result (λ _. context.new.in_progress ≡ context.old.in_progress) }
     ensures assumes { IfOk result (λ _. context.new.remembered.assumptions ≡ context.old.remembered.assumptions) }
+    ensures counts { IfOk result (λ _. context.old.visits ≤ context.new.visits) }
     ensures right { IfOk result (λ _. FindsRightly
         (setting K.words K.is_whole K.shape M.matching engine.now) (asking question.now)
         context.old node.0 (map (option_map edge_of) keyword.now.children.now) (K.shape keyword.now.keyword.now) answer.new) }
@@ -359,7 +365,7 @@ fn run_turns<'i, K: Validate, M: Matcher>(
 
 // The reply of a keyword's child, here or one step below; yes where its request got none.
 #[cycle(run)]
-fn run_child<'i, K: Validate, M: Matcher>(
+pub(crate) fn run_child<'i, K: Validate, M: Matcher>(
     engine: &Engine<'_, K, M>,
     node: SchemaNode,
     children: &[Option<Edge>],
@@ -373,6 +379,7 @@ fn run_child<'i, K: Validate, M: Matcher>(
     requires children { HasChildren (numbered K.shape engine.now.nodes.now) node.0 (map (option_map edge_of) children.now) }
     requires present { IsPresent (subject_of question.now.instance) (steps_below (below_of below)) }
     ensures keeps { IfOk result (λ _. Keeps context.old context.new) }
+    ensures counts { IfOk result (λ _. context.old.visits ≤ context.new.visits) }
     ensures says { IfOk result (λ r. ChildSays
         (setting K.words K.is_whole K.shape M.matching engine.now) (asking question.now)
         context.old node.0 (map (option_map edge_of) children.now) (record { child = child; below = below_of below.entry }) r) }
@@ -412,6 +419,7 @@ fn run_edge<'i, K: Validate, M: Matcher>(
     requires may { MayRun (setting K.words K.is_whole K.shape M.matching engine.now) (asking question.now)
         context.old edge.now.node.0 }
     ensures keeps { IfOk result (λ _. Keeps context.old context.new) }
+    ensures counts { IfOk result (λ _. context.old.visits ≤ context.new.visits) }
     ensures says { IfOk result (λ r. EdgeSays
         (setting K.words K.is_whole K.shape M.matching engine.now) (asking question.now)
         context.old (edge_of edge.now) r) }
@@ -502,8 +510,9 @@ impl<K: Validate> Nodes<K> {
 
     /// Runs a node as a part of a run that has begun: as `run` does, but verdicts that the run remembers are read, and stay
     /// remembered. For the verdict a node whose one entry is a guarded reference, its target's pair not in progress, gives the
-    /// verdict that `get_cached_result` reads, where it reads one, and leaves the context as it was; else the verdict is
-    /// remembered where it took enough visits, on an array or an object, with no other node in progress at the place.
+    /// verdict that `get_cached_result` reads, where it reads one, and leaves the context as it was; else the visit is counted,
+    /// and the verdict is remembered where it took enough visits, on an array or an object, with no other node in progress at
+    /// the place. Visits never become fewer.
     pub fn run_further<'i, M: Matcher>(
         &self,
         alloc: Global,
@@ -520,6 +529,7 @@ impl<K: Validate> Nodes<K> {
         ensures kept { IfOk result (λ _. context.new.in_progress ≡ context.old.in_progress) }
         ensures assumes { IfOk result (λ _. context.new.remembered.assumptions ≡ context.old.remembered.assumptions) }
         ensures marking { IfOk result (λ _. context.new.marking ≡ context.old.marking) }
+        ensures counts { IfOk result (λ _. context.old.visits ≤ context.new.visits) }
         ensures replies { IfOk result (λ r. RunReplies
             (setting_over K.words K.is_whole K.shape self.now (M.matching matcher.now)) (asking_first question.now)
             context.old node.0 r) }

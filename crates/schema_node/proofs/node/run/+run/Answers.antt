@@ -24,8 +24,9 @@ use Rattle.schema_node.specs.NodeRuns.{ChildReplies, EdgeReplies, Reading, Reads
 use Rattle.schema_node.specs.Progress.{Context, NoDeeper, busy_at}
 use Rattle.schema_node.specs.RightVerdicts.{LaysOut}
 use Rattle.schema_node.specs.RunStates.{EdgeRemembers, MeetsNode, NodeSays, RemembersRightly, StaysRight, asking, setting}
+use Rattle.schema_node.specs.Verdicts.{visited_in_mode}
 use Rattle.schema_node.specs.declared.context.keyword.Reply.TheVariants as told
-use Rattle.schema_node.proofs.GoesOn.{alone_remembers, asked_across, computed_meets, computed_remembers, computed_says, computed_stays, ended_remembers, pairs_back, planned_remembers, read_meets_edge, read_says, right_matched, right_same, stamped_remembers}
+use Rattle.schema_node.proofs.GoesOn.{alone_remembers, asked_across, computed_meets, computed_remembers, computed_says, computed_stays, ended_remembers, pairs_back, planned_remembers, read_meets_edge, read_remembers, read_says, right_matched, right_same, stamped_remembers}
 use Rattle.schema_node.proofs.RightVerdicts.{laid_below}
 use Rattle.schema_node.specs.Turning.{unit_with}
 use Rattle.schema_node.proofs.Pairs.{busy-below, busy-pushed, deeper-below, deeper-pushed, entered_new, entered_old}
@@ -53,6 +54,18 @@ lower_entered a b c t l n e = omega (arith, l, n, e)
 
 no_deeper : (depth : ℕ) → depth ≤ depth
 no_deeper depth = omega arith
+
+-- ---- visits never become fewer
+
+as_many : (a b : ℕ) → b ≡ a → a ≤ b
+as_many a b e = omega (arith, e)
+
+no_fewer : (a b c : ℕ) → a ≤ b → b ≤ c → a ≤ c
+no_fewer a b c h k = omega (arith, h, k)
+
+-- a context of the same fields is the same
+same_context : (c c' : Context) → c'.in_progress ≡ c.in_progress → c'.remembered ≡ c.remembered → c'.marking ≡ c.marking → c'.verdicts ≡ c.verdicts → c'.visits ≡ c.visits → c' ≡ c
+same_context c c' e f h k l = λ i. record { in_progress = e i; remembered = f i; marking = h i; verdicts = k i; visits = l i }
 
 -- ---- a turn that asks for something is not the last
 
@@ -208,6 +221,7 @@ run_entries-loop-entry-init g t c = record {
   unsettled = λ texts. ap refuses (c.accepted-found.ensures.accepts texts) ∙ nothing_refused (mode_of c.args.question.now.mode);
   met = λ texts root depth reads l. ([], refl, refl);
   so_far = λ x reads l. start_entries g.K.Validate.words g.K.Validate.is_whole (numbered g.K.Validate.shape c.args.engine.now.nodes.now) (length c.args.engine.now.nodes.now) (settling (g.M.Matcher.matching c.args.engine.now.matcher.now) c.args.context.now.remembered.assumptions) (mode_of c.args.question.now.mode) x c.accepted-found.result _ c.accepted-found.ensures.accepts c.accepted-found.ensures.no_errors;
+  counted = as_many c.args.context.now.visits c.args.context.now.visits refl;
 }
 
 pub run_entries-run_entry-requires : goal.run_entries-run_entry-requires
@@ -227,6 +241,7 @@ run_entries-loop-entry-preserved g t c = record {
   kept = c.in_ok-more.ensures.keeps.in_progress ∙ c.loop-entry.invariant.kept;
   assumes = c.in_ok-more.ensures.keeps.assumptions ∙ c.loop-entry.invariant.assumes;
   marking = c.in_ok-more.ensures.keeps.marking ∙ c.loop-entry.invariant.marking;
+  counted = no_fewer c.args.context.now.visits c.loop-entry.context.visits c.run_entry.new.context.visits c.loop-entry.invariant.counted c.in_ok-more.ensures.counts;
   unsettled = λ texts. sym (c.is_settled.ensures.settled texts) ∙ c.if-is_settled.false;
   met = λ texts root depth reads l.
       let ns = numbered g.K.Validate.shape c.args.engine.now.nodes.now in
@@ -286,6 +301,7 @@ run_turns-turns-init g t c =
     record {
       kept = refl;
       assumes = refl;
+      counted = as_many c.args.context.now.visits c.args.context.now.visits refl;
       stays = λ layout laid right. right;
       for_less = less_first (g.K.Validate.words false) (g.K.Validate.shape c.args.keyword.now.keyword.now) (g.K.Validate.absorbed (g.K.Validate.shape c.args.keyword.now.keyword.now)) (g.K.Validate.remaining (g.K.Validate.shape c.args.keyword.now.keyword.now)) (g.K.Validate.can_be false (g.K.Validate.shape c.args.keyword.now.keyword.now)) (g.K.Validate.ends false (g.K.Validate.shape c.args.keyword.now.keyword.now)) (g.K.Validate.fits false (g.K.Validate.shape c.args.keyword.now.keyword.now)) (g.met.K.Validate.turn_laws false (g.K.Validate.shape c.args.keyword.now.keyword.now)) s (mode_of c.args.question.now.mode) (c.args.run.now, answer_of false c.args.answer.now) (g.met.K.Validate.asks_no_units false m s (mode_of c.args.question.now.mode) c.requires.may.wanted)
           (c.requires.begun false);
@@ -523,6 +539,7 @@ run_turns-turns-preserved-in-Ask g t c =
     record {
       kept = c.in_ok-reply-in-Ask.ensures.keeps.in_progress ∙ c.turns.invariant.kept;
       assumes = c.in_ok-reply-in-Ask.ensures.keeps.assumptions ∙ c.turns.invariant.assumes;
+      counted = no_fewer c.args.context.now.visits c.turns.context.visits c.run_child.new.context.visits c.turns.invariant.counted c.in_ok-reply-in-Ask.ensures.counts;
       stays = λ layout laid right. c.in_ok-reply-in-Ask.ensures.stays layout laid (c.turns.invariant.stays layout laid right);
       for_less = less_after (g.K.Validate.words false) (g.K.Validate.shape c.args.keyword.now.keyword.now) (g.K.Validate.absorbed (g.K.Validate.shape c.args.keyword.now.keyword.now)) (g.K.Validate.remaining (g.K.Validate.shape c.args.keyword.now.keyword.now)) (g.K.Validate.can_be false (g.K.Validate.shape c.args.keyword.now.keyword.now)) (g.K.Validate.ends false (g.K.Validate.shape c.args.keyword.now.keyword.now)) (g.K.Validate.fits false (g.K.Validate.shape c.args.keyword.now.keyword.now)) (g.met.K.Validate.turn_laws false (g.K.Validate.shape c.args.keyword.now.keyword.now)) s (c.turns.run, answer_of false c.turns.answer) (c.turn.new.run, answer_of false c.turn.new.answer) told (reply_of false c.in_ok-reply-in-Ask.reply) (ask q (mode_of c.in-Ask.wanted)) c.turns.invariant.for_less turn step (ask_goes_on q (mode_of c.in-Ask.wanted));
       borrows = λ root at_place.
@@ -613,6 +630,7 @@ run_turns-turns-preserved-in-Match g t c =
     record {
       kept = c.asked_match.ensures.in_progress ∙ c.turns.invariant.kept;
       assumes = ap (λ (r : Remembered). r.assumptions) c.in_ok-matches-in-Match.ensures.met ∙ after_assumes _ _ answer ∙ c.turns.invariant.assumes;
+      counted = no_fewer c.args.context.now.visits c.turns.context.visits c.asked_match.new.context.visits c.turns.invariant.counted (as_many _ _ c.asked_match.ensures.visits);
       stays = λ layout laid right. right_matched (setting g.K.Validate.words g.K.Validate.is_whole g.K.Validate.shape g.M.Matcher.matching c.args.engine.now) layout c.turns.context c.asked_match.new.context _ answer refl c.asked_match.ensures.verdicts c.in_ok-matches-in-Match.ensures.met (c.turns.invariant.stays layout laid right);
       for_less = less_after (g.K.Validate.words false) m (g.K.Validate.absorbed m) (g.K.Validate.remaining m) (g.K.Validate.can_be false m) (g.K.Validate.ends false m) (g.K.Validate.fits false m) (g.met.K.Validate.turn_laws false m) s (c.turns.run, answer_of false c.turns.answer) (c.turn.new.run, answer_of false c.turn.new.answer) told (truth c.in_ok-matches-in-Match.matches) (match_text a point) c.turns.invariant.for_less turn step (match_goes_on a point);
       borrows = λ root at_place.
@@ -651,6 +669,7 @@ run_turns-turns-preserved-in-Ecma g t c =
     record {
       kept = c.turns.invariant.kept;
       assumes = c.turns.invariant.assumes;
+      counted = c.turns.invariant.counted;
       stays = c.turns.invariant.stays;
       for_less = less_after (g.K.Validate.words false) m (g.K.Validate.absorbed m) (g.K.Validate.remaining m) (g.K.Validate.can_be false m) (g.K.Validate.ends false m) (g.K.Validate.fits false m) (g.met.K.Validate.turn_laws false m) s (c.turns.run, answer_of false c.turns.answer) (c.turn.new.run, answer_of false c.turn.new.answer) told (truth c.in_ok-valid-in-Ecma.valid) (ecma text) c.turns.invariant.for_less turn step (ecma_goes_on text);
       borrows = λ root at_place.
@@ -710,6 +729,7 @@ run_turns-turns-preserved-in-Mark g t c =
     record {
       kept = c.enter_marking.ensures.in_progress ∙ c.turns.invariant.kept;
       assumes = ap (λ (r : Remembered). r.assumptions) c.enter_marking.ensures.remembered ∙ c.turns.invariant.assumes;
+      counted = no_fewer c.args.context.now.visits c.turns.context.visits c.enter_marking.new.self.visits c.turns.invariant.counted (as_many _ _ c.enter_marking.ensures.visits);
       stays = λ layout laid right. right_same (setting g.K.Validate.words g.K.Validate.is_whole g.K.Validate.shape g.M.Matcher.matching c.args.engine.now) layout c.turns.context c.enter_marking.new.self c.enter_marking.ensures.remembered c.enter_marking.ensures.verdicts (c.turns.invariant.stays layout laid right);
       for_less = less_after (g.K.Validate.words false) m (g.K.Validate.absorbed m) (g.K.Validate.remaining m) (g.K.Validate.can_be false m) (g.K.Validate.ends false m) (g.K.Validate.fits false m) (g.met.K.Validate.turn_laws false m) s (c.turns.run, answer_of false c.turns.answer) (c.turn.new.run, answer_of false c.turn.new.answer) told (truth c.in_ok-held-in-Mark.held) (mark (marked_of c.in-Mark.marked)) c.turns.invariant.for_less turn step (mark_goes_on (marked_of c.in-Mark.marked));
       borrows = λ root at_place.
@@ -752,6 +772,7 @@ run_turns-turns-preserved g t c =
     record {
       kept = c.exit_marking.ensures.in_progress ∙ c.turns.invariant.kept;
       assumes = ap (λ (r : Remembered). r.assumptions) c.exit_marking.ensures.remembered ∙ c.turns.invariant.assumes;
+      counted = no_fewer c.args.context.now.visits c.turns.context.visits c.exit_marking.new.self.visits c.turns.invariant.counted (as_many _ _ c.exit_marking.ensures.visits);
       stays = λ layout laid right. right_same (setting g.K.Validate.words g.K.Validate.is_whole g.K.Validate.shape g.M.Matcher.matching c.args.engine.now) layout c.turns.context c.exit_marking.new.self c.exit_marking.ensures.remembered c.exit_marking.ensures.verdicts (c.turns.invariant.stays layout laid right);
       for_less = less_after (g.K.Validate.words false) m (g.K.Validate.absorbed m) (g.K.Validate.remaining m) (g.K.Validate.can_be false m) (g.K.Validate.ends false m) (g.K.Validate.fits false m) (g.met.K.Validate.turn_laws false m) s (c.turns.run, answer_of false c.turns.answer) (c.turn.new.run, answer_of false c.turn.new.answer) told no_reply unmark c.turns.invariant.for_less turn step unmark_goes_on;
       borrows = λ root at_place.
@@ -899,8 +920,34 @@ run_edge-returns-clause-remembers g t c =
     let left = ap (λ (z : Context). z.in_progress) c.kept_reply.ensures.frame ∙ keeps.in_progress in
     let back = pairs_back set q e c.args.context.now c.if-not-edge.false entered.0 c2 c.exit-2.new.self pairs (sym left ∙ rw c.in_ok-here.ensures.same at c.exit-2.ensures.left) in
     let visits = c.exit-2.ensures.visits ∙ ap (λ (z : Context). z.visits) c.kept_reply.ensures.frame in
+    let counted = ap (λ (z : Context). z.visits) c.begin_visit-mark.ensures.counted ∙ ap (visited_in_mode q.mode) c.enter.ensures.visits in
+    let more = subst (λ z. z ≤ c3.visits) counted c.in_ok-computed.ensures.counts in
     computed_remembers set q e c.args.context.now c.if-not-edge.false entered.0 c.enter.new.self c2 c3 c.kept_reply.new.context c.exit-2.new.self c.begin_visit-mark.result c.in_ok-computed.computed c.in_ok-reply.reply pairs met says meets keeps c.in_ok-reply.ensures.same
-    g.met.K.Validate.asks_verdicts kept entered.1 c.enter.ensures.verdicts none (c.begin_visit-mark.ensures.mark ∙ c.enter.ensures.visits) back visits c.exit-2.ensures.verdicts
+    g.met.K.Validate.asks_verdicts kept entered.1 c.enter.ensures.verdicts none (c.begin_visit-mark.ensures.mark ∙ c.enter.ensures.visits) back visits more c.exit-2.ensures.verdicts
+
+pub run_edge-returns-clause-counts : goal.run_edge-returns-clause-counts
+run_edge-returns-clause-counts g t c =
+    let visits = c.exit-2.ensures.visits ∙ ap (λ (z : Context). z.visits) c.kept_reply.ensures.frame in
+    let before = subst (λ z. z ≤ c.begin_visit-mark.new.context.visits) c.enter.ensures.visits c.begin_visit-mark.ensures.more in
+    let after = subst (λ z. c.begin_visit-mark.new.context.visits ≤ z) (sym visits) c.in_ok-computed.ensures.counts in
+    no_fewer c.args.context.now.visits c.begin_visit-mark.new.context.visits c.exit-2.new.self.visits before after
+
+pub run_edge-returns-in-Some-clause-remembers : goal.run_edge-returns-in-Some-clause-remembers
+run_edge-returns-in-Some-clause-remembers g t c =
+    let set = setting g.K.Validate.words g.K.Validate.is_whole g.K.Validate.shape g.M.Matcher.matching c.args.engine.now in
+    let q = asking c.args.question.now in
+    let p = steps_to c.args.question.now.place.now in
+    let e = edge_of c.args.edge.now in
+    let c1 = c.enter.new.self in
+    let c5 = c.exit.new.self in
+    let entered = entered_new e.node p c.args.context.now.in_progress c.in_ok-enter.field-0 c1.in_progress (rw c.in_ok-here.ensures.same at c.in_ok-enter.ensures.enters) c.if-branch.false in
+    let found = sym (rw c.in_ok-here.ensures.same at c.in-Some.ensures.read) in
+    let back = pairs_back set q e c.args.context.now c.if-not-edge.false entered.0 c1 c5 entered.1 (rw c.in_ok-here.ensures.same at c.exit.ensures.left) in
+    let same = same_context c.args.context.now c5 back (c.exit.ensures.remembered ∙ c.enter.ensures.remembered) (c.exit.ensures.marking ∙ c.enter.ensures.marking) (c.exit.ensures.verdicts ∙ c.enter.ensures.verdicts) (c.exit.ensures.visits ∙ c.enter.ensures.visits) in
+    read_remembers set q e c.args.context.now c.if-not-edge.false entered.0 c1 c5 c.in-Some.valid (told.Truth c.in-Some.valid) entered.1 c.enter.ensures.verdicts found (λ texts. refl) same
+
+pub run_entries-returns-then-is_settled-clause-counts : goal.run_entries-returns-then-is_settled-clause-counts
+run_entries-returns-then-is_settled-clause-counts g t c = no_fewer c.args.context.now.visits c.loop-entry.context.visits c.run_entry.new.context.visits c.loop-entry.invariant.counted c.in_ok-more.ensures.counts
 
 pub run_entries-returns-then-is_settled-clause-stays : goal.run_entries-returns-then-is_settled-clause-stays
 run_entries-returns-then-is_settled-clause-stays g t c = λ layout laid right. c.in_ok-more.ensures.stays layout laid (c.loop-entry.invariant.stays layout laid right)
@@ -916,6 +963,9 @@ run_entries-returns-clause-remembers g t c =
 pub run_entry-returns-then-asks_verdict_first-clause-stays : goal.run_entry-returns-then-asks_verdict_first-clause-stays
 run_entry-returns-then-asks_verdict_first-clause-stays g t c = if_ok_mono c.run_form-then-asks_verdict_first.result _ _ (λ r stays layout laid right. stays layout laid (c.in_ok-verdict.ensures.stays layout laid right)) c.run_form-then-asks_verdict_first.ensures.stays
 
+pub run_entry-returns-then-asks_verdict_first-clause-counts : goal.run_entry-returns-then-asks_verdict_first-clause-counts
+run_entry-returns-then-asks_verdict_first-clause-counts g t c = if_ok_mono c.run_form-then-asks_verdict_first.result _ _ (λ r more. no_fewer c.args.context.now.visits c.run_form.new.context.visits c.run_form-then-asks_verdict_first.new.context.visits c.in_ok-verdict.ensures.counts more) c.run_form-then-asks_verdict_first.ensures.counts
+
 pub run_form-returns-in_ok-reply-in-Reference-clause-remembers : goal.run_form-returns-in_ok-reply-in-Reference-clause-remembers
 run_form-returns-in_ok-reply-in-Reference-clause-remembers g t c =
     let q = asking c.args.question.now in
@@ -929,6 +979,9 @@ run_keyword-returns-clause-stays g t c = if_ok_always c.finished.result _ (λ la
     let right1 = right_same set layout c.args.context.now c.set_aside-aside.new.self c.set_aside-aside.ensures.remembered c.set_aside-aside.ensures.verdicts right in
     subst (RemembersRightly set layout) (sym c.finished.ensures.stays)
     (right_same set layout c.run_turns.new.context c.put_back.new.self c.put_back.ensures.remembered c.put_back.ensures.verdicts (c.in_ok-run_turns.ensures.stays layout laid right1)))
+
+pub run_keyword-returns-clause-counts : goal.run_keyword-returns-clause-counts
+run_keyword-returns-clause-counts g t c = if_ok_always c.finished.result _ (rw (c.set_aside-aside.ensures.visits, ← c.put_back.ensures.visits, ← c.finished.ensures.stays) at c.in_ok-run_turns.ensures.counts)
 
 pub run_node-returns-in-Keywords-clause-remembers : goal.run_node-returns-in-Keywords-clause-remembers
 run_node-returns-in-Keywords-clause-remembers g t c =

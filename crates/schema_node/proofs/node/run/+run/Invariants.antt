@@ -58,6 +58,7 @@ invariant-run_entries-loop-entry g l =
       kept : l.context.in_progress ≡ l.initial.context.in_progress;
       assumes : l.context.remembered.assumptions ≡ l.initial.context.remembered.assumptions;
       marking : l.context.marking ≡ l.initial.context.marking;
+      counted : l.initial.context.visits ≤ l.context.visits;
       so_far : (x : Reading) → Reads g.K.Validate.is_whole ns (length l.engine.nodes.now) w (steps_to l.question.place.now) s x → left ns (length l.engine.nodes.now) l.node.0 s busy ≤ x.depth
           → (o : Outcome) × Replies x (mode_of l.question.mode) l.found o
           × (both o (parts_say g.K.Validate.words ns x l.node.0 (path_of l.question.path.now) (steps_to l.question.place.now) busy (map (shaped_part g.K.Validate.shape) (map entry_of (drop l.entry-index l.entries))))
@@ -83,6 +84,7 @@ invariant-run_turns-turns g l =
     record {
       kept : l.context.in_progress ≡ l.initial.context.in_progress;
       assumes : l.context.remembered.assumptions ≡ l.initial.context.remembered.assumptions;
+      counted : l.initial.context.visits ≤ l.context.visits;
       stays : StaysRight (setting g.K.Validate.words g.K.Validate.is_whole g.K.Validate.shape g.M.Matcher.matching l.engine) (asking l.question) l.initial.context l.context;
       for_less : StaysWithoutUnits (g.K.Validate.words false) m s (g.K.Validate.remaining m s) (g.K.Validate.can_be false m s) (l.run, answer_of false l.answer) (reply_of false l.reply);
       borrows : (root : Data) → subject_at root (steps_to l.question.place.now) ≡ Some (subject_of l.question.instance) → All (BorrowsItsPlace root) (errors_in l.reply) × All (PassesBorrowed root) (faults_in l.answer);

@@ -1,0 +1,441 @@
+//! Evaluations of nodes over instances. What a keyword asks for beside units is asked of the runs.
+ghost use Rattle.std.specs.Prelude.{◌≡◌, ◌<◌, [], IfOk, length, map, option_map, string_bytes, true, false};
+ghost use Rattle.schema_reports.specs.InstanceViews.{subject_of};
+ghost use Rattle.schema_reports.specs.Keywords.{for_units};
+ghost use Rattle.schema_reports.specs.Laws.{IsPresent, steps_below};
+ghost use Rattle.schema_node.specs.KeywordViews.{below_of, mode_of};
+ghost use Rattle.schema_node.specs.NodeTable.{numbered, shaped_form, shaped_part};
+ghost use Rattle.schema_node.specs.NodeViews.{edge_of, entry_of, form_of};
+ghost use Rattle.schema_node.specs.NodeRuns.{HasForm, HasParts, HasChildren};
+ghost use Rattle.schema_node.specs.Progress.{NoDeeper};
+ghost use Rattle.schema_node.specs.RunStates.{asking, form_at_work, setting, setting_over};
+ghost use Rattle.schema_node.specs.RunStates.{HasBegun, Keeps, RunBorrows, RunMeets, RunRemembers, StaysRight};
+ghost use Rattle.schema_node.specs.RunStates.{MeetsChild, MeetsEdge, MeetsForm, MeetsNode, MeetsParts};
+ghost use Rattle.schema_node.specs.UnitStates.{MayAsk, MayEvaluate, RunGives, evaluating};
+ghost use Rattle.schema_node.specs.UnitStates.{ChildGives, ChildTells, EdgeGives, FindsUnits, FormGives, NodeGives, PartsGive};
+
+use crate::context::keyword::{Answer, Below, Mode, Reply, Step, Validate};
+use crate::context::marks::child_edge;
+use crate::context::matcher::Matcher;
+use crate::context::validation::ValidationContext;
+use crate::node::evaluation_path::EvaluationPath;
+use crate::node::evaluation_place::EvaluationPlace;
+use crate::node::faults::begun;
+use crate::node::matches::asked_match;
+use crate::node::question::{Engine, NamedKeyword, Question};
+use crate::node::run::{one_below, run_child};
+use crate::node::units::{
+    accepting_unit, entries_unit, refusing_unit, unasked_unit, units_of_keyword, units_of_reference,
+};
+use crate::node::{Edge, Entry, EntryForm, NodeForm, Nodes, SchemaNode};
+use schema_reports::evaluation::{ChildList, EvaluationNode};
+use schema_reports::evaluation_order::{EntryUnits, UnitsInOrder};
+use schema_reports::instance::{Instance, Place};
+use schema_reports::location::{Location, OutOfMemory};
+use std::alloc::Global;
+
+// Whether units are wanted.
+fn wants_units(mode: Mode) -> bool
+    ensures units { result ≡ true → mode_of mode ≡ for_units }
+    ensures less { result ≡ false → ¬ (mode_of mode ≡ for_units) }
+{
+    match mode {
+        Mode::Verdict => false,
+        Mode::First => false,
+        Mode::All => false,
+        Mode::Evaluate => true,
+    }
+}
+
+// The unit of a node at a place.
+#[cycle(evaluate)]
+fn evaluate_node<'i, K: Validate, M: Matcher>(
+    engine: &Engine<'_, K, M>,
+    node: SchemaNode,
+    question: &Question<'_, 'i>,
+    context: &mut ValidationContext<'i>,
+) -> Result<EvaluationNode, OutOfMemory>
+    requires may { MayEvaluate (setting K.words K.is_whole K.shape M.matching engine.now) (asking question.now)
+        context.old node.0 }
+    ensures keeps { IfOk result (λ _. Keeps context.old context.new) }
+    ensures gives { IfOk result (λ u. NodeGives (setting K.words K.is_whole K.shape M.matching engine.now) (asking question.now)
+        context.old node.0 u) }
+    ensures meets { IfOk result (λ _. MeetsNode (setting K.words K.is_whole K.shape M.matching engine.now) (asking question.now)
+        context.old context.new node.0) }
+    ensures stays { IfOk result (λ _. StaysRight (setting K.words K.is_whole K.shape M.matching engine.now) (asking question.now)
+        context.old context.new) }
+{
+    let found = engine.nodes.node(node);
+    match &found.form {
+        None => accepting_unit(engine.alloc, found, question),
+        Some(form) => match form {
+            NodeForm::Always => accepting_unit(engine.alloc, found, question),
+            NodeForm::Never => refusing_unit(engine.alloc, found, question),
+            NodeForm::Keywords(entries) => {
+                let children = evaluate_entries(
+                    engine,
+                    node,
+                    entries.as_slice(),
+                    question,
+                    context,
+                )?;
+                entries_unit(engine.alloc, found, question, children)
+            }
+        },
+    }
+}
+
+// The units of the entries, in their order. Each entry is asked, and none for its verdict first.
+#[cycle(evaluate)]
+fn evaluate_entries<'i, K: Validate, M: Matcher>(
+    engine: &Engine<'_, K, M>,
+    node: SchemaNode,
+    entries: &[Entry<K>],
+    question: &Question<'_, 'i>,
+    context: &mut ValidationContext<'i>,
+) -> Result<ChildList, OutOfMemory>
+    requires may { MayEvaluate (setting K.words K.is_whole K.shape M.matching engine.now) (asking question.now)
+        context.old node.0 }
+    requires parts { HasParts (numbered K.shape engine.now.nodes.now) node.0 (map (shaped_part K.shape) (map entry_of entries.now)) }
+    ensures keeps { IfOk result (λ _. Keeps context.old context.new) }
+    ensures gives { IfOk result (λ u. PartsGive (setting K.words K.is_whole K.shape M.matching engine.now) (asking question.now)
+        context.old node.0 (map (shaped_part K.shape) (map entry_of entries.now)) u) }
+    ensures meets { IfOk result (λ _. MeetsParts (setting K.words K.is_whole K.shape M.matching engine.now) (asking question.now)
+        context.old context.new node.0 (map (shaped_part K.shape) (map entry_of entries.now))) }
+    ensures stays { IfOk result (λ _. StaysRight (setting K.words K.is_whole K.shape M.matching engine.now) (asking question.now)
+        context.old context.new) }
+{
+    let mut units = UnitsInOrder::new(engine.alloc);
+    for entry in entries {
+        let given = evaluate_entry(engine, node, entry, question, context)?;
+        units.place(entry.priority, given)?;
+    }
+    units.into_children()
+}
+
+// The units of an entry: those of its keyword, or of the node that its reference leads to.
+#[cycle(evaluate)]
+fn evaluate_entry<'i, K: Validate, M: Matcher>(
+    engine: &Engine<'_, K, M>,
+    node: SchemaNode,
+    entry: &Entry<K>,
+    question: &Question<'_, 'i>,
+    context: &mut ValidationContext<'i>,
+) -> Result<EntryUnits, OutOfMemory>
+    requires may { MayEvaluate (setting K.words K.is_whole K.shape M.matching engine.now) (asking question.now)
+        context.old node.0 }
+    requires form { HasForm (numbered K.shape engine.now.nodes.now) node.0 (shaped_form K.shape (form_of entry.now.form)) }
+    ensures keeps { IfOk result (λ _. Keeps context.old context.new) }
+    ensures gives { IfOk result (λ u. FormGives (setting K.words K.is_whole K.shape M.matching engine.now) (asking question.now)
+        context.old node.0 (string_bytes entry.now.name) (shaped_form K.shape (form_of entry.now.form)) u) }
+    ensures meets { IfOk result (λ _. MeetsForm (setting K.words K.is_whole K.shape M.matching engine.now) (asking question.now)
+        context.old context.new node.0 (string_bytes entry.now.name) (shaped_form K.shape (form_of entry.now.form))) }
+    ensures stays { IfOk result (λ _. StaysRight (setting K.words K.is_whole K.shape M.matching engine.now) (asking question.now)
+        context.old context.new) }
+{
+    match &entry.form {
+        EntryForm::Keyword(keyword, children) => {
+            let named = NamedKeyword {
+                name: &entry.name,
+                keyword,
+                children: children.as_slice(),
+            };
+            evaluate_keyword(engine, node, &named, question, context)
+        }
+        EntryForm::Reference(edge) => {
+            let path = question.path.under_reference();
+            let asked = Question {
+                instance: question.instance,
+                place: question.place,
+                path: &path,
+                mode: question.mode,
+            };
+            let unit = evaluate_edge(engine, edge, &asked, context)?;
+            units_of_reference(engine.alloc, &entry.name, question, unit, context)
+        }
+    }
+}
+
+// The units of a keyword. Its run begins with no marks; those of the run that asks are set aside until it has ended.
+#[cycle(evaluate)]
+fn evaluate_keyword<'i, K: Validate, M: Matcher>(
+    engine: &Engine<'_, K, M>,
+    node: SchemaNode,
+    keyword: &NamedKeyword<'_, K>,
+    question: &Question<'_, 'i>,
+    context: &mut ValidationContext<'i>,
+) -> Result<EntryUnits, OutOfMemory>
+    requires may { MayEvaluate (setting K.words K.is_whole K.shape M.matching engine.now) (asking question.now)
+        context.old node.0 }
+    requires form { HasForm (numbered K.shape engine.now.nodes.now) node.0 (form_at_work K.shape keyword.now) }
+    ensures keeps { IfOk result (λ _. Keeps context.old context.new) }
+    ensures gives { IfOk result (λ u. FormGives (setting K.words K.is_whole K.shape M.matching engine.now) (asking question.now)
+        context.old node.0 (string_bytes keyword.now.name.now) (form_at_work K.shape keyword.now) u) }
+    ensures meets { IfOk result (λ _. MeetsForm (setting K.words K.is_whole K.shape M.matching engine.now) (asking question.now)
+        context.old context.new node.0 (string_bytes keyword.now.name.now) (form_at_work K.shape keyword.now)) }
+    ensures stays { IfOk result (λ _. StaysRight (setting K.words K.is_whole K.shape M.matching engine.now) (asking question.now)
+        context.old context.new) }
+{
+    let mut run = keyword
+        .keyword
+        .begin(engine.alloc, question.instance, question.mode)?;
+    let mut answer = begun(engine.alloc, question.mode);
+    let aside = context.set_aside(engine.alloc);
+    evaluate_turns(
+        engine,
+        node,
+        keyword,
+        question,
+        &mut run,
+        &mut answer,
+        context,
+    )?;
+    context.put_back(aside);
+    units_of_keyword(
+        engine.alloc,
+        engine.nodes.node(node),
+        keyword.name,
+        question,
+        answer,
+        context,
+    )
+}
+
+// The turns of a keyword's run that has begun, and its answer once they are done.
+#[cycle(evaluate)]
+fn evaluate_turns<'i, K: Validate, M: Matcher>(
+    engine: &Engine<'_, K, M>,
+    node: SchemaNode,
+    keyword: &NamedKeyword<'_, K>,
+    question: &Question<'_, 'i>,
+    run: &mut K::Run,
+    answer: &mut Answer<'i>,
+    context: &mut ValidationContext<'i>,
+) -> Result<(), OutOfMemory>
+    requires may { MayEvaluate (setting K.words K.is_whole K.shape M.matching engine.now) (asking question.now)
+        context.old node.0 }
+    requires form { HasForm (numbered K.shape engine.now.nodes.now) node.0 (form_at_work K.shape keyword.now) }
+    requires begun { HasBegun (setting K.words K.is_whole K.shape M.matching engine.now) (asking question.now)
+        (K.shape keyword.now.keyword.now) run.old answer.old }
+    requires no_marks { context.old.marking ≡ [] }
+    ensures kept { IfOk result (λ _. context.new.in_progress ≡ context.old.in_progress) }
+    ensures assumes { IfOk result (λ _. context.new.remembered.assumptions ≡ context.old.remembered.assumptions) }
+    ensures finds { IfOk result (λ _. FindsUnits (setting K.words K.is_whole K.shape M.matching engine.now) (asking question.now)
+        context.old node.0 (map (option_map edge_of) keyword.now.children.now) (K.shape keyword.now.keyword.now) answer.new) }
+    ensures meets { IfOk result (λ _. MeetsForm (setting K.words K.is_whole K.shape M.matching engine.now) (asking question.now)
+        context.old context.new node.0 (string_bytes keyword.now.name.now) (form_at_work K.shape keyword.now)) }
+    ensures stays { IfOk result (λ _. StaysRight (setting K.words K.is_whole K.shape M.matching engine.now) (asking question.now)
+        context.old context.new) }
+{
+    let children = keyword.children;
+    let mut reply = Reply::Nothing;
+    'turns: loop {
+        match keyword
+            .keyword
+            .turn(engine.alloc, run, question.instance, reply, answer)?
+        {
+            Step::Ask(child, below, wanted) => {
+                let asked = Question {
+                    instance: question.instance,
+                    place: question.place,
+                    path: question.path,
+                    mode: wanted,
+                };
+                reply = ask_child(engine, node, children, child, below, &asked, context)?;
+            }
+            Step::Done => return Ok(()),
+            Step::Match(pattern, subject, point) => {
+                let matches = asked_match(
+                    engine,
+                    engine.nodes.node(node),
+                    keyword.name,
+                    question,
+                    pattern,
+                    subject,
+                    point,
+                    context,
+                )?;
+                reply = Reply::Truth(matches);
+            }
+            Step::Ecma(text) => {
+                let valid = context.is_valid_ecma_regex(engine.alloc, engine.matcher, text)?;
+                reply = Reply::Truth(valid);
+            }
+            Step::Mark(marked) => {
+                let held = context.enter_marking(children, marked)?;
+                reply = Reply::Truth(held);
+            }
+            Step::Unmark => {
+                context.exit_marking();
+                reply = Reply::Nothing;
+            }
+        }
+    }
+}
+
+// The reply of a keyword's child in the mode that it is asked in: its unit, or what a run says.
+#[cycle(evaluate)]
+fn ask_child<'i, K: Validate, M: Matcher>(
+    engine: &Engine<'_, K, M>,
+    node: SchemaNode,
+    children: &[Option<Edge>],
+    child: usize,
+    below: Below<'_>,
+    question: &Question<'_, 'i>,
+    context: &mut ValidationContext<'i>,
+) -> Result<Reply<'i>, OutOfMemory>
+    requires may { MayAsk (setting K.words K.is_whole K.shape M.matching engine.now) (asking question.now)
+        context.old node.0 }
+    requires children { HasChildren (numbered K.shape engine.now.nodes.now) node.0 (map (option_map edge_of) children.now) }
+    requires present { IsPresent (subject_of question.now.instance) (steps_below (below_of below)) }
+    ensures keeps { IfOk result (λ _. Keeps context.old context.new) }
+    ensures gives { IfOk result (λ u. ChildTells (setting K.words K.is_whole K.shape M.matching engine.now) (asking question.now)
+        context.old node.0 (map (option_map edge_of) children.now) (record { child = child; below = below_of below.entry }) u) }
+    ensures meets { IfOk result (λ _. MeetsChild (setting K.words K.is_whole K.shape M.matching engine.now) (asking question.now)
+        context.old context.new node.0 (map (option_map edge_of) children.now) (record { child = child; below = below_of below.entry })) }
+    ensures stays { IfOk result (λ _. StaysRight (setting K.words K.is_whole K.shape M.matching engine.now) (asking question.now)
+        context.old context.new) }
+    ensures borrows { IfOk result (λ r. RunBorrows (asking question.now) r) }
+{
+    if wants_units(question.mode) {
+        let unit = evaluate_child(engine, node, children, child, below, question, context)?;
+        return Ok(Reply::Unit(Box::new(engine.alloc, unit)?));
+    }
+    run_child(engine, node, children, child, below, question, context)
+}
+
+// The unit of a keyword's child, here or one step below; an empty one where its request got none.
+#[cycle(evaluate)]
+fn evaluate_child<'i, K: Validate, M: Matcher>(
+    engine: &Engine<'_, K, M>,
+    node: SchemaNode,
+    children: &[Option<Edge>],
+    child: usize,
+    below: Below<'_>,
+    question: &Question<'_, 'i>,
+    context: &mut ValidationContext<'i>,
+) -> Result<EvaluationNode, OutOfMemory>
+    requires may { MayEvaluate (setting K.words K.is_whole K.shape M.matching engine.now) (asking question.now)
+        context.old node.0 }
+    requires children { HasChildren (numbered K.shape engine.now.nodes.now) node.0 (map (option_map edge_of) children.now) }
+    requires present { IsPresent (subject_of question.now.instance) (steps_below (below_of below)) }
+    ensures keeps { IfOk result (λ _. Keeps context.old context.new) }
+    ensures gives { IfOk result (λ u. ChildGives (setting K.words K.is_whole K.shape M.matching engine.now) (asking question.now)
+        context.old node.0 (map (option_map edge_of) children.now) (record { child = child; below = below_of below.entry }) u) }
+    ensures meets { IfOk result (λ _. MeetsChild (setting K.words K.is_whole K.shape M.matching engine.now) (asking question.now)
+        context.old context.new node.0 (map (option_map edge_of) children.now) (record { child = child; below = below_of below.entry })) }
+    ensures stays { IfOk result (λ _. StaysRight (setting K.words K.is_whole K.shape M.matching engine.now) (asking question.now)
+        context.old context.new) }
+{
+    match child_edge(children, child) {
+        None => Ok(unasked_unit(engine.alloc)),
+        Some(edge) => match one_below(question.instance, below) {
+            None => evaluate_edge(engine, edge, question, context),
+            Some((inner, step)) => {
+                let lower = question.place.below(step);
+                let asked = Question {
+                    instance: inner,
+                    place: &lower,
+                    path: question.path,
+                    mode: question.mode,
+                };
+                evaluate_edge(engine, edge, &asked, context)
+            }
+        },
+    }
+}
+
+// The unit of the node that an edge leads to; an empty one where the edge is guarded and the pair is in progress.
+#[cycle(evaluate)]
+fn evaluate_edge<'i, K: Validate, M: Matcher>(
+    engine: &Engine<'_, K, M>,
+    edge: &Edge,
+    question: &Question<'_, 'i>,
+    context: &mut ValidationContext<'i>,
+) -> Result<EvaluationNode, OutOfMemory>
+    requires may { MayEvaluate (setting K.words K.is_whole K.shape M.matching engine.now) (asking question.now)
+        context.old edge.now.node.0 }
+    ensures keeps { IfOk result (λ _. Keeps context.old context.new) }
+    ensures gives { IfOk result (λ u. EdgeGives (setting K.words K.is_whole K.shape M.matching engine.now) (asking question.now)
+        context.old (edge_of edge.now) u) }
+    ensures meets { IfOk result (λ _. MeetsEdge (setting K.words K.is_whole K.shape M.matching engine.now) (asking question.now)
+        context.old context.new (edge_of edge.now)) }
+    ensures stays { IfOk result (λ _. StaysRight (setting K.words K.is_whole K.shape M.matching engine.now) (asking question.now)
+        context.old context.new) }
+{
+    let whole = question.path.across(&edge.path);
+    if !edge.guarded {
+        let asked = Question {
+            instance: question.instance,
+            place: question.place,
+            path: &whole,
+            mode: question.mode,
+        };
+        return evaluate_node(engine, edge.node, &asked, context);
+    }
+    let here = question.place.made()?;
+    let place = EvaluationPlace::given(&here);
+    let asked = Question {
+        instance: question.instance,
+        place: &place,
+        path: &whole,
+        mode: question.mode,
+    };
+    if context.enter(edge.node, &here)? {
+        return accepting_unit(engine.alloc, engine.nodes.node(edge.node), &asked);
+    }
+    let unit = evaluate_node(engine, edge.node, &asked, context)?;
+    context.exit(edge.node, &here);
+    Ok(unit)
+}
+
+impl<K: Validate> Nodes<K> {
+    /// Evaluates a node over the instance at a place, with the path that led to it: returns the node's unit, with one child for each
+    /// of its entries in their order. A match that the matcher leaves unfinished comes out as the context assumes it to, or else
+    /// as no, and the context remembers it. The pairs in progress and the marks are as before, except on `Err`. Verdicts that the
+    /// context remembers are forgotten first; each that it remembers afterwards is what the node says at the place with its own
+    /// pair alone in progress there. Fails only if memory cannot be allocated.
+    pub fn evaluate_instance<'i, M: Matcher>(
+        &self,
+        alloc: Global,
+        matcher: &M,
+        node: SchemaNode,
+        instance: Instance<'i>,
+        place: &Place<'i>,
+        path: &Location,
+        context: &mut ValidationContext<'i>,
+    ) -> Result<EvaluationNode, OutOfMemory>
+        requires known { node.0 < length self.now }
+        requires above { NoDeeper place.now context.old.in_progress }
+        ensures kept { IfOk result (λ _. context.new.in_progress ≡ context.old.in_progress) }
+        ensures assumes { IfOk result (λ _. context.new.remembered.assumptions ≡ context.old.remembered.assumptions) }
+        ensures marking { IfOk result (λ _. context.new.marking ≡ context.old.marking) }
+        ensures gives { IfOk result (λ u. RunGives
+            (setting_over K.words K.is_whole K.shape self.now (M.matching matcher.now))
+            (evaluating (subject_of instance.entry) place.now path.now) context.old node.0 u) }
+        ensures meets { IfOk result (λ _. RunMeets
+            (setting_over K.words K.is_whole K.shape self.now (M.matching matcher.now))
+            (evaluating (subject_of instance.entry) place.now path.now) context.old context.new node.0) }
+        ensures right { IfOk result (λ _. RunRemembers
+            (setting_over K.words K.is_whole K.shape self.now (M.matching matcher.now))
+            (evaluating (subject_of instance.entry) place.now path.now) context.new) }
+    {
+        // (the use says that the table is ranked)
+        let _ = &self.nodes;
+        context.forget_verdicts();
+        let place = EvaluationPlace::given(place);
+        let path = EvaluationPath::given(path);
+        let engine = Engine {
+            nodes: self,
+            alloc,
+            matcher,
+        };
+        let question = Question {
+            instance,
+            place: &place,
+            path: &path,
+            mode: Mode::Evaluate,
+        };
+        evaluate_node(&engine, node, &question, context)
+    }
+}
