@@ -36,7 +36,7 @@ fn tell_any_of<'i>(
         return Ok(());
     }
     if mode == Mode::Verdict {
-        refuse(answer);
+        refuse(alloc, answer);
         return Ok(());
     }
     let text = none_text(alloc, "anyOf", instance)?;
@@ -67,7 +67,8 @@ pub fn turn_any_of<'s, 'i>(
         enough: 1,
         shows: true,
     };
-    match judge_children(judge, run, reply) {
+    let judging = judge_children(alloc, judge, run, reply, answer)?;
+    match judging {
         Judging::Asks(child, asked) => Ok(Step::Ask(child, Below::Here, asked)),
         Judging::Judged(accepted) => {
             tell_any_of(alloc, accepted, mode, instance, answer)?;

@@ -188,7 +188,7 @@ pub fn tell_count<'i>(
         return Ok(());
     }
     if mode == Mode::Verdict {
-        refuse(answer);
+        refuse(alloc, answer);
         return Ok(());
     }
     let text = count_text(alloc, kind, limit, instance)?;

@@ -53,7 +53,7 @@ fn tell_not<'i>(
         return Ok(());
     }
     if mode == Mode::Verdict {
-        refuse(answer);
+        refuse(alloc, answer);
         return Ok(());
     }
     let text = not_text(alloc, schema, instance)?;
@@ -84,7 +84,8 @@ pub fn turn_not<'s, 'i>(
         enough: 1,
         shows: false,
     };
-    match judge_children(judge, run, reply) {
+    let judging = judge_children(alloc, judge, run, reply, answer)?;
+    match judging {
         Judging::Asks(child, asked) => Ok(Step::Ask(child, Below::Here, asked)),
         Judging::Judged(accepted) => {
             tell_not(alloc, schema, accepted, mode, instance, answer)?;

@@ -48,7 +48,7 @@ fn tell_one_of<'i>(
         return Ok(());
     }
     if mode == Mode::Verdict {
-        refuse(answer);
+        refuse(alloc, answer);
         return Ok(());
     }
     let text = if accepted == 0 {
@@ -83,7 +83,8 @@ pub fn turn_one_of<'s, 'i>(
         enough: 2,
         shows: true,
     };
-    match judge_children(judge, run, reply) {
+    let judging = judge_children(alloc, judge, run, reply, answer)?;
+    match judging {
         Judging::Asks(child, asked) => Ok(Step::Ask(child, Below::Here, asked)),
         Judging::Judged(accepted) => {
             tell_one_of(alloc, accepted, mode, instance, answer)?;

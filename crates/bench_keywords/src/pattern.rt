@@ -50,7 +50,7 @@ fn tell_pattern<'i>(
         return Ok(());
     }
     if mode == Mode::Verdict {
-        refuse(answer);
+        refuse(alloc, answer);
         return Ok(());
     }
     let text = pattern_text(alloc, pattern, instance)?;

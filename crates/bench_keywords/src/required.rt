@@ -33,7 +33,7 @@ pub fn tell_required<'i>(
 {
     if mode == Mode::Verdict {
         if lacks_one(names, instance) {
-            refuse(answer);
+            refuse(alloc, answer);
         }
         return Ok(());
     }

@@ -36,7 +36,7 @@ pub fn tell_type<'i>(
         return Ok(());
     }
     if mode == Mode::Verdict {
-        refuse(answer);
+        refuse(alloc, answer);
         return Ok(());
     }
     let text = type_text(alloc, name, instance)?;
@@ -74,7 +74,7 @@ pub fn tell_types<'i>(
         return Ok(());
     }
     if mode == Mode::Verdict {
-        refuse(answer);
+        refuse(alloc, answer);
         return Ok(());
     }
     let text = types_text(alloc, names, instance)?;

@@ -1,13 +1,13 @@
 -- A turn of a run that judges, as the code takes it. Its questions are numbered.
 use Rattle.std.specs.Prelude.{List, None, Option, Some, ℕ}
-use Rattle.schema_reports.specs.Keywords.{Answer, Question, Turn, ask, done}
+use Rattle.schema_reports.specs.Keywords.{Answer, Question, Reply, Turn, ask, done}
 use Rattle.schema_node.specs.KeywordViews.{mode_of}
 use Rattle.schema_node.specs.declared.context.keyword.Mode.{Mode}
 use Rattle.keyword_ways.specs.declared.judging.Judging.{Judging}
 use Rattle.keyword_ways.specs.declared.judging.Judging.TheVariants.{Asks, Judged, Over}
 use Rattle.keyword_ways.specs.declared.run.Stage.{Stage}
-use Rattle.keyword_ways.specs.declared.run.Stage.TheVariants.{Ended}
-use Rattle.keyword_ways.specs.Tallies.{Tally}
+use Rattle.keyword_ways.specs.declared.run.Stage.TheVariants.{Asked, Begun, Counted, Ended}
+use Rattle.keyword_ways.specs.Tallies.{Tally, with_child}
 use Rattle.keyword_ways.specs.Ways.{counted_at, noted, nth}
 
 -- the step that it is
@@ -26,3 +26,10 @@ judging_answer t m a Over = a
 abbrev pub counted_of : List Question → ℕ → Option ℕ → Stage
 counted_of qs n None = Ended
 counted_of qs n (Some i) = counted_at i n (nth i qs)
+
+-- an answer with what a child gave, where the run counts
+abbrev pub kept_at : Stage → Answer → Reply → Answer
+kept_at Begun a r = a
+kept_at (Asked i) a r = a
+kept_at (Counted i n) a r = with_child a r
+kept_at Ended a r = a

@@ -2,8 +2,8 @@
 -- count. (Core 2020-12, 10.2.1.2, 10.2.1.3 and 10.2.1.4)
 use Rattle.std.specs.Prelude.{Bool, List, [], false, min, nat_le, not, true, ℕ, ◌++◌, ◌+◌, ◌&&◌, ◌∷◌}
 use Rattle.schema_reports.specs.Instance.{Text}
-use Rattle.schema_reports.specs.Reports.{report_of}
-use Rattle.schema_reports.specs.Keywords.{Answer, Question, Reply, all_of_it, first_of_it, no_reply, truth, unit_of_it}
+use Rattle.schema_reports.specs.Reports.{Unit_, report_of}
+use Rattle.schema_reports.specs.Keywords.{Answer, Gives, Question, Reply, all_of_it, first_of_it, for_units, no_reply, truth, unit_of_it}
 use Rattle.schema_node.specs.declared.context.keyword.Mode.{Mode}
 use Rattle.schema_node.specs.declared.context.keyword.Mode.TheVariants as mode
 
@@ -56,9 +56,18 @@ says_yes (unit_of_it u) = (report_of u).valid
 abbrev pub tallied : ℕ → Reply → ℕ → ℕ
 tallied enough reply n = min enough (counted (says_yes reply) n)
 
+-- an answer of an evaluation, with this verdict
+abbrev pub in_evaluation : Bool → Gives → Answer
+in_evaluation v g = record { mode = for_units; verdict = v; errors = []; gives = g }
+
+-- with one unit more inside
+abbrev pub with_inside : Gives → Unit_ → Gives
+with_inside g u = record g { children = g.children ++ u ∷ [] }
+
+-- with the unit that a child gave, whatever its verdict
 abbrev pub with_child : Answer → Reply → Answer
 with_child a no_reply = a
 with_child a (truth b) = a
 with_child a (first_of_it e) = a
 with_child a (all_of_it es) = a
-with_child a (unit_of_it u) = record a { gives = record a.gives { children = a.gives.children ++ u ∷ [] } }
+with_child a (unit_of_it u) = in_evaluation a.verdict (with_inside a.gives u)

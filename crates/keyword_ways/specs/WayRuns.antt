@@ -6,7 +6,7 @@ use Rattle.std.proofs.lemmas.Bool.{leb-true}
 use Rattle.schema_reports.specs.Instance.{Text}
 use Rattle.schema_reports.specs.Reports.{Unit_, Error, report_of}
 use Rattle.schema_reports.specs.Matching.{Matching, Pair}
-use Rattle.schema_reports.specs.Keywords.{Answer, Answers, Fault, MatchPoint, Question, Reply, Turn, all_of_it, ask, done, first_of_it, for_all, for_first, for_units, for_verdict, match_text, own, passed, truth, unit_of_it}
+use Rattle.schema_reports.specs.Keywords.{Answer, Answers, Fault, Gives, MatchPoint, Question, Reply, Turn, all_of_it, ask, done, first_of_it, for_all, for_first, for_units, for_verdict, match_text, own, passed, truth, unit_of_it}
 use Rattle.schema_reports.specs.Keywords as spec
 use Rattle.schema_reports.specs.Laws.{first_fault}
 use Rattle.schema_reports.specs.Runs.{first_error}
@@ -18,7 +18,7 @@ use Rattle.keyword_ways.specs.declared.run.Stage.TheVariants.{Begun, Asked, Coun
 use Rattle.keyword_ways.specs.Ways.{Way, asks_match, described, evaluated, is_matched, match_point, unless, tells, passes_on, passes_some, judges, branches, branch, branch_number, chosen, counted_at, given, judged_at, plain, way_holds, way_faults, way_units, refused, with_first, noted, with_unit, taken, goes_on, nth, asked, stage_at, stage_some, next_if, next_some, step_at, stage_after, answer_after, mode_from, way_left, way_turns, left_of}
 use Rattle.std.proofs.lemmas.List.{drop-drop}
 use Rattle.keyword_ways.specs.Somes.{first_some, question_of, some_from, somes}
-use Rattle.keyword_ways.specs.Tallies.{Tally, asked_in, counted, is_settled, says_yes, tallied, told_by, wants_units, with_child, yes_count}
+use Rattle.keyword_ways.specs.Tallies.{Tally, asked_in, counted, in_evaluation, is_settled, says_yes, tallied, told_by, wants_units, with_child, with_inside, yes_count}
 
 -- the true reply to a question in a mode
 abbrev pub reply_for : Mode → Answers → (Question → Unit_) → Question → Reply
@@ -658,17 +658,17 @@ judged_verdicts t answers u m (q ∷ qs) n a l =
     ∙ ap (λ x. noted m t.name a (t.told x)) (sum_up t.enough n (yes_count (λ q. (answers q).verdict) qs) (answers q).verdict l)
 
 -- where units are asked, they become children besides
-abbrev pub with_children : Answer → List Unit_ → Answer
-with_children a us = record a { gives = record a.gives { children = a.gives.children ++ us } }
+abbrev pub with_children : Bool → Gives → List Unit_ → Answer
+with_children v g us = in_evaluation v (record g { children = g.children ++ us })
 
-judged_units : (t : Tally) (answers : Answers) (u : Question → Unit_) (m : Mode) (qs : List Question) (n : ℕ) (a : Answer) → n ≤ t.enough
-    → judged_on t true (reply_for mode.Evaluate answers u) m n a qs ≡ noted m t.name (with_children a (map u qs)) (t.told (min t.enough (n + yes_count (λ q. (report_of (u q)).valid) qs)))
-judged_units t answers u m [] n a l = ap (λ x. noted m t.name a (t.told x)) (zero_sum t.enough n l)
-    ∙ ap (λ us. noted m t.name (record a { gives = record a.gives { children = us } }) (t.told (min t.enough (n + 0)))) (sym (append-nil a.gives.children))
-judged_units t answers u m (q ∷ qs) n a l =
-    judged_units t answers u m qs (min t.enough (counted (report_of (u q)).valid n)) (with_child a (unit_of_it (u q))) (counted_within t.enough _)
-    ∙ (ap (λ us. noted m t.name (record a { gives = record a.gives { children = us } }) (t.told (min t.enough (min t.enough (counted (report_of (u q)).valid n) + yes_count (λ q. (report_of (u q)).valid) qs)))) (append_assoc a.gives.children (u q ∷ []) (map u qs))
-    ∙ ap (λ x. noted m t.name (with_children a (u q ∷ map u qs)) (t.told x)) (sum_up t.enough n (yes_count (λ q. (report_of (u q)).valid) qs) (report_of (u q)).valid l))
+judged_units : (t : Tally) (answers : Answers) (u : Question → Unit_) (m : Mode) (qs : List Question) (n : ℕ) (v : Bool) (g : Gives) → n ≤ t.enough
+    → judged_on t true (reply_for mode.Evaluate answers u) m n (in_evaluation v g) qs ≡ noted m t.name (with_children v g (map u qs)) (t.told (min t.enough (n + yes_count (λ q. (report_of (u q)).valid) qs)))
+judged_units t answers u m [] n v g l = ap (λ x. noted m t.name (in_evaluation v g) (t.told x)) (zero_sum t.enough n l)
+    ∙ ap (λ us. noted m t.name (in_evaluation v (record g { children = us })) (t.told (min t.enough (n + 0)))) (sym (append-nil g.children))
+judged_units t answers u m (q ∷ qs) n v g l =
+    judged_units t answers u m qs (min t.enough (counted (report_of (u q)).valid n)) v (with_inside g (u q)) (counted_within t.enough _)
+    ∙ (ap (λ us. noted m t.name (in_evaluation v (record g { children = us })) (t.told (min t.enough (min t.enough (counted (report_of (u q)).valid n) + yes_count (λ q. (report_of (u q)).valid) qs)))) (append_assoc g.children (u q ∷ []) (map u qs))
+    ∙ ap (λ x. noted m t.name (with_children v g (u q ∷ map u qs)) (t.told x)) (sum_up t.enough n (yes_count (λ q. (report_of (u q)).valid) qs) (report_of (u q)).valid l))
 
 same_count : (a b : Question → Bool) → ((q : Question) → a q ≡ b q) → (qs : List Question) → yes_count a qs ≡ yes_count b qs
 same_count a b h [] = refl
@@ -682,15 +682,15 @@ judged_fresh : (k : spec.Mode) (t : Tally) (answers : Answers) (u : Question →
     → judged_on t false (reply_for mode.Verdict answers u) m 0 (fresh k) qs ≡ noted m t.name (fresh k) (told_by t (λ q. (answers q).verdict) qs)
 judged_fresh k t answers u m qs = judged_verdicts t answers u m qs 0 (fresh k) (omega arith) ∙ ap (λ x. noted m t.name (fresh k) (t.told (min t.enough x))) (from_zero _)
 
-judged_given : (k : spec.Mode) (t : Tally) (answers : Answers) (u : Question → Unit_) → ((q : Question) → (report_of (u q)).valid ≡ (answers q).verdict) → (m : Mode) (qs : List Question)
-    → judged_on t true (reply_for mode.Evaluate answers u) m 0 (fresh k) qs ≡ noted m t.name (with_children (fresh k) (map u qs)) (told_by t (λ q. (answers q).verdict) qs)
-judged_given k t answers u valid m qs = judged_units t answers u m qs 0 (fresh k) (omega arith)
-    ∙ ap (λ x. noted m t.name (with_children (fresh k) (map u qs)) (t.told (min t.enough x))) (from_zero _ ∙ same_count (λ q. (report_of (u q)).valid) (λ q. (answers q).verdict) valid qs)
+judged_given : (t : Tally) (answers : Answers) (u : Question → Unit_) → ((q : Question) → (report_of (u q)).valid ≡ (answers q).verdict) → (m : Mode) (qs : List Question)
+    → judged_on t true (reply_for mode.Evaluate answers u) m 0 (fresh for_units) qs ≡ noted m t.name (with_children true no_gives (map u qs)) (told_by t (λ q. (answers q).verdict) qs)
+judged_given t answers u valid m qs = judged_units t answers u m qs 0 true no_gives (omega arith)
+    ∙ ap (λ x. noted m t.name (with_children true no_gives (map u qs)) (t.told (min t.enough x))) (from_zero _ ∙ same_count (λ q. (report_of (u q)).valid) (λ q. (answers q).verdict) valid qs)
 
-judged_evaluation : (k : spec.Mode) (t : Tally) (answers : Answers) (u : Question → Unit_) → ((q : Question) → (report_of (u q)).valid ≡ (answers q).verdict) → (qs : List Question) (b : Bool)
-    → judged_on t b (reply_for (asked_in b) answers u) mode.Evaluate 0 (fresh k) qs ≡ noted mode.Evaluate t.name (with_children (fresh k) (given b u qs)) (told_by t (λ q. (answers q).verdict) qs)
-judged_evaluation k t answers u valid qs true = judged_given k t answers u valid mode.Evaluate qs
-judged_evaluation k t answers u valid qs false = judged_fresh k t answers u mode.Evaluate qs
+judged_evaluation : (t : Tally) (answers : Answers) (u : Question → Unit_) → ((q : Question) → (report_of (u q)).valid ≡ (answers q).verdict) → (qs : List Question) (b : Bool)
+    → judged_on t b (reply_for (asked_in b) answers u) mode.Evaluate 0 (fresh for_units) qs ≡ noted mode.Evaluate t.name (with_children true no_gives (given b u qs)) (told_by t (λ q. (answers q).verdict) qs)
+judged_evaluation t answers u valid qs true = judged_given t answers u valid mode.Evaluate qs
+judged_evaluation t answers u valid qs false = judged_fresh for_units t answers u mode.Evaluate qs
 
 -- what is wanted of the end, by mode
 abbrev pub IsEnd : Way → Matching → Answers → (Question → Unit_) → spec.Mode → Answer → Type 0
@@ -722,9 +722,9 @@ way_ends (judges t qs) matching answers u valid for_verdict = ap (λ a. a.verdic
 way_ends (judges t qs) matching answers u valid for_first = ap (λ a. a.errors) (judged_fresh for_first t answers u mode.First qs) ∙ noted_first for_first t.name (told_by t (λ q. (answers q).verdict) qs)
 way_ends (judges t qs) matching answers u valid for_all = ap (λ a. a.errors) (judged_fresh for_all t answers u mode.All qs) ∙ noted_all t.name (told_by t (λ q. (answers q).verdict) qs) (fresh for_all)
 way_ends (judges t qs) matching answers u valid for_units = (
-  ap (λ a. a.gives) (judged_evaluation for_units t answers u valid qs t.shows) ∙ (evaluated_gives t.name (told_by t (λ q. (answers q).verdict) qs) (with_children (fresh for_units) (given t.shows u qs))
+  ap (λ a. a.gives) (judged_evaluation t answers u valid qs t.shows) ∙ (evaluated_gives t.name (told_by t (λ q. (answers q).verdict) qs) (with_children true no_gives (given t.shows u qs))
       ∙ ap (λ n. record no_gives { valid = is_nil (t.told (min t.enough n)); children = given t.shows u qs; errors = map (described t.name) (t.told (min t.enough n)) }) (sym (same_count (λ q. (report_of (u q)).valid) (λ q. (answers q).verdict) valid qs))),
-  ap (λ a. a.verdict) (judged_evaluation for_units t answers u valid qs t.shows) ∙ evaluated_verdict t.name (told_by t (λ q. (answers q).verdict) qs) (with_children (fresh for_units) (given t.shows u qs)) refl,
+  ap (λ a. a.verdict) (judged_evaluation t answers u valid qs t.shows) ∙ evaluated_verdict t.name (told_by t (λ q. (answers q).verdict) qs) (with_children true no_gives (given t.shows u qs)) refl,
 )
 way_ends (branches q one other) matching answers u valid for_verdict = led_verdict answers u (branch (answers q).verdict one other) (fresh for_verdict) refl
 way_ends (branches q one other) matching answers u valid for_first = led_first answers u (branch (answers q).verdict one other) (fresh for_first) refl

@@ -9,6 +9,7 @@ use Rattle.schema_reports.specs.Reports.{Described, Unit_, report_of}
 use Rattle.schema_reports.specs.Matching.{Matching, Pair}
 use Rattle.schema_reports.specs.Keywords.{Answer, Answers, Fault, Gives, MatchPoint, Own, Question, Reply, Spot, Turn, all_of_it, ask, done, first_of_it, for_all, for_first, for_units, for_verdict, match_text, no_reply, own, passed, truth, unit_of_it}
 use Rattle.schema_reports.specs.Keywords as spec
+use Rattle.schema_reports.specs.EvaluationResults.{errored}
 use Rattle.schema_node.specs.KeywordViews.{is_nil, mode_of, no_gives, option_list, with_errors}
 use Rattle.schema_node.specs.declared.context.keyword.Mode.{Mode}
 use Rattle.schema_node.specs.declared.context.keyword.Mode.TheVariants as mode
@@ -16,7 +17,7 @@ use Rattle.keyword_ways.specs.declared.run.Stage.{Stage}
 use Rattle.keyword_ways.specs.declared.run.Stage.TheVariants.{Begun, Asked, Counted, Ended}
 use Rattle.keyword_ways.specs.declared.run.Progress.{Progress}
 use Rattle.keyword_ways.specs.Somes.{question_of, some_from, somes}
-use Rattle.keyword_ways.specs.Tallies.{Tally, asked_in, is_settled, says_yes, tallied, told_by, wants_units, with_child}
+use Rattle.keyword_ways.specs.Tallies.{Tally, asked_in, in_evaluation, is_settled, says_yes, tallied, told_by, wants_units, with_child, with_inside}
 
 pub data Way : Type 0 where
   -- errors of this name with these texts
@@ -115,7 +116,7 @@ with_first a (g ∷ gs) f = a
 
 -- refused in an evaluation: an error of the keyword's own stands in its unit
 abbrev pub evaluated : Answer → Fault → Answer
-evaluated a (own o) = record { mode = for_units; verdict = false; errors = []; gives = record a.gives { valid = false; errors = a.gives.errors ++ described o.name o.text ∷ [] } }
+evaluated a (own o) = in_evaluation false (errored (described o.name o.text) a.gives)
 evaluated a (passed e) = refused a
 
 -- with one fault more
@@ -129,8 +130,9 @@ abbrev pub noted : Mode → Text → Answer → List Text → Answer
 noted m name a [] = a
 noted m name a (t ∷ ts) = noted m name (noted_one m a (own (plain name t))) ts
 
+-- with the unit of a child, which refuses where that does
 abbrev pub with_unit : Answer → Unit_ → Answer
-with_unit a u = record a { verdict = if (report_of u).valid then a.verdict else false; gives = record a.gives { valid = if (report_of u).valid then a.gives.valid else false; children = a.gives.children ++ u ∷ [] } }
+with_unit a u = in_evaluation (if (report_of u).valid then a.verdict else false) (record (with_inside a.gives u) { valid = if (report_of u).valid then a.gives.valid else false })
 
 -- with what a child answered
 abbrev pub taken : Answer → Reply → Answer

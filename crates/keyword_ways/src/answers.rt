@@ -5,19 +5,21 @@ ghost use Rattle.schema_reports.specs.ReportViews.{BorrowsItsPlace, error_of, sp
 ghost use Rattle.schema_reports.specs.Keywords.{own, passed};
 ghost use Rattle.schema_node.specs.declared.context.keyword.Fault.TheVariants.{Passed};
 ghost use Rattle.schema_node.specs.FaultViews.{errors_in, faults_in, PassesBorrowed};
-ghost use Rattle.schema_node.specs.KeywordViews.{answer_of, described_of, fault_of, no_gives, reply_of};
+ghost use Rattle.schema_node.specs.KeywordViews.{answer_of, fault_of, reply_of};
 ghost use Rattle.keyword_ways.specs.FaultLists.{first_kept};
 ghost use Rattle.keyword_ways.specs.Tallies.{says_yes};
 ghost use Rattle.keyword_ways.specs.Ways.{evaluated, goes_on, noted_one, plain, refused, taken, with_first};
 
-use schema_node::context::keyword::{Answer, ErrorDescription, Fault, Mode, OwnError, Reply};
+use crate::units::{invalidated, with_unit};
+use schema_node::context::keyword::{Answer, Fault, Mode, OwnError, Reply};
+use schema_reports::evaluation::ErrorDescription;
 use schema_reports::location::OutOfMemory;
 use schema_reports::reports::ValidationError;
 use std::alloc::Global;
 use std::mem;
 
 /// The answer with the verdict no.
-fn refused<'i>(answer: Answer<'i>) -> Answer<'i>
+fn refused<'i>(alloc: Global, answer: Answer<'i>) -> Answer<'i>
     ensures refused { (texts : Bool) → answer_of texts result ≡ refused (answer_of texts answer.entry) }
     ensures faults { faults_in result ≡ faults_in answer.entry }
 {
@@ -35,7 +37,9 @@ fn refused<'i>(answer: Answer<'i>) -> Answer<'i>
                 Answer::All(faults)
             }
         }
-        Answer::Evaluation(_, errors) => Answer::Evaluation(false, errors),
+        Answer::Evaluation(own, absorbed) => {
+            Answer::Evaluation(invalidated(alloc, own), absorbed)
+        }
     }
 }
 
@@ -63,8 +67,9 @@ fn with_first<'i>(answer: Answer<'i>, fault: Box<Fault<'i>>) -> Answer<'i>
                 Answer::All(faults)
             }
         }
-        Answer::Evaluation(_, errors) => {
-            drop(errors);
+        Answer::Evaluation(own, absorbed) => {
+            drop(own);
+            drop(absorbed);
             Answer::First(Some(fault))
         }
     }
@@ -85,21 +90,11 @@ fn faults_of<'i>(alloc: Global, answer: Answer<'i>) -> Result<Vec<Fault<'i>>, Ou
             Ok(faults)
         }
         Answer::All(faults) => Ok(faults),
-        Answer::Evaluation(_, errors) => {
-            drop(errors);
+        Answer::Evaluation(own, absorbed) => {
+            drop(own);
+            drop(absorbed);
             Ok(Vec::new(alloc))
         }
-    }
-}
-
-/// The errors of an answer that are in its unit.
-fn descriptions_of(alloc: Global, answer: Answer<'_>) -> Vec<ErrorDescription>
-    ensures gives { (texts : Bool) → (answer_of texts answer.entry).gives
-        ≡ record no_gives { valid = (answer_of texts answer.entry).verdict; errors = map (described_of texts) result.items } }
-{
-    match answer {
-        Answer::Evaluation(_, errors) => errors,
-        _ => Vec::new(alloc),
     }
 }
 
@@ -114,19 +109,20 @@ fn evaluated<'i>(
         ≡ evaluated (answer_of texts before.entry) (own (plain keyword.now (spoken texts (string_bytes text))))) }
     ensures faults { IfOk result (λ after. faults_in after ≡ []) }
 {
-    let mut errors = descriptions_of(alloc, before);
+    let (mut own, absorbed) = before.into_evaluation(alloc);
     let keyword = String::from_str(alloc, keyword)?;
-    errors.push(ErrorDescription { keyword, text })?;
-    Ok(Answer::Evaluation(false, errors))
+    own.mark_errored(alloc, ErrorDescription { keyword, text })?;
+    Ok(Answer::Evaluation(own, absorbed))
 }
 
-/// Makes the answer say no, with no error. Where a verdict alone is wanted, this is what a keyword does that refuses.
-pub fn refuse<'i>(answer: &mut Answer<'i>)
+/// Makes the answer say no, with no error. Where a verdict alone is wanted, this is what a keyword does that refuses. Nothing is
+/// allocated.
+pub fn refuse<'i>(alloc: Global, answer: &mut Answer<'i>)
     ensures refused { (texts : Bool) → answer_of texts answer.new ≡ refused (answer_of texts answer.old) }
     ensures borrows { (root : Data) → All (PassesBorrowed root) (faults_in answer.old) → All (PassesBorrowed root) (faults_in answer.new) }
 {
     let before = mem::replace(answer, Answer::Verdict(false));
-    *answer = refused(before);
+    *answer = refused(alloc, before);
 }
 
 /// Notes an error of the keyword's own. Where a verdict is wanted, it refuses alone; in an evaluation the error is in
@@ -164,7 +160,7 @@ fn with_own<'i>(
     match mode {
         Mode::Verdict => {
             drop(text);
-            Ok(refused(before))
+            Ok(refused(alloc, before))
         }
         Mode::Evaluate => evaluated(alloc, keyword, text, before),
         Mode::First => with_own_first(alloc, keyword, text, before),
@@ -229,18 +225,20 @@ pub fn goes_on(reply: &Reply<'_>) -> bool
         Reply::Truth(holds) => *holds,
         Reply::First(first) => first.is_none(),
         Reply::All(_) => true,
+        Reply::Unit(_) => true,
     }
 }
 
-/// Whether a reply says yes, which is all that is wanted of it.
-pub fn says_yes(reply: Reply<'_>) -> bool
-    ensures yes { (texts : Bool) → result ≡ says_yes (reply_of texts reply.entry) }
+/// Whether a reply says yes: a verdict, or a unit's.
+pub fn says_yes(reply: &Reply<'_>) -> bool
+    ensures yes { (texts : Bool) → result ≡ says_yes (reply_of texts reply.now) }
 {
     match reply {
         Reply::Nothing => false,
-        Reply::Truth(yes) => yes,
+        Reply::Truth(yes) => *yes,
         Reply::First(_) => false,
         Reply::All(_) => false,
+        Reply::Unit(node) => node.report.valid,
     }
 }
 
@@ -254,7 +252,7 @@ pub fn take<'i>(alloc: Global, reply: Reply<'i>, answer: &mut Answer<'i>) -> Res
     match reply {
         Reply::Truth(holds) => {
             if !holds {
-                refuse(answer);
+                refuse(alloc, answer);
             }
             Ok(())
         }
@@ -296,7 +294,7 @@ fn with_reply<'i>(
             if holds {
                 Ok(before)
             } else {
-                Ok(refused(before))
+                Ok(refused(alloc, before))
             }
         }
         Reply::First(first) => match first {
@@ -311,6 +309,7 @@ fn with_reply<'i>(
             pass_all(errors, &mut faults)?;
             Ok(Answer::All(faults))
         }
+        Reply::Unit(node) => with_unit(alloc, Box::into_inner(node), before),
     }
 }
 

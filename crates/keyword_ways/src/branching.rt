@@ -68,7 +68,7 @@ pub fn branch_on<'s, 'i>(
         }
         Stage::Asked(place) => {
             if place == 0 {
-                return Ok(ask_branch(says_yes(reply), accepted, refused, run));
+                return Ok(ask_branch(says_yes(&reply), accepted, refused, run));
             }
             run.stage = Stage::Ended;
             take(alloc, reply, answer)?;

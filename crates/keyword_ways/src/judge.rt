@@ -94,7 +94,7 @@ fn tell_judged<'i, J: JudgeKeyword>(
         return Ok(());
     }
     if mode == Mode::Verdict {
-        refuse(answer);
+        refuse(alloc, answer);
         return Ok(());
     }
     let text = judge.text(alloc, instance, accepted)?;
@@ -126,7 +126,8 @@ pub fn turn_judge<'s, 'i, J: JudgeKeyword>(
         → All (PassesBorrowed root) (faults_in answer.old) → All (PassesBorrowed root) (faults_in answer.new)) }
 {
     let mode = run.mode;
-    match judge_on(keyword.judge(instance), run, reply) {
+    let judging = judge_on(alloc, keyword.judge(instance), run, reply, answer)?;
+    match judging {
         Judging::Asks(number, asked) => Ok(keyword.ask(number, asked)),
         Judging::Judged(accepted) => {
             tell_judged(keyword, alloc, accepted, mode, instance, answer)?;

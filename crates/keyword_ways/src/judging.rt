@@ -1,16 +1,21 @@
 //! A run that judges: it asks one numbered question after the other, and tells errors by how many are answered by yes.
-ghost use Rattle.std.specs.Prelude.{◌≡◌, ◌+◌, ℕ, Bool, min, not};
-ghost use Rattle.schema_reports.specs.Keywords.{Answer as AnswerOfRun, Question};
-ghost use Rattle.schema_node.specs.KeywordViews.{reply_of};
+ghost use Rattle.std.specs.Prelude.{All, ◌≡◌, ◌+◌, ℕ, Bool, IfOk, min, not};
+ghost use Rattle.serde_json.specs.Data.{Data};
+ghost use Rattle.schema_reports.specs.Keywords.{Answer as AnswerOfRun, Question, Reply as ReplyOfRun};
+ghost use Rattle.schema_node.specs.FaultViews.{faults_in, PassesBorrowed};
+ghost use Rattle.schema_node.specs.KeywordViews.{answer_of, reply_of};
 ghost use Rattle.keyword_ways.specs.Asking.{nth_at};
 ghost use Rattle.keyword_ways.specs.Items.{child_here, each_from};
-ghost use Rattle.keyword_ways.specs.Judging.{counted_of, judging_answer, judging_turn};
-ghost use Rattle.keyword_ways.specs.Tallies.{Tally, asked_in, counted, is_settled, wants_units};
+ghost use Rattle.keyword_ways.specs.Judging.{counted_of, judging_answer, judging_turn, kept_at};
+ghost use Rattle.keyword_ways.specs.Tallies.{Tally, asked_in, counted, is_settled, says_yes, wants_units};
 ghost use Rattle.keyword_ways.specs.Ways.{answer_after, asked, counted_at, judged_at, judges, next_if, nth, stage_after, step_at};
 
 use crate::answers::says_yes;
 use crate::run::{Progress, Stage};
-use schema_node::context::keyword::{Mode, Reply};
+use crate::units::keep_child;
+use schema_node::context::keyword::{Answer, Mode, Reply};
+use schema_reports::location::OutOfMemory;
+use std::alloc::Global;
 
 /// What a turn of a run that judges does.
 #[derive(Clone, Copy)]
@@ -106,22 +111,20 @@ fn place_after(last: usize, count: usize, settled: bool) -> Option<usize>
     if last < count { Some(last + 1) } else { None }
 }
 
-/// Takes a turn of a run that judges, whatever the question of a number is.
-pub fn judge_on(judge: Judge, run: &mut Progress, reply: Reply<'_>) -> Judging
-    ensures stage { (texts : Bool) (f : ℕ → Question) (t : Tally) → t.enough ≡ judge.enough → t.shows ≡ judge.shows
+/// Counts a reply that says yes or not, and says what the turn does.
+fn count_on(judge: Judge, run: &mut Progress, yes: bool) -> Judging
+    ensures stage { (f : ℕ → Question) (t : Tally) (r : ReplyOfRun) → t.enough ≡ judge.enough → t.shows ≡ judge.shows → yes ≡ says_yes r
         → run.new ≡ record run.old {
-          stage = stage_after (judges t (each_from f 0 judge.count)) run.old.mode run.old.stage
-              (reply_of texts reply.entry);
+          stage = stage_after (judges t (each_from f 0 judge.count)) run.old.mode run.old.stage r;
         } }
-    ensures step { (texts : Bool) (f : ℕ → Question) (t : Tally) → t.enough ≡ judge.enough → t.shows ≡ judge.shows
-        → step_at (judges t (each_from f 0 judge.count)) run.old.mode run.old.stage (reply_of texts reply.entry)
-        ≡ judging_turn f result }
-    ensures answer { (texts : Bool) (f : ℕ → Question) (t : Tally) (a : AnswerOfRun) → t.enough ≡ judge.enough → t.shows ≡ judge.shows
-        → answer_after (judges t (each_from f 0 judge.count)) run.old.mode run.old.stage a (reply_of texts reply.entry)
-        ≡ judging_answer t run.old.mode a result }
+    ensures step { (f : ℕ → Question) (t : Tally) (r : ReplyOfRun) → t.enough ≡ judge.enough → t.shows ≡ judge.shows → yes ≡ says_yes r
+        → step_at (judges t (each_from f 0 judge.count)) run.old.mode run.old.stage r ≡ judging_turn f result }
+    ensures answer { (f : ℕ → Question) (t : Tally) (a : AnswerOfRun) (r : ReplyOfRun)
+        → t.enough ≡ judge.enough → t.shows ≡ judge.shows → yes ≡ says_yes r
+        → answer_after (judges t (each_from f 0 judge.count)) run.old.mode run.old.stage a r
+        ≡ judging_answer t run.old.mode (kept_at run.old.stage a r) result }
 {
     let units = wants_units(judge.shows, run.mode);
-    let yes = says_yes(reply);
     match run.stage {
         Stage::Begun => judge_at(Some(0), 0, judge.count, units, run),
         Stage::Counted(last, before) => {
@@ -137,19 +140,57 @@ pub fn judge_on(judge: Judge, run: &mut Progress, reply: Reply<'_>) -> Judging
     }
 }
 
-/// Takes a turn of a run that judges its children, each at the keyword's own place.
-pub fn judge_children(judge: Judge, run: &mut Progress, reply: Reply<'_>) -> Judging
-    ensures stage { (texts : Bool) (t : Tally) → t.enough ≡ judge.enough → t.shows ≡ judge.shows
+/// Takes a turn of a run that judges, whatever the question of a number is. A unit that a child gave is put into the answer.
+pub fn judge_on<'i>(
+    alloc: Global,
+    judge: Judge,
+    run: &mut Progress,
+    reply: Reply<'i>,
+    answer: &mut Answer<'i>,
+) -> Result<Judging, OutOfMemory>
+    ensures stage { IfOk result (λ _. (texts : Bool) (f : ℕ → Question) (t : Tally) → t.enough ≡ judge.enough → t.shows ≡ judge.shows
+        → run.new ≡ record run.old {
+          stage = stage_after (judges t (each_from f 0 judge.count)) run.old.mode run.old.stage
+              (reply_of texts reply.entry);
+        }) }
+    ensures step { IfOk result (λ judging. (texts : Bool) (f : ℕ → Question) (t : Tally) → t.enough ≡ judge.enough → t.shows ≡ judge.shows
+        → step_at (judges t (each_from f 0 judge.count)) run.old.mode run.old.stage (reply_of texts reply.entry)
+        ≡ judging_turn f judging) }
+    ensures answer { IfOk result (λ judging. (texts : Bool) (f : ℕ → Question) (t : Tally) → t.enough ≡ judge.enough
+        → t.shows ≡ judge.shows
+        → answer_after (judges t (each_from f 0 judge.count)) run.old.mode run.old.stage (answer_of texts answer.old)
+        (reply_of texts reply.entry)
+        ≡ judging_answer t run.old.mode (answer_of texts answer.new) judging) }
+    ensures borrows { IfOk result (λ _. (root : Data) → All (PassesBorrowed root) (faults_in answer.old)
+        → All (PassesBorrowed root) (faults_in answer.new)) }
+{
+    let yes = says_yes(&reply);
+    keep_child(alloc, run.stage, reply, answer)?;
+    Ok(count_on(judge, run, yes))
+}
+
+/// Takes a turn of a run that judges its children, each at the keyword's own place. A unit that a child gave is put into the answer.
+pub fn judge_children<'i>(
+    alloc: Global,
+    judge: Judge,
+    run: &mut Progress,
+    reply: Reply<'i>,
+    answer: &mut Answer<'i>,
+) -> Result<Judging, OutOfMemory>
+    ensures stage { IfOk result (λ _. (texts : Bool) (t : Tally) → t.enough ≡ judge.enough → t.shows ≡ judge.shows
         → run.new ≡ record run.old {
           stage = stage_after (judges t (each_from child_here 0 judge.count)) run.old.mode run.old.stage
               (reply_of texts reply.entry);
-        } }
-    ensures step { (texts : Bool) (t : Tally) → t.enough ≡ judge.enough → t.shows ≡ judge.shows
+        }) }
+    ensures step { IfOk result (λ judging. (texts : Bool) (t : Tally) → t.enough ≡ judge.enough → t.shows ≡ judge.shows
         → step_at (judges t (each_from child_here 0 judge.count)) run.old.mode run.old.stage (reply_of texts reply.entry)
-        ≡ judging_turn child_here result }
-    ensures answer { (texts : Bool) (t : Tally) (a : AnswerOfRun) → t.enough ≡ judge.enough → t.shows ≡ judge.shows
-        → answer_after (judges t (each_from child_here 0 judge.count)) run.old.mode run.old.stage a (reply_of texts reply.entry)
-        ≡ judging_answer t run.old.mode a result }
+        ≡ judging_turn child_here judging) }
+    ensures answer { IfOk result (λ judging. (texts : Bool) (t : Tally) → t.enough ≡ judge.enough → t.shows ≡ judge.shows
+        → answer_after (judges t (each_from child_here 0 judge.count)) run.old.mode run.old.stage (answer_of texts answer.old)
+        (reply_of texts reply.entry)
+        ≡ judging_answer t run.old.mode (answer_of texts answer.new) judging) }
+    ensures borrows { IfOk result (λ _. (root : Data) → All (PassesBorrowed root) (faults_in answer.old)
+        → All (PassesBorrowed root) (faults_in answer.new)) }
 {
-    judge_on(judge, run, reply)
+    judge_on(alloc, judge, run, reply, answer)
 }

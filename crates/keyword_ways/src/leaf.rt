@@ -66,7 +66,7 @@ fn tell_leaf<'i, L: LeafKeyword>(
         return Ok(());
     }
     if mode == Mode::Verdict {
-        refuse(answer);
+        refuse(alloc, answer);
         return Ok(());
     }
     let text = leaf.text(alloc, instance)?;

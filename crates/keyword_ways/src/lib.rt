@@ -25,3 +25,4 @@ pub mod passing;
 pub mod planned;
 pub mod run;
 pub mod telling;
+mod units;

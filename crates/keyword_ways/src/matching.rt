@@ -30,7 +30,7 @@ pub fn match_on(run: &mut Progress, reply: Reply<'_>) -> MatchTurn
     ensures steps { (texts : Bool) (name text : Text) (p : Pair) (a : AnswerOfRun)
         → way_step (asks_match name p text) (run.old, a) (reply_of texts reply.entry) ≡ match_turn p run.old.mode result }
 {
-    let matches = says_yes(reply);
+    let matches = says_yes(&reply);
     match run.stage {
         Stage::Begun => {
             run.stage = Stage::Asked(0);

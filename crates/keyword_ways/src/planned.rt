@@ -102,7 +102,7 @@ fn tell<'i, P: PlannedKeyword>(
         → All (PassesBorrowed root) (faults_in answer.new)) }
 {
     if mode == Mode::Verdict {
-        refuse(answer);
+        refuse(alloc, answer);
         return Ok(());
     }
     let text = keyword.text(alloc, instance)?;
@@ -210,7 +210,8 @@ fn turn_judging<'s, 'i, P: PlannedKeyword>(
         enough: least,
         shows: true,
     };
-    match judge_on(judge, run, reply) {
+    let judging = judge_on(alloc, judge, run, reply, answer)?;
+    match judging {
         Judging::Asks(number, asked) => Ok(ask(asks, number, asked)),
         Judging::Judged(accepted) => {
             if accepted < least {

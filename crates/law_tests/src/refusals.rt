@@ -5,7 +5,9 @@ ghost use Rattle.schema_node.specs.FaultViews.{faults_in, PassesBorrowed};
 ghost use Rattle.schema_node.specs.KeywordViews.{answer_of, fault_of};
 ghost use Rattle.law_tests.specs.Refusals.{refusal, refused_in, told};
 
-use schema_node::context::keyword::{Answer, ErrorDescription, Fault, OwnError};
+use schema_node::context::keyword::{Answer, Fault, OwnError};
+use schema_reports::evaluation::ErrorDescription;
+use schema_reports::evaluation_result::EvaluationResult;
 use schema_reports::location::OutOfMemory;
 use std::alloc::Global;
 use std::mem;
@@ -43,14 +45,16 @@ fn refused<'i>(alloc: Global, before: Answer<'i>) -> Result<Answer<'i>, OutOfMem
             faults.push(refusal(alloc)?)?;
             Ok(Answer::All(faults))
         }
-        Answer::Evaluation(_, others) => {
-            drop(others);
+        Answer::Evaluation(own, absorbed) => {
+            drop(own);
+            drop(absorbed);
             let mut errors = Vec::new(alloc);
             errors.push(ErrorDescription {
                 keyword: String::from_str(alloc, "refusal")?,
                 text: String::from_str(alloc, "is refused")?,
             })?;
-            Ok(Answer::Evaluation(false, errors))
+            let own = EvaluationResult::invalid_empty(alloc, errors);
+            Ok(Answer::Evaluation(own, Vec::new(alloc)))
         }
     }
 }

@@ -1,0 +1,118 @@
+//! Units that children gave, in the answer of a run.
+ghost use Rattle.std.specs.Prelude.{All, ◌≡◌, [], Bool, false, IfOk};
+ghost use Rattle.serde_json.specs.Data.{Data};
+ghost use Rattle.schema_reports.specs.EvaluationResults.{gives_of};
+ghost use Rattle.schema_reports.specs.UnitViews.{unit_of};
+ghost use Rattle.schema_node.specs.FaultViews.{faults_in, PassesBorrowed};
+ghost use Rattle.schema_node.specs.KeywordViews.{answer_of, reply_of};
+ghost use Rattle.keyword_ways.specs.Judging.{kept_at};
+ghost use Rattle.keyword_ways.specs.Tallies.{in_evaluation, with_inside};
+ghost use Rattle.keyword_ways.specs.Ways.{with_unit};
+
+use crate::run::Stage;
+use schema_node::context::keyword::{Answer, Reply};
+use schema_reports::evaluation::EvaluationNode;
+use schema_reports::evaluation_result::EvaluationResult;
+use schema_reports::location::OutOfMemory;
+use std::alloc::Global;
+use std::mem;
+
+/// Makes what an evaluation gives invalid. Its annotations, units and errors stay.
+pub fn invalidated(alloc: Global, own: EvaluationResult) -> EvaluationResult
+    ensures invalid { (texts : Bool) → gives_of texts result ≡ record (gives_of texts own) { valid = false } }
+{
+    match own {
+        EvaluationResult::Valid(annotations, children) => {
+            EvaluationResult::Invalid(Vec::new(alloc), annotations, children)
+        }
+        EvaluationResult::Invalid(errors, annotations, children) => {
+            EvaluationResult::Invalid(errors, annotations, children)
+        }
+    }
+}
+
+/// Adds a unit after the others. The verdict stays.
+fn push_unit(own: &mut EvaluationResult, node: EvaluationNode) -> Result<(), OutOfMemory>
+    ensures inside { IfOk result (λ _. (texts : Bool)
+        → gives_of texts own.new ≡ with_inside (gives_of texts own.old) (unit_of texts node)) }
+{
+    match own {
+        EvaluationResult::Valid(_, children) => children.push(node),
+        EvaluationResult::Invalid(_, _, children) => children.push(node),
+    }
+}
+
+/// The answer with a child's unit, which refuses where that does.
+pub fn with_unit<'i>(
+    alloc: Global,
+    node: EvaluationNode,
+    before: Answer<'i>,
+) -> Result<Answer<'i>, OutOfMemory>
+    ensures taken { IfOk result (λ after. (texts : Bool)
+        → answer_of texts after ≡ with_unit (answer_of texts before.entry) (unit_of texts node)) }
+    ensures faults { IfOk result (λ after. faults_in after ≡ []) }
+{
+    let accepts = node.report.valid;
+    let (mut own, absorbed) = before.into_evaluation(alloc);
+    push_unit(&mut own, node)?;
+    if accepts {
+        Ok(Answer::Evaluation(own, absorbed))
+    } else {
+        Ok(Answer::Evaluation(invalidated(alloc, own), absorbed))
+    }
+}
+
+/// The answer with a child's unit, whatever that says.
+fn with_kept<'i>(
+    alloc: Global,
+    node: EvaluationNode,
+    before: Answer<'i>,
+) -> Result<Answer<'i>, OutOfMemory>
+    ensures kept { IfOk result (λ after. (texts : Bool) → answer_of texts after
+        ≡ in_evaluation (answer_of texts before.entry).verdict
+        (with_inside (answer_of texts before.entry).gives (unit_of texts node))) }
+    ensures faults { IfOk result (λ after. faults_in after ≡ []) }
+{
+    let (mut own, absorbed) = before.into_evaluation(alloc);
+    push_unit(&mut own, node)?;
+    Ok(Answer::Evaluation(own, absorbed))
+}
+
+/// Puts the unit that a child gave into the answer, where a run counts its children. Its room on the stack is its own, so that a
+/// verdict pays nothing for it.
+#[inline(never)]
+fn keep_unit<'i>(
+    alloc: Global,
+    node: EvaluationNode,
+    answer: &mut Answer<'i>,
+) -> Result<(), OutOfMemory>
+    ensures kept { IfOk result (λ _. (texts : Bool) → answer_of texts answer.new
+        ≡ in_evaluation (answer_of texts answer.old).verdict
+        (with_inside (answer_of texts answer.old).gives (unit_of texts node))) }
+    ensures faults { IfOk result (λ _. faults_in answer.new ≡ []) }
+{
+    let before = mem::replace(answer, Answer::Verdict(false));
+    *answer = with_kept(alloc, node, before)?;
+    Ok(())
+}
+
+/// Puts what a child gave into the answer, where it is a unit and the run counts its children.
+pub fn keep_child<'i>(
+    alloc: Global,
+    stage: Stage,
+    reply: Reply<'i>,
+    answer: &mut Answer<'i>,
+) -> Result<(), OutOfMemory>
+    ensures kept { IfOk result (λ _. (texts : Bool)
+        → answer_of texts answer.new ≡ kept_at stage (answer_of texts answer.old) (reply_of texts reply.entry)) }
+    ensures borrows { IfOk result (λ _. (root : Data) → All (PassesBorrowed root) (faults_in answer.old)
+        → All (PassesBorrowed root) (faults_in answer.new)) }
+{
+    match stage {
+        Stage::Counted(_, _) => match reply {
+            Reply::Unit(node) => keep_unit(alloc, Box::into_inner(node), answer),
+            _ => Ok(()),
+        },
+        _ => Ok(()),
+    }
+}
