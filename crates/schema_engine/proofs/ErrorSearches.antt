@@ -6,21 +6,27 @@ use Rattle.std.proofs.lemmas.List.Elements.{All-cons, All-contains, All-contains
 use Rattle.serde_json.specs.Data.{Data}
 use Rattle.schema_reports.specs.Instance.{Place, Subject, Text, a_value, subject_at}
 use Rattle.schema_reports.specs.InstanceViews.{subject_of}
-use Rattle.schema_reports.specs.Reports.{Error, Outcome}
+use Rattle.schema_reports.specs.Reports.{Error, Outcome, report_of}
 use Rattle.schema_reports.specs.Matching.{Assumptions, Completion, Extends, Matcher, completion_of}
-use Rattle.schema_reports.specs.Keywords.{Keywords, for_all, for_first}
+use Rattle.schema_reports.specs.Keywords.{Keywords, for_all, for_first, for_units}
 use Rattle.schema_reports.specs.Runs.{Met, Run, first_error}
 use Rattle.schema_reports.specs.Unfinished.{Failure, Remembered, starting}
-use Rattle.schema_reports.specs.Cover.{Call, Cover, Decides, Sense, branch_at, iter_errors, mode_of, validate, whole}
+use Rattle.schema_reports.specs.Cover.{Call, Cover, Decides, Sense, branch_at, evaluate, iter_errors, mode_of, validate, whole}
 use Rattle.schema_reports.specs.Headline.{ErrorsSay, FirstSays, IsFailure, OneFailure, VerdictSays, shown_at}
 use Rattle.schema_reports.specs.Laws.{Agrees, EachKeeps}
-use Rattle.schema_reports.specs.Members.{Follows, is_nil, verdict_of}
+use Rattle.schema_reports.specs.Members.{Follows, Speaks, is_nil, verdict_of}
 use Rattle.schema_reports.specs.Shared.{errors_of}
 use Rattle.schema_reports.specs.SharedResults.{is_empty}
 use Rattle.schema_reports.specs.Outcomes.{errors_in, none_in}
 use Rattle.schema_reports.specs.Searched.{IsRunOf}
 use Rattle.schema_reports.specs.SearchGives.{FailureAlone, GivesErrors, OfRun}
-use Rattle.schema_reports.specs.Guarded.{Nodes}
+use Rattle.schema_reports.specs.Guarded.{Nodes, guarded_within, node_unit, yes_unit}
+use Rattle.schema_reports.specs.Numbered.{subject_in}
+use Rattle.schema_reports.specs.UnitViews.{unit_of}
+use Rattle.schema_reports.specs.declared.evaluation.EvaluationNode.{EvaluationNode}
+use Rattle.schema_reports.proofs.GuardedSense.{guarded_speaks}
+use Rattle.schema_output.specs.ErrorUnits.{errors_unit}
+use Rattle.schema_engine.specs.Evaluated.{EvaluationAnswered}
 use Rattle.schema_reports.specs.ReportViews.{BorrowsItsPlace, error_of}
 use Rattle.schema_reports.specs.declared.reports.ValidationError.{ValidationError}
 use Rattle.schema_reports.proofs.CoverCounts.{pairs_differ}
@@ -172,6 +178,32 @@ module _ {K R : Type 0} (keywords : Keywords K R) (each : EachKeeps keywords) (m
         alone = λ k. first_alone branch (option_map (error_of false) o) e;
       }
 
+  -- ---- an evaluation whose first run meets no unfinished match
+
+  -- what a run without assumptions says of a completion, with its units
+  speaks_for : (c : Completion) → Speaks [] (run_under []) (v.says c) (guarded_within (yes_unit nodes) (node_unit keywords matcher nodes (subject_in instance) c) n root [] [] [])
+  speaks_for c = guarded_speaks keywords matcher nodes (subject_in instance) (λ m. (each m).0) (λ m. (each m).1) [] c (λ a b is. absurd (cc is)) (λ a b is. absurd (cc is)) n root [] [] []
+
+  unit_verdict : (texts : Bool) (u : EvaluationNode) → unit_of texts u ≡ (run_under []).units tt → (report_of (unit_of texts u)).valid ≡ verdict_of v []
+  unit_verdict texts u e = ap (λ u. (report_of u).valid) e ∙ (speaks_for (completion_of [])).run_valid ∙ ap (λ (o : Outcome). o.verdict) (outcome keywords each matcher nodes instance root n [])
+
+  pub evaluated_first : (texts : Bool) (u : EvaluationNode) (r : Remembered) → unit_of texts u ≡ (run_under []).units tt → MeetsEach matcher (starting []) ((run_under []).met for_units) r → r.unassumed ≡ None → EvaluationAnswered v texts u
+  evaluated_first texts u r says met none =
+      let branch = no_branch evaluate r met none in
+      record { verdict = verdict_alone evaluate branch (report_of (unit_of texts u)).valid (unit_verdict texts u says); apart = λ some. absurd (some branch) }
+
+  pub units_first : (texts : Bool) (u : EvaluationNode) → unit_of texts u ≡ (run_under []).units tt → branch_at v evaluate [] ≡ None → (c : Completion)
+      → unit_of texts u ≡ guarded_within (yes_unit nodes) (node_unit keywords matcher nodes (subject_in instance) c) n root [] [] []
+  units_first texts u says branch c = says ∙ (speaks_for c).units branch
+
+  -- a first run that meets one has a branch
+  pub units_searched : (r : Remembered) → r.assumptions ≡ [] → is_some r.unassumed ≡ true → MeetsEach matcher (starting []) ((run_under []).met for_units) r → branch_at v evaluate [] ≡ None → ⊥
+  units_searched r none some met e = go r.unassumed some ((remembers_of matcher v evaluate [] r refl met).first ∙ e)
+    where
+      go : (o : Option Failure) → is_some o ≡ true → option_map (λ (f : Failure). f.met) o ≡ None → ⊥
+      go None h k = absurd (cc h)
+      go (Some f) h k = absurd (cc k)
+
   -- ---- a search, by a closure that stays as it is
 
   module _ {S : Type 0} (Step : S → Remembered → Remembered → Vec ValidationError → S → Type 0) (start : S) (stays : (given r : Remembered) (es : Vec ValidationError) (end : S) → Step start given r es end → end ≡ start) (first : Remembered) (none : first.assumptions ≡ []) where
@@ -219,6 +251,11 @@ module _ {K R : Type 0} (keywords : Keywords K R) (each : EachKeeps keywords) (m
     failure_of : (call : Call) (es : List ValidationError) → FailureAlone v call instance es → OneFailure v call (map (error_of true) es)
     failure_of call es f = (error_of true f.error, f.is, ap (map (error_of true)) f.alone)
 
+    -- the further runs of `evaluate` want all errors
+    later_units : (as' : Assumptions) → ¬ (as' ≡ []) → mode_of evaluate as' ≡ for_all
+    later_units [] k = absurd (k refl)
+    later_units (a ∷ as') k = refl
+
     -- ---- all errors
 
     abbrev pub SaysVerdict : Vec ValidationError → Type 0
@@ -241,6 +278,31 @@ module _ {K R : Type 0} (keywords : Keywords K R) (each : EachKeeps keywords) (m
           ];
           undecided = λ not. failure_of iter_errors es.items (given.undecided not);
           alone = λ e. absurd (some_branch iter_errors (λ as' k. refl) met some e);
+        }
+
+    -- ---- units that are made of errors
+
+    no_error_valid : (es : List Error) → (report_of (errors_unit es)).valid ≡ is_nil es
+    no_error_valid [] = refl
+    no_error_valid (e ∷ es) = refl
+
+    pub evaluated_searched : (texts : Bool) → AreRuns texts → MeetsEach matcher (starting []) ((run_under []).met for_units) first → (es : Vec ValidationError) → SaysVerdict es → Gives es
+        → (u : EvaluationNode) → unit_of texts u ≡ errors_unit (map (error_of texts) es.items) → EvaluationAnswered v texts u
+    evaluated_searched texts runs met es verdict gives u made =
+        let is = none_runs evaluate later_units met texts runs in
+        let given = gives v evaluate is in
+        let valid : is_empty es.items ≡ (report_of (unit_of texts u)).valid = nil_told texts es.items ∙ sym (no_error_valid (map (error_of texts) es.items)) ∙ sym (ap (λ u. (report_of u).valid) made) in
+        record {
+          verdict = subst (VerdictSays v evaluate) valid (verdict v evaluate follows_it is);
+          apart = λ some. record {
+            errors = es.items;
+            made = made;
+            given = elim given.each [
+              | inl all ↦ inl (All-weaker (OfRun v evaluate Step start) (IsGiven v texts) (of_run evaluate (IsGiven v texts) (λ as' r es end step once. given_of v texts es.items (completion_of as') (told as' _ (runs as' r es end step once).0))) es.items all)
+              | inr f ↦ inr (failure_of evaluate es.items f)
+            ];
+            undecided = λ not. failure_of evaluate es.items (given.undecided not);
+          };
         }
 
     -- ---- the first one

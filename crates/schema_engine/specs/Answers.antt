@@ -10,6 +10,8 @@ use Rattle.schema_node.specs.Matches.{MeetsEach}
 use Rattle.schema_reports.specs.Guarded.{guarded_within, guarded_node, yes_run}
 use Rattle.schema_reports.specs.Numbered.{left, subject_in}
 use Rattle.schema_reports.specs.ReportViews.{error_of}
+use Rattle.schema_reports.specs.UnitViews.{unit_of}
+use Rattle.schema_reports.specs.declared.evaluation.EvaluationNode.{EvaluationNode}
 use Rattle.schema_reports.specs.declared.reports.ValidationError.{ValidationError}
 use Rattle.schema_node.specs.KeywordViews.{mode_of, reply_of}
 use Rattle.schema_node.specs.NodeTable.{numbered}
@@ -37,6 +39,9 @@ module _ {K S R M : Type 0} (shape : K → S) (words : Bool → Keywords S R) (i
 
   abbrev pub SaysFirst : Assumptions → Option ValidationError → Type 0
   SaysFirst as' o = OfRun as' (λ texts run. option_map (error_of texts) o ≡ first_error (run.outcome tt).errors)
+
+  abbrev pub SaysUnit : Assumptions → EvaluationNode → Type 0
+  SaysUnit as' u = OfRun as' (λ texts run. unit_of texts u ≡ run.units tt)
 
   -- what it remembers after it, of what it met
   abbrev pub MeetsMatches : wanted.Mode → Remembered → Remembered → Type 0

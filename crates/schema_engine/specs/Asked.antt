@@ -7,13 +7,15 @@ use Rattle.schema_reports.specs.Headline.{VerdictSays}
 use Rattle.schema_reports.specs.Keywords as wanted
 use Rattle.schema_reports.specs.Matching.{Assumptions}
 use Rattle.schema_reports.specs.Unfinished.{Remembered}
+use Rattle.schema_reports.specs.declared.evaluation.EvaluationNode.{EvaluationNode}
 use Rattle.schema_reports.specs.declared.reports.ValidationError.{ValidationError}
 use Rattle.schema_node.specs.declared.context.keyword.Mode.{Mode}
 use Rattle.schema_node.specs.declared.context.keyword.Reply.{Reply}
 use Rattle.schema_node.specs.declared.context.keyword.Validate.{Ghosts as KeywordMembers}
 use Rattle.schema_node.specs.declared.context.matcher.Matcher.{Ghosts as MatcherMembers}
-use Rattle.schema_engine.specs.Answers.{MeetsMatches, SaysErrors, SaysFirst, SaysReply, SaysVerdict}
-use Rattle.schema_engine.specs.Program.{FromSomeDepth, OfEverySense, Program}
+use Rattle.schema_engine.specs.Answers.{MeetsMatches, SaysErrors, SaysFirst, SaysReply, SaysUnit, SaysVerdict}
+use Rattle.schema_engine.specs.Evaluated.{EvaluationAnswered}
+use Rattle.schema_engine.specs.Program.{FromSomeDepth, HasUnits, OfEverySense, Program}
 use Rattle.schema_engine.specs.Spoken.{EachIsGiven, ErrorsAnswered, FirstAnswered, FirstIsGiven}
 
 -- C is a keyword of the code, K what is known of it, M a matcher of the code
@@ -36,6 +38,10 @@ module _ {C Run K M : Type 0} (keywords : KeywordMembers C Run K) (matchers : Ma
   abbrev pub RunFindsFirst : Assumptions → Option ValidationError → Type 0
   RunFindsFirst = SaysFirst keywords.shape keywords.words keywords.is_whole matchers.matching p instance
 
+  -- so is its unit
+  abbrev pub RunGivesUnit : Assumptions → EvaluationNode → Type 0
+  RunGivesUnit = SaysUnit keywords.shape keywords.words keywords.is_whole matchers.matching p instance
+
   -- what it remembers after it, of the unfinished matches that it met
   abbrev pub RunMeets : wanted.Mode → Remembered → Remembered → Type 0
   RunMeets = MeetsMatches keywords.shape keywords.words keywords.is_whole matchers.matching p instance
@@ -54,6 +60,14 @@ module _ {C Run K M : Type 0} (keywords : KeywordMembers C Run K) (matchers : Ma
   abbrev pub ErrorsFromSomeDepth : List ValidationError → Type 0
   ErrorsFromSomeDepth es = FromSomeDepth keywords.shape keywords.words keywords.is_whole matchers.matching p instance (λ texts v. ErrorsAnswered v texts es)
 
+  -- the verdict is that of all outcomes, and no past the limit of runs; where a match stays unfinished, the units are those of errors
+  abbrev pub EvaluatesFromSomeDepth : EvaluationNode → Type 0
+  EvaluatesFromSomeDepth u = FromSomeDepth keywords.shape keywords.words keywords.is_whole matchers.matching p instance (λ texts v. EvaluationAnswered v texts u)
+
+  -- where no match stays unfinished, the units are those that the nodes have, under every outcome
+  abbrev pub UnitsFromSomeDepth : EvaluationNode → Type 0
+  UnitsFromSomeDepth u = HasUnits keywords.shape keywords.words keywords.is_whole matchers.matching p instance u
+
   -- each error is one that the nodes give under some outcome of the unfinished matches, so that it points where these point; or the call gives its one failure
   abbrev pub ErrorsPointAsNodes : List ValidationError → Type 0
   ErrorsPointAsNodes es = FromSomeDepth keywords.shape keywords.words keywords.is_whole matchers.matching p instance (λ texts v. EachIsGiven v texts es)
@@ -71,6 +85,10 @@ module _ {C Run K M : Type 0} (keywords : KeywordMembers C Run K) (matchers : Ma
   -- the first error, or none, is the sense's
   abbrev pub FirstInEverySense : Option ValidationError → Type 0
   FirstInEverySense o = OfEverySense keywords.shape keywords.words keywords.is_whole matchers.matching p instance (λ texts v. FirstAnswered v texts o)
+
+  -- the verdict is the sense's, and so are the errors that units are made of
+  abbrev pub EvaluatesInEverySense : EvaluationNode → Type 0
+  EvaluatesInEverySense u = OfEverySense keywords.shape keywords.words keywords.is_whole matchers.matching p instance (λ texts v. EvaluationAnswered v texts u)
 
   -- the errors are the sense's
   abbrev pub ErrorsInEverySense : List ValidationError → Type 0

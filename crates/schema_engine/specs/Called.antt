@@ -8,6 +8,7 @@ use Rattle.schema_reports.specs.Means as means
 use Rattle.schema_reports.specs.Parts.{Parts}
 use Rattle.schema_reports.specs.Plan.{Key}
 use Rattle.schema_reports.specs.Root.{IsRoot}
+use Rattle.schema_reports.specs.declared.evaluation.EvaluationNode.{EvaluationNode}
 use Rattle.schema_reports.specs.declared.reports.ValidationError.{ValidationError}
 use Rattle.schema_node.specs.NodeTable.{NodeEntry, numbered}
 use Rattle.schema_compiler.specs.declared.compiler.error.BuildError.{BuildError}
@@ -15,7 +16,8 @@ use Rattle.schema_engine.specs.Compiled.{IsCompiled}
 use Rattle.schema_compiler.specs.Compiling.{no_keywords, no_matcher}
 use Rattle.schema_engine.specs.Handed.{Handed, Options, default_nested, parts_of}
 use Rattle.schema_engine.specs.Pointing.{EachPoints, FirstPoints}
-use Rattle.schema_engine.specs.Program.{FromSomeDepth, Program}
+use Rattle.schema_engine.specs.Evaluated.{EvaluationAnswered}
+use Rattle.schema_engine.specs.Program.{FromSomeDepth, HasUnits, Program}
 use Rattle.schema_engine.specs.ProgramOf.{IsProgramOf}
 use Rattle.schema_engine.specs.Promised.{MeansSchema, OfSchema, PointsIntoSchema}
 use Rattle.schema_engine.specs.Roots.{Builds, RefusesBuild}
@@ -92,6 +94,19 @@ module _ {S K R C M : Type 0} (h : Handed S K R C M) (options : Options) (schema
     -- they are what nodes compiled from the schema say from some depth on
     abbrev pub ErrorsGuardedly : List ValidationError → Type 0
     ErrorsGuardedly es = GuardedlyOf (λ texts v. ErrorsAnswered v texts es)
+
+    -- the evaluation's verdict is the plain meaning's, and so are the errors that its units are made of
+    abbrev pub EvaluatesPlainly : EvaluationNode → Type 0
+    EvaluatesPlainly u = PlainlyOf (λ texts v. EvaluationAnswered v texts u)
+
+    -- they are what nodes compiled from the schema say from some depth on
+    abbrev pub EvaluatesGuardedly : EvaluationNode → Type 0
+    EvaluatesGuardedly u = GuardedlyOf (λ texts v. EvaluationAnswered v texts u)
+
+    -- where no match stays unfinished, the units are those of nodes compiled from the schema
+    abbrev pub UnitsGuardedly : EvaluationNode → Type 0
+    UnitsGuardedly u = (p : Program C M) × IsProgramOf h.resolver h.table h.matcher options default_nested schema h.shape h.matching p
+        × HasUnits h.shape h.words h.is_whole h.matching p instance u
 
     -- each points at a keyword that its evaluation path leads to, and at a value inside the instance
     abbrev pub EachLeads : List ValidationError → Type 0

@@ -1,11 +1,15 @@
 -- A validator as data, and what its nodes say of an instance.
-use Rattle.std.specs.Prelude.{◌≡◌, ℕ, List, Bool, true, false, length}
+use Rattle.std.specs.Prelude.{◌≡◌, ◌≤◌, ℕ, List, Bool, None, [], true, false, length}
 use Rattle.serde_json.specs.Data.{Data}
 use Rattle.serde_json.specs.Written.{has_float}
 use Rattle.schema_reports.specs.Drafts.{Draft}
-use Rattle.schema_reports.specs.Matching.{Matcher}
+use Rattle.schema_reports.specs.Matching.{Completion, Matcher}
 use Rattle.schema_reports.specs.Keywords.{Keywords}
-use Rattle.schema_reports.specs.Cover.{Sense}
+use Rattle.schema_reports.specs.Cover.{Sense, branch_at, evaluate}
+use Rattle.schema_reports.specs.Guarded.{guarded_sense, guarded_within, node_unit, yes_unit}
+use Rattle.schema_reports.specs.Numbered.{subject_in}
+use Rattle.schema_reports.specs.UnitViews.{unit_of}
+use Rattle.schema_reports.specs.declared.evaluation.EvaluationNode.{EvaluationNode}
 use Rattle.schema_reports.specs.Means as means
 use Rattle.schema_reports.specs.Fractions.{AreWhole}
 use Rattle.schema_node.specs.NodeTable.{NodeEntry, numbered}
@@ -34,3 +38,9 @@ module _ {K S R M : Type 0} (shape : K → S) (words : Bool → Keywords S R) (i
   -- what is said of the nodes from some depth on, where chains of questions return too
   abbrev pub FromSomeDepth : (Bool → Sense → Type 0) → Type 0
   FromSomeDepth fact = (texts : Bool) → Speaks texts → means.FromSomeDepth (words texts) (matching p.matcher) (numbered shape p.nodes) p.root instance (fact texts)
+
+  -- at every great enough depth, where the first run of an evaluation meets no unfinished match, the units are those that the nodes have under every completion
+  abbrev pub HasUnits : EvaluationNode → Type 0
+  HasUnits u = (texts : Bool) → Speaks texts → (deep : ℕ) × ((n : ℕ) → deep ≤ n
+      → branch_at (guarded_sense (words texts) (matching p.matcher) (numbered shape p.nodes) (subject_in instance) n p.root) evaluate [] ≡ None
+      → (c : Completion) → unit_of texts u ≡ guarded_within (yes_unit (numbered shape p.nodes)) (node_unit (words texts) (matching p.matcher) (numbered shape p.nodes) (subject_in instance) c) n p.root [] [] [])

@@ -4,6 +4,7 @@ ghost use Rattle.serde_json.specs.View.{view};
 ghost use Rattle.schema_reports.specs.ReportViews.{BorrowsItsPlace};
 ghost use Rattle.schema_engine.specs.Answers.{refusal_of};
 ghost use Rattle.schema_engine.specs.Called.{DecidesGuardedly, DecidesPlainly, SchemaRefused};
+ghost use Rattle.schema_engine.specs.Called.{EvaluatesGuardedly, EvaluatesPlainly, UnitsGuardedly};
 ghost use Rattle.schema_engine.specs.Called.{ErrorsPlainly, ErrorsGuardedly, EachLeads, FirstPlainly, FirstGuardedly, FirstLeads};
 ghost use Rattle.schema_engine.specs.Handed.{default_options, handed};
 
@@ -13,6 +14,7 @@ use schema_node::context::keyword::Validate;
 use schema_node::context::matcher::Matcher;
 use schema_node::context::resolver::Resolver;
 use schema_node::context::table::KeywordTable;
+use schema_output::evaluation::Evaluation;
 use schema_reports::reports::{ErrorIterator, ValidationError};
 use serde_json::Value;
 use std::alloc::Global;
@@ -106,4 +108,34 @@ pub fn iter_errors<'i, S: Resolver, T: KeywordTable<K>, K: Validate, M: Matcher>
 {
     let validator = Validator::<K, M>::new(alloc, schema, table, resolver, matcher)?;
     Ok(validator.iter_errors(alloc, instance)?)
+}
+
+/// Returns the evaluation of the instance by a schema, as `Validator::evaluate` does.
+///
+/// # Errors
+///
+/// Fails if the schema is refused, or out of memory.
+pub fn evaluate<S: Resolver, T: KeywordTable<K>, K: Validate, M: Matcher>(
+    alloc: Global,
+    schema: &Value,
+    instance: &Value,
+    table: &T,
+    resolver: &S,
+    matcher: &M,
+) -> Result<Evaluation, BuildError>
+    ensures answer { IfOk result (λ u. EvaluatesPlainly
+        (handed S.Resolver T.KeywordTable K.Validate M.Matcher.own resolver.now table.now matcher.now)
+        default_options (view schema.now) (view instance.now) u) }
+    ensures guarded { IfOk result (λ u. EvaluatesGuardedly
+        (handed S.Resolver T.KeywordTable K.Validate M.Matcher.own resolver.now table.now matcher.now)
+        default_options (view schema.now) (view instance.now) u) }
+    ensures units { IfOk result (λ u. UnitsGuardedly
+        (handed S.Resolver T.KeywordTable K.Validate M.Matcher.own resolver.now table.now matcher.now)
+        default_options (view schema.now) (view instance.now) u) }
+    ensures refused { IfErr result (λ e. SchemaRefused
+        (handed S.Resolver T.KeywordTable K.Validate M.Matcher.own resolver.now table.now matcher.now)
+        default_options (view schema.now) e) }
+{
+    let validator = Validator::<K, M>::new(alloc, schema, table, resolver, matcher)?;
+    Ok(validator.evaluate(alloc, instance)?)
 }

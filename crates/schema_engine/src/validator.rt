@@ -13,6 +13,7 @@ ghost use Rattle.schema_engine.specs.Answers.{refusal_of};
 ghost use Rattle.schema_engine.specs.Asked.{DecidesFromSomeDepth, ErrorsFromSomeDepth, FirstFromSomeDepth};
 ghost use Rattle.schema_engine.specs.Asked.{DecidesInEverySense, ErrorsInEverySense, FirstInEverySense};
 ghost use Rattle.schema_engine.specs.Asked.{ErrorsPointAsNodes, FirstPointsAsNodes};
+ghost use Rattle.schema_engine.specs.Asked.{EvaluatesFromSomeDepth, EvaluatesInEverySense, RunGivesUnit, UnitsFromSomeDepth};
 ghost use Rattle.schema_engine.specs.Asked.{RunDecides, RunFindsFirst, RunListsErrors, RunMeets, RunReplies};
 
 use schema_node::context::keyword::{Mode, Reply, Validate};
@@ -20,6 +21,9 @@ use schema_node::context::matcher::Matcher;
 use schema_node::context::validation::ValidationContext;
 use schema_node::node::run::FirstQuestion;
 use schema_node::node::{Nodes, SchemaNode};
+use schema_output::error_units::unit_of_errors;
+use schema_output::evaluation::Evaluation;
+use schema_reports::evaluation::EvaluationNode;
 use schema_reports::instance::{Instance, Place};
 use schema_reports::keywords::Draft;
 use schema_reports::location::{Location, OutOfMemory};
@@ -271,6 +275,58 @@ impl<K: Validate, M: Matcher> Validator<K, M> {
         Ok(shared)
     }
 
+    // The unit of the root's node, where nothing is assumed.
+    fn unit<'i>(
+        &self,
+        alloc: Global,
+        instance: &'i Value,
+    ) -> Result<(MatchAssumptions<'i>, EvaluationNode), OutOfMemory>
+        ensures says { IfOk result (λ r. RunGivesUnit
+            K.Validate M.Matcher.own self.now (view instance.now) [] r.1) }
+        ensures meets { IfOk result (λ r. RunMeets
+            K.Validate M.Matcher.own self.now (view instance.now) for_units (starting []) r.0) }
+        ensures assumes { IfOk result (λ r. r.0.assumptions ≡ []) }
+    {
+        let place = Place::root(alloc);
+        let path = Location::new(alloc);
+        let mut context = ValidationContext::new(alloc);
+        let unit = self.nodes.evaluate_instance(
+            alloc,
+            &self.matcher,
+            self.root,
+            Instance::Value(instance),
+            &place,
+            &path,
+            &mut context,
+        )?;
+        Ok((context.into_matches(), unit))
+    }
+
+    // The units of the root's node; where its run meets an unfinished match, those of the errors that every outcome of the
+    // unfinished matches gives.
+    fn evaluated_under_each(
+        &self,
+        alloc: Global,
+        instance: &Value,
+    ) -> Result<EvaluationNode, OutOfMemory>
+        ensures depth { IfOk result (λ u. EvaluatesFromSomeDepth
+            K.Validate M.Matcher.own self.now (view instance.now) u) }
+        ensures units { IfOk result (λ u. UnitsFromSomeDepth
+            K.Validate M.Matcher.own self.now (view instance.now) u) }
+    {
+        let (met, unit) = self.unit(alloc, instance)?;
+        if !met.met_unassumed() {
+            return Ok(unit);
+        }
+        let shared = errors_under_each(
+            alloc,
+            |matches| self.errors(alloc, instance, matches),
+            (met, Vec::new(alloc)),
+            instance,
+        )?;
+        unit_of_errors(alloc, shared)
+    }
+
     /// Returns whether the instance is valid. Where the matcher leaves matches unfinished, returns whether the instance is valid
     /// under every outcome of them, and `false` if that takes more runs than a call makes.
     ///
@@ -332,5 +388,25 @@ impl<K: Validate, M: Matcher> Validator<K, M> {
         ensures borrows { IfOk result (λ es. All (BorrowsItsPlace (view instance.now)) es) }
     {
         Ok(ErrorIterator::new(self.all_under_each(alloc, instance)?))
+    }
+
+    /// Returns the evaluation of the instance: the unit of each schema and of each keyword that it is asked of. Where the matcher
+    /// leaves matches unfinished that the run meets, the evaluation is made of the errors that all outcomes of them share instead:
+    /// it has one unit for each, at its paths, without absolute locations and annotations, inside one at empty locations. There is
+    /// one error, which tells of such a match, if some outcome refuses and they share no error, or if that takes more runs than
+    /// a call makes. The outermost unit is valid exactly if the instance is valid under every outcome.
+    ///
+    /// # Errors
+    ///
+    /// Fails out of memory.
+    pub fn evaluate(&self, alloc: Global, instance: &Value) -> Result<Evaluation, OutOfMemory>
+        ensures depth { IfOk result (λ u. EvaluatesFromSomeDepth
+            K.Validate M.Matcher.own self.now (view instance.now) u) }
+        ensures senses { IfOk result (λ u. EvaluatesInEverySense
+            K.Validate M.Matcher.own self.now (view instance.now) u) }
+        ensures units { IfOk result (λ u. UnitsFromSomeDepth
+            K.Validate M.Matcher.own self.now (view instance.now) u) }
+    {
+        Ok(Evaluation::new(self.evaluated_under_each(alloc, instance)?))
     }
 }

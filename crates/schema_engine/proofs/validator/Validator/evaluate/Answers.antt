@@ -1,0 +1,25 @@
+use Rattle.std.proofs.Common.{subst, sym}
+use Rattle.serde_json.specs.View.{view}
+use Rattle.schema_reports.specs.Cover.{Sense}
+use Rattle.schema_reports.specs.Means.{FromSomeDepth}
+use Rattle.schema_reports.specs.declared.evaluation.EvaluationNode.{EvaluationNode}
+use Rattle.schema_reports.proofs.SensesMeant.{of_every_sense}
+use Rattle.schema_node.specs.NodeTable.{numbered}
+use Rattle.schema_engine.specs.Evaluated.{EvaluationAnswered}
+use Rattle.schema_engine.specs.Program.{HasUnits}
+use Rattle.schema_engine.proofs.validator.Validator.evaluate.Goals as goal
+
+pub returns-clause-depth : goal.returns-clause-depth
+returns-clause-depth g c = λ texts speaks.
+    let p = c.args.self.now in
+    subst (λ (u : EvaluationNode). FromSomeDepth (g.K.Validate.words texts) (g.M.Matcher.matching p.matcher) (numbered g.K.Validate.shape p.nodes) p.root (view c.args.instance.now) (λ (v : Sense). EvaluationAnswered v texts u)) (sym c.new.ensures.root) (c.in_ok-evaluated_under_each.ensures.depth texts speaks)
+
+pub returns-clause-senses : goal.returns-clause-senses
+returns-clause-senses g c = λ texts speaks.
+    let p = c.args.self.now in
+    of_every_sense (g.K.Validate.words texts) (g.M.Matcher.matching p.matcher) (numbered g.K.Validate.shape p.nodes) p.root (view c.args.instance.now) (λ (v : Sense). EvaluationAnswered v texts _)
+    (subst (λ (u : EvaluationNode). FromSomeDepth (g.K.Validate.words texts) (g.M.Matcher.matching p.matcher) (numbered g.K.Validate.shape p.nodes) p.root (view c.args.instance.now) (λ (v : Sense). EvaluationAnswered v texts u)) (sym c.new.ensures.root) (c.in_ok-evaluated_under_each.ensures.depth texts speaks))
+
+pub returns-clause-units : goal.returns-clause-units
+returns-clause-units g c =
+    subst (λ (u : EvaluationNode). HasUnits g.K.Validate.shape g.K.Validate.words g.K.Validate.is_whole g.M.Matcher.matching c.args.self.now (view c.args.instance.now) u) (sym c.new.ensures.root) c.in_ok-evaluated_under_each.ensures.units

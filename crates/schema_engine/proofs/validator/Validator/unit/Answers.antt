@@ -1,0 +1,23 @@
+use Rattle.std.proofs.Common.{[], ap, subst}
+use Rattle.serde_json.specs.View.{view}
+use Rattle.schema_reports.specs.Instance.{Place, subject_at}
+use Rattle.schema_reports.specs.Keywords.{for_units}
+use Rattle.schema_reports.specs.Unfinished.{starting}
+use Rattle.schema_engine.specs.Answers.{MeetsMatches, SaysUnit}
+use Rattle.schema_engine.proofs.validator.Validator.unit.Goals as goal
+
+pub returns-clause-says : goal.returns-clause-says
+returns-clause-says g c =
+    let d = view c.args.instance.now in
+    subst (λ p. SaysUnit g.K.Validate.shape g.K.Validate.words g.K.Validate.is_whole g.M.Matcher.matching p d [] c.in_ok-unit.unit) c.self.view_is
+    (λ texts speaks once n more.
+    (rw (c.new-path.ensures.empty, c.new-context.ensures.empty, c.root-place.ensures.root) at
+    (c.in_ok-unit.ensures.gives d texts (ap (λ (p : Place). subject_at d p) c.root-place.ensures.root) (record { keywords = λ t. (speaks t).1; instance = λ t. (speaks t).0 }))) once n more)
+
+pub returns-clause-meets : goal.returns-clause-meets
+returns-clause-meets g c =
+    let d = view c.args.instance.now in
+    subst (λ p. MeetsMatches g.K.Validate.shape g.K.Validate.words g.K.Validate.is_whole g.M.Matcher.matching p d for_units (starting []) c.into_matches.result) c.self.view_is
+    (λ texts speaks once n more.
+    rw c.into_matches.ensures.remembered ((rw (c.new-path.ensures.empty, c.new-context.ensures.empty, c.root-place.ensures.root) at
+    (c.in_ok-unit.ensures.meets d texts (ap (λ (p : Place). subject_at d p) c.root-place.ensures.root) (record { keywords = λ t. (speaks t).1; instance = λ t. (speaks t).0 }))) once n more))
