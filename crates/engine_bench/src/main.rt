@@ -7,6 +7,8 @@ mod context_tests;
 #[cfg(test)]
 mod deep_tests;
 #[cfg(test)]
+mod evaluation_tests;
+#[cfg(test)]
 mod failing_matcher_tests;
 #[cfg(test)]
 mod growing_tests;

@@ -23,7 +23,7 @@ fn count_again(
 }
 
 /// A matcher that leaves these patterns unfinished.
-fn matcher_of(alloc: Global, patterns: &[&str]) -> Result<BenchMatcher, OutOfMemory> {
+pub fn matcher_of(alloc: Global, patterns: &[&str]) -> Result<BenchMatcher, OutOfMemory> {
     let mut unfinished = Vec::new(alloc);
     for pattern in patterns {
         unfinished.push(String::from_str(alloc, pattern)?)?;

@@ -1,13 +1,13 @@
 //! Texts of errors, made and run through the traits' bounds.
 use bench_keywords::keyword::BenchKeyword;
 use bench_parts::table::BenchTable;
-use schema_node::context::keyword::{
-    Answer, ErrorDescription, Fault, MatchPoint, Mode, Reply, Step, Validate,
-};
+use schema_node::context::keyword::{Answer, Fault, MatchPoint, Mode, Reply, Step, Validate};
 use schema_node::context::table::{KeywordOrigin, KeywordTable, MakerReply, MakerStep};
+use schema_reports::evaluation::{ChildList, ErrorDescription, EvaluationNode, UnitReport};
+use schema_reports::evaluation_result::EvaluationResult;
 use schema_reports::instance::Instance;
 use schema_reports::keywords::{Draft, VocabularySet};
-use schema_reports::location::OutOfMemory;
+use schema_reports::location::{Location, OutOfMemory};
 use serde_json::{Map, Value};
 use std::alloc::Global;
 use test_rows::{column, list_at, text_at, wrong_row};
@@ -111,14 +111,37 @@ fn make<K: Validate, T: KeywordTable<K>>(
     make_turns(alloc, table, &mut maker, made, log)
 }
 
-/// The answer to the question of a mode, if one was asked: this verdict, or no error.
-fn reply_to<'i>(alloc: Global, asked: Option<Mode>, verdict: bool) -> Reply<'i> {
+/// A unit with this verdict, and nothing else in it.
+fn unit_with(alloc: Global, valid: bool) -> EvaluationNode {
+    EvaluationNode {
+        report: UnitReport {
+            valid,
+            evaluation_path: Location::new(alloc),
+            absolute_keyword_location: None,
+            schema_location: Location::new(alloc),
+            instance_location: Location::new(alloc),
+            annotations: None,
+            errors: Vec::new(alloc),
+        },
+        children: Vec::new(alloc),
+    }
+}
+
+/// The answer to the question of a mode, if one was asked: this verdict, a unit with this verdict, or no error.
+fn reply_to<'i>(
+    alloc: Global,
+    asked: Option<Mode>,
+    verdict: bool,
+) -> Result<Reply<'i>, OutOfMemory> {
     match asked {
-        Some(Mode::Verdict) => Reply::Truth(verdict),
-        Some(Mode::First) => Reply::First(None),
-        Some(Mode::All) => Reply::All(Vec::new(alloc)),
-        Some(Mode::Evaluate) => Reply::Nothing,
-        None => Reply::Nothing,
+        Some(Mode::Verdict) => Ok(Reply::Truth(verdict)),
+        Some(Mode::First) => Ok(Reply::First(None)),
+        Some(Mode::All) => Ok(Reply::All(Vec::new(alloc))),
+        Some(Mode::Evaluate) => {
+            let unit = unit_with(alloc, verdict);
+            Ok(Reply::Unit(Box::new(alloc, unit)?))
+        }
+        None => Ok(Reply::Nothing),
     }
 }
 
@@ -175,8 +198,7 @@ fn verdict_at(verdicts: &[Value], number: usize) -> bool {
     }
 }
 
-/// Takes turns until nothing is asked, each question answered by no error or the verdict of its number, and adds what
-/// was found.
+/// Takes turns until nothing is asked, each question answered by no error or the verdict of its number.
 fn tell_turns<'i, K: Validate>(
     alloc: Global,
     keyword: &K,
@@ -189,20 +211,22 @@ fn tell_turns<'i, K: Validate>(
     let mut asked = None;
     let mut verdict = false;
     for question in 0..8usize {
-        let reply = reply_to(alloc, asked, verdict);
+        let reply = reply_to(alloc, asked, verdict)?;
         asked = asks(alloc, keyword, run, instance, reply, answer, log)?;
         if asked.is_none() {
             break;
         }
         verdict = verdict_at(verdicts, question);
     }
-    push_answer(answer, log)
+    Ok(())
 }
 
 /// An answer with nothing found yet: an evaluation for that mode, else all errors.
 fn answer_in<'i>(alloc: Global, mode: Mode) -> Answer<'i> {
     match mode {
-        Mode::Evaluate => Answer::Evaluation(true, Vec::new(alloc)),
+        Mode::Evaluate => {
+            Answer::Evaluation(EvaluationResult::valid_empty(alloc), Vec::new(alloc))
+        }
         _ => Answer::All(Vec::new(alloc)),
     }
 }
@@ -227,17 +251,17 @@ fn told<K: Validate>(
         verdicts,
         &mut answer,
         log,
-    )
+    )?;
+    push_answer(answer, log)
 }
 
-/// Adds the texts of own errors, each with `;` after it; an evaluation leaves its verdict and its errors alone.
-fn push_answer(answer: &Answer<'_>, log: &mut String) -> Result<(), OutOfMemory> {
+/// Adds the texts of own errors, each with `;` after it; an evaluation leaves its verdict, its errors and its units alone.
+fn push_answer(answer: Answer<'_>, log: &mut String) -> Result<(), OutOfMemory> {
     match answer {
         Answer::All(faults) => push_texts(faults.as_slice(), log),
-        Answer::Evaluation(valid, errors) => {
+        Answer::Evaluation(own, _) => {
             log.clear();
-            log.push_str(if *valid { "valid " } else { "invalid " })?;
-            push_descriptions(errors.as_slice(), log)
+            push_evaluation(own, log)
         }
         _ => Ok(()),
     }
@@ -250,6 +274,29 @@ fn push_texts(faults: &[Fault<'_>], log: &mut String) -> Result<(), OutOfMemory>
             log.push_str(error.text.as_str())?;
             log.push_str(";")?;
         }
+    }
+    Ok(())
+}
+
+/// Adds the verdict of an evaluation, the verdicts of the units inside it, and its errors.
+fn push_evaluation(own: EvaluationResult, log: &mut String) -> Result<(), OutOfMemory> {
+    match own {
+        EvaluationResult::Valid(_, children) => {
+            log.push_str("valid ")?;
+            push_units(children, log)
+        }
+        EvaluationResult::Invalid(errors, _, children) => {
+            log.push_str("invalid ")?;
+            push_units(children, log)?;
+            push_descriptions(errors.as_slice(), log)
+        }
+    }
+}
+
+/// Adds the verdicts of units, each as `+` or `-`.
+fn push_units(units: ChildList, log: &mut String) -> Result<(), OutOfMemory> {
+    for unit in units.into_nodes() {
+        log.push_str(if unit.report.valid { "+" } else { "-" })?;
     }
     Ok(())
 }
@@ -370,11 +417,23 @@ fn units(rt: HostRuntime) -> Result<(), serde_json::Error> {
     Ok(())
 }
 
-// What the evaluation gives for the unit, each question answered by yes.
+// What the evaluation gives for the unit: its verdict, those of the units inside it, and its errors.
 const UNITS: &str = r##"[
 ["2020-12", {"type":"string"}, "type", 1, [], "invalid type: 1 is not of type \"string\""],
 ["2020-12", {"type":"string"}, "type", "AB", [], "valid "],
-["2020-12", {"not":{"type":"integer"}}, "not", 1, [true], "invalid not: {\"type\":\"integer\"} is not allowed for 1"]
+["2020-12", {"not":{"type":"integer"}}, "not", 1, [true], "invalid not: {\"type\":\"integer\"} is not allowed for 1"],
+["2020-12", {"not":{"type":"integer"}}, "not", 1, [false], "valid "],
+["2020-12", {"allOf":[true,{},{}]}, "allOf", 1, [true,false,true], "invalid +-+"],
+["2020-12", {"allOf":[true,{}]}, "allOf", 1, [true,true], "valid ++"],
+["2020-12", {"properties":{"b":true,"a":{}}}, "properties", {"a":3}, [false], "invalid -"],
+["2020-12", {"anyOf":[{},{},{}]}, "anyOf", 1, [false,true,false], "valid -+-"],
+["2020-12", {"anyOf":[{},{}]}, "anyOf", 1, [false,false],
+ "invalid --anyOf: 1 is not valid under any of the schemas listed in the 'anyOf' keyword"],
+["2020-12", {"oneOf":[{},{},{}]}, "oneOf", 1, [true,true,false],
+ "invalid ++-oneOf: 1 is valid under more than one of the schemas listed in the 'oneOf' keyword"],
+["2020-12", {"oneOf":[{},{},{}]}, "oneOf", 1, [false,false,true], "valid --+"],
+["2020-12", {"else":{},"if":{},"then":{}}, "if", 1, [true,false], "invalid -"],
+["2020-12", {"else":{},"if":{},"then":{}}, "if", 1, [false,true], "valid +"]
 ]"##;
 
 /// Adds what the keyword `pattern` of a row asks of the row's value in a mode, and what it then tells.

@@ -1,9 +1,13 @@
-//! Tests of the public calls of `schema_reports`. Nothing stands on this crate.
+//! Tests of the public calls of `schema_reports` and `schema_output`. Nothing stands on this crate.
 #![tactic(auto)]
 
+#[cfg(test)]
+mod evaluation_tests;
 #[cfg(test)]
 mod keyword_table_tests;
 #[cfg(test)]
 mod location_tests;
+#[cfg(test)]
+mod output_tests;
 #[cfg(test)]
 mod search_tests;
