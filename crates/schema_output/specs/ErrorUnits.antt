@@ -20,8 +20,8 @@ abbrev pub is_empty : List Error → Bool
 is_empty [] = true
 is_empty (e ∷ es) = false
 
--- a unit of this verdict for the roots of schema and instance, whose pointers are empty, with these units inside it
--- (RFC 6901, 5)
+-- a unit of this verdict for the roots of schema and instance, with these units inside it: the empty pointer stands for
+-- the whole document
 abbrev pub root_unit : Bool → List Unit_ → Unit_
 root_unit valid us = unit (record {
   valid = valid;
