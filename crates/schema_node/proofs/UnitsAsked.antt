@@ -17,21 +17,12 @@ use Rattle.schema_reports.proofs.GuardedSense.{node_valid}
 use Rattle.schema_reports.proofs.NodeRuns.{runs_say_outcomes}
 use Rattle.schema_node.specs.Matches.{Settling}
 use Rattle.schema_node.specs.NodeMeets.{child_run, deep_run, edge_run, reading}
-use Rattle.schema_node.specs.NodeRuns.{Reading, child_says, deep, edge_says, node_says, reply_by}
+use Rattle.schema_node.specs.NodeRuns.{Reading, child_says, deep, edge_says, node_says}
 use Rattle.schema_node.specs.UnitStates.{child_unit, deep_unit, edge_unit, reply_with, unit_here}
 use Rattle.schema_node.proofs.NodeMeets.{child_replies}
 use Rattle.schema_node.proofs.NodeRuns.{agrees_deep, agrees_edge}
 
 -- ---- replies by mode
-
-pub less_is : (mode : Mode) (o : Outcome) (u : Unit_) → ¬ (mode ≡ for_units) → reply_by mode o ≡ reply_with mode o u
-less_is for_verdict o u less = refl
-less_is for_first o u less = refl
-less_is for_all o u less = refl
-less_is for_units o u less = absurd (less refl)
-
-pub units_is : (mode : Mode) (o : Outcome) (u : Unit_) → mode ≡ for_units → unit_of_it u ≡ reply_with mode o u
-units_is mode o u is = ap (λ m. reply_with m o u) (sym is)
 
 pub answer_is : {K R : Type 0} (keywords : Keywords K R) (m : K) (s : Subject) (matches : Matching) (answers : Answers) (units : Question → Unit_) (same : Marked → Marked → Bool) (mode : Mode) (q : Question)
     → reply_with mode (answers q) (units q) ≡ answer_in keywords m s matches answers units same mode q
