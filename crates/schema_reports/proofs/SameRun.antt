@@ -1,5 +1,5 @@
 -- A number's run is its key's, where the questions that both ask are answered by the same runs.
-use Rattle.std.proofs.Common.{◌≡◌, ℕ, zero, suc, ◌<◌, ◌==◌, Bool, true, false, ◌||◌, List, [], ◌∷◌, length, refl, sym, subst, ◌∙◌, ap, ap₂, arith, true≢false}
+use Rattle.std.proofs.Common.{◌≡◌, ℕ, zero, suc, ◌<◌, ◌≤◌, ◌==◌, Bool, true, false, ◌||◌, List, [], ◌∷◌, length, refl, sym, subst, ◌∙◌, ap, ap₂, arith, true≢false}
 use Rattle.std.specs.Prelude.{Contains, Option, Some, None, Decides}
 use Rattle.std.proofs.lemmas.Bool.{eqb-true}
 use Rattle.std.proofs.lemmas.Slice.Eq.{bytes_eq-Decides}
@@ -14,12 +14,12 @@ use Rattle.schema_reports.specs.Making.{Request}
 use Rattle.schema_reports.specs.Plan.{Target, Key, Edge, Part, Form, keyword, reference, Plan, always, never, these, plan, child, same_target, same_key, same_edge_key, same_child}
 use Rattle.schema_reports.specs.Meaning.{subject, Where, at, place_below, outcome_of, unfold_}
 use Rattle.schema_reports.specs.Returns.{Asked, questions, Return}
-use Rattle.schema_reports.specs.Units.{no_unit, keyword_units, reference_units, Entry, true_unit, false_unit, plan_unit, annotations_of, part_units, entries_of}
+use Rattle.schema_reports.specs.Units.{no_unit, keyword_units, reference_units, Entry, true_unit, false_unit, plan_unit, annotations_of, part_units, entries_of, unit_of, plain_units}
 use Rattle.schema_reports.specs.Laws.{EachKeeps}
-use Rattle.schema_reports.specs.Reach.{targets_of}
+use Rattle.schema_reports.specs.Reach.{IsReach, targets_of, deep_enough}
 use Rattle.schema_reports.specs.Runs.{Run, no_run, Met, keyword_met, plan_met, part_met, looked, run_node, run}
 use Rattle.schema_reports.specs.Cover.{plain, mode_of}
-use Rattle.schema_reports.specs.Guarded.{NodeEdge, Children, node_child, same_node, same_edge, form_edges, node_edges, NodeForm, node_keyword, node_reference, NodePart, NodePlan, node_always, node_never, node_these, Nodes, node_at, node_asked, node_outcome, node_part_units, node_entries_of, node_part_met, node_looked, guarded_within, guarded_node, guarded_sense, yes_outcome, yes_run}
+use Rattle.schema_reports.specs.Guarded.{NodeEdge, Children, node_child, same_node, same_edge, form_edges, node_edges, NodeForm, node_keyword, node_reference, NodePart, NodePlan, node_always, node_never, node_these, Nodes, node_at, node_asked, node_outcome, node_part_units, node_entries_of, node_unit, node_part_met, node_looked, guarded_within, guarded_node, guarded_sense, yes_outcome, yes_run, yes_unit}
 use Rattle.schema_reports.specs.Numbered.{Numbers, IsNumber, SameEdge, SameForm, SamePart, SameParts, SamePlan, StandsFor, AreNumbered, Ranked, left, ValuesInside, MakersAskBelow, NumbersMeanUnfolding, NumbersMeanPlain}
 use Rattle.schema_reports.proofs.Reading.{Reads, reads_of}
 use Rattle.schema_reports.proofs.Questions.{later, in_flat_map}
@@ -203,6 +203,10 @@ module _ {S K R : Type 0} (w : Parts S K R) (instance : Data) (keys : Numbers S)
     plan_units (node_these xs) always is_n is_o s h = absurd s
     plan_units (node_these xs) never is_n is_o s h = absurd s
 
+    units_same : ((e : NodeEdge) (b : Below) (edge : Edge S) → BothAsk w instance keys nodes i k p e b edge → f e b ≡ g edge (place_below p b))
+        → node_unit w.keywords w.matcher nodes (subject w instance) c i path p f ≡ unit_of w instance c k path p g
+    units_same h = plan_units (nodes.entries i) (plan w k) refl refl stands.entries h
+
   -- ---- what is met
 
   module _ (as' : Assumptions) (f : NodeEdge → Below → Run) (g : Edge S → Place → Run) where
@@ -256,45 +260,60 @@ module _ {S K R : Type 0} (w : Parts S K R) (instance : Data) (keys : Numbers S)
     runs_same h =
         let c : Completion = completion_of as' in
         let outcome = outcomes_same w instance keys nodes reads i k stands path p c (λ e b. (f e b).outcome tt) (λ e q. (g e q).outcome tt) (λ e b edge a. ap (λ r. r.outcome tt) (h e b edge a)) in
-        let units = plan_units c (λ e b. (f e b).units tt) (λ e q. (g e q).units tt) (nodes.entries i) (plan w k) refl refl stands.entries (λ e b edge a. ap (λ r. r.units tt) (h e b edge a)) in
+        let units = units_same c (λ e b. (f e b).units tt) (λ e q. (g e q).units tt) (λ e b edge a. ap (λ r. r.units tt) (h e b edge a)) in
         let met : (mode : Mode) → (guarded_node w.keywords w.matcher nodes (subject w instance) as' i path p f).met mode ≡ (run_node w instance as' k path p g).met mode
         = λ mode. plan_meets mode (nodes.entries i) (plan w k) refl refl stands.entries h in
         λ j. record { outcome = λ t. outcome j; units = λ t. units j; met = λ mode. met mode j }
 
--- both senses, by any way to say which depth is enough
+-- what both say, by any way to say which depth is enough
 module _ {S K R : Type 0} (w : Parts S K R) (keys : Numbers S) (nodes : Nodes K) (laws : EachKeeps w.keywords) (values : ValuesInside w) (makers : MakersAskBelow w.table)
     (states : (a b : S) → Decides (w.resolver.same_state a b) (a ≡ b)) (numbered : AreNumbered w keys nodes) (ranked : Ranked nodes (length keys))
-    (instance : Data) (i : ℕ) (k : Key S) (number : IsNumber keys i k) (none : ¬ (Return w instance (record { key = k; path = []; place = [] })))
-    (Enough : ℕ → ℕ → List ℕ → Asked w instance → Type 0)
-    (on : (n i j : ℕ) (busy busy' : List ℕ) (a c : Asked w instance) → Contains (questions w instance a) c → left nodes (length keys) j (subject w instance c.place) busy' < left nodes (length keys) i (subject w instance a.place) busy
-    → Enough n i busy a → Enough n j busy' c)
-    (one_less : (n i j : ℕ) (busy busy' : List ℕ) (a c : Asked w instance) → Contains (questions w instance a) c → left nodes (length keys) j (subject w instance c.place) busy' < left nodes (length keys) i (subject w instance a.place) busy
-    → Enough n i busy a → (n' : ℕ) × (n ≡ suc n') × Enough n' j busy' c) where
-  senses_agree : (m n : ℕ) → left nodes (length keys) i (subject w instance []) [] < m → Enough n i [] (record { key = k; path = []; place = [] })
-      → guarded_sense w.keywords w.matcher nodes (subject w instance) m i ≡ plain w instance n k
-  senses_agree m n low enough =
-      let inner = subschemas_inside w values makers in
-      let says : (c : Completion) → guarded_within yes_outcome (node_outcome w.keywords w.matcher nodes (subject w instance) c) m i [] [] [] ≡ unfold_ w instance c n k [] []
-      = λ c. says_unfolding w instance keys nodes inner (state_itself w states) ranked yes_outcome accepted (node_outcome w.keywords w.matcher nodes (subject w instance) c) (outcome_of w instance c)
-      (λ i' k' number' path' p' f g h. outcomes_same w instance keys nodes (reads_of w.keywords laws) i' k' (numbered.stands i' k' number') path' p' c f g h)
-      (record { key = k; path = []; place = [] }) none Enough on one_less m n i number low enough in
-      let runs : (as' : Assumptions) → guarded_within (yes_run nodes) (guarded_node w.keywords w.matcher nodes (subject w instance) as') m i [] [] [] ≡ run w instance as' n k [] []
-      = λ as'. says_unfolding w instance keys nodes inner (state_itself w states) ranked (yes_run nodes) no_run (guarded_node w.keywords w.matcher nodes (subject w instance) as') (run_node w instance as')
-      (λ i' k' number' path' p' f g h. runs_same w instance keys nodes (reads_of w.keywords laws) states numbered i' k' number' (numbered.stands i' k' number') path' p' as' f g h)
-      (record { key = k; path = []; place = [] }) none Enough on one_less m n i number low enough in
-      λ j. record { says = λ c. says c j; meets = λ call as'. (runs as' j).met (mode_of call as'); is_match = w.matcher.is_match }
+    (instance : Data) (i : ℕ) (k : Key S) (number : IsNumber keys i k) (none : ¬ (Return w instance (record { key = k; path = []; place = [] }))) where
+  -- a number m deep and its key n deep have one sense, and one tree of units under each completion
+  pub record Agree (m n : ℕ) : Type 0 where
+    pub sense : guarded_sense w.keywords w.matcher nodes (subject w instance) m i ≡ plain w instance n k
+    pub units : (c : Completion) → guarded_within (yes_unit nodes) (node_unit w.keywords w.matcher nodes (subject w instance) c) m i [] [] [] ≡ plain_units w instance c n k [] []
+
+  module _ (Enough : ℕ → ℕ → List ℕ → Asked w instance → Type 0)
+      (on : (n i j : ℕ) (busy busy' : List ℕ) (a c : Asked w instance) → Contains (questions w instance a) c → left nodes (length keys) j (subject w instance c.place) busy' < left nodes (length keys) i (subject w instance a.place) busy
+      → Enough n i busy a → Enough n j busy' c)
+      (one_less : (n i j : ℕ) (busy busy' : List ℕ) (a c : Asked w instance) → Contains (questions w instance a) c → left nodes (length keys) j (subject w instance c.place) busy' < left nodes (length keys) i (subject w instance a.place) busy
+      → Enough n i busy a → (n' : ℕ) × (n ≡ suc n') × Enough n' j busy' c) where
+    they_agree : (m n : ℕ) → left nodes (length keys) i (subject w instance []) [] < m → Enough n i [] (record { key = k; path = []; place = [] }) → Agree m n
+    they_agree m n low enough =
+        let inner = subschemas_inside w values makers in
+        let reads = reads_of w.keywords laws in
+        let says : (c : Completion) → guarded_within yes_outcome (node_outcome w.keywords w.matcher nodes (subject w instance) c) m i [] [] [] ≡ unfold_ w instance c n k [] []
+        = λ c. says_unfolding w instance keys nodes inner (state_itself w states) ranked yes_outcome accepted (node_outcome w.keywords w.matcher nodes (subject w instance) c) (outcome_of w instance c)
+        (λ i' k' number' path' p' f g h. outcomes_same w instance keys nodes reads i' k' (numbered.stands i' k' number') path' p' c f g h)
+        (record { key = k; path = []; place = [] }) none Enough on one_less m n i number low enough in
+        let runs : (as' : Assumptions) → guarded_within (yes_run nodes) (guarded_node w.keywords w.matcher nodes (subject w instance) as') m i [] [] [] ≡ run w instance as' n k [] []
+        = λ as'. says_unfolding w instance keys nodes inner (state_itself w states) ranked (yes_run nodes) no_run (guarded_node w.keywords w.matcher nodes (subject w instance) as') (run_node w instance as')
+        (λ i' k' number' path' p' f g h. runs_same w instance keys nodes reads states numbered i' k' number' (numbered.stands i' k' number') path' p' as' f g h)
+        (record { key = k; path = []; place = [] }) none Enough on one_less m n i number low enough in
+        record {
+          sense = λ j. record { says = λ c. says c j; meets = λ call as'. (runs as' j).met (mode_of call as'); is_match = w.matcher.is_match };
+          units = λ c. says_unfolding w instance keys nodes inner (state_itself w states) ranked (yes_unit nodes) no_unit (node_unit w.keywords w.matcher nodes (subject w instance) c) (unit_of w instance c)
+              (λ i' k' number' path' p' f g h. units_same w instance keys nodes reads states numbered i' k' number' (numbered.stands i' k' number') path' p' c f g h)
+              (record { key = k; path = []; place = [] }) none Enough on one_less m n i number low enough;
+        }
+
+  -- at the depth of the plain meaning
+  pub plainly_agree : (reached : List (Key S)) → IsReach w k reached → (m n : ℕ) → left nodes (length keys) i (subject w instance []) [] < m → deep_enough w reached instance ≤ n → Agree m n
+  plainly_agree reached reach m n low enough =
+      let at_reached = at_targets w instance k (same_through w states) reached reach in
+      let targets = targets_of w reached in
+      let root : Asked w instance = record { key = k; path = []; place = [] } in
+      let there = at_places w instance (reads_of w.keywords laws) k in
+      they_agree (ByTrail w instance keys nodes root none targets at_reached there (one_target w states) one_place)
+      (trail_on w instance keys nodes root none targets at_reached there (one_target w states) one_place) (trail_less w instance keys nodes root none targets at_reached there (one_target w states) one_place) m n low
+      (trail_first w instance keys nodes root none targets at_reached there (one_target w states) one_place n i (omega arith))
 
 pub numbers_mean_unfolding : {S K R : Type 0} (w : Parts S K R) (keys : Numbers S) (nodes : Nodes K) → NumbersMeanUnfolding w keys nodes
 numbers_mean_unfolding w keys nodes laws values makers states numbered ranked instance i k number none m n low low' =
-    senses_agree w keys nodes laws values makers states numbered ranked instance i k number none (ByMeasure w instance keys nodes) (measure_on w instance keys nodes) (measure_less w instance keys nodes) m n low
-    (measure_first w instance keys nodes n i (record { key = k; path = []; place = [] }) low')
+    (they_agree w keys nodes laws values makers states numbered ranked instance i k number none (ByMeasure w instance keys nodes) (measure_on w instance keys nodes) (measure_less w instance keys nodes) m n low
+    (measure_first w instance keys nodes n i (record { key = k; path = []; place = [] }) low')).sense
 
 pub numbers_mean_plain : {S K R : Type 0} (w : Parts S K R) (keys : Numbers S) (nodes : Nodes K) → NumbersMeanPlain w keys nodes
-numbers_mean_plain {S} w keys nodes laws values makers states numbered ranked instance i k number none reached reach m n low enough =
-    let at_reached = at_targets w instance k (same_through w states) reached reach in
-    let targets = targets_of w reached in
-    let root : Asked w instance = record { key = k; path = []; place = [] } in
-    let there = at_places w instance (reads_of w.keywords laws) k in
-    senses_agree w keys nodes laws values makers states numbered ranked instance i k number none (ByTrail w instance keys nodes root none targets at_reached there (one_target w states) one_place)
-    (trail_on w instance keys nodes root none targets at_reached there (one_target w states) one_place) (trail_less w instance keys nodes root none targets at_reached there (one_target w states) one_place) m n low
-    (trail_first w instance keys nodes root none targets at_reached there (one_target w states) one_place n i (omega arith))
+numbers_mean_plain w keys nodes laws values makers states numbered ranked instance i k number none reached reach m n low enough =
+    (plainly_agree w keys nodes laws values makers states numbered ranked instance i k number none reached reach m n low enough).sense

@@ -8,8 +8,8 @@ use Rattle.serde_json.specs.Data.{Data}
 use Rattle.schema_reports.specs.Matching.{Assumptions, completion_of}
 use Rattle.schema_reports.specs.Reports.{Error, Outcome, same_error}
 use Rattle.schema_reports.specs.Runs.{first_error}
-use Rattle.schema_reports.specs.Cover.{Call, IsRun, Sense, branch_at, iter_errors, validate}
-use Rattle.schema_reports.specs.Headline.{ErrorsSay, FirstSays, IsFailure, VerdictSays}
+use Rattle.schema_reports.specs.Cover.{Call, IsRun, Sense, branch_at, validate}
+use Rattle.schema_reports.specs.Headline.{ErrorsOf, FirstSays, IsFailure, VerdictSays}
 use Rattle.schema_reports.specs.Laws.{Agrees}
 use Rattle.schema_reports.specs.Members.{Follows, all_accept, is_nil, listed, none_has, or_failure, shared_with, verdict_of}
 use Rattle.schema_reports.specs.Shared.{errors_of, in_each}
@@ -19,12 +19,12 @@ use Rattle.schema_reports.specs.Search.{Made, Tree, lists_of, results_of, sites}
 use Rattle.schema_reports.specs.SearchGives.{FailureAlone, GivesErrors, OfRun}
 use Rattle.schema_reports.specs.SharedResults.{IsSharedBy, OneError, OrFailure, has_key, in_each_of, is_empty, or_none, shared_among}
 use Rattle.schema_reports.specs.Outcomes.{AreErrors, AreOutcomes, errors_in, none_in}
-use Rattle.schema_reports.specs.Searched.{IsRunOf, Reaches, failure_error}
+use Rattle.schema_reports.specs.Searched.{IsRunOf, Reaches, WantsAllLater, failure_error}
 use Rattle.schema_reports.specs.declared.reports.ValidationError.{ValidationError}
 use Rattle.schema_reports.specs.declared.unfinished_matches.search.Outcomes.{Outcomes}
 use Rattle.schema_reports.specs.declared.unfinished_matches.search.Outcomes.TheVariants.{Assumed, Undecided}
 use Rattle.schema_reports.proofs.CoversApart.{both_left, both_right}
-use Rattle.schema_reports.proofs.Sentences.{errors_say, first_says, verdict_says}
+use Rattle.schema_reports.proofs.Sentences.{first_says, later_errors_say, verdict_says}
 use Rattle.schema_reports.proofs.SharedLists.{map_last}
 use Rattle.schema_reports.proofs.SearchedSense.{call_each, call_part}
 use Rattle.schema_reports.proofs.SearchedFailure.{IsAt, at_all, at_first, is_failure}
@@ -181,7 +181,7 @@ module _ (root : Data) (f : Failure) where
 -- ---- the calls
 
 module _ (v : Sense) (call : Call) {S T V : Type 0} (Step : S → Remembered → Remembered → T → S → Type 0) (first : Remembered) (start : S) (view : T → V) (says : Assumptions → V) (is : IsRunOf v call Step first start view says) (limit : ℕ) where
-  first_is : (tree : Tree T) (f : Failure) (made : Made Step first start limit tree f) → branch_at v call [] ≡ Some made.unassumed.met
+  pub first_is : (tree : Tree T) (f : Failure) (made : Made Step first start limit tree f) → branch_at v call [] ≡ Some made.unassumed.met
   first_is tree f made = sym is.remembers_first.first ∙ ap (option_map (λ (g : Failure). g.met)) made.is_first
 
   -- the failure of the search is one of the call's
@@ -196,14 +196,16 @@ module _ (v : Sense) (follows : Follows v) (root : Data) {S : Type 0} (Step : S 
       → map told (map (λ (r : Vec ValidationError). r.items) results) ≡ map (errors_of v) ms
   told_results tree results ms e same = map_map told (λ (r : Vec ValidationError). r.items) results ∙ (ap (map errors_in) e ∙ same)
 
-  pub all_errors_say : IsRunOf v iter_errors Step first start errors_in (errors_of v) → (o : Outcomes (Vec ValidationError)) → AreOutcomes Step first start 64 o → (es : Vec ValidationError) → AreErrors root o es.items → ErrorsSay v (errors_in es)
-  all_errors_say is (Assumed results f) (tree, made, whole, same) es (o, shared, answer) =
-      let m = are_few v iter_errors Step first start errors_in (errors_of v) is 64 tree f made whole in
+  -- what is given is what the call's sentence lists, for each call whose further runs want all errors
+  pub all_errors_say : (call : Call) → WantsAllLater call → IsRunOf v call Step first start errors_in (errors_of v) → (o : Outcomes (Vec ValidationError)) → AreOutcomes Step first start 64 o → (es : Vec ValidationError) → AreErrors root o es.items → ErrorsOf v call (errors_in es)
+  all_errors_say call later is (Assumed results f) (tree, made, whole, same) es (o, shared, answer) =
+      let m = are_few v call Step first start errors_in (errors_of v) is 64 tree f made whole in
+      let some : ¬ (branch_at v call [] ≡ None) = λ e. absurd (cc (sym e ∙ first_is v call Step first start errors_in (errors_of v) is 64 tree f made)) in
       let it = listed_is root f v m.others m.last (map (λ (r : Vec ValidationError). r.items) results.items) o es.items (told_results tree results.items (lists_of [] tree) same m.same ∙ ap (map (errors_of v)) m.split) shared answer in
-      subst (ErrorsSay v) (sym it) (errors_say v follows m.others m.last (failure_error f) (lists_of [] tree) m.cover m.split (omega (arith, m.few)) (λ x e. fails v iter_errors Step first start errors_in (errors_of v) is 64 tree f made))
-  all_errors_say is (Undecided f) (tree, made, cut) es one = (
-    λ d. absurd (not_decided v iter_errors Step first start errors_in (errors_of v) is tree f made cut d),
-    λ n. (failure_error f, fails v iter_errors Step first start errors_in (errors_of v) is 64 tree f made, ap told one.alone ∙ ap (λ z. z ∷ []) one.is),
+      subst (ErrorsOf v call) (sym it) (later_errors_say v follows m.others m.last (failure_error f) call later (lists_of [] tree) m.cover some m.split (omega (arith, m.few)) (λ x e. fails v call Step first start errors_in (errors_of v) is 64 tree f made))
+  all_errors_say call later is (Undecided f) (tree, made, cut) es one = (
+    λ d. absurd (not_decided v call Step first start errors_in (errors_of v) is tree f made cut d),
+    λ n. (failure_error f, fails v call Step first start errors_in (errors_of v) is 64 tree f made, ap told one.alone ∙ ap (λ z. z ∷ []) one.is),
   )
 
   pub first_error_says : IsRunOf v validate Step first start errors_in (errors_of v) → (o : Outcomes (Vec ValidationError)) → AreOutcomes Step first start 64 o → (es : Vec ValidationError) → AreErrors root o es.items → FirstSays v (first_error (errors_in es))

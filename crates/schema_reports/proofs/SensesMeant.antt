@@ -8,8 +8,8 @@ use Rattle.schema_reports.specs.Cover.{Sense}
 use Rattle.schema_reports.specs.Guarded.{Nodes}
 use Rattle.schema_reports.specs.Meaning.{subject}
 use Rattle.schema_reports.specs.Numbered.{Numbers, left}
-use Rattle.schema_reports.specs.Means.{OfEverySense, FromSomeDepth, NumbersMean}
-use Rattle.schema_reports.proofs.SameRun.{numbers_mean_plain}
+use Rattle.schema_reports.specs.Means.{OfEverySense, FromSomeDepth, NumbersMean, NumbersHaveUnits}
+use Rattle.schema_reports.proofs.SameRun.{plainly_agree}
 
 pub of_every_sense : {K R : Type 0} (keywords : Keywords K R) (matcher : Matcher) (nodes : Nodes K) (root : ℕ) (instance : Data) (fact : Sense → Type 0)
     → FromSomeDepth keywords matcher nodes root instance fact → OfEverySense keywords matcher nodes root instance fact
@@ -18,4 +18,8 @@ of_every_sense keywords matcher nodes root instance fact f = λ v m.
 
 pub numbers_mean : {S K R : Type 0} (w : Parts S K R) (keys : Numbers S) (nodes : Nodes K) → NumbersMean w keys nodes
 numbers_mean w keys nodes = λ keeps inside below decides numbered ranked instance i root is_root no_return reached reach n deep.
-    (suc (left nodes (length keys) i (subject w instance []) []), λ m more. numbers_mean_plain w keys nodes keeps inside below decides numbered ranked instance i root is_root no_return reached reach m n more deep)
+    (suc (left nodes (length keys) i (subject w instance []) []), λ m more. (plainly_agree w keys nodes keeps inside below decides numbered ranked instance i root is_root no_return reached reach m n more deep).sense)
+
+pub numbers_have_units : {S K R : Type 0} (w : Parts S K R) (keys : Numbers S) (nodes : Nodes K) → NumbersHaveUnits w keys nodes
+numbers_have_units w keys nodes = λ keeps inside below decides numbered ranked instance i root is_root no_return reached reach n deep.
+    (suc (left nodes (length keys) i (subject w instance []) []), λ m more. (plainly_agree w keys nodes keeps inside below decides numbered ranked instance i root is_root no_return reached reach m n more deep).units)

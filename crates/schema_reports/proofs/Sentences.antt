@@ -15,6 +15,7 @@ use Rattle.schema_reports.specs.Shared.{EachAccepts, SomeRefuses, in_each, Kept,
 use Rattle.schema_reports.specs.Laws.{Agrees}
 use Rattle.schema_reports.specs.Members.{Follows, all_accept, shared_with, listed, is_nil, none_has, or_failure}
 use Rattle.schema_reports.specs.Headline as h
+use Rattle.schema_reports.specs.Searched.{WantsAllLater}
 use Rattle.schema_reports.proofs.CoversApart.{covered, shared_is}
 use Rattle.schema_reports.proofs.Senses.{last_member, Longer, longer, all_accept_each, faithful}
 
@@ -195,21 +196,20 @@ alone {x} [] last e = (refl, same_last [] [] x last e)
 alone (y ∷ []) last e = absurd (cc e)
 alone (y ∷ (z ∷ l)) last e = absurd (cc e)
 
--- a call whose further runs want all errors
-abbrev pub WantsAllLater : Call → Type 0
-WantsAllLater call = (m : Assumptions) → Longer m → mode_of call m ≡ for_all
+-- the further runs of `validate` and `evaluate` want all errors
+pub validate_later : WantsAllLater validate
+validate_later [] some = absurd (some refl)
+validate_later (a ∷ as') some = refl
 
-validate_later : WantsAllLater validate
-validate_later [] l = absurd l
-validate_later (a ∷ as') l = refl
-
-evaluate_later : WantsAllLater evaluate
-evaluate_later [] l = absurd l
-evaluate_later (a ∷ as') l = refl
+pub evaluate_later : WantsAllLater evaluate
+evaluate_later [] some = absurd (some refl)
+evaluate_later (a ∷ as') some = refl
 
 split_wants_all : (v : Sense) (call : Call) → WantsAllLater call → {ns ys : List Assumptions} (m : Met) → Cover v call (assuming m false []) ns → Cover v call (assuming m true []) ys
     → (x : Assumptions) → Contains (ns ++ ys) x → mode_of call x ≡ for_all
-split_wants_all v call later {ns} {ys} m s t x in_it = later x (elim (Contains-append_cases ns ys x in_it) [ inl k ↦ longer v call s tt x k | inr k ↦ longer v call t tt x k ])
+split_wants_all v call later {ns} {ys} m s t x in_it =
+    let more : Longer x = elim (Contains-append_cases ns ys x in_it) [ inl k ↦ longer v call s tt x k | inr k ↦ longer v call t tt x k ] in
+    later x (λ e. subst Longer e more)
 
 -- ---- the four calls
 
@@ -217,6 +217,15 @@ module _ (v : Sense) (follows : Follows v) (others : List Assumptions) (last : A
   pub errors_say : (ms : List Assumptions) → Cover v iter_errors [] ms → ms ≡ others ++ last ∷ [] → length ms ≤ 32
       → ((m : Met) → branch_at v iter_errors [] ≡ Some m → h.IsFailure v iter_errors failure) → h.ErrorsSay v (listed v others last failure)
   errors_say ms cover is few fails = (λ d. lists v iter_errors follows ms cover (λ m k. refl) others last is failure fails, λ n. absurd (n (ms, cover, few)))
+
+  -- so of each call whose further runs want all errors, where its first run meets an unfinished match
+  pub later_errors_say : (call : Call) → WantsAllLater call → (ms : List Assumptions) → Cover v call [] ms → ¬ (branch_at v call [] ≡ None) → ms ≡ others ++ last ∷ [] → length ms ≤ 32
+      → ((m : Met) → branch_at v call [] ≡ Some m → h.IsFailure v call failure) → h.ErrorsOf v call (listed v others last failure)
+  later_errors_say call later _ (whole e) some is few fails = absurd (some e)
+  later_errors_say call later _ (split {no = ns} {yes = ys} m e s t) some is few fails = (
+    λ d. lists v call follows (ns ++ ys) (split m e s t) (split_wants_all v call later m s t) others last is failure fails,
+    λ n. absurd (n (ns ++ ys, split m e s t, few)),
+  )
 
   -- the first run alone: its first error is that of every completion
   first_alone : branch_at v validate [] ≡ None → (o : Option Error) × h.FirstShared v (v.says all_match).errors o × h.IsFirst v o (first_error (errors_of v []))

@@ -4,9 +4,14 @@ use Rattle.schema_reports.specs.Matching.{Assumptions, unfinished}
 use Rattle.schema_reports.specs.Reports.{Error}
 use Rattle.schema_reports.specs.Instance.{Text}
 use Rattle.schema_reports.specs.Runs.{Met, Site}
-use Rattle.schema_reports.specs.Cover.{Call, IsRun, Sense, branch_at}
+use Rattle.schema_reports.specs.Keywords.{for_all}
+use Rattle.schema_reports.specs.Cover.{Call, IsRun, Sense, branch_at, mode_of}
 use Rattle.schema_reports.specs.Headline.{reason_text, shown_at}
 use Rattle.schema_reports.specs.Unfinished.{Failure, Remembered, starting}
+
+-- a call whose further runs want all errors, as those of all calls but `is_valid` do
+abbrev pub WantsAllLater : Call → Type 0
+WantsAllLater call = (as' : Assumptions) → ¬ (as' ≡ []) → mode_of call as' ≡ for_all
 
 -- the states that a run's uses lead to
 pub data Reaches {S T : Type 0} (Step : S → Remembered → Remembered → T → S → Type 0) (start : S) : S → Type 0 where

@@ -1,12 +1,12 @@
 //! What a call says over a search: of a sense whose runs these are, what every completion says.
 ghost use Rattle.std.specs.Prelude.{Bool, IfOk, IsSome, Ok, true, ◌↔◌, ◌≡◌};
 ghost use Rattle.serde_json.specs.View.{view};
-ghost use Rattle.schema_reports.specs.Cover.{Call, Decides, Sense, iter_errors, validate};
-ghost use Rattle.schema_reports.specs.Headline.{ErrorsSay, FirstSays, VerdictSays};
+ghost use Rattle.schema_reports.specs.Cover.{Call, Decides, Sense, validate};
+ghost use Rattle.schema_reports.specs.Headline.{ErrorsOf, FirstSays, VerdictSays};
 ghost use Rattle.schema_reports.specs.Members.{Follows, is_nil, verdict_of};
 ghost use Rattle.schema_reports.specs.Outcomes.{errors_in, none_in};
 ghost use Rattle.schema_reports.specs.Runs.{first_error};
-ghost use Rattle.schema_reports.specs.Searched.{IsRunOf};
+ghost use Rattle.schema_reports.specs.Searched.{IsRunOf, WantsAllLater};
 ghost use Rattle.schema_reports.specs.SearchGives.{GivesErrors};
 ghost use Rattle.schema_reports.specs.Shared.{EachAccepts, errors_of};
 
@@ -53,9 +53,9 @@ pub fn errors_under_each<
 ) -> Result<Vec<ValidationError<'i>>, OutOfMemory>
     requires callable { F.IsAlwaysCallable run }
     requires met { IsSome first.0.unassumed }
-    ensures errors { (v : Sense) → Follows v
-        → IsRunOf v iter_errors (λ s x m t end. F.step s x (Ok (m, t)) end) first.entry.0 run errors_in (errors_of v)
-        → IfOk result (λ es. ErrorsSay v (errors_in es)) }
+    ensures errors { (v : Sense) (call : Call) → WantsAllLater call → Follows v
+        → IsRunOf v call (λ s x m t end. F.step s x (Ok (m, t)) end) first.entry.0 run errors_in (errors_of v)
+        → IfOk result (λ es. ErrorsOf v call (errors_in es)) }
     ensures first { (v : Sense) → Follows v
         → IsRunOf v validate (λ s x m t end. F.step s x (Ok (m, t)) end) first.entry.0 run errors_in (errors_of v)
         → IfOk result (λ es. FirstSays v (first_error (errors_in es))) }

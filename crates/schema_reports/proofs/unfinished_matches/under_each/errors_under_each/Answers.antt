@@ -4,7 +4,7 @@ use Rattle.schema_reports.proofs.SearchedErrors.{all_errors_say, errors_given, f
 use Rattle.schema_reports.proofs.unfinished_matches.under_each.errors_under_each.Goals as goal
 
 pub returns-clause-errors : goal.returns-clause-errors
-returns-clause-errors g c = λ v follows is. all_errors_say v follows (view c.args.root.now) (λ s x m t end. goal.F-step g s x (Ok (m, t)) end) c.args.first.0 c.args.run is c.in_ok-outcomes.outcomes c.in_ok-outcomes.ensures.outcomes c.in_ok-errors.field-0 c.in_ok-errors.ensures.shared
+returns-clause-errors g c = λ v call later follows is. all_errors_say v follows (view c.args.root.now) (λ s x m t end. goal.F-step g s x (Ok (m, t)) end) c.args.first.0 c.args.run call later is c.in_ok-outcomes.outcomes c.in_ok-outcomes.ensures.outcomes c.in_ok-errors.field-0 c.in_ok-errors.ensures.shared
 
 pub returns-clause-first : goal.returns-clause-first
 returns-clause-first g c = λ v follows is. first_error_says v follows (view c.args.root.now) (λ s x m t end. goal.F-step g s x (Ok (m, t)) end) c.args.first.0 c.args.run is c.in_ok-outcomes.outcomes c.in_ok-outcomes.ensures.outcomes c.in_ok-errors.field-0 c.in_ok-errors.ensures.shared
