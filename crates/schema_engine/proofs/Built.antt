@@ -1,4 +1,4 @@
--- A validator that is compiled from a root means the plain meaning of schema and parts.
+-- A validator that is compiled from a root means the plain meaning of schema and parts, and has its units.
 use Rattle.std.proofs.Common.{◌≡◌, ℕ, zero, suc, ◌<◌, Bool, true, List, [], ◌∷◌, length, map, refl, sym, ◌∙◌, ap, subst, arith}
 use Rattle.std.specs.Prelude.{Some, slice_get, Decides, ◌↔◌}
 use Rattle.std.proofs.lemmas.List.{length-map}
@@ -13,11 +13,11 @@ use Rattle.schema_reports.specs.Parts.{Parts}
 use Rattle.schema_reports.specs.Plan.{Key}
 use Rattle.schema_reports.specs.Root.{IsRoot}
 use Rattle.schema_reports.specs.Laws.{EachKeeps}
-use Rattle.schema_reports.specs.Headline.{SpeaksRightly, Plainly}
+use Rattle.schema_reports.specs.Headline.{SpeaksRightly, Plainly, PlainlyWithUnits}
 use Rattle.schema_reports.specs.Numbered.{AreNumbered, Ranked, MakersAskBelow}
 use Rattle.schema_reports.specs.Fractions.{MakesWhole, AreWhole}
 use Rattle.schema_reports.specs.Means as means
-use Rattle.schema_reports.proofs.SensesMeant.{numbers_mean}
+use Rattle.schema_reports.proofs.SensesMeant.{numbers_mean, numbers_have_units}
 use Rattle.schema_reports.proofs.WholeNumbers.{numbers_are_whole}
 use Rattle.schema_node.specs.NodeTable.{NodeEntry, numbered}
 use Rattle.schema_node.specs.ResolverViews.{IsInside}
@@ -80,3 +80,6 @@ module _ {S K R : Type 0} (resolver : Resolver S) (table : Table K) (options : O
 
     pub means_from : (instance : Data) → Plainly w root instance (means.Means keywords matcher (numbered shape nodes) number instance)
     means_from instance = numbers_mean w (map Some compiled.keys) (numbered shape nodes) keeps (values_inside w inside) makers_below decides numbers ranked instance number root (in_map compiled.keys number root compiled.is_root)
+
+    pub units_from : (instance : Data) → PlainlyWithUnits w root instance (λ v units. means.HaveUnits keywords matcher (numbered shape nodes) number instance units)
+    units_from instance = numbers_have_units w (map Some compiled.keys) (numbered shape nodes) keeps (values_inside w inside) makers_below decides numbers ranked instance number root (in_map compiled.keys number root compiled.is_root)

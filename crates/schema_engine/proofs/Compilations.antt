@@ -2,7 +2,7 @@
 use Rattle.std.proofs.Common.{◌≡◌, ℕ, zero, suc, Bool, List, [], ◌∷◌, map, refl, sym, subst}
 use Rattle.std.specs.Prelude.{Decides, Option, Some, All, slice_get, slice_index_or}
 use Rattle.std.proofs.lemmas.Option.{slice_get_within}
-use Rattle.serde_json.specs.Data.{Members}
+use Rattle.serde_json.specs.Data.{Data, Members}
 use Rattle.schema_reports.specs.Instance.{Text}
 use Rattle.schema_reports.specs.Drafts.{Draft, Vocabularies}
 use Rattle.schema_reports.specs.Matching.{Matcher}
@@ -13,14 +13,18 @@ use Rattle.schema_reports.specs.KeywordTable.{builtin_in}
 use Rattle.schema_reports.specs.Parts.{Parts}
 use Rattle.schema_reports.specs.Plan.{Key}
 use Rattle.schema_reports.specs.Reach.{IsReach, Reached}
+use Rattle.schema_reports.specs.Root.{IsRoot}
 use Rattle.schema_reports.specs.Numbered.{Ranked}
 use Rattle.schema_node.specs.NodeTable.{NodeEntry, numbered}
 use Rattle.schema_compiler.specs.Builtins.{builtin}
 use Rattle.schema_compiler.specs.Compilation.{IsCompilation, RefusesRoot, all_parts}
+use Rattle.schema_compiler.specs.Compiling.{no_keywords, no_matcher, no_table}
 use Rattle.schema_compiler.specs.declared.compiler.error.BuildError.{BuildError}
 use Rattle.schema_engine.specs.Handed.{Options, parts_of, table_of}
 use Rattle.schema_engine.specs.Compiled.{IsCompiled, IsWhole}
+use Rattle.schema_engine.specs.Roots.{IsRootKey}
 use Rattle.schema_engine.proofs.Reaches.{reach_of}
+use Rattle.schema_engine.proofs.RootKeys.{one_root_key, root_key_of, root_key_too}
 use Rattle.schema_compiler.specs.Finding.{standing_of}
 use Rattle.schema_compiler.proofs.OtherCourses.{finds_all_too}
 use Rattle.schema_engine.proofs.OtherParts.{reached_too, stands_too, numbered_too}
@@ -101,3 +105,14 @@ module _ {S K R : Type 0} (resolver : Resolver S) (owns : Text → Bool) (script
 
   pub refuses_in : (limit : ℕ) (root : Key S) (e : BuildError) → RefusesRoot given limit root e → RefusesRoot (over builtin_in) limit root e
   refuses_in limit root e h = subst (λ row. RefusesRoot (over row) limit root e) builtin_is h
+
+  -- the nodes are compiled from each root key of a schema, whatever matcher and words go with the parts: there is but one
+  pub compiled_from_roots : {C : Type 0} (schema : Data) (shape : C → K) (limit nested : ℕ) (root : Key S) (keys : List (Key S)) (nodes : List (NodeEntry C)) → IsCompilation given shape limit nested root keys nodes
+      → IsRootKey (parts_of resolver no_table no_matcher no_keywords options) schema root → (other : Key S) → IsRoot (parts_of resolver (table_of owns builtin_in script) no_matcher no_keywords options) schema other
+      → IsCompiled (parts_of resolver (table_of owns builtin_in script) no_matcher no_keywords options) shape other nodes 0
+  compiled_from_roots schema shape limit nested root keys nodes done is_root other is_other =
+      let table : Table K = table_of owns builtin_in script in
+      let free : Parts S K (Unit {0}) = parts_of resolver table no_matcher no_keywords options in
+      let compiled = compiled_too resolver table matcher no_matcher keywords no_keywords options shape root nodes 0 (compiled_in shape limit nested root keys nodes done) in
+      subst (λ k. IsCompiled free shape k nodes 0)
+      (one_root_key free schema root other (root_key_too resolver no_table table no_matcher no_matcher no_keywords no_keywords options schema root is_root) (root_key_of free schema other is_other)) compiled

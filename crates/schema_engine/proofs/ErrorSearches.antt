@@ -12,13 +12,13 @@ use Rattle.schema_reports.specs.Keywords.{Keywords, for_all, for_first, for_unit
 use Rattle.schema_reports.specs.Runs.{Met, Run, first_error}
 use Rattle.schema_reports.specs.Unfinished.{Failure, Remembered, starting}
 use Rattle.schema_reports.specs.Cover.{Call, Cover, Decides, Sense, branch_at, evaluate, iter_errors, mode_of, validate, whole}
-use Rattle.schema_reports.specs.Headline.{ErrorsSay, FirstSays, IsFailure, OneFailure, VerdictSays, shown_at}
+use Rattle.schema_reports.specs.Headline.{ErrorsOf, ErrorsSay, FirstSays, IsFailure, OneFailure, VerdictSays, shown_at}
 use Rattle.schema_reports.specs.Laws.{Agrees, EachKeeps}
 use Rattle.schema_reports.specs.Members.{Follows, Speaks, is_nil, verdict_of}
 use Rattle.schema_reports.specs.Shared.{errors_of}
 use Rattle.schema_reports.specs.SharedResults.{is_empty}
 use Rattle.schema_reports.specs.Outcomes.{errors_in, none_in}
-use Rattle.schema_reports.specs.Searched.{IsRunOf}
+use Rattle.schema_reports.specs.Searched.{IsRunOf, WantsAllLater}
 use Rattle.schema_reports.specs.SearchGives.{FailureAlone, GivesErrors, OfRun}
 use Rattle.schema_reports.specs.Guarded.{Nodes, guarded_within, node_unit, yes_unit}
 use Rattle.schema_reports.specs.Numbered.{subject_in}
@@ -32,17 +32,12 @@ use Rattle.schema_reports.specs.declared.reports.ValidationError.{ValidationErro
 use Rattle.schema_reports.proofs.CoverCounts.{pairs_differ}
 use Rattle.schema_reports.proofs.ErrorsLead.{Stands}
 use Rattle.schema_reports.proofs.ShownPlaces.{shown_stands}
-use Rattle.schema_reports.proofs.Sentences.{errors_say, first_says, listed_alone, verdict_says}
+use Rattle.schema_reports.proofs.Sentences.{errors_say, evaluate_later, first_says, listed_alone, validate_later, verdict_says}
 use Rattle.schema_reports.proofs.SitesInside.{MetInside, sites_inside}
 use Rattle.schema_node.specs.Matches.{MeetsEach}
 use Rattle.schema_engine.specs.Spoken.{ErrorsAnswered, FirstAnswered, IsGiven}
 use Rattle.schema_engine.proofs.Remembers.{remembers_of}
 use Rattle.schema_engine.proofs.Searches.{follows, from_start, outcome, run_with, search_runs, sense}
-
--- the further runs of `validate` want all errors
-pub later_all : (as' : Assumptions) → ¬ (as' ≡ []) → mode_of validate as' ≡ for_all
-later_all [] k = absurd (k refl)
-later_all (a ∷ as') k = refl
 
 -- ---- errors and no errors
 
@@ -217,7 +212,7 @@ module _ {K R : Type 0} (keywords : Keywords K R) (each : EachKeeps keywords) (m
         → (e : ValidationError) → OfRun v call Step start e → P e
     of_run call P h e o = All-contains P o.errors.items e (h o.assumptions o.remembered o.errors o.after (from_start keywords each matcher nodes instance root n Step start stays o.before (starting o.assumptions) o.remembered o.errors o.after o.reaches o.is_step) (pairs_differ v call o.runs).1) o.gives
 
-    module _ (call : Call) (later : (as' : Assumptions) → ¬ (as' ≡ []) → mode_of call as' ≡ for_all) (met : MeetsEach matcher (starting []) ((run_under []).met (mode_of call [])) first) where
+    module _ (call : Call) (later : WantsAllLater call) (met : MeetsEach matcher (starting []) ((run_under []).met (mode_of call [])) first) where
       spoken_runs : AreRuns true → IsRunOf v call Step first start errors_in (errors_of v)
       spoken_runs runs = search_runs keywords each matcher nodes instance root n Step start stays call for_all later errors_in (errors_of v) first none met
           (λ as' r es end step once. let h = runs as' r es end step once in (told as' _ h.0, h.1))
@@ -251,12 +246,10 @@ module _ {K R : Type 0} (keywords : Keywords K R) (each : EachKeeps keywords) (m
     failure_of : (call : Call) (es : List ValidationError) → FailureAlone v call instance es → OneFailure v call (map (error_of true) es)
     failure_of call es f = (error_of true f.error, f.is, ap (map (error_of true)) f.alone)
 
-    -- the further runs of `evaluate` want all errors
-    later_units : (as' : Assumptions) → ¬ (as' ≡ []) → mode_of evaluate as' ≡ for_all
-    later_units [] k = absurd (k refl)
-    later_units (a ∷ as') k = refl
-
     -- ---- all errors
+
+    abbrev pub SaysErrors : Vec ValidationError → Type 0
+    SaysErrors es = (u : Sense) (call : Call) → WantsAllLater call → Follows u → IsRunOf u call Step first start errors_in (errors_of u) → ErrorsOf u call (errors_in es)
 
     abbrev pub SaysVerdict : Vec ValidationError → Type 0
     SaysVerdict es = (u : Sense) (call : Call) → Follows u → IsRunOf u call Step first start none_in (λ m. is_nil (errors_of u m)) → VerdictSays u call (none_in es)
@@ -264,9 +257,8 @@ module _ {K R : Type 0} (keywords : Keywords K R) (each : EachKeeps keywords) (m
     abbrev pub Gives : Vec ValidationError → Type 0
     Gives es = (u : Sense) (call : Call) → IsRunOf u call Step first start none_in (λ m. is_nil (errors_of u m)) → GivesErrors u call Step start instance es.items
 
-    pub errors_searched : (texts : Bool) → AreRuns texts → MeetsEach matcher (starting []) ((run_under []).met for_all) first → is_some first.unassumed ≡ true → (es : Vec ValidationError)
-        → ((u : Sense) → Follows u → IsRunOf u iter_errors Step first start errors_in (errors_of u) → ErrorsSay u (errors_in es)) → SaysVerdict es → Gives es → ErrorsAnswered v texts es.items
-    errors_searched true runs met some es says verdict gives = says v follows_it (spoken_runs iter_errors (λ as' k. refl) met runs)
+    pub errors_searched : (texts : Bool) → AreRuns texts → MeetsEach matcher (starting []) ((run_under []).met for_all) first → is_some first.unassumed ≡ true → (es : Vec ValidationError) → SaysErrors es → SaysVerdict es → Gives es → ErrorsAnswered v texts es.items
+    errors_searched true runs met some es says verdict gives = says v iter_errors (λ as' k. refl) follows_it (spoken_runs iter_errors (λ as' k. refl) met runs)
     errors_searched false runs met some es says verdict gives =
         let is = none_runs iter_errors (λ as' k. refl) met false runs in
         let given = gives v iter_errors is in
@@ -286,10 +278,10 @@ module _ {K R : Type 0} (keywords : Keywords K R) (each : EachKeeps keywords) (m
     no_error_valid [] = refl
     no_error_valid (e ∷ es) = refl
 
-    pub evaluated_searched : (texts : Bool) → AreRuns texts → MeetsEach matcher (starting []) ((run_under []).met for_units) first → (es : Vec ValidationError) → SaysVerdict es → Gives es
+    pub evaluated_searched : (texts : Bool) → AreRuns texts → MeetsEach matcher (starting []) ((run_under []).met for_units) first → (es : Vec ValidationError) → SaysErrors es → SaysVerdict es → Gives es
         → (u : EvaluationNode) → unit_of texts u ≡ errors_unit (map (error_of texts) es.items) → EvaluationAnswered v texts u
-    evaluated_searched texts runs met es verdict gives u made =
-        let is = none_runs evaluate later_units met texts runs in
+    evaluated_searched texts runs met es says verdict gives u made =
+        let is = none_runs evaluate evaluate_later met texts runs in
         let given = gives v evaluate is in
         let valid : is_empty es.items ≡ (report_of (unit_of texts u)).valid = nil_told texts es.items ∙ sym (no_error_valid (map (error_of texts) es.items)) ∙ sym (ap (λ u. (report_of u).valid) made) in
         record {
@@ -302,6 +294,7 @@ module _ {K R : Type 0} (keywords : Keywords K R) (each : EachKeeps keywords) (m
               | inr f ↦ inr (failure_of evaluate es.items f)
             ];
             undecided = λ not. failure_of evaluate es.items (given.undecided not);
+            shared = λ spoken. says v evaluate evaluate_later follows_it (spoken_runs evaluate evaluate_later met (subst AreRuns spoken runs));
           };
         }
 
@@ -309,20 +302,20 @@ module _ {K R : Type 0} (keywords : Keywords K R) (each : EachKeeps keywords) (m
 
     pub first_searched : (texts : Bool) → AreRuns texts → MeetsEach matcher (starting []) ((run_under []).met for_first) first → is_some first.unassumed ≡ true → (es : Vec ValidationError)
         → ((u : Sense) → Follows u → IsRunOf u validate Step first start errors_in (errors_of u) → FirstSays u (first_error (errors_in es))) → SaysVerdict es → Gives es → FirstAnswered v texts (slice_get es.items 0)
-    first_searched true runs met some es says verdict gives = subst (FirstSays v) (head_mapped true es.items) (says v follows_it (spoken_runs validate later_all met runs))
+    first_searched true runs met some es says verdict gives = subst (FirstSays v) (head_mapped true es.items) (says v follows_it (spoken_runs validate validate_later met runs))
     first_searched false runs met some es says verdict gives =
-        let is = none_runs validate later_all met false runs in
+        let is = none_runs validate validate_later met false runs in
         let given = gives v validate is in
         record {
           verdict = subst (VerdictSays v validate) (sym (none_head es.items)) (verdict v validate follows_it is);
           given = elim given.each [ inl all ↦ of_all es.items all | inr f ↦ subst (λ xs. IfSome (slice_get xs 0) (λ e. IsGiven v false e ⊎ IsFailure v validate (error_of true e))) (sym f.alone) (inr f.is) ];
           undecided = λ not. let f = given.undecided not in (error_of true f.error, f.is, ap (λ xs. option_map (error_of true) (slice_get xs 0)) f.alone);
-          alone = λ e. absurd (some_branch validate later_all met some e);
+          alone = λ e. absurd (some_branch validate validate_later met some e);
         }
       where
         of_all : (xs : List ValidationError) → All (OfRun v validate Step start) xs → IfSome (slice_get xs 0) (λ e. IsGiven v false e ⊎ IsFailure v validate (error_of true e))
         of_all [] all = tt
-        of_all (x ∷ xs) all = inl (each_given validate later_all met runs x (All-head (OfRun v validate Step start) x xs all))
+        of_all (x ∷ xs) all = inl (each_given validate validate_later met runs x (All-head (OfRun v validate Step start) x xs all))
 
 -- what all errors have, the first one has
 pub first_has : (P : ValidationError → Type 0) (es : List ValidationError) → All P es → IfSome (slice_get es 0) P

@@ -1,29 +1,35 @@
 -- Calls of one schema and one instance speak of one sense, and so agree.
-use Rattle.std.proofs.Common.{arith, false, refl, sym, true, Bool, List, [], map, ◌+◌, ◌∷◌, ◌≡◌, subst}
+use Rattle.std.proofs.Common.{arith, false, refl, sym, true, Bool, List, [], map, ℕ, ◌+◌, ◌∙◌, ◌∷◌, ◌≡◌, ◌≤◌, subst}
 use Rattle.std.specs.Prelude.{None, Option, Some, is_none, option_map}
 use Rattle.std.specs.Cmp.{both_ways}
 use Rattle.serde_json.specs.Data.{Data}
-use Rattle.schema_reports.specs.Cover.{Call, Decides, Sense, is_valid, iter_errors, validate}
+use Rattle.schema_reports.specs.Cover.{Call, Decides, Sense, branch_at, evaluate, is_valid, iter_errors, validate}
 use Rattle.schema_reports.specs.Deciding.{none_where_accepted}
 use Rattle.schema_reports.specs.Headline.{VerdictSays}
 use Rattle.schema_reports.specs.Laws.{EachKeeps}
+use Rattle.schema_reports.specs.Matching.{completion_of}
 use Rattle.schema_reports.specs.Members.{Follows}
 use Rattle.schema_reports.specs.Numbered.{subject_in}
 use Rattle.schema_reports.specs.ReportViews.{error_of}
 use Rattle.schema_reports.specs.Reports.{Error}
 use Rattle.schema_reports.specs.SharedResults.{is_empty}
+use Rattle.schema_reports.specs.UnitViews.{unit_of}
+use Rattle.schema_reports.specs.declared.evaluation.EvaluationNode.{EvaluationNode}
 use Rattle.schema_reports.specs.declared.reports.ValidationError.{ValidationError}
 use Rattle.schema_reports.proofs.GuardedSense.{all_nodes_follow}
 use Rattle.schema_reports.proofs.Sentences.{listed_none}
 use Rattle.schema_node.specs.NodeTable.{numbered}
-use Rattle.schema_engine.specs.Called.{GuardedlyOf, IsCompiledFrom}
+use Rattle.schema_node.specs.declared.context.keyword.Validate.{Ghosts as KeywordMembers}
+use Rattle.schema_node.specs.declared.context.matcher.Matcher.{Ghosts as MatcherMembers}
+use Rattle.schema_engine.specs.Called.{GuardedlyOf, IsCompiledFrom, UnitsGuardedly}
+use Rattle.schema_engine.specs.Evaluated.{EvaluationAnswered}
 use Rattle.schema_engine.specs.FreeCalls as calls
 use Rattle.schema_engine.specs.FreeCalls.{OfAllCompiled}
 use Rattle.schema_engine.specs.Handed.{Handed, Options, default_nested}
-use Rattle.schema_engine.specs.Nesting.{ErrorsAgree, FirstsAgree}
+use Rattle.schema_engine.specs.Nesting.{ErrorsAgree, EvaluationsAgree, FirstsAgree, verdict_in}
 use Rattle.schema_engine.specs.Program.{FromSomeDepth, Program}
 use Rattle.schema_engine.specs.Spoken.{ErrorsAnswered, FirstAnswered}
-use Rattle.schema_engine.proofs.Nesting.{errors_agree, firsts_agree, same_verdict}
+use Rattle.schema_engine.proofs.Nesting.{errors_agree, evaluations_agree, firsts_agree, same_verdict}
 use Rattle.schema_engine.proofs.OneTable.{speak_alike}
 
 -- ---- the verdict in what is answered
@@ -88,6 +94,9 @@ First o texts v = FirstAnswered v texts o
 abbrev Errors : List ValidationError → Bool → Sense → Type 0
 Errors es texts v = ErrorsAnswered v texts es
 
+abbrev Evaluated : EvaluationNode → Bool → Sense → Type 0
+Evaluated u texts v = EvaluationAnswered v texts u
+
 -- a fact where both calls decide
 abbrev WhereBoth : Call → Call → Type 0 → Bool → Sense → Type 0
 WhereBoth call call' fact texts v = Decides v call → Decides v call' → fact
@@ -101,6 +110,10 @@ module _ {S K R C M : Type 0} (h : Handed S K R C M) where
     abbrev Says : Program C M → (Bool → Sense → Type 0) → Type 0
     Says p fact = FromSomeDepth h.shape h.words h.is_whole h.matching p instance fact
 
+    -- a fact at every great enough depth
+    abbrev FromSomeDepthAt : Program C M → (Bool → ℕ → Type 0) → Type 0
+    FromSomeDepthAt p fact = (texts : Bool) → calls.SpeaksOf h instance texts p → (deep : ℕ) × ((n : ℕ) → deep ≤ n → fact texts n)
+
     abbrev IsOf : Program C M → Type 0
     IsOf p = IsCompiledFrom h options schema default_nested p
 
@@ -113,6 +126,22 @@ module _ {S K R C M : Type 0} (h : Handed S K R C M) where
     -- what a call says is so of all nodes that are compiled from the schema
     of_all : (fact : Bool → Sense → Type 0) → GuardedlyOf h options schema instance fact → OfAllCompiled h options schema instance fact
     of_all fact (p, of, told) p' of' = moved fact p p' of of' told
+
+    -- where the first run meets no unfinished match, the units of an evaluation are those of all these nodes
+    units_of_all : (u : EvaluationNode) → UnitsGuardedly h options schema instance u
+        → (p : Program C M) → IsOf p → FromSomeDepthAt p (λ texts n. branch_at (calls.sense_of h instance texts p n) evaluate [] ≡ None → unit_of texts u ≡ calls.units_under h instance texts p [] n)
+    units_of_all u (p', of', has) p of = λ texts speaks.
+        let alike = speak_alike h options schema default_nested p p' of of' texts instance in
+        let (deep, f) = has texts (alike.speaks speaks) in (
+          deep,
+          λ n more none. f n more (subst (λ (v : Sense). branch_at v evaluate [] ≡ None) (alike.senses n) none) (completion_of []) ∙ sym (alike.units [] n),
+        )
+
+  pub one_tree : calls.OneTree h
+  one_tree options schema instance u u' told told' p of = λ texts speaks.
+      let (deep, f) = units_of_all options schema instance u told p of texts speaks in
+      let (deep', f') = units_of_all options schema instance u' told' p of texts speaks in
+      (deep + deep', λ n more none. f n (omega (arith, more)) none ∙ sym (f' n (omega (arith, more)) none))
 
   module _ (keeps : (texts : Bool) → EachKeeps (h.words texts)) where
     -- so what follows from two answers for one sense is so of all these nodes
@@ -143,6 +172,10 @@ module _ {S K R C M : Type 0} (h : Handed S K R C M) where
     one_error_list options schema instance es es' = both_say options schema instance (Errors es) (Errors es')
         (λ texts v. ErrorsAgree v texts es es') (λ texts v follows. errors_agree v texts es es')
 
+    pub one_evaluation : calls.OneEvaluation h
+    one_evaluation options schema instance u u' = both_say options schema instance (Evaluated u) (Evaluated u')
+        (λ texts v. EvaluationsAgree v texts u u') (λ texts v follows. evaluations_agree v texts u u')
+
     pub true_iff_none : calls.TrueIffNone h
     true_iff_none options schema instance b o = both_say options schema instance (Verdict b) (First o)
         (WhereBoth is_valid validate (b ≡ is_none o))
@@ -160,3 +193,53 @@ module _ {S K R C M : Type 0} (h : Handed S K R C M) where
         (λ texts v follows first errors.
         both_decide v follows validate iter_errors (is_none o) (is_empty es) (first_verdict v follows texts o first)
         (errors_verdict v follows texts es errors))
+
+    pub true_iff_valid : calls.TrueIffValid h
+    true_iff_valid options schema instance b u = both_say options schema instance (Verdict b) (Evaluated u)
+        (λ texts v. WhereBoth is_valid evaluate (b ≡ verdict_in texts u) texts v)
+        (λ texts v follows says evaluated. both_decide v follows is_valid evaluate b (verdict_in texts u) says evaluated.verdict)
+
+    pub none_iff_valid : calls.NoneIffValid h
+    none_iff_valid options schema instance o u = both_say options schema instance (First o) (Evaluated u)
+        (λ texts v. WhereBoth validate evaluate (is_none o ≡ verdict_in texts u) texts v)
+        (λ texts v follows first evaluated.
+        both_decide v follows validate evaluate (is_none o) (verdict_in texts u) (first_verdict v follows texts o first) evaluated.verdict)
+
+    pub empty_iff_valid : calls.EmptyIffValid h
+    empty_iff_valid options schema instance es u = both_say options schema instance (Errors es) (Evaluated u)
+        (λ texts v. WhereBoth iter_errors evaluate (is_empty es ≡ verdict_in texts u) texts v)
+        (λ texts v follows errors evaluated.
+        both_decide v follows iter_errors evaluate (is_empty es) (verdict_in texts u) (errors_verdict v follows texts es errors) evaluated.verdict)
+
+-- ---- the four calls of one validator
+
+module _ (v : Sense) (follows : Follows v) where
+  all_have_one : (texts : Bool) (b : Bool) (o : Option ValidationError) (es : List ValidationError) (u : EvaluationNode)
+      → VerdictSays v is_valid b → FirstAnswered v texts o → ErrorsAnswered v texts es → EvaluationAnswered v texts u
+      → calls.OneVerdictOfAll v texts b o es u
+  all_have_one texts b o es u says first errors evaluated =
+      let none : VerdictSays v validate (is_none o) = first_verdict v follows texts o first in
+      let empty : VerdictSays v iter_errors (is_empty es) = errors_verdict v follows texts es errors in
+      let yes : VerdictSays v evaluate (verdict_in texts u) = evaluated.verdict in
+      record {
+        true_none = both_decide v follows is_valid validate b (is_none o) says none;
+        true_empty = both_decide v follows is_valid iter_errors b (is_empty es) says empty;
+        true_valid = both_decide v follows is_valid evaluate b (verdict_in texts u) says yes;
+        none_empty = both_decide v follows validate iter_errors (is_none o) (is_empty es) none empty;
+        none_valid = both_decide v follows validate evaluate (is_none o) (verdict_in texts u) none yes;
+        empty_valid = both_decide v follows iter_errors evaluate (is_empty es) (verdict_in texts u) empty yes;
+      }
+
+module _ {C Run K M : Type 0} (keywords : KeywordMembers C Run K) (matchers : MatcherMembers M) (keeps : (texts : Bool) → EachKeeps (keywords.words texts)) where
+  pub validator_calls : calls.ValidatorCallsAgree keywords matchers
+  validator_calls p instance b o es u says first errors evaluated = λ texts speaks.
+      let (deep1, f1) = says texts speaks in
+      let (deep2, f2) = first texts speaks in
+      let (deep3, f3) = errors texts speaks in
+      let (deep4, f4) = evaluated texts speaks in
+      let nodes = numbered keywords.shape p.nodes in
+      let follow = all_nodes_follow (keywords.words texts) (keeps texts) (matchers.matching p.matcher) nodes (subject_in instance) in (
+        deep1 + deep2 + deep3 + deep4,
+        λ n more. all_have_one _ (follow n p.root) texts b o es u
+            (f1 n (omega (arith, more))) (f2 n (omega (arith, more))) (f3 n (omega (arith, more))) (f4 n (omega (arith, more))),
+      )

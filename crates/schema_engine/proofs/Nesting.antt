@@ -1,24 +1,30 @@
 -- One sense determines what each call answers, up to the site of its failure; so two validators that mean the plain meaning of one
 -- schema answer alike.
-use Rattle.std.proofs.Common.{Bool, List, [], ap, false, inl, inr, map, refl, sym, true, ◌∙◌, ◌∷◌, ◌≡◌, ◌⊎◌}
+use Rattle.std.proofs.Common.{Bool, List, [], ap, arith, false, inl, inr, map, refl, subst, sym, true, ◌∙◌, ◌∷◌, ◌≡◌, ◌⊎◌}
 use Rattle.std.specs.Prelude.{None, Option, Some, is_none, option_map}
 use Rattle.serde_json.specs.Data.{Data}
-use Rattle.schema_reports.specs.Cover.{Call, Decides, Sense, branch_at, is_valid, iter_errors, validate}
+use Rattle.schema_reports.specs.Cover.{Call, Decides, Sense, branch_at, evaluate, is_valid, iter_errors, validate, whole}
 use Rattle.schema_reports.specs.Deciding.{decides_or_not}
 use Rattle.schema_reports.specs.Headline as h
 use Rattle.schema_reports.specs.Keywords.{Answer}
-use Rattle.schema_reports.specs.Reports.{Error}
+use Rattle.schema_reports.specs.Matching.{all_match}
+use Rattle.schema_reports.specs.Reports.{Error, Unit_}
 use Rattle.schema_reports.specs.ReportViews.{error_of}
 use Rattle.schema_reports.specs.Shared.{Kept, keep, leave, none}
 use Rattle.schema_reports.specs.SharedResults.{is_empty}
+use Rattle.schema_reports.specs.UnitViews.{unit_of}
+use Rattle.schema_reports.specs.declared.evaluation.EvaluationNode.{EvaluationNode}
 use Rattle.schema_reports.specs.declared.reports.ValidationError.{ValidationError}
 use Rattle.schema_node.specs.declared.context.keyword.Validate.{Ghosts as KeywordMembers}
 use Rattle.schema_node.specs.declared.context.matcher.Matcher.{Ghosts as MatcherMembers}
 use Rattle.schema_node.specs.declared.context.resolver.Resolver.{Ghosts as ResolverMembers}
 use Rattle.schema_node.specs.declared.context.table.KeywordTable.{Ghosts as TableMembers}
-use Rattle.schema_engine.specs.Called.{MeansPlainly, PlainlyOf}
+use Rattle.schema_output.specs.ErrorUnits.{errors_unit}
+use Rattle.schema_engine.specs.Asked.{UnitsInEverySense}
+use Rattle.schema_engine.specs.Called.{HasPlainUnits, MeansPlainly, PlainlyOf, UnitsPlainly}
+use Rattle.schema_engine.specs.Evaluated.{EvaluationAnswered}
 use Rattle.schema_engine.specs.Handed.{Handed, Options}
-use Rattle.schema_engine.specs.Nesting.{AllErrorsAgree, ErrorsAgree, FirstErrorsAgree, FirstsAgree, SameErrors, SameFirst, VerdictsAgree, handed_to_both as both}
+use Rattle.schema_engine.specs.Nesting.{AllErrorsAgree, ErrorsAgree, EvaluationsAgree, EvaluationsOfBoth, FirstErrorsAgree, FirstsAgree, IsOfFailure, SameErrors, SameFirst, SameUnits, UnitsOfBoth, VerdictsAgree, verdict_in, handed_to_both as both}
 use Rattle.schema_engine.specs.Program.{OfEverySense, Program}
 use Rattle.schema_engine.specs.Spoken.{ErrorsAnswered, FirstAnswered}
 use Rattle.schema_engine.proofs.PlainAnswers.{plainly_from}
@@ -86,34 +92,71 @@ module _ (v : Sense) where
   one_kept (leave n k) (keep s k') = absurd (n s)
   one_kept (leave n k) (leave n' k') = one_kept k k'
 
-  by_kept : (shared shared' es es' : List Error) → shared ≡ shared' → h.IsListed v iter_errors shared es → h.IsListed v iter_errors shared' es' → SameErrors v es es'
-  by_kept (f ∷ fs) (f' ∷ fs') es es' same is is' = inl (is ∙ (same ∙ sym is'))
-  by_kept (f ∷ fs) [] es es' same is is' = absurd (cc same)
-  by_kept [] (f ∷ fs) es es' same is is' = absurd (cc same)
-  by_kept [] [] [] [] same is is' = inl refl
-  by_kept [] [] [] (e ∷ es) same is is' = let ((c, nay), fails, last) = is' in absurd (cc (is c, nay))
-  by_kept [] [] (e ∷ es) [] same is is' = let ((c, nay), fails, last) = is in absurd (cc (is' c, nay))
-  by_kept [] [] (e ∷ es) (e' ∷ es') same is is' = let (some, fails, last) = is in let (some', fails', last') = is' in
-      inr ((e, fails, ap (λ z. e ∷ z) last), (e', fails', ap (λ z. e' ∷ z) last'))
+  module _ (call : Call) where
+    by_kept : (shared shared' es es' : List Error) → shared ≡ shared' → h.IsListed v call shared es → h.IsListed v call shared' es' → SameErrors v call es es'
+    by_kept (f ∷ fs) (f' ∷ fs') es es' same is is' = inl (is ∙ (same ∙ sym is'))
+    by_kept (f ∷ fs) [] es es' same is is' = absurd (cc same)
+    by_kept [] (f ∷ fs) es es' same is is' = absurd (cc same)
+    by_kept [] [] [] [] same is is' = inl refl
+    by_kept [] [] [] (e ∷ es) same is is' = let ((c, nay), fails, last) = is' in absurd (cc (is c, nay))
+    by_kept [] [] (e ∷ es) [] same is is' = let ((c, nay), fails, last) = is in absurd (cc (is' c, nay))
+    by_kept [] [] (e ∷ es) (e' ∷ es') same is is' = let (some, fails, last) = is in let (some', fails', last') = is' in
+        inr ((e, fails, ap (λ z. e ∷ z) last), (e', fails', ap (λ z. e' ∷ z) last'))
 
-  pub same_errors : (es es' : List Error) → h.ErrorsSay v es → h.ErrorsSay v es' → SameErrors v es es'
-  same_errors es es' says says' = go (decides_or_not v iter_errors)
-    where
-      go : Decides v iter_errors ⊎ ¬ (Decides v iter_errors) → SameErrors v es es'
-      go (inl d) = let (shared, kept, is) = says.0 d in let (shared', kept', is') = says'.0 d in by_kept shared shared' es es' (one_kept kept kept') is is'
-      go (inr n) = inr (says.1 n, says'.1 n)
+    pub same_errors : (es es' : List Error) → h.ErrorsOf v call es → h.ErrorsOf v call es' → SameErrors v call es es'
+    same_errors es es' says says' = go (decides_or_not v call)
+      where
+        go : Decides v call ⊎ ¬ (Decides v call) → SameErrors v call es es'
+        go (inl d) = let (shared, kept, is) = says.0 d in let (shared', kept', is') = says'.0 d in by_kept shared shared' es es' (one_kept kept kept') is is'
+        go (inr n) = inr (says.1 n, says'.1 n)
 
-  pub errors_alone : (es es' : List Error) → branch_at v iter_errors [] ≡ None → SameErrors v es es' → es ≡ es'
-  errors_alone es es' e (inl same) = same
-  errors_alone es es' e (inr ((x, fails, is), other)) = absurd (cc (e, fails.is_first))
+    pub errors_alone : (es es' : List Error) → branch_at v call [] ≡ None → SameErrors v call es es' → es ≡ es'
+    errors_alone es es' e (inl same) = same
+    errors_alone es es' e (inr ((x, fails, is), other)) = absurd (cc (e, fails.is_first))
 
   pub errors_agree : (texts : Bool) (es es' : List ValidationError) → ErrorsAnswered v texts es → ErrorsAnswered v texts es' → ErrorsAgree v texts es es'
-  errors_agree true es es' says says' = same_errors (map (error_of true) es) (map (error_of true) es') says says'
+  errors_agree true es es' says says' = same_errors iter_errors (map (error_of true) es) (map (error_of true) es') says says'
   errors_agree false es es' says says' = record {
     verdict = same_verdict iter_errors (is_empty es) (is_empty es') says.verdict says'.verdict;
     undecided = λ n. (says.undecided n, says'.undecided n);
-    alone = λ e. errors_alone (map (error_of false) es) (map (error_of false) es') e
-        (same_errors (map (error_of false) es) (map (error_of false) es') (says.alone e) (says'.alone e));
+    alone = λ e. errors_alone iter_errors (map (error_of false) es) (map (error_of false) es') e
+        (same_errors iter_errors (map (error_of false) es) (map (error_of false) es') (says.alone e) (says'.alone e));
+  }
+
+  -- ---- evaluations
+
+  -- the units of errors that are the failure alone
+  of_failure : (texts : Bool) (u : Unit_) (errors : List ValidationError) → u ≡ errors_unit (map (error_of texts) errors)
+      → h.OneFailure v evaluate (map (error_of true) errors) → IsOfFailure v texts u
+  of_failure texts u [] made (e, fails, is) = absurd (cc is)
+  of_failure texts u (x ∷ (y ∷ more)) made (e, fails, is) = absurd (cc is)
+  of_failure texts u (x ∷ []) made (e, fails, is) =
+      let same : e ≡ error_of true x = cc in
+      record { error = x; fails = subst (h.IsFailure v evaluate) same fails; made = made }
+
+  -- an evaluation that doesn't decide meets an unfinished match
+  meets_one : ¬ (Decides v evaluate) → branch_at v evaluate [] ≡ None → ⊥
+  meets_one not e = not ([] ∷ [], whole e, omega arith)
+
+  undecided_units : (texts : Bool) (u : EvaluationNode) → EvaluationAnswered v texts u → ¬ (Decides v evaluate) → IsOfFailure v texts (unit_of texts u)
+  undecided_units texts u says not = let of = says.apart (meets_one not) in of_failure texts (unit_of texts u) of.errors of.made (of.undecided not)
+
+  units_apart : (texts : Bool) (u u' : EvaluationNode) → EvaluationAnswered v texts u → EvaluationAnswered v texts u'
+      → texts ≡ true → ¬ (branch_at v evaluate [] ≡ None) → SameUnits v (unit_of true u) (unit_of true u')
+  units_apart false u u' says says' e some = absurd (cc e)
+  units_apart true u u' says says' e some =
+      let of = says.apart some in
+      let of' = says'.apart some in
+      elim (same_errors evaluate (map (error_of true) of.errors) (map (error_of true) of'.errors) (of.shared refl) (of'.shared refl)) [
+        | inl same ↦ inl (of.made ∙ (ap errors_unit same ∙ sym of'.made))
+        | inr (one, one') ↦ inr (of_failure true (unit_of true u) of.errors of.made one, of_failure true (unit_of true u') of'.errors of'.made one')
+      ]
+
+  pub evaluations_agree : (texts : Bool) (u u' : EvaluationNode) → EvaluationAnswered v texts u → EvaluationAnswered v texts u' → EvaluationsAgree v texts u u'
+  evaluations_agree texts u u' says says' = record {
+    verdict = same_verdict evaluate (verdict_in texts u) (verdict_in texts u') says.verdict says'.verdict;
+    undecided = λ not. (undecided_units texts u says not, undecided_units texts u' says' not);
+    apart = units_apart texts u u' says says';
   }
 
 -- ---- two validators of one schema
@@ -151,3 +194,19 @@ module _ {A State S T C Maker Run K M : Type 0} (resolvers : ResolverMembers A S
   pub all_errors : AllErrorsAgree resolvers tables keywords matchers resolver table matcher
   all_errors options schema p p' means means' instance es es' = both_plainly options schema p p' means means' instance
       (λ texts v. ErrorsAnswered v texts es) (λ texts v. ErrorsAnswered v texts es') (λ texts v. ErrorsAgree v texts es es') (λ texts v. errors_agree v texts es es')
+
+  pub evaluations : EvaluationsOfBoth resolvers tables keywords matchers resolver table matcher
+  evaluations options schema p p' means means' instance u u' = both_plainly options schema p p' means means' instance
+      (λ texts v. EvaluationAnswered v texts u) (λ texts v. EvaluationAnswered v texts u') (λ texts v. EvaluationsAgree v texts u u') (λ texts v. evaluations_agree v texts u u')
+
+  -- the units of an evaluation are those of the plain meaning, where the validator has these
+  plain_units : (options : Options) (schema : Data) (p : Program C M) → MeansPlainly parts options schema p → HasPlainUnits parts options schema p
+      → (instance : Data) (u : EvaluationNode) → UnitsInEverySense keywords matchers p instance u → UnitsPlainly parts options schema instance u
+  plain_units options schema p means has instance u told texts root is_root speaks no_return keys reach n deep =
+      let meant = means instance texts root is_root speaks in
+      told texts meant.0 _ (meant.1 no_return keys reach n deep) _ (has instance texts root is_root speaks no_return keys reach n deep)
+
+  pub units : UnitsOfBoth resolvers tables keywords matchers resolver table matcher
+  units options schema p p' means means' has has' instance u u' told told' = λ texts root is_root speaks no_return keys reach n deep none.
+      plain_units options schema p means has instance u told texts root is_root speaks no_return keys reach n deep none all_match
+      ∙ sym (plain_units options schema p' means' has' instance u' told' texts root is_root speaks no_return keys reach n deep none all_match)

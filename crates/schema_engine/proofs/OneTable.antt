@@ -5,10 +5,14 @@ use Rattle.serde_json.specs.Data.{Data}
 use Rattle.schema_reports.specs.Parts.{Parts}
 use Rattle.schema_reports.specs.Plan.{Key}
 use Rattle.schema_reports.specs.Fractions.{AreWhole, IsWholeWord, form_words, node_words}
-use Rattle.schema_reports.specs.Guarded.{NodeForm, NodePart, NodePlan, Nodes, guarded_sense}
+use Rattle.schema_reports.specs.Guarded.{NodeForm, NodePart, NodePlan, Nodes, guarded_sense, guarded_within, node_unit, yes_unit}
 use Rattle.schema_reports.specs.Guarded.{node_always, node_keyword, node_never, node_reference, node_these}
-use Rattle.schema_reports.specs.Matching.{Matcher}
+use Rattle.schema_reports.specs.Instance.{Place, Subject}
+use Rattle.schema_reports.specs.Matching.{Assumptions, Matcher, completion_of}
 use Rattle.schema_reports.specs.Numbered.{Ranked, subject_in}
+use Rattle.schema_reports.specs.Reports.{Unit_}
+use Rattle.schema_reports.specs.Runs.{Run}
+use Rattle.schema_reports.proofs.NodeRuns.{runs_say_outcomes}
 use Rattle.schema_node.specs.NodeTable.{NodeEntry, numbered}
 use Rattle.schema_compiler.specs.Agreeing.{AlikeForm, AlikeParts, AlikePlan, AreAlike}
 use Rattle.schema_compiler.specs.Compilation.{IsCompilation}
@@ -158,6 +162,17 @@ module _ {S K R C M : Type 0} (h : Handed S K R C M) (options : Options) (schema
       let words = same_words (table.entries i) (table'.entries i) (agree.2.entries i) in
       subst (All (IsWholeWord h.is_whole)) words (whole i (omega (arith, within, many)))
 
+  -- the units of a table's node, by a matcher
+  abbrev units_by : Matcher → Nodes K → (Place → Subject) → Assumptions → ℕ → ℕ → Unit_
+  units_by m nodes subject as' n i = guarded_within (yes_unit nodes) (node_unit (h.words texts) m nodes subject (completion_of as')) n i [] [] []
+
+  -- they are those that its run gives, which is the same in both tables
+  units_alike : (subject : Place → Subject) (as' : Assumptions) (n i : ℕ) → units_by h.matcher table subject as' n i ≡ units_by h.matcher table' subject as' n i
+  units_alike subject as' n i =
+      sym (runs_say_outcomes (h.words texts) h.matcher table subject as' n i [] [] []).1
+      ∙ (ap (λ (r : Run). r.units tt) (agree.2.runs subject as' n i [] [] [])
+      ∙ (runs_say_outcomes (h.words texts) h.matcher table' subject as' n i [] [] []).1)
+
   pub speak_alike : (instance : Data) → SpeakAlike h instance texts p p'
   speak_alike instance = record {
     speaks = λ speaks t. ((speaks t).0, whole_alike (speaks t).1);
@@ -167,4 +182,10 @@ module _ {S K R C M : Type 0} (h : Handed S K R C M) (options : Options) (schema
         ∙ (agree.2.senses subject n p.root
         ∙ (ap (λ i. guarded_sense (h.words texts) h.matcher table' subject n i) one_number
         ∙ ap (λ (m : Matcher). guarded_sense (h.words texts) m table' subject n p'.root) (sym of'.matcher_is)));
+    units = λ as' n.
+        let subject = subject_in instance in
+        ap (λ (m : Matcher). units_by m table subject as' n p.root) of.matcher_is
+        ∙ (units_alike subject as' n p.root
+        ∙ (ap (λ i. units_by h.matcher table' subject as' n i) one_number
+        ∙ ap (λ (m : Matcher). units_by m table' subject as' n p'.root) (sym of'.matcher_is)));
   }

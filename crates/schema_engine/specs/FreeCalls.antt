@@ -1,17 +1,25 @@
 -- The calls of a schema and an instance agree with each other, also where chains of references return. Each call compiles nodes of
 -- its own, and its answer is what these say from some depth on; but all nodes that are compiled from one schema by the same options
--- and the same limit on nested targets have one sense, so that calls of one schema and one instance speak of one sense.
-use Rattle.std.specs.Prelude.{Bool, List, Option, is_none, ℕ, ◌≡◌}
+-- and the same limit on nested targets have one sense and the same units, so that calls of one schema and one instance speak of one
+-- sense. So do the calls of one validator.
+use Rattle.std.specs.Prelude.{Bool, List, None, Option, [], is_none, ℕ, ◌≡◌}
 use Rattle.serde_json.specs.Data.{Data}
-use Rattle.schema_reports.specs.Cover.{Decides, Sense, is_valid, iter_errors, validate}
-use Rattle.schema_reports.specs.Guarded.{guarded_sense}
+use Rattle.schema_reports.specs.Cover.{Decides, Sense, branch_at, evaluate, is_valid, iter_errors, validate}
+use Rattle.schema_reports.specs.Guarded.{guarded_sense, guarded_within, node_unit, yes_unit}
+use Rattle.schema_reports.specs.Matching.{Assumptions, completion_of}
 use Rattle.schema_reports.specs.Numbered.{subject_in}
+use Rattle.schema_reports.specs.Reports.{Unit_}
 use Rattle.schema_reports.specs.SharedResults.{is_empty}
+use Rattle.schema_reports.specs.UnitViews.{unit_of}
+use Rattle.schema_reports.specs.declared.evaluation.EvaluationNode.{EvaluationNode}
 use Rattle.schema_reports.specs.declared.reports.ValidationError.{ValidationError}
 use Rattle.schema_node.specs.NodeTable.{numbered}
-use Rattle.schema_engine.specs.Called.{DecidesGuardedly, ErrorsGuardedly, FirstGuardedly, IsCompiledFrom}
+use Rattle.schema_node.specs.declared.context.keyword.Validate.{Ghosts as KeywordMembers}
+use Rattle.schema_node.specs.declared.context.matcher.Matcher.{Ghosts as MatcherMembers}
+use Rattle.schema_engine.specs.Asked.{DecidesFromSomeDepth, ErrorsFromSomeDepth, EvaluatesFromSomeDepth, FirstFromSomeDepth}
+use Rattle.schema_engine.specs.Called.{DecidesGuardedly, ErrorsGuardedly, EvaluatesGuardedly, FirstGuardedly, IsCompiledFrom, UnitsGuardedly}
 use Rattle.schema_engine.specs.Handed.{Handed, Options, default_nested}
-use Rattle.schema_engine.specs.Nesting.{ErrorsAgree, FirstsAgree}
+use Rattle.schema_engine.specs.Nesting.{ErrorsAgree, EvaluationsAgree, FirstsAgree, verdict_in}
 use Rattle.schema_engine.specs.Program.{FromSomeDepth, Program, Speaks}
 
 -- what is handed in
@@ -20,18 +28,24 @@ module _ {S K R C M : Type 0} (h : Handed S K R C M) where
 
   module _ (instance : Data) (texts : Bool) where
     -- texts of errors are spoken of in what a validator says of the instance
-    abbrev SpeaksOf : Program C M → Type 0
+    abbrev pub SpeaksOf : Program C M → Type 0
     SpeaksOf p = Speaks h.shape h.words h.is_whole h.matching p instance texts
 
     -- what its root's node says of the instance, with questions of a depth
-    abbrev sense_of : Program C M → ℕ → Sense
+    abbrev pub sense_of : Program C M → ℕ → Sense
     sense_of p n = guarded_sense (h.words texts) (h.matching p.matcher) (numbered h.shape p.nodes) (subject_in instance) n p.root
 
+    -- the units that it has then, where these outcomes of unfinished matches are assumed
+    abbrev pub units_under : Program C M → Assumptions → ℕ → Unit_
+    units_under p as' n = guarded_within (yes_unit (numbered h.shape p.nodes))
+        (node_unit (h.words texts) (h.matching p.matcher) (numbered h.shape p.nodes) (subject_in instance) (completion_of as')) n p.root [] [] []
+
     -- two validators speak alike of an instance: texts are spoken of for the one only where they are for the other, and at every
-    -- depth their roots' nodes have one sense
+    -- depth their roots' nodes have one sense and the same units
     pub record SpeakAlike (p p' : Program C M) : Type 0 where
       pub speaks : SpeaksOf p → SpeaksOf p'
       pub senses : (n : ℕ) → sense_of p n ≡ sense_of p' n
+      pub units : (as' : Assumptions) (n : ℕ) → units_under p as' n ≡ units_under p' as' n
 
   -- validators that are compiled from one schema, by the same options and the same limit on nested targets, speak alike of every instance
   abbrev pub OneSense : Type 0
@@ -69,6 +83,20 @@ module _ {S K R C M : Type 0} (h : Handed S K R C M) where
       → ErrorsGuardedly h options schema instance es → ErrorsGuardedly h options schema instance es'
       → OfAllCompiled options schema instance (λ texts v. ErrorsAgree v texts es es'))
 
+  -- two evaluations agree as those of two validators do: their verdicts are equal; both are made of the failure where the call
+  -- doesn't decide; and where the first run meets an unfinished match and texts are spoken of, the units are equal, or both are made
+  -- of the failure
+  abbrev pub OneEvaluation : Type 0
+  OneEvaluation = OfCalls (λ options schema instance. (u u' : EvaluationNode)
+      → EvaluatesGuardedly h options schema instance u → EvaluatesGuardedly h options schema instance u'
+      → OfAllCompiled options schema instance (λ texts v. EvaluationsAgree v texts u u'))
+
+  -- two evaluations have the same units where the first run meets no unfinished match
+  abbrev pub OneTree : Type 0
+  OneTree = OfCalls (λ options schema instance. (u u' : EvaluationNode)
+      → UnitsGuardedly h options schema instance u → UnitsGuardedly h options schema instance u'
+      → OfAllCompiled options schema instance (λ texts v. branch_at v evaluate [] ≡ None → unit_of texts u ≡ unit_of texts u'))
+
   -- where both calls decide, `is_valid` answers true exactly if `validate` answers none
   abbrev pub TrueIffNone : Type 0
   TrueIffNone = OfCalls (λ options schema instance. (b : Bool) (o : Option ValidationError)
@@ -86,3 +114,39 @@ module _ {S K R C M : Type 0} (h : Handed S K R C M) where
   NoneIffEmpty = OfCalls (λ options schema instance. (o : Option ValidationError) (es : List ValidationError)
       → FirstGuardedly h options schema instance o → ErrorsGuardedly h options schema instance es
       → OfAllCompiled options schema instance (λ texts v. Decides v validate → Decides v iter_errors → is_none o ≡ is_empty es))
+
+  -- where both calls decide, `is_valid` answers true exactly if the verdict of `evaluate` is yes
+  abbrev pub TrueIffValid : Type 0
+  TrueIffValid = OfCalls (λ options schema instance. (b : Bool) (u : EvaluationNode)
+      → DecidesGuardedly h options schema instance b → EvaluatesGuardedly h options schema instance u
+      → OfAllCompiled options schema instance (λ texts v. Decides v is_valid → Decides v evaluate → b ≡ verdict_in texts u))
+
+  -- where both calls decide, `validate` answers none exactly if the verdict of `evaluate` is yes
+  abbrev pub NoneIffValid : Type 0
+  NoneIffValid = OfCalls (λ options schema instance. (o : Option ValidationError) (u : EvaluationNode)
+      → FirstGuardedly h options schema instance o → EvaluatesGuardedly h options schema instance u
+      → OfAllCompiled options schema instance (λ texts v. Decides v validate → Decides v evaluate → is_none o ≡ verdict_in texts u))
+
+  -- where both calls decide, `iter_errors` gives the empty list exactly if the verdict of `evaluate` is yes
+  abbrev pub EmptyIffValid : Type 0
+  EmptyIffValid = OfCalls (λ options schema instance. (es : List ValidationError) (u : EvaluationNode)
+      → ErrorsGuardedly h options schema instance es → EvaluatesGuardedly h options schema instance u
+      → OfAllCompiled options schema instance (λ texts v. Decides v iter_errors → Decides v evaluate → is_empty es ≡ verdict_in texts u))
+
+-- ---- the four calls of one validator
+
+-- of what the calls answer, each two that decide have one verdict: true, none, the empty list, and a yes
+pub record OneVerdictOfAll (v : Sense) (texts : Bool) (b : Bool) (o : Option ValidationError) (es : List ValidationError) (u : EvaluationNode) : Type 0 where
+  pub true_none : Decides v is_valid → Decides v validate → b ≡ is_none o
+  pub true_empty : Decides v is_valid → Decides v iter_errors → b ≡ is_empty es
+  pub true_valid : Decides v is_valid → Decides v evaluate → b ≡ verdict_in texts u
+  pub none_empty : Decides v validate → Decides v iter_errors → is_none o ≡ is_empty es
+  pub none_valid : Decides v validate → Decides v evaluate → is_none o ≡ verdict_in texts u
+  pub empty_valid : Decides v iter_errors → Decides v evaluate → is_empty es ≡ verdict_in texts u
+
+-- from some depth on, what the calls of a validator answer of an instance has one verdict
+abbrev pub ValidatorCallsAgree : {C Run K M : Type 0} → KeywordMembers C Run K → MatcherMembers M → Type 0
+ValidatorCallsAgree {C} {Run} {K} {M} keywords matchers = (p : Program C M) (instance : Data) (b : Bool) (o : Option ValidationError) (es : List ValidationError) (u : EvaluationNode)
+    → DecidesFromSomeDepth keywords matchers p instance b → FirstFromSomeDepth keywords matchers p instance o
+    → ErrorsFromSomeDepth keywords matchers p instance es → EvaluatesFromSomeDepth keywords matchers p instance u
+    → FromSomeDepth keywords.shape keywords.words keywords.is_whole matchers.matching p instance (λ texts v. OneVerdictOfAll v texts b o es u)

@@ -1,26 +1,34 @@
 -- The limit on how many targets of references are compiled one inside another changes no answer. Two validators that mean the
 -- plain meaning of one schema, as builds with any two limits give them, answer alike of every instance where no chain of
--- references returns: the verdicts are equal, and so are the errors. Only where both calls give the failure of a match that stays
--- unfinished may each show it at a site of its own. Nor does the limit change whether a schema builds, want of memory aside.
-use Rattle.std.specs.Prelude.{Bool, List, None, Option, Some, [], false, is_none, map, option_map, true, ◌≡◌, ◌⊎◌}
+-- references returns: the verdicts are equal, and so are the errors and the evaluations. Only where both calls give the failure of a
+-- match that stays unfinished may each show it at a site of its own. Nor does the limit change whether a schema builds, want of
+-- memory aside.
+use Rattle.std.specs.Prelude.{Bool, List, None, Option, Some, [], false, is_none, map, option_map, true, ◌∷◌, ◌≡◌, ◌⊎◌}
 use Rattle.serde_json.specs.Data.{Data}
-use Rattle.schema_reports.specs.Cover.{Decides, Sense, branch_at, iter_errors, validate}
+use Rattle.schema_reports.specs.Cover.{Call, Decides, Sense, branch_at, evaluate, iter_errors, validate}
 use Rattle.schema_reports.specs.Headline.{IsFailure, OneFailure}
 use Rattle.schema_reports.specs.Keywords.{Answer}
 use Rattle.schema_reports.specs.ReportViews.{error_of}
-use Rattle.schema_reports.specs.Reports.{Error}
+use Rattle.schema_reports.specs.Reports.{Error, Unit_, report_of}
 use Rattle.schema_reports.specs.SharedResults.{is_empty}
+use Rattle.schema_reports.specs.UnitViews.{unit_of}
+use Rattle.schema_reports.specs.declared.evaluation.EvaluationNode.{EvaluationNode}
 use Rattle.schema_reports.specs.declared.reports.ValidationError.{ValidationError}
 use Rattle.schema_node.specs.declared.context.keyword.Validate.{Ghosts as KeywordMembers}
 use Rattle.schema_node.specs.declared.context.matcher.Matcher.{Ghosts as MatcherMembers}
 use Rattle.schema_node.specs.declared.context.resolver.Resolver.{Ghosts as ResolverMembers}
 use Rattle.schema_node.specs.declared.context.table.KeywordTable.{Ghosts as TableMembers}
+use Rattle.schema_output.specs.ErrorUnits.{errors_unit}
 use Rattle.schema_compiler.specs.declared.compiler.error.BuildError.{BuildError}
 use Rattle.schema_compiler.specs.declared.compiler.error.BuildError.TheVariants.{OutOfMemory}
-use Rattle.schema_engine.specs.Asked.{DecidesInEverySense, ErrorsInEverySense, FirstInEverySense}
-use Rattle.schema_engine.specs.Called.{MeansPlainly, PlainlyOf, SchemaBuilds, SchemaRefused}
+use Rattle.schema_engine.specs.Asked.{DecidesInEverySense, ErrorsInEverySense, EvaluatesInEverySense, FirstInEverySense, UnitsInEverySense}
+use Rattle.schema_engine.specs.Called.{HasPlainUnits, MeansPlainly, PlainlyOf, SchemaBuilds, SchemaRefused}
 use Rattle.schema_engine.specs.Handed.{Handed, Options, handed}
 use Rattle.schema_engine.specs.Program.{Program}
+
+-- the verdict of an evaluation, which is its outermost unit's
+abbrev pub verdict_in : Bool → EvaluationNode → Bool
+verdict_in texts u = (report_of (unit_of texts u)).valid
 
 -- ---- two answers about one sense
 
@@ -33,9 +41,9 @@ module _ (v : Sense) where
   abbrev pub SameFirst : Option Error → Option Error → Type 0
   SameFirst o o' = (o ≡ o') ⊎ (FirstFails o × FirstFails o')
 
-  -- the errors are equal in all of these, in one order; or both calls give the failure alone
-  abbrev pub SameErrors : List Error → List Error → Type 0
-  SameErrors es es' = (es ≡ es') ⊎ (OneFailure v iter_errors es × OneFailure v iter_errors es')
+  -- the errors of two calls of one kind are equal in all of these, in one order; or both calls give the failure alone
+  abbrev pub SameErrors : Call → List Error → List Error → Type 0
+  SameErrors call es es' = (es ≡ es') ⊎ (OneFailure v call es × OneFailure v call es')
 
   -- where texts are not spoken of: both are none, or neither is; both are the failure where the call doesn't decide; and they are
   -- equal but for the texts where the first run meets no unfinished match
@@ -57,8 +65,25 @@ module _ (v : Sense) where
 
   -- two lists of errors agree, texts being spoken of or not
   abbrev pub ErrorsAgree : Bool → List ValidationError → List ValidationError → Type 0
-  ErrorsAgree true es es' = SameErrors (map (error_of true) es) (map (error_of true) es')
+  ErrorsAgree true es es' = SameErrors iter_errors (map (error_of true) es) (map (error_of true) es')
   ErrorsAgree false es es' = ErrorsAgreeUnspoken es es'
+
+  -- the units are made of the evaluation's one failure
+  pub record IsOfFailure (texts : Bool) (u : Unit_) : Type 0 where
+    pub error : ValidationError
+    pub fails : IsFailure v evaluate (error_of true error)
+    pub made : u ≡ errors_unit (error_of texts error ∷ [])
+
+  -- the units are equal; or both are made of the one failure
+  abbrev pub SameUnits : Unit_ → Unit_ → Type 0
+  SameUnits u u' = (u ≡ u') ⊎ (IsOfFailure true u × IsOfFailure true u')
+
+  -- two evaluations agree: the verdicts are equal; both are made of the failure where the call doesn't decide; and where the first
+  -- run meets an unfinished match and texts are spoken of, the units are equal, or both are made of the failure
+  pub record EvaluationsAgree (texts : Bool) (u u' : EvaluationNode) : Type 0 where
+    pub verdict : verdict_in texts u ≡ verdict_in texts u'
+    pub undecided : ¬ (Decides v evaluate) → IsOfFailure texts (unit_of texts u) × IsOfFailure texts (unit_of texts u')
+    pub apart : texts ≡ true → ¬ (branch_at v evaluate [] ≡ None) → SameUnits (unit_of true u) (unit_of true u')
 
 -- ---- two validators of one schema
 
@@ -89,6 +114,18 @@ module _ {A State S T C Maker Run K M : Type 0} (resolvers : ResolverMembers A S
   AllErrorsAgree = OfBoth (λ options schema p p'. (instance : Data) (es es' : List ValidationError)
       → ErrorsInEverySense keywords matchers p instance es → ErrorsInEverySense keywords matchers p' instance es'
       → PlainlyOf handed_to_both options schema instance (λ texts v. ErrorsAgree v texts es es'))
+
+  -- two evaluations of one instance agree
+  abbrev pub EvaluationsOfBoth : Type 0
+  EvaluationsOfBoth = OfBoth (λ options schema p p'. (instance : Data) (u u' : EvaluationNode)
+      → EvaluatesInEverySense keywords matchers p instance u → EvaluatesInEverySense keywords matchers p' instance u'
+      → PlainlyOf handed_to_both options schema instance (λ texts v. EvaluationsAgree v texts u u'))
+
+  -- where both validators have the plain units too, the units of two evaluations are equal where the first run meets no unfinished match
+  abbrev pub UnitsOfBoth : Type 0
+  UnitsOfBoth = OfBoth (λ options schema p p'. HasPlainUnits handed_to_both options schema p → HasPlainUnits handed_to_both options schema p'
+      → (instance : Data) (u u' : EvaluationNode) → UnitsInEverySense keywords matchers p instance u → UnitsInEverySense keywords matchers p' instance u'
+      → PlainlyOf handed_to_both options schema instance (λ texts v. branch_at v evaluate [] ≡ None → unit_of texts u ≡ unit_of texts u'))
 
   -- ---- two builds of one schema
 

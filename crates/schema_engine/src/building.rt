@@ -1,7 +1,7 @@
 //! Validators by the default options.
 ghost use Rattle.std.specs.Prelude.{◌≡◌, IfOk, IfErr};
 ghost use Rattle.serde_json.specs.View.{view};
-ghost use Rattle.schema_engine.specs.Called.{IsCompiledFrom, MeansPlainly, PointsPlainly, SchemaBuilds, SchemaRefused};
+ghost use Rattle.schema_engine.specs.Called.{HasPlainUnits, IsCompiledFrom, MeansPlainly, PointsPlainly, SchemaBuilds, SchemaRefused};
 ghost use Rattle.schema_engine.specs.Handed.{default_nested, default_options, handed};
 
 use crate::options::ValidationOptions;
@@ -36,6 +36,9 @@ impl<K: Validate, M: Matcher> Validator<K, M> {
         matcher: &M,
     ) -> Result<Validator<K, M>, BuildError>
         ensures means { IfOk result (λ v. MeansPlainly
+            (handed S.Resolver T.KeywordTable K.Validate M.Matcher.own resolver.now table.now matcher.now)
+            default_options (view schema.now) v) }
+        ensures units { IfOk result (λ v. HasPlainUnits
             (handed S.Resolver T.KeywordTable K.Validate M.Matcher.own resolver.now table.now matcher.now)
             default_options (view schema.now) v) }
         ensures points { IfOk result (λ v. PointsPlainly

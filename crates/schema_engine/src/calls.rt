@@ -4,7 +4,7 @@ ghost use Rattle.serde_json.specs.View.{view};
 ghost use Rattle.schema_reports.specs.ReportViews.{BorrowsItsPlace};
 ghost use Rattle.schema_engine.specs.Answers.{refusal_of};
 ghost use Rattle.schema_engine.specs.Called.{DecidesGuardedly, DecidesPlainly, SchemaRefused};
-ghost use Rattle.schema_engine.specs.Called.{EvaluatesGuardedly, EvaluatesPlainly, UnitsGuardedly};
+ghost use Rattle.schema_engine.specs.Called.{EvaluatesGuardedly, EvaluatesPlainly, UnitsGuardedly, UnitsPlainly};
 ghost use Rattle.schema_engine.specs.Called.{ErrorsPlainly, ErrorsGuardedly, EachLeads, FirstPlainly, FirstGuardedly, FirstLeads};
 ghost use Rattle.schema_engine.specs.Handed.{default_options, handed};
 
@@ -110,7 +110,8 @@ pub fn iter_errors<'i, S: Resolver, T: KeywordTable<K>, K: Validate, M: Matcher>
     Ok(validator.iter_errors(alloc, instance)?)
 }
 
-/// Returns the evaluation of the instance by a schema, as `Validator::evaluate` does.
+/// Returns the evaluation of the instance by a schema, as `Validator::evaluate` does. Where no chain of references returns and
+/// the run meets no unfinished match, its units are the plain ones: those of the schema with each reference looked up anew.
 ///
 /// # Errors
 ///
@@ -127,6 +128,9 @@ pub fn evaluate<S: Resolver, T: KeywordTable<K>, K: Validate, M: Matcher>(
         (handed S.Resolver T.KeywordTable K.Validate M.Matcher.own resolver.now table.now matcher.now)
         default_options (view schema.now) (view instance.now) u) }
     ensures guarded { IfOk result (λ u. EvaluatesGuardedly
+        (handed S.Resolver T.KeywordTable K.Validate M.Matcher.own resolver.now table.now matcher.now)
+        default_options (view schema.now) (view instance.now) u) }
+    ensures plain_units { IfOk result (λ u. UnitsPlainly
         (handed S.Resolver T.KeywordTable K.Validate M.Matcher.own resolver.now table.now matcher.now)
         default_options (view schema.now) (view instance.now) u) }
     ensures units { IfOk result (λ u. UnitsGuardedly

@@ -2,7 +2,7 @@
 ghost use Rattle.std.specs.Prelude.{◌≡◌, ◌<◌, IfOk, length};
 ghost use Rattle.serde_json.specs.View.{view};
 ghost use Rattle.schema_reports.specs.KeywordViews.{draft_of};
-ghost use Rattle.schema_engine.specs.Called.{MeansAsCompiled};
+ghost use Rattle.schema_engine.specs.Called.{HasUnitsAsCompiled, MeansAsCompiled};
 ghost use Rattle.schema_engine.specs.Handed.{handed};
 
 use crate::validator::Validator;
@@ -17,7 +17,8 @@ use serde_json::Value;
 use std::alloc::Global;
 
 /// Builds a validator from compiled nodes, the number of the root's node and the root's draft. Where the nodes are compiled
-/// from each root key of the schema, the validator means the plain meaning. The matcher is cloned.
+/// from each root key of the schema and no chain of references returns, the validator means the plain meaning and has its
+/// units. The matcher is cloned.
 ///
 /// # Errors
 ///
@@ -35,6 +36,9 @@ pub fn of_compiled<S: Resolver, T: KeywordTable<K>, K: Validate, M: Matcher>(
     ensures made { IfOk result (λ v. (v.nodes ≡ nodes) × (v.root ≡ root.0) × (v.draft ≡ draft_of draft)) }
     ensures matcher { IfOk result (λ v. M.matching v.matcher ≡ M.matching matcher.now) }
     ensures means { IfOk result (λ v. MeansAsCompiled
+        (handed S.Resolver T.KeywordTable K.Validate M.Matcher.own resolver.now table.now matcher.now)
+        (view schema.now) nodes root.0 v) }
+    ensures units { IfOk result (λ v. HasUnitsAsCompiled
         (handed S.Resolver T.KeywordTable K.Validate M.Matcher.own resolver.now table.now matcher.now)
         (view schema.now) nodes root.0 v) }
 {

@@ -1,9 +1,11 @@
 //! What is proved of any two builds, validators or calls of one schema, for all parts: each function states one law, and does
 //! nothing.
-ghost use Rattle.schema_engine.specs.FreeCalls.{NoneIffEmpty, OneErrorList, OneFirstError, OneSense, OneVerdict};
-ghost use Rattle.schema_engine.specs.FreeCalls.{TrueIffEmpty, TrueIffNone};
+ghost use Rattle.schema_engine.specs.FreeCalls.{EmptyIffValid, NoneIffEmpty, NoneIffValid, TrueIffEmpty, TrueIffNone, TrueIffValid};
+ghost use Rattle.schema_engine.specs.FreeCalls.{OneErrorList, OneEvaluation, OneFirstError, OneSense, OneTree, OneVerdict};
+ghost use Rattle.schema_engine.specs.FreeCalls.{ValidatorCallsAgree};
 ghost use Rattle.schema_engine.specs.Handed.{handed};
 ghost use Rattle.schema_engine.specs.Nesting.{AllErrorsAgree, BuildsAgree, FirstErrorsAgree, VerdictsAgree};
+ghost use Rattle.schema_engine.specs.Nesting.{EvaluationsOfBoth, UnitsOfBoth};
 
 use schema_node::context::keyword::Validate;
 use schema_node::context::matcher::Matcher;
@@ -16,6 +18,10 @@ use schema_node::context::table::KeywordTable;
 /// that stays unfinished may each show it at a site of its own. Where texts of errors are not spoken of, as the instance or the
 /// schema holds a fraction, it is said that both give an error or neither does, that both give the failure where the call does
 /// not decide, and that the errors are equal but for their texts where the first run meets no unfinished match.
+///
+/// Two evaluations have one verdict, and both are made of the failure where the call does not decide. Where the first run meets an
+/// unfinished match and texts are spoken of, their units are equal, or both are made of the failure. Where it meets none, their
+/// units are equal if both validators have the units of the plain meaning too; those but for texts where these are not spoken of.
 pub fn limits_agree<S: Resolver, T: KeywordTable<K>, K: Validate, M: Matcher>()
     ensures verdict { (resolver : S) (table : T) (matcher : M)
         → VerdictsAgree S.Resolver T.KeywordTable K.Validate M.Matcher.own resolver table matcher }
@@ -23,6 +29,10 @@ pub fn limits_agree<S: Resolver, T: KeywordTable<K>, K: Validate, M: Matcher>()
         → FirstErrorsAgree S.Resolver T.KeywordTable K.Validate M.Matcher.own resolver table matcher }
     ensures errors { (resolver : S) (table : T) (matcher : M)
         → AllErrorsAgree S.Resolver T.KeywordTable K.Validate M.Matcher.own resolver table matcher }
+    ensures evaluation { (resolver : S) (table : T) (matcher : M)
+        → EvaluationsOfBoth S.Resolver T.KeywordTable K.Validate M.Matcher.own resolver table matcher }
+    ensures units { (resolver : S) (table : T) (matcher : M)
+        → UnitsOfBoth S.Resolver T.KeywordTable K.Validate M.Matcher.own resolver table matcher }
 {}
 
 /// One limit on nested targets builds a schema exactly if any other does, want of memory aside. Neither what `build` and
@@ -33,12 +43,13 @@ pub fn builds_agree<S: Resolver, T: KeywordTable<K>, K: Validate, M: Matcher>()
         → BuildsAgree S.Resolver T.KeywordTable K.Validate M.Matcher.own resolver table matcher }
 {}
 
-/// The calls `is_valid`, `validate` and `iter_errors` of one schema and one instance agree, also where chains of references
-/// return, though each compiles nodes of its own: any two validators that are compiled from one schema, by the same options and
-/// the same limit on nested targets, have one sense at every depth. So two verdicts are equal, and two first errors or two lists of
-/// errors agree as those of two validators do in `limits_agree`. And of two calls that both decide, one finds no error exactly if
-/// the other does: `is_valid` by answering true, `validate` none, and `iter_errors` the empty list. For the verdicts and for whether
-/// there is an error it does not matter whether texts of errors are spoken of.
+/// The calls `is_valid`, `validate`, `iter_errors` and `evaluate` of one schema and one instance agree, also where chains of
+/// references return, though each compiles nodes of its own: any two validators that are compiled from one schema, by the same
+/// options and the same limit on nested targets, have one sense and the same units at every depth. So two verdicts are equal, and
+/// two first errors, two lists of errors or two evaluations agree as those of two validators do in `limits_agree`; and the units of
+/// two evaluations are equal where the first run meets no unfinished match. And of two calls that both decide, one finds no error
+/// exactly if the other does: `is_valid` by answering true, `validate` none, `iter_errors` the empty list, and `evaluate` by a unit
+/// that is valid. For the verdicts and for whether there is an error it does not matter whether texts of errors are spoken of.
 pub fn free_calls_agree<S: Resolver, T: KeywordTable<K>, K: Validate, M: Matcher>()
     ensures sense { (resolver : S) (table : T) (matcher : M)
         → OneSense (handed S.Resolver T.KeywordTable K.Validate M.Matcher.own resolver table matcher) }
@@ -48,10 +59,27 @@ pub fn free_calls_agree<S: Resolver, T: KeywordTable<K>, K: Validate, M: Matcher
         → OneFirstError (handed S.Resolver T.KeywordTable K.Validate M.Matcher.own resolver table matcher) }
     ensures errors { (resolver : S) (table : T) (matcher : M)
         → OneErrorList (handed S.Resolver T.KeywordTable K.Validate M.Matcher.own resolver table matcher) }
+    ensures evaluation { (resolver : S) (table : T) (matcher : M)
+        → OneEvaluation (handed S.Resolver T.KeywordTable K.Validate M.Matcher.own resolver table matcher) }
+    ensures units { (resolver : S) (table : T) (matcher : M)
+        → OneTree (handed S.Resolver T.KeywordTable K.Validate M.Matcher.own resolver table matcher) }
     ensures true_none { (resolver : S) (table : T) (matcher : M)
         → TrueIffNone (handed S.Resolver T.KeywordTable K.Validate M.Matcher.own resolver table matcher) }
     ensures true_empty { (resolver : S) (table : T) (matcher : M)
         → TrueIffEmpty (handed S.Resolver T.KeywordTable K.Validate M.Matcher.own resolver table matcher) }
     ensures none_empty { (resolver : S) (table : T) (matcher : M)
         → NoneIffEmpty (handed S.Resolver T.KeywordTable K.Validate M.Matcher.own resolver table matcher) }
+    ensures true_valid { (resolver : S) (table : T) (matcher : M)
+        → TrueIffValid (handed S.Resolver T.KeywordTable K.Validate M.Matcher.own resolver table matcher) }
+    ensures none_valid { (resolver : S) (table : T) (matcher : M)
+        → NoneIffValid (handed S.Resolver T.KeywordTable K.Validate M.Matcher.own resolver table matcher) }
+    ensures empty_valid { (resolver : S) (table : T) (matcher : M)
+        → EmptyIffValid (handed S.Resolver T.KeywordTable K.Validate M.Matcher.own resolver table matcher) }
+{}
+
+/// The four calls of one validator agree on every instance, also where chains of references return: of any two that decide, one
+/// finds no error exactly if the other does, from some depth on. `is_valid` does so by answering true, `validate` none,
+/// `iter_errors` the empty list, and `evaluate` by a unit that is valid.
+pub fn validator_calls_agree<K: Validate, M: Matcher>()
+    ensures verdicts { ValidatorCallsAgree K.Validate M.Matcher.own }
 {}

@@ -13,7 +13,8 @@ ghost use Rattle.schema_engine.specs.Answers.{refusal_of};
 ghost use Rattle.schema_engine.specs.Asked.{DecidesFromSomeDepth, ErrorsFromSomeDepth, FirstFromSomeDepth};
 ghost use Rattle.schema_engine.specs.Asked.{DecidesInEverySense, ErrorsInEverySense, FirstInEverySense};
 ghost use Rattle.schema_engine.specs.Asked.{ErrorsPointAsNodes, FirstPointsAsNodes};
-ghost use Rattle.schema_engine.specs.Asked.{EvaluatesFromSomeDepth, EvaluatesInEverySense, RunGivesUnit, UnitsFromSomeDepth};
+ghost use Rattle.schema_engine.specs.Asked.{EvaluatesFromSomeDepth, EvaluatesInEverySense};
+ghost use Rattle.schema_engine.specs.Asked.{RunGivesUnit, UnitsFromSomeDepth, UnitsInEverySense};
 ghost use Rattle.schema_engine.specs.Asked.{RunDecides, RunFindsFirst, RunListsErrors, RunMeets, RunReplies};
 
 use schema_node::context::keyword::{Mode, Reply, Validate};
@@ -390,11 +391,13 @@ impl<K: Validate, M: Matcher> Validator<K, M> {
         Ok(ErrorIterator::new(self.all_under_each(alloc, instance)?))
     }
 
-    /// Returns the evaluation of the instance: the unit of each schema and of each keyword that it is asked of. Where the matcher
-    /// leaves matches unfinished that the run meets, the evaluation is made of the errors that all outcomes of them share instead:
-    /// it has one unit for each, at its paths, without absolute locations and annotations, inside one at empty locations. There is
-    /// one error, which tells of such a match, if some outcome refuses and they share no error, or if that takes more runs than
-    /// a call makes. The outermost unit is valid exactly if the instance is valid under every outcome.
+    /// Returns the evaluation of the instance: the unit of each schema and of each keyword that it is asked of. Where the run
+    /// meets no unfinished match, these are the units that the nodes have, which a build promises to be the plain ones where no
+    /// chain of references returns. Where the matcher leaves matches unfinished that the run meets, the evaluation is made of the
+    /// errors that all outcomes of them share instead: it has one unit for each, at its paths, without absolute locations and
+    /// annotations, inside one at empty locations. There is one error, which tells of such a match, if some outcome refuses and
+    /// they share no error, or if that takes more runs than a call makes. The outermost unit is valid exactly if the instance is
+    /// valid under every outcome.
     ///
     /// # Errors
     ///
@@ -405,6 +408,8 @@ impl<K: Validate, M: Matcher> Validator<K, M> {
         ensures senses { IfOk result (λ u. EvaluatesInEverySense
             K.Validate M.Matcher.own self.now (view instance.now) u) }
         ensures units { IfOk result (λ u. UnitsFromSomeDepth
+            K.Validate M.Matcher.own self.now (view instance.now) u) }
+        ensures plain { IfOk result (λ u. UnitsInEverySense
             K.Validate M.Matcher.own self.now (view instance.now) u) }
     {
         Ok(Evaluation::new(self.evaluated_under_each(alloc, instance)?))

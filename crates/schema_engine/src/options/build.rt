@@ -1,7 +1,7 @@
 //! Building a validator.
 ghost use Rattle.std.specs.Prelude.{IfOk, IfErr};
 ghost use Rattle.serde_json.specs.View.{view};
-ghost use Rattle.schema_engine.specs.Called.{IsCompiledFrom, MeansPlainly, PointsPlainly, SchemaBuilds, SchemaRefused};
+ghost use Rattle.schema_engine.specs.Called.{HasPlainUnits, IsCompiledFrom, MeansPlainly, PointsPlainly, SchemaBuilds, SchemaRefused};
 ghost use Rattle.schema_engine.specs.Handed.{default_nested, handed};
 
 use crate::compiled::of_compiled;
@@ -24,8 +24,8 @@ const NESTED_LIMIT: usize = 8;
 impl ValidationOptions {
     /// Builds a validator of a schema. The resolver has to have the schema as the document under the root's base: that is
     /// what is compiled, and what the contract speaks of. Where no chain of references returns, the validator means the plain
-    /// meaning of schema and parts. Returns or none, each error that it gives points at a keyword of the schema and at a value
-    /// inside the instance. At most 8 targets of references are compiled one inside another.
+    /// meaning of schema and parts, and has its units. Returns or none, each error that it gives points at a keyword of the
+    /// schema and at a value inside the instance. At most 8 targets of references are compiled one inside another.
     ///
     /// # Errors
     ///
@@ -40,6 +40,9 @@ impl ValidationOptions {
         matcher: &M,
     ) -> Result<Validator<K, M>, BuildError>
         ensures means { IfOk result (λ v. MeansPlainly
+            (handed S.Resolver T.KeywordTable K.Validate M.Matcher.own resolver.now table.now matcher.now)
+            self.now (view schema.now) v) }
+        ensures units { IfOk result (λ v. HasPlainUnits
             (handed S.Resolver T.KeywordTable K.Validate M.Matcher.own resolver.now table.now matcher.now)
             self.now (view schema.now) v) }
         ensures points { IfOk result (λ v. PointsPlainly
@@ -75,6 +78,9 @@ impl ValidationOptions {
         nested: usize,
     ) -> Result<Validator<K, M>, BuildError>
         ensures means { IfOk result (λ v. MeansPlainly
+            (handed S.Resolver T.KeywordTable K.Validate M.Matcher.own resolver.now table.now matcher.now)
+            self.now (view schema.now) v) }
+        ensures units { IfOk result (λ v. HasPlainUnits
             (handed S.Resolver T.KeywordTable K.Validate M.Matcher.own resolver.now table.now matcher.now)
             self.now (view schema.now) v) }
         ensures points { IfOk result (λ v. PointsPlainly

@@ -1,8 +1,8 @@
 use Rattle.serde_json.specs.View.{view}
 use Rattle.schema_reports.specs.KeywordTable.{builtin_in}
-use Rattle.schema_engine.specs.Evaluated.{EvaluationAnswered}
+use Rattle.schema_engine.specs.Evaluated.{EvaluationAnswered, UnitsAnswered}
 use Rattle.schema_engine.specs.Handed.{default_options, table_of}
-use Rattle.schema_engine.proofs.PlainAnswers.{plainly_from}
+use Rattle.schema_engine.proofs.PlainAnswers.{plainly_from, plainly_with_units}
 use Rattle.schema_engine.proofs.calls.evaluate.Goals as goal
 
 pub returns-clause-answer : goal.returns-clause-answer
@@ -13,6 +13,16 @@ returns-clause-answer g c =
     let k = g.K.Validate in
     plainly_from r table m k.words default_options (view c.args.schema.now) k.shape k.is_whole g.M.Matcher.matching c.in_ok-validator.validator (view c.args.instance.now)
     (λ texts v. EvaluationAnswered v texts c.in_ok-evaluate.field-0) c.in_ok-validator.ensures.means c.in_ok-evaluate.ensures.senses
+
+pub returns-clause-plain_units : goal.returns-clause-plain_units
+returns-clause-plain_units g c =
+    let r = g.S.Resolver.resolving c.args.resolver.now in
+    let table = table_of (g.T.KeywordTable.owned c.args.table.now) builtin_in (g.T.KeywordTable.script c.args.table.now) in
+    let m = g.M.Matcher.matching c.args.matcher.now in
+    let k = g.K.Validate in
+    let built = c.in_ok-validator.ensures in
+    plainly_with_units r table m k.words default_options (view c.args.schema.now) k.shape k.is_whole g.M.Matcher.matching c.in_ok-validator.validator (view c.args.instance.now)
+    (λ texts v units. UnitsAnswered v texts units c.in_ok-evaluate.field-0) built.means built.units c.in_ok-evaluate.ensures.plain
 
 pub returns-clause-guarded : goal.returns-clause-guarded
 returns-clause-guarded g c = (c.in_ok-validator.validator, c.in_ok-validator.ensures.program, c.in_ok-evaluate.ensures.depth)

@@ -19,7 +19,12 @@ returns c s =
       verdict = λ resolver table matcher. lemmas.one_verdict (parts resolver table matcher) keeps;
       first = λ resolver table matcher. lemmas.one_first_error (parts resolver table matcher) keeps;
       errors = λ resolver table matcher. lemmas.one_error_list (parts resolver table matcher) keeps;
+      evaluation = λ resolver table matcher. lemmas.one_evaluation (parts resolver table matcher) keeps;
+      units = λ resolver table matcher. lemmas.one_tree (parts resolver table matcher);
       true_none = λ resolver table matcher. lemmas.true_iff_none (parts resolver table matcher) keeps;
       true_empty = λ resolver table matcher. lemmas.true_iff_empty (parts resolver table matcher) keeps;
       none_empty = λ resolver table matcher. lemmas.none_iff_empty (parts resolver table matcher) keeps;
+      true_valid = λ resolver table matcher. lemmas.true_iff_valid (parts resolver table matcher) keeps;
+      none_valid = λ resolver table matcher. lemmas.none_iff_valid (parts resolver table matcher) keeps;
+      empty_valid = λ resolver table matcher. lemmas.empty_iff_valid (parts resolver table matcher) keeps;
     }

@@ -9,3 +9,9 @@ returns-clause-first c s = λ resolver table matcher. lemmas.first_errors c.S.Re
 
 pub returns-clause-errors : goal.returns-clause-errors
 returns-clause-errors c s = λ resolver table matcher. lemmas.all_errors c.S.Resolver c.T.KeywordTable c.K.Validate c.M.Matcher resolver table matcher
+
+pub returns-clause-evaluation : goal.returns-clause-evaluation
+returns-clause-evaluation c s = λ resolver table matcher. lemmas.evaluations c.S.Resolver c.T.KeywordTable c.K.Validate c.M.Matcher resolver table matcher
+
+pub returns-clause-units : goal.returns-clause-units
+returns-clause-units c s = λ resolver table matcher. lemmas.units c.S.Resolver c.T.KeywordTable c.K.Validate c.M.Matcher resolver table matcher

@@ -9,13 +9,13 @@ use Rattle.schema_compiler.specs.Builtins.{builtin}
 use Rattle.schema_compiler.specs.Compiling.{no_table, no_keywords, no_matcher}
 use Rattle.schema_compiler.specs.KeyViews.{key_of}
 use Rattle.schema_compiler.specs.Compilation.{IsCompilation, RefusesRoot, all_parts}
-use Rattle.schema_engine.specs.Compiled.{IsCompiled, IsWhole}
+use Rattle.schema_engine.specs.Compiled.{IsWhole}
 use Rattle.schema_engine.specs.Handed.{Options, parts_of, table_of}
-use Rattle.schema_engine.proofs.Compilations.{compiled_in, compiled_too, reach_in, refuses_in, whole_in, whole_too}
+use Rattle.schema_engine.proofs.Compilations.{compiled_from_roots, compiled_in, reach_in, refuses_in, whole_in, whole_too}
 use Rattle.schema_reports.specs.ErrorsLead.{EachKeepsAbsorbing}
 use Rattle.schema_reports.proofs.TurnsGiveRuns.{keeps_of_turns}
 use Rattle.schema_engine.proofs.Pointing.{points_into}
-use Rattle.schema_engine.proofs.RootKeys.{one_root_key, root_key_of, root_key_too}
+use Rattle.schema_engine.proofs.RootKeys.{one_root_key, root_key_too}
 use Rattle.schema_engine.proofs.options.ValidationOptions.build_nested.Goals as goal
 
 pub of_compiled-requires : goal.of_compiled-requires
@@ -50,24 +50,36 @@ returns-clause-means g c =
     let r = g.S.Resolver.resolving c.args.resolver.now in
     let owns = g.T.KeywordTable.owned c.args.table.now in
     let script = g.T.KeywordTable.script c.args.table.now in
-    let table = table_of owns builtin_in script in
     let m = g.M.Matcher.matching c.args.matcher.now in
     let words = g.K.Validate.words true in
     let shape = g.K.Validate.shape in
     let inside = c.self.inside in
     let options = c.args.self.now in
-    let schema = view c.args.schema.now in
     let v = key_of g.S.Resolver.point in
     let key = v c.in_ok-root.root in
     let keys = map v c.in_ok-compiled.compiled.keys in
     let nodes = c.in_ok-compiled.compiled.nodes in
     let done = subst (λ (o : Options). IsCompilation (all_parts r (record { owns = owns; builtin = builtin; script = script }) o.formats o.declared m words o.draft o.base) shape o.limit c.args.nested key keys nodes) c.self.view_is
     (c.in_ok-compiled.ensures.compiled m words (option_map draft_of inside.draft) (option_map string_bytes inside.base)) in
-    let compiled = compiled_too r table m no_matcher words no_keywords options shape key nodes 0 (compiled_in r owns script m words options shape options.limit c.args.nested key keys nodes done) in
-    let is_root = root_key_too r no_table table no_matcher no_matcher no_keywords no_keywords options schema key c.in_ok-root.ensures.key in
-    c.in_ok-validator.ensures.means options (λ other root.
-    subst (λ k. IsCompiled (parts_of r table no_matcher no_keywords options) shape k nodes 0)
-    (one_root_key (parts_of r table no_matcher no_keywords options) schema key other is_root (root_key_of (parts_of r table no_matcher no_keywords options) schema other root)) compiled)
+    c.in_ok-validator.ensures.means options (compiled_from_roots r owns script m words options (view c.args.schema.now) shape options.limit c.args.nested key keys nodes done c.in_ok-root.ensures.key)
+
+pub returns-clause-units : goal.returns-clause-units
+returns-clause-units g c =
+    let r = g.S.Resolver.resolving c.args.resolver.now in
+    let owns = g.T.KeywordTable.owned c.args.table.now in
+    let script = g.T.KeywordTable.script c.args.table.now in
+    let m = g.M.Matcher.matching c.args.matcher.now in
+    let words = g.K.Validate.words true in
+    let shape = g.K.Validate.shape in
+    let inside = c.self.inside in
+    let options = c.args.self.now in
+    let v = key_of g.S.Resolver.point in
+    let key = v c.in_ok-root.root in
+    let keys = map v c.in_ok-compiled.compiled.keys in
+    let nodes = c.in_ok-compiled.compiled.nodes in
+    let done = subst (λ (o : Options). IsCompilation (all_parts r (record { owns = owns; builtin = builtin; script = script }) o.formats o.declared m words o.draft o.base) shape o.limit c.args.nested key keys nodes) c.self.view_is
+    (c.in_ok-compiled.ensures.compiled m words (option_map draft_of inside.draft) (option_map string_bytes inside.base)) in
+    c.in_ok-validator.ensures.units options (compiled_from_roots r owns script m words options (view c.args.schema.now) shape options.limit c.args.nested key keys nodes done c.in_ok-root.ensures.key)
 
 pub returns-clause-program : goal.returns-clause-program
 returns-clause-program g c =

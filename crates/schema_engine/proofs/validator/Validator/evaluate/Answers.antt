@@ -7,6 +7,7 @@ use Rattle.schema_reports.proofs.SensesMeant.{of_every_sense}
 use Rattle.schema_node.specs.NodeTable.{numbered}
 use Rattle.schema_engine.specs.Evaluated.{EvaluationAnswered}
 use Rattle.schema_engine.specs.Program.{HasUnits}
+use Rattle.schema_engine.proofs.PlainAnswers.{units_in_every_sense}
 use Rattle.schema_engine.proofs.validator.Validator.evaluate.Goals as goal
 
 pub returns-clause-depth : goal.returns-clause-depth
@@ -23,3 +24,8 @@ returns-clause-senses g c = λ texts speaks.
 pub returns-clause-units : goal.returns-clause-units
 returns-clause-units g c =
     subst (λ (u : EvaluationNode). HasUnits g.K.Validate.shape g.K.Validate.words g.K.Validate.is_whole g.M.Matcher.matching c.args.self.now (view c.args.instance.now) u) (sym c.new.ensures.root) c.in_ok-evaluated_under_each.ensures.units
+
+pub returns-clause-plain : goal.returns-clause-plain
+returns-clause-plain g c =
+    let k = g.K.Validate in
+    units_in_every_sense k.shape k.words k.is_whole g.M.Matcher.matching c.args.self.now (view c.args.instance.now) _ (returns-clause-units g c)

@@ -60,7 +60,7 @@ returns-clause-depth g c = if_ok_mono c.unit_of_errors.result _ _ (λ u made tex
           let fact : SaysErrors w.shape w.words w.is_whole g.M.Matcher.matching p d as' es.items = search rules in
           let met : MeetsMatches w.shape w.words w.is_whole g.M.Matcher.matching p d for_all (starting as') r = search rules in
           (fact texts speaks once n enough, met texts speaks once n enough))
-          (meets texts speaks nothing_twice n enough) c.in_ok-shared.shared c.in_ok-shared.ensures.verdict c.in_ok-shared.ensures.gives u (made texts),
+          (meets texts speaks nothing_twice n enough) c.in_ok-shared.shared c.in_ok-shared.ensures.errors c.in_ok-shared.ensures.verdict c.in_ok-shared.ensures.gives u (made texts),
     )) c.unit_of_errors.ensures.unit
 
 pub returns-clause-units : goal.returns-clause-units

@@ -9,12 +9,13 @@ use Rattle.schema_reports.specs.Laws.{EachKeeps}
 use Rattle.schema_reports.specs.Numbered.{left, subject_in}
 use Rattle.schema_reports.specs.ReportViews.{BorrowsItsPlace}
 use Rattle.schema_reports.specs.Unfinished.{starting}
+use Rattle.schema_reports.proofs.Sentences.{validate_later}
 use Rattle.schema_reports.proofs.TurnsGiveRuns.{keeps_of_turns}
 use Rattle.schema_node.specs.NodeTable.{numbered}
 use Rattle.schema_node.proofs.Matches.{nothing_twice}
 use Rattle.schema_engine.specs.Answers.{MeetsMatches, SaysErrors}
 use Rattle.schema_engine.specs.Program.{Speaks}
-use Rattle.schema_engine.proofs.ErrorSearches.{borrowed, first_first, first_has, first_searched, later_all}
+use Rattle.schema_engine.proofs.ErrorSearches.{borrowed, first_first, first_has, first_searched}
 use Rattle.schema_engine.proofs.Searches.{none_of, sense}
 use Rattle.schema_engine.proofs.validator.Validator.first_under_each.Goals as goal
 
@@ -69,7 +70,7 @@ returns-clause-borrows g c =
     let each : EachKeeps (w.words false) = λ m. (w.absorbed m, keeps_of_turns (w.words false) m (w.absorbed m) (w.remaining m) (w.can_be false m) (w.ends false m) (w.fits false m) (g.met.K.Validate.turn_laws false m) (g.met.K.Validate.function_laws false m)) in
     let meets = c.in_ok-met.ensures.meets in
     let none : c.in_ok-met.met.assumptions ≡ [] = c.in_ok-met.ensures.assumes in
-    subst (λ (o : Option ValidationError). IfSome o (BorrowsItsPlace d)) (sym c.first_of.ensures.first) (first_has (BorrowsItsPlace d) c.in_ok-shared.shared.items (borrowed (w.words false) each (g.M.Matcher.matching p.matcher) nodes d p.root n _ _ (λ given r es end step. search rules) c.in_ok-met.met none validate later_all (meets false speaks nothing_twice n enough) false
+    subst (λ (o : Option ValidationError). IfSome o (BorrowsItsPlace d)) (sym c.first_of.ensures.first) (first_has (BorrowsItsPlace d) c.in_ok-shared.shared.items (borrowed (w.words false) each (g.M.Matcher.matching p.matcher) nodes d p.root n _ _ (λ given r es end step. search rules) c.in_ok-met.met none validate validate_later (meets false speaks nothing_twice n enough) false
     (λ as' r es end step once.
     let fact : SaysErrors w.shape w.words w.is_whole g.M.Matcher.matching p d as' es.items = search rules in
     let met : MeetsMatches w.shape w.words w.is_whole g.M.Matcher.matching p d for_all (starting as') r = search rules in

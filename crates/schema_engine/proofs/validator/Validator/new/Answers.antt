@@ -5,7 +5,7 @@ use Rattle.schema_reports.specs.KeywordTable.{builtin_in}
 use Rattle.schema_compiler.specs.declared.compiler.error.BuildError.{BuildError}
 use Rattle.schema_engine.specs.Handed.{Options, parts_of, table_of}
 use Rattle.schema_engine.specs.Program.{Program}
-use Rattle.schema_engine.specs.Promised.{MeansSchema, PointsIntoSchema}
+use Rattle.schema_engine.specs.Promised.{HasSchemasUnits, MeansSchema, PointsIntoSchema}
 use Rattle.schema_engine.specs.Roots.{Builds, RefusesBuild}
 use Rattle.schema_engine.proofs.validator.Validator.new.Goals as goal
 
@@ -17,6 +17,15 @@ returns-clause-means g c =
     let k = g.K.Validate in
     subst (λ (o : Options). IfOk c.build-2.result (λ (v : Program g.row.K.Denot g.row.M.Denot). MeansSchema r table m k.words o (view c.args.schema.now) k.shape k.is_whole g.M.Matcher.matching v))
     c.options.ensures.defaults c.build-2.ensures.means
+
+pub returns-clause-units : goal.returns-clause-units
+returns-clause-units g c =
+    let r = g.S.Resolver.resolving c.args.resolver.now in
+    let table = table_of (g.T.KeywordTable.owned c.args.table.now) builtin_in (g.T.KeywordTable.script c.args.table.now) in
+    let m = g.M.Matcher.matching c.args.matcher.now in
+    let k = g.K.Validate in
+    subst (λ (o : Options). IfOk c.build-2.result (λ (v : Program g.row.K.Denot g.row.M.Denot). HasSchemasUnits r table m k.words o (view c.args.schema.now) k.shape k.is_whole g.M.Matcher.matching v))
+    c.options.ensures.defaults c.build-2.ensures.units
 
 pub returns-clause-points : goal.returns-clause-points
 returns-clause-points g c =
