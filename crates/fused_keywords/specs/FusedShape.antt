@@ -1,0 +1,20 @@
+-- What is known of a keyword apart from its representation.
+use Rattle.std.specs.Prelude.{Bool, List, [], true}
+use Rattle.schema_reports.specs.Instance.{Text}
+use Rattle.bench_keywords.specs.BenchShape.{BenchShape, is_whole}
+use Rattle.fused_keywords.specs.Openings.{absorbs}
+use Rattle.fused_keywords.specs.declared.array.ArrayKeyword.{ArrayKeyword}
+
+pub data FusedShape : Type 0 where
+  of_bench : BenchShape → FusedShape
+  of_array : ArrayKeyword → FusedShape
+
+-- the names of the keywords that it absorbs
+abbrev pub absorbed_by : FusedShape → List Text
+absorbed_by (of_bench m) = []
+absorbed_by (of_array k) = absorbs k
+
+-- whether no text of it holds a fraction of the schema
+abbrev pub is_free : FusedShape → Bool
+is_free (of_bench m) = is_whole m
+is_free (of_array k) = true

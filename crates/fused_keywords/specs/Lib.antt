@@ -1,0 +1,10 @@
+pub mod Checks
+pub mod Openings
+pub mod FusedShape
+pub mod FusedShapes
+pub mod FusedWords
+pub mod FusedLaws
+pub mod FusedModes
+pub mod FusedScripts
+pub mod FusedMakers
+pub mod FusedMakerLaws

@@ -1,0 +1,102 @@
+//! The keywords.
+use crate::array::ArrayKeyword;
+use bench_keywords::keyword::BenchKeyword;
+use bench_keywords::names::{Names, NamesRun};
+use keyword_ways::run::Progress;
+use schema_node::context::keyword::{Answer, Mode, Reply, Step, Validate};
+use schema_reports::instance::Instance;
+use schema_reports::location::OutOfMemory;
+use std::alloc::Global;
+use std::marker::Model;
+
+/// A keyword: one of the bench's, or one of an array.
+#[derive(Drop)]
+pub enum FusedKeyword {
+    Bench(BenchKeyword),
+    Array(ArrayKeyword),
+}
+
+/// What is known of a keyword apart from its representation; it holds no value.
+#[derive(Drop)]
+pub struct Shape {}
+
+impl Model for Shape {
+    ghost use Rattle.fused_keywords.specs.FusedShape.{FusedShape, of_array};
+    ghost use Rattle.fused_keywords.specs.declared.array.ArrayKeyword.TheVariants.{MinItems};
+
+    ghost Value = { FusedShape };
+
+    ghost view = { λ _. of_array (MinItems 0) };
+}
+
+impl Validate for FusedKeyword {
+    ghost use Rattle.std.specs.Prelude.{refl};
+    ghost use Rattle.fused_keywords.specs.FusedShape.{absorbed_by, is_free};
+    ghost use Rattle.fused_keywords.specs.FusedShapes.{fused_shape};
+    ghost use Rattle.fused_keywords.specs.FusedWords.{fused_can_be, fused_ends, fused_fits, fused_left, fused_words};
+    ghost use Rattle.fused_keywords.specs.FusedLaws.{fused_functions, fused_turns};
+    ghost use Rattle.fused_keywords.specs.FusedModes.{fused_asks_no_units, fused_asks_verdicts};
+
+    type Run = NamesRun;
+
+    type Shape = Shape;
+
+    ghost words = { fused_words };
+
+    ghost shape = { fused_shape };
+
+    ghost absorbed = { absorbed_by };
+
+    ghost is_whole = { is_free };
+
+    ghost remaining = { fused_left };
+
+    ghost can_be = { fused_can_be };
+
+    ghost ends = { fused_ends };
+
+    ghost fits = { fused_fits };
+
+    fn begin(
+        &self,
+        alloc: Global,
+        instance: Instance,
+        mode: Mode,
+    ) -> Result<NamesRun, OutOfMemory> {
+        match self {
+            FusedKeyword::Bench(keyword) => keyword.begin(alloc, instance, mode),
+            FusedKeyword::Array(_) => Ok(NamesRun {
+                progress: Progress::begin(mode),
+                names: Names::none(alloc),
+            }),
+        }
+    }
+
+    fn turn<'s, 'i: 's>(
+        &'s self,
+        alloc: Global,
+        run: &mut NamesRun,
+        instance: Instance<'i>,
+        reply: Reply<'i>,
+        answer: &mut Answer<'i>,
+    ) -> Result<Step<'s>, OutOfMemory> {
+        match self {
+            FusedKeyword::Bench(keyword) => keyword.turn(alloc, run, instance, reply, answer),
+            FusedKeyword::Array(keyword) => {
+                keyword.turn(alloc, &mut run.progress, instance, reply, answer)
+            }
+        }
+    }
+
+    ghost speaks = { λ texts. refl };
+
+    ghost answers = { λ texts run a. refl };
+
+    ghost turn_laws = { fused_turns };
+
+    ghost function_laws = { fused_functions };
+
+    ghost asks_no_units = { fused_asks_no_units };
+
+    ghost asks_verdicts = { fused_asks_verdicts };
+}
