@@ -12,14 +12,15 @@ use Rattle.schema_engine.specs.Program.{OfEverySense, Program}
 use Rattle.bench_parts.specs.BenchMatching.{bench_matcher}
 use Rattle.bench_resolver.specs.BenchStates.{Point}
 use Rattle.bench_keywords.specs.BenchShape.{BenchShape, is_whole}
-use Rattle.engine_bench.specs.ProgramAnswers.{Answers}
-use Rattle.engine_bench.specs.ProgramMeaning.{AnswersPlainly, BenchMeans, OfPlainMeaning}
+use Rattle.schema_engine.specs.Evaluated.{UnitsAnswered}
+use Rattle.schema_engine.proofs.PlainAnswers.{plainly_with_units}
+use Rattle.engine_bench.specs.ProgramMeaning.{AnswersInEverySense, AnswersPlainly, BenchHasUnits, BenchMeans, OfPlainMeaning}
 use Rattle.bench_keywords.specs.Shapes.{shape_of}
 use Rattle.bench_keywords.specs.Words.{words}
 use Rattle.bench_keywords.specs.declared.keyword.BenchKeyword.{BenchKeyword}
 use Rattle.engine_bench.specs.declared.program.answers.Answer.{Answer}
 use Rattle.engine_bench.specs.declared.program.requests.Call.{Call}
-use Rattle.engine_bench.specs.declared.program.requests.Call.TheVariants.{IsValid, IterErrors, Validate}
+use Rattle.engine_bench.specs.declared.program.requests.Call.TheVariants.{Evaluate, IsValid, IterErrors, Validate}
 
 said_plainly : (resolver : Resolver Point) (table : Table BenchShape) (matcher : Matcher) (options : Options) (schema : Data) (p : Program BenchKeyword (List Text)) (instance : Data) (fact : Bool → Sense → Type 0)
     → BenchMeans resolver table matcher options schema p → OfEverySense shape_of words is_whole bench_matcher p instance fact
@@ -29,22 +30,29 @@ said_plainly resolver table matcher options schema p instance fact means said = 
     λ no_return keys reach n deep. said spoken m.0 _ (m.1 no_return keys reach n deep)
 
 pub answers_plainly : (resolver : Resolver Point) (table : Table BenchShape) (matcher : Matcher) (options : Options) (schema : Data) (p : Program BenchKeyword (List Text)) (instance : Data)
-    (call : Call) (accepted : Bool) (text : Text) → Answers (OfEverySense shape_of words is_whole bench_matcher p instance) call accepted text
-    → BenchMeans resolver table matcher options schema p → AnswersPlainly resolver table matcher options schema instance call accepted text
-answers_plainly resolver table matcher options schema p instance IsValid accepted text (said, is_text) means =
+    (call : Call) (accepted : Bool) (text : Text) → AnswersInEverySense p instance call accepted text
+    → BenchMeans resolver table matcher options schema p → BenchHasUnits resolver table matcher options schema p → AnswersPlainly resolver table matcher options schema instance call accepted text
+answers_plainly resolver table matcher options schema p instance IsValid accepted text (said, is_text) means units =
     (said_plainly resolver table matcher options schema p instance _ means said, is_text)
-answers_plainly resolver table matcher options schema p instance Validate accepted text (first, said, is_accepted, is_text) means =
+answers_plainly resolver table matcher options schema p instance Validate accepted text (first, said, is_accepted, is_text) means units =
     (first, said_plainly resolver table matcher options schema p instance _ means said, is_accepted, is_text)
-answers_plainly resolver table matcher options schema p instance IterErrors accepted text (errors, said, is_accepted, is_text) means =
+answers_plainly resolver table matcher options schema p instance IterErrors accepted text (errors, said, is_accepted, is_text) means units =
     (errors, said_plainly resolver table matcher options schema p instance _ means said, is_accepted, is_text)
+answers_plainly resolver table matcher options schema p instance Evaluate accepted text answered means units = record {
+  evaluation = answered.evaluation;
+  said = said_plainly resolver table matcher options schema p instance _ means answered.said;
+  units = plainly_with_units resolver table matcher words options schema shape_of is_whole bench_matcher p instance (λ spoken v units. UnitsAnswered v spoken units answered.evaluation) means units answered.units;
+  verdict = answered.verdict;
+  listed = answered.listed;
+}
 
 -- the same of what a call answers
 pub answered_plainly : {E : Type 0} (p : Program BenchKeyword (List Text)) (instance : Data) (asked call : Call) (r : Result Answer E) → asked ≡ call
-    → IfOk r (λ a. Answers (OfEverySense shape_of words is_whole bench_matcher p instance) call a.accepted (string_bytes a.text))
+    → IfOk r (λ a. AnswersInEverySense p instance call a.accepted (string_bytes a.text))
     → IfOk r (λ a. (resolver : Resolver Point) (table : Table BenchShape) (matcher : Matcher) (options : Options) (schema : Data)
-    → BenchMeans resolver table matcher options schema p → AnswersPlainly resolver table matcher options schema instance asked a.accepted (string_bytes a.text))
+    → BenchMeans resolver table matcher options schema p → BenchHasUnits resolver table matcher options schema p → AnswersPlainly resolver table matcher options schema instance asked a.accepted (string_bytes a.text))
 answered_plainly p instance asked call r same said = IfOk-weaker r _ _
-    (λ a h resolver table matcher options schema means.
+    (λ a h resolver table matcher options schema means units.
     answers_plainly resolver table matcher options schema p instance asked a.accepted (string_bytes a.text)
-    (subst (λ c. Answers (OfEverySense shape_of words is_whole bench_matcher p instance) c a.accepted (string_bytes a.text)) (sym same) h) means)
+    (subst (λ c. AnswersInEverySense p instance c a.accepted (string_bytes a.text)) (sym same) h) means units)
     said

@@ -4,17 +4,32 @@ use Rattle.schema_reports.specs.Instance.{Text}
 use Rattle.schema_reports.specs.Cover.{Sense, is_valid}
 use Rattle.schema_reports.specs.Headline.{VerdictSays}
 use Rattle.schema_reports.specs.ReportViews.{error_of}
+use Rattle.schema_reports.specs.Reports.{report_of}
+use Rattle.schema_reports.specs.UnitViews.{unit_of}
+use Rattle.schema_reports.specs.declared.evaluation.EvaluationNode.{EvaluationNode}
 use Rattle.schema_reports.specs.declared.reports.ValidationError.{ValidationError}
 use Rattle.schema_node.specs.KeywordViews.{is_nil}
+use Rattle.schema_output.specs.Output.{output_list}
+use Rattle.schema_engine.specs.Evaluated.{EvaluationAnswered}
 use Rattle.schema_engine.specs.Spoken.{ErrorsAnswered, FirstAnswered}
-use Rattle.engine_bench.specs.ProgramTexts.{errors_text, first_text, verdict_text}
+use Rattle.engine_bench.specs.ProgramTexts.{IsJsonLine, errors_text, first_text, verdict_text}
 use Rattle.engine_bench.specs.declared.program.requests.Call.{Call}
-use Rattle.engine_bench.specs.declared.program.requests.Call.TheVariants.{IsValid, IterErrors, Validate}
+use Rattle.engine_bench.specs.declared.program.requests.Call.TheVariants.{Evaluate, IsValid, IterErrors, Validate}
 
--- a verdict, a first error or a list of errors of which the sentence of its call is said, and its text
-abbrev pub Answers : ((Bool → Sense → Type 0) → Type 0) → Call → Bool → Text → Type 0
-Answers Of IsValid accepted text = Of (λ spoken v. VerdictSays v is_valid accepted) × (text ≡ verdict_text accepted)
-Answers Of Validate accepted text = (first : Option ValidationError) × Of (λ spoken v. FirstAnswered v spoken first)
+-- an evaluation of which its sentence is said, and that it has the units that are said of it, its verdict, and the line of its list
+pub record AnswersEvaluate (Of : (Bool → Sense → Type 0) → Type 0) (HasUnits : EvaluationNode → Type 0) (accepted : Bool) (text : Text) : Type 0 where
+  pub evaluation : EvaluationNode
+  pub said : Of (λ spoken v. EvaluationAnswered v spoken evaluation)
+  pub units : HasUnits evaluation
+  pub verdict : accepted ≡ (report_of (unit_of true evaluation)).valid
+  pub listed : IsJsonLine (output_list (unit_of true evaluation)) text
+
+-- a verdict, a first error, a list of errors or an evaluation of which the sentence of its call is said, and its text; of an
+-- evaluation it is said too that it has the units
+abbrev pub Answers : ((Bool → Sense → Type 0) → Type 0) → (EvaluationNode → Type 0) → Call → Bool → Text → Type 0
+Answers Of HasUnits IsValid accepted text = Of (λ spoken v. VerdictSays v is_valid accepted) × (text ≡ verdict_text accepted)
+Answers Of HasUnits Validate accepted text = (first : Option ValidationError) × Of (λ spoken v. FirstAnswered v spoken first)
     × (accepted ≡ is_none first) × (text ≡ first_text (option_map (error_of true) first))
-Answers Of IterErrors accepted text = (errors : List ValidationError) × Of (λ spoken v. ErrorsAnswered v spoken errors)
+Answers Of HasUnits IterErrors accepted text = (errors : List ValidationError) × Of (λ spoken v. ErrorsAnswered v spoken errors)
     × (accepted ≡ is_nil errors) × (text ≡ errors_text (map (error_of true) errors))
+Answers Of HasUnits Evaluate accepted text = AnswersEvaluate Of HasUnits accepted text

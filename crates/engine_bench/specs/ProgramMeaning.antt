@@ -6,15 +6,17 @@ use Rattle.schema_reports.specs.Drafts.{draft_2020_12}
 use Rattle.schema_reports.specs.KeywordTable.{builtin_in}
 use Rattle.schema_reports.specs.Instance.{Text}
 use Rattle.schema_reports.specs.Cover.{Sense}
-use Rattle.schema_reports.specs.Headline.{Plainly}
+use Rattle.schema_reports.specs.Headline.{Plainly, PlainlyWithUnits}
 use Rattle.schema_reports.specs.Making.{Table}
 use Rattle.schema_reports.specs.Matching.{Matcher}
 use Rattle.schema_reports.specs.Resolving.{Resolver}
+use Rattle.schema_reports.specs.declared.evaluation.EvaluationNode.{EvaluationNode}
 use Rattle.schema_compiler.specs.declared.compiler.error.BuildError.{BuildError}
 use Rattle.schema_engine.specs.Handed.{default_nested, Options, default_options, parts_of, table_of}
-use Rattle.schema_engine.specs.Program.{FromSomeDepth, Program}
+use Rattle.schema_engine.specs.Evaluated.{UnitsAnswered}
+use Rattle.schema_engine.specs.Program.{FromSomeDepth, HasUnits, OfEveryEvaluation, OfEverySense, Program}
 use Rattle.schema_engine.specs.ProgramOf.{IsProgramOf}
-use Rattle.schema_engine.specs.Promised.{MeansSchema, OfSchema}
+use Rattle.schema_engine.specs.Promised.{HasSchemasUnits, MeansSchema, OfSchema}
 use Rattle.schema_engine.specs.Roots.{Builds, RefusesBuild}
 use Rattle.bench_resolver.specs.BenchAnswers.{bench_resolving}
 use Rattle.bench_resolver.specs.BenchResolving.{document_uri}
@@ -35,12 +37,31 @@ module _ (resolver : Resolver Point) (table : Table BenchShape) (matcher : Match
   abbrev pub OfPlainMeaning : Data → (Bool → Sense → Type 0) → Type 0
   OfPlainMeaning instance fact = OfSchema resolver table matcher words options schema instance (λ spoken w root. Plainly w root instance (fact spoken))
 
+  -- where no match stays unfinished, the units are those of the plain meaning, under every outcome
+  abbrev pub PlainUnitsOf : Data → EvaluationNode → Type 0
+  PlainUnitsOf instance u = OfSchema resolver table matcher words options schema instance (λ spoken w root. PlainlyWithUnits w root instance (λ v units. UnitsAnswered v spoken units u))
+
   abbrev pub AnswersPlainly : Data → Call → Bool → Text → Type 0
-  AnswersPlainly instance call accepted text = Answers (OfPlainMeaning instance) call accepted text
+  AnswersPlainly instance call accepted text = Answers (OfPlainMeaning instance) (PlainUnitsOf instance) call accepted text
 
   -- the validator means schema and parts
   abbrev pub BenchMeans : Program BenchKeyword (List Text) → Type 0
   BenchMeans p = MeansSchema resolver table matcher words options schema shape_of is_whole bench_matcher p
+
+  -- it has the units of their plain meaning
+  abbrev pub BenchHasUnits : Program BenchKeyword (List Text) → Type 0
+  BenchHasUnits p = HasSchemasUnits resolver table matcher words options schema shape_of is_whole bench_matcher p
+
+-- what a validator's nodes say of an instance
+module _ (p : Program BenchKeyword (List Text)) (instance : Data) where
+  -- in every sense that they mean, with all units that they have
+  abbrev pub AnswersInEverySense : Call → Bool → Text → Type 0
+  AnswersInEverySense = Answers (OfEverySense shape_of words is_whole bench_matcher p instance)
+      (λ u. OfEveryEvaluation shape_of words is_whole bench_matcher p instance (λ spoken v units. UnitsAnswered v spoken units u))
+
+  -- from some depth on, where chains of references return too
+  abbrev pub AnswersFromSomeDepth : Call → Bool → Text → Type 0
+  AnswersFromSomeDepth = Answers (FromSomeDepth shape_of words is_whole bench_matcher p instance) (HasUnits shape_of words is_whole bench_matcher p instance)
 
 -- the bench table with the standard's names
 abbrev pub bench_table : Table BenchShape
@@ -86,4 +107,4 @@ pub record AnswersWords (ts : List Text) (accepted : Bool) (text : Text) : Type 
   pub plain : AnswersPlainly (bench_resolving asked.resolver) bench_table (bench_matcher asked.unfinished) default_options asked.schema asked.instance asked.call accepted text
   pub program : Program BenchKeyword (List Text)
   pub compiled : IsCompiledFrom asked program
-  pub guarded : Answers (FromSomeDepth shape_of words is_whole bench_matcher program asked.instance) asked.call accepted text
+  pub guarded : AnswersFromSomeDepth program asked.instance asked.call accepted text

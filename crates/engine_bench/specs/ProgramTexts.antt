@@ -1,5 +1,10 @@
 -- What the program prints on standard output.
-use Rattle.std.specs.Prelude.{Bool, List, None, Option, Some, [], codes, false, flat_map, true, ◌++◌, ◌∷◌}
+use Rattle.std.specs.Prelude.{Bool, List, None, Option, Some, [], codes, false, flat_map, true, ◌++◌, ◌∷◌, ◌≡◌, ◌≤◌}
+use Rattle.json.specs.Lex.{tokens}
+use Rattle.json.specs.Print.{print}
+use Rattle.serde_json.specs.Data.{Data, depth}
+use Rattle.serde_json.specs.Read.{max_depth, read}
+use Rattle.serde_json.specs.Written.{IsInOrder, compact_text, has_float}
 use Rattle.schema_reports.specs.Instance.{Text}
 use Rattle.schema_reports.specs.Reports.{Error, instance_path}
 
@@ -18,3 +23,14 @@ first_text (Some e) = error_line e
 -- a line for each
 abbrev pub errors_text : List Error → Text
 errors_text = flat_map error_line
+
+-- a value as JSON and a line feed: the compact text of a value that holds no fraction. The digits of a fraction are not said; of
+-- any value, the text has no space, has its items and members in their order, members in the byte order of their names, and is read
+-- as the value where that nests no deeper than a reader goes
+pub record IsJsonLine (d : Data) (text : Text) : Type 0 where
+  pub json : Text
+  pub ended : text ≡ json ++ 10 ∷ []
+  pub compact : has_float d ≡ false → json ≡ compact_text d
+  pub spaceless : json ≡ print (tokens json)
+  pub ordered : IsInOrder json d
+  pub reads_back : depth d ≤ max_depth → read json ≡ Some d

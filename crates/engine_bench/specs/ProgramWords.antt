@@ -5,7 +5,7 @@ use Rattle.serde_json.specs.Read.{read}
 use Rattle.schema_reports.specs.Instance.{Text}
 use Rattle.bench_parts.specs.Makers.{texts_of}
 use Rattle.engine_bench.specs.declared.program.requests.Call.{Call}
-use Rattle.engine_bench.specs.declared.program.requests.Call.TheVariants.{IsValid, IterErrors, Validate}
+use Rattle.engine_bench.specs.declared.program.requests.Call.TheVariants.{Evaluate, IsValid, IterErrors, Validate}
 
 pub record FourWords : Type 0 where
   pub mode : Text
@@ -24,7 +24,8 @@ abbrev pub call_named : Text → Option Call
 call_named m =
     if bytes_eq m (codes "valid") then Some IsValid
     else (if bytes_eq m (codes "first") then Some Validate
-    else (if bytes_eq m (codes "errors") then Some IterErrors else None))
+    else (if bytes_eq m (codes "errors") then Some IterErrors
+    else (if bytes_eq m (codes "list") then Some Evaluate else None)))
 
 abbrev pub call_in : List Text → Option Call
 call_in ts = option_and_then (λ (w : FourWords). call_named w.mode) (words_in ts)

@@ -11,6 +11,8 @@ mod evaluation_tests;
 #[cfg(test)]
 mod failing_matcher_tests;
 #[cfg(test)]
+mod fused_tests;
+#[cfg(test)]
 mod growing_tests;
 #[cfg(test)]
 mod leaf_tests;

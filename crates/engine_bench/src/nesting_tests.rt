@@ -69,7 +69,7 @@ const SHORT_CHAINS: &str = r##"[
 ]"##;
 
 /// The text of a schema that refers to `c0`: so many definitions of which each refers to the next, and this one behind them.
-fn chain_text(alloc: Global, count: u32, last: &str) -> Result<String, OutOfMemory> {
+pub fn chain_text(alloc: Global, count: u32, last: &str) -> Result<String, OutOfMemory> {
     let mut text = String::from_str(alloc, r##"{"$ref":"#/$defs/c0","$defs":{"##)?;
     for here in 0..count {
         let next = here + 1;

@@ -12,6 +12,8 @@ ghost use Rattle.engine_bench.specs.ProgramWords.{call_in};
 pub mod answers;
 pub mod arguments;
 pub mod faults;
+#[cfg(test)]
+mod list_tests;
 pub mod requests;
 #[cfg(test)]
 mod row_tests;

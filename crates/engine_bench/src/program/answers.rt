@@ -7,17 +7,12 @@ ghost use Rattle.schema_reports.specs.Matching.{Matcher};
 ghost use Rattle.schema_reports.specs.Resolving.{Resolver};
 ghost use Rattle.schema_reports.specs.ReportViews.{error_of};
 ghost use Rattle.schema_engine.specs.Handed.{Options};
-ghost use Rattle.schema_engine.specs.Program.{FromSomeDepth, OfEverySense};
-ghost use Rattle.bench_parts.specs.BenchMatching.{bench_matcher};
 ghost use Rattle.bench_resolver.specs.BenchStates.{Point};
-ghost use Rattle.bench_keywords.specs.BenchShape.{BenchShape, is_whole};
-ghost use Rattle.engine_bench.specs.ProgramAnswers.{Answers};
-ghost use Rattle.engine_bench.specs.ProgramMeaning.{AnswersPlainly, BenchMeans};
+ghost use Rattle.bench_keywords.specs.BenchShape.{BenchShape};
+ghost use Rattle.engine_bench.specs.ProgramMeaning.{AnswersFromSomeDepth, AnswersInEverySense, AnswersPlainly, BenchHasUnits, BenchMeans};
 ghost use Rattle.engine_bench.specs.ProgramRuns.{answer_status};
-ghost use Rattle.engine_bench.specs.ProgramTexts.{error_line, verdict_text};
-ghost use Rattle.bench_keywords.specs.Shapes.{shape_of};
-ghost use Rattle.bench_keywords.specs.Words.{words};
-ghost use Rattle.engine_bench.specs.declared.program.requests.Call.TheVariants.{IsValid, IterErrors, Validate};
+ghost use Rattle.engine_bench.specs.ProgramTexts.{IsJsonLine, error_line, verdict_text};
+ghost use Rattle.engine_bench.specs.declared.program.requests.Call.TheVariants.{Evaluate, IsValid, IterErrors, Validate};
 
 use crate::program::Status;
 use crate::program::requests::Call;
@@ -70,12 +65,10 @@ fn verdict(
     validator: &Validator<BenchKeyword, BenchMatcher>,
     instance: &Value,
 ) -> Result<Answer, OutOfMemory>
-    ensures senses { IfOk result (λ a. Answers
-        (OfEverySense shape_of words is_whole bench_matcher validator.now (view instance.now))
-        IsValid a.accepted (string_bytes a.text)) }
-    ensures depth { IfOk result (λ a. Answers
-        (FromSomeDepth shape_of words is_whole bench_matcher validator.now (view instance.now))
-        IsValid a.accepted (string_bytes a.text)) }
+    ensures senses { IfOk result (λ a. AnswersInEverySense
+        validator.now (view instance.now) IsValid a.accepted (string_bytes a.text)) }
+    ensures depth { IfOk result (λ a. AnswersFromSomeDepth
+        validator.now (view instance.now) IsValid a.accepted (string_bytes a.text)) }
 {
     let accepted = validator.is_valid(alloc, instance)?;
     let text = verdict_text(alloc, accepted)?;
@@ -99,12 +92,10 @@ fn first(
     validator: &Validator<BenchKeyword, BenchMatcher>,
     instance: &Value,
 ) -> Result<Answer, OutOfMemory>
-    ensures senses { IfOk result (λ a. Answers
-        (OfEverySense shape_of words is_whole bench_matcher validator.now (view instance.now))
-        Validate a.accepted (string_bytes a.text)) }
-    ensures depth { IfOk result (λ a. Answers
-        (FromSomeDepth shape_of words is_whole bench_matcher validator.now (view instance.now))
-        Validate a.accepted (string_bytes a.text)) }
+    ensures senses { IfOk result (λ a. AnswersInEverySense
+        validator.now (view instance.now) Validate a.accepted (string_bytes a.text)) }
+    ensures depth { IfOk result (λ a. AnswersFromSomeDepth
+        validator.now (view instance.now) Validate a.accepted (string_bytes a.text)) }
 {
     match validator.validate(alloc, instance)? {
         Ok(()) => Ok(Answer {
@@ -128,12 +119,10 @@ fn errors(
     validator: &Validator<BenchKeyword, BenchMatcher>,
     instance: &Value,
 ) -> Result<Answer, OutOfMemory>
-    ensures senses { IfOk result (λ a. Answers
-        (OfEverySense shape_of words is_whole bench_matcher validator.now (view instance.now))
-        IterErrors a.accepted (string_bytes a.text)) }
-    ensures depth { IfOk result (λ a. Answers
-        (FromSomeDepth shape_of words is_whole bench_matcher validator.now (view instance.now))
-        IterErrors a.accepted (string_bytes a.text)) }
+    ensures senses { IfOk result (λ a. AnswersInEverySense
+        validator.now (view instance.now) IterErrors a.accepted (string_bytes a.text)) }
+    ensures depth { IfOk result (λ a. AnswersFromSomeDepth
+        validator.now (view instance.now) IterErrors a.accepted (string_bytes a.text)) }
 {
     let mut accepted = true;
     let mut text = String::new(alloc);
@@ -142,6 +131,32 @@ fn errors(
         push_error(&mut text, alloc, &error)?;
     }
     Ok(Answer { accepted, text })
+}
+
+/// The list of an instance's evaluation, as JSON on one line.
+fn evaluation(
+    alloc: Global,
+    validator: &Validator<BenchKeyword, BenchMatcher>,
+    instance: &Value,
+) -> Result<Answer, OutOfMemory>
+    ensures senses { IfOk result (λ a. AnswersInEverySense
+        validator.now (view instance.now) Evaluate a.accepted (string_bytes a.text)) }
+    ensures depth { IfOk result (λ a. AnswersFromSomeDepth
+        validator.now (view instance.now) Evaluate a.accepted (string_bytes a.text)) }
+{
+    let evaluation = validator.evaluate(alloc, instance)?;
+    let accepted = evaluation.is_valid();
+    let text = json_line(alloc, &evaluation.list(alloc)?)?;
+    Ok(Answer { accepted, text })
+}
+
+/// A value as JSON on one line, with a line feed.
+fn json_line(alloc: Global, value: &Value) -> Result<String, OutOfMemory>
+    ensures line { IfOk result (λ text. IsJsonLine (view value.now) (string_bytes text)) }
+{
+    let mut text = value.to_string(alloc)?;
+    text.push_str("\n")?;
+    Ok(text)
 }
 
 /// What a call of the validator answers of an instance.
@@ -156,20 +171,20 @@ pub fn ask(
     call: Call,
     instance: &Value,
 ) -> Result<Answer, OutOfMemory>
-    ensures senses { IfOk result (λ a. Answers
-        (OfEverySense shape_of words is_whole bench_matcher validator.now (view instance.now))
-        call a.accepted (string_bytes a.text)) }
+    ensures senses { IfOk result (λ a. AnswersInEverySense
+        validator.now (view instance.now) call a.accepted (string_bytes a.text)) }
     ensures means { IfOk result
         (λ a. (resolver : Resolver Point) (table : Table BenchShape) (matcher : Matcher) (options : Options) (schema : Data)
         → BenchMeans resolver table matcher options schema validator.now
+        → BenchHasUnits resolver table matcher options schema validator.now
         → AnswersPlainly resolver table matcher options schema (view instance.now) call a.accepted (string_bytes a.text)) }
-    ensures depth { IfOk result (λ a. Answers
-        (FromSomeDepth shape_of words is_whole bench_matcher validator.now (view instance.now))
-        call a.accepted (string_bytes a.text)) }
+    ensures depth { IfOk result (λ a. AnswersFromSomeDepth
+        validator.now (view instance.now) call a.accepted (string_bytes a.text)) }
 {
     match call {
         Call::IsValid => verdict(alloc, validator, instance),
         Call::Validate => first(alloc, validator, instance),
         Call::IterErrors => errors(alloc, validator, instance),
+        Call::Evaluate => evaluation(alloc, validator, instance),
     }
 }

@@ -12,12 +12,13 @@ use schema_reports::location::OutOfMemory;
 use serde_json::{Category, Value};
 use std::alloc::Global;
 
-/// A call of the engine. MODE names it: `valid`, `first` or `errors`.
+/// A call of the engine. MODE names it: `valid`, `first`, `errors` or `list`.
 #[derive(Clone, Copy, Debug, PartialEq, Eq)]
 pub enum Call {
     IsValid,
     Validate,
     IterErrors,
+    Evaluate,
 }
 
 /// What the words ask for.
@@ -49,6 +50,8 @@ fn call_named(mode: &[u8]) -> Option<Call>
         Some(Call::Validate)
     } else if mode == b"errors".as_slice() {
         Some(Call::IterErrors)
+    } else if mode == b"list".as_slice() {
+        Some(Call::Evaluate)
     } else {
         None
     }

@@ -17,7 +17,7 @@ fn written(alloc: Global, words: &[Vec<u8>]) -> (Vec<u8>, Vec<u8>, u8) {
 }
 
 /// Whether the program writes this for its words, and ends with this status.
-fn writes(alloc: Global, words: &[Vec<u8>], out: &str, err: &str, status: u64) -> bool {
+pub fn writes(alloc: Global, words: &[Vec<u8>], out: &str, err: &str, status: u64) -> bool {
     let found = written(alloc, words);
     found.0.as_slice() == out.as_bytes()
         && found.1.as_slice() == err.as_bytes()
@@ -64,7 +64,7 @@ fn words_for(alloc: Global, mode: &str, row: &Value) -> Result<Vec<Vec<u8>>, Out
 }
 
 /// Whether a mode prints this for a row, and ends with this status.
-fn prints(
+pub fn prints(
     alloc: Global,
     mode: &str,
     row: &Value,
@@ -225,7 +225,7 @@ const FAULTS: &str = r##"[
 [["valid", true], "", "usage: engine_bench MODE SCHEMA INSTANCE [UNFINISHED]\n", 3],
 [["valid", true, 1, [], 1, 1], "", "usage: engine_bench MODE SCHEMA INSTANCE [UNFINISHED]\n", 3],
 [["Valid", true, 1], "", "usage: engine_bench MODE SCHEMA INSTANCE [UNFINISHED]\n", 3],
-[["list", true, 1], "", "usage: engine_bench MODE SCHEMA INSTANCE [UNFINISHED]\n", 3],
+[["lists", true, 1], "", "usage: engine_bench MODE SCHEMA INSTANCE [UNFINISHED]\n", 3],
 [["", "{", 1], "", "usage: engine_bench MODE SCHEMA INSTANCE [UNFINISHED]\n", 3],
 [["valid", "{", 1], "", "not JSON: SCHEMA\n", 3],
 [["valid", "", "{", "{"], "", "not JSON: SCHEMA\n", 3],
@@ -238,17 +238,22 @@ const FAULTS: &str = r##"[
 
 #[test]
 fn matches(rt: HostRuntime) -> Result<(), serde_json::Error> {
+    assert_eq!(rt; wrong(rt.alloc(), MATCHES_UNMET)?, None);
     assert_eq!(rt; wrong(rt.alloc(), MATCHES)?, None);
     Ok(())
 }
 
-// The last rows: a call that ends before it asks for a match, and one that asks for more than any call decides by.
-const MATCHES: &str = r##"[
+// Calls that meet no match that stays unfinished.
+const MATCHES_UNMET: &str = r##"[
 [{"pattern":"b"}, "abc", ["(?<=ab)c"], []],
 [{"pattern":"b"}, 1, ["(?<=ab)c"], []],
 [{"pattern":"b"}, "ac", ["(?<=ab)c"], ["\t/pattern\t/pattern\t\"ac\" does not match \"b\""]],
 [{"propertyNames":{"pattern":"b"}}, {"a":1,"b":2}, ["(?<=ab)c"],
- ["\t/propertyNames/pattern\t/propertyNames/pattern\t\"a\" does not match \"b\""]],
+ ["\t/propertyNames/pattern\t/propertyNames/pattern\t\"a\" does not match \"b\""]]
+]"##;
+
+// The last rows: a call that ends before it asks for a match, and one that asks for more than any call decides by.
+pub const MATCHES: &str = r##"[
 [{"not":{"pattern":"(?<=ab)c"}}, "abc", ["(?<=ab)c"],
  ["\t/not/pattern\t/not/pattern\tError executing regex: Max limit for backtracking count exceeded"]],
 [{"oneOf":[{"pattern":"(?<=ab)c"},{"type":"string"}]}, "abc", ["(?<=ab)c"],
@@ -279,7 +284,7 @@ fn many_unfinished_matches(rt: HostRuntime) -> Result<(), serde_json::Error> {
 }
 
 // Five matches have thirty-two outcomes, which a call decides by; six have more.
-const MANY_MATCHES: &str = r##"[
+pub const MANY_MATCHES: &str = r##"[
 [{"allOf":[
   {"anyOf":[{"pattern":"(?<=d)c"},{"type":"string"}]}, {"anyOf":[{"pattern":"(?<=e)c"},{"type":"string"}]},
   {"anyOf":[{"pattern":"(?<=f)c"},{"type":"string"}]}, {"anyOf":[{"pattern":"(?<=g)c"},{"type":"string"}]},
@@ -313,7 +318,7 @@ fn numbered_texts(alloc: Global, count: u32) -> Result<String, OutOfMemory> {
 }
 
 /// The row of a schema that refuses so many texts by matches that stay unfinished.
-fn row_of_many(alloc: Global, count: u32) -> Result<Value, serde_json::Error> {
+pub fn row_of_many(alloc: Global, count: u32) -> Result<Value, serde_json::Error> {
     let texts = numbered_texts(alloc, count)?;
     let line =
         r#"/0\t/items/pattern\t/items/pattern\tError executing regex: Max limit for backtracking count exceeded"#;

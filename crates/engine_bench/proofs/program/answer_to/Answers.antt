@@ -7,7 +7,7 @@ use Rattle.schema_engine.specs.ProgramOf.{IsProgramOf}
 use Rattle.schema_engine.specs.Roots.{Builds, RefusesBuild}
 use Rattle.bench_resolver.specs.BenchAnswers.{bench_resolving}
 use Rattle.bench_parts.specs.BenchMatching.{bench_matcher}
-use Rattle.engine_bench.specs.ProgramMeaning.{Asked, BenchMeans, bench_table}
+use Rattle.engine_bench.specs.ProgramMeaning.{Asked, BenchHasUnits, BenchMeans, bench_table}
 use Rattle.engine_bench.specs.ProgramViews.{texts}
 use Rattle.bench_keywords.specs.Shapes.{shape_of}
 use Rattle.bench_keywords.specs.Words.{words}
@@ -61,7 +61,8 @@ returns-clause-answer c =
       };
       builds = λ spoken. subst (λ (ps : List Text). Builds (parts_of (bench_resolving r) bench_table (bench_matcher ps) (words spoken) default_options) schema default_options.limit) same (c.in_ok-validator.ensures.built spoken);
       plain = c.in_ok-ask.ensures.means (bench_resolving r) bench_table (bench_matcher unfinished) default_options schema
-          (subst (λ (ps : List Text). BenchMeans (bench_resolving r) bench_table (bench_matcher ps) default_options schema validator) same c.in_ok-validator.ensures.means);
+          (subst (λ (ps : List Text). BenchMeans (bench_resolving r) bench_table (bench_matcher ps) default_options schema validator) same c.in_ok-validator.ensures.means)
+          (subst (λ (ps : List Text). BenchHasUnits (bench_resolving r) bench_table (bench_matcher ps) default_options schema validator) same c.in_ok-validator.ensures.units);
       program = validator;
       compiled = subst (λ (ps : List Text). IsProgramOf (bench_resolving r) bench_table (bench_matcher ps) default_options default_nested schema shape_of bench_matcher validator) same c.in_ok-validator.ensures.program;
       guarded = c.in_ok-ask.ensures.depth;
