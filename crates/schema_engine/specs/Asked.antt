@@ -14,8 +14,8 @@ use Rattle.schema_node.specs.declared.context.keyword.Reply.{Reply}
 use Rattle.schema_node.specs.declared.context.keyword.Validate.{Ghosts as KeywordMembers}
 use Rattle.schema_node.specs.declared.context.matcher.Matcher.{Ghosts as MatcherMembers}
 use Rattle.schema_engine.specs.Answers.{MeetsMatches, SaysErrors, SaysFirst, SaysReply, SaysUnit, SaysVerdict}
-use Rattle.schema_engine.specs.Evaluated.{EvaluationAnswered}
-use Rattle.schema_engine.specs.Program.{FromSomeDepth, HasUnits, OfEverySense, Program}
+use Rattle.schema_engine.specs.Evaluated.{EvaluationAnswered, UnitsAnswered}
+use Rattle.schema_engine.specs.Program.{FromSomeDepth, HasUnits, OfEveryEvaluation, OfEverySense, Program}
 use Rattle.schema_engine.specs.Spoken.{EachIsGiven, ErrorsAnswered, FirstAnswered, FirstIsGiven}
 
 -- C is a keyword of the code, K what is known of it, M a matcher of the code
@@ -89,6 +89,10 @@ module _ {C Run K M : Type 0} (keywords : KeywordMembers C Run K) (matchers : Ma
   -- the verdict is the sense's, and so are the errors that units are made of
   abbrev pub EvaluatesInEverySense : EvaluationNode → Type 0
   EvaluatesInEverySense u = OfEverySense keywords.shape keywords.words keywords.is_whole matchers.matching p instance (λ texts v. EvaluationAnswered v texts u)
+
+  -- where no match stays unfinished, the units are those that the nodes have beside the sense, under every outcome
+  abbrev pub UnitsInEverySense : EvaluationNode → Type 0
+  UnitsInEverySense u = OfEveryEvaluation keywords.shape keywords.words keywords.is_whole matchers.matching p instance (λ texts v units. UnitsAnswered v texts units u)
 
   -- the errors are the sense's
   abbrev pub ErrorsInEverySense : List ValidationError → Type 0

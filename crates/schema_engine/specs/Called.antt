@@ -3,7 +3,7 @@
 use Rattle.std.specs.Prelude.{Bool, List, Option, ℕ}
 use Rattle.serde_json.specs.Data.{Data}
 use Rattle.schema_reports.specs.Cover.{Sense, is_valid}
-use Rattle.schema_reports.specs.Headline.{IsValidAnswer, Plainly, VerdictSays}
+use Rattle.schema_reports.specs.Headline.{IsValidAnswer, Plainly, PlainlyWithUnits, VerdictSays}
 use Rattle.schema_reports.specs.Means as means
 use Rattle.schema_reports.specs.Parts.{Parts}
 use Rattle.schema_reports.specs.Plan.{Key}
@@ -16,10 +16,10 @@ use Rattle.schema_engine.specs.Compiled.{IsCompiled}
 use Rattle.schema_compiler.specs.Compiling.{no_keywords, no_matcher}
 use Rattle.schema_engine.specs.Handed.{Handed, Options, default_nested, parts_of}
 use Rattle.schema_engine.specs.Pointing.{EachPoints, FirstPoints}
-use Rattle.schema_engine.specs.Evaluated.{EvaluationAnswered}
+use Rattle.schema_engine.specs.Evaluated.{EvaluationAnswered, UnitsAnswered}
 use Rattle.schema_engine.specs.Program.{FromSomeDepth, HasUnits, Program}
 use Rattle.schema_engine.specs.ProgramOf.{IsProgramOf}
-use Rattle.schema_engine.specs.Promised.{MeansSchema, OfSchema, PointsIntoSchema}
+use Rattle.schema_engine.specs.Promised.{HasSchemasUnits, MeansSchema, OfSchema, PointsIntoSchema}
 use Rattle.schema_engine.specs.Roots.{Builds, RefusesBuild}
 use Rattle.schema_engine.specs.Spoken.{ErrorsAnswered, FirstAnswered}
 
@@ -30,6 +30,10 @@ module _ {S K R C M : Type 0} (h : Handed S K R C M) (options : Options) (schema
   -- the validator means the plain meaning of schema and parts, where no chain of references returns
   abbrev pub MeansPlainly : Program C M → Type 0
   MeansPlainly p = MeansSchema h.resolver h.table h.matcher h.words options schema h.shape h.is_whole h.matching p
+
+  -- the validator has the units of the plain meaning of schema and parts, where no chain of references returns
+  abbrev pub HasPlainUnits : Program C M → Type 0
+  HasPlainUnits p = HasSchemasUnits h.resolver h.table h.matcher h.words options schema h.shape h.is_whole h.matching p
 
   -- each error that its nodes give points at a keyword of the schema that its evaluation path leads to, and at a value inside the instance
   abbrev pub PointsPlainly : Program C M → Type 0
@@ -103,6 +107,10 @@ module _ {S K R C M : Type 0} (h : Handed S K R C M) (options : Options) (schema
     abbrev pub EvaluatesGuardedly : EvaluationNode → Type 0
     EvaluatesGuardedly u = GuardedlyOf (λ texts v. EvaluationAnswered v texts u)
 
+    -- where no match stays unfinished, the units are those of the plain meaning, under every outcome
+    abbrev pub UnitsPlainly : EvaluationNode → Type 0
+    UnitsPlainly u = OfSchema h.resolver h.table h.matcher h.words options schema instance (λ texts w root. PlainlyWithUnits w root instance (λ v units. UnitsAnswered v texts units u))
+
     -- where no match stays unfinished, the units are those of nodes compiled from the schema
     abbrev pub UnitsGuardedly : EvaluationNode → Type 0
     UnitsGuardedly u = (p : Program C M) × IsProgramOf h.resolver h.table h.matcher options default_nested schema h.shape h.matching p
@@ -119,3 +127,10 @@ MeansAsCompiled {S} h schema nodes root p = (options : Options)
     → ((key : Key S) → IsRoot (parts_of h.resolver h.table no_matcher no_keywords options) schema key
     → IsCompiled (parts_of h.resolver h.table no_matcher no_keywords options) h.shape key nodes root)
     → MeansPlainly h options schema p
+
+-- and the validator has the units of the plain meaning by these options
+abbrev pub HasUnitsAsCompiled : {S K R C M : Type 0} → Handed S K R C M → Data → List (NodeEntry C) → ℕ → Program C M → Type 0
+HasUnitsAsCompiled {S} h schema nodes root p = (options : Options)
+    → ((key : Key S) → IsRoot (parts_of h.resolver h.table no_matcher no_keywords options) schema key
+    → IsCompiled (parts_of h.resolver h.table no_matcher no_keywords options) h.shape key nodes root)
+    → HasPlainUnits h options schema p

@@ -8,6 +8,7 @@ use Rattle.schema_reports.specs.Keywords.{Keywords}
 use Rattle.schema_reports.specs.Cover.{Sense, branch_at, evaluate}
 use Rattle.schema_reports.specs.Guarded.{guarded_sense, guarded_within, node_unit, yes_unit}
 use Rattle.schema_reports.specs.Numbered.{subject_in}
+use Rattle.schema_reports.specs.Reports.{Unit_}
 use Rattle.schema_reports.specs.UnitViews.{unit_of}
 use Rattle.schema_reports.specs.declared.evaluation.EvaluationNode.{EvaluationNode}
 use Rattle.schema_reports.specs.Means as means
@@ -38,6 +39,14 @@ module _ {K S R M : Type 0} (shape : K → S) (words : Bool → Keywords S R) (i
   -- what is said of the nodes from some depth on, where chains of questions return too
   abbrev pub FromSomeDepth : (Bool → Sense → Type 0) → Type 0
   FromSomeDepth fact = (texts : Bool) → Speaks texts → means.FromSomeDepth (words texts) (matching p.matcher) (numbered shape p.nodes) p.root instance (fact texts)
+
+  -- the nodes have these units under each completion
+  abbrev pub HaveUnits : Bool → (Completion → Unit_) → Type 0
+  HaveUnits texts units = means.HaveUnits (words texts) (matching p.matcher) (numbered shape p.nodes) p.root instance units
+
+  -- what is said of every sense that the nodes mean, with all units that they have
+  abbrev pub OfEveryEvaluation : (Bool → Sense → (Completion → Unit_) → Type 0) → Type 0
+  OfEveryEvaluation fact = (texts : Bool) → Speaks texts → (v : Sense) → Means texts v → (units : Completion → Unit_) → HaveUnits texts units → fact texts v units
 
   -- at every great enough depth, where the first run of an evaluation meets no unfinished match, the units are those that the nodes have under every completion
   abbrev pub HasUnits : EvaluationNode → Type 0

@@ -10,12 +10,12 @@ use Rattle.schema_reports.specs.Keywords.{Keywords}
 use Rattle.schema_reports.specs.Parts.{Parts}
 use Rattle.schema_reports.specs.Plan.{Key}
 use Rattle.schema_reports.specs.Root.{IsRoot}
-use Rattle.schema_reports.specs.Headline.{SpeaksRightly, Plainly}
+use Rattle.schema_reports.specs.Headline.{SpeaksRightly, Plainly, PlainlyWithUnits}
 use Rattle.schema_reports.specs.ErrorsLead.{EachLeads}
 use Rattle.schema_reports.specs.Guarded.{guarded_sense}
 use Rattle.schema_reports.specs.Numbered.{subject_in}
 use Rattle.schema_node.specs.NodeTable.{numbered}
-use Rattle.schema_engine.specs.Program.{Program, Speaks, Means}
+use Rattle.schema_engine.specs.Program.{HaveUnits, Program, Speaks, Means}
 use Rattle.schema_engine.specs.Handed.{Options, parts_of}
 
 -- S is what a state stands for, K what is known of a keyword, R a run with its answer so far
@@ -28,6 +28,11 @@ module _ {S K R : Type 0} (resolver : Resolver S) (table : Table K) (matcher : M
   abbrev pub MeansSchema : {C M : Type 0} → (C → K) → (K → Bool) → (M → Matcher) → Program C M → Type 0
   MeansSchema shape is_whole matching p = (instance : Data)
       → OfSchema instance (λ texts w root. Speaks shape words is_whole matching p instance texts × Plainly w root instance (Means shape words is_whole matching p instance texts))
+
+  -- where no chain of questions returns, the validator has the units of the plain meaning, under every completion
+  abbrev pub HasSchemasUnits : {C M : Type 0} → (C → K) → (K → Bool) → (M → Matcher) → Program C M → Type 0
+  HasSchemasUnits shape is_whole matching p = (instance : Data)
+      → OfSchema instance (λ texts w root. PlainlyWithUnits w root instance (λ v units. HaveUnits shape words is_whole matching p instance texts units))
 
   -- with questions of any depth and under every completion, each error of the root's node points at a keyword of the schema that its evaluation path leads to, and at a value inside the instance
   abbrev pub PointsIntoSchema : {C M : Type 0} → (C → K) → (M → Matcher) → Program C M → Type 0

@@ -5,11 +5,12 @@ use Rattle.serde_json.specs.Written.{has_float}
 use Rattle.schema_reports.specs.Instance.{Place, Subject, Text}
 use Rattle.schema_reports.specs.Pointer.{shown_place}
 use Rattle.schema_reports.specs.Reports.{Error, Unit_, report_of}
-use Rattle.schema_reports.specs.Matching.{Assumptions, Match, Matcher, all_match, engine, finished, limit, unfinished}
+use Rattle.schema_reports.specs.Matching.{Assumptions, Completion, Match, Matcher, all_match, engine, finished, limit, unfinished}
 use Rattle.schema_reports.specs.Keywords.{Keywords}
 use Rattle.schema_reports.specs.Parts.{Parts}
 use Rattle.schema_reports.specs.Plan.{Key, schema_of}
 use Rattle.schema_reports.specs.Returns.{Asked, Return}
+use Rattle.schema_reports.specs.Units.{plain_units}
 use Rattle.schema_reports.specs.Runs.{Met, Site}
 use Rattle.schema_reports.specs.Cover.{Call, Decides, IsRun, Sense, branch_at, evaluate, is_valid, iter_errors, plain, validate}
 use Rattle.schema_reports.specs.Shared.{EachAccepts, IsShared, Shared, SomeRefuses}
@@ -66,8 +67,12 @@ module _ (v : Sense) where
   abbrev pub VerdictSays : Call → Bool → Type 0
   VerdictSays call valid = Either (Decides v call) ((valid ≡ true) ↔ EachAccepts v) (valid ≡ false)
 
+  -- the errors of a call whose further runs want all errors
+  abbrev pub ErrorsOf : Call → List Error → Type 0
+  ErrorsOf call errors = Either (Decides v call) (Lists call errors) (OneFailure call errors)
+
   abbrev pub ErrorsSay : List Error → Type 0
-  ErrorsSay errors = Either (Decides v iter_errors) (Lists iter_errors errors) (OneFailure iter_errors errors)
+  ErrorsSay = ErrorsOf iter_errors
 
   -- the first of the shared errors, in the order of a list
   pub data FirstShared : List Error → Option Error → Type 0 where
@@ -95,6 +100,11 @@ module _ {S K R : Type 0} (w : Parts S K R) (root : Key S) (instance : Data) whe
   -- a fact about the plain meaning: it holds with references followed as deep as is enough, or deeper
   abbrev pub Plainly : (Sense → Type 0) → Type 0
   Plainly fact = ¬ (Return w instance at_root) → (keys : List (Key S)) → IsReach w root keys → (n : ℕ) → deep_enough w keys instance ≤ n → fact (plain w instance n root)
+
+  -- the same of the plain meaning and of its units, under each completion
+  abbrev pub PlainlyWithUnits : (Sense → (Completion → Unit_) → Type 0) → Type 0
+  PlainlyWithUnits fact = ¬ (Return w instance at_root) → (keys : List (Key S)) → IsReach w root keys → (n : ℕ) → deep_enough w keys instance ≤ n
+      → fact (plain w instance n root) (λ c. plain_units w instance c n root [] [])
 
   -- what the contracts of the four calls cite
   abbrev pub IsValidAnswer : Bool → Type 0

@@ -61,6 +61,13 @@ pub fn numbers_mean<S, K, R>()
     ensures { (w : Parts S K R) (keys : Numbers S) (nodes : Nodes K) → NumbersMean w keys nodes }
 {}
 
+ghost use Rattle.schema_reports.specs.Means.{NumbersHaveUnits};
+
+/// And where no question returns, they have the units of the plain meaning, under each completion.
+pub fn numbers_have_units<S, K, R>()
+    ensures units { (w : Parts S K R) (keys : Numbers S) (nodes : Nodes K) → NumbersHaveUnits w keys nodes }
+{}
+
 ghost use Rattle.std.specs.Prelude.{Bool};
 ghost use Rattle.schema_reports.specs.Fractions.{NumbersAreWhole};
 
