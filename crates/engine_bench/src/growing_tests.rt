@@ -145,6 +145,8 @@ impl<'a> Resolver for GrowingResolver<'a> {
     ghost cloned = { λ s t same. same };
 
     ghost inside = { λ r. values_stand_inside r.document };
+
+    ghost below = { λ r draft p. tt };
 }
 
 /// The number of the refusal under a limit of so many keys; 0 where the schema of this text builds.

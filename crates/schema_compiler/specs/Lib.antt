@@ -20,3 +20,4 @@ pub mod Rows
 pub mod Builtins
 pub mod Dialects
 pub mod Readings
+pub mod Checking

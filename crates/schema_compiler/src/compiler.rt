@@ -52,6 +52,7 @@ use std::alloc::Global;
 use std::rc::Rc;
 
 mod annotations;
+pub mod check;
 pub mod compiled;
 pub mod context;
 pub(crate) mod entries;
