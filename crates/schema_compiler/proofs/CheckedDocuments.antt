@@ -70,6 +70,15 @@ module _ {S : Type 0} (r : Resolver S) where
   pub cut_below : (n : ℕ) (draft : Draft) (q : spec.SchemaPlace) → embedded (resolving_parts r) draft (schema_at (resolving_parts r) q) ≡ false → cut_at n draft q ≡ cuts (resolving_parts r) n draft q
   cut_below n draft q e = rw e refl
 
+  -- all places were gone through
+  pub finished : (draft : Draft) (p : spec.SchemaPlace) (items : List SchemaPlace) (k : ℕ) (old new : List spec.SchemaPlace) → map place_of items ≡ r.subresources_of draft p → length items ≤ k
+      → ((n : ℕ) → height p ≤ n → new ++ flat_map (cut_at n draft) (map place_of (drop k items)) ≡ old ++ flat_map (cut_at n draft) (map place_of items))
+      → (n : ℕ) → height p < n → new ≡ old ++ cuts (resolving_parts r) n draft p
+  finished draft p items k old new are past so_far zero less = absurd (omega arith)
+  finished draft p items k old new are past so_far (suc n) less =
+      sym (append-nil new) ∙ ap (λ (qs : List spec.SchemaPlace). new ++ qs) (sym (no_place (cut_at n draft) items k past)) ∙ so_far n (omega arith)
+      ∙ ap (λ (qs : List spec.SchemaPlace). old ++ flat_map (cut_at n draft) qs) are
+
   abbrev pub IsLower : spec.SchemaPlace → spec.SchemaPlace → Type 0
   IsLower p q = height q < height p
 

@@ -2,7 +2,8 @@
 ghost use Rattle.std.specs.Prelude.{◌≡◌, ◌<◌, ◌++◌, ℕ, IfOk, is_some, map, suc};
 ghost use Rattle.serde_json.specs.Data.{depth};
 ghost use Rattle.schema_reports.specs.Plan.{schema_at};
-ghost use Rattle.schema_reports.specs.Documents.{cuts, embedded};
+ghost use Rattle.schema_reports.specs.Documents as documents;
+ghost use Rattle.schema_reports.specs.Documents.{embedded};
 ghost use Rattle.schema_reports.specs.KeywordViews.{draft_of};
 ghost use Rattle.schema_node.specs.ResolverViews.{place_of};
 ghost use Rattle.schema_compiler.specs.Compiling.{resolving_parts};
@@ -60,7 +61,7 @@ impl<'p, R: Resolver, V: MetaValidators> SchemaCheck<'p, R, V> {
         ensures found { IfOk result (λ _. (n : ℕ) →
             depth (schema_at (resolving_parts (R.resolving self.now.resolver.now)) (place_of place.now)) < n →
             map place_of cuts.new.items ≡ map place_of cuts.old.items
-            ++ cuts (resolving_parts (R.resolving self.now.resolver.now)) n (draft_of draft) (place_of place.now)) }
+            ++ documents.cuts (resolving_parts (R.resolving self.now.resolver.now)) n (draft_of draft) (place_of place.now)) }
     {
         for below in &self.resolver.subresources_of(self.alloc, draft, place)? {
             if self.is_embedded(draft, below) {
@@ -74,7 +75,8 @@ impl<'p, R: Resolver, V: MetaValidators> SchemaCheck<'p, R, V> {
 
     /// The places of the outermost embedded resources below a place.
     pub(crate) fn cuts(&self, draft: Draft, place: &SchemaPlace) -> Result<Vec<SchemaPlace>, OutOfMemory>
-        ensures cuts { IfOk result (λ v. map place_of v.items ≡ cuts (resolving_parts (R.resolving self.now.resolver.now))
+        ensures cuts { IfOk result (λ v. map place_of v.items ≡
+            documents.cuts (resolving_parts (R.resolving self.now.resolver.now))
             (suc (depth (schema_at (resolving_parts (R.resolving self.now.resolver.now)) (place_of place.now))))
             (draft_of draft) (place_of place.now)) }
     {
