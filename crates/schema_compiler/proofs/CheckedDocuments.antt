@@ -1,7 +1,8 @@
 -- The documents of a schema, by the code's lists of places.
-use Rattle.std.proofs.Common.{◌≡◌, ◌∙◌, ◌<◌, ◌≤◌, ◌+◌, ◌++◌, ◌∷◌, [], ℕ, zero, suc, Bool, true, false, List, Some, ap, append-nil, inl, inr, append_assoc, arith, drop, get_or, length, map, refl, subst, sym}
-use Rattle.std.specs.Prelude.{flat_map, if◌then◌else◌, unwrap_or}
+use Rattle.std.proofs.Common.{◌≡◌, ◌∙◌, ◌<◌, ◌≤◌, ◌+◌, ◌==◌, ◌++◌, ◌∷◌, [], ℕ, zero, suc, Bool, true, false, List, Some, ap, append-nil, inl, inr, append_assoc, arith, drop, get_or, length, map, refl, subst, sym}
+use Rattle.std.specs.Prelude.{MatchOption, None, Option, flat_map, if◌then◌else◌, unwrap_or}
 use Rattle.std.specs.List.{AllByRecursion}
+use Rattle.std.proofs.lemmas.Bool.{eqb-true}
 use Rattle.std.proofs.lemmas.List.{drop_all, drop_more}
 use Rattle.serde_json.specs.Data.{Data, depth, null}
 use Rattle.schema_reports.specs.Instance.{a_value}
@@ -9,12 +10,15 @@ use Rattle.schema_reports.specs.Drafts as spec
 use Rattle.schema_reports.specs.Drafts.{Draft, at_path}
 use Rattle.schema_reports.specs.Resolving.{Resolver}
 use Rattle.schema_reports.specs.Plan.{schema_at}
-use Rattle.schema_reports.specs.Documents.{Document, cuts, documents, embedded}
+use Rattle.schema_reports.specs.Documents.{Document, blanked, cuts, documents, embedded, passes_unseen}
+use Rattle.schema_reports.specs.Owned.{prefixed}
+use Rattle.schema_reports.specs.ReportViews.{owned_error_of}
+use Rattle.schema_reports.specs.declared.reports.OwnedError.{OwnedError}
 use Rattle.schema_reports.proofs.Falls.{path_falls}
 use Rattle.schema_node.specs.ResolverViews.{IsInside, StandsBelow, SubschemasStandBelow, place_of}
 use Rattle.schema_node.specs.declared.context.schema_place.SchemaPlace.{SchemaPlace}
 use Rattle.schema_compiler.specs.Compiling.{Each, In, resolving_parts}
-use Rattle.schema_compiler.specs.Checking.{EachAccepted, IsAccepted, MetaChecks, RefusesOne, own_document}
+use Rattle.schema_compiler.specs.Checking.{EachAccepted, IsAccepted, IsErrorBelow, MetaChecks, RefusesOne, location_from, own_document, without_text}
 use Rattle.schema_compiler.specs.declared.compiler.error.BuildError.{BuildError}
 use Rattle.schema_compiler.specs.declared.compiler.error.BuildError.TheVariants.{KeywordRefused, Lookup, MetaSchema, MissingRoot, NodeLimit, NotASchema, OutOfMemory, ReferenceNotText, UnsupportedVocabulary}
 use Rattle.schema_compiler.proofs.Lists.{in_left, in_right}
@@ -29,6 +33,10 @@ pub at_index : (P : spec.SchemaPlace → Type 0) (items : List SchemaPlace) (k :
 at_index P [] k x h l at = absurd (omega arith)
 at_index P (y ∷ items) zero x h l at = subst (λ (z : SchemaPlace). P (place_of z)) (sym at) h.0
 at_index P (y ∷ items) (suc k) x h l at = at_index P items k x h.1 (omega arith) at
+
+pub no_cuts : (b : Bool) (items : List SchemaPlace) → b ≡ (length items == 0) → b ≡ true → map place_of items ≡ []
+no_cuts b [] e h = refl
+no_cuts b (x ∷ items) e h = absurd (let none : suc (length items) ≡ 0 = eqb-true (suc (length items)) 0 (sym e ∙ h) in omega arith)
 
 -- one place more
 pub next_place : {A : Type 0} (f : spec.SchemaPlace → List A) (items : List SchemaPlace) (k : ℕ) (x : SchemaPlace) → k < length items → x ≡ get_or items k x
@@ -144,11 +152,28 @@ module _ {S : Type 0} (r : Resolver S) (refuses : MetaChecks) where
   refuses_more root ds es among (MissingRoot uri) h = absurd h
   refuses_more root ds es among (NodeLimit limit) h = absurd h
 
+  -- an error in the document itself, as it is seen from the root
+  pub error_located : (root p : spec.SchemaPlace) (draft : Draft) (qs : List spec.SchemaPlace) (schema : Data) (o : Option OwnedError) (error e : OwnedError)
+      → schema ≡ schema_at (resolving_parts r) p → passes_unseen (resolving_parts r) schema ≡ false → o ≡ Some error
+      → MatchOption o (refuses draft (blanked (resolving_parts r) qs p schema) ≡ None) (IsErrorBelow refuses [] draft (blanked (resolving_parts r) qs p schema))
+      → owned_error_of e ≡ prefixed (location_from root p) (owned_error_of error) → RefusesOne (resolving_parts r) refuses root (own_document (resolving_parts r) qs draft p) (MetaSchema e)
+  error_located root p draft qs schema o error e read seen is refused located =
+      let w = resolving_parts r in
+      let value = blanked w qs p (schema_at w p) in
+      let d : Document w = record { place = p; draft = draft; value = value } in
+      let unseen : passes_unseen w (schema_at w p) ≡ false = ap (passes_unseen w) (sym read) ∙ seen in
+      let there : In (own_document w qs draft p) d = subst (λ (b : Bool). In (if b then [] else d ∷ []) d) (sym unseen) (inl refl) in
+      let here : IsErrorBelow refuses [] draft value error = subst (λ (x : Option OwnedError). MatchOption x (refuses draft value ≡ None) (IsErrorBelow refuses [] draft value)) is
+      (subst (λ (v : Data). MatchOption o (refuses draft (blanked w qs p v) ≡ None) (IsErrorBelow refuses [] draft (blanked w qs p v))) read refused) in
+      (d, there, (here.0, here.1, here.2, here.3, ap without_text located ∙ ap (prefixed (location_from root p)) here.4))
+
   -- a refusal of the document itself
-  pub refused_itself : (root p : spec.SchemaPlace) (draft : Draft) (e : BuildError) → RefusesOne (resolving_parts r) refuses root (own_document (resolving_parts r) (cuts_of draft p) draft p) e
+  pub refused_itself : (root p : spec.SchemaPlace) (draft : Draft) (qs : List spec.SchemaPlace) (e : BuildError) → qs ≡ cuts_of draft p
+      → RefusesOne (resolving_parts r) refuses root (own_document (resolving_parts r) qs draft p) e
       → (n : ℕ) → height r p < n → RefusesOne (resolving_parts r) refuses root (documents (resolving_parts r) n draft p) e
-  refused_itself root p draft e h zero l = absurd (omega arith)
-  refused_itself root p draft e h (suc n) l = refuses_more root _ _ (λ d i. in_left _ _ d i) e h
+  refused_itself root p draft qs e are h zero l = absurd (omega arith)
+  refused_itself root p draft qs e are h (suc n) l = refuses_more root (own_document (resolving_parts r) (cuts_of draft p) draft p) _ (λ d i. in_left _ _ d i) e
+      (subst (λ (ps : List spec.SchemaPlace). RefusesOne (resolving_parts r) refuses root (own_document (resolving_parts r) ps draft p) e) are h)
 
   -- a refusal inside one of the embedded resources
   pub refused_inside : (root p : spec.SchemaPlace) (draft : Draft) (items : List SchemaPlace) (k : ℕ) (x : SchemaPlace) (own : Draft) (e : BuildError)

@@ -10,7 +10,7 @@ use Rattle.schema_compiler.proofs.compiler.check.SchemaCheck.passes_unseen.Goals
 pub returns-in-Object : goal.returns-in-Object
 returns-in-Object g c =
     let w = resolving_parts (g.R.Resolver.resolving c.args.self.now.resolver.now) in
-    let members = c.in-Object.members.now in
+    let members = c.in-Object.members in
     record {
       unseen = unseen_object w members.entries c.is_empty.result c.is_empty.ensures.0 c.is_empty.ensures.1
           ∙ ap (passes_unseen w) (sym (view-Object members)) ∙ ap (λ (v : Value). passes_unseen w (view v)) (sym c.in-Object.is);
