@@ -66,6 +66,10 @@ module _ {S : Type 0} (r : Resolver S) where
   abbrev pub height : spec.SchemaPlace → ℕ
   height p = depth (schema_at (resolving_parts r) p)
 
+  -- the cuts of a document
+  abbrev pub cuts_of : Draft → spec.SchemaPlace → List spec.SchemaPlace
+  cuts_of draft p = cuts (resolving_parts r) (suc (height p)) draft p
+
   abbrev pub cut_at : ℕ → Draft → spec.SchemaPlace → List spec.SchemaPlace
   cut_at n draft q = elim (embedded (resolving_parts r) draft (schema_at (resolving_parts r) q)) [ true ↦ q ∷ [] | false ↦ cuts (resolving_parts r) n draft q ]
 
@@ -133,11 +137,8 @@ module _ {S : Type 0} (r : Resolver S) (refuses : MetaChecks) where
   abbrev pub inner_documents : ℕ → Draft → spec.SchemaPlace → List (Document (resolving_parts r))
   inner_documents n draft q = documents (resolving_parts r) n (r.detect draft (schema_at (resolving_parts r) q)) q
 
-  abbrev pub cuts_of : Draft → spec.SchemaPlace → List spec.SchemaPlace
-  cuts_of draft p = cuts (resolving_parts r) (suc (height r p)) draft p
-
   pub documents_are : (n : ℕ) (draft : Draft) (p : spec.SchemaPlace)
-      → documents (resolving_parts r) (suc n) draft p ≡ own_document (resolving_parts r) (cuts_of draft p) draft p ++ flat_map (inner_documents n draft) (cuts_of draft p)
+      → documents (resolving_parts r) (suc n) draft p ≡ own_document (resolving_parts r) (cuts_of r draft p) draft p ++ flat_map (inner_documents n draft) (cuts_of r draft p)
   documents_are n draft p = refl
 
   pub refuses_more : (root : spec.SchemaPlace) (ds es : List (Document (resolving_parts r))) → ((d : Document (resolving_parts r)) → In ds d → In es d) → (e : BuildError)
@@ -168,23 +169,23 @@ module _ {S : Type 0} (r : Resolver S) (refuses : MetaChecks) where
       (d, there, (here.0, here.1, here.2, here.3, ap without_text located ∙ ap (prefixed (location_from root p)) here.4))
 
   -- a refusal of the document itself
-  pub refused_itself : (root p : spec.SchemaPlace) (draft : Draft) (qs : List spec.SchemaPlace) (e : BuildError) → qs ≡ cuts_of draft p
+  pub refused_itself : (root p : spec.SchemaPlace) (draft : Draft) (qs : List spec.SchemaPlace) (e : BuildError) → qs ≡ cuts_of r draft p
       → RefusesOne (resolving_parts r) refuses root (own_document (resolving_parts r) qs draft p) e
       → (n : ℕ) → height r p < n → RefusesOne (resolving_parts r) refuses root (documents (resolving_parts r) n draft p) e
   refused_itself root p draft qs e are h zero l = absurd (omega arith)
-  refused_itself root p draft qs e are h (suc n) l = refuses_more root (own_document (resolving_parts r) (cuts_of draft p) draft p) _ (λ d i. in_left _ _ d i) e
+  refused_itself root p draft qs e are h (suc n) l = refuses_more root (own_document (resolving_parts r) (cuts_of r draft p) draft p) _ (λ d i. in_left _ _ d i) e
       (subst (λ (ps : List spec.SchemaPlace). RefusesOne (resolving_parts r) refuses root (own_document (resolving_parts r) ps draft p) e) are h)
 
   -- a refusal inside one of the embedded resources
   pub refused_inside : (root p : spec.SchemaPlace) (draft : Draft) (items : List SchemaPlace) (k : ℕ) (x : SchemaPlace) (own : Draft) (e : BuildError)
-      → map place_of items ≡ cuts_of draft p → k < length items → x ≡ get_or items k x → own ≡ r.detect draft (schema_at (resolving_parts r) (place_of x)) → IsLower r p (place_of x)
+      → map place_of items ≡ cuts_of r draft p → k < length items → x ≡ get_or items k x → own ≡ r.detect draft (schema_at (resolving_parts r) (place_of x)) → IsLower r p (place_of x)
       → ((n : ℕ) → height r (place_of x) < n → RefusesOne (resolving_parts r) refuses root (documents (resolving_parts r) n own (place_of x)) e)
       → (n : ℕ) → height r p < n → RefusesOne (resolving_parts r) refuses root (documents (resolving_parts r) n draft p) e
   refused_inside root p draft items k x own e are l at is low inner zero less = absurd (omega arith)
   refused_inside root p draft items k x own e are l at is low inner (suc n) less =
-      let there : In (cuts_of draft p) (place_of x) = subst (λ (qs : List spec.SchemaPlace). In qs (place_of x)) are (in_at_index items k x l at) in
+      let there : In (cuts_of r draft p) (place_of x) = subst (λ (qs : List spec.SchemaPlace). In qs (place_of x)) are (in_at_index items k x l at) in
       let here = subst (λ (d : Draft). RefusesOne (resolving_parts r) refuses root (documents (resolving_parts r) n d (place_of x)) e) is (inner n (omega arith)) in
-      refuses_more root (inner_documents n draft (place_of x)) _ (λ d i. in_right _ _ d (in_flat (inner_documents n draft) (cuts_of draft p) (place_of x) d there i)) e here
+      refuses_more root (inner_documents n draft (place_of x)) _ (λ d i. in_right _ _ d (in_flat (inner_documents n draft) (cuts_of r draft p) (place_of x) d there i)) e here
 
   -- so far each document is accepted
   abbrev pub AcceptedFrom : Draft → spec.SchemaPlace → List SchemaPlace → ℕ → Type 0
@@ -200,12 +201,12 @@ module _ {S : Type 0} (r : Resolver S) (refuses : MetaChecks) where
       so_far n less (subst (EachAccepted (resolving_parts r) refuses) (sym (next_place (inner_documents n draft) items k x l at))
       (both (IsAccepted (resolving_parts r) refuses) (inner_documents n draft (place_of x)) (flat_map (inner_documents n draft) (map place_of (drop (k + 1) items))) here rest))
 
-  pub accepted_all : (draft : Draft) (p : spec.SchemaPlace) (items : List SchemaPlace) (k : ℕ) → map place_of items ≡ cuts_of draft p → length items ≤ k
+  pub accepted_all : (draft : Draft) (p : spec.SchemaPlace) (items : List SchemaPlace) (k : ℕ) → map place_of items ≡ cuts_of r draft p → length items ≤ k
       → EachAccepted (resolving_parts r) refuses (own_document (resolving_parts r) (map place_of items) draft p) → AcceptedFrom draft p items k
       → (n : ℕ) → height r p < n → EachAccepted (resolving_parts r) refuses (documents (resolving_parts r) n draft p)
   accepted_all draft p items k are past own so_far zero less = absurd (omega arith)
   accepted_all draft p items k are past own so_far (suc n) less =
       let inner = so_far n (omega arith) (subst (EachAccepted (resolving_parts r) refuses) (sym (no_place (inner_documents n draft) items k past)) tt) in
-      both (IsAccepted (resolving_parts r) refuses) (own_document (resolving_parts r) (cuts_of draft p) draft p) (flat_map (inner_documents n draft) (cuts_of draft p))
+      both (IsAccepted (resolving_parts r) refuses) (own_document (resolving_parts r) (cuts_of r draft p) draft p) (flat_map (inner_documents n draft) (cuts_of r draft p))
       (subst (λ (qs : List spec.SchemaPlace). EachAccepted (resolving_parts r) refuses (own_document (resolving_parts r) qs draft p)) are own)
       (subst (λ (qs : List spec.SchemaPlace). EachAccepted (resolving_parts r) refuses (flat_map (inner_documents n draft) qs)) are inner)
