@@ -133,10 +133,13 @@ impl<'p, R: Resolver, V: MetaValidators> SchemaCheck<'p, R, V> {
     ) -> Result<(), BuildError>
         requires read { view schema.now ≡
             schema_at (resolving_parts (R.resolving self.now.resolver.now)) (place_of place.now) }
-        ensures accepted { IfOk result (λ _. EachAccepted (resolving_parts (R.resolving self.now.resolver.now)) (V.checked self.now.metas.now)
+        ensures accepted { IfOk result (λ _. EachAccepted
+            (resolving_parts (R.resolving self.now.resolver.now)) (V.checked self.now.metas.now)
             (own_document (resolving_parts (R.resolving self.now.resolver.now))
             (map place_of cuts.now) (draft_of draft) (place_of place.now))) }
-        ensures refused { IfErr result (RefusesOne (resolving_parts (R.resolving self.now.resolver.now)) (V.checked self.now.metas.now) (place_of self.now.root.now)
+        ensures refused { IfErr result (RefusesOne
+            (resolving_parts (R.resolving self.now.resolver.now)) (V.checked self.now.metas.now)
+            (place_of self.now.root.now)
             (own_document (resolving_parts (R.resolving self.now.resolver.now))
             (map place_of cuts.now) (draft_of draft) (place_of place.now))) }
     {
@@ -156,10 +159,13 @@ impl<'p, R: Resolver, V: MetaValidators> SchemaCheck<'p, R, V> {
         place: &SchemaPlace,
         cuts: &[SchemaPlace],
     ) -> Result<(), BuildError>
-        ensures accepted { IfOk result (λ _. EachAccepted (resolving_parts (R.resolving self.now.resolver.now)) (V.checked self.now.metas.now)
+        ensures accepted { IfOk result (λ _. EachAccepted
+            (resolving_parts (R.resolving self.now.resolver.now)) (V.checked self.now.metas.now)
             (own_document (resolving_parts (R.resolving self.now.resolver.now))
             (map place_of cuts.now) (draft_of draft) (place_of place.now))) }
-        ensures refused { IfErr result (RefusesOne (resolving_parts (R.resolving self.now.resolver.now)) (V.checked self.now.metas.now) (place_of self.now.root.now)
+        ensures refused { IfErr result (RefusesOne
+            (resolving_parts (R.resolving self.now.resolver.now)) (V.checked self.now.metas.now)
+            (place_of self.now.root.now)
             (own_document (resolving_parts (R.resolving self.now.resolver.now))
             (map place_of cuts.now) (draft_of draft) (place_of place.now))) }
     {
@@ -173,12 +179,14 @@ impl<'p, R: Resolver, V: MetaValidators> SchemaCheck<'p, R, V> {
     fn check_documents(&self, draft: Draft, place: &SchemaPlace) -> Result<(), BuildError>
         ensures accepted { IfOk result (λ _. (n : ℕ) →
             depth (schema_at (resolving_parts (R.resolving self.now.resolver.now)) (place_of place.now)) < n →
-            EachAccepted (resolving_parts (R.resolving self.now.resolver.now)) (V.checked self.now.metas.now)
+            EachAccepted (resolving_parts (R.resolving self.now.resolver.now))
+            (V.checked self.now.metas.now)
             (documents.documents (resolving_parts (R.resolving self.now.resolver.now)) n
             (draft_of draft) (place_of place.now))) }
         ensures refused { IfErr result (λ e. (n : ℕ) →
             depth (schema_at (resolving_parts (R.resolving self.now.resolver.now)) (place_of place.now)) < n →
-            RefusesOne (resolving_parts (R.resolving self.now.resolver.now)) (V.checked self.now.metas.now) (place_of self.now.root.now)
+            RefusesOne (resolving_parts (R.resolving self.now.resolver.now))
+            (V.checked self.now.metas.now) (place_of self.now.root.now)
             (documents.documents (resolving_parts (R.resolving self.now.resolver.now)) n
             (draft_of draft) (place_of place.now)) e) }
     {

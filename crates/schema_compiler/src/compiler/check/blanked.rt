@@ -48,7 +48,9 @@ impl<'p, R: Resolver, V: MetaValidators> SchemaCheck<'p, R, V> {
     {
         match value {
             Value::Array(items) => Ok(Value::Array(self.blanked_items(cuts, place, items)?)),
-            Value::Object(members) => Ok(Value::Object(self.blanked_members(cuts, place, members)?)),
+            Value::Object(members) => Ok(Value::Object(self.blanked_members(
+                cuts, place, members,
+            )?)),
             Value::Null => Ok(Value::Null),
             Value::Bool(truth) => Ok(Value::Bool(*truth)),
             Value::Number(number) => Ok(Value::Number(*number)),

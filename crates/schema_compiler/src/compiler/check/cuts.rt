@@ -74,7 +74,11 @@ impl<'p, R: Resolver, V: MetaValidators> SchemaCheck<'p, R, V> {
     }
 
     /// The places of the outermost embedded resources below a place.
-    pub(crate) fn cuts(&self, draft: Draft, place: &SchemaPlace) -> Result<Vec<SchemaPlace>, OutOfMemory>
+    pub(crate) fn cuts(
+        &self,
+        draft: Draft,
+        place: &SchemaPlace,
+    ) -> Result<Vec<SchemaPlace>, OutOfMemory>
         ensures cuts { IfOk result (λ v. map place_of v.items ≡
             documents.cuts (resolving_parts (R.resolving self.now.resolver.now))
             (suc (depth (schema_at (resolving_parts (R.resolving self.now.resolver.now)) (place_of place.now))))
