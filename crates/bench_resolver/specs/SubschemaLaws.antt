@@ -1,5 +1,5 @@
 -- Each subschema stands below its schema.
-use Rattle.std.proofs.Common.{ℕ, zero, suc, ◌≡◌, ◌∙◌, ◌+◌, ◌++◌, ◌∷◌, [], List, Bool, true, false, cond, Option, Some, None, option_and_then, option_map, map, refl, sym, ap, arith}
+use Rattle.std.proofs.Common.{ℕ, suc, ◌≡◌, ◌∙◌, ◌+◌, ◌++◌, ◌∷◌, [], List, Bool, true, false, cond, Option, Some, None, option_and_then, option_map, map, refl, sym, ap, arith}
 use Rattle.std.specs.Prelude.{flat_map, slice_get}
 use Rattle.std.specs.List.{AllByRecursion}
 use Rattle.std.specs.Str.{bytes_eq}
@@ -52,8 +52,13 @@ found_later k l v w more e = go (bytes_eq k l)
 
 module _ (k : Text) (d : Data) where
   member_stands : (whole : Members) (l : Text) (u : Data) → get k d ≡ Some (object whole) → member_of l whole ≡ Some u → StandsIn d (to_member k ∷ to_member l ∷ [])
-  member_stands whole l u e f = (to_member k, to_member l ∷ [], u, refl,
-    after_it k (to_member l ∷ []) d (object whole) e ∙ ap (λ (o : Option Data). option_and_then (subject_from []) (option_and_then (λ v. Some (a_value v)) o)) f)
+  member_stands whole l u e f = (
+    to_member k,
+    to_member l ∷ [],
+    u,
+    refl,
+    after_it k (to_member l ∷ []) d (object whole) e ∙ ap (λ (o : Option Data). option_and_then (subject_from []) (option_and_then (λ v. Some (a_value v)) o)) f,
+  )
 
   members_stand : (whole rest : Members) → get k d ≡ Some (object whole) → ((l : Text) (v : Data) → member_of l rest ≡ Some v → (u : Data) × (member_of l whole ≡ Some u))
       → AllByRecursion (StandsIn d) (members_below k rest)
@@ -64,8 +69,13 @@ module _ (k : Text) (d : Data) where
       (members_stand whole rest e (λ m w f. let later = found_later m l v w rest f in found m later.0 later.1))
 
   item_stands : (whole : Items) (i : ℕ) (v : Data) → get k d ≡ Some (array whole) → item_of i whole ≡ Some v → StandsIn d (to_member k ∷ to_item i ∷ [])
-  item_stands whole i v e f = (to_member k, to_item i ∷ [], v, refl,
-    after_it k (to_item i ∷ []) d (array whole) e ∙ ap (λ (o : Option Data). option_and_then (subject_from []) (option_and_then (λ v. Some (a_value v)) o)) f)
+  item_stands whole i v e f = (
+    to_member k,
+    to_item i ∷ [],
+    v,
+    refl,
+    after_it k (to_item i ∷ []) d (array whole) e ∙ ap (λ (o : Option Data). option_and_then (subject_from []) (option_and_then (λ v. Some (a_value v)) o)) f,
+  )
 
   items_stand : (whole : Items) (i : ℕ) (rest : Items) → get k d ≡ Some (array whole) → ((n : ℕ) → item_of (i + n) whole ≡ item_of n rest) → AllByRecursion (StandsIn d) (items_below k i rest)
   items_stand whole i no_items e found = tt
@@ -97,9 +107,10 @@ module _ (k : Text) (d : Data) where
   in_value (Some v) e = if_schema d (is_schema v) (to_member k ∷ []) [] (to_member k, [], v, refl, after_it k [] d v e) tt
 
 all_stand : (d : Data) → AllByRecursion (StandsIn d) (subschemas d)
-all_stand d = appended d (flat_map (λ k. below_object k (get k d)) names_of_objects) _ (of_names d _ (λ k. in_object k d (get k d) refl) names_of_objects)
-    (appended d (flat_map (λ k. below_list k (get k d)) names_of_lists) _ (of_names d _ (λ k. in_list k d (get k d) refl) names_of_lists)
-    (of_names d _ (λ k. in_value k d (get k d) refl) names_of_values))
+all_stand d = appended d (flat_map (λ k. below_object k (get k d)) names_of_objects ++ flat_map (λ k. below_list k (get k d)) names_of_lists) (flat_map (λ k. below_value k (get k d)) names_of_values)
+    (appended d (flat_map (λ k. below_object k (get k d)) names_of_objects) (flat_map (λ k. below_list k (get k d)) names_of_lists)
+    (of_names d _ (λ k. in_object k d (get k d) refl) names_of_objects) (of_names d _ (λ k. in_list k d (get k d) refl) names_of_lists))
+    (of_names d _ (λ k. in_value k d (get k d) refl) names_of_values)
 
 -- ---- the law
 
