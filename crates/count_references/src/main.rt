@@ -5,6 +5,7 @@
 
 use bench_keywords::keyword::BenchKeyword;
 use bench_parts::matcher::BenchMatcher;
+use bench_parts::meta::BenchMeta;
 use bench_parts::table::BenchTable;
 use bench_resolver::resolver::BenchResolver;
 use schema_compiler::compiler::error::BuildError;
@@ -123,7 +124,7 @@ fn tell(
 fn check(rt: &impl Print, alloc: Global, schema: &Value) -> anyhow::Result<()> {
     let resolver = BenchResolver::new(alloc, schema, VocabularySet::new(alloc))?;
     let matcher = BenchMatcher::new(Vec::new(alloc));
-    let built = Validator::new(alloc, schema, &BenchTable {}, &resolver, &matcher);
+    let built = Validator::new(alloc, schema, &BenchTable {}, &resolver, &matcher, &BenchMeta {});
     tell(rt, alloc, built)
 }
 

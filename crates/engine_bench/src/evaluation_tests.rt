@@ -2,6 +2,7 @@
 use crate::retry_tests::matcher_of;
 use bench_keywords::keyword::BenchKeyword;
 use bench_parts::matcher::BenchMatcher;
+use bench_parts::meta::BenchMeta;
 use bench_parts::table::BenchTable;
 use bench_resolver::resolver::BenchResolver;
 use schema_engine::calls::evaluate;
@@ -47,7 +48,7 @@ fn evaluates(
 fn holds(alloc: Global, row: &Value) -> Result<bool, AllocError> {
     let matcher = unfinished_of(alloc, row)?;
     let resolver = BenchResolver::new(alloc, column(row, 0), VocabularySet::new(alloc))?;
-    let built = Validator::new(alloc, column(row, 0), &BenchTable {}, &resolver, &matcher);
+    let built = Validator::new(alloc, column(row, 0), &BenchTable {}, &resolver, &matcher, &BenchMeta {});
     drop((matcher, resolver));
     match built {
         Err(_) => Ok(false),
@@ -99,8 +100,8 @@ fn is_accepted(alloc: Global, schema: &Value, instance: &Value) -> Result<bool, 
     let matcher = BenchMatcher::new(Vec::new(alloc));
     let resolver = BenchResolver::new(alloc, schema, VocabularySet::new(alloc))?;
     let table = BenchTable {};
-    let evaluated = evaluate::<BenchResolver, BenchTable, BenchKeyword, BenchMatcher>(
-        alloc, schema, instance, &table, &resolver, &matcher,
+    let evaluated = evaluate::<BenchResolver, BenchTable, BenchKeyword, BenchMatcher, BenchMeta>(
+        alloc, schema, instance, &table, &resolver, &matcher, &BenchMeta {},
     );
     drop((matcher, resolver));
     match evaluated {

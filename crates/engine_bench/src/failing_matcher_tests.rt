@@ -54,13 +54,14 @@ fn first_fails(
     instance: &Value,
     text: &str,
 ) -> bool {
-    match validate::<_, _, BenchKeyword, _>(
+    match validate::<_, _, BenchKeyword, _, _>(
         alloc,
         schema,
         instance,
         &BenchTable {},
         resolver,
         &FailingMatcher {},
+        &BenchMeta {},
     ) {
         Ok(Err(error)) => error.text.as_str() == text,
         _ => false,

@@ -5,6 +5,7 @@ ghost use Rattle.engine_bench.specs.Growing.{next};
 
 use crate::option_tests::{number_of, value_of};
 use bench_parts::matcher::BenchMatcher;
+use bench_parts::meta::BenchMeta;
 use bench_parts::table::BenchTable;
 use bench_resolver::resolver::BenchResolver;
 use bench_resolver::resolver::places::root_place;
@@ -154,7 +155,7 @@ fn refusal_under(alloc: Global, keys: usize, text: &str) -> Result<u8, OutOfMemo
     let resolver = GrowingResolver { document };
     let matcher = BenchMatcher::new(Vec::new(alloc));
     let options = ValidationOptions::new(alloc).with_node_limit(keys);
-    let built = options.build(alloc, &schema, &BenchTable {}, &resolver, &matcher);
+    let built = options.build(alloc, &schema, &BenchTable {}, &resolver, &matcher, &BenchMeta {});
     Ok(number_of(built))
 }
 

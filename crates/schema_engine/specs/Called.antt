@@ -1,6 +1,6 @@
 -- What a build answers of a schema, and what the calls of schema and instance answer: the sentences that their clauses cite,
 -- over all that is handed in. They are those of `Promised`, `ProgramOf`, `Roots`, `Spoken` and `Pointing`.
-use Rattle.std.specs.Prelude.{Bool, List, Option, ℕ}
+use Rattle.std.specs.Prelude.{Bool, List, Option, ℕ, ◌⊎◌}
 use Rattle.serde_json.specs.Data.{Data}
 use Rattle.schema_reports.specs.Cover.{Sense, is_valid}
 use Rattle.schema_reports.specs.Headline.{IsValidAnswer, Plainly, PlainlyWithUnits, VerdictSays}
@@ -12,6 +12,8 @@ use Rattle.schema_reports.specs.declared.evaluation.EvaluationNode.{EvaluationNo
 use Rattle.schema_reports.specs.declared.reports.ValidationError.{ValidationError}
 use Rattle.schema_node.specs.NodeTable.{NodeEntry, numbered}
 use Rattle.schema_compiler.specs.declared.compiler.error.BuildError.{BuildError}
+use Rattle.schema_compiler.specs.Checking.{MetaChecks}
+use Rattle.schema_engine.specs.Checked.{FailsCheck}
 use Rattle.schema_engine.specs.Compiled.{IsCompiled}
 use Rattle.schema_compiler.specs.Compiling.{no_keywords, no_matcher}
 use Rattle.schema_engine.specs.Handed.{Handed, Options, default_nested, parts_of}
@@ -52,6 +54,10 @@ module _ {S K R C M : Type 0} (h : Handed S K R C M) (options : Options) (schema
   -- the error names a cause that stands, or more keys are reached than the limit
   abbrev pub SchemaRefused : BuildError → Type 0
   SchemaRefused e = (texts : Bool) → RefusesBuild (parts_of h.resolver h.table h.matcher (h.words texts) options) schema options.limit e
+
+  -- so says the error, or that a meta validator refuses a document of the schema, where the check is on
+  abbrev pub BuildRefused : MetaChecks → BuildError → Type 0
+  BuildRefused refuses e = SchemaRefused e ⊎ FailsCheck h.resolver refuses options schema e
 
   -- ---- a call of an instance
 

@@ -1,7 +1,8 @@
 //! Building a validator.
 ghost use Rattle.std.specs.Prelude.{IfOk, IfErr};
 ghost use Rattle.serde_json.specs.View.{view};
-ghost use Rattle.schema_engine.specs.Called.{IsCompiledFrom, MeansPlainly, PointsPlainly, SchemaBuilds, SchemaRefused};
+ghost use Rattle.schema_engine.specs.Called.{IsCompiledFrom, MeansPlainly, PointsPlainly, SchemaBuilds, BuildRefused};
+ghost use Rattle.schema_engine.specs.Checked.{PassesCheck};
 ghost use Rattle.schema_engine.specs.Handed.{default_nested, handed};
 
 use crate::compiled::of_compiled;
@@ -12,6 +13,7 @@ use schema_compiler::compiler::compile;
 use schema_compiler::compiler::error::BuildError;
 use schema_node::context::keyword::Validate;
 use schema_node::context::matcher::Matcher;
+use schema_node::context::meta::MetaValidators;
 use schema_node::context::resolver::Resolver;
 use schema_node::context::table::KeywordTable;
 use schema_node::node::SchemaNode;
@@ -31,13 +33,14 @@ impl ValidationOptions {
     ///
     /// Fails if the schema's root, or a schema that it reaches, is refused, if more keys are reached than the limit, or out of
     /// memory. The error names a cause of that refusal.
-    pub fn build<S: Resolver, T: KeywordTable<K>, K: Validate, M: Matcher>(
+    pub fn build<S: Resolver, T: KeywordTable<K>, K: Validate, M: Matcher, V: MetaValidators>(
         &self,
         alloc: Global,
         schema: &Value,
         table: &T,
         resolver: &S,
         matcher: &M,
+        metas: &V,
     ) -> Result<Validator<K, M>, BuildError>
         ensures means { IfOk result (λ v. MeansPlainly
             (handed S.Resolver T.KeywordTable K.Validate M.Matcher.own resolver.now table.now matcher.now)
@@ -51,11 +54,14 @@ impl ValidationOptions {
         ensures built { IfOk result (λ _. SchemaBuilds
             (handed S.Resolver T.KeywordTable K.Validate M.Matcher.own resolver.now table.now matcher.now)
             self.now (view schema.now)) }
-        ensures refused { IfErr result (λ e. SchemaRefused
+        ensures passed { IfOk result (λ _. PassesCheck
+            (S.resolving resolver.now) (V.checked metas.now)
+            self.now (view schema.now)) }
+        ensures refused { IfErr result (λ e. BuildRefused
             (handed S.Resolver T.KeywordTable K.Validate M.Matcher.own resolver.now table.now matcher.now)
-            self.now (view schema.now) e) }
+            (V.checked metas.now) self.now (view schema.now) e) }
     {
-        self.build_nested(alloc, schema, table, resolver, matcher, NESTED_LIMIT)
+        self.build_nested(alloc, schema, table, resolver, matcher, metas, NESTED_LIMIT)
     }
 
     /// Builds a validator of a schema as `build` does, but with at most `nested` targets of references compiled one inside
@@ -65,13 +71,14 @@ impl ValidationOptions {
     /// # Errors
     ///
     /// Fails where `build` fails: the limit decides nothing of that.
-    pub fn build_nested<S: Resolver, T: KeywordTable<K>, K: Validate, M: Matcher>(
+    pub fn build_nested<S: Resolver, T: KeywordTable<K>, K: Validate, M: Matcher, V: MetaValidators>(
         &self,
         alloc: Global,
         schema: &Value,
         table: &T,
         resolver: &S,
         matcher: &M,
+        metas: &V,
         nested: usize,
     ) -> Result<Validator<K, M>, BuildError>
         ensures means { IfOk result (λ v. MeansPlainly
@@ -86,12 +93,16 @@ impl ValidationOptions {
         ensures built { IfOk result (λ _. SchemaBuilds
             (handed S.Resolver T.KeywordTable K.Validate M.Matcher.own resolver.now table.now matcher.now)
             self.now (view schema.now)) }
-        ensures refused { IfErr result (λ e. SchemaRefused
+        ensures passed { IfOk result (λ _. PassesCheck
+            (S.resolving resolver.now) (V.checked metas.now)
+            self.now (view schema.now)) }
+        ensures refused { IfErr result (λ e. BuildRefused
             (handed S.Resolver T.KeywordTable K.Validate M.Matcher.own resolver.now table.now matcher.now)
-            self.now (view schema.now) e) }
+            (V.checked metas.now) self.now (view schema.now) e) }
     {
         let root = root_key(alloc, resolver, self, schema)?;
         let draft = root.draft;
+        self.check(alloc, resolver, metas, &root)?;
         let compiled = compile(alloc, resolver, table, &self.compiling, nested, root)?;
         let nodes = compiled.nodes;
         let validator = of_compiled(
@@ -104,5 +115,24 @@ impl ValidationOptions {
             draft,
         )?;
         Ok(validator)
+    }
+
+    // Has the meta validators check the schema of a root's key, where the options ask for it.
+    fn check<S: Resolver, V: MetaValidators>(
+        &self,
+        alloc: Global,
+        resolver: &S,
+        metas: &V,
+        root: &SchemaKey<S::State>,
+    ) -> Result<(), BuildError>
+        ensures accepted { IfOk result (λ _. self.now.checks ≡ true → AcceptsSchema
+            (S.resolving resolver.now) (V.checked metas.now) (draft_of root.now.draft) (place_of root.now.place)) }
+        ensures refused { IfErr result (λ e. (self.now.checks ≡ true) × RefusesSchema
+            (S.resolving resolver.now) (V.checked metas.now) (draft_of root.now.draft) (place_of root.now.place) e) }
+    {
+        if !self.checks {
+            return Ok(());
+        }
+        validate_schema(alloc, resolver, metas, root.draft, &root.place)
     }
 }
