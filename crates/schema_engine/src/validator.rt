@@ -16,6 +16,8 @@ ghost use Rattle.schema_engine.specs.Asked.{ErrorsPointAsNodes, FirstPointsAsNod
 ghost use Rattle.schema_engine.specs.Asked.{EvaluatesFromSomeDepth, EvaluatesInEverySense, RunGivesUnit, UnitsFromSomeDepth};
 ghost use Rattle.schema_engine.specs.Asked.{RunDecides, RunFindsFirst, RunListsErrors, RunMeets, RunReplies};
 
+mod cloning;
+
 use schema_node::context::keyword::{Mode, Reply, Validate};
 use schema_node::context::matcher::Matcher;
 use schema_node::context::validation::ValidationContext;
