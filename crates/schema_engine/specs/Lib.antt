@@ -12,3 +12,4 @@ pub mod Asked
 pub mod Called
 pub mod Nesting
 pub mod FreeCalls
+pub mod MapViews
