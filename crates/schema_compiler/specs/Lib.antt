@@ -15,6 +15,7 @@ pub mod Passing
 pub mod UnderWay
 pub mod Working
 pub mod Compilation
+pub mod Alone
 pub mod Agreeing
 pub mod Rows
 pub mod Builtins
