@@ -16,3 +16,4 @@ pub mod BenchAnswers
 pub mod BenchStart
 pub mod OnWay
 pub mod ResolverLaws
+pub mod SubschemaLaws

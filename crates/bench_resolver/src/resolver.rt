@@ -190,11 +190,21 @@ impl<'a> BenchResolver<'a> {
             resources,
         })
     }
+
+    /// The same resolver with these vocabularies in force in each draft, whatever it required before. Allocates nothing.
+    pub fn with_draft_vocabularies(self, vocabularies: DraftVocabularies) -> BenchResolver<'a>
+        ensures vocabularies { result ≡ record self.entry { vocabularies = vocabularies } }
+    {
+        let mut resolver = self;
+        resolver.vocabularies = vocabularies;
+        resolver
+    }
 }
 
 impl<'a> Resolver for BenchResolver<'a> {
     ghost use Rattle.bench_resolver.specs.BenchViews.{point_of as state_point};
     ghost use Rattle.bench_resolver.specs.ResolverLaws.{cloned_points, same_points, values_stand_inside};
+    ghost use Rattle.bench_resolver.specs.SubschemaLaws.{subschemas_stand_below};
 
     type State = BenchState;
 
@@ -355,4 +365,6 @@ impl<'a> Resolver for BenchResolver<'a> {
     ghost cloned = { λ s t same. cloned_points s t same.0 same.1.0 };
 
     ghost inside = { values_stand_inside };
+
+    ghost below = { subschemas_stand_below };
 }

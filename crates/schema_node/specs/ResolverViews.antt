@@ -1,7 +1,8 @@
 -- What the code's resolver answers, as the definitions have it.
-use Rattle.std.specs.Prelude.{◌≡◌, Some, Result, Err, string_bytes}
+use Rattle.std.specs.List.{AllByRecursion}
+use Rattle.std.specs.Prelude.{◌≡◌, ◌∷◌, Some, Result, Err, string_bytes}
 use Rattle.serde_json.specs.Data.{Data}
-use Rattle.schema_reports.specs.Instance.{Text, Place, subject_at, a_value}
+use Rattle.schema_reports.specs.Instance.{Text, Place, Step, subject_at, a_value}
 use Rattle.schema_reports.specs.Drafts as spec
 use Rattle.schema_reports.specs.Resolving.{Found, Entrance, Resolver}
 use Rattle.schema_reports.specs.KeywordViews.{draft_of}
@@ -27,3 +28,11 @@ Refuses r OutOfMemory = Unit {0}
 -- what stands at a path below a place stands there inside the place's value
 abbrev pub IsInside : {S : Type 0} → Resolver S → Type 0
 IsInside r = (p : spec.SchemaPlace) (path : Place) (inner : Data) → r.value (spec.at_path p path) ≡ Some inner → (outer : Data) × (r.value p ≡ Some outer) × (subject_at outer path ≡ Some (a_value inner))
+
+-- a value stands at the second place, which lies below the first
+abbrev pub StandsBelow : {S : Type 0} → Resolver S → spec.SchemaPlace → spec.SchemaPlace → Type 0
+StandsBelow r outer inner = (step : Step) × (path : Place) × (there : Data) × (inner ≡ spec.at_path outer (step ∷ path)) × (r.value inner ≡ Some there)
+
+-- a subschema stands below its schema
+abbrev pub SubschemasStandBelow : {S : Type 0} → Resolver S → Type 0
+SubschemasStandBelow r = (draft : spec.Draft) (p : spec.SchemaPlace) → AllByRecursion (StandsBelow r p) (r.subresources_of draft p)

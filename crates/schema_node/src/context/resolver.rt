@@ -6,7 +6,7 @@ ghost use Rattle.serde_json.specs.View.{members_view, view};
 ghost use Rattle.schema_reports.specs.Drafts as schemas;
 ghost use Rattle.schema_reports.specs.Resolving as spec;
 ghost use Rattle.schema_reports.specs.KeywordViews.{draft_of};
-ghost use Rattle.schema_node.specs.ResolverViews.{place_of, entrance_of, found_of, Refuses, IsInside};
+ghost use Rattle.schema_node.specs.ResolverViews.{place_of, entrance_of, found_of, Refuses, IsInside, SubschemasStandBelow};
 
 use crate::context::schema_place::{SchemaPath, SchemaPlace};
 use schema_reports::keywords::{Draft, VocabularySet};
@@ -211,4 +211,6 @@ pub trait Resolver {
     ghost cloned: { (s t : Self.State) → Self.State.is_clone s t → point t ≡ point s };
 
     ghost inside: { (r : Self) → IsInside (resolving r) };
+
+    ghost below: { (r : Self) → SubschemasStandBelow (resolving r) };
 }
