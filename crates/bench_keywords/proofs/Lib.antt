@@ -1,3 +1,4 @@
+mod ToldAlike
 pub mod PropertyCounts
 pub mod MissingNames
 pub mod NamesAsked

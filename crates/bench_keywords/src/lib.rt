@@ -2,6 +2,7 @@
 #![tactic(auto)]
 
 pub mod any_of;
+mod cloning;
 pub mod counts;
 pub mod each;
 pub mod keyword;

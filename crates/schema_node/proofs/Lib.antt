@@ -29,5 +29,6 @@ pub mod VerdictMaps
 pub mod Alone
 pub mod RightVerdicts
 pub mod GoesOn
+mod Cloned
 mod NodeUnits
 mod UnitsAsked

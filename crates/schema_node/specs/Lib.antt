@@ -4,6 +4,7 @@ pub mod KeywordViews
 pub mod MakerViews
 pub mod NodeTable
 pub mod NodeViews
+pub mod Cloned
 pub mod Progress
 pub mod Verdicts
 pub mod VerdictViews

@@ -1,4 +1,5 @@
 //! The traits of the parts that are handed in, and the context of a run.
+pub mod cloning;
 pub mod kept_paths;
 pub mod keyword;
 pub(crate) mod marks;

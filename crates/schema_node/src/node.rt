@@ -7,6 +7,7 @@ ghost use Rattle.schema_node.specs.NodeTable.{NodeEntry, IsReserved, Waits, IsBe
 ghost use Rattle.schema_node.specs.NodeTable.{Adds, Fills, Begins, ComesLast, IsOrdered, IsNewRound, guards_at, is_settled_entry};
 
 pub mod absolute;
+mod cloning;
 pub mod evaluate;
 pub mod evaluation_path;
 mod evaluation_place;
