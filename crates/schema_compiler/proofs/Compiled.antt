@@ -1,12 +1,13 @@
 -- A table whose every number has its form is the compilation of its root.
 use Rattle.std.proofs.Common.{◌≡◌, ℕ, zero, suc, ◌<◌, Bool, true, false, cond, List, [], ◌∷◌, ◌++◌, length, map, refl, ap, sym, ◌∙◌, subst, arith, inl, inr}
-use Rattle.std.specs.List.{starts_with}
-use Rattle.std.specs.Prelude.{AllPairs, Option, Some, None, slice_get, slice_index_or, option_map, option_and_then, unwrap_or, flat_map, codes, drop, ◌==◌}
+use Rattle.std.specs.List.{list_any, starts_with}
+use Rattle.std.specs.Prelude.{AllPairs, Option, Some, None, slice_get, slice_index_or, option_map, option_and_then, unwrap_or, flat_map, bytes_eq, codes, drop, ◌==◌}
 use Rattle.std.proofs.lemmas.Bool.{eqb-true}
 use Rattle.std.proofs.lemmas.Slice.Eq.{bytes_eq-Decides}
 use Rattle.std.proofs.lemmas.Option.{slice_get-map, slice_get_within}
 use Rattle.schema_reports.specs.Instance.{Text}
-use Rattle.schema_reports.specs.Drafts.{Draft}
+use Rattle.schema_reports.specs.Drafts.{Draft, Vocabularies, custom_vocabulary}
+use Rattle.schema_reports.specs.VocabularySets.{custom_of}
 use Rattle.schema_reports.specs.Resolving.{Resolver}
 use Rattle.schema_reports.specs.Matching.{Matcher}
 use Rattle.schema_reports.specs.Making.{Request, Table}
@@ -15,7 +16,9 @@ use Rattle.schema_reports.specs.Parts.{Parts}
 use Rattle.schema_reports.specs.Plan.{Edge, Form, Key, Part, Plan, absolute_of, always, child, encoded, keyword, never, plan, reference, requested, same_key, these, without_fragment}
 use Rattle.serde_json.specs.View.{view}
 use Rattle.schema_reports.specs.Reach.{Reached, asked_by, asked_edges, asked_for, at_first, different}
-use Rattle.schema_reports.specs.Refusals.{Cause, Compiles, Stands, is_required, referred_by, stands_at, the_root, undeclared}
+use Rattle.schema_reports.specs.MapPointers as alone
+use Rattle.schema_reports.specs.MapPointers.{required_in, stands_in}
+use Rattle.schema_reports.specs.Refusals.{Cause, Stands, is_required, referred_by, stands_at, the_root, undeclared, unsupported_vocabulary}
 use Rattle.schema_reports.specs.Guarded.{Children, NodeEdge, NodeForm, NodePart, NodePlan, Nodes, node_always, node_child, node_keyword, node_never, node_reference, node_these}
 use Rattle.schema_reports.specs.Numbered.{IsNumber, Ranked, SameEdge, SameForm, SameParts, SamePlan, StandsFor}
 use Rattle.schema_node.specs.NodeTable.{IsOrdered, NodeEntry, absolute_in, numbered, shaped, shaped_form, plan_in}
@@ -27,10 +30,12 @@ use Rattle.schema_compiler.specs.UnderWay.{EdgesWithin}
 use Rattle.schema_compiler.proofs.OtherCourses.{finds_all_too}
 use Rattle.schema_compiler.proofs.GuardsAgree.{guards_agree}
 use Rattle.schema_compiler.specs.Filling.{AreChildren, AreParts, IsForm, IsGrown, IsNode, IsPlan, IsPlanned, IsTable, LeadsTo, shown_base}
-use Rattle.schema_compiler.specs.Compilation.{IsCompilation, RefusesRoot, all_parts}
+use Rattle.schema_compiler.specs.Alone.{RefusesVocabularies}
+use Rattle.schema_compiler.specs.Compilation.{IsCompilation, IsCompilationAlone, RefusesAlone, RefusesRoot, all_parts}
 use Rattle.schema_compiler.specs.declared.compiler.error.BuildError.{BuildError}
 use Rattle.schema_compiler.specs.declared.compiler.error.BuildError.TheVariants.{KeywordRefused, Lookup, MetaSchema, MissingRoot, NodeLimit, NotASchema, OutOfMemory, ReferenceNotText, UnsupportedVocabulary}
-use Rattle.schema_compiler.proofs.Lists.{all_of, contains_of, each_in, each_map, in_of, there}
+use Rattle.schema_compiler.proofs.Lists.{all_of, contains_of, each_append, each_in, each_map, in_of, there}
+use Rattle.schema_compiler.proofs.CustomVocabularies.{of_custom}
 use Rattle.schema_compiler.proofs.SameKeys.{and_parts, draft_true, one_key, schema_place_true, vocabularies_true}
 
 -- two keys with the same parts are one
@@ -62,6 +67,74 @@ distinct_differ {S} w law keys d i j x lt within =
     ] in
     go (same_key w a b) refl
 
+-- ---- the causes of vocabularies
+
+abbrev IsUnsupported : Cause → Type 0
+IsUnsupported (unsupported_vocabulary uri) = Unit {0}
+IsUnsupported _ = ⊥
+
+module _ {S K R : Type 0} (w : Parts S K R) where
+  each_unsupported : (us : List Text) → Each IsUnsupported (flat_map (undeclared w) (map custom_vocabulary us))
+  each_unsupported [] = tt
+  each_unsupported (u ∷ us) =
+      let go : (b : Bool) → Each IsUnsupported (cond b [] (unsupported_vocabulary u ∷ [])) = elim [ true ↦ tt | false ↦ (tt, tt) ] in
+      each_append IsUnsupported (undeclared w (custom_vocabulary u)) (flat_map (undeclared w) (map custom_vocabulary us)) (go (list_any (bytes_eq u) w.declared)) (each_unsupported us)
+
+  unsupported : (vs : Vocabularies) (cause : Cause) → In (flat_map (undeclared w) vs) cause → IsUnsupported cause
+  unsupported vs cause i = each_in IsUnsupported _ cause (each_unsupported (custom_of vs)) (subst (λ cs. In cs cause) (of_custom w vs) i)
+
+-- ---- a root and a subschema that is compiled by itself
+
+module _ {S K R : Type 0} (w : Parts S K R) where
+  -- a cause that stands below stands at a root too, whose vocabularies are asked for besides
+  pub stands_too : {root : Key S} {cause : Cause} → alone.StandsBelow w root cause → Stands w root cause
+  stands_too (stands_in k reach has) = stands_at k reach has
+  stands_too (required_in edge reach asks is has) = is_required edge.key (referred_by edge reach asks is) has
+
+  pub stands_but : {root : Key S} {cause : Cause} → flat_map (undeclared w) root.target.vocabularies ≡ [] → Stands w root cause → alone.StandsBelow w root cause
+  stands_but clean (stands_at k reach has) = stands_in k reach has
+  stands_but {cause = cause} clean (is_required k the_root has) = absurd (subst (λ cs. In cs cause) clean (in_of _ cause has))
+  stands_but clean (is_required k (referred_by edge reach asks is) has) = required_in edge reach asks is has
+
+  -- where the root's vocabularies are declared
+  pub compilation_of : {C : Type 0} {shape : C → K} {limit nested : ℕ} {root : Key S} {keys : List (Key S)} {nodes : List (NodeEntry C)} → flat_map (undeclared w) root.target.vocabularies ≡ []
+      → IsCompilationAlone w shape limit nested root keys nodes → IsCompilation w shape limit nested root keys nodes
+  compilation_of clean c = record {
+    first = c.first;
+    numbers = c.numbers;
+    ranked = c.ranked;
+    filled = c.filled;
+    lengths = c.lengths;
+    whole = c.whole;
+    sound = c.sound;
+    within = c.within;
+    compiles = λ cause stands. c.compiles cause (stands_but clean stands);
+    order = c.order;
+    guards = c.guards;
+  }
+
+  pub refuses_root : (limit : ℕ) (root : Key S) (e : BuildError) → RefusesAlone w limit root e → RefusesRoot w limit root e
+  refuses_root limit root (NotASchema l) h = stands_too h
+  refuses_root limit root (ReferenceNotText l) h = stands_too h
+  refuses_root limit root (Lookup t) h = stands_too h
+  refuses_root limit root (KeywordRefused x) h = stands_too h
+  refuses_root limit root (UnsupportedVocabulary u) h = stands_too h
+  refuses_root limit root (MetaSchema x) h = h
+  refuses_root limit root (MissingRoot u) h = h
+  refuses_root limit root (NodeLimit n) h = h
+  refuses_root limit root OutOfMemory h = tt
+
+  pub vocabularies_refuse : (limit : ℕ) (root : Key S) (e : BuildError) → RefusesVocabularies w root e → RefusesRoot w limit root e
+  vocabularies_refuse limit root (NotASchema l) h = absurd h
+  vocabularies_refuse limit root (ReferenceNotText l) h = absurd h
+  vocabularies_refuse limit root (Lookup t) h = absurd h
+  vocabularies_refuse limit root (KeywordRefused x) h = absurd h
+  vocabularies_refuse limit root (UnsupportedVocabulary u) h = is_required root the_root h
+  vocabularies_refuse limit root (MetaSchema x) h = h
+  vocabularies_refuse limit root (MissingRoot u) h = h
+  vocabularies_refuse limit root (NodeLimit n) h = absurd h
+  vocabularies_refuse limit root OutOfMemory h = tt
+
 module _ {S K R : Type 0} (resolver : Resolver S) (table : Table K) (formats : Option Bool) (declared : List Text) (matcher : Matcher) (keywords : Keywords K R) (draft : Option Draft) (base : Option Text) where
   abbrev w : Parts S K (Unit {0})
   w = parts_of resolver table formats declared
@@ -79,32 +152,33 @@ module _ {S K R : Type 0} (resolver : Resolver S) (table : Table K) (formats : O
 
   -- ---- refusals
 
-  below_stands : (root : Key S) (c : Cause) → StandsBelow w root c → Stands whole root c
-  below_stands root c (q, r, inl i) = stands_at q (to_whole r) (contains_of _ c i)
-  below_stands root c (q, r, inr d) = is_required d.0.key (referred_by d.0 (to_whole r) (contains_of _ d.0 d.1) d.2) (contains_of _ c d.3)
+  below_stands : (root : Key S) (c : Cause) → StandsBelow w root c → alone.StandsBelow whole root c
+  below_stands root c (q, r, inl i) = stands_in q (to_whole r) (contains_of _ c i)
+  below_stands root c (q, r, inr d) = required_in d.0 (to_whole r) (contains_of _ d.0 d.1) d.2 (contains_of _ c d.3)
 
-  pub refuses_root : ((a b : S) → resolver.same_state a b ≡ true → a ≡ b) → (limit : ℕ) (root : Key S) (e : BuildError) → IsRefusal limit [] (Reached w root) (StandsBelow w root) e → RefusesRoot whole limit root e
-  refuses_root law limit root (NotASchema l) h = below_stands root _ h
-  refuses_root law limit root (ReferenceNotText l) h = below_stands root _ h
-  refuses_root law limit root (Lookup t) h = below_stands root _ h
-  refuses_root law limit root (KeywordRefused x) h = below_stands root _ h
-  refuses_root law limit root (UnsupportedVocabulary u) h = below_stands root _ h
-  refuses_root law limit root (MetaSchema x) h = h
-  refuses_root law limit root (MissingRoot u) h = h
-  refuses_root law limit root (NodeLimit n) h =
+  pub refuses_alone : ((a b : S) → resolver.same_state a b ≡ true → a ≡ b) → (limit : ℕ) (root : Key S) (e : BuildError) → IsRefusal limit [] (Reached w root) (StandsBelow w root) e → RefusesAlone whole limit root e
+  refuses_alone law limit root (NotASchema l) h = below_stands root _ h
+  refuses_alone law limit root (ReferenceNotText l) h = below_stands root _ h
+  refuses_alone law limit root (Lookup t) h = below_stands root _ h
+  refuses_alone law limit root (KeywordRefused x) h = below_stands root _ h
+  refuses_alone law limit root (UnsupportedVocabulary u) h = below_stands root _ h
+  refuses_alone law limit root (MetaSchema x) h = h
+  refuses_alone law limit root (MissingRoot u) h = h
+  refuses_alone law limit root (NodeLimit n) h =
       (h.0, (h.1.0, all_of (Reached whole root) h.1.0 (each_map (Reached w root) (Reached whole root) h.1.0 (λ k r. to_whole r) h.1.1), distinct_differ whole law h.1.0 h.1.2, h.1.3))
-  refuses_root law limit root OutOfMemory h = tt
+  refuses_alone law limit root OutOfMemory h = tt
 
-  pub vocabulary_refuses : (limit : ℕ) (root : Key S) (e : BuildError) → Names (flat_map (undeclared w) root.target.vocabularies) e → RefusesRoot whole limit root e
-  vocabulary_refuses limit root (NotASchema l) h = is_required root the_root (contains_of _ _ h)
-  vocabulary_refuses limit root (ReferenceNotText l) h = is_required root the_root (contains_of _ _ h)
-  vocabulary_refuses limit root (Lookup t) h = is_required root the_root (contains_of _ _ h)
-  vocabulary_refuses limit root (KeywordRefused x) h = is_required root the_root (contains_of _ _ h)
-  vocabulary_refuses limit root (UnsupportedVocabulary u) h = is_required root the_root (contains_of _ _ h)
-  vocabulary_refuses limit root (MetaSchema x) h = h
-  vocabulary_refuses limit root (MissingRoot u) h = h
-  vocabulary_refuses limit root (NodeLimit n) h = absurd h
-  vocabulary_refuses limit root OutOfMemory h = tt
+  -- a root's own vocabularies
+  pub vocabulary_refuses : (root : Key S) (e : BuildError) → Names (flat_map (undeclared w) root.target.vocabularies) e → RefusesVocabularies whole root e
+  vocabulary_refuses root (NotASchema l) h = unsupported w root.target.vocabularies _ h
+  vocabulary_refuses root (ReferenceNotText l) h = unsupported w root.target.vocabularies _ h
+  vocabulary_refuses root (Lookup t) h = unsupported w root.target.vocabularies _ h
+  vocabulary_refuses root (KeywordRefused x) h = unsupported w root.target.vocabularies _ h
+  vocabulary_refuses root (UnsupportedVocabulary u) h = contains_of _ _ h
+  vocabulary_refuses root (MetaSchema x) h = h
+  vocabulary_refuses root (MissingRoot u) h = h
+  vocabulary_refuses root (NodeLimit n) h = h
+  vocabulary_refuses root OutOfMemory h = tt
 
   -- ---- numbers
 
@@ -203,21 +277,20 @@ module _ {S K R : Type 0} (resolver : Resolver S) (table : Table K) (formats : O
           let p = planned at.0 k at.1 in
           settled_key (asked_edges w k) l p.1.settled (in_of (asked_for w k) l asks)
 
-      no_cause : flat_map (undeclared w) root.target.vocabularies ≡ [] → Compiles whole root
-      no_cause clean cause (stands_at k reach has) =
+      no_cause : (cause : Cause) → ¬ (alone.StandsBelow whole root cause)
+      no_cause cause (stands_in k reach has) =
           let at = numbered_key (from_whole reach) in
           let p = planned at.0 k at.1 in
           subst (λ cs. In cs cause) p.1.clean (in_of _ cause has)
-      no_cause clean cause (is_required k the_root has) = subst (λ cs. In cs cause) clean (in_of _ cause has)
-      no_cause clean cause (is_required k (referred_by {k = q} edge reach asks is) has) =
+      no_cause cause (required_in {k = q} edge reach asks is has) =
           let at = numbered_key (from_whole reach) in
           let p = planned at.0 q at.1 in
           let s = each_in (Settled w keys) (asked_edges w q) edge p.1.settled (in_of _ edge asks) in
           subst (λ cs. In cs cause) (s.declared is) (in_of _ cause has)
 
-      pub compiled : (finished : ℕ) → IsOrdered nodes finished → flat_map (undeclared w) root.target.vocabularies ≡ [] → FindsAll w nested root keys (map standing_of nodes) → GuardsByStanding nodes → EdgesWithin nodes
-          → IsCompilation whole shape limit nested root keys nodes
-      compiled finished ordered clean order guards inside =
+      pub compiled : (finished : ℕ) → IsOrdered nodes finished → FindsAll w nested root keys (map standing_of nodes) → GuardsByStanding nodes → EdgesWithin nodes
+          → IsCompilationAlone whole shape limit nested root keys nodes
+      compiled finished ordered order guards inside =
           let within : (i : ℕ) (k : Key S) → slice_get keys i ≡ Some k → i < length nodes = λ i k at. let l = slice_get_within keys i k at in let e = t.lengths in omega arith in
           record {
             first = first;
@@ -228,7 +301,7 @@ module _ {S K R : Type 0} (resolver : Resolver S) (table : Table K) (formats : O
             whole = λ k r. numbered_key (from_whole r);
             sound = all_of (Reached whole root) keys (each_map (Reached w root) (Reached whole root) keys (λ k r. to_whole r) (subst (Each (Reached w root)) (sym g.added.1) g.added.2));
             within = t.within;
-            compiles = no_cause clean;
+            compiles = no_cause;
             order = finds_all_too w whole (λ k. refl) nested root keys (map standing_of nodes) order;
             guards = guards;
           }

@@ -27,3 +27,5 @@ pub mod WorkedRows
 pub mod CustomVocabularies
 mod Unknown
 mod Absorbed
+pub mod BlankedDocuments
+pub mod CheckedDocuments

@@ -1,5 +1,6 @@
 -- What a compilation gives: a number for each key that the root reaches, whose node is the key's plan; and what its
--- refusal says.
+-- refusal says. The root is a schema's, or a subschema that is compiled by itself: then a vocabulary is asked for only where a
+-- reference leads.
 use Rattle.std.specs.Prelude.{All, Bool, List, Option, Some, length, map, slice_get, string_bytes, ℕ, ◌≡◌, ◌≤◌}
 use Rattle.schema_reports.specs.Instance.{Text}
 use Rattle.schema_reports.specs.Drafts.{Draft}
@@ -10,7 +11,8 @@ use Rattle.schema_reports.specs.Keywords.{Keywords}
 use Rattle.schema_reports.specs.Parts.{Parts}
 use Rattle.schema_reports.specs.Plan.{Key}
 use Rattle.schema_reports.specs.Reach.{Reached, ReachesMoreThan}
-use Rattle.schema_reports.specs.Refusals.{Compiles, Stands, keyword_refused, lookup_refuses, not_a_schema, reference_not_text, unsupported_vocabulary}
+use Rattle.schema_reports.specs.MapPointers.{StandsBelow}
+use Rattle.schema_reports.specs.Refusals.{Cause, Stands, keyword_refused, lookup_refuses, not_a_schema, reference_not_text, unsupported_vocabulary}
 use Rattle.schema_reports.specs.ReportViews.{owned_error_of}
 use Rattle.schema_reports.specs.Guarded.{NodePlan}
 use Rattle.schema_reports.specs.Numbered.{AreNumbered, Ranked}
@@ -33,7 +35,8 @@ all_parts resolver table formats declared matcher keywords draft base = record {
 }
 
 module _ {S K R : Type 0} (w : Parts S K R) where
-  pub record IsCompilation {C : Type 0} (shape : C → K) (limit nested : ℕ) (root : Key S) (keys : List (Key S)) (nodes : List (NodeEntry C)) : Type 0 where
+  -- by what is said to be a cause of refusal
+  pub record IsCompilationBy {C : Type 0} (stands : Cause → Type 0) (shape : C → K) (limit nested : ℕ) (root : Key S) (keys : List (Key S)) (nodes : List (NodeEntry C)) : Type 0 where
     -- the root has the first number
     pub first : slice_get keys 0 ≡ Some root
     -- keys and numbers correspond one to one, and each number's node is the plan of its key
@@ -47,20 +50,34 @@ module _ {S K R : Type 0} (w : Parts S K R) where
     pub whole : (k : Key S) → Reached w root k → (i : ℕ) × (slice_get keys i ≡ Some k)
     pub sound : All (Reached w root) keys
     pub within : length keys ≤ limit
-    pub compiles : Compiles w root
+    pub compiles : (cause : Cause) → ¬ (stands cause)
     -- the keys are found in the one order that the schema and the limit on nested targets give, and their nodes get their forms so
     pub order : FindsAll w nested root keys (map standing_of nodes)
     -- an edge is guarded exactly where its target was in progress when it was made, or an unsettled number of an earlier round
     pub guards : GuardsByStanding nodes
 
+  -- the compilation of a schema's root, and of a subschema by itself
+  abbrev pub IsCompilation : {C : Type 0} → (C → K) → ℕ → ℕ → Key S → List (Key S) → List (NodeEntry C) → Type 0
+  IsCompilation shape limit nested root keys nodes = IsCompilationBy (Stands w root) shape limit nested root keys nodes
+
+  abbrev pub IsCompilationAlone : {C : Type 0} → (C → K) → ℕ → ℕ → Key S → List (Key S) → List (NodeEntry C) → Type 0
+  IsCompilationAlone shape limit nested root keys nodes = IsCompilationBy (StandsBelow w root) shape limit nested root keys nodes
+
   -- a refusal shows a cause that stands; one for the limit says that more keys are reached; want of memory says nothing
+  abbrev pub RefusesBy : (Cause → Type 0) → ℕ → Key S → BuildError → Type 0
+  RefusesBy stands limit root (NotASchema location) = stands (not_a_schema location)
+  RefusesBy stands limit root (ReferenceNotText location) = stands (reference_not_text location)
+  RefusesBy stands limit root (Lookup text) = stands (lookup_refuses (string_bytes text))
+  RefusesBy stands limit root (KeywordRefused error) = stands (keyword_refused (owned_error_of error))
+  RefusesBy stands limit root (UnsupportedVocabulary uri) = stands (unsupported_vocabulary (string_bytes uri))
+  RefusesBy stands limit root (MetaSchema error) = ⊥
+  RefusesBy stands limit root (MissingRoot uri) = ⊥
+  RefusesBy stands limit root (NodeLimit n) = (n ≡ limit) × ReachesMoreThan w limit root
+  RefusesBy stands limit root OutOfMemory = Unit {0}
+
+  -- the refusal of a schema's root, and of a subschema by itself
   abbrev pub RefusesRoot : ℕ → Key S → BuildError → Type 0
-  RefusesRoot limit root (NotASchema location) = Stands w root (not_a_schema location)
-  RefusesRoot limit root (ReferenceNotText location) = Stands w root (reference_not_text location)
-  RefusesRoot limit root (Lookup text) = Stands w root (lookup_refuses (string_bytes text))
-  RefusesRoot limit root (KeywordRefused error) = Stands w root (keyword_refused (owned_error_of error))
-  RefusesRoot limit root (UnsupportedVocabulary uri) = Stands w root (unsupported_vocabulary (string_bytes uri))
-  RefusesRoot limit root (MetaSchema error) = ⊥
-  RefusesRoot limit root (MissingRoot uri) = ⊥
-  RefusesRoot limit root (NodeLimit n) = (n ≡ limit) × ReachesMoreThan w limit root
-  RefusesRoot limit root OutOfMemory = Unit {0}
+  RefusesRoot limit root e = RefusesBy (Stands w root) limit root e
+
+  abbrev pub RefusesAlone : ℕ → Key S → BuildError → Type 0
+  RefusesAlone limit root e = RefusesBy (StandsBelow w root) limit root e

@@ -15,8 +15,10 @@ pub mod Passing
 pub mod UnderWay
 pub mod Working
 pub mod Compilation
+pub mod Alone
 pub mod Agreeing
 pub mod Rows
 pub mod Builtins
 pub mod Dialects
 pub mod Readings
+pub mod Checking

@@ -4,7 +4,7 @@
 //! What it is given is in `given`, what it fills in `compiled`; `context` says what draft, vocabularies and options decide where
 //! a schema stands. Its steps are in `vocabularies`, `values`, `makers`, `subschema`, `targets` (over the references of `ref_`
 //! and `start`), `entries` and `annotations`.
-ghost use Rattle.std.specs.Prelude.{◌≡◌, ◌≢◌, ◌<◌, ◌++◌, ℕ, IfErr, IfOk, Option, Some, map, option_map, slice_get, string_bytes, true};
+ghost use Rattle.std.specs.Prelude.{◌≡◌, ◌≢◌, ◌<◌, ◌++◌, ℕ, IfErr, IfOk, Option, Some, [], flat_map, map, option_map, slice_get, string_bytes, true};
 ghost use Rattle.serde_json.specs.Data.{object};
 ghost use Rattle.serde_json.specs.View.{members_view, view};
 ghost use Rattle.schema_reports.specs.Instance.{Text};
@@ -16,7 +16,9 @@ ghost use Rattle.schema_compiler.specs.KeyViews.{key_of, kind_of};
 ghost use Rattle.schema_node.specs.ResolverViews.{place_of};
 ghost use Rattle.schema_compiler.specs.Builtins.{builtin};
 ghost use Rattle.schema_compiler.specs.Readings.{IsReading};
-ghost use Rattle.schema_compiler.specs.Compilation.{IsCompilation, RefusesRoot, all_parts};
+ghost use Rattle.schema_reports.specs.Refusals.{undeclared};
+ghost use Rattle.schema_compiler.specs.Alone.{RefusesVocabularies};
+ghost use Rattle.schema_compiler.specs.Compilation.{IsCompilation, IsCompilationAlone, RefusesAlone, RefusesRoot, all_parts};
 ghost use Rattle.schema_compiler.specs.Carried.{AnswersChild, AnswersReference, IsWell, LeadsToKey};
 ghost use Rattle.schema_compiler.specs.Carried.{MakesKeyword, MakesMember, MakesMembers};
 ghost use Rattle.schema_compiler.specs.Carried.{Numbers, PlansNode, PlansObject, RefusesChild, RefusesEdge};
@@ -52,6 +54,7 @@ use std::alloc::Global;
 use std::rc::Rc;
 
 mod annotations;
+pub mod check;
 pub mod compiled;
 pub mod context;
 pub(crate) mod entries;
@@ -102,6 +105,75 @@ pub fn compile<R: Resolver, K: Validate, T: KeywordTable<K>>(
         options.now.formats (map string_bytes options.now.declared.items)
         matcher keywords draft base) options.now.node_limit (key_of R.point root) e) }
 {
+    check_vocabularies::<R, K, T>(alloc, resolver, table, options, &root)?;
+    Ok(compile_subschema(alloc, resolver, table, options, nested_limit, root)?)
+}
+
+/// Refuses the key of a schema's root whose vocabularies hold a custom one that is not declared.
+///
+/// # Errors
+///
+/// Fails if the root requires such a vocabulary, or out of memory.
+pub fn check_vocabularies<R: Resolver, K: Validate, T: KeywordTable<K>>(
+    alloc: Global,
+    resolver: &R,
+    table: &T,
+    options: &CompileOptions,
+    root: &SchemaKey<R::State>,
+) -> Result<(), BuildError>
+    ensures declared { IfOk result (λ _. (matcher : matching.Matcher)
+        (keywords : words.Keywords K.Shape (K.Run × words.Answer)) (draft : Option drafts.Draft)
+        (base : Option Text) → flat_map (undeclared (all_parts (R.resolving resolver.now)
+        (record { owns = T.owned table.now; builtin = builtin; script = T.script table.now })
+        options.now.formats (map string_bytes options.now.declared.items)
+        matcher keywords draft base)) root.now.vocabularies ≡ []) }
+    ensures refused { IfErr result (λ e. (matcher : matching.Matcher)
+        (keywords : words.Keywords K.Shape (K.Run × words.Answer)) (draft : Option drafts.Draft)
+        (base : Option Text) → RefusesVocabularies (all_parts (R.resolving resolver.now)
+        (record { owns = T.owned table.now; builtin = builtin; script = T.script table.now })
+        options.now.formats (map string_bytes options.now.declared.items)
+        matcher keywords draft base) (key_of R.point root.now) e) }
+{
+    let given = Given {
+        alloc,
+        resolver,
+        table,
+        options,
+        nested_limit: 0,
+    };
+    given.check_declared(&root.vocabularies)?;
+    Ok(())
+}
+
+/// Compiles a schema as `compile` does, but by itself as a subschema of a document: whether the vocabularies of the key's own
+/// are declared is not asked, only of those that a reference leads to.
+///
+/// # Errors
+///
+/// Fails where `compile` fails, but for the vocabularies of the key's own.
+pub fn compile_subschema<R: Resolver, K: Validate, T: KeywordTable<K>>(
+    alloc: Global,
+    resolver: &R,
+    table: &T,
+    options: &CompileOptions,
+    nested_limit: usize,
+    root: SchemaKey<R::State>,
+) -> Result<Compiled<R::State, K>, BuildError>
+    ensures compiled { IfOk result (λ m. (matcher : matching.Matcher)
+        (keywords : words.Keywords K.Shape (K.Run × words.Answer)) (draft : Option drafts.Draft)
+        (base : Option Text) → IsCompilationAlone (all_parts (R.resolving resolver.now)
+        (record { owns = T.owned table.now; builtin = builtin; script = T.script table.now })
+        options.now.formats (map string_bytes options.now.declared.items)
+        matcher keywords draft base) K.shape options.now.node_limit nested_limit (key_of R.point root)
+        (map (key_of R.point) m.keys) m.nodes) }
+    ensures reserved { IfOk result (λ m. Each IsGivenUp m.reservations) }
+    ensures refused { IfErr result (λ e. (matcher : matching.Matcher)
+        (keywords : words.Keywords K.Shape (K.Run × words.Answer)) (draft : Option drafts.Draft)
+        (base : Option Text) → RefusesAlone (all_parts (R.resolving resolver.now)
+        (record { owns = T.owned table.now; builtin = builtin; script = T.script table.now })
+        options.now.formats (map string_bytes options.now.declared.items)
+        matcher keywords draft base) options.now.node_limit (key_of R.point root) e) }
+{
     let given = Given {
         alloc,
         resolver,
@@ -109,7 +181,6 @@ pub fn compile<R: Resolver, K: Validate, T: KeywordTable<K>>(
         options,
         nested_limit,
     };
-    given.check_declared(&root.vocabularies)?;
     let mut compiled = Compiled::new(alloc);
     let shared = Rc::new(alloc, root)?;
     given.number_within(&mut compiled, &shared, None)?;

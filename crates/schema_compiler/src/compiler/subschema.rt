@@ -11,6 +11,7 @@ ghost use Rattle.schema_reports.specs.Refusals.{request_causes};
 ghost use Rattle.schema_reports.specs.KeywordViews.{draft_of};
 ghost use Rattle.schema_node.specs.ResolverViews.{Refuses, place_of};
 ghost use Rattle.schema_compiler.specs.KeyViews.{key_of};
+ghost use Rattle.schema_compiler.specs.Alone.{RefusesKeyAlone, key_alone};
 ghost use Rattle.schema_compiler.specs.Compiling.{resolving_parts};
 ghost use Rattle.schema_compiler.specs.Refusing.{Names};
 
@@ -170,5 +171,36 @@ impl<'p, 'c, R: Resolver> Context<'p, 'c, R> {
             draft,
         };
         Ok((self.key_inside(path, below, has_id)?, value))
+    }
+
+    /// Returns the key of the subschema at a path below, to be compiled by itself: it stands at the empty location, with
+    /// nothing before it that lies outside its resource. Fails if the resolver refuses the state there, or out of memory.
+    pub fn subschema_alone(&self, path: &SchemaPath) -> Result<SchemaKey<R::State>, BuildError>
+        ensures key { IfOk result (λ k.
+            key_alone (resolving_parts (R.resolving self.now.resolver.now))
+            (key_of R.point self.now.key.now) path.now ≡ Some (key_of R.point k)) }
+        ensures refused { IfErr result (RefusesKeyAlone
+            (key_alone (resolving_parts (R.resolving self.now.resolver.now))
+            (key_of R.point self.now.key.now) path.now)) }
+    {
+        let place = self.key.place.below(self.alloc, path)?;
+        let value = self.resolver.value(&place);
+        let own_draft = self.detected(self.key.draft, value);
+        let state = self.state_inside(own_draft, &place, value)?;
+        let below = Target {
+            place,
+            state,
+            draft: own_draft,
+        };
+        let vocabularies = self.vocabularies_inside(&below)?;
+        Ok(SchemaKey {
+            place: below.place,
+            state: below.state,
+            draft: below.draft,
+            vocabularies,
+            location: Location::new(self.alloc),
+            base: Location::new(self.alloc),
+            start: 0,
+        })
     }
 }
