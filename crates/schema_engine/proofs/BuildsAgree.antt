@@ -1,5 +1,5 @@
--- A schema that builds is refused by no build but for want of memory: each other refusal names a cause that stands, or says that
--- more keys are reached than there are.
+-- A schema that builds and passes the check is refused by no build but for want of memory: each other refusal names a cause that
+-- stands, says that more keys are reached than there are, or has the error of a document that is not accepted.
 use Rattle.std.proofs.Common.{ap, arith, inl, inr, length, refl, subst, sym, true, List, ℕ, ◌∙◌, ◌≡◌}
 use Rattle.std.specs.Prelude.{All, AllPairs, Decides, Err, Ok, Result, string_bytes, ◌≤◌}
 use Rattle.std.specs.Cmp.{IsEquivalence, both_ways}
@@ -9,16 +9,23 @@ use Rattle.std.proofs.lemmas.Map.Made.{length-le_from_is_member}
 use Rattle.std.proofs.lemmas.Map.Views.{Contains-from_any}
 use Rattle.serde_json.specs.Data.{Data}
 use Rattle.schema_reports.specs.Instance.{Text}
-use Rattle.schema_reports.specs.Drafts.{Draft}
+use Rattle.schema_reports.specs.Documents.{Document}
+use Rattle.schema_reports.specs.Drafts.{Draft, SchemaPlace}
 use Rattle.schema_reports.specs.Parts.{Parts}
 use Rattle.schema_reports.specs.Plan.{Key, same_key}
 use Rattle.schema_reports.specs.Reach.{IsReach, Reached, ReachesMoreThan, different}
 use Rattle.schema_reports.specs.Refusals.{Cause, Stands}
+use Rattle.schema_reports.specs.Resolving.{Resolver}
 use Rattle.schema_reports.specs.Root.{base_of, root_draft}
+use Rattle.schema_compiler.specs.Checking.{EachAccepted, IsAccepted, MetaChecks, RefusesOne, documents_at}
+use Rattle.schema_compiler.specs.Compiling.{resolving_parts}
+use Rattle.schema_compiler.proofs.Lists.{each_in}
 use Rattle.schema_compiler.specs.declared.compiler.error.BuildError.{BuildError}
 use Rattle.schema_compiler.specs.declared.compiler.error.BuildError.TheVariants.{KeywordRefused, Lookup, MetaSchema, MissingRoot}
 use Rattle.schema_compiler.specs.declared.compiler.error.BuildError.TheVariants.{NodeLimit, NotASchema, OutOfMemory, ReferenceNotText}
 use Rattle.schema_compiler.specs.declared.compiler.error.BuildError.TheVariants.{UnsupportedVocabulary}
+use Rattle.schema_engine.specs.Checked.{FailsCheck, PassesCheck}
+use Rattle.schema_engine.specs.Handed.{Options}
 use Rattle.schema_engine.specs.Roots.{Builds, IsMissingBase, IsRootKey, RefusesBuild}
 use Rattle.schema_engine.proofs.Reaches.{same_itself, same_true}
 
@@ -85,3 +92,25 @@ module _ {S K R : Type 0} (w : Parts S K R) (law : (a b : S) → Decides (w.reso
     memory_alone (NodeLimit n) (inl void) = absurd void
     memory_alone (NodeLimit n) (inr (root, is, (limited, more))) = absurd (not_past root is more)
     memory_alone OutOfMemory h = refl
+
+-- ---- what is accepted is not refused
+
+module _ {S K R : Type 0} (w : Parts S K R) (refuses : MetaChecks) where
+  not_both : (root : SchemaPlace) (ds : List (Document w)) (e : BuildError) → EachAccepted w refuses ds → RefusesOne w refuses root ds e → e ≡ OutOfMemory
+  not_both root ds (MetaSchema x) accepted (d, among, below) =
+      let passes = each_in (IsAccepted w refuses) ds d accepted among in
+      let (error, instance, refused, there, same) = below in
+      absurd (cc (sym passes ∙ refused))
+  not_both root ds OutOfMemory accepted refused = refl
+  not_both root ds (NotASchema location) accepted void = absurd void
+  not_both root ds (ReferenceNotText location) accepted void = absurd void
+  not_both root ds (Lookup text) accepted void = absurd void
+  not_both root ds (KeywordRefused error) accepted void = absurd void
+  not_both root ds (UnsupportedVocabulary uri) accepted void = absurd void
+  not_both root ds (MissingRoot uri) accepted void = absurd void
+  not_both root ds (NodeLimit limit) accepted void = absurd void
+
+pub check_fails_for_memory : {S : Type 0} (resolver : Resolver S) (refuses : MetaChecks) (options : Options) (schema : Data) (e : BuildError)
+    → PassesCheck resolver refuses options schema → FailsCheck resolver refuses options schema e → e ≡ OutOfMemory
+check_fails_for_memory resolver refuses options schema e passes (on, (root, is_root, refused)) =
+    not_both (resolving_parts resolver) refuses root.target.place (documents_at resolver root.target.draft root.target.place) e (passes on root is_root) refused

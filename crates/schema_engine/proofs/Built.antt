@@ -1,4 +1,4 @@
--- A validator that is compiled from a root means the plain meaning of schema and parts, and has its units.
+-- A validator that is compiled from a key means the plain meaning of key and parts, and has its units.
 use Rattle.std.proofs.Common.{◌≡◌, ℕ, zero, suc, ◌<◌, Bool, true, List, [], ◌∷◌, length, map, refl, sym, ◌∙◌, ap, subst, arith}
 use Rattle.std.specs.Prelude.{Some, slice_get, Decides, ◌↔◌}
 use Rattle.std.proofs.lemmas.List.{length-map}
@@ -11,7 +11,6 @@ use Rattle.schema_reports.specs.Making.{Table}
 use Rattle.schema_reports.specs.Keywords.{Keywords}
 use Rattle.schema_reports.specs.Parts.{Parts}
 use Rattle.schema_reports.specs.Plan.{Key}
-use Rattle.schema_reports.specs.Root.{IsRoot}
 use Rattle.schema_reports.specs.Laws.{EachKeeps}
 use Rattle.schema_reports.specs.Headline.{SpeaksRightly, Plainly, PlainlyWithUnits}
 use Rattle.schema_reports.specs.Numbered.{AreNumbered, Ranked, MakersAskBelow}
@@ -44,16 +43,12 @@ EachScript absorbed is_whole table = (own : Bool) (name : Text) (object : Member
     → MakesRightly absorbed is_whole object (table.script own name object draft vocabularies formats)
 
 module _ {S K R : Type 0} (resolver : Resolver S) (table : Table K) (options : Options) (matcher : Matcher) (keywords : Keywords K R) (absorbed : K → List Text) (is_whole : K → Bool)
-    (inside : IsInside resolver) (same : (a b : S) → (resolver.same_state a b ≡ true) ↔ (a ≡ b)) (scripts : EachScript absorbed is_whole table) (keeps : EachKeeps keywords)
-    (schema : Data) where
+    (inside : IsInside resolver) (same : (a b : S) → (resolver.same_state a b ≡ true) ↔ (a ≡ b)) (scripts : EachScript absorbed is_whole table) (keeps : EachKeeps keywords) where
   abbrev w : Parts S K R
   w = parts_of resolver table matcher keywords options
 
   abbrev w0 : Parts S K (Unit {0})
   w0 = parts_of resolver table no_matcher no_keywords options
-
-  pub root_too : (root : Key S) → IsRoot w schema root → IsRoot w0 schema root
-  root_too root r = record { draft = r.draft; entrance = r.entrance; drafted = r.drafted; entered = r.entered; valued = r.valued; is_key = r.is_key }
 
   makers_below : MakersAskBelow table
   makers_below own name object draft vocabularies formats is_self = asks_below absorbed is_whole object is_self (table.script own name object draft vocabularies formats) (scripts own name object draft vocabularies formats)

@@ -13,11 +13,12 @@ use Rattle.schema_reports.specs.KeywordTable.{builtin_in}
 use Rattle.schema_reports.specs.Parts.{Parts}
 use Rattle.schema_reports.specs.Plan.{Key}
 use Rattle.schema_reports.specs.Reach.{IsReach, Reached}
+use Rattle.schema_reports.specs.Refusals.{Cause, Compiles}
 use Rattle.schema_reports.specs.Root.{IsRoot}
 use Rattle.schema_reports.specs.Numbered.{Ranked}
 use Rattle.schema_node.specs.NodeTable.{NodeEntry, numbered}
 use Rattle.schema_compiler.specs.Builtins.{builtin}
-use Rattle.schema_compiler.specs.Compilation.{IsCompilation, RefusesRoot, all_parts}
+use Rattle.schema_compiler.specs.Compilation.{IsCompilation, IsCompilationBy, RefusesRoot, all_parts}
 use Rattle.schema_compiler.specs.Compiling.{no_keywords, no_matcher, no_table}
 use Rattle.schema_compiler.specs.declared.compiler.error.BuildError.{BuildError}
 use Rattle.schema_engine.specs.Handed.{Options, parts_of, table_of}
@@ -27,7 +28,7 @@ use Rattle.schema_engine.proofs.Reaches.{reach_of}
 use Rattle.schema_engine.proofs.RootKeys.{one_root_key, root_key_of, root_key_too}
 use Rattle.schema_compiler.specs.Finding.{standing_of}
 use Rattle.schema_compiler.proofs.OtherCourses.{finds_all_too}
-use Rattle.schema_engine.proofs.OtherParts.{reached_too, stands_too, numbered_too}
+use Rattle.schema_engine.proofs.OtherParts.{reached_too, numbered_too}
 
 index_of : {A : Type 0} (xs : List A) (i : ℕ) (x d : A) → slice_get xs i ≡ Some x → slice_index_or xs i d ≡ x
 index_of [] i x d e = absurd (let f : ⊥ = cc in f)
@@ -42,7 +43,8 @@ builtin_is : builtin ≡ builtin_in
 unfolding builtin
 builtin_is = refl
 
-compiled_nodes : {S K R C : Type 0} (w : Parts S K R) (shape : C → K) (limit nested : ℕ) (root : Key S) (keys : List (Key S)) (nodes : List (NodeEntry C)) → IsCompilation w shape limit nested root keys nodes → IsCompiled w shape root nodes 0
+-- whatever is said to be a cause of refusal
+pub compiled_nodes : {S K R C : Type 0} {stands : Cause → Type 0} (w : Parts S K R) (shape : C → K) (limit nested : ℕ) (root : Key S) (keys : List (Key S)) (nodes : List (NodeEntry C)) → IsCompilationBy w stands shape limit nested root keys nodes → IsCompiled w shape root nodes 0
 compiled_nodes w shape limit nested root keys nodes c = record {
   keys = keys;
   lengths = c.lengths;
@@ -50,10 +52,9 @@ compiled_nodes w shape limit nested root keys nodes c = record {
   ranked = subst (Ranked (numbered shape nodes)) (sym c.lengths) c.ranked;
   is_root = c.first;
   reached = all_at (Reached w root) keys c.sound;
-  compiles = c.compiles;
 }
 
-whole_nodes : {S K R C : Type 0} (w : Parts S K R) (shape : C → K) (limit nested : ℕ) (root : Key S) (keys : List (Key S)) (nodes : List (NodeEntry C)) → IsCompilation w shape limit nested root keys nodes → IsWhole w shape nested root nodes 0
+pub whole_nodes : {S K R C : Type 0} {stands : Cause → Type 0} (w : Parts S K R) (shape : C → K) (limit nested : ℕ) (root : Key S) (keys : List (Key S)) (nodes : List (NodeEntry C)) → IsCompilationBy w stands shape limit nested root keys nodes → IsWhole w shape nested root nodes 0
 unfolding compiled_nodes
 whole_nodes w shape limit nested root keys nodes c = record { compiled = compiled_nodes w shape limit nested root keys nodes c; filled = c.filled; whole = c.whole; order = c.order; guards = c.guards }
 
@@ -72,7 +73,6 @@ module _ {S K R R' : Type 0} (resolver : Resolver S) (table : Table K) (matcher 
     ranked = c.ranked;
     is_root = c.is_root;
     reached = λ i k at. reached_too resolver table matcher matcher' keywords keywords' options (c.reached i k at);
-    compiles = λ cause stands. c.compiles cause (stands_too resolver table matcher' matcher keywords' keywords options stands);
   }
 
   pub whole_too : {C : Type 0} (shape : C → K) (nested : ℕ) (root : Key S) (nodes : List (NodeEntry C)) (number : ℕ) → IsWhole w shape nested root nodes number → IsWhole w' shape nested root nodes number
@@ -93,21 +93,24 @@ module _ {S K R : Type 0} (resolver : Resolver S) (owns : Text → Bool) (script
   abbrev given : Parts S K R
   given = all_parts resolver (record { owns = owns; builtin = builtin; script = script }) options.formats options.declared matcher keywords options.draft options.base
 
-  pub compiled_in : {C : Type 0} (shape : C → K) (limit nested : ℕ) (root : Key S) (keys : List (Key S)) (nodes : List (NodeEntry C)) → IsCompilation given shape limit nested root keys nodes → IsCompiled (over builtin_in) shape root nodes 0
+  pub compiled_in : {C : Type 0} {stands : Cause → Type 0} (shape : C → K) (limit nested : ℕ) (root : Key S) (keys : List (Key S)) (nodes : List (NodeEntry C)) → IsCompilationBy given stands shape limit nested root keys nodes → IsCompiled (over builtin_in) shape root nodes 0
   compiled_in shape limit nested root keys nodes c = subst (λ row. IsCompiled (over row) shape root nodes 0) builtin_is (compiled_nodes (over builtin) shape limit nested root keys nodes c)
 
-  pub whole_in : {C : Type 0} (shape : C → K) (limit nested : ℕ) (root : Key S) (keys : List (Key S)) (nodes : List (NodeEntry C)) → IsCompilation given shape limit nested root keys nodes → IsWhole (over builtin_in) shape nested root nodes 0
+  pub whole_in : {C : Type 0} {stands : Cause → Type 0} (shape : C → K) (limit nested : ℕ) (root : Key S) (keys : List (Key S)) (nodes : List (NodeEntry C)) → IsCompilationBy given stands shape limit nested root keys nodes → IsWhole (over builtin_in) shape nested root nodes 0
   whole_in shape limit nested root keys nodes c = subst (λ row. IsWhole (over row) shape nested root nodes 0) builtin_is (whole_nodes (over builtin) shape limit nested root keys nodes c)
 
   -- the keys are those that the root reaches, and no more than the limit
-  pub reach_in : ((a b : S) → Decides (resolver.same_state a b) (a ≡ b)) → {C : Type 0} (shape : C → K) (limit nested : ℕ) (root : Key S) (keys : List (Key S)) (nodes : List (NodeEntry C)) → IsCompilation given shape limit nested root keys nodes → IsReach (over builtin_in) root keys
+  pub reach_in : ((a b : S) → Decides (resolver.same_state a b) (a ≡ b)) → {C : Type 0} {stands : Cause → Type 0} (shape : C → K) (limit nested : ℕ) (root : Key S) (keys : List (Key S)) (nodes : List (NodeEntry C)) → IsCompilationBy given stands shape limit nested root keys nodes → IsReach (over builtin_in) root keys
   reach_in law shape limit nested root keys nodes c = subst (λ row. IsReach (over row) root keys) builtin_is (reach_of (over builtin) law shape limit nested root keys nodes c)
+
+  pub compiles_in : {C : Type 0} (shape : C → K) (limit nested : ℕ) (root : Key S) (keys : List (Key S)) (nodes : List (NodeEntry C)) → IsCompilation given shape limit nested root keys nodes → Compiles (over builtin_in) root
+  compiles_in shape limit nested root keys nodes c = subst (λ row. Compiles (over row) root) builtin_is c.compiles
 
   pub refuses_in : (limit : ℕ) (root : Key S) (e : BuildError) → RefusesRoot given limit root e → RefusesRoot (over builtin_in) limit root e
   refuses_in limit root e h = subst (λ row. RefusesRoot (over row) limit root e) builtin_is h
 
   -- the nodes are compiled from each root key of a schema, whatever matcher and words go with the parts: there is but one
-  pub compiled_from_roots : {C : Type 0} (schema : Data) (shape : C → K) (limit nested : ℕ) (root : Key S) (keys : List (Key S)) (nodes : List (NodeEntry C)) → IsCompilation given shape limit nested root keys nodes
+  pub compiled_from_roots : {C : Type 0} {stands : Cause → Type 0} (schema : Data) (shape : C → K) (limit nested : ℕ) (root : Key S) (keys : List (Key S)) (nodes : List (NodeEntry C)) → IsCompilationBy given stands shape limit nested root keys nodes
       → IsRootKey (parts_of resolver no_table no_matcher no_keywords options) schema root → (other : Key S) → IsRoot (parts_of resolver (table_of owns builtin_in script) no_matcher no_keywords options) schema other
       → IsCompiled (parts_of resolver (table_of owns builtin_in script) no_matcher no_keywords options) shape other nodes 0
   compiled_from_roots schema shape limit nested root keys nodes done is_root other is_other =

@@ -4,6 +4,7 @@ use Rattle.std.specs.Prelude.{All, Some, flat_map, slice_get, slice_index_or}
 use Rattle.serde_json.specs.Data.{Data}
 use Rattle.schema_reports.specs.Parts.{Parts}
 use Rattle.schema_reports.specs.Plan.{Key}
+use Rattle.schema_reports.specs.Refusals.{Compiles}
 use Rattle.schema_reports.specs.Fractions.{AreWhole, IsWholeWord, form_words, node_words}
 use Rattle.schema_reports.specs.Guarded.{NodeForm, NodePart, NodePlan, Nodes, guarded_sense, guarded_within, node_unit, yes_unit}
 use Rattle.schema_reports.specs.Guarded.{node_always, node_keyword, node_never, node_reference, node_these}
@@ -27,6 +28,7 @@ use Rattle.schema_engine.specs.Handed.{Handed, Options, parts_of}
 use Rattle.schema_engine.specs.Program.{Program}
 use Rattle.schema_engine.proofs.Built.{in_map}
 use Rattle.schema_engine.proofs.Compilations.{whole_too}
+use Rattle.schema_engine.proofs.OtherParts.{compiles_too}
 use Rattle.schema_engine.proofs.Reaches.{get_at}
 use Rattle.schema_engine.proofs.RootKeys.{one_root_key}
 
@@ -54,7 +56,7 @@ module _ {S K R : Type 0} (w : Parts S K R) (nested : ℕ) (root : Key S) where
 -- ---- so nodes that are compiled from a root are a compilation, in which the root has the first number
 
 module _ {S K R C : Type 0} (w : Parts S K R) (shape : C → K) (nested : ℕ) (root : Key S) (nodes : List (NodeEntry C)) (number : ℕ)
-    (c : IsWhole w shape nested root nodes number) where
+    (compiles : Compiles w root) (c : IsWhole w shape nested root nodes number) where
   abbrev found_keys : List (Key S)
   found_keys = c.compiled.keys
 
@@ -71,7 +73,7 @@ module _ {S K R C : Type 0} (w : Parts S K R) (shape : C → K) (nested : ℕ) (
     whole = c.whole;
     sound = λ i k within. c.compiled.reached i (slice_index_or found_keys i k) (get_at found_keys i k within);
     within = omega arith;
-    compiles = c.compiled.compiles;
+    compiles = compiles;
     order = c.order;
     guards = c.guards;
   }
@@ -126,6 +128,9 @@ module _ {S K R C M : Type 0} (h : Handed S K R C M) (options : Options) (schema
   one_root : of'.root ≡ of.root
   one_root = one_root_key w0 schema of'.root of.root of'.is_root of.is_root
 
+  compiles : Compiles w of.root
+  compiles = compiles_too h.resolver h.table no_matcher h.matcher no_keywords (h.words texts) options of.root of.compiles
+
   one : IsWhole w h.shape nested of.root p.nodes p.root
   one = from of.root p of.compiled
 
@@ -148,13 +153,13 @@ module _ {S K R C M : Type 0} (h : Handed S K R C M) (options : Options) (schema
 
   agree : (keys ≡ keys') × (map standing_of p.nodes ≡ map standing_of p'.nodes) × AreAlike w table table'
   agree = tables_agree w h.shape h.shape (length keys) (length keys') nested of.root keys keys' p.nodes p'.nodes
-      (compilation w h.shape nested of.root p.nodes p.root one) (compilation w h.shape nested of.root p'.nodes p'.root other)
+      (compilation w h.shape nested of.root p.nodes p.root compiles one) (compilation w h.shape nested of.root p'.nodes p'.root compiles other)
 
   as_many : length p'.nodes ≡ length p.nodes
   as_many = other.compiled.lengths ∙ (ap length (sym agree.0) ∙ sym one.compiled.lengths)
 
   one_number : p.root ≡ p'.root
-  one_number = is_first w h.shape nested of.root p.nodes p.root one ∙ sym (is_first w h.shape nested of.root p'.nodes p'.root other)
+  one_number = is_first w h.shape nested of.root p.nodes p.root compiles one ∙ sym (is_first w h.shape nested of.root p'.nodes p'.root compiles other)
 
   whole_alike : AreWhole h.is_whole table (length p.nodes) → AreWhole h.is_whole table' (length p'.nodes)
   whole_alike whole i within =

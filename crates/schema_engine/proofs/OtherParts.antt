@@ -8,7 +8,7 @@ use Rattle.schema_reports.specs.Keywords.{Keywords}
 use Rattle.schema_reports.specs.Parts.{Parts}
 use Rattle.schema_reports.specs.Plan.{Key, Part, Form, keyword, reference, Plan, always, never, these, plan}
 use Rattle.schema_reports.specs.Reach.{Reached, at_first, asked_by}
-use Rattle.schema_reports.specs.Refusals.{Cause, Aimed, the_root, referred_by, Stands, stands_at, is_required}
+use Rattle.schema_reports.specs.Refusals.{Cause, Compiles, Aimed, the_root, referred_by, Stands, stands_at, is_required}
 use Rattle.schema_reports.specs.Guarded.{NodeForm, node_keyword, node_reference, NodePart, NodePlan, node_always, node_never, node_these, Nodes}
 use Rattle.schema_reports.specs.Numbered.{Numbers, SameForm, SameParts, SamePlan, StandsFor, AreNumbered}
 use Rattle.schema_engine.specs.Handed.{Options, parts_of}
@@ -61,3 +61,8 @@ module _ {S K R R' : Type 0} (resolver : Resolver S) (table : Table K) (matcher 
 
   pub numbered_too : (keys : Numbers S) (nodes : Nodes K) → AreNumbered w keys nodes → AreNumbered w' keys nodes
   numbered_too keys nodes n = record { stands = λ i k is. stands_for_too keys nodes k i (n.stands i k is); once = n.once; guards = n.guards }
+
+-- no cause of refusal stands by the one, where none stands by the other
+pub compiles_too : {S K R R' : Type 0} (resolver : Resolver S) (table : Table K) (matcher matcher' : Matcher) (keywords : Keywords K R) (keywords' : Keywords K R') (options : Options) (root : Key S)
+    → Compiles (parts_of resolver table matcher keywords options) root → Compiles (parts_of resolver table matcher' keywords' options) root
+compiles_too resolver table matcher matcher' keywords keywords' options root compiles = λ cause stands. compiles cause (stands_too resolver table matcher' matcher keywords' keywords options stands)

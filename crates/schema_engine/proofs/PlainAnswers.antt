@@ -1,6 +1,6 @@
 -- What a validator says of every sense that its nodes mean is said of the plain meaning of schema and parts, with the units that
 -- they have too.
-use Rattle.std.proofs.Common.{◌≡◌, ℕ, ◌+◌, Bool, [], ◌∙◌, ap, arith}
+use Rattle.std.proofs.Common.{ℕ, ◌+◌, Bool, [], ◌∙◌, ap, arith}
 use Rattle.serde_json.specs.Data.{Data}
 use Rattle.schema_reports.specs.Matching.{Completion, Matcher}
 use Rattle.schema_reports.specs.Resolving.{Resolver}

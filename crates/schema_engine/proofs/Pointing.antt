@@ -1,5 +1,6 @@
--- The errors of a validator that is compiled from the schema's root point at keywords and at values.
-use Rattle.std.proofs.Common.{◌≡◌, ◌∙◌, ℕ, sym, ap, subst, Bool, true, false, List, [], ◌∷◌, map, Some, None, inl, inr}
+-- The errors of a validator that is compiled from a key point at keywords and at values; so do those of one that is compiled from
+-- the schema's root.
+use Rattle.std.proofs.Common.{◌≡◌, ℕ, sym, subst, Bool, true, false, List, [], ◌∷◌, map, Some, None, inl, inr}
 use Rattle.std.proofs.lemmas.List.Elements.{All-cons, All-contains, All-contains_itself, All-head, All-map, All-nil, All-tail, All-weaker}
 use Rattle.std.specs.Prelude.{All, Contains, Option, ◌⊎◌}
 use Rattle.serde_json.specs.Data.{Data}
@@ -25,10 +26,11 @@ use Rattle.schema_node.specs.NodeTable.{numbered}
 use Rattle.schema_node.proofs.PartLaws.{makes_absorbed}
 use Rattle.schema_engine.specs.Program.{Program, FromSomeDepth}
 use Rattle.schema_engine.specs.Spoken.{EachIsGiven, ErrorsAnswered, FirstAnswered, FirstIsGiven, IsGiven}
-use Rattle.schema_engine.specs.ProgramOf.{IsProgramOf}
+use Rattle.schema_engine.specs.Compiled.{IsWhole}
+use Rattle.schema_engine.specs.ProgramOf.{IsProgramFrom, IsProgramOf}
 use Rattle.schema_compiler.specs.Compiling.{no_keywords, no_matcher}
 use Rattle.schema_engine.specs.Handed.{Options, parts_of}
-use Rattle.schema_engine.specs.Promised.{MeansSchema, OfSchema, PointsIntoSchema}
+use Rattle.schema_engine.specs.Promised.{MeansSchema, OfSchema, PointsFromKey, PointsIntoSchema}
 use Rattle.schema_engine.specs.Pointing.{EachPoints, FirstPoints}
 use Rattle.schema_engine.proofs.Built.{EachScript, in_map}
 use Rattle.schema_engine.proofs.OtherParts.{numbered_too}
@@ -80,17 +82,27 @@ module _ {S K R C M : Type 0} (resolver : Resolver S) (table : Table K) (matcher
   sense_at texts instance m n = guarded_sense (words texts) m (numbered shape p.nodes) (subject_in instance) n p.root
 
   module _ (absorbed : K → List Text) (is_whole : K → Bool) (each : (texts : Bool) → EachKeepsAbsorbing (words texts) absorbed) (scripts : EachScript absorbed is_whole table)
-      {nested : ℕ} (program : IsProgramOf resolver table matcher options nested schema shape matching p) where
-    leads : (texts : Bool) (instance : Data) (root : Key S) → program.root ≡ root → (n : ℕ) → EachLeads (w texts) root instance (sense_at texts instance (matching p.matcher) n)
-    leads texts instance root same n = subst (λ m. EachLeads (w texts) root instance (sense_at texts instance m n)) (sym program.matcher_is) (λ c.
-        node_errors_lead (w texts) absorbed (map Some program.compiled.compiled.keys) (numbered shape p.nodes) (each texts) (makers absorbed is_whole table scripts)
-        (numbered_too resolver table no_matcher matcher no_keywords (words texts) options (map Some program.compiled.compiled.keys) (numbered shape p.nodes) program.compiled.compiled.numbers)
-        instance c n p.root root (in_map program.compiled.compiled.keys p.root root (program.compiled.compiled.is_root ∙ ap Some same)))
+      {nested : ℕ} where
+    pub points_from_key : (key : Key S) → IsProgramFrom resolver table matcher options nested schema shape matching key p → PointsFromKey resolver table matcher words options key shape matching p
+    points_from_key key program = λ instance texts speaks n.
+        let keys = program.compiled.compiled.keys in
+        subst (λ m. EachLeads (w texts) key instance (sense_at texts instance m n)) (sym program.matcher_is) (λ c.
+        node_errors_lead (w texts) absorbed (map Some keys) (numbered shape p.nodes) (each texts) (makers absorbed is_whole table scripts)
+        (numbered_too resolver table no_matcher matcher no_keywords (words texts) options (map Some keys) (numbered shape p.nodes) program.compiled.compiled.numbers)
+        instance c n p.root key (in_map keys p.root key program.compiled.compiled.is_root))
 
-    pub points_into : PointsIntoSchema resolver table matcher words options schema shape matching p
-    points_into = λ instance texts root is_root speaks n.
+    -- what is compiled from the root's key is compiled from each root key, which is the same
+    from_root : (program : IsProgramOf resolver table matcher options nested schema shape matching p) (root : Key S) → program.root ≡ root → IsProgramFrom resolver table matcher options nested schema shape matching root p
+    from_root program root same = record {
+      compiled = subst (λ k. IsWhole w0 shape nested k p.nodes p.root) same program.compiled;
+      drafted = program.drafted;
+      matcher_is = program.matcher_is;
+    }
+
+    pub points_into : IsProgramOf resolver table matcher options nested schema shape matching p → PointsIntoSchema resolver table matcher words options schema shape matching p
+    points_into program = λ instance texts root is_root speaks n.
         let same = one_root_key w0 schema program.root root program.is_root (root_key_too resolver table table matcher no_matcher (words texts) no_keywords options schema root (root_key_of (w texts) schema root is_root)) in
-        leads texts instance root same n
+        points_from_key root (from_root program root same) instance texts speaks n
 
   -- ---- what a build and a call say, together
 

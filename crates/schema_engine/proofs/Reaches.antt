@@ -8,8 +8,9 @@ use Rattle.std.proofs.lemmas.Slice.Eq.{bytes_eq-Decides}
 use Rattle.schema_reports.specs.Parts.{Parts}
 use Rattle.schema_reports.specs.Plan.{Key, same_key}
 use Rattle.schema_reports.specs.Reach.{IsReach, different}
+use Rattle.schema_reports.specs.Refusals.{Cause}
 use Rattle.schema_node.specs.NodeTable.{NodeEntry}
-use Rattle.schema_compiler.specs.Compilation.{IsCompilation}
+use Rattle.schema_compiler.specs.Compilation.{IsCompilationBy}
 use Rattle.schema_compiler.proofs.SameKeys.{and_parts, draft_itself, draft_true, one_key, schema_place_itself, schema_place_true, vocabularies_itself, vocabularies_true}
 
 both : (a b : Bool) → a ≡ true → b ≡ true → (a && b) ≡ true
@@ -49,7 +50,8 @@ module _ {S K R : Type 0} (w : Parts S K R) (law : (a b : S) → Decides (w.reso
   number_of : (keys : List (Key S)) (i : ℕ) (k : Key S) → slice_get keys i ≡ Some k → slice_get (map Some keys) i ≡ Some (Some k)
   number_of keys i k h = slice_get-map Some keys i ∙ ap (option_map Some) h
 
-  module _ {C : Type 0} (shape : C → K) (limit nested : ℕ) (root : Key S) (keys : List (Key S)) (nodes : List (NodeEntry C)) (c : IsCompilation w shape limit nested root keys nodes) where
+  -- whatever is said to be a cause of refusal
+  module _ {C : Type 0} {stands : Cause → Type 0} (shape : C → K) (limit nested : ℕ) (root : Key S) (keys : List (Key S)) (nodes : List (NodeEntry C)) (c : IsCompilationBy w stands shape limit nested root keys nodes) where
     once : AllPairs (different w) keys
     once i j x lt within =
         let a = slice_index_or keys i x in

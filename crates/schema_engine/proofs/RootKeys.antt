@@ -16,7 +16,7 @@ use Rattle.schema_engine.specs.Roots.{IsRootKey}
 ok_is : {A E : Type 0} (r : Result A E) (a b : A) → r ≡ Ok a → r ≡ Ok b → a ≡ b
 ok_is r a b p q = cc
 
-some_is : {A : Type 0} (o : Option A) (a b : A) → o ≡ Some a → o ≡ Some b → a ≡ b
+pub some_is : {A : Type 0} (o : Option A) (a b : A) → o ≡ Some a → o ≡ Some b → a ≡ b
 some_is o a b p q = cc
 
 module _ {S K R : Type 0} (w : Parts S K R) (schema : Data) where
@@ -36,6 +36,9 @@ module _ {S K K' R R' : Type 0} (resolver : Resolver S) (table : Table K) (table
 
   abbrev w' : Parts S K' R'
   w' = parts_of resolver table' matcher' keywords' options
+
+  pub root_too : (k : Key S) → IsRoot w schema k → IsRoot w' schema k
+  root_too k r = record { draft = r.draft; entrance = r.entrance; drafted = r.drafted; entered = r.entered; valued = r.valued; is_key = r.is_key }
 
   pub root_key_too : (k : Key S) → IsRootKey w schema k → IsRootKey w' schema k
   root_key_too k r = record { draft = r.draft; entrance = r.entrance; drafted = r.drafted; entered = r.entered; is_key = r.is_key }

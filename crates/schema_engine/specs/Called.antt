@@ -1,17 +1,18 @@
 -- What a build answers of a schema, and what the calls of schema and instance answer: the sentences that their clauses cite,
 -- over all that is handed in. They are those of `Promised`, `ProgramOf`, `Roots`, `Spoken` and `Pointing`.
-use Rattle.std.specs.Prelude.{Bool, List, Option, ℕ}
+use Rattle.std.specs.Prelude.{Bool, List, Option, ℕ, ◌⊎◌}
 use Rattle.serde_json.specs.Data.{Data}
 use Rattle.schema_reports.specs.Cover.{Sense, is_valid}
 use Rattle.schema_reports.specs.Headline.{IsValidAnswer, Plainly, PlainlyWithUnits, VerdictSays}
 use Rattle.schema_reports.specs.Means as means
 use Rattle.schema_reports.specs.Parts.{Parts}
 use Rattle.schema_reports.specs.Plan.{Key}
-use Rattle.schema_reports.specs.Root.{IsRoot}
 use Rattle.schema_reports.specs.declared.evaluation.EvaluationNode.{EvaluationNode}
 use Rattle.schema_reports.specs.declared.reports.ValidationError.{ValidationError}
 use Rattle.schema_node.specs.NodeTable.{NodeEntry, numbered}
 use Rattle.schema_compiler.specs.declared.compiler.error.BuildError.{BuildError}
+use Rattle.schema_compiler.specs.Checking.{MetaChecks}
+use Rattle.schema_engine.specs.Checked.{FailsCheck}
 use Rattle.schema_engine.specs.Compiled.{IsCompiled}
 use Rattle.schema_compiler.specs.Compiling.{no_keywords, no_matcher}
 use Rattle.schema_engine.specs.Handed.{Handed, Options, default_nested, parts_of}
@@ -19,7 +20,7 @@ use Rattle.schema_engine.specs.Pointing.{EachPoints, FirstPoints}
 use Rattle.schema_engine.specs.Evaluated.{EvaluationAnswered, UnitsAnswered}
 use Rattle.schema_engine.specs.Program.{FromSomeDepth, HasUnits, Program}
 use Rattle.schema_engine.specs.ProgramOf.{IsProgramOf}
-use Rattle.schema_engine.specs.Promised.{HasSchemasUnits, MeansSchema, OfSchema, PointsIntoSchema}
+use Rattle.schema_engine.specs.Promised.{HasKeysUnits, HasSchemasUnits, MeansKey, MeansSchema, OfSchema, PointsIntoSchema}
 use Rattle.schema_engine.specs.Roots.{Builds, RefusesBuild}
 use Rattle.schema_engine.specs.Spoken.{ErrorsAnswered, FirstAnswered}
 
@@ -120,17 +121,17 @@ module _ {S K R C M : Type 0} (h : Handed S K R C M) (options : Options) (schema
     abbrev pub EachLeads : List ValidationError → Type 0
     EachLeads es = PointingOf (λ w root v texts. EachPoints w root instance v texts es)
 
--- where the nodes with the root's number are compiled from each root key of the schema, by some options, the validator means
--- the plain meaning by these options
-abbrev pub MeansAsCompiled : {S K R C M : Type 0} → Handed S K R C M → Data → List (NodeEntry C) → ℕ → Program C M → Type 0
-MeansAsCompiled {S} h schema nodes root p = (options : Options)
-    → ((key : Key S) → IsRoot (parts_of h.resolver h.table no_matcher no_keywords options) schema key
-    → IsCompiled (parts_of h.resolver h.table no_matcher no_keywords options) h.shape key nodes root)
-    → MeansPlainly h options schema p
+-- the error says so of schema and parts, or that a meta validator refuses a document of the schema, where the check is on
+abbrev pub BuildRefused : {S K R C M : Type 0} → Handed S K R C M → MetaChecks → Options → Data → BuildError → Type 0
+BuildRefused h refuses options schema e = SchemaRefused h options schema e ⊎ FailsCheck h.resolver refuses options schema e
 
--- and the validator has the units of the plain meaning by these options
-abbrev pub HasUnitsAsCompiled : {S K R C M : Type 0} → Handed S K R C M → Data → List (NodeEntry C) → ℕ → Program C M → Type 0
-HasUnitsAsCompiled {S} h schema nodes root p = (options : Options)
-    → ((key : Key S) → IsRoot (parts_of h.resolver h.table no_matcher no_keywords options) schema key
-    → IsCompiled (parts_of h.resolver h.table no_matcher no_keywords options) h.shape key nodes root)
-    → HasPlainUnits h options schema p
+-- from whatever key and by whatever options nodes are compiled, with this number for the key, the validator means the plain
+-- meaning of this key by these options
+abbrev pub MeansAsCompiled : {S K R C M : Type 0} → Handed S K R C M → List (NodeEntry C) → ℕ → Program C M → Type 0
+MeansAsCompiled {S} h nodes number p = (options : Options) (key : Key S) → IsCompiled (parts_of h.resolver h.table no_matcher no_keywords options) h.shape key nodes number
+    → MeansKey h.resolver h.table h.matcher h.words options key h.shape h.is_whole h.matching p
+
+-- and it has the units of this plain meaning
+abbrev pub HasUnitsAsCompiled : {S K R C M : Type 0} → Handed S K R C M → List (NodeEntry C) → ℕ → Program C M → Type 0
+HasUnitsAsCompiled {S} h nodes number p = (options : Options) (key : Key S) → IsCompiled (parts_of h.resolver h.table no_matcher no_keywords options) h.shape key nodes number
+    → HasKeysUnits h.resolver h.table h.matcher h.words options key h.shape h.is_whole h.matching p

@@ -1,9 +1,8 @@
--- Nodes that are compiled from a root's key: numbers stand for the keys that it reaches, each once.
+-- Nodes that are compiled from a key, a root's or that of a subschema by itself: numbers stand for the keys that it reaches, each once.
 use Rattle.std.specs.Prelude.{◌≡◌, ℕ, List, Some, map, length, slice_get}
 use Rattle.schema_reports.specs.Parts.{Parts}
 use Rattle.schema_reports.specs.Plan.{Key}
 use Rattle.schema_reports.specs.Reach.{Reached}
-use Rattle.schema_reports.specs.Refusals.{Compiles}
 use Rattle.schema_reports.specs.Guarded.{NodePlan}
 use Rattle.schema_reports.specs.Numbered.{AreNumbered, Ranked}
 use Rattle.schema_node.specs.NodeTable.{NodeEntry, numbered}
@@ -16,7 +15,6 @@ pub record IsCompiled {S K R C : Type 0} (w : Parts S K R) (shape : C → K) (ro
   pub ranked : Ranked (numbered shape nodes) (length nodes)
   pub is_root : slice_get keys number ≡ Some root
   pub reached : (i : ℕ) (k : Key S) → slice_get keys i ≡ Some k → Reached w root k
-  pub compiles : Compiles w root
 
 -- and numbers and keys correspond one to one: every number has its form, and every key that the root reaches has a number;
 -- and which edges are guarded: the keys are found in the one order that the schema and the limit on nested targets give, and

@@ -1,6 +1,6 @@
 -- What is handed in to a build, as data: the options, the parts that options, resolver, table, matcher and keywords make
 -- together, and what the code's own values stand for.
-use Rattle.std.specs.Prelude.{ℕ, List, [], Bool, Option, None}
+use Rattle.std.specs.Prelude.{ℕ, List, [], Bool, Option, None, true}
 use Rattle.serde_json.specs.Data.{Members}
 use Rattle.schema_reports.specs.Instance.{Text}
 use Rattle.schema_reports.specs.Drafts.{Draft, Vocabularies}
@@ -22,9 +22,11 @@ pub record Options : Type 0 where
   pub formats : Option Bool
   pub declared : List Text
   pub limit : ℕ
+  -- whether the schema is checked by the meta validators
+  pub checks : Bool
 
 abbrev pub default_options : Options
-default_options = record { draft = None; base = None; formats = None; declared = []; limit = 65536 }
+default_options = record { draft = None; base = None; formats = None; declared = []; limit = 65536; checks = true }
 
 -- how many targets of references are compiled one inside another, where no call says otherwise
 abbrev pub default_nested : ℕ

@@ -1,8 +1,8 @@
 -- The limit on how many targets of references are compiled one inside another changes no answer. Two validators that mean the
 -- plain meaning of one schema, as builds with any two limits give them, answer alike of every instance where no chain of
 -- references returns: the verdicts are equal, and so are the errors and the evaluations. Only where both calls give the failure of a
--- match that stays unfinished may each show it at a site of its own. Nor does the limit change whether a schema builds, want of
--- memory aside.
+-- match that stays unfinished may each show it at a site of its own. Nor does the limit change whether a schema builds by the same
+-- meta validators, want of memory aside.
 use Rattle.std.specs.Prelude.{Bool, List, None, Option, Some, [], false, is_none, map, option_map, true, ◌∷◌, ◌≡◌, ◌⊎◌}
 use Rattle.serde_json.specs.Data.{Data}
 use Rattle.schema_reports.specs.Cover.{Call, Decides, Sense, branch_at, evaluate, iter_errors, validate}
@@ -19,10 +19,12 @@ use Rattle.schema_node.specs.declared.context.matcher.Matcher.{Ghosts as Matcher
 use Rattle.schema_node.specs.declared.context.resolver.Resolver.{Ghosts as ResolverMembers}
 use Rattle.schema_node.specs.declared.context.table.KeywordTable.{Ghosts as TableMembers}
 use Rattle.schema_output.specs.ErrorUnits.{errors_unit}
+use Rattle.schema_compiler.specs.Checking.{MetaChecks}
 use Rattle.schema_compiler.specs.declared.compiler.error.BuildError.{BuildError}
 use Rattle.schema_compiler.specs.declared.compiler.error.BuildError.TheVariants.{OutOfMemory}
 use Rattle.schema_engine.specs.Asked.{DecidesInEverySense, ErrorsInEverySense, EvaluatesInEverySense, FirstInEverySense, UnitsInEverySense}
-use Rattle.schema_engine.specs.Called.{HasPlainUnits, MeansPlainly, PlainlyOf, SchemaBuilds, SchemaRefused}
+use Rattle.schema_engine.specs.Called.{BuildRefused, HasPlainUnits, MeansPlainly, PlainlyOf, SchemaBuilds}
+use Rattle.schema_engine.specs.Checked.{PassesCheck}
 use Rattle.schema_engine.specs.Handed.{Handed, Options, handed}
 use Rattle.schema_engine.specs.Program.{Program}
 
@@ -129,7 +131,8 @@ module _ {A State S T C Maker Run K M : Type 0} (resolvers : ResolverMembers A S
 
   -- ---- two builds of one schema
 
-  -- where a build succeeds, whatever its limit on nested targets, another by the same options is refused for want of memory alone
+  -- where a build succeeds, whatever its limit on nested targets, another by the same options and the same meta validators is refused for want of memory alone
   abbrev pub BuildsAgree : Type 0
-  BuildsAgree = (options : Options) (schema : Data) (e : BuildError)
-      → SchemaBuilds handed_to_both options schema → SchemaRefused handed_to_both options schema e → e ≡ OutOfMemory
+  BuildsAgree = (options : Options) (schema : Data) (refuses : MetaChecks) (e : BuildError)
+      → SchemaBuilds handed_to_both options schema → PassesCheck handed_to_both.resolver refuses options schema
+      → BuildRefused handed_to_both refuses options schema e → e ≡ OutOfMemory

@@ -1,7 +1,8 @@
 //! Validators by the default options.
 ghost use Rattle.std.specs.Prelude.{◌≡◌, IfOk, IfErr};
 ghost use Rattle.serde_json.specs.View.{view};
-ghost use Rattle.schema_engine.specs.Called.{HasPlainUnits, IsCompiledFrom, MeansPlainly, PointsPlainly, SchemaBuilds, SchemaRefused};
+ghost use Rattle.schema_engine.specs.Called.{HasPlainUnits, IsCompiledFrom, MeansPlainly, PointsPlainly, SchemaBuilds, BuildRefused};
+ghost use Rattle.schema_engine.specs.Checked.{PassesCheck};
 ghost use Rattle.schema_engine.specs.Handed.{default_nested, default_options, handed};
 
 use crate::options::ValidationOptions;
@@ -9,14 +10,15 @@ use crate::validator::Validator;
 use schema_compiler::compiler::error::BuildError;
 use schema_node::context::keyword::Validate;
 use schema_node::context::matcher::Matcher;
+use schema_node::context::meta::MetaValidators;
 use schema_node::context::resolver::Resolver;
 use schema_node::context::table::KeywordTable;
 use serde_json::Value;
 use std::alloc::Global;
 
 impl<K: Validate, M: Matcher> Validator<K, M> {
-    /// Returns the default options: nothing is set, no vocabulary is declared, and 65,536 keys may be reached. Allocates
-    /// nothing.
+    /// Returns the default options: schemas are checked, nothing else is set, no vocabulary is declared, and 65,536 keys may be
+    /// reached. Allocates nothing.
     pub fn options(alloc: Global) -> ValidationOptions
         ensures defaults { result ≡ default_options }
     {
@@ -27,13 +29,15 @@ impl<K: Validate, M: Matcher> Validator<K, M> {
     ///
     /// # Errors
     ///
-    /// Fails if the schema, or one that it reaches, is refused, if more keys are reached than the limit, or out of memory.
-    pub fn new<S: Resolver, T: KeywordTable<K>>(
+    /// Fails if the schema, or one that it reaches, is refused, if the meta validators refuse it, if more keys are reached than the
+    /// limit, or out of memory.
+    pub fn new<S: Resolver, T: KeywordTable<K>, V: MetaValidators>(
         alloc: Global,
         schema: &Value,
         table: &T,
         resolver: &S,
         matcher: &M,
+        metas: &V,
     ) -> Result<Validator<K, M>, BuildError>
         ensures means { IfOk result (λ v. MeansPlainly
             (handed S.Resolver T.KeywordTable K.Validate M.Matcher.own resolver.now table.now matcher.now)
@@ -50,10 +54,12 @@ impl<K: Validate, M: Matcher> Validator<K, M> {
         ensures built { IfOk result (λ _. SchemaBuilds
             (handed S.Resolver T.KeywordTable K.Validate M.Matcher.own resolver.now table.now matcher.now)
             default_options (view schema.now)) }
-        ensures refused { IfErr result (λ e. SchemaRefused
+        ensures passed { IfOk result (λ _. PassesCheck (S.resolving resolver.now) (V.checked metas.now)
+            default_options (view schema.now)) }
+        ensures refused { IfErr result (λ e. BuildRefused
             (handed S.Resolver T.KeywordTable K.Validate M.Matcher.own resolver.now table.now matcher.now)
-            default_options (view schema.now) e) }
+            (V.checked metas.now) default_options (view schema.now) e) }
     {
-        Validator::<K, M>::options(alloc).build(alloc, schema, table, resolver, matcher)
+        Validator::<K, M>::options(alloc).build(alloc, schema, table, resolver, matcher, metas)
     }
 }

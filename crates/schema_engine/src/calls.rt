@@ -3,7 +3,7 @@ ghost use Rattle.std.specs.Prelude.{Bool, IfOk, IfErr, IfSome, All};
 ghost use Rattle.serde_json.specs.View.{view};
 ghost use Rattle.schema_reports.specs.ReportViews.{BorrowsItsPlace};
 ghost use Rattle.schema_engine.specs.Answers.{refusal_of};
-ghost use Rattle.schema_engine.specs.Called.{DecidesGuardedly, DecidesPlainly, SchemaRefused};
+ghost use Rattle.schema_engine.specs.Called.{DecidesGuardedly, DecidesPlainly, BuildRefused};
 ghost use Rattle.schema_engine.specs.Called.{EvaluatesGuardedly, EvaluatesPlainly, UnitsGuardedly, UnitsPlainly};
 ghost use Rattle.schema_engine.specs.Called.{ErrorsPlainly, ErrorsGuardedly, EachLeads, FirstPlainly, FirstGuardedly, FirstLeads};
 ghost use Rattle.schema_engine.specs.Handed.{default_options, handed};
@@ -12,6 +12,7 @@ use crate::validator::Validator;
 use schema_compiler::compiler::error::BuildError;
 use schema_node::context::keyword::Validate;
 use schema_node::context::matcher::Matcher;
+use schema_node::context::meta::MetaValidators;
 use schema_node::context::resolver::Resolver;
 use schema_node::context::table::KeywordTable;
 use schema_output::evaluation::Evaluation;
@@ -25,13 +26,14 @@ use std::alloc::Global;
 /// # Errors
 ///
 /// Fails if the schema is refused, or out of memory.
-pub fn is_valid<S: Resolver, T: KeywordTable<K>, K: Validate, M: Matcher>(
+pub fn is_valid<S: Resolver, T: KeywordTable<K>, K: Validate, M: Matcher, V: MetaValidators>(
     alloc: Global,
     schema: &Value,
     instance: &Value,
     table: &T,
     resolver: &S,
     matcher: &M,
+    metas: &V,
 ) -> Result<bool, BuildError>
     ensures answer { IfOk result (λ valid. DecidesPlainly
         (handed S.Resolver T.KeywordTable K.Validate M.Matcher.own resolver.now table.now matcher.now)
@@ -39,11 +41,11 @@ pub fn is_valid<S: Resolver, T: KeywordTable<K>, K: Validate, M: Matcher>(
     ensures guarded { IfOk result (λ valid. DecidesGuardedly
         (handed S.Resolver T.KeywordTable K.Validate M.Matcher.own resolver.now table.now matcher.now)
         default_options (view schema.now) (view instance.now) valid) }
-    ensures refused { IfErr result (λ e. SchemaRefused
+    ensures refused { IfErr result (λ e. BuildRefused
         (handed S.Resolver T.KeywordTable K.Validate M.Matcher.own resolver.now table.now matcher.now)
-        default_options (view schema.now) e) }
+        (V.checked metas.now) default_options (view schema.now) e) }
 {
-    let validator = Validator::<K, M>::new(alloc, schema, table, resolver, matcher)?;
+    let validator = Validator::<K, M>::new(alloc, schema, table, resolver, matcher, metas)?;
     Ok(validator.is_valid(alloc, instance)?)
 }
 
@@ -53,13 +55,14 @@ pub fn is_valid<S: Resolver, T: KeywordTable<K>, K: Validate, M: Matcher>(
 /// # Errors
 ///
 /// Fails if the schema is refused, or out of memory.
-pub fn validate<'i, S: Resolver, T: KeywordTable<K>, K: Validate, M: Matcher>(
+pub fn validate<'i, S: Resolver, T: KeywordTable<K>, K: Validate, M: Matcher, V: MetaValidators>(
     alloc: Global,
     schema: &Value,
     instance: &'i Value,
     table: &T,
     resolver: &S,
     matcher: &M,
+    metas: &V,
 ) -> Result<Result<(), ValidationError<'i>>, BuildError>
     ensures answer { IfOk result (λ r. FirstPlainly
         (handed S.Resolver T.KeywordTable K.Validate M.Matcher.own resolver.now table.now matcher.now)
@@ -71,11 +74,11 @@ pub fn validate<'i, S: Resolver, T: KeywordTable<K>, K: Validate, M: Matcher>(
         (handed S.Resolver T.KeywordTable K.Validate M.Matcher.own resolver.now table.now matcher.now)
         default_options (view schema.now) (view instance.now) (refusal_of r)) }
     ensures borrows { IfOk result (λ r. IfSome (refusal_of r) (BorrowsItsPlace (view instance.now))) }
-    ensures refused { IfErr result (λ e. SchemaRefused
+    ensures refused { IfErr result (λ e. BuildRefused
         (handed S.Resolver T.KeywordTable K.Validate M.Matcher.own resolver.now table.now matcher.now)
-        default_options (view schema.now) e) }
+        (V.checked metas.now) default_options (view schema.now) e) }
 {
-    let validator = Validator::<K, M>::new(alloc, schema, table, resolver, matcher)?;
+    let validator = Validator::<K, M>::new(alloc, schema, table, resolver, matcher, metas)?;
     Ok(validator.validate(alloc, instance)?)
 }
 
@@ -84,13 +87,14 @@ pub fn validate<'i, S: Resolver, T: KeywordTable<K>, K: Validate, M: Matcher>(
 /// # Errors
 ///
 /// Fails if the schema is refused, or out of memory.
-pub fn iter_errors<'i, S: Resolver, T: KeywordTable<K>, K: Validate, M: Matcher>(
+pub fn iter_errors<'i, S: Resolver, T: KeywordTable<K>, K: Validate, M: Matcher, V: MetaValidators>(
     alloc: Global,
     schema: &Value,
     instance: &'i Value,
     table: &T,
     resolver: &S,
     matcher: &M,
+    metas: &V,
 ) -> Result<ErrorIterator<'i>, BuildError>
     ensures answer { IfOk result (λ es. ErrorsPlainly
         (handed S.Resolver T.KeywordTable K.Validate M.Matcher.own resolver.now table.now matcher.now)
@@ -102,11 +106,11 @@ pub fn iter_errors<'i, S: Resolver, T: KeywordTable<K>, K: Validate, M: Matcher>
         (handed S.Resolver T.KeywordTable K.Validate M.Matcher.own resolver.now table.now matcher.now)
         default_options (view schema.now) (view instance.now) es) }
     ensures borrows { IfOk result (λ es. All (BorrowsItsPlace (view instance.now)) es) }
-    ensures refused { IfErr result (λ e. SchemaRefused
+    ensures refused { IfErr result (λ e. BuildRefused
         (handed S.Resolver T.KeywordTable K.Validate M.Matcher.own resolver.now table.now matcher.now)
-        default_options (view schema.now) e) }
+        (V.checked metas.now) default_options (view schema.now) e) }
 {
-    let validator = Validator::<K, M>::new(alloc, schema, table, resolver, matcher)?;
+    let validator = Validator::<K, M>::new(alloc, schema, table, resolver, matcher, metas)?;
     Ok(validator.iter_errors(alloc, instance)?)
 }
 
@@ -116,13 +120,14 @@ pub fn iter_errors<'i, S: Resolver, T: KeywordTable<K>, K: Validate, M: Matcher>
 /// # Errors
 ///
 /// Fails if the schema is refused, or out of memory.
-pub fn evaluate<S: Resolver, T: KeywordTable<K>, K: Validate, M: Matcher>(
+pub fn evaluate<S: Resolver, T: KeywordTable<K>, K: Validate, M: Matcher, V: MetaValidators>(
     alloc: Global,
     schema: &Value,
     instance: &Value,
     table: &T,
     resolver: &S,
     matcher: &M,
+    metas: &V,
 ) -> Result<Evaluation, BuildError>
     ensures answer { IfOk result (λ u. EvaluatesPlainly
         (handed S.Resolver T.KeywordTable K.Validate M.Matcher.own resolver.now table.now matcher.now)
@@ -136,10 +141,10 @@ pub fn evaluate<S: Resolver, T: KeywordTable<K>, K: Validate, M: Matcher>(
     ensures units { IfOk result (λ u. UnitsGuardedly
         (handed S.Resolver T.KeywordTable K.Validate M.Matcher.own resolver.now table.now matcher.now)
         default_options (view schema.now) (view instance.now) u) }
-    ensures refused { IfErr result (λ e. SchemaRefused
+    ensures refused { IfErr result (λ e. BuildRefused
         (handed S.Resolver T.KeywordTable K.Validate M.Matcher.own resolver.now table.now matcher.now)
-        default_options (view schema.now) e) }
+        (V.checked metas.now) default_options (view schema.now) e) }
 {
-    let validator = Validator::<K, M>::new(alloc, schema, table, resolver, matcher)?;
+    let validator = Validator::<K, M>::new(alloc, schema, table, resolver, matcher, metas)?;
     Ok(validator.evaluate(alloc, instance)?)
 }

@@ -1,6 +1,5 @@
 //! Validators of compiled nodes.
 ghost use Rattle.std.specs.Prelude.{◌≡◌, ◌<◌, IfOk, length};
-ghost use Rattle.serde_json.specs.View.{view};
 ghost use Rattle.schema_reports.specs.KeywordViews.{draft_of};
 ghost use Rattle.schema_engine.specs.Called.{HasUnitsAsCompiled, MeansAsCompiled};
 ghost use Rattle.schema_engine.specs.Handed.{handed};
@@ -13,18 +12,16 @@ use schema_node::context::table::KeywordTable;
 use schema_node::node::{Nodes, SchemaNode};
 use schema_reports::keywords::Draft;
 use schema_reports::location::OutOfMemory;
-use serde_json::Value;
 use std::alloc::Global;
 
-/// Builds a validator from compiled nodes, the number of the root's node and the root's draft. Where the nodes are compiled
-/// from each root key of the schema and no chain of references returns, the validator means the plain meaning and has its
-/// units. The matcher is cloned.
+/// Builds a validator from compiled nodes, the number of a key's node and the root's draft. Where the nodes are compiled from
+/// this key and no chain of references returns, the validator means the key's plain meaning and has its units. The matcher is
+/// cloned.
 ///
 /// # Errors
 ///
 /// Fails out of memory, for the matcher's clone.
 pub fn of_compiled<S: Resolver, T: KeywordTable<K>, K: Validate, M: Matcher>(
-    schema: &Value,
     table: &T,
     resolver: &S,
     matcher: &M,
@@ -37,10 +34,10 @@ pub fn of_compiled<S: Resolver, T: KeywordTable<K>, K: Validate, M: Matcher>(
     ensures matcher { IfOk result (λ v. M.matching v.matcher ≡ M.matching matcher.now) }
     ensures means { IfOk result (λ v. MeansAsCompiled
         (handed S.Resolver T.KeywordTable K.Validate M.Matcher.own resolver.now table.now matcher.now)
-        (view schema.now) nodes root.0 v) }
+        nodes root.0 v) }
     ensures units { IfOk result (λ v. HasUnitsAsCompiled
         (handed S.Resolver T.KeywordTable K.Validate M.Matcher.own resolver.now table.now matcher.now)
-        (view schema.now) nodes root.0 v) }
+        nodes root.0 v) }
 {
     let matcher = matcher.clone()?;
     Ok(Validator::of_nodes(nodes, root, draft, matcher))

@@ -37,7 +37,8 @@ pub fn limits_agree<S: Resolver, T: KeywordTable<K>, K: Validate, M: Matcher>()
 
 /// One limit on nested targets builds a schema exactly if any other does, want of memory aside. Neither what `build` and
 /// `build_nested` promise of a schema that builds nor what they promise of one that is refused names this limit; so where one
-/// build of a schema succeeded, another by the same options is refused for want of memory alone.
+/// build of a schema succeeded, another by the same options and the same meta validators is refused for want of memory alone,
+/// whether the options have the schema checked or not.
 pub fn builds_agree<S: Resolver, T: KeywordTable<K>, K: Validate, M: Matcher>()
     ensures memory { (resolver : S) (table : T) (matcher : M)
         → BuildsAgree S.Resolver T.KeywordTable K.Validate M.Matcher.own resolver table matcher }

@@ -8,7 +8,7 @@ pub mod laws;
 pub mod options;
 pub mod validator;
 
-pub use crate::calls::{is_valid, iter_errors, validate};
+pub use crate::calls::{evaluate, is_valid, iter_errors, validate};
 pub use schema_compiler::compiler;
 pub use schema_node::{context, node};
 pub use schema_reports::{instance, keywords, location, reports, text, unfinished_matches};

@@ -15,13 +15,15 @@ pub mod root;
 /// How many keys a schema may reach, where no option says otherwise.
 const DEFAULT_NODE_LIMIT: usize = 65_536;
 
-/// How a schema is compiled: the draft and the base of its root, whether formats are checked, which custom vocabularies are
-/// declared, and how many keys may be reached. What is not set is left to schema and resolver.
+/// How a schema is compiled: the draft and the base of its root, whether the meta validators check it, whether formats are
+/// checked, which custom vocabularies are declared, and how many keys may be reached. What is not set is left to schema and
+/// resolver.
 #[derive(Drop)]
 pub struct ValidationOptions {
     draft: Option<Draft>,
     base: Option<String>,
     compiling: CompileOptions,
+    checks: bool,
 }
 
 impl Model for ValidationOptions {
@@ -37,12 +39,13 @@ impl Model for ValidationOptions {
       formats = o.compiling.formats;
       declared = map string_bytes o.compiling.declared.items;
       limit = o.compiling.node_limit;
+      checks = o.checks;
     } };
 }
 
 impl ValidationOptions {
-    /// Returns the default options: nothing is set, no vocabulary is declared, and 65,536 keys may be reached. Allocates
-    /// nothing.
+    /// Returns the default options: schemas are checked, nothing else is set, no vocabulary is declared, and 65,536 keys may be
+    /// reached. Allocates nothing.
     pub fn new(alloc: Global) -> ValidationOptions
         ensures defaults { result ≡ default_options }
     {
@@ -54,6 +57,7 @@ impl ValidationOptions {
                 declared: Vec::new(alloc),
                 node_limit: DEFAULT_NODE_LIMIT,
             },
+            checks: true,
         }
     }
 
@@ -85,6 +89,15 @@ impl ValidationOptions {
     {
         let mut options = self;
         options.compiling.node_limit = limit;
+        options
+    }
+
+    /// Has the meta validators check the schema, or does not. Where this is not set, they do. Allocates nothing.
+    pub fn should_validate_schema(self, checked: bool) -> ValidationOptions
+        ensures checks { result ≡ record self { checks = checked } }
+    {
+        let mut options = self;
+        options.checks = checked;
         options
     }
 

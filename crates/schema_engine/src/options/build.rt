@@ -1,17 +1,24 @@
 //! Building a validator.
-ghost use Rattle.std.specs.Prelude.{IfOk, IfErr};
+ghost use Rattle.std.specs.Prelude.{◌≡◌, IfOk, IfErr, true};
 ghost use Rattle.serde_json.specs.View.{view};
-ghost use Rattle.schema_engine.specs.Called.{HasPlainUnits, IsCompiledFrom, MeansPlainly, PointsPlainly, SchemaBuilds, SchemaRefused};
+ghost use Rattle.schema_engine.specs.Called.{HasPlainUnits, IsCompiledFrom, MeansPlainly, PointsPlainly, SchemaBuilds, BuildRefused};
+ghost use Rattle.schema_reports.specs.KeywordViews.{draft_of};
+ghost use Rattle.schema_node.specs.ResolverViews.{place_of};
+ghost use Rattle.schema_compiler.specs.Checking.{AcceptsSchema, RefusesSchema};
+ghost use Rattle.schema_engine.specs.Checked.{PassesCheck};
 ghost use Rattle.schema_engine.specs.Handed.{default_nested, handed};
 
 use crate::compiled::of_compiled;
 use crate::options::ValidationOptions;
 use crate::options::root::root_key;
 use crate::validator::Validator;
+use schema_compiler::compiler::check::validate_schema;
 use schema_compiler::compiler::compile;
 use schema_compiler::compiler::error::BuildError;
+use schema_compiler::compiler::key::SchemaKey;
 use schema_node::context::keyword::Validate;
 use schema_node::context::matcher::Matcher;
+use schema_node::context::meta::MetaValidators;
 use schema_node::context::resolver::Resolver;
 use schema_node::context::table::KeywordTable;
 use schema_node::node::SchemaNode;
@@ -19,25 +26,28 @@ use serde_json::Value;
 use std::alloc::Global;
 
 /// How many targets of references are compiled one inside another, where no call says otherwise.
-const NESTED_LIMIT: usize = 8;
+pub(crate) const NESTED_LIMIT: usize = 8;
 
 impl ValidationOptions {
     /// Builds a validator of a schema. The resolver has to have the schema as the document under the root's base: that is
     /// what is compiled, and what the contract speaks of. Where no chain of references returns, the validator means the plain
     /// meaning of schema and parts, and has its units. Returns or none, each error that it gives points at a keyword of the
-    /// schema and at a value inside the instance. At most 8 targets of references are compiled one inside another.
+    /// schema and at a value inside the instance. At most 8 targets of references are compiled one inside another. Unless the
+    /// options say otherwise, the meta validators check the schema before it is compiled.
     ///
     /// # Errors
     ///
     /// Fails if the schema's root, or a schema that it reaches, is refused, if more keys are reached than the limit, or out of
-    /// memory. The error names a cause of that refusal.
-    pub fn build<S: Resolver, T: KeywordTable<K>, K: Validate, M: Matcher>(
+    /// memory. The error names a cause of that refusal. Where the schema is checked, fails also with the error of a document of
+    /// it that the meta validators refuse.
+    pub fn build<S: Resolver, T: KeywordTable<K>, K: Validate, M: Matcher, V: MetaValidators>(
         &self,
         alloc: Global,
         schema: &Value,
         table: &T,
         resolver: &S,
         matcher: &M,
+        metas: &V,
     ) -> Result<Validator<K, M>, BuildError>
         ensures means { IfOk result (λ v. MeansPlainly
             (handed S.Resolver T.KeywordTable K.Validate M.Matcher.own resolver.now table.now matcher.now)
@@ -54,11 +64,13 @@ impl ValidationOptions {
         ensures built { IfOk result (λ _. SchemaBuilds
             (handed S.Resolver T.KeywordTable K.Validate M.Matcher.own resolver.now table.now matcher.now)
             self.now (view schema.now)) }
-        ensures refused { IfErr result (λ e. SchemaRefused
+        ensures passed { IfOk result (λ _. PassesCheck (S.resolving resolver.now) (V.checked metas.now)
+            self.now (view schema.now)) }
+        ensures refused { IfErr result (λ e. BuildRefused
             (handed S.Resolver T.KeywordTable K.Validate M.Matcher.own resolver.now table.now matcher.now)
-            self.now (view schema.now) e) }
+            (V.checked metas.now) self.now (view schema.now) e) }
     {
-        self.build_nested(alloc, schema, table, resolver, matcher, NESTED_LIMIT)
+        self.build_nested(alloc, schema, table, resolver, matcher, metas, NESTED_LIMIT)
     }
 
     /// Builds a validator of a schema as `build` does, but with at most `nested` targets of references compiled one inside
@@ -68,13 +80,20 @@ impl ValidationOptions {
     /// # Errors
     ///
     /// Fails where `build` fails: the limit decides nothing of that.
-    pub fn build_nested<S: Resolver, T: KeywordTable<K>, K: Validate, M: Matcher>(
+    pub fn build_nested<
+        S: Resolver,
+        T: KeywordTable<K>,
+        K: Validate,
+        M: Matcher,
+        V: MetaValidators,
+    >(
         &self,
         alloc: Global,
         schema: &Value,
         table: &T,
         resolver: &S,
         matcher: &M,
+        metas: &V,
         nested: usize,
     ) -> Result<Validator<K, M>, BuildError>
         ensures means { IfOk result (λ v. MeansPlainly
@@ -92,23 +111,37 @@ impl ValidationOptions {
         ensures built { IfOk result (λ _. SchemaBuilds
             (handed S.Resolver T.KeywordTable K.Validate M.Matcher.own resolver.now table.now matcher.now)
             self.now (view schema.now)) }
-        ensures refused { IfErr result (λ e. SchemaRefused
+        ensures passed { IfOk result (λ _. PassesCheck (S.resolving resolver.now) (V.checked metas.now)
+            self.now (view schema.now)) }
+        ensures refused { IfErr result (λ e. BuildRefused
             (handed S.Resolver T.KeywordTable K.Validate M.Matcher.own resolver.now table.now matcher.now)
-            self.now (view schema.now) e) }
+            (V.checked metas.now) self.now (view schema.now) e) }
     {
         let root = root_key(alloc, resolver, self, schema)?;
         let draft = root.draft;
+        self.check(alloc, resolver, metas, &root)?;
         let compiled = compile(alloc, resolver, table, &self.compiling, nested, root)?;
         let nodes = compiled.nodes;
-        let validator = of_compiled(
-            schema,
-            table,
-            resolver,
-            matcher,
-            nodes,
-            SchemaNode(0),
-            draft,
-        )?;
+        let validator = of_compiled(table, resolver, matcher, nodes, SchemaNode(0), draft)?;
         Ok(validator)
+    }
+
+    // Has the meta validators check the schema of a root's key, where the options ask for it.
+    fn check<S: Resolver, V: MetaValidators>(
+        &self,
+        alloc: Global,
+        resolver: &S,
+        metas: &V,
+        root: &SchemaKey<S::State>,
+    ) -> Result<(), BuildError>
+        ensures accepted { IfOk result (λ _. self.now.checks ≡ true → AcceptsSchema
+            (S.resolving resolver.now) (V.checked metas.now) (draft_of root.now.draft) (place_of root.now.place)) }
+        ensures refused { IfErr result (λ e. (self.now.checks ≡ true) × RefusesSchema
+            (S.resolving resolver.now) (V.checked metas.now) (draft_of root.now.draft) (place_of root.now.place) e) }
+    {
+        if !self.checks {
+            return Ok(());
+        }
+        validate_schema(alloc, resolver, metas, root.draft, &root.place)
     }
 }

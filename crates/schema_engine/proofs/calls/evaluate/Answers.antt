@@ -1,3 +1,4 @@
+use Rattle.std.proofs.lemmas.Result.{err_from_is_err_and}
 use Rattle.serde_json.specs.View.{view}
 use Rattle.schema_reports.specs.KeywordTable.{builtin_in}
 use Rattle.schema_engine.specs.Evaluated.{EvaluationAnswered, UnitsAnswered}
@@ -29,3 +30,8 @@ returns-clause-guarded g c = (c.in_ok-validator.validator, c.in_ok-validator.ens
 
 pub returns-clause-units : goal.returns-clause-units
 returns-clause-units g c = (c.in_ok-validator.validator, c.in_ok-validator.ensures.program, c.in_ok-evaluate.ensures.units)
+
+pub returns-in_err-validator-clause-refused : goal.returns-in_err-validator-clause-refused
+returns-in_err-validator-clause-refused g c =
+    let p = err_from_is_err_and c.from_residual.result c.from_residual.ensures.1 in
+    rw (p.1, p.2) c.in_err-validator.ensures.refused

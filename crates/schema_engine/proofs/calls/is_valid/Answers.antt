@@ -1,3 +1,4 @@
+use Rattle.std.proofs.lemmas.Result.{err_from_is_err_and}
 use Rattle.serde_json.specs.View.{view}
 use Rattle.schema_reports.specs.KeywordTable.{builtin_in}
 use Rattle.schema_reports.specs.Cover.{is_valid}
@@ -14,3 +15,8 @@ returns-clause-answer g c =
     let k = g.K.Validate in
     plainly_from r table m k.words default_options (view c.args.schema.now) k.shape k.is_whole g.M.Matcher.matching c.in_ok-validator.validator (view c.args.instance.now)
     (λ texts v. VerdictSays v is_valid c.in_ok-is_valid.field-0) c.in_ok-validator.ensures.means c.in_ok-is_valid.ensures.senses
+
+pub returns-in_err-validator-clause-refused : goal.returns-in_err-validator-clause-refused
+returns-in_err-validator-clause-refused g c =
+    let p = err_from_is_err_and c.from_residual.result c.from_residual.ensures.1 in
+    rw (p.1, p.2) c.in_err-validator.ensures.refused

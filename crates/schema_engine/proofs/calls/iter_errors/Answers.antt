@@ -1,3 +1,4 @@
+use Rattle.std.proofs.lemmas.Result.{err_from_is_err_and}
 use Rattle.serde_json.specs.View.{view}
 use Rattle.schema_reports.specs.KeywordTable.{builtin_in}
 use Rattle.schema_engine.specs.Spoken.{ErrorsAnswered}
@@ -30,3 +31,8 @@ returns-clause-leads g c =
       each_points r table m k.words default_options (view c.args.schema.now) k.shape g.M.Matcher.matching c.in_ok-validator.validator k.is_whole built.means built.points
           (view c.args.instance.now) c.in_ok-iter_errors.field-0 c.in_ok-iter_errors.ensures.points,
     )
+
+pub returns-in_err-validator-clause-refused : goal.returns-in_err-validator-clause-refused
+returns-in_err-validator-clause-refused g c =
+    let p = err_from_is_err_and c.from_residual.result c.from_residual.ensures.1 in
+    rw (p.1, p.2) c.in_err-validator.ensures.refused

@@ -1,5 +1,4 @@
 use Rattle.std.proofs.Common.{sym, ◌∙◌, ap, subst, length}
-use Rattle.serde_json.specs.View.{view}
 use Rattle.schema_reports.specs.Laws.{EachKeeps}
 use Rattle.schema_reports.specs.Headline.{Plainly, PlainlyWithUnits}
 use Rattle.schema_reports.specs.KeywordTable.{builtin_in}
@@ -9,7 +8,7 @@ use Rattle.schema_node.specs.NodeTable.{numbered}
 use Rattle.schema_reports.specs.Fractions.{AreWhole}
 use Rattle.schema_engine.specs.Program.{HaveUnits, Program, Means}
 use Rattle.schema_engine.specs.Handed.{table_of, parts_of}
-use Rattle.schema_engine.proofs.Built.{root_too, whole_from, means_from, units_from}
+use Rattle.schema_engine.proofs.Built.{whole_from, means_from, units_from}
 use Rattle.schema_engine.proofs.compiled.of_compiled.Goals as goal
 
 pub returns-clause-made : goal.returns-clause-made
@@ -18,7 +17,7 @@ returns-clause-made g c =
     (ap (λ (p : Program g.row.K.Denot g.row.M.Denot). p.nodes) made, ap (λ (p : Program g.row.K.Denot g.row.M.Denot). p.root) made, ap (λ (p : Program g.row.K.Denot g.row.M.Denot). p.draft) made)
 
 pub returns-clause-means : goal.returns-clause-means
-returns-clause-means g c = λ options from instance texts root is_root speaks.
+returns-clause-means g c = λ options root compiled instance texts speaks.
     let k = g.K.Validate in
     let r = g.S.Resolver.resolving c.args.resolver.now in
     let table = table_of (g.T.KeywordTable.owned c.args.table.now) builtin_in (g.T.KeywordTable.script c.args.table.now) in
@@ -30,10 +29,8 @@ returns-clause-means g c = λ options from instance texts root is_root speaks.
     let scripts = g.met.T.KeywordTable.right c.args.table.now in
     let nodes = c.args.nodes in
     let number = c.args.root.0 in
-    let d = view c.args.schema.now in
-    let compiled = from root (root_too r table options matcher keywords k.absorbed k.is_whole inside same scripts each d root is_root) in
-    let whole = whole_from r table options matcher keywords k.absorbed k.is_whole inside same scripts each d k.shape nodes number root compiled instance speaks in
-    let meant = means_from r table options matcher keywords k.absorbed k.is_whole inside same scripts each d k.shape nodes number root compiled instance in
+    let whole = whole_from r table options matcher keywords k.absorbed k.is_whole inside same scripts each k.shape nodes number root compiled instance speaks in
+    let meant = means_from r table options matcher keywords k.absorbed k.is_whole inside same scripts each k.shape nodes number root compiled instance in
     let equal = g.met.M.Matcher.cloned c.args.matcher.now c.in_ok-matcher.matcher c.in_ok-matcher.ensures.cases in
     let made = c.of_nodes.ensures.made in
     let told = g.met.K.Validate.speaks texts in
@@ -44,7 +41,7 @@ returns-clause-means g c = λ options from instance texts root is_root speaks.
     )
 
 pub returns-clause-units : goal.returns-clause-units
-returns-clause-units g c = λ options from instance texts root is_root speaks.
+returns-clause-units g c = λ options root compiled instance texts speaks.
     let k = g.K.Validate in
     let r = g.S.Resolver.resolving c.args.resolver.now in
     let table = table_of (g.T.KeywordTable.owned c.args.table.now) builtin_in (g.T.KeywordTable.script c.args.table.now) in
@@ -56,9 +53,7 @@ returns-clause-units g c = λ options from instance texts root is_root speaks.
     let scripts = g.met.T.KeywordTable.right c.args.table.now in
     let nodes = c.args.nodes in
     let number = c.args.root.0 in
-    let d = view c.args.schema.now in
-    let compiled = from root (root_too r table options matcher keywords k.absorbed k.is_whole inside same scripts each d root is_root) in
-    let had = units_from r table options matcher keywords k.absorbed k.is_whole inside same scripts each d k.shape nodes number root compiled instance in
+    let had = units_from r table options matcher keywords k.absorbed k.is_whole inside same scripts each k.shape nodes number root compiled instance in
     let equal = g.met.M.Matcher.cloned c.args.matcher.now c.in_ok-matcher.matcher c.in_ok-matcher.ensures.cases in
     let w = parts_of r table matcher keywords options in
     subst (λ (p : Program g.row.K.Denot g.row.M.Denot). PlainlyWithUnits w root instance (λ v units. HaveUnits k.shape k.words k.is_whole g.M.Matcher.matching p instance texts units)) (sym c.of_nodes.ensures.made)

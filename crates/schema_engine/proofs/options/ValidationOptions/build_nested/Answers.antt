@@ -1,21 +1,25 @@
-use Rattle.std.proofs.Common.{Bool, true, map, sym, ◌∙◌, ap, subst, inr, arith}
+use Rattle.std.proofs.Common.{Bool, true, map, sym, ◌∙◌, ap, subst, inl, inr, arith}
 use Rattle.std.specs.Prelude.{Ok, option_map, string_bytes}
 use Rattle.std.proofs.lemmas.Option.{slice_get_within}
 use Rattle.std.proofs.lemmas.Result.{err_from_is_err_and}
 use Rattle.serde_json.specs.View.{view}
 use Rattle.schema_reports.specs.KeywordTable.{builtin_in}
 use Rattle.schema_reports.specs.KeywordViews.{draft_of}
+use Rattle.schema_reports.specs.Plan.{Key}
 use Rattle.schema_compiler.specs.Builtins.{builtin}
+use Rattle.schema_compiler.specs.Checking.{AcceptsSchema}
 use Rattle.schema_compiler.specs.Compiling.{no_table, no_keywords, no_matcher}
 use Rattle.schema_compiler.specs.KeyViews.{key_of}
 use Rattle.schema_compiler.specs.Compilation.{IsCompilation, RefusesRoot, all_parts}
 use Rattle.schema_engine.specs.Compiled.{IsWhole}
 use Rattle.schema_engine.specs.Handed.{Options, parts_of, table_of}
-use Rattle.schema_engine.proofs.Compilations.{compiled_from_roots, compiled_in, reach_in, refuses_in, whole_in, whole_too}
+use Rattle.schema_engine.specs.Roots.{root_parts}
+use Rattle.schema_engine.proofs.Compilations.{compiled_from_roots, compiles_in, reach_in, refuses_in, whole_in, whole_too}
 use Rattle.schema_reports.specs.ErrorsLead.{EachKeepsAbsorbing}
 use Rattle.schema_reports.proofs.TurnsGiveRuns.{keeps_of_turns}
 use Rattle.schema_engine.proofs.Pointing.{points_into}
-use Rattle.schema_engine.proofs.RootKeys.{one_root_key, root_key_too}
+use Rattle.schema_engine.proofs.OtherParts.{compiles_too}
+use Rattle.schema_engine.proofs.RootKeys.{one_root_key, root_key_too, root_too}
 use Rattle.schema_engine.proofs.options.ValidationOptions.build_nested.Goals as goal
 
 pub of_compiled-requires : goal.of_compiled-requires
@@ -37,49 +41,57 @@ returns-in_err-compiled-clause-refused g c =
     let options = c.args.self.now in
     let key = key_of g.S.Resolver.point c.in_ok-root.root in
     let p = err_from_is_err_and c.from_residual-in_err-compiled.result c.from_residual-in_err-compiled.ensures.1 in
-    rw (p.1, p.2) (λ texts. inr (
+    rw (p.1, p.2) (inl (λ texts. inr (
       key,
       root_key_too r no_table (table_of owns builtin_in script) no_matcher m no_keywords (words texts) options (view c.args.schema.now) key c.in_ok-root.ensures.key,
       refuses_in r owns script m (words texts) options options.limit key c.in_err-compiled.field-0.0
           (subst (λ (o : Options). RefusesRoot (all_parts r (record { owns = owns; builtin = builtin; script = script }) o.formats o.declared m (words texts) o.draft o.base) o.limit key c.in_err-compiled.field-0.0) c.self.view_is
           (c.in_err-compiled.ensures.refused m (words texts) (option_map draft_of inside.draft) (option_map string_bytes inside.base))),
-    ))
+    )))
 
 pub returns-clause-means : goal.returns-clause-means
-returns-clause-means g c =
+returns-clause-means g c = λ instance texts root is_root speaks.
     let r = g.S.Resolver.resolving c.args.resolver.now in
     let owns = g.T.KeywordTable.owned c.args.table.now in
     let script = g.T.KeywordTable.script c.args.table.now in
+    let table = table_of owns builtin_in script in
     let m = g.M.Matcher.matching c.args.matcher.now in
     let words = g.K.Validate.words true in
     let shape = g.K.Validate.shape in
     let inside = c.self.inside in
     let options = c.args.self.now in
+    let schema = view c.args.schema.now in
     let v = key_of g.S.Resolver.point in
     let key = v c.in_ok-root.root in
     let keys = map v c.in_ok-compiled.compiled.keys in
     let nodes = c.in_ok-compiled.compiled.nodes in
     let done = subst (λ (o : Options). IsCompilation (all_parts r (record { owns = owns; builtin = builtin; script = script }) o.formats o.declared m words o.draft o.base) shape o.limit c.args.nested key keys nodes) c.self.view_is
     (c.in_ok-compiled.ensures.compiled m words (option_map draft_of inside.draft) (option_map string_bytes inside.base)) in
-    c.in_ok-validator.ensures.means options (compiled_from_roots r owns script m words options (view c.args.schema.now) shape options.limit c.args.nested key keys nodes done c.in_ok-root.ensures.key)
+    let compiled = compiled_from_roots r owns script m words options schema shape options.limit c.args.nested key keys nodes done c.in_ok-root.ensures.key root
+    (root_too r table table m no_matcher (g.K.Validate.words texts) no_keywords options schema root is_root) in
+    c.in_ok-validator.ensures.means options root compiled instance texts speaks
 
 pub returns-clause-units : goal.returns-clause-units
-returns-clause-units g c =
+returns-clause-units g c = λ instance texts root is_root speaks.
     let r = g.S.Resolver.resolving c.args.resolver.now in
     let owns = g.T.KeywordTable.owned c.args.table.now in
     let script = g.T.KeywordTable.script c.args.table.now in
+    let table = table_of owns builtin_in script in
     let m = g.M.Matcher.matching c.args.matcher.now in
     let words = g.K.Validate.words true in
     let shape = g.K.Validate.shape in
     let inside = c.self.inside in
     let options = c.args.self.now in
+    let schema = view c.args.schema.now in
     let v = key_of g.S.Resolver.point in
     let key = v c.in_ok-root.root in
     let keys = map v c.in_ok-compiled.compiled.keys in
     let nodes = c.in_ok-compiled.compiled.nodes in
     let done = subst (λ (o : Options). IsCompilation (all_parts r (record { owns = owns; builtin = builtin; script = script }) o.formats o.declared m words o.draft o.base) shape o.limit c.args.nested key keys nodes) c.self.view_is
     (c.in_ok-compiled.ensures.compiled m words (option_map draft_of inside.draft) (option_map string_bytes inside.base)) in
-    c.in_ok-validator.ensures.units options (compiled_from_roots r owns script m words options (view c.args.schema.now) shape options.limit c.args.nested key keys nodes done c.in_ok-root.ensures.key)
+    let compiled = compiled_from_roots r owns script m words options schema shape options.limit c.args.nested key keys nodes done c.in_ok-root.ensures.key root
+    (root_too r table table m no_matcher (g.K.Validate.words texts) no_keywords options schema root is_root) in
+    c.in_ok-validator.ensures.units options root compiled instance texts speaks
 
 pub returns-clause-program : goal.returns-clause-program
 returns-clause-program g c =
@@ -99,11 +111,13 @@ returns-clause-program g c =
     let nodes = c.in_ok-compiled.compiled.nodes in
     let done = subst (λ (o : Options). IsCompilation (all_parts r (record { owns = owns; builtin = builtin; script = script }) o.formats o.declared m words o.draft o.base) shape o.limit c.args.nested key keys nodes) c.self.view_is
     (c.in_ok-compiled.ensures.compiled m words (option_map draft_of inside.draft) (option_map string_bytes inside.base)) in
+    let compiles = compiles_too r table m no_matcher words no_keywords options key (compiles_in r owns script m words options shape options.limit c.args.nested key keys nodes done) in
     let compiled = whole_too r table m no_matcher words no_keywords options shape c.args.nested key nodes 0 (whole_in r owns script m words options shape options.limit c.args.nested key keys nodes done) in
     let made = c.in_ok-validator.ensures.made in
     record {
       root = key;
       is_root = root_key_too r no_table table no_matcher no_matcher no_keywords no_keywords options schema key c.in_ok-root.ensures.key;
+      compiles = compiles;
       compiled = subst (λ number. IsWhole (parts_of r table no_matcher no_keywords options) shape c.args.nested key c.in_ok-validator.validator.nodes number) (sym made.1)
           (subst (λ ns. IsWhole (parts_of r table no_matcher no_keywords options) shape c.args.nested key ns 0) (sym made.0) compiled);
       drafted = c.in_ok-root.ensures.drafted ∙ ap Ok (sym made.2);
@@ -139,14 +153,27 @@ returns-clause-built g c = λ texts.
     let nodes = c.in_ok-compiled.compiled.nodes in
     let done = subst (λ (o : Options). IsCompilation (all_parts r (record { owns = owns; builtin = builtin; script = script }) o.formats o.declared m words o.draft o.base) shape o.limit c.args.nested key keys nodes) c.self.view_is
     (c.in_ok-compiled.ensures.compiled m words (option_map draft_of inside.draft) (option_map string_bytes inside.base)) in
-    let compiled = compiled_in r owns script m words options shape options.limit c.args.nested key keys nodes done in
     let is_root = root_key_too r no_table table no_matcher m no_keywords words options schema key c.in_ok-root.ensures.key in
     record {
       root = key;
       is_root = is_root;
       alone = λ other h. one_root_key (parts_of r table m words options) schema other key h is_root;
-      compiles = compiled.compiles;
+      compiles = compiles_in r owns script m words options shape options.limit c.args.nested key keys nodes done;
       keys = keys;
       reach = reach_in r owns script m words options (g.met.S.Resolver.same c.args.resolver.now) shape options.limit c.args.nested key keys nodes done;
       within = done.within;
     }
+
+pub returns-clause-passed : goal.returns-clause-passed
+returns-clause-passed g c = λ on root is_root.
+    let r = g.S.Resolver.resolving c.args.resolver.now in
+    let refuses = g.V.MetaValidators.checked c.args.metas.now in
+    let parts = root_parts r c.args.self.now in
+    let same = one_root_key parts (view c.args.schema.now) (key_of g.S.Resolver.point c.in_ok-root.root) root c.in_ok-root.ensures.key is_root in
+    subst (λ (k : Key _). AcceptsSchema r refuses k.target.draft k.target.place) same (c.in_ok-check.ensures.accepted on)
+
+pub returns-in_err-check-clause-refused : goal.returns-in_err-check-clause-refused
+returns-in_err-check-clause-refused g c =
+    let p = err_from_is_err_and c.from_residual-in_err-check.result c.from_residual-in_err-check.ensures.1 in
+    let fails = c.in_err-check.ensures.refused in
+    rw (p.1, p.2) (inr (fails.0, (key_of g.S.Resolver.point c.in_ok-root.root, c.in_ok-root.ensures.key, fails.1)))

@@ -3,10 +3,11 @@ use Rattle.std.specs.Prelude.{IfErr, IfOk}
 use Rattle.serde_json.specs.View.{view}
 use Rattle.schema_reports.specs.KeywordTable.{builtin_in}
 use Rattle.schema_compiler.specs.declared.compiler.error.BuildError.{BuildError}
-use Rattle.schema_engine.specs.Handed.{Options, parts_of, table_of}
+use Rattle.schema_engine.specs.Called.{BuildRefused}
+use Rattle.schema_engine.specs.Handed.{Options, handed, parts_of, table_of}
 use Rattle.schema_engine.specs.Program.{Program}
 use Rattle.schema_engine.specs.Promised.{HasSchemasUnits, MeansSchema, PointsIntoSchema}
-use Rattle.schema_engine.specs.Roots.{Builds, RefusesBuild}
+use Rattle.schema_engine.specs.Roots.{Builds}
 use Rattle.schema_engine.proofs.validator.Validator.new.Goals as goal
 
 pub returns-clause-means : goal.returns-clause-means
@@ -46,8 +47,6 @@ returns-clause-built g c =
 
 pub returns-clause-refused : goal.returns-clause-refused
 returns-clause-refused g c =
-    let r = g.S.Resolver.resolving c.args.resolver.now in
-    let table = table_of (g.T.KeywordTable.owned c.args.table.now) builtin_in (g.T.KeywordTable.script c.args.table.now) in
-    let m = g.M.Matcher.matching c.args.matcher.now in
-    subst (λ (o : Options). IfErr c.build-2.result (λ (e : BuildError). (texts : Bool) → RefusesBuild (parts_of r table m (g.K.Validate.words texts) o) (view c.args.schema.now) o.limit e))
+    subst (λ (o : Options). IfErr c.build-2.result (λ (e : BuildError). BuildRefused (handed g.S.Resolver g.T.KeywordTable g.K.Validate g.M.Matcher c.args.resolver.now c.args.table.now c.args.matcher.now)
+    (g.V.MetaValidators.checked c.args.metas.now) o (view c.args.schema.now) e))
     c.options.ensures.defaults c.build-2.ensures.refused
