@@ -12,3 +12,4 @@ mod Nesting
 mod BuildsAgree
 mod OneTable
 mod FreeCalls
+mod ClonedValidators

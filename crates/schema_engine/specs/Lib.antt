@@ -9,6 +9,7 @@ pub mod Pointing
 pub mod Roots
 pub mod ProgramOf
 pub mod Asked
+pub mod Cloned
 pub mod Checked
 pub mod Called
 pub mod Nesting

@@ -17,6 +17,8 @@ ghost use Rattle.schema_engine.specs.Asked.{EvaluatesFromSomeDepth, EvaluatesInE
 ghost use Rattle.schema_engine.specs.Asked.{RunGivesUnit, UnitsFromSomeDepth, UnitsInEverySense};
 ghost use Rattle.schema_engine.specs.Asked.{RunDecides, RunFindsFirst, RunListsErrors, RunMeets, RunReplies};
 
+mod cloning;
+
 use schema_node::context::keyword::{Mode, Reply, Validate};
 use schema_node::context::matcher::Matcher;
 use schema_node::context::validation::ValidationContext;
