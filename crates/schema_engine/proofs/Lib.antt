@@ -1,3 +1,8 @@
+pub mod DocumentPlaces
+pub mod PlaceNames
+pub mod HeldPlaces
+pub mod DocumentMap
+pub mod MapAnswers
 mod OtherParts
 pub mod Remembers
 pub mod Searches
@@ -13,3 +18,6 @@ mod BuildsAgree
 mod OneTable
 mod FreeCalls
 mod ClonedValidators
+mod MapEntries
+mod EntryFailures
+mod CompiledAlone

@@ -14,3 +14,7 @@ pub mod Checked
 pub mod Called
 pub mod Nesting
 pub mod FreeCalls
+pub mod MapViews
+pub mod DocumentSchemas
+pub mod Mapped
+pub mod Entries

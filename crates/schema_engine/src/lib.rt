@@ -5,6 +5,7 @@ pub mod building;
 pub mod calls;
 pub mod compiled;
 pub mod laws;
+pub mod map;
 pub mod options;
 pub mod validator;
 

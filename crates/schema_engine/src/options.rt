@@ -10,6 +10,7 @@ use std::alloc::Global;
 use std::marker::Model;
 
 pub mod build;
+pub mod map;
 pub mod root;
 
 /// How many keys a schema may reach, where no option says otherwise.

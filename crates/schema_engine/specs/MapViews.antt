@@ -1,0 +1,22 @@
+-- A map of validators, as the list of its pointers and what stands at each.
+use Rattle.std.specs.BTreeMap.{BTreeMap}
+use Rattle.std.specs.Prelude.{List, Option, bytes_eq, map, string_bytes}
+use Rattle.std.specs.List.{IsDistinct}
+use Rattle.std.specs.Map.{lookup, keys_of}
+use Rattle.std.specs.declared.string.String.{String}
+use Rattle.schema_reports.specs.Instance.{Text}
+
+-- pointers, and what stands at each
+abbrev pub Entries : Type 0 → Type 0
+Entries X = List (Text × X)
+
+abbrev pub entries_of : {A X : Type 0} → BTreeMap (String A) X → Entries X
+entries_of m = map (λ e. (string_bytes e.0, e.1)) m.entries
+
+-- what stands at a pointer
+abbrev pub at_pointer : {X : Type 0} → Entries X → Text → Option X
+at_pointer es pointer = lookup (bytes_eq pointer) es
+
+-- each pointer once
+abbrev pub EachOnce : {X : Type 0} → Entries X → Type 0
+EachOnce es = IsDistinct bytes_eq (keys_of es)
