@@ -4,6 +4,7 @@
 use array_keywords::{ArrayKeyword, ArrayTable};
 use bench_parts::by_value::TableByValue;
 use bench_parts::matcher::BenchMatcher;
+use bench_parts::meta::BenchMeta;
 use bench_resolver::resolver::BenchResolver;
 use keyword_ways::planned::Planned;
 use schema_engine::keywords::VocabularySet;
@@ -31,7 +32,7 @@ fn check(rt: &impl Print, alloc: Global, schema: &Value, instance: &Value) -> an
     };
     let resolver = BenchResolver::new(alloc, schema, VocabularySet::new(alloc))?;
     let matcher = BenchMatcher::new(Vec::new(alloc));
-    match ArrayValidator::new(alloc, schema, &table, &resolver, &matcher) {
+    match ArrayValidator::new(alloc, schema, &table, &resolver, &matcher, &BenchMeta {}) {
         Err(refused) => println!(rt; "{refused}")?,
         Ok(validator) => print_errors(rt, alloc, &validator, instance)?,
     }

@@ -1,14 +1,18 @@
-//! `count_references KIND N`: builds a validator of a schema with N definitions, each referred to once, by `pointer`, by `name`
-//! or by `identifier`, or, as a `chain`, each by a pointer in the one before it. It prints how many errors an instance has that
-//! the first two refuse, or none for a chain; what the build costs is counted.
+//! `count_references KIND N [WAY]`: builds a validator of a schema with N definitions, each referred to once, by `pointer`, by
+//! `name` or by `identifier`, or, as a `chain`, each by a pointer in the one before it. It prints how many errors an instance has
+//! that the first two refuse, or none for a chain; what the build costs is counted. With `unchecked` the meta validators do not
+//! check the schema; with `map` the map of its validators is built, and it prints how many there are.
 #![tactic(auto)]
 
 use bench_keywords::keyword::BenchKeyword;
 use bench_parts::matcher::BenchMatcher;
+use bench_parts::meta::BenchMeta;
 use bench_parts::table::BenchTable;
 use bench_resolver::resolver::BenchResolver;
 use schema_compiler::compiler::error::BuildError;
 use schema_engine::keywords::VocabularySet;
+use schema_engine::map::ValidatorMap;
+use schema_engine::options::ValidationOptions;
 use schema_engine::validator::Validator;
 use schema_reports::location::OutOfMemory;
 use serde_json::Value;
@@ -34,6 +38,25 @@ fn kind_of(word: &[u8]) -> Kind {
         Kind::Chain
     } else {
         Kind::Pointer
+    }
+}
+
+/// What is built.
+#[derive(Clone, Copy)]
+enum Way {
+    Checked,
+    Unchecked,
+    Map,
+}
+
+/// The way of this name, or `checked`.
+fn way_of(word: &[u8]) -> Way {
+    if word == b"unchecked".as_slice() {
+        Way::Unchecked
+    } else if word == b"map".as_slice() {
+        Way::Map
+    } else {
+        Way::Checked
     }
 }
 
@@ -119,12 +142,57 @@ fn tell(
     Ok(())
 }
 
-/// Builds a validator of the schema, and tells.
-fn check(rt: &impl Print, alloc: Global, schema: &Value) -> anyhow::Result<()> {
+/// The validator of the schema, which the meta validators check where this is said.
+fn built(
+    alloc: Global,
+    schema: &Value,
+    checked: bool,
+) -> Result<Validator<BenchKeyword, BenchMatcher>, BuildError> {
     let resolver = BenchResolver::new(alloc, schema, VocabularySet::new(alloc))?;
     let matcher = BenchMatcher::new(Vec::new(alloc));
-    let built = Validator::new(alloc, schema, &BenchTable {}, &resolver, &matcher);
-    tell(rt, alloc, built)
+    let options = ValidationOptions::new(alloc).should_validate_schema(checked);
+    options.build(
+        alloc,
+        schema,
+        &BenchTable {},
+        &resolver,
+        &matcher,
+        &BenchMeta {},
+    )
+}
+
+/// The map of the schema's validators.
+fn mapped(
+    alloc: Global,
+    schema: &Value,
+) -> Result<ValidatorMap<BenchKeyword, BenchMatcher>, BuildError> {
+    let resolver = BenchResolver::new(alloc, schema, VocabularySet::new(alloc))?;
+    let matcher = BenchMatcher::new(Vec::new(alloc));
+    let options = ValidationOptions::new(alloc);
+    options.build_map(
+        alloc,
+        schema,
+        &BenchTable {},
+        &resolver,
+        &matcher,
+        &BenchMeta {},
+    )
+}
+
+/// Prints how many validators a map has, or why there is no map.
+fn tell_map(
+    rt: &impl Print,
+    made: Result<ValidatorMap<BenchKeyword, BenchMatcher>, BuildError>,
+) -> anyhow::Result<()> {
+    match made {
+        Err(refused) => println!(rt; "{refused}")?,
+        Ok(map) => {
+            let count = map.len();
+            drop(map);
+            println!(rt; "{count}")?
+        }
+    }
+    Ok(())
 }
 
 /// The word at a place, of at most sixteen bytes.
@@ -135,10 +203,16 @@ fn word_at<R: Env>(rt: &R, place: usize, room: &mut [u8; 16]) -> usize {
 fn main(rt: HostRuntime) -> anyhow::Result<()> {
     let mut kind = [0u8; 16];
     let mut count = [0u8; 16];
+    let mut way = [0u8; 16];
     let kind_length = word_at(&rt, 1, &mut kind);
     let count_length = word_at(&rt, 2, &mut count);
+    let way_length = word_at(&rt, 3, &mut way);
     let kind = kind_of(kind.get(..kind_length).unwrap_or(&[]));
     let count = number_of(count.get(..count_length).unwrap_or(&[]));
     let schema = schema_of(rt.alloc(), kind, count)?;
-    check(&rt, rt.alloc(), &schema)
+    match way_of(way.get(..way_length).unwrap_or(&[])) {
+        Way::Checked => tell(&rt, rt.alloc(), built(rt.alloc(), &schema, true)),
+        Way::Unchecked => tell(&rt, rt.alloc(), built(rt.alloc(), &schema, false)),
+        Way::Map => tell_map(&rt, mapped(rt.alloc(), &schema)),
+    }
 }

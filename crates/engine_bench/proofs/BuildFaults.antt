@@ -1,4 +1,4 @@
--- The fault of a schema that is refused stands, where a cause of it stands.
+-- The fault of a schema that is refused stands, where a cause of it stands or the meta validators refuse a document of it.
 use Rattle.std.proofs.Common.{List, refl}
 use Rattle.schema_reports.specs.Instance.{Text}
 use Rattle.schema_compiler.specs.declared.compiler.error.BuildError.{BuildError}

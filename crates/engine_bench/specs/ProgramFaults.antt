@@ -36,7 +36,8 @@ fault_of e = BuildRefused (number_of e)
 abbrev pub InWords : List Text → (FourWords → Type 0) → Type 0
 InWords ts P = (w : FourWords) × (words_in ts ≡ Some w) × P w
 
--- the words have this fault, and none that is found before it; a schema is refused by a cause that stands, of this number
+-- the words have this fault, and none that is found before it; a schema is refused by a cause that stands, of this number, or as the
+-- meta validators refuse one of its documents
 abbrev pub FaultStands : List Text → Fault → Type 0
 FaultStands ts Usage = call_in ts ≡ None
 FaultStands ts (NotJson Schema) = ¬ (call_in ts ≡ None) × InWords ts (λ w. ¬ IsJson w.schema)

@@ -1,5 +1,5 @@
 -- What the program prints, by the plain meaning of schema and parts.
-use Rattle.std.specs.Prelude.{Bool, List, [], false, ◌≡◌}
+use Rattle.std.specs.Prelude.{Bool, List, [], false, ◌≡◌, ◌⊎◌}
 use Rattle.serde_json.specs.Data.{Data}
 use Rattle.serde_json.specs.View.{view}
 use Rattle.schema_reports.specs.Drafts.{draft_2020_12}
@@ -12,6 +12,7 @@ use Rattle.schema_reports.specs.Matching.{Matcher}
 use Rattle.schema_reports.specs.Resolving.{Resolver}
 use Rattle.schema_reports.specs.declared.evaluation.EvaluationNode.{EvaluationNode}
 use Rattle.schema_compiler.specs.declared.compiler.error.BuildError.{BuildError}
+use Rattle.schema_engine.specs.Checked.{FailsCheck, PassesCheck}
 use Rattle.schema_engine.specs.Handed.{default_nested, Options, default_options, parts_of, table_of}
 use Rattle.schema_engine.specs.Evaluated.{UnitsAnswered}
 use Rattle.schema_engine.specs.Program.{FromSomeDepth, HasUnits, OfEveryEvaluation, OfEverySense, Program}
@@ -22,6 +23,7 @@ use Rattle.bench_resolver.specs.BenchAnswers.{bench_resolving}
 use Rattle.bench_resolver.specs.BenchResolving.{document_uri}
 use Rattle.bench_resolver.specs.BenchDocuments.{BenchDocument, HasCustom, HasDrafts}
 use Rattle.bench_parts.specs.BenchMatching.{bench_matcher}
+use Rattle.bench_parts.specs.BenchMeta.{document_fault}
 use Rattle.bench_resolver.specs.BenchStates.{Point}
 use Rattle.bench_parts.specs.Makers.{bench_script}
 use Rattle.bench_keywords.specs.BenchShape.{BenchShape, is_whole}
@@ -91,19 +93,26 @@ module _ {ts : List Text} (a : Asked ts) where
   abbrev pub IsBuilt : Type 0
   IsBuilt = (texts : Bool) → Builds (parts_of (bench_resolving a.resolver) bench_table (bench_matcher a.unfinished) (words texts) default_options) a.schema default_options.limit
 
-  -- it is refused, by a cause that stands
+  -- each of its documents is accepted by the bench's meta validators
+  abbrev pub IsPassed : Type 0
+  IsPassed = PassesCheck (bench_resolving a.resolver) document_fault default_options a.schema
+
+  -- it is refused, by a cause that stands, or as the meta validators refuse one of its documents
   abbrev pub IsRefused : BuildError → Type 0
-  IsRefused e = (texts : Bool) → RefusesBuild (parts_of (bench_resolving a.resolver) bench_table (bench_matcher a.unfinished) (words texts) default_options) a.schema default_options.limit e
+  IsRefused e = ((texts : Bool) → RefusesBuild (parts_of (bench_resolving a.resolver) bench_table (bench_matcher a.unfinished) (words texts) default_options) a.schema default_options.limit e)
+      ⊎ FailsCheck (bench_resolving a.resolver) document_fault default_options a.schema e
 
   -- a validator is compiled from it
   abbrev pub IsCompiledFrom : Program BenchKeyword (List Text) → Type 0
   IsCompiledFrom p = IsProgramOf (bench_resolving a.resolver) bench_table (bench_matcher a.unfinished) default_options default_nested a.schema shape_of bench_matcher p
 
--- what the words ask for, of a schema that builds: answered by the plain meaning of their schema with the bench's parts and
--- default options, and, where chains of references return, by what the nodes compiled from it say from some depth on
+-- what the words ask for, of a schema that builds and that the meta validators accept: answered by the plain meaning of their
+-- schema with the bench's parts and default options, and, where chains of references return, by what the nodes compiled from it
+-- say from some depth on
 pub record AnswersWords (ts : List Text) (accepted : Bool) (text : Text) : Type 0 where
   pub asked : Asked ts
   pub builds : IsBuilt asked
+  pub passes : IsPassed asked
   pub plain : AnswersPlainly (bench_resolving asked.resolver) bench_table (bench_matcher asked.unfinished) default_options asked.schema asked.instance asked.call accepted text
   pub program : Program BenchKeyword (List Text)
   pub compiled : IsCompiledFrom asked program

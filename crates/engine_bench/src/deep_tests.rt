@@ -2,6 +2,7 @@
 use crate::option_tests::value_of;
 use bench_keywords::keyword::BenchKeyword;
 use bench_parts::matcher::BenchMatcher;
+use bench_parts::meta::BenchMeta;
 use bench_parts::table::BenchTable;
 use bench_resolver::resolver::BenchResolver;
 use schema_compiler::compiler::error::BuildError;
@@ -92,7 +93,14 @@ fn seventy_levels_in_every_mode(rt: HostRuntime) -> Result<(), OutOfMemory> {
     let schema = value_of(alloc, NESTED_OBJECTS)?;
     let resolver = BenchResolver::new(alloc, &schema, VocabularySet::new(alloc))?;
     let matcher = BenchMatcher::new(Vec::new(alloc));
-    let built = Validator::new(alloc, &schema, &BenchTable {}, &resolver, &matcher);
+    let built = Validator::new(
+        alloc,
+        &schema,
+        &BenchTable {},
+        &resolver,
+        &matcher,
+        &BenchMeta {},
+    );
     let instance = nested(alloc)?;
     assert!(rt; refuses_innermost(alloc, built, &instance)?);
     Ok(())

@@ -5,6 +5,7 @@ use crate::option_tests::value_of;
 use crate::retry_tests::matcher_of;
 use bench_keywords::keyword::BenchKeyword;
 use bench_parts::matcher::BenchMatcher;
+use bench_parts::meta::BenchMeta;
 use bench_parts::table::BenchTable;
 use bench_resolver::resolver::BenchResolver;
 use schema_engine::calls::evaluate;
@@ -17,7 +18,7 @@ use std::alloc::{AllocError, Global};
 use test_rows::{column, list_at, wrong_row};
 
 /// The patterns of a column, which stay unfinished.
-fn unfinished_of(alloc: Global, row: &Value) -> Result<BenchMatcher, OutOfMemory> {
+pub fn unfinished_of(alloc: Global, row: &Value) -> Result<BenchMatcher, OutOfMemory> {
     let mut patterns = Vec::new(alloc);
     for pattern in list_at(row, 2) {
         patterns.push(pattern.as_str().unwrap_or(""))?;
@@ -40,7 +41,7 @@ pub fn is_listed(
 }
 
 /// Whether a validator evaluates the row's instance as the row says, and says its verdict too.
-fn evaluates(
+pub fn evaluates(
     alloc: Global,
     validator: &Validator<BenchKeyword, BenchMatcher>,
     row: &Value,
@@ -54,7 +55,14 @@ fn evaluates(
 fn holds(alloc: Global, row: &Value) -> Result<bool, AllocError> {
     let matcher = unfinished_of(alloc, row)?;
     let resolver = BenchResolver::new(alloc, column(row, 0), VocabularySet::new(alloc))?;
-    let built = Validator::new(alloc, column(row, 0), &BenchTable {}, &resolver, &matcher);
+    let built = Validator::new(
+        alloc,
+        column(row, 0),
+        &BenchTable {},
+        &resolver,
+        &matcher,
+        &BenchMeta {},
+    );
     drop((matcher, resolver));
     match built {
         Err(_) => Ok(false),
@@ -139,8 +147,14 @@ fn is_accepted(alloc: Global, schema: &Value, instance: &Value) -> Result<bool, 
     let matcher = BenchMatcher::new(Vec::new(alloc));
     let resolver = BenchResolver::new(alloc, schema, VocabularySet::new(alloc))?;
     let table = BenchTable {};
-    let evaluated = evaluate::<BenchResolver, BenchTable, BenchKeyword, BenchMatcher>(
-        alloc, schema, instance, &table, &resolver, &matcher,
+    let evaluated = evaluate::<BenchResolver, BenchTable, BenchKeyword, BenchMatcher, BenchMeta>(
+        alloc,
+        schema,
+        instance,
+        &table,
+        &resolver,
+        &matcher,
+        &BenchMeta {},
     );
     drop((matcher, resolver));
     match evaluated {
@@ -208,7 +222,14 @@ fn refused_items(alloc: Global, list: &Value) -> Result<Option<usize>, OutOfMemo
 fn list_of(alloc: Global, schema: &Value, instance: &Value) -> Result<Option<Value>, OutOfMemory> {
     let matcher = BenchMatcher::new(Vec::new(alloc));
     let resolver = BenchResolver::new(alloc, schema, VocabularySet::new(alloc))?;
-    let built = Validator::new(alloc, schema, &BenchTable {}, &resolver, &matcher);
+    let built = Validator::new(
+        alloc,
+        schema,
+        &BenchTable {},
+        &resolver,
+        &matcher,
+        &BenchMeta {},
+    );
     drop((matcher, resolver));
     match built {
         Err(_) => Ok(None),

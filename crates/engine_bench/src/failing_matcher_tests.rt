@@ -1,5 +1,6 @@
 //! A matcher whose engine fails.
 use bench_keywords::keyword::BenchKeyword;
+use bench_parts::meta::BenchMeta;
 use bench_parts::table::BenchTable;
 use bench_resolver::resolver::BenchResolver;
 use schema_engine::validate;
@@ -54,13 +55,14 @@ fn first_fails(
     instance: &Value,
     text: &str,
 ) -> bool {
-    match validate::<_, _, BenchKeyword, _>(
+    match validate::<_, _, BenchKeyword, _, _>(
         alloc,
         schema,
         instance,
         &BenchTable {},
         resolver,
         &FailingMatcher {},
+        &BenchMeta {},
     ) {
         Ok(Err(error)) => error.text.as_str() == text,
         _ => false,

@@ -5,6 +5,7 @@
 use crate::evaluation_tests::is_listed;
 use crate::reference_tests::is_answered;
 use bench_parts::matcher::BenchMatcher;
+use bench_parts::meta::BenchMeta;
 use bench_resolver::resolver::BenchResolver;
 use fused_keywords::keyword::FusedKeyword;
 use fused_keywords::table::FusedTable;
@@ -76,7 +77,14 @@ fn built(
 ) -> Result<Validator<FusedKeyword, BenchMatcher>, BuildError> {
     let resolver = BenchResolver::new(alloc, schema, VocabularySet::new(alloc))?;
     let matcher = BenchMatcher::new(Vec::new(alloc));
-    Validator::new(alloc, schema, &FusedTable {}, &resolver, &matcher)
+    Validator::new(
+        alloc,
+        schema,
+        &FusedTable {},
+        &resolver,
+        &matcher,
+        &BenchMeta {},
+    )
 }
 
 /// Whether an error of an evaluation is the one of these columns, if there are any, by evaluation path and text.

@@ -5,6 +5,7 @@ ghost use Rattle.engine_bench.specs.Growing.{next};
 
 use crate::option_tests::{number_of, value_of};
 use bench_parts::matcher::BenchMatcher;
+use bench_parts::meta::BenchMeta;
 use bench_parts::table::BenchTable;
 use bench_resolver::resolver::BenchResolver;
 use bench_resolver::resolver::places::root_place;
@@ -145,6 +146,8 @@ impl<'a> Resolver for GrowingResolver<'a> {
     ghost cloned = { λ s t same. same };
 
     ghost inside = { λ r. values_stand_inside r.document };
+
+    ghost below = { λ r draft p. tt };
 }
 
 /// The number of the refusal under a limit of so many keys; 0 where the schema of this text builds.
@@ -154,7 +157,14 @@ fn refusal_under(alloc: Global, keys: usize, text: &str) -> Result<u8, OutOfMemo
     let resolver = GrowingResolver { document };
     let matcher = BenchMatcher::new(Vec::new(alloc));
     let options = ValidationOptions::new(alloc).with_node_limit(keys);
-    let built = options.build(alloc, &schema, &BenchTable {}, &resolver, &matcher);
+    let built = options.build(
+        alloc,
+        &schema,
+        &BenchTable {},
+        &resolver,
+        &matcher,
+        &BenchMeta {},
+    );
     Ok(number_of(built))
 }
 

@@ -3,6 +3,8 @@
 #![tactic(auto)]
 
 #[cfg(test)]
+mod clone_tests;
+#[cfg(test)]
 mod context_tests;
 #[cfg(test)]
 mod deep_tests;

@@ -1,6 +1,7 @@
 //! A keyword that marks its children, run by the engine: its marks are its own.
 use bench_parts::by_value::{Children, MakesByValue, MemberKeyword, TableByValue};
 use bench_parts::matcher::BenchMatcher;
+use bench_parts::meta::BenchMeta;
 use bench_resolver::resolver::BenchResolver;
 use law_tests::both_once::BothOnce;
 use schema_engine::keywords::VocabularySet;
@@ -42,7 +43,14 @@ fn accepts(alloc: Global, schema: &Value) -> Result<bool, OutOfMemory> {
         keywords: MarkingTable {},
     };
     let matcher = BenchMatcher::new(Vec::new(alloc));
-    match Validator::<BothOnce, BenchMatcher>::new(alloc, schema, &table, &resolver, &matcher) {
+    match Validator::<BothOnce, BenchMatcher>::new(
+        alloc,
+        schema,
+        &table,
+        &resolver,
+        &matcher,
+        &BenchMeta {},
+    ) {
         Err(_) => Ok(false),
         Ok(validator) => validator.is_valid(alloc, &Value::Null),
     }

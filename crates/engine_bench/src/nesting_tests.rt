@@ -8,6 +8,7 @@ use crate::option_tests::{needs_keys, number_of, value_of};
 use crate::reference_tests::{holds, is_answered};
 use bench_keywords::keyword::BenchKeyword;
 use bench_parts::matcher::BenchMatcher;
+use bench_parts::meta::BenchMeta;
 use bench_parts::table::BenchTable;
 use bench_resolver::resolver::BenchResolver;
 use schema_compiler::compiler::error::BuildError;
@@ -28,7 +29,15 @@ fn built_nested(
     nested: usize,
 ) -> Result<Validator<BenchKeyword, BenchMatcher>, BuildError> {
     let matcher = BenchMatcher::new(Vec::new(alloc));
-    options.build_nested(alloc, schema, &BenchTable {}, resolver, &matcher, nested)
+    options.build_nested(
+        alloc,
+        schema,
+        &BenchTable {},
+        resolver,
+        &matcher,
+        &BenchMeta {},
+        nested,
+    )
 }
 
 /// Whether a schema that is one document answers as its row says, with so many targets compiled one inside another.

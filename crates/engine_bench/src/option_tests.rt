@@ -1,6 +1,7 @@
 //! The worked rows of options: limits, vocabularies, drafts and bases; and the calls that build and ask in one.
 use bench_keywords::keyword::BenchKeyword;
 use bench_parts::matcher::BenchMatcher;
+use bench_parts::meta::BenchMeta;
 use bench_parts::table::BenchTable;
 use bench_resolver::resolver::BenchResolver;
 use schema_compiler::compiler::error::BuildError;
@@ -28,7 +29,14 @@ fn refusal(
     options: &ValidationOptions,
 ) -> u8 {
     let matcher = BenchMatcher::new(Vec::new(alloc));
-    number_of(options.build(alloc, schema, &BenchTable {}, resolver, &matcher))
+    number_of(options.build(
+        alloc,
+        schema,
+        &BenchTable {},
+        resolver,
+        &matcher,
+        &BenchMeta {},
+    ))
 }
 
 /// The number of the refusal under a limit of so many keys.
@@ -225,7 +233,14 @@ fn draft_under(
 ) -> Option<Draft> {
     let matcher = BenchMatcher::new(Vec::new(alloc));
     let options = ValidationOptions::new(alloc).with_draft(draft);
-    draft_of(options.build(alloc, schema, &BenchTable {}, resolver, &matcher))
+    draft_of(options.build(
+        alloc,
+        schema,
+        &BenchTable {},
+        resolver,
+        &matcher,
+        &BenchMeta {},
+    ))
 }
 
 #[test]
@@ -247,7 +262,15 @@ fn accepts(
     schema: &Value,
     instance: &Value,
 ) -> Result<bool, BuildError> {
-    is_valid::<_, _, BenchKeyword, _>(alloc, schema, instance, &BenchTable {}, resolver, matcher)
+    is_valid::<_, _, BenchKeyword, _, _>(
+        alloc,
+        schema,
+        instance,
+        &BenchTable {},
+        resolver,
+        matcher,
+        &BenchMeta {},
+    )
 }
 
 /// Whether the first error has this text.
@@ -259,13 +282,14 @@ fn first_is(
     instance: &Value,
     text: &str,
 ) -> Result<bool, BuildError> {
-    match validate::<_, _, BenchKeyword, _>(
+    match validate::<_, _, BenchKeyword, _, _>(
         alloc,
         schema,
         instance,
         &BenchTable {},
         resolver,
         matcher,
+        &BenchMeta {},
     )? {
         Ok(()) => Ok(false),
         Err(error) => Ok(error.text.as_str() == text),
@@ -282,13 +306,14 @@ fn only_one_is_at(
     path: &str,
 ) -> Result<bool, BuildError> {
     let mut found = 0u32;
-    for error in iter_errors::<_, _, BenchKeyword, _>(
+    for error in iter_errors::<_, _, BenchKeyword, _, _>(
         alloc,
         schema,
         instance,
         &BenchTable {},
         resolver,
         matcher,
+        &BenchMeta {},
     )? {
         found = if found == 0 && error.schema_path.as_str() == path {
             1

@@ -25,6 +25,7 @@ use crate::program::faults::Fault;
 use crate::program::requests::{Request, request_in};
 use bench_keywords::keyword::BenchKeyword;
 use bench_parts::matcher::BenchMatcher;
+use bench_parts::meta::BenchMeta;
 use bench_parts::table::BenchTable;
 use bench_resolver::resolver::BenchResolver;
 use schema_engine::validator::Validator;
@@ -87,6 +88,7 @@ fn answer_to(alloc: Global, words: &[Vec<u8>]) -> Result<Answer, Fault>
         &BenchTable {},
         &resolver,
         &matcher,
+        &BenchMeta {},
     )?;
     Ok(ask(alloc, &validator, call, &instance)?)
 }

@@ -4,6 +4,7 @@
 //! the last `null` where there is none; or `[schema, reference]`, where the resolver refuses the reference with a text that names it.
 use bench_keywords::keyword::BenchKeyword;
 use bench_parts::matcher::BenchMatcher;
+use bench_parts::meta::BenchMeta;
 use bench_parts::table::BenchTable;
 use bench_resolver::resolver::BenchResolver;
 use bench_resolver::resolver::documents::Document;
@@ -54,7 +55,7 @@ fn is_next(
 }
 
 /// Whether these are all errors of an instance, in their order.
-fn has_errors<K: Validate>(
+pub fn has_errors<K: Validate>(
     alloc: Global,
     validator: &Validator<K, BenchMatcher>,
     instance: &Value,
@@ -88,7 +89,14 @@ fn answers(
     row: &Value,
 ) -> Result<bool, OutOfMemory> {
     let matcher = BenchMatcher::new(Vec::new(alloc));
-    let built = options.build(alloc, column(row, 0), &BenchTable {}, resolver, &matcher);
+    let built = options.build(
+        alloc,
+        column(row, 0),
+        &BenchTable {},
+        resolver,
+        &matcher,
+        &BenchMeta {},
+    );
     is_answered(alloc, built, row)
 }
 
@@ -122,7 +130,14 @@ fn refuses(alloc: Global, schema: &Value, reference: &str) -> Result<bool, OutOf
     let resolver = BenchResolver::new(alloc, schema, VocabularySet::new(alloc))?;
     let matcher = BenchMatcher::new(Vec::new(alloc));
     let options = ValidationOptions::new(alloc);
-    let built = options.build(alloc, schema, &BenchTable {}, &resolver, &matcher);
+    let built = options.build(
+        alloc,
+        schema,
+        &BenchTable {},
+        &resolver,
+        &matcher,
+        &BenchMeta {},
+    );
     Ok(names(built, reference))
 }
 

@@ -3,6 +3,7 @@ use crate::deep_tests::times;
 use crate::option_tests::value_of;
 use bench_keywords::keyword::BenchKeyword;
 use bench_parts::matcher::BenchMatcher;
+use bench_parts::meta::BenchMeta;
 use bench_parts::table::BenchTable;
 use bench_resolver::resolver::BenchResolver;
 use schema_engine::keywords::VocabularySet;
@@ -44,7 +45,14 @@ fn accepts(alloc: Global, schema: &str, instance: &Value) -> Result<bool, OutOfM
     let schema = value_of(alloc, schema)?;
     let resolver = BenchResolver::new(alloc, &schema, VocabularySet::new(alloc))?;
     let matcher = BenchMatcher::new(Vec::new(alloc));
-    match Validator::new(alloc, &schema, &BenchTable {}, &resolver, &matcher) {
+    match Validator::new(
+        alloc,
+        &schema,
+        &BenchTable {},
+        &resolver,
+        &matcher,
+        &BenchMeta {},
+    ) {
         Err(_) => Ok(false),
         Ok(validator) => validator.is_valid(alloc, instance),
     }
@@ -148,7 +156,14 @@ fn five_thousand_errors_through_two_references(rt: HostRuntime) -> Result<(), Ou
     let resolver = BenchResolver::new(alloc, &schema, VocabularySet::new(alloc))?;
     let matcher = BenchMatcher::new(Vec::new(alloc));
     let instance = many_texts(alloc)?;
-    let in_order = match Validator::new(alloc, &schema, &BenchTable {}, &resolver, &matcher) {
+    let in_order = match Validator::new(
+        alloc,
+        &schema,
+        &BenchTable {},
+        &resolver,
+        &matcher,
+        &BenchMeta {},
+    ) {
         Err(_) => false,
         Ok(validator) => are_of_items(alloc, &validator, &instance, 5_000)?,
     };

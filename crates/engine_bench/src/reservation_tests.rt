@@ -5,6 +5,7 @@
 use crate::option_tests::value_of;
 use crate::reference_tests::is_answered;
 use bench_parts::matcher::BenchMatcher;
+use bench_parts::meta::BenchMeta;
 use bench_resolver::resolver::BenchResolver;
 use law_tests::items::ItemsKeyword;
 use law_tests::items_table::ItemsTable;
@@ -34,7 +35,15 @@ fn built_items(
     let resolver = BenchResolver::new(alloc, schema, VocabularySet::new(alloc))?;
     let matcher = BenchMatcher::new(Vec::new(alloc));
     let options = ValidationOptions::new(alloc);
-    options.build_nested(alloc, schema, &ItemsTable {}, &resolver, &matcher, nested)
+    options.build_nested(
+        alloc,
+        schema,
+        &ItemsTable {},
+        &resolver,
+        &matcher,
+        &BenchMeta {},
+        nested,
+    )
 }
 
 /// Adds the numbers that the keywords of a node were given, if there is such a node.

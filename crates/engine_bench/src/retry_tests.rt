@@ -1,6 +1,7 @@
 //! A call that was refused memory leaves the validator as it was: asked again, it gives the row's answer.
 use bench_keywords::keyword::BenchKeyword;
 use bench_parts::matcher::BenchMatcher;
+use bench_parts::meta::BenchMeta;
 use bench_parts::table::BenchTable;
 use bench_resolver::resolver::BenchResolver;
 use schema_compiler::compiler::error::BuildError;
@@ -57,7 +58,14 @@ fn count_of(
 ) -> Result<Option<usize>, OutOfMemory> {
     let matcher = matcher_of(alloc, patterns)?;
     let resolver = BenchResolver::new(alloc, schema, VocabularySet::new(alloc))?;
-    let built = Validator::new(alloc, schema, &BenchTable {}, &resolver, &matcher);
+    let built = Validator::new(
+        alloc,
+        schema,
+        &BenchTable {},
+        &resolver,
+        &matcher,
+        &BenchMeta {},
+    );
     drop((matcher, resolver));
     counted(alloc, built, instance)
 }

@@ -3,6 +3,7 @@
 
 use bench_keywords::keyword::BenchKeyword;
 use bench_parts::matcher::BenchMatcher;
+use bench_parts::meta::BenchMeta;
 use bench_parts::table::BenchTable;
 use bench_resolver::resolver::BenchResolver;
 use schema_engine::keywords::VocabularySet;
@@ -32,7 +33,14 @@ fn check(rt: &impl Print, alloc: Global, schema: &Value, instance: &Value) -> an
     let table = BenchTable {};
     let resolver = BenchResolver::new(alloc, schema, VocabularySet::new(alloc))?;
     let matcher = BenchMatcher::new(Vec::new(alloc));
-    match Validator::<BenchKeyword, BenchMatcher>::new(alloc, schema, &table, &resolver, &matcher) {
+    match Validator::<BenchKeyword, BenchMatcher>::new(
+        alloc,
+        schema,
+        &table,
+        &resolver,
+        &matcher,
+        &BenchMeta {},
+    ) {
         Err(refused) => println!(rt; "{refused}")?,
         Ok(validator) => print_errors(rt, alloc, &validator, instance)?,
     }

@@ -220,6 +220,8 @@ const FAULTS: &str = r##"[
 [["valid", {"$schema":"http://x/no"}, 1], "", "build refused: 3\n", 2],
 [["errors", {"type":7}, 1], "", "build refused: 4\n", 2],
 [["valid", {"pattern":1}, 1, ["(?<=ab)c"]], "", "build refused: 4\n", 2],
+[["valid", [1], 1], "", "build refused: 6\n", 2],
+[["errors", {"items":[true]}, 1], "", "build refused: 6\n", 2],
 [["valid", " true ", "\t1\n", "[\"p\", \"q\"]"], "true\n", "", 0],
 [[], "", "usage: engine_bench MODE SCHEMA INSTANCE [UNFINISHED]\n", 3],
 [["valid", true], "", "usage: engine_bench MODE SCHEMA INSTANCE [UNFINISHED]\n", 3],

@@ -1,4 +1,4 @@
-use Rattle.std.proofs.Common.{List, ap, map, string_bytes, subst}
+use Rattle.std.proofs.Common.{List, ap, inl, inr, map, string_bytes, subst}
 use Rattle.schema_reports.specs.Instance.{Text}
 use Rattle.std.proofs.lemmas.Result.{err_from_is_err_and}
 use Rattle.serde_json.specs.View.{view}
@@ -7,7 +7,7 @@ use Rattle.schema_engine.specs.ProgramOf.{IsProgramOf}
 use Rattle.schema_engine.specs.Roots.{Builds, RefusesBuild}
 use Rattle.bench_resolver.specs.BenchAnswers.{bench_resolving}
 use Rattle.bench_parts.specs.BenchMatching.{bench_matcher}
-use Rattle.engine_bench.specs.ProgramMeaning.{Asked, BenchHasUnits, BenchMeans, bench_table}
+use Rattle.engine_bench.specs.ProgramMeaning.{Asked, BenchHasUnits, BenchMeans, IsRefused, bench_table}
 use Rattle.engine_bench.specs.ProgramViews.{texts}
 use Rattle.bench_keywords.specs.Shapes.{shape_of}
 use Rattle.bench_keywords.specs.Words.{words}
@@ -31,9 +31,13 @@ returns-in_err-validator-clause-fault c =
       resolver = r;
       resolves = record { document = ap view given.document; uri = given.uri; alone = given.alone; draft = given.draft; drafts = rw c.new.ensures.empty at given.drafts; custom = rw c.new.ensures.empty at given.custom };
     } in
-    rw (p.1, p.2) (build_fault (texts c.args.words.now) asked e (λ spoken.
-    subst (λ (ps : List Text). RefusesBuild (parts_of (bench_resolving r) bench_table (bench_matcher ps) (words spoken) default_options) schema default_options.limit e)
-    c.new-matcher.ensures.patterns (c.in_err-validator.ensures.refused spoken)))
+    let refused : IsRefused asked e = elim c.in_err-validator.ensures.refused [
+      | inl cause ↦ inl (λ spoken.
+          subst (λ (ps : List Text). RefusesBuild (parts_of (bench_resolving r) bench_table (bench_matcher ps) (words spoken) default_options) schema default_options.limit e)
+          c.new-matcher.ensures.patterns (cause spoken))
+      | inr fails ↦ inr fails
+    ] in
+    rw (p.1, p.2) (build_fault (texts c.args.words.now) asked e refused)
 
 pub returns-in_err-ask-clause-fault : goal.returns-in_err-ask-clause-fault
 returns-in_err-ask-clause-fault c =
@@ -60,6 +64,7 @@ returns-clause-answer c =
         resolves = record { document = ap view given.document; uri = given.uri; alone = given.alone; draft = given.draft; drafts = rw c.new.ensures.empty at given.drafts; custom = rw c.new.ensures.empty at given.custom };
       };
       builds = λ spoken. subst (λ (ps : List Text). Builds (parts_of (bench_resolving r) bench_table (bench_matcher ps) (words spoken) default_options) schema default_options.limit) same (c.in_ok-validator.ensures.built spoken);
+      passes = c.in_ok-validator.ensures.passed;
       plain = c.in_ok-ask.ensures.means (bench_resolving r) bench_table (bench_matcher unfinished) default_options schema
           (subst (λ (ps : List Text). BenchMeans (bench_resolving r) bench_table (bench_matcher ps) default_options schema validator) same c.in_ok-validator.ensures.means)
           (subst (λ (ps : List Text). BenchHasUnits (bench_resolving r) bench_table (bench_matcher ps) default_options schema validator) same c.in_ok-validator.ensures.units);
