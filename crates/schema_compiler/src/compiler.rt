@@ -4,7 +4,8 @@
 //! What it is given is in `given`, what it fills in `compiled`; `context` says what draft, vocabularies and options decide where
 //! a schema stands. Its steps are in `vocabularies`, `values`, `makers`, `subschema`, `targets` (over the references of `ref_`
 //! and `start`), `entries` and `annotations`.
-ghost use Rattle.std.specs.Prelude.{◌≡◌, ◌≢◌, ◌<◌, ◌++◌, ℕ, IfErr, IfOk, Option, Some, [], flat_map, map, option_map, slice_get, string_bytes, true};
+ghost use Rattle.std.specs.Prelude.{◌≡◌, ◌≢◌, ◌<◌, ◌++◌, ℕ, IfErr, IfOk, Option, Some, [], flat_map, map, option_map};
+ghost use Rattle.std.specs.Prelude.{slice_get, string_bytes, true};
 ghost use Rattle.serde_json.specs.Data.{object};
 ghost use Rattle.serde_json.specs.View.{members_view, view};
 ghost use Rattle.schema_reports.specs.Instance.{Text};
