@@ -2,8 +2,8 @@
 use Rattle.std.specs.Prelude.{None, Option, Some, bytes_eq, codes, decimal, if◌then◌else◌, nat_le, option_and_then, true, ℕ, ◌++◌}
 use Rattle.serde_json.specs.Data.{Data}
 use Rattle.serde_json.specs.Find.{as_number, as_u64}
-use Rattle.schema_reports.specs.Instance.{Subject, Text}
-use Rattle.schema_reports.specs.Meaning.{subject_text}
+use Rattle.schema_definitions.specs.Instance.{Subject, Text}
+use Rattle.schema_definitions.specs.Meaning.{subject_text}
 use Rattle.keyword_ways.specs.Items.{is_list, item_count}
 use Rattle.keyword_ways.specs.declared.planned.Asks.TheVariants as asks
 use Rattle.keyword_ways.specs.declared.planned.Plan.{Plan}

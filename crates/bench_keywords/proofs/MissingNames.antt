@@ -1,12 +1,12 @@
 -- A name that is missing is told of before the others; a verdict needs to know no more than whether one is missing.
 use Rattle.std.proofs.Common.{◌≡◌, ◌∙◌, ◌∷◌, ◌&&◌, ◌||◌, [], List, Bool, true, false, ap, codes, map, not, refl, sym}
 use Rattle.std.specs.List.{list_any}
-use Rattle.schema_reports.specs.Instance.{Subject, Text}
-use Rattle.schema_reports.specs.Keywords.{Answer, Fault, for_all, for_first, for_units, for_verdict, own}
-use Rattle.schema_reports.specs.Keywords as spec
+use Rattle.schema_definitions.specs.Instance.{Subject, Text}
+use Rattle.schema_definitions.specs.Keywords.{Answer, Fault, for_all, for_first, for_units, for_verdict, own}
+use Rattle.schema_definitions.specs.Keywords as spec
 use Rattle.schema_reports.specs.ReportViews.{spoken}
-use Rattle.schema_node.specs.declared.context.keyword.Mode.{Mode}
-use Rattle.schema_node.specs.declared.context.keyword.Mode.TheVariants as mode
+use Rattle.schema_parts.specs.declared.keyword.Mode.{Mode}
+use Rattle.schema_parts.specs.declared.keyword.Mode.TheVariants as mode
 use Rattle.keyword_ways.specs.Members.{has_member, is_object}
 use Rattle.keyword_ways.specs.Ways.{noted, noted_one, plain, refused, refused_mode}
 use Rattle.bench_keywords.specs.Words.{missing, required_text}

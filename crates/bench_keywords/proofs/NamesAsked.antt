@@ -8,7 +8,7 @@ use Rattle.std.specs.Cmp.Lexicographic.{slice_cmp}
 use Rattle.std.specs.Map.{lookup}
 use Rattle.serde_json.specs.View.{members_view, view}
 use Rattle.serde_json.proofs.Views.{Entry, view-lookup}
-use Rattle.schema_reports.specs.Instance.{Subject, Text}
+use Rattle.schema_definitions.specs.Instance.{Subject, Text}
 use Rattle.keyword_ways.specs.Members.{at_name, only_if}
 use Rattle.keyword_ways.proofs.MemberNames.{is_some-map, member_of-get}
 use Rattle.bench_keywords.specs.Words.{is_named, name_asked}

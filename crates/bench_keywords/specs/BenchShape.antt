@@ -1,6 +1,6 @@
 -- What is known of a keyword apart from its representation.
 use Rattle.std.specs.Prelude.{Bool, List, Option, not, true, ℕ}
-use Rattle.schema_reports.specs.Instance.{Text}
+use Rattle.schema_definitions.specs.Instance.{Text}
 use Rattle.bench_keywords.specs.declared.type_names.TypeName.{TypeName}
 use Rattle.bench_keywords.specs.declared.counts.CountKind.{CountKind}
 

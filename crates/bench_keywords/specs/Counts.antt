@@ -3,8 +3,8 @@ use Rattle.std.specs.Prelude.{Bool, None, Option, Some, codes, decimal, if◌the
 use Rattle.std.specs.Str.{chars}
 use Rattle.serde_json.specs.Data.{Members, member, no_members}
 use Rattle.serde_json.specs.Find.{as_object, as_str}
-use Rattle.schema_reports.specs.Instance.{Subject, Text, a_name, a_value}
-use Rattle.schema_reports.specs.Meaning.{subject_text}
+use Rattle.schema_definitions.specs.Instance.{Subject, Text, a_name, a_value}
+use Rattle.schema_definitions.specs.Meaning.{subject_text}
 use Rattle.bench_keywords.specs.declared.counts.CountKind.{CountKind}
 use Rattle.bench_keywords.specs.declared.counts.CountKind.TheVariants.{MaxLength, MinLength, MinProperties}
 

@@ -6,13 +6,13 @@ use Rattle.std.proofs.lemmas.List.Elements.{All-append, All-nil, All-cons, All-c
 use Rattle.std.proofs.lemmas.Slice.Eq.{bytes_eq-Decides}
 use Rattle.serde_json.specs.Data.{Members, member, no_members}
 use Rattle.serde_json.specs.Find.{as_object}
-use Rattle.schema_reports.specs.Instance.{Subject, Text, a_name, a_value, member_of}
-use Rattle.schema_reports.specs.Keywords.{Answer, Answers, Marked, Mode, Question, Turn, ask, done, ecma, for_all, for_first, for_units, for_verdict, mark, match_text, unmark}
-use Rattle.schema_reports.specs.Laws.{AsksRightly, IsPresent, IsRight, answer_in, first_fault, steps_below}
-use Rattle.schema_reports.specs.Matching.{Matching}
-use Rattle.schema_reports.specs.Reports.{Unit_}
-use Rattle.schema_reports.specs.Turns.{FunctionLaws, Standing, TurnLaws, next, reply_to, step_at}
-use Rattle.schema_node.specs.KeywordViews.{option_list}
+use Rattle.schema_definitions.specs.Instance.{Subject, Text, a_name, a_value, member_of}
+use Rattle.schema_definitions.specs.Keywords.{Answer, Answers, Marked, Mode, Question, Turn, ask, done, ecma, for_all, for_first, for_units, for_verdict, mark, match_text, unmark}
+use Rattle.schema_definitions.specs.Laws.{AsksRightly, IsPresent, IsRight, answer_in, first_fault, steps_below}
+use Rattle.schema_definitions.specs.Matching.{Matching}
+use Rattle.schema_definitions.specs.Reports.{Unit_}
+use Rattle.schema_definitions.specs.Turns.{FunctionLaws, Standing, TurnLaws, next, reply_to, step_at}
+use Rattle.schema_parts.specs.KeywordViews.{option_list}
 use Rattle.keyword_ways.specs.declared.run.Progress.{Progress}
 use Rattle.keyword_ways.specs.Items.{child_at_item, child_here, first_at_item, item_count}
 use Rattle.keyword_ways.specs.Members.{at_name, names_in, names_of_any, only_if, subject_names}

@@ -1,7 +1,7 @@
 -- The types that a value may have. (Core 2020-12, 4.2.1; Validation 2020-12, 6.1.1)
 use Rattle.std.specs.Prelude.{Bool, true, false, ◌||◌, codes, is_some, option_and_then}
 use Rattle.serde_json.specs.Find.{as_null, as_bool, as_number, as_str, as_array, as_object, as_i64, as_u64}
-use Rattle.schema_reports.specs.Instance.{Text, Subject, a_value, a_name}
+use Rattle.schema_definitions.specs.Instance.{Text, Subject, a_value, a_name}
 use Rattle.bench_keywords.specs.declared.type_names.TypeName.{TypeName}
 use Rattle.bench_keywords.specs.declared.type_names.TypeName.TheVariants as type
 

@@ -1,8 +1,8 @@
 -- In each mode that wants no units, a run asks no child for its units.
 use Rattle.std.proofs.Common.{Bool, suc, sym, zero, ℕ, ◌∙◌}
-use Rattle.schema_reports.specs.Instance.{Subject}
-use Rattle.schema_reports.specs.Keywords.{Answer, Reply, no_reply}
-use Rattle.schema_node.specs.UnitQuestions.{AlwaysAsksForLess, AsksNoUnits}
+use Rattle.schema_definitions.specs.Instance.{Subject}
+use Rattle.schema_definitions.specs.Keywords.{Answer, Reply, no_reply}
+use Rattle.schema_parts.specs.UnitQuestions.{AlwaysAsksForLess, AsksNoUnits}
 use Rattle.keyword_ways.specs.WayUnits.{WantsNone, mode-kept, step_for_less}
 use Rattle.bench_keywords.specs.BenchShape.{BenchShape}
 use Rattle.bench_keywords.specs.declared.names.NamesRun.{NamesRun}

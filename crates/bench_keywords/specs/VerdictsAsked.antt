@@ -1,8 +1,8 @@
 -- A run for the verdict asks for verdicts.
 use Rattle.std.proofs.Common.{Bool, refl, suc, zero, ℕ}
-use Rattle.schema_reports.specs.Instance.{Subject}
-use Rattle.schema_reports.specs.Keywords.{Answer, Reply, for_verdict, no_reply}
-use Rattle.schema_reports.specs.Remembering.{AlwaysAsksVerdict, EachAsksVerdicts}
+use Rattle.schema_definitions.specs.Instance.{Subject}
+use Rattle.schema_definitions.specs.Keywords.{Answer, Reply, for_verdict, no_reply}
+use Rattle.schema_definitions.specs.Remembering.{AlwaysAsksVerdict, EachAsksVerdicts}
 use Rattle.keyword_ways.specs.WayVerdicts.{WantsVerdict, step_for_verdict}
 use Rattle.bench_keywords.specs.BenchShape.{BenchShape}
 use Rattle.bench_keywords.specs.declared.names.NamesRun.{NamesRun}

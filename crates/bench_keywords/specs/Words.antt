@@ -3,12 +3,12 @@ use Rattle.std.specs.List.{list_any}
 use Rattle.std.specs.Prelude.{Bool, List, None, Option, Some, [], codes, false, filter, is_some, map, min, not, option_map, suc, true, zero, ℕ, ◌++◌, ◌-◌, ◌&&◌, ◌∷◌}
 use Rattle.serde_json.specs.Data.{Members}
 use Rattle.serde_json.specs.Find.{as_object}
-use Rattle.schema_reports.specs.Instance.{Subject, Text, a_name, a_value, member_of}
+use Rattle.schema_definitions.specs.Instance.{Subject, Text, a_name, a_value, member_of}
 use Rattle.schema_reports.specs.ReportViews.{spoken}
-use Rattle.schema_reports.specs.Keywords.{Answer, Keywords, Question, Reply}
-use Rattle.schema_reports.specs.Turns.{Standing}
-use Rattle.schema_node.specs.KeywordViews.{fresh}
-use Rattle.schema_reports.specs.Meaning.{subject_text}
+use Rattle.schema_definitions.specs.Keywords.{Answer, Keywords, Question, Reply}
+use Rattle.schema_definitions.specs.Turns.{Standing}
+use Rattle.schema_parts.specs.KeywordViews.{fresh}
+use Rattle.schema_definitions.specs.Meaning.{subject_text}
 use Rattle.bench_keywords.specs.declared.names.NamesRun.{NamesRun}
 use Rattle.bench_keywords.specs.declared.type_names.TypeName.{TypeName}
 use Rattle.keyword_ways.specs.declared.run.Progress.{Progress}

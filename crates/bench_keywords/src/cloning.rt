@@ -3,7 +3,7 @@ ghost use Rattle.std.specs.Prelude.{◌≡◌};
 ghost use Rattle.bench_keywords.specs.Shapes.{shape_of};
 
 use crate::keyword::BenchKeyword;
-use schema_node::context::cloning::CloneKeyword;
+use schema_parts::cloning::CloneKeyword;
 use std::alloc::AllocError;
 
 impl Clone for BenchKeyword {

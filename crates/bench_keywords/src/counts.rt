@@ -7,14 +7,14 @@ ghost use Rattle.serde_json.specs.View.{members_view};
 ghost use Rattle.schema_reports.specs.InstanceViews.{subject_of};
 ghost use Rattle.schema_reports.specs.ReportViews.{spoken};
 ghost use Rattle.schema_reports.specs.InstanceTexts.{subject_has_float};
-ghost use Rattle.schema_node.specs.FaultViews.{faults_in, PassesBorrowed};
-ghost use Rattle.schema_node.specs.KeywordViews.{answer_of, Tells};
+ghost use Rattle.schema_parts.specs.FaultViews.{faults_in, PassesBorrowed};
+ghost use Rattle.schema_parts.specs.KeywordViews.{answer_of, Tells};
 ghost use Rattle.bench_keywords.specs.Counts.{allows, count_fits, count_name, count_of, count_text, count_words, many_counted};
 ghost use Rattle.bench_keywords.specs.Counts.{member_count, one_counted, subject_members, subject_string};
 ghost use Rattle.keyword_ways.specs.Ways.{noted, unless};
 
 use keyword_ways::answers::{note, refuse};
-use schema_node::context::keyword::{Answer, Mode};
+use schema_parts::keyword::{Answer, Mode};
 use schema_reports::instance::Instance;
 use schema_reports::location::OutOfMemory;
 use serde_json::{Map, Value};

@@ -3,15 +3,15 @@ ghost use Rattle.std.specs.Prelude.{All, ◌≡◌, ◌+◌, ◌-◌, ◌^◌, �
 ghost use Rattle.serde_json.specs.Data.{Data};
 ghost use Rattle.schema_reports.specs.ReportViews.{BorrowsItsPlace};
 ghost use Rattle.schema_reports.specs.InstanceViews.{subject_of};
-ghost use Rattle.schema_node.specs.FaultViews.{errors_in, faults_in, PassesBorrowed};
-ghost use Rattle.schema_node.specs.KeywordViews.{answer_of, reply_of, turn_of};
+ghost use Rattle.schema_parts.specs.FaultViews.{errors_in, faults_in, PassesBorrowed};
+ghost use Rattle.schema_parts.specs.KeywordViews.{answer_of, reply_of, turn_of};
 ghost use Rattle.keyword_ways.specs.Items.{child_at_item, child_here, each_from, first_at_item, item_count};
 ghost use Rattle.keyword_ways.specs.Ways.{asked, passes_on, way_step, way_turn};
 
 use keyword_ways::items::item_count;
 use keyword_ways::passing::{ask_here, next_number};
 use keyword_ways::run::Progress;
-use schema_node::context::keyword::{Answer, Below, Mode, Reply, Step};
+use schema_parts::keyword::{Answer, Below, Mode, Reply, Step};
 use schema_reports::instance::Instance;
 use schema_reports::location::OutOfMemory;
 use std::alloc::Global;

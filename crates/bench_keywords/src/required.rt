@@ -4,15 +4,15 @@ ghost use Rattle.std.specs.List.{list_any};
 ghost use Rattle.serde_json.specs.Data.{Data};
 ghost use Rattle.schema_reports.specs.InstanceViews.{subject_of};
 ghost use Rattle.schema_reports.specs.ReportViews.{spoken};
-ghost use Rattle.schema_node.specs.FaultViews.{faults_in, PassesBorrowed};
-ghost use Rattle.schema_node.specs.KeywordViews.{answer_of};
+ghost use Rattle.schema_parts.specs.FaultViews.{faults_in, PassesBorrowed};
+ghost use Rattle.schema_parts.specs.KeywordViews.{answer_of};
 ghost use Rattle.keyword_ways.specs.Members.{has_member, is_object};
 ghost use Rattle.keyword_ways.specs.Ways.{noted};
 ghost use Rattle.bench_keywords.specs.Words.{missing, required_text};
 
 use keyword_ways::answers::{note, refuse};
 use keyword_ways::members::{has_member, is_object};
-use schema_node::context::keyword::{Answer, Mode};
+use schema_parts::keyword::{Answer, Mode};
 use schema_reports::instance::Instance;
 use schema_reports::location::OutOfMemory;
 use std::alloc::Global;

@@ -5,15 +5,15 @@ ghost use Rattle.serde_json.specs.Data.{Data};
 ghost use Rattle.schema_reports.specs.InstanceViews.{subject_of};
 ghost use Rattle.schema_reports.specs.ReportViews.{spoken};
 ghost use Rattle.schema_reports.specs.InstanceTexts.{subject_has_float};
-ghost use Rattle.schema_node.specs.FaultViews.{faults_in, PassesBorrowed};
-ghost use Rattle.schema_node.specs.KeywordViews.{answer_of, Tells};
+ghost use Rattle.schema_parts.specs.FaultViews.{faults_in, PassesBorrowed};
+ghost use Rattle.schema_parts.specs.KeywordViews.{answer_of, Tells};
 ghost use Rattle.bench_keywords.specs.TypeNames.{fits, type_name};
 ghost use Rattle.keyword_ways.specs.Ways.{noted, unless};
 ghost use Rattle.bench_keywords.specs.Words.{more_names, names_text, type_text, types_text};
 
 use crate::type_names::TypeName;
 use keyword_ways::answers::{note, refuse};
-use schema_node::context::keyword::{Answer, Mode};
+use schema_parts::keyword::{Answer, Mode};
 use schema_reports::instance::Instance;
 use schema_reports::location::OutOfMemory;
 use std::alloc::Global;

@@ -3,9 +3,9 @@
 use Rattle.std.specs.Prelude.{Bool, None, Option, Some, [], bytes_eq, codes, false, if◌then◌else◌, is_some, not, true, ℕ, ◌&&◌, ◌++◌, ◌+◌, ◌||◌, ◌∷◌}
 use Rattle.serde_json.specs.Data.{Data, Items, Members, array, boolean, item, member, no_items, no_members, null, number, object, string}
 use Rattle.serde_json.specs.Find.{as_array, as_number}
-use Rattle.schema_reports.specs.Instance.{Place, Text, to_item, to_member}
-use Rattle.schema_reports.specs.Drafts.{Draft, draft_2020_12, draft_unknown}
-use Rattle.schema_reports.specs.Reports.{Error}
+use Rattle.schema_definitions.specs.Instance.{Place, Text, to_item, to_member}
+use Rattle.schema_definitions.specs.Drafts.{Draft, draft_2020_12, draft_unknown}
+use Rattle.schema_definitions.specs.Reports.{Error}
 
 -- the error of a value of another type, at its place
 abbrev pub mistyped : Place → Error

@@ -5,10 +5,10 @@ use Rattle.std.proofs.lemmas.List.Elements.{All-cons, All-head, All-nil, All-tai
 use Rattle.serde_json.specs.Data.{Data, Items, Members, array, boolean, item, no_items, null, number, object, string}
 use Rattle.serde_json.specs.Find.{get_member}
 use Rattle.serde_json.specs.Written.{has_float}
-use Rattle.schema_reports.specs.Instance.{Place, Text, to_member}
-use Rattle.schema_reports.specs.Drafts.{Draft, Vocabularies}
-use Rattle.schema_reports.specs.Making.{Made, Script, a_keyword, nothing, then_end}
-use Rattle.schema_node.specs.MakerViews.{IsMade, IsStrictlyBelow, MakesRightly}
+use Rattle.schema_definitions.specs.Instance.{Place, Text, to_member}
+use Rattle.schema_definitions.specs.Drafts.{Draft, Vocabularies}
+use Rattle.schema_definitions.specs.Making.{Made, Script, a_keyword, nothing, then_end}
+use Rattle.schema_parts.specs.MakerViews.{IsMade, IsStrictlyBelow, MakesRightly}
 use Rattle.bench_parts.specs.declared.by_value.Children.{Children}
 use Rattle.bench_parts.specs.declared.by_value.Children.TheVariants as children
 use Rattle.bench_parts.specs.declared.by_value.MemberKeyword.{MemberKeyword}

@@ -8,10 +8,10 @@ use Rattle.std.specs.declared.cmp.Ordering.TheVariants.{Equal, Greater, Less}
 use Rattle.serde_json.specs.Written.{has_float, members_have_float}
 use Rattle.serde_json.specs.Data.{Data, Items, Members, array, boolean, item, member, no_items, no_members, null, number, object, string}
 use Rattle.serde_json.specs.Find.{get_member}
-use Rattle.schema_reports.specs.Instance.{Text}
-use Rattle.schema_reports.specs.Drafts.{Draft, Vocabularies}
-use Rattle.schema_reports.specs.Making.{Script, a_keyword}
-use Rattle.schema_node.specs.MakerViews.{MakesRightly}
+use Rattle.schema_definitions.specs.Instance.{Text}
+use Rattle.schema_definitions.specs.Drafts.{Draft, Vocabularies}
+use Rattle.schema_definitions.specs.Making.{Script, a_keyword}
+use Rattle.schema_parts.specs.MakerViews.{MakesRightly}
 use Rattle.bench_keywords.specs.BenchShape.{BenchShape, has_all_of, has_any_of, has_count, has_one_of, has_prefix_items, has_properties, has_type, has_types, is_whole, requires}
 use Rattle.keyword_ways.specs.Items.{items_count}
 use Rattle.bench_keywords.specs.declared.counts.CountKind.{CountKind}

@@ -1,8 +1,8 @@
 -- The code's makers, as the definitions have them.
 use Rattle.std.specs.Prelude.{option_map, [], ℕ}
-use Rattle.schema_reports.specs.Making.{Made, a_keyword, nothing, refused}
+use Rattle.schema_definitions.specs.Making.{Made, a_keyword, nothing, refused}
 use Rattle.schema_reports.specs.ReportViews.{owned_error_of}
-use Rattle.schema_node.specs.MakerViews.{Waiting}
+use Rattle.schema_parts.specs.MakerViews.{Waiting}
 use Rattle.bench_keywords.specs.BenchShape.{BenchShape, has_all_of, has_any_of, has_one_of, has_prefix_items}
 use Rattle.bench_parts.specs.Makers.{waiting_in}
 use Rattle.bench_parts.specs.declared.table.maker.ListKeyword.{ListKeyword}

@@ -3,12 +3,12 @@ use Rattle.std.specs.Prelude.{Bool, List, None, Option, Some, [], bytes_eq, code
 use Rattle.serde_json.specs.Data.{Data, Items, Members, array, item, member, no_items, no_members, object, string}
 use Rattle.serde_json.specs.Written.{compact_text, has_float}
 use Rattle.serde_json.specs.Find.{as_array, as_number, as_u64, get_member}
-use Rattle.schema_reports.specs.Instance.{Place, Text, to_item, to_member}
-use Rattle.schema_reports.specs.Pointer.{pointer_to}
-use Rattle.schema_reports.specs.Reports.{OwnedError}
-use Rattle.schema_reports.specs.Drafts.{Draft, Vocabularies, draft_2020_12, draft_unknown}
-use Rattle.schema_reports.specs.Making.{Made, Script, a_keyword, nothing, refused, then_compile, then_end}
-use Rattle.schema_node.specs.MakerViews.{Waiting, begun, ended, waits}
+use Rattle.schema_definitions.specs.Instance.{Place, Text, to_item, to_member}
+use Rattle.schema_definitions.specs.Pointer.{pointer_to}
+use Rattle.schema_definitions.specs.Reports.{OwnedError}
+use Rattle.schema_definitions.specs.Drafts.{Draft, Vocabularies, draft_2020_12, draft_unknown}
+use Rattle.schema_definitions.specs.Making.{Made, Script, a_keyword, nothing, refused, then_compile, then_end}
+use Rattle.schema_parts.specs.MakerViews.{Waiting, begun, ended, waits}
 use Rattle.bench_keywords.specs.declared.type_names.TypeName.{TypeName}
 use Rattle.bench_keywords.specs.declared.type_names.TypeName.TheVariants as type
 use Rattle.bench_keywords.specs.BenchShape.{BenchShape, has_all_of, has_any_of, has_count, has_if, has_items, has_not, has_one_of, has_pattern, has_prefix_items, has_properties, has_property_names, has_type, has_types, requires}

@@ -3,10 +3,10 @@ ghost use Rattle.std.specs.Prelude.{◌≡◌, ◌≤◌, ◌++◌, bytes_eq, dr
 ghost use Rattle.std.specs.List.{list_any};
 ghost use Rattle.bench_parts.specs.BenchMatching.{begins_with, contains_text};
 
-use schema_node::context::matcher::Matcher;
+use schema_matches::site::{Match, Reason};
+use schema_parts::matcher::Matcher;
 use schema_reports::location::OutOfMemory;
 use schema_reports::text::Text;
-use schema_reports::unfinished_matches::{Match, Reason};
 use std::alloc::{AllocError, Global};
 use std::marker::Model;
 
@@ -18,7 +18,7 @@ pub struct BenchMatcher {
 
 impl Model for BenchMatcher {
     ghost use Rattle.std.specs.Prelude.{List, map, string_bytes};
-    ghost use Rattle.schema_reports.specs.Instance.{Text};
+    ghost use Rattle.schema_definitions.specs.Instance.{Text};
 
     ghost Value = { List Text };
 

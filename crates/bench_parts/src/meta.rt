@@ -2,15 +2,15 @@
 ghost use Rattle.std.specs.Prelude.{◌≡◌, ◌++◌, ◌∷◌, [], IfOk, IfSome, Some, false, option_map};
 ghost use Rattle.serde_json.specs.Data.{Data, array, object};
 ghost use Rattle.serde_json.specs.View.{items_view, members_view, view};
-ghost use Rattle.schema_reports.specs.Instance.{a_value, subject_at};
-ghost use Rattle.schema_reports.specs.KeywordViews.{draft_of};
+ghost use Rattle.schema_definitions.specs.Instance.{a_value, subject_at};
+ghost use Rattle.schema_keywords.specs.KeywordViews.{draft_of};
 ghost use Rattle.schema_reports.specs.ReportViews.{BorrowsItsPlace, error_of};
 ghost use Rattle.bench_parts.specs.BenchMeta.{fault_in, fault_in_items, fault_in_members, is_2020_12, is_schema, member_fault};
 ghost use Rattle.bench_parts.specs.BenchMeta.{mistyped};
 
-use schema_node::context::meta::MetaValidators;
+use schema_keywords::keywords::Draft;
+use schema_parts::meta::MetaValidators;
 use schema_reports::instance::{Instance, InstanceStep, Place};
-use schema_reports::keywords::Draft;
 use schema_reports::location::{Location, OutOfMemory};
 use schema_reports::reports::ValidationError;
 use serde_json::{Map, Value};

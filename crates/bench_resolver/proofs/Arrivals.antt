@@ -1,10 +1,10 @@
 -- Where a path leads, step by step.
 use Rattle.std.proofs.Common.{◌≡◌, ℕ, true, false, List, [], ◌∷◌, ◌++◌, Some, None, Result, Ok, Err, refl}
 use Rattle.serde_json.specs.Data.{Data}
-use Rattle.schema_reports.specs.Instance.{Place, Step, Text, a_value, after_step}
-use Rattle.schema_reports.specs.Drafts.{Draft}
-use Rattle.schema_reports.specs.Resolving.{Found}
-use Rattle.bench_resolver.specs.BenchResolving.{data_of, detected}
+use Rattle.schema_definitions.specs.Instance.{Place, Step, Text, a_value, after_step}
+use Rattle.schema_definitions.specs.Drafts.{Draft}
+use Rattle.schema_definitions.specs.Resolving.{Found}
+use Rattle.bench_subschemas.specs.BenchResolving.{data_of, detected}
 use Rattle.bench_resolver.specs.BenchResources.{Resource}
 use Rattle.bench_resolver.specs.BenchStates.{Point, entered_below}
 use Rattle.bench_resolver.specs.BenchLookups.{arrived, is_subschema, nothing_there}

@@ -2,12 +2,12 @@
 use Rattle.std.proofs.Common.{◌≡◌, ◌<◌, ◌∙◌, ◌∷◌, [], List, None, Option, Some, ap, drop, get_or, length, map, option_and_then, option_map, refl, sym, arith}
 use Rattle.std.specs.Prelude.{slice_get}
 use Rattle.serde_json.specs.Data.{Data}
-use Rattle.schema_reports.specs.Drafts.{SchemaPlace, at_path}
-use Rattle.schema_reports.specs.Instance.{Place, Subject, a_name, a_value, after_step, subject_at, subject_from}
-use Rattle.schema_node.specs.SchemaViews.{schema_step_of}
-use Rattle.schema_node.specs.declared.context.schema_place.SchemaStep.{SchemaStep}
-use Rattle.schema_node.proofs.Replies.{from_append}
-use Rattle.bench_resolver.specs.BenchResolving.{data_of}
+use Rattle.schema_definitions.specs.Drafts.{SchemaPlace, at_path}
+use Rattle.schema_definitions.specs.Instance.{Place, Subject, a_name, a_value, after_step, subject_at, subject_from}
+use Rattle.schema_parts.specs.SchemaViews.{schema_step_of}
+use Rattle.schema_parts.specs.declared.schema_place.SchemaStep.{SchemaStep}
+use Rattle.schema_parts.proofs.Replies.{from_append}
+use Rattle.bench_subschemas.specs.BenchResolving.{data_of}
 use Rattle.bench_resolver.specs.BenchDocuments.{Document, value_in, value_of}
 
 data-is : (o : Option Subject) (d : Data) → data_of o ≡ Some d → o ≡ Some (a_value d)

@@ -1,4 +1,3 @@
-pub mod PlaceLists
 pub mod Unescaping
 pub mod PathsNamed
 pub mod OnWay

@@ -2,7 +2,7 @@
 use Rattle.std.proofs.Common.{◌≡◌, ℕ, zero, suc, Bool, true, false, cond, List, [], ◌∷◌, ◌++◌, length, bytes_eq, refl, ap, sym, ◌∙◌, subst, true≢false}
 use Rattle.std.specs.Prelude.{None, Option, Some, is_some, option_map}
 use Rattle.std.proofs.lemmas.Slice.Eq.{bytes_eq-Decides}
-use Rattle.schema_reports.specs.Instance.{Text}
+use Rattle.schema_definitions.specs.Instance.{Text}
 use Rattle.bench_resolver.specs.BenchKeys.{IsNumbered, has_text, number_in}
 
 abbrev or_last : Option ℕ → Option ℕ → Option ℕ

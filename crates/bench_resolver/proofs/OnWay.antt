@@ -14,10 +14,10 @@ use Rattle.serde_json.specs.Data.{Data, Items, Members, array, boolean, item, me
 use Rattle.serde_json.specs.Find.{as_object, at, get, get_item, get_member}
 use Rattle.serde_json.specs.View.{members_view, view}
 use Rattle.serde_json.proofs.Views.{Entry}
-use Rattle.schema_reports.specs.Instance.{Place, Step, Text, same_place, same_step, to_item, to_member}
+use Rattle.schema_definitions.specs.Instance.{Place, Step, Text, same_place, same_step, to_item, to_member}
 use Rattle.schema_reports.proofs.Found.{same-from-equal}
 use Rattle.schema_reports.proofs.Places.{differ_in_length}
-use Rattle.bench_resolver.specs.BenchResolving.{below_list, below_object, below_value, is_schema, items_below, members_below, names_of_lists, names_of_objects, names_of_values, place_if}
+use Rattle.bench_subschemas.specs.BenchResolving.{below_list, below_object, below_value, is_schema, items_below, members_below, names_of_lists, names_of_objects, names_of_values, place_if}
 use Rattle.bench_resolver.specs.BenchLookups.{is_subschema}
 use Rattle.bench_resolver.specs.OnWay.{item_among, leads_to_item, leads_to_member, member_among, pairs_below, schema_found, singles_below}
 

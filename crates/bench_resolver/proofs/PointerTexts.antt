@@ -3,8 +3,8 @@ use Rattle.std.proofs.Common.{◌≡◌, ◌≢◌, ◌<◌, ◌+◌, ◌==◌, 
 use Rattle.std.specs.Prelude.{if◌then◌else◌}
 use Rattle.std.specs.List.{position_or_len}
 use Rattle.serde_json.specs.Data.{Data}
-use Rattle.schema_reports.specs.Instance.{Text}
-use Rattle.bench_resolver.specs.BenchResolving.{without_fragment}
+use Rattle.schema_definitions.specs.Instance.{Text}
+use Rattle.bench_subschemas.specs.BenchResolving.{without_fragment}
 use Rattle.bench_resolver.specs.BenchPointers.{path_of_pointer}
 
 pub no_path : (t : Text) (d : Data) → 0 < length t → ((rest : Text) → t ≢ 47 ∷ rest) → path_of_pointer t d ≡ None

@@ -13,9 +13,9 @@ use Rattle.std.proofs.lemmas.List.Splits.{slice_split_at, slice_split_none}
 use Rattle.std.proofs.lemmas.Str.Parse.{tells_all_ascii_digits}
 use Rattle.serde_json.specs.Data.{Data, array, object}
 use Rattle.serde_json.specs.Find.{unescape}
-use Rattle.schema_reports.specs.Instance.{Place, Step, Subject, Text, a_name, a_value, after_step, member_of, subject_at, subject_from, to_item, to_member, to_name}
-use Rattle.schema_reports.specs.Pointer.{escaped, pointer_to, step_text}
-use Rattle.bench_resolver.specs.BenchResolving.{data_of}
+use Rattle.schema_definitions.specs.Instance.{Place, Step, Subject, Text, a_name, a_value, after_step, member_of, subject_at, subject_from, to_item, to_member, to_name}
+use Rattle.schema_definitions.specs.Pointer.{escaped, pointer_to, step_text}
+use Rattle.bench_subschemas.specs.BenchResolving.{data_of}
 use Rattle.bench_resolver.specs.BenchPointers.{index_named, is_index, path_named, path_of_pointer, step_named}
 use Rattle.bench_resolver.specs.BenchPointersLead.{FitsWord, HasIndexes}
 use Rattle.bench_resolver.proofs.Indexes.{digits}

@@ -3,9 +3,9 @@ use Rattle.std.proofs.Common.{◌≡◌, ◌<◌, ◌≤◌, ℕ, zero, suc, ◌
 use Rattle.std.specs.Prelude.{IsSome, Some, flat_map, is_some, slice_get}
 use Rattle.std.proofs.lemmas.List.{flat_map_more, get_or-map, length-map, length-take-le, map-append, map_more, take-map, take_all}
 use Rattle.std.proofs.lemmas.Slice.Eq.{bytes_eq-Decides}
-use Rattle.schema_reports.specs.Instance.{Text}
-use Rattle.schema_reports.specs.Drafts.{Draft}
-use Rattle.bench_resolver.specs.BenchResolving.{without_fragment}
+use Rattle.schema_definitions.specs.Instance.{Text}
+use Rattle.schema_definitions.specs.Drafts.{Draft}
+use Rattle.bench_subschemas.specs.BenchResolving.{without_fragment}
 use Rattle.bench_resolver.specs.BenchKeys.{number_in}
 use Rattle.bench_resolver.specs.BenchAnswers.{entrance, entrance_at}
 use Rattle.bench_resolver.specs.BenchDocuments.{Document}

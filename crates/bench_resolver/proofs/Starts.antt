@@ -11,14 +11,14 @@ use Rattle.std.proofs.lemmas.Option.{slice_get-map}
 use Rattle.std.proofs.lemmas.Slice.Eq.{bytes_eq-Decides}
 use Rattle.percent_encoding.specs.Percent.{percent_decode}
 use Rattle.serde_json.specs.Data.{Data}
-use Rattle.schema_reports.specs.Instance.{Place, Step, Text, a_value, after_step, same_place}
+use Rattle.schema_definitions.specs.Instance.{Place, Step, Text, a_value, after_step, same_place}
 use Rattle.schema_reports.specs.SamePlaces.{places_equiv}
-use Rattle.schema_reports.specs.Drafts.{Draft, SchemaPlace, same_schema_place}
-use Rattle.schema_reports.specs.Resolving.{Found, Resolver}
-use Rattle.schema_reports.specs.Parts.{Parts}
-use Rattle.schema_reports.specs.Plan.{lies_in, segment_count, segments_length}
-use Rattle.schema_reports.proofs.SameRun.{place_is}
-use Rattle.bench_resolver.specs.BenchResolving.{data_of, detected, identifier, without_fragment}
+use Rattle.schema_definitions.specs.Drafts.{Draft, SchemaPlace, same_schema_place}
+use Rattle.schema_definitions.specs.Resolving.{Found, Resolver}
+use Rattle.schema_definitions.specs.Parts.{Parts}
+use Rattle.schema_definitions.specs.Plan.{lies_in, segment_count, segments_length}
+use Rattle.schema_meaning.proofs.SameRun.{place_is}
+use Rattle.bench_subschemas.specs.BenchResolving.{data_of, detected, identifier, without_fragment}
 use Rattle.bench_resolver.specs.BenchDocuments.{BenchDocument, documents_of, value_in}
 use Rattle.bench_resolver.specs.BenchKeys.{has_text, number_in}
 use Rattle.bench_resolver.specs.BenchPointers.{path_named, path_of_pointer, step_named}

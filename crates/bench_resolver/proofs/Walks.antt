@@ -3,13 +3,13 @@ use Rattle.std.proofs.Common.{◌≡◌, ◌∙◌, ◌<◌, ◌≤◌, ◌+◌,
 use Rattle.std.specs.Prelude.{None, Some, flat_map}
 use Rattle.std.proofs.lemmas.List.{drop_all, drop_more}
 use Rattle.serde_json.specs.Data.{Data, depth}
-use Rattle.schema_node.specs.declared.context.schema_place.SchemaPlace.{SchemaPlace}
-use Rattle.schema_node.specs.ResolverViews.{place_of}
-use Rattle.schema_reports.specs.Drafts as spec
-use Rattle.schema_reports.specs.Drafts.{Draft, at_path}
-use Rattle.schema_reports.specs.Instance.{Place, a_value, subject_at}
-use Rattle.schema_reports.proofs.Falls.{path_falls}
-use Rattle.bench_resolver.specs.BenchResolving.{data_of, detected, root_place, subschemas}
+use Rattle.schema_parts.specs.declared.schema_place.SchemaPlace.{SchemaPlace}
+use Rattle.schema_parts.specs.ResolverViews.{place_of}
+use Rattle.schema_definitions.specs.Drafts as spec
+use Rattle.schema_definitions.specs.Drafts.{Draft, at_path}
+use Rattle.schema_definitions.specs.Instance.{Place, a_value, subject_at}
+use Rattle.schema_meaning.proofs.Falls.{path_falls}
+use Rattle.bench_subschemas.specs.BenchResolving.{data_of, detected, root_place, subschemas}
 use Rattle.bench_resolver.specs.BenchResources.{Visited, goes_into, visited_at, visited_below, visited_if}
 use Rattle.bench_resolver.specs.OnWay.{pairs_below, singles_below}
 use Rattle.bench_resolver.proofs.OnWay.{Long, long_pairs, long_singles}

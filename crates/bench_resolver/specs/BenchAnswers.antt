@@ -1,12 +1,12 @@
 -- What the resolver of some documents answers. (Core 2020-12, 8.2 and 9.1)
 use Rattle.std.specs.List.{list_any}
 use Rattle.std.specs.Prelude.{List, None, Option, Some, [], bytes_eq, map, slice_get, ℕ, ◌≡◌, ◌∷◌, string_bytes}
-use Rattle.schema_reports.specs.Instance.{Text}
-use Rattle.schema_reports.specs.Drafts.{Draft, Vocabularies, at_path}
-use Rattle.schema_reports.specs.Resolving.{Entrance, Resolver}
-use Rattle.schema_node.specs.declared.context.resolver.LookupError.{LookupError}
-use Rattle.schema_node.specs.declared.context.resolver.LookupError.TheVariants.{OutOfMemory, Refused}
-use Rattle.bench_resolver.specs.BenchResolving.{detected, identifier, known_keywords, root_draft, subschemas_of, without_fragment}
+use Rattle.schema_definitions.specs.Instance.{Text}
+use Rattle.schema_definitions.specs.Drafts.{Draft, Vocabularies, at_path}
+use Rattle.schema_definitions.specs.Resolving.{Entrance, Resolver}
+use Rattle.schema_parts.specs.declared.resolver.LookupError.{LookupError}
+use Rattle.schema_parts.specs.declared.resolver.LookupError.TheVariants.{OutOfMemory, Refused}
+use Rattle.bench_subschemas.specs.BenchResolving.{detected, identifier, known_keywords, root_draft, subschemas_of, without_fragment}
 use Rattle.bench_resolver.specs.BenchDocuments.{BenchDocument, Document, documents_of, value_in, vocabularies_in}
 use Rattle.bench_resolver.specs.BenchUris.{resolve_uri}
 use Rattle.bench_resolver.specs.BenchResources.{Resource, number_of, place_of_resource, resources_of}

@@ -4,11 +4,11 @@ use Rattle.std.specs.Prelude.{List, None, Option, Some, map, slice_get, ◌≡�
 use Rattle.serde_json.specs.Data.{Data}
 use Rattle.serde_json.specs.View.{view}
 use Rattle.serde_json.specs.declared.value.Value.{Value}
-use Rattle.schema_reports.specs.Instance.{Text, subject_at}
-use Rattle.schema_reports.specs.Drafts.{Draft, SchemaPlace, Vocabularies, Vocabulary, draft_2019_09, draft_2020_12, draft_4, draft_6, draft_7, draft_unknown, has_vocabulary}
-use Rattle.schema_reports.specs.VocabularySets.{custom_of}
+use Rattle.schema_definitions.specs.Instance.{Text, subject_at}
+use Rattle.schema_definitions.specs.Drafts.{Draft, SchemaPlace, Vocabularies, Vocabulary, draft_2019_09, draft_2020_12, draft_4, draft_6, draft_7, draft_unknown, has_vocabulary}
+use Rattle.schema_definitions.specs.VocabularySets.{custom_of}
 use Rattle.bench_resolver.specs.declared.resolver.vocabularies.DraftVocabularies.{DraftVocabularies}
-use Rattle.bench_resolver.specs.BenchResolving.{data_of, draft_vocabularies}
+use Rattle.bench_subschemas.specs.BenchResolving.{data_of, draft_vocabularies}
 
 -- an unknown draft counts as 2020-12
 abbrev pub vocabularies_in : Draft → DraftVocabularies → Vocabularies

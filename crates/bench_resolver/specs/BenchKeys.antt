@@ -1,7 +1,7 @@
 -- A list whose elements are found by a text: for each text the number of the first element that has it is known. An element may
 -- have none.
 use Rattle.std.specs.Prelude.{Bool, List, None, Option, Some, [], bytes_eq, false, if◌then◌else◌, option_map, suc, zero, ℕ, ◌∷◌, ◌≡◌}
-use Rattle.schema_reports.specs.Instance.{Text}
+use Rattle.schema_definitions.specs.Instance.{Text}
 
 abbrev pub has_text : Text → Option Text → Bool
 has_text t None = false

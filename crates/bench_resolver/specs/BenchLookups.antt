@@ -5,10 +5,10 @@ use Rattle.std.specs.Prelude.{Bool, Err, List, None, Ok, Option, Result, Some, [
 use Rattle.std.specs.Str.Lossy.{utf8_lossy}
 use Rattle.percent_encoding.specs.Percent.{percent_decode}
 use Rattle.serde_json.specs.Data.{Data}
-use Rattle.schema_reports.specs.Instance.{Place, Text, a_value, after_step, same_place}
-use Rattle.schema_reports.specs.Drafts.{Draft}
-use Rattle.schema_reports.specs.Resolving.{Found}
-use Rattle.bench_resolver.specs.BenchResolving.{data_of, detected, subschemas, without_fragment}
+use Rattle.schema_definitions.specs.Instance.{Place, Text, a_value, after_step, same_place}
+use Rattle.schema_definitions.specs.Drafts.{Draft}
+use Rattle.schema_definitions.specs.Resolving.{Found}
+use Rattle.bench_subschemas.specs.BenchResolving.{data_of, detected, subschemas, without_fragment}
 use Rattle.bench_resolver.specs.BenchDocuments.{Document, value_in}
 use Rattle.bench_resolver.specs.BenchPointers.{path_of_pointer}
 use Rattle.bench_resolver.specs.BenchUris.{fragment_of, resolve_uri}

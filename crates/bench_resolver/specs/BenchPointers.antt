@@ -6,8 +6,8 @@ use Rattle.std.specs.Str.{all_ascii_digits}
 use Rattle.std.specs.Str.Parse.{digits_value}
 use Rattle.serde_json.specs.Data.{Data, array, boolean, null, number, object, string}
 use Rattle.serde_json.specs.Find.{unescape}
-use Rattle.schema_reports.specs.Instance.{Place, Step, Text, a_value, after_step, to_item, to_member}
-use Rattle.bench_resolver.specs.BenchResolving.{data_of}
+use Rattle.schema_definitions.specs.Instance.{Place, Step, Text, a_value, after_step, to_item, to_member}
+use Rattle.bench_subschemas.specs.BenchResolving.{data_of}
 
 -- digits, with no 0 before another
 abbrev pub is_index : Text → Bool

@@ -1,9 +1,9 @@
 -- A pointer leads back to the place that it shows, in every document that has something there. (sections 3 to 5 of RFC 6901)
 use Rattle.std.specs.Prelude.{◌≡◌, ◌<◌, ◌^◌, [], ◌∷◌, Some}
 use Rattle.serde_json.specs.Data.{Data}
-use Rattle.schema_reports.specs.Instance.{Place, Step, subject_at, to_item, to_member, to_name}
-use Rattle.schema_reports.specs.Pointer.{pointer_to}
-use Rattle.bench_resolver.specs.BenchResolving.{data_of}
+use Rattle.schema_definitions.specs.Instance.{Place, Step, subject_at, to_item, to_member, to_name}
+use Rattle.schema_definitions.specs.Pointer.{pointer_to}
+use Rattle.bench_subschemas.specs.BenchResolving.{data_of}
 use Rattle.bench_resolver.specs.BenchPointers.{path_of_pointer}
 
 -- the indexes on the way fit 64 bits

@@ -1,6 +1,6 @@
 -- The resources that the resolver's code holds, as the definitions have them.
 use Rattle.std.specs.Prelude.{string_bytes}
-use Rattle.schema_reports.specs.KeywordViews.{draft_of}
+use Rattle.schema_keywords.specs.KeywordViews.{draft_of}
 use Rattle.bench_resolver.specs.declared.resolver.resources as code
 use Rattle.bench_resolver.specs.BenchResources.{Resource}
 

@@ -4,9 +4,9 @@
 use Rattle.std.specs.Prelude.{Bool, List, None, Option, Some, [], codes, false, flat_map, if◌then◌else◌, is_some, map, not, option_and_then, suc, true, unwrap_or, zero, ℕ, ◌++◌, ◌+◌, ◌||◌, ◌∷◌}
 use Rattle.serde_json.specs.Data.{Data, depth}
 use Rattle.serde_json.specs.Find.{as_bool, get}
-use Rattle.schema_reports.specs.Instance.{Place, Text, subject_at}
-use Rattle.schema_reports.specs.Drafts.{Draft, SchemaPlace}
-use Rattle.bench_resolver.specs.BenchResolving.{data_of, detected, identifier, subschemas, text_member, without_fragment}
+use Rattle.schema_definitions.specs.Instance.{Place, Text, subject_at}
+use Rattle.schema_definitions.specs.Drafts.{Draft, SchemaPlace}
+use Rattle.bench_subschemas.specs.BenchResolving.{data_of, detected, identifier, subschemas, text_member, without_fragment}
 use Rattle.bench_resolver.specs.BenchDocuments.{Document}
 use Rattle.bench_resolver.specs.BenchKeys.{number_in}
 use Rattle.bench_resolver.specs.BenchUris.{own_uri}

@@ -1,9 +1,9 @@
 -- Worked rows: where references lead in small documents, by computation. (Core 2020-12, 8.2; section 6 of RFC 6901)
 use Rattle.std.specs.Prelude.{Bool, Err, List, Ok, Result, [], codes, false, true, ℕ, ◌≡◌, ◌++◌, ◌∷◌}
 use Rattle.serde_json.specs.Data.{Data, array, boolean, item, member, no_items, no_members, object, string}
-use Rattle.schema_reports.specs.Instance.{Place, Text, to_member}
-use Rattle.schema_reports.specs.Drafts.{Draft, draft_2019_09, draft_2020_12, draft_7}
-use Rattle.schema_reports.specs.Resolving.{Found}
+use Rattle.schema_definitions.specs.Instance.{Place, Text, to_member}
+use Rattle.schema_definitions.specs.Drafts.{Draft, draft_2019_09, draft_2020_12, draft_7}
+use Rattle.schema_definitions.specs.Resolving.{Found}
 use Rattle.bench_resolver.specs.BenchDocuments.{Document}
 use Rattle.bench_resolver.specs.BenchResources.{resources_of}
 use Rattle.bench_resolver.specs.BenchStates.{Point, no_identified, root_of}

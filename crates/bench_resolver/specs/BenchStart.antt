@@ -3,12 +3,12 @@ use Rattle.std.specs.Prelude.{Bool, false, true, None, Ok, Option, Some, [], ifâ
 use Rattle.std.specs.Str.Lossy.{utf8_lossy}
 use Rattle.percent_encoding.specs.Percent.{percent_decode}
 use Rattle.serde_json.specs.Data.{Data}
-use Rattle.schema_reports.specs.Instance.{Place, Text, a_value, after_step}
-use Rattle.schema_reports.specs.Drafts.{Draft}
-use Rattle.schema_reports.specs.Resolving.{Found}
-use Rattle.schema_reports.specs.Parts.{Parts}
-use Rattle.schema_reports.specs.Plan.{segments_length, start_of}
-use Rattle.bench_resolver.specs.BenchResolving.{data_of, detected, identifier, without_fragment}
+use Rattle.schema_definitions.specs.Instance.{Place, Text, a_value, after_step}
+use Rattle.schema_definitions.specs.Drafts.{Draft}
+use Rattle.schema_definitions.specs.Resolving.{Found}
+use Rattle.schema_definitions.specs.Parts.{Parts}
+use Rattle.schema_definitions.specs.Plan.{segments_length, start_of}
+use Rattle.bench_subschemas.specs.BenchResolving.{data_of, detected, identifier, without_fragment}
 use Rattle.bench_resolver.specs.BenchDocuments.{BenchDocument, documents_of, value_in}
 use Rattle.bench_resolver.specs.BenchPointers.{path_of_pointer}
 use Rattle.bench_resolver.specs.BenchUris.{fragment_of}

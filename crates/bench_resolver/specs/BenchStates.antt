@@ -2,9 +2,9 @@
 use Rattle.std.specs.List.{list_any}
 use Rattle.std.specs.Prelude.{Bool, Err, List, None, Ok, Option, Result, Some, [], bytes_eq, codes, if◌then◌else◌, nat_eq, option_and_then, slice_get, ℕ, ◌&&◌, ◌++◌, ◌∷◌}
 use Rattle.serde_json.specs.Data.{Data}
-use Rattle.schema_reports.specs.Instance.{Place, Text}
-use Rattle.schema_reports.specs.Drafts.{Draft, SchemaPlace, same_schema_place}
-use Rattle.bench_resolver.specs.BenchResolving.{identifier, root_place, without_fragment}
+use Rattle.schema_definitions.specs.Instance.{Place, Text}
+use Rattle.schema_definitions.specs.Drafts.{Draft, SchemaPlace, same_schema_place}
+use Rattle.bench_subschemas.specs.BenchResolving.{identifier, root_place, without_fragment}
 use Rattle.bench_resolver.specs.BenchDocuments.{Document}
 use Rattle.bench_resolver.specs.BenchUris.{own_uri}
 use Rattle.bench_resolver.specs.BenchResources.{Resource, number_of, place_of_resource}

@@ -3,8 +3,8 @@
 -- 3986; Core 2020-12, 8.2)
 use Rattle.std.specs.List.{after_first}
 use Rattle.std.specs.Prelude.{Bool, Err, None, Ok, Option, Result, Some, [], codes, false, if◌then◌else◌, true, ◌++◌, ◌==◌, ◌||◌, ◌∷◌}
-use Rattle.schema_reports.specs.Instance.{Text}
-use Rattle.bench_resolver.specs.BenchResolving.{without_fragment}
+use Rattle.schema_definitions.specs.Instance.{Text}
+use Rattle.bench_subschemas.specs.BenchResolving.{without_fragment}
 
 -- a `:` stands before any `/`, `?` or `#`
 abbrev pub is_absolute : Text → Bool

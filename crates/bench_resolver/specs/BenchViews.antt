@@ -1,7 +1,7 @@
 -- What the resolver's code holds, as the definitions have it: states, documents and schemas.
 use Rattle.std.specs.Prelude.{List, map, string_bytes}
 use Rattle.serde_json.specs.View.{view}
-use Rattle.schema_reports.specs.KeywordViews.{draft_of}
+use Rattle.schema_keywords.specs.KeywordViews.{draft_of}
 use Rattle.bench_resolver.specs.declared.resolver.BenchState.{BenchState}
 use Rattle.bench_resolver.specs.declared.resolver.documents as code
 use Rattle.bench_resolver.specs.declared.resolver.walk as walk

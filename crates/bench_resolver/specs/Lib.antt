@@ -1,4 +1,3 @@
-pub mod BenchResolving
 pub mod BenchPointers
 pub mod BenchPointersLead
 pub mod BenchDocuments

@@ -3,8 +3,8 @@
 use Rattle.std.specs.Prelude.{Bool, List, None, Option, Some, false, flat_map, ℕ, ◌&&◌, ◌++◌, ◌+◌, ◌||◌}
 use Rattle.serde_json.specs.Data.{Data, Items, Members, array, item, member, no_items, no_members, object}
 use Rattle.serde_json.specs.Find.{get}
-use Rattle.schema_reports.specs.Instance.{Place, Step, same_step, to_item, to_member}
-use Rattle.bench_resolver.specs.BenchResolving.{below_list, below_object, below_value, is_schema, names_of_lists, names_of_objects, names_of_values}
+use Rattle.schema_definitions.specs.Instance.{Place, Step, same_step, to_item, to_member}
+use Rattle.bench_subschemas.specs.BenchResolving.{below_list, below_object, below_value, is_schema, names_of_lists, names_of_objects, names_of_values}
 
 -- the subschemas that lie two steps below a schema, and those that lie one step below
 abbrev pub pairs_below : Data → List Place

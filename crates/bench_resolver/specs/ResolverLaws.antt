@@ -5,10 +5,10 @@ use Rattle.std.proofs.lemmas.Slice.Eq.{bytes_eq-Decides}
 use Rattle.std.specs.Prelude.{◌↔◌, slice_get, string_bytes}
 use Rattle.std.specs.List.{AllZip, each_same}
 use Rattle.serde_json.specs.Data.{Data}
-use Rattle.schema_reports.specs.Instance.{Place, Subject, a_name, a_value, after_step, subject_at, subject_from}
-use Rattle.schema_node.specs.ResolverViews.{IsInside}
-use Rattle.bench_resolver.specs.BenchResolving.{data_of}
-use Rattle.schema_reports.specs.Drafts.{SchemaPlace, at_path}
+use Rattle.schema_definitions.specs.Instance.{Place, Subject, a_name, a_value, after_step, subject_at, subject_from}
+use Rattle.schema_parts.specs.ResolverViews.{IsInside}
+use Rattle.bench_subschemas.specs.BenchResolving.{data_of}
+use Rattle.schema_definitions.specs.Drafts.{SchemaPlace, at_path}
 use Rattle.bench_resolver.specs.BenchDocuments.{BenchDocument, Document, documents_of, value_of}
 use Rattle.bench_resolver.specs.BenchStates.{Point, same_point}
 use Rattle.bench_resolver.specs.declared.resolver.BenchState.{BenchState}

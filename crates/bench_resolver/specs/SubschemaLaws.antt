@@ -6,12 +6,12 @@ use Rattle.std.specs.Str.{bytes_eq}
 use Rattle.std.proofs.lemmas.Slice.Eq.{bytes_eq-Decides}
 use Rattle.serde_json.specs.Data.{Data, Items, Members, array, boolean, item, member, no_items, no_members, null, number, object, string}
 use Rattle.serde_json.specs.Find.{get}
-use Rattle.schema_reports.specs.Instance.{Place, Step, Subject, Text, a_name, a_value, item_of, member_of, subject_at, subject_from, to_item, to_member}
-use Rattle.schema_reports.specs.Drafts.{SchemaPlace, at_path}
+use Rattle.schema_definitions.specs.Instance.{Place, Step, Subject, Text, a_name, a_value, item_of, member_of, subject_at, subject_from, to_item, to_member}
+use Rattle.schema_definitions.specs.Drafts.{SchemaPlace, at_path}
 use Rattle.schema_reports.proofs.Found.{after_member}
-use Rattle.schema_node.proofs.Replies.{from_append}
-use Rattle.schema_node.specs.ResolverViews.{StandsBelow, SubschemasStandBelow}
-use Rattle.bench_resolver.specs.BenchResolving.{below_list, below_object, below_value, data_of, is_schema, items_below, members_below, names_of_lists, names_of_objects, names_of_values, place_if, subschemas, subschemas_of}
+use Rattle.schema_parts.proofs.Replies.{from_append}
+use Rattle.schema_parts.specs.ResolverViews.{StandsBelow, SubschemasStandBelow}
+use Rattle.bench_subschemas.specs.BenchResolving.{below_list, below_object, below_value, data_of, is_schema, items_below, members_below, names_of_lists, names_of_objects, names_of_values, place_if, subschemas, subschemas_of}
 use Rattle.bench_resolver.specs.BenchDocuments.{BenchDocument, Document, documents_of, value_in, value_of}
 use Rattle.bench_resolver.specs.BenchAnswers.{bench_resolving}
 

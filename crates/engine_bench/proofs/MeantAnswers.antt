@@ -2,11 +2,11 @@
 use Rattle.std.proofs.Common.{Bool, IfOk, List, Result, string_bytes, subst, sym, ◌≡◌}
 use Rattle.std.proofs.lemmas.Result.{IfOk-weaker}
 use Rattle.serde_json.specs.Data.{Data}
-use Rattle.schema_reports.specs.Instance.{Text}
-use Rattle.schema_reports.specs.Cover.{Sense}
-use Rattle.schema_reports.specs.Making.{Table}
-use Rattle.schema_reports.specs.Matching.{Matcher}
-use Rattle.schema_reports.specs.Resolving.{Resolver}
+use Rattle.schema_definitions.specs.Instance.{Text}
+use Rattle.schema_definitions.specs.Cover.{Sense}
+use Rattle.schema_definitions.specs.Making.{Table}
+use Rattle.schema_definitions.specs.Matching.{Matcher}
+use Rattle.schema_definitions.specs.Resolving.{Resolver}
 use Rattle.schema_engine.specs.Handed.{Options}
 use Rattle.schema_engine.specs.Program.{OfEverySense, Program}
 use Rattle.bench_parts.specs.BenchMatching.{bench_matcher}

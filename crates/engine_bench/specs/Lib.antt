@@ -1,8 +1,3 @@
-pub mod Detours
-pub mod DetourUnits
-pub mod DetourVerdicts
-pub mod Growing
-pub mod MarkingTable
 pub mod ProgramWords
 pub mod ProgramFaults
 pub mod ProgramTexts

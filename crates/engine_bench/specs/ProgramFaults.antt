@@ -1,10 +1,10 @@
 -- Why the program answers nothing: a fault in the words, in the order in which faults are found, a refused schema, or want
 -- of memory; and what is printed of it.
 use Rattle.std.specs.Prelude.{List, None, Some, [], codes, decimal, ◌++◌, ◌∷◌, ◌≡◌, ◌⊎◌}
-use Rattle.schema_reports.specs.Instance.{Text}
-use Rattle.schema_compiler.specs.Refusing.{number_of}
-use Rattle.schema_compiler.specs.declared.compiler.error.BuildError.{BuildError}
-use Rattle.schema_compiler.specs.declared.compiler.error.BuildError.TheVariants as build
+use Rattle.schema_definitions.specs.Instance.{Text}
+use Rattle.schema_keys.specs.Refusing.{number_of}
+use Rattle.schema_keys.specs.declared.error.BuildError.{BuildError}
+use Rattle.schema_keys.specs.declared.error.BuildError.TheVariants as build
 use Rattle.engine_bench.specs.declared.program.faults.Fault.{Fault}
 use Rattle.engine_bench.specs.declared.program.faults.Fault.TheVariants.{BuildRefused, NotJson, OutOfMemory, Usage}
 use Rattle.engine_bench.specs.declared.program.faults.Word.{Word}

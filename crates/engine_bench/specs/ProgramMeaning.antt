@@ -2,16 +2,16 @@
 use Rattle.std.specs.Prelude.{Bool, List, [], false, ◌≡◌, ◌⊎◌}
 use Rattle.serde_json.specs.Data.{Data}
 use Rattle.serde_json.specs.View.{view}
-use Rattle.schema_reports.specs.Drafts.{draft_2020_12}
-use Rattle.schema_reports.specs.KeywordTable.{builtin_in}
-use Rattle.schema_reports.specs.Instance.{Text}
-use Rattle.schema_reports.specs.Cover.{Sense}
-use Rattle.schema_reports.specs.Headline.{Plainly, PlainlyWithUnits}
-use Rattle.schema_reports.specs.Making.{Table}
-use Rattle.schema_reports.specs.Matching.{Matcher}
-use Rattle.schema_reports.specs.Resolving.{Resolver}
+use Rattle.schema_definitions.specs.Drafts.{draft_2020_12}
+use Rattle.schema_keywords.specs.KeywordTable.{builtin_in}
+use Rattle.schema_definitions.specs.Instance.{Text}
+use Rattle.schema_definitions.specs.Cover.{Sense}
+use Rattle.schema_meaning.specs.Headline.{Plainly, PlainlyWithUnits}
+use Rattle.schema_definitions.specs.Making.{Table}
+use Rattle.schema_definitions.specs.Matching.{Matcher}
+use Rattle.schema_definitions.specs.Resolving.{Resolver}
 use Rattle.schema_reports.specs.declared.evaluation.EvaluationNode.{EvaluationNode}
-use Rattle.schema_compiler.specs.declared.compiler.error.BuildError.{BuildError}
+use Rattle.schema_keys.specs.declared.error.BuildError.{BuildError}
 use Rattle.schema_engine.specs.Checked.{FailsCheck, PassesCheck}
 use Rattle.schema_engine.specs.Handed.{default_nested, Options, default_options, parts_of, table_of}
 use Rattle.schema_engine.specs.Evaluated.{UnitsAnswered}
@@ -20,7 +20,7 @@ use Rattle.schema_engine.specs.ProgramOf.{IsProgramOf}
 use Rattle.schema_engine.specs.Promised.{HasSchemasUnits, MeansSchema, OfSchema}
 use Rattle.schema_engine.specs.Roots.{Builds, RefusesBuild}
 use Rattle.bench_resolver.specs.BenchAnswers.{bench_resolving}
-use Rattle.bench_resolver.specs.BenchResolving.{document_uri}
+use Rattle.bench_subschemas.specs.BenchResolving.{document_uri}
 use Rattle.bench_resolver.specs.BenchDocuments.{BenchDocument, HasCustom, HasDrafts}
 use Rattle.bench_parts.specs.BenchMatching.{bench_matcher}
 use Rattle.bench_parts.specs.BenchMeta.{document_fault}

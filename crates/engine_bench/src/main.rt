@@ -2,37 +2,7 @@
 //! table, a resolver and a matcher that are made for tests and for this program.
 #![tactic(auto)]
 
-#[cfg(test)]
-mod clone_tests;
-#[cfg(test)]
-mod context_tests;
-#[cfg(test)]
-mod deep_tests;
-#[cfg(test)]
-mod evaluation_tests;
-#[cfg(test)]
-mod failing_matcher_tests;
-#[cfg(test)]
-mod fused_tests;
-#[cfg(test)]
-mod growing_tests;
-#[cfg(test)]
-mod leaf_tests;
-#[cfg(test)]
-mod mark_tests;
-#[cfg(test)]
-mod nesting_tests;
-#[cfg(test)]
-mod option_tests;
 pub mod program;
-#[cfg(test)]
-mod reference_tests;
-#[cfg(test)]
-mod remembering_tests;
-#[cfg(test)]
-mod reservation_tests;
-#[cfg(test)]
-mod retry_tests;
 
 use crate::program::arguments::given_words;
 use crate::program::faults::Fault;

@@ -1,7 +1,7 @@
 //! The program: from words to what is printed, and a status.
 ghost use Rattle.std.specs.Prelude.{◌≡◌, Bool, IfOk, IfErr, OnErr, OnOk, string_bytes};
 ghost use Rattle.std.specs.Io.KnownBytes.{Appends, Keeps};
-ghost use Rattle.schema_reports.specs.Instance.{Text};
+ghost use Rattle.schema_definitions.specs.Instance.{Text};
 ghost use Rattle.engine_bench.specs.declared.program.faults.Fault.{Fault};
 ghost use Rattle.engine_bench.specs.ProgramFaults.{FaultStands, fault_line};
 ghost use Rattle.engine_bench.specs.ProgramMeaning.{AnswersWords};
@@ -12,8 +12,6 @@ ghost use Rattle.engine_bench.specs.ProgramWords.{call_in};
 pub mod answers;
 pub mod arguments;
 pub mod faults;
-#[cfg(test)]
-mod list_tests;
 pub mod requests;
 #[cfg(test)]
 mod row_tests;
@@ -29,7 +27,7 @@ use bench_parts::meta::BenchMeta;
 use bench_parts::table::BenchTable;
 use bench_resolver::resolver::BenchResolver;
 use schema_engine::validator::Validator;
-use schema_reports::keywords::VocabularySet;
+use schema_keywords::keywords::VocabularySet;
 use std::alloc::Global;
 use std::io;
 use std::io::Write;

@@ -1,11 +1,12 @@
-//! Whether formats are checked: by the option, or else by the vocabularies, or in the drafts before 2019-09.
-use crate::check_tests::value_of;
+//! Whether formats are checked: by the option, or else by the vocabularies, or in the drafts before 2019-09. A table's makers
+//! are told so, and no call of the engine, so no row says it.
+use crate::context_tests::value_of;
 use bench_resolver::resolver::BenchResolver;
-use schema_compiler::compiler::context::Context;
-use schema_compiler::compiler::given::CompileOptions;
-use schema_compiler::compiler::key::SchemaKey;
 use schema_engine::keywords::{Draft, Vocabulary, VocabularySet};
-use schema_node::context::resolver::Resolver;
+use schema_keys::context::Context;
+use schema_keys::key::SchemaKey;
+use schema_keys::options::CompileOptions;
+use schema_parts::resolver::Resolver;
 use schema_reports::location::{Location, OutOfMemory};
 use std::alloc::Global;
 

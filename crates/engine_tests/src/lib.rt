@@ -1,15 +1,25 @@
-//! Tests of the engine's calls over the bench's parts: the check of schemas by the meta validators, the map of validators,
-//! clones, and whether formats are checked. Nothing stands on this crate; the program's own tests stand beside it, in
-//! `engine_bench`.
+//! Tests of the engine's calls that no row of `check_rows` can say: with a keyword type, a table, a resolver or a matcher of one's
+//! own, of what a `Context` tells a table's makers, of calls that are made once more where memory was refused, and one that needs more
+//! stack than every compiler leaves.
 #![tactic(auto)]
 
 #[cfg(test)]
-mod check_tests;
+mod chain_tests;
 #[cfg(test)]
-mod entry_tests;
+mod context_tests;
+#[cfg(test)]
+mod failing_matcher_tests;
 #[cfg(test)]
 mod format_tests;
 #[cfg(test)]
-mod map_tests;
+mod growing_tests;
 #[cfg(test)]
-mod memory_tests;
+mod leaf_tests;
+#[cfg(test)]
+mod mark_tests;
+#[cfg(test)]
+mod reservation_tests;
+#[cfg(test)]
+mod retry_tests;
+#[cfg(test)]
+mod vocabulary_tests;

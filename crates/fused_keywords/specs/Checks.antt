@@ -1,12 +1,12 @@
 -- What an array is checked for beside its items: that it is one, and that it has so many items at least, with the errors and the
 -- units of these checks. A text counts as empty where texts are not spoken of. (Validation 2020-12, 6.1.1 and 6.4.2)
 use Rattle.std.specs.Prelude.{Bool, List, None, Option, Some, [], codes, decimal, if◌then◌else◌, nat_le, not, ℕ, ◌++◌, ◌==◌, ◌||◌, ◌∷◌}
-use Rattle.schema_reports.specs.Instance.{Subject, Text}
-use Rattle.schema_reports.specs.Meaning.{subject_text}
-use Rattle.schema_reports.specs.Reports.{Described}
+use Rattle.schema_definitions.specs.Instance.{Subject, Text}
+use Rattle.schema_definitions.specs.Meaning.{subject_text}
+use Rattle.schema_definitions.specs.Reports.{Described}
 use Rattle.schema_reports.specs.ReportViews.{spoken}
-use Rattle.schema_reports.specs.Keywords.{Fault, Gives, Named, own}
-use Rattle.schema_node.specs.KeywordViews.{no_gives}
+use Rattle.schema_definitions.specs.Keywords.{Fault, Gives, Named, own}
+use Rattle.schema_parts.specs.KeywordViews.{no_gives}
 use Rattle.keyword_ways.specs.Items.{is_list, item_count}
 use Rattle.fused_keywords.specs.declared.checks.Check.{Check}
 use Rattle.fused_keywords.specs.declared.checks.Check.TheVariants.{HasLeast, IsArray}

@@ -4,16 +4,16 @@ use Rattle.std.proofs.Common.{◌≡◌, ◌∙◌, ℕ, zero, suc, ◌+◌, ◌
 use Rattle.std.specs.List.{list_all}
 use Rattle.std.specs.Prelude.{All, Contains, flat_map, if◌then◌else◌, ◌↔◌}
 use Rattle.std.proofs.lemmas.List.Elements.{All-append, All-cons, All-nil, Contains-append_right}
-use Rattle.schema_reports.specs.Instance.{Subject}
-use Rattle.schema_reports.specs.Reports.{Unit_, report_of}
-use Rattle.schema_reports.specs.Matching.{Matching}
-use Rattle.schema_reports.specs.Keywords.{Answer, Answers, Fault, Gives, Marked, Question, Reply, Turn, all_valid, ask, done, ecma, for_all, for_first, for_units, for_verdict, mark, match_text, own, unmark}
-use Rattle.schema_reports.specs.Keywords as spec
-use Rattle.schema_reports.specs.Laws.{AsksRightly, IsPresent, IsRight, PassesUnchanged, StandsInside, answer_in, first_fault, steps_below}
-use Rattle.schema_reports.specs.Turns.{FunctionLaws, Standing, TurnLaws, marks_after, next, reply_to, step_at, turned}
-use Rattle.schema_node.specs.KeywordViews.{is_nil, mode_of, with_errors, with_gives}
-use Rattle.schema_node.specs.declared.context.keyword.Mode.{Mode}
-use Rattle.schema_node.specs.declared.context.keyword.Mode.TheVariants as mode
+use Rattle.schema_definitions.specs.Instance.{Subject}
+use Rattle.schema_definitions.specs.Reports.{Unit_, report_of}
+use Rattle.schema_definitions.specs.Matching.{Matching}
+use Rattle.schema_definitions.specs.Keywords.{Answer, Answers, Fault, Gives, Marked, Question, Reply, Turn, all_valid, ask, done, ecma, for_all, for_first, for_units, for_verdict, mark, match_text, own, unmark}
+use Rattle.schema_definitions.specs.Keywords as spec
+use Rattle.schema_definitions.specs.Laws.{AsksRightly, IsPresent, IsRight, PassesUnchanged, StandsInside, answer_in, first_fault, steps_below}
+use Rattle.schema_definitions.specs.Turns.{FunctionLaws, Standing, TurnLaws, marks_after, next, reply_to, step_at, turned}
+use Rattle.schema_parts.specs.KeywordViews.{is_nil, mode_of, with_errors, with_gives}
+use Rattle.schema_parts.specs.declared.keyword.Mode.{Mode}
+use Rattle.schema_parts.specs.declared.keyword.Mode.TheVariants as mode
 use Rattle.keyword_ways.specs.Items.{each_from, first_at_item, is_list}
 use Rattle.keyword_ways.specs.Places.{later_items_present}
 use Rattle.keyword_ways.specs.WayReads.{way_agrees, way_faults_read, way_holds_reads, way_passes, way_stands_inside, way_units_read}

@@ -4,10 +4,10 @@ use Rattle.std.specs.Prelude.{Bool, List, None, Option, Some, [], bytes_eq, code
 use Rattle.serde_json.specs.Data.{Data, Members}
 use Rattle.serde_json.specs.Find.{get_member}
 use Rattle.schema_reports.proofs.Found.{member_of-get_member}
-use Rattle.schema_reports.specs.Instance.{Place, Text}
-use Rattle.schema_reports.specs.Drafts.{Draft, Vocabularies}
-use Rattle.schema_reports.specs.Making.{Made, Making, Script, a_keyword, after_request, followed, nothing, refused, then_compile, then_end, then_pending, then_refer, then_reserve, compile, refer}
-use Rattle.schema_node.specs.MakerViews.{MakesRightly, begun, waits}
+use Rattle.schema_definitions.specs.Instance.{Place, Text}
+use Rattle.schema_definitions.specs.Drafts.{Draft, Vocabularies}
+use Rattle.schema_definitions.specs.Making.{Made, Making, Script, a_keyword, after_request, followed, nothing, refused, then_compile, then_end, then_pending, then_refer, then_reserve, compile, refer}
+use Rattle.schema_parts.specs.MakerViews.{MakesRightly, begun, waits}
 use Rattle.bench_keywords.specs.BenchShape.{BenchShape, is_whole}
 use Rattle.bench_keywords.specs.Laws.{none_absorbed}
 use Rattle.bench_parts.specs.ByValue.{IsRightMember, makes_by_value}

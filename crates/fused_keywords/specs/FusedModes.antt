@@ -1,9 +1,9 @@
 -- A run asks for units in an evaluation alone, and a run for the verdict asks for verdicts.
 use Rattle.std.proofs.Common.{Bool, refl, suc, sym, zero, ℕ, ◌∙◌}
-use Rattle.schema_reports.specs.Instance.{Subject}
-use Rattle.schema_reports.specs.Keywords.{Answer, Reply, for_verdict, no_reply}
-use Rattle.schema_reports.specs.Remembering.{AlwaysAsksVerdict, EachAsksVerdicts}
-use Rattle.schema_node.specs.UnitQuestions.{AlwaysAsksForLess, AsksNoUnits}
+use Rattle.schema_definitions.specs.Instance.{Subject}
+use Rattle.schema_definitions.specs.Keywords.{Answer, Reply, for_verdict, no_reply}
+use Rattle.schema_definitions.specs.Remembering.{AlwaysAsksVerdict, EachAsksVerdicts}
+use Rattle.schema_parts.specs.UnitQuestions.{AlwaysAsksForLess, AsksNoUnits}
 use Rattle.keyword_ways.specs.WayUnits.{WantsNone, mode-kept, step_for_less}
 use Rattle.keyword_ways.specs.WayVerdicts.{WantsVerdict, step_for_verdict}
 use Rattle.bench_keywords.specs.BenchShape.{BenchShape}

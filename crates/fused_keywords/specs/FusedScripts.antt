@@ -3,11 +3,11 @@
 use Rattle.std.specs.Prelude.{Bool, None, Option, Some, [], bytes_eq, codes, false, if◌then◌else◌, is_some, not, option_and_then, true, ℕ, ◌&&◌, ◌||◌, ◌∷◌}
 use Rattle.serde_json.specs.Data.{Data, Members, string}
 use Rattle.serde_json.specs.Find.{as_array, as_number, as_u64, get_member}
-use Rattle.schema_reports.specs.Instance.{Place, Text, to_member}
-use Rattle.schema_reports.specs.Drafts.{Draft, Vocabularies}
-use Rattle.schema_reports.specs.KeywordTable.{builtin_in}
-use Rattle.schema_reports.specs.Making.{Made, Script, a_keyword, nothing, refused, then_compile, then_end, then_pending, then_refer, then_reserve}
-use Rattle.schema_node.specs.MakerViews.{Waiting, begun, ended, wants_pending, wants_reserved, waits}
+use Rattle.schema_definitions.specs.Instance.{Place, Text, to_member}
+use Rattle.schema_definitions.specs.Drafts.{Draft, Vocabularies}
+use Rattle.schema_keywords.specs.KeywordTable.{builtin_in}
+use Rattle.schema_definitions.specs.Making.{Made, Script, a_keyword, nothing, refused, then_compile, then_end, then_pending, then_refer, then_reserve}
+use Rattle.schema_parts.specs.MakerViews.{Waiting, begun, ended, wants_pending, wants_reserved, waits}
 use Rattle.bench_parts.specs.ByValue.{script_at}
 use Rattle.bench_parts.specs.Makers.{bench_script, items_before}
 use Rattle.bench_parts.specs.declared.by_value.Children.TheVariants as children

@@ -1,6 +1,6 @@
 -- What is known of a keyword apart from its representation.
 use Rattle.std.specs.Prelude.{Bool, List, [], true}
-use Rattle.schema_reports.specs.Instance.{Text}
+use Rattle.schema_definitions.specs.Instance.{Text}
 use Rattle.bench_keywords.specs.BenchShape.{BenchShape, is_whole}
 use Rattle.fused_keywords.specs.Openings.{absorbs}
 use Rattle.fused_keywords.specs.declared.array.ArrayKeyword.{ArrayKeyword}

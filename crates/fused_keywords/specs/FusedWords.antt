@@ -2,12 +2,12 @@
 -- its child accepts each item that it asks. `items` that absorbs two others has its items' units in its own, and theirs beside it.
 use Rattle.std.specs.List.{list_all}
 use Rattle.std.specs.Prelude.{Bool, List, [], map, ℕ, ◌&&◌, ◌++◌, ◌+◌}
-use Rattle.schema_reports.specs.Instance.{Subject}
-use Rattle.schema_reports.specs.Reports.{Unit_, report_of}
-use Rattle.schema_reports.specs.Matching.{Matching}
-use Rattle.schema_reports.specs.Keywords.{Answer, Answers, Fault, Gives, Keywords, Mode, Question, Reply, Turn}
-use Rattle.schema_reports.specs.Turns.{Standing}
-use Rattle.schema_node.specs.KeywordViews.{fresh}
+use Rattle.schema_definitions.specs.Instance.{Subject}
+use Rattle.schema_definitions.specs.Reports.{Unit_, report_of}
+use Rattle.schema_definitions.specs.Matching.{Matching}
+use Rattle.schema_definitions.specs.Keywords.{Answer, Answers, Fault, Gives, Keywords, Mode, Question, Reply, Turn}
+use Rattle.schema_definitions.specs.Turns.{Standing}
+use Rattle.schema_parts.specs.KeywordViews.{fresh}
 use Rattle.keyword_ways.specs.WayRuns.{end_at, fits_at}
 use Rattle.keyword_ways.specs.WayWords.{run_replies}
 use Rattle.keyword_ways.specs.Ways.{Way, at_first, passes_on, way_begin, way_faults, way_left, way_step}

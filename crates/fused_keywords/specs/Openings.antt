@@ -1,11 +1,11 @@
 -- `minItems`, and `items` that absorbs it and `type`: their checks, what a run has found before it asks of items, and what it asks.
 use Rattle.std.specs.Prelude.{Bool, List, [], codes, false, if◌then◌else◌, true, ℕ, ◌&&◌, ◌++◌, ◌-◌, ◌∷◌}
-use Rattle.schema_reports.specs.Instance.{Subject, Text}
-use Rattle.schema_reports.specs.Keywords.{Answer, Fault, Gives, Question, for_all, for_first, for_verdict}
-use Rattle.schema_reports.specs.Laws.{first_fault}
-use Rattle.schema_node.specs.KeywordViews.{no_gives, with_errors, with_gives}
-use Rattle.schema_node.specs.declared.context.keyword.Mode.{Mode}
-use Rattle.schema_node.specs.declared.context.keyword.Mode.TheVariants as mode
+use Rattle.schema_definitions.specs.Instance.{Subject, Text}
+use Rattle.schema_definitions.specs.Keywords.{Answer, Fault, Gives, Question, for_all, for_first, for_verdict}
+use Rattle.schema_definitions.specs.Laws.{first_fault}
+use Rattle.schema_parts.specs.KeywordViews.{no_gives, with_errors, with_gives}
+use Rattle.schema_parts.specs.declared.keyword.Mode.{Mode}
+use Rattle.schema_parts.specs.declared.keyword.Mode.TheVariants as mode
 use Rattle.keyword_ways.specs.Items.{each_from, first_at_item, item_count}
 use Rattle.fused_keywords.specs.Checks.{absorbed_unit, errors_at, holds, own_unit}
 use Rattle.fused_keywords.specs.declared.array.ArrayKeyword.{ArrayKeyword}

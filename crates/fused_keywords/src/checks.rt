@@ -5,13 +5,13 @@ ghost use Rattle.schema_reports.specs.EvaluationResults.{gives_of, named_of};
 ghost use Rattle.schema_reports.specs.InstanceViews.{subject_of};
 ghost use Rattle.schema_reports.specs.InstanceTexts.{subject_has_float};
 ghost use Rattle.schema_reports.specs.ReportViews.{spoken};
-ghost use Rattle.schema_node.specs.FaultViews.{PassesBorrowed};
-ghost use Rattle.schema_node.specs.KeywordViews.{Tells, fault_of};
+ghost use Rattle.schema_parts.specs.FaultViews.{PassesBorrowed};
+ghost use Rattle.schema_parts.specs.KeywordViews.{Tells, fault_of};
 ghost use Rattle.fused_keywords.specs.Checks.{absorbed_unit, counted_items, error_at, error_text, errors_at, holds, name, own_unit};
 ghost use Rattle.fused_keywords.specs.Checks.{spot_name};
 
 use keyword_ways::items::{is_list, item_count};
-use schema_node::context::keyword::{Fault, OwnError};
+use schema_parts::keyword::{Fault, OwnError};
 use schema_reports::evaluation::ErrorDescription;
 use schema_reports::evaluation_result::{AbsorbedResult, EvaluationResult};
 use schema_reports::instance::Instance;

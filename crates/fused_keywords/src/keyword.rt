@@ -3,7 +3,7 @@ use crate::array::ArrayKeyword;
 use bench_keywords::keyword::BenchKeyword;
 use bench_keywords::names::{Names, NamesRun};
 use keyword_ways::run::Progress;
-use schema_node::context::keyword::{Answer, Mode, Reply, Step, Validate};
+use schema_parts::keyword::{Answer, Mode, Reply, Step, Validate};
 use schema_reports::instance::Instance;
 use schema_reports::location::OutOfMemory;
 use std::alloc::Global;

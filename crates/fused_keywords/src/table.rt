@@ -2,8 +2,8 @@
 ghost use Rattle.std.specs.Prelude.{◌≡◌, ◌∷◌, [], IfOk, codes, map, option_map, string_bytes};
 ghost use Rattle.serde_json.specs.Find.{get_member};
 ghost use Rattle.serde_json.specs.View.{members_view, view};
-ghost use Rattle.schema_reports.specs.KeywordViews.{draft_of};
-ghost use Rattle.schema_node.specs.MakerViews as makers;
+ghost use Rattle.schema_keywords.specs.KeywordViews.{draft_of};
+ghost use Rattle.schema_parts.specs.MakerViews as makers;
 ghost use Rattle.bench_parts.specs.MakerViews.{made_of, waiting_of};
 ghost use Rattle.bench_keywords.specs.Shapes.{shape_of};
 ghost use Rattle.fused_keywords.specs.FusedMakers.{fused_waiting};
@@ -20,8 +20,8 @@ use bench_parts::by_value::{Children, MakesByValue, MemberKeyword, TableByValue}
 use bench_parts::table::BenchTable;
 use bench_parts::table::maker::{Ending, PathsMaker, ends};
 use bench_parts::table::schema_values::{items_before, value_in, value_of};
-use schema_node::context::table::{KeywordOrigin, KeywordTable, MakerReply, MakerStep};
-use schema_reports::keywords::{Draft, VocabularySet, builtin_row};
+use schema_keywords::keywords::{Draft, VocabularySet, builtin_row};
+use schema_parts::table::{KeywordOrigin, KeywordTable, MakerReply, MakerStep};
 use schema_reports::location::OutOfMemory;
 use serde_json::{Map, Value};
 use std::alloc::Global;

@@ -4,9 +4,9 @@ use Rattle.std.proofs.lemmas.List.Elements.{All-append, All-cons, All-map, All-n
 use Rattle.serde_json.specs.Data.{Data}
 use Rattle.schema_reports.specs.ReportViews.{BorrowsItsPlace}
 use Rattle.schema_reports.specs.declared.reports.ValidationError.{ValidationError}
-use Rattle.schema_node.specs.FaultViews.{PassesBorrowed}
-use Rattle.schema_node.specs.declared.context.keyword.Fault.{Fault}
-use Rattle.schema_node.specs.declared.context.keyword.Fault.TheVariants.{Passed}
+use Rattle.schema_parts.specs.FaultViews.{PassesBorrowed}
+use Rattle.schema_parts.specs.declared.keyword.Fault.{Fault}
+use Rattle.schema_parts.specs.declared.keyword.Fault.TheVariants.{Passed}
 use Rattle.keyword_ways.specs.FaultLists.{first_kept}
 
 pub pushed_borrowed : (root : Data) (fs : List Fault) (f : Fault) → All (PassesBorrowed root) fs → PassesBorrowed root f → All (PassesBorrowed root) (fs ++ f ∷ [])

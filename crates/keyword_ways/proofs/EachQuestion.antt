@@ -1,6 +1,6 @@
 -- Questions that are numbered one after the other.
 use Rattle.std.proofs.Common.{ℕ, zero, suc, ◌≡◌, ◌∙◌, ◌≤◌, ◌<◌, ◌+◌, Some, None, length, ap, sym, arith, add-zero}
-use Rattle.schema_reports.specs.Keywords.{Question}
+use Rattle.schema_definitions.specs.Keywords.{Question}
 use Rattle.keyword_ways.specs.Ways.{nth}
 use Rattle.keyword_ways.specs.Items.{each_from}
 use Rattle.keyword_ways.proofs.NextQuestions.{nth-past}

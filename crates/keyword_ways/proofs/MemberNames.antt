@@ -7,7 +7,7 @@ use Rattle.std.specs.Cmp.Lexicographic.{slice_cmp}
 use Rattle.std.proofs.lemmas.Map.Text.{is_eq-slice_cmp}
 use Rattle.serde_json.specs.Data.{Data, null, boolean, number, string, array, object, Members, no_members, member}
 use Rattle.serde_json.specs.Find.{get, get_member}
-use Rattle.schema_reports.specs.Instance.{Text, member_of, after_step, to_member, a_value}
+use Rattle.schema_definitions.specs.Instance.{Text, member_of, after_step, to_member, a_value}
 
 chosen : (o : Ordering) (d : Data) (rest : Option Data) → cond (is_eq o) (Some d) rest ≡ match_ordering o rest (Some d) rest
 chosen Less d rest = refl

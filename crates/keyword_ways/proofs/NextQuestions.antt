@@ -1,12 +1,12 @@
 -- The next question, where there is one.
 use Rattle.std.proofs.Common.{map, ℕ, zero, suc, drop, add-zero, ◌≡◌, ◌∙◌, ◌≤◌, ◌+◌, Bool, true, false, List, [], ◌∷◌, Option, None, length, ap, sym, refl, arith}
-use Rattle.schema_reports.specs.Instance.{Subject, Text}
-use Rattle.schema_reports.specs.Keywords.{Answer, Question, Reply, Turn}
+use Rattle.schema_definitions.specs.Instance.{Subject, Text}
+use Rattle.schema_definitions.specs.Keywords.{Answer, Question, Reply, Turn}
 use Rattle.keyword_ways.specs.declared.run.Stage.TheVariants.{Asked, Begun, Counted, Ended}
 use Rattle.keyword_ways.specs.declared.run.Stage.{Stage}
-use Rattle.schema_node.specs.declared.context.keyword.Mode.{Mode}
+use Rattle.schema_parts.specs.declared.keyword.Mode.{Mode}
 use Rattle.std.proofs.lemmas.List.{drop-map}
-use Rattle.schema_node.proofs.NodeParts.{drop_past}
+use Rattle.schema_parts.proofs.Drops.{drop_past}
 use Rattle.keyword_ways.specs.Somes.{first_some, question_of, some_from}
 use Rattle.keyword_ways.specs.declared.run.Progress.{Progress}
 use Rattle.keyword_ways.specs.Ways.{answer_after, asked, goes_on, next_if, next_some, nth, passes_on, passes_some, stage_at, stage_some, way_step, way_turn}

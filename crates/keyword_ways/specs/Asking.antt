@@ -1,7 +1,7 @@
 -- The next question of a run, by its place in order.
 use Rattle.std.specs.Prelude.{◌≡◌, List, None, Option, Some, ℕ}
-use Rattle.schema_reports.specs.Keywords.{Question, Reply}
-use Rattle.schema_node.specs.declared.context.keyword.Mode.{Mode}
+use Rattle.schema_definitions.specs.Keywords.{Question, Reply}
+use Rattle.schema_parts.specs.declared.keyword.Mode.{Mode}
 use Rattle.keyword_ways.specs.declared.run.Stage.{Stage}
 use Rattle.keyword_ways.specs.declared.run.Stage.TheVariants.{Ended}
 use Rattle.keyword_ways.specs.Somes.{question_of, some_from}

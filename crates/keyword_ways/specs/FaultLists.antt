@@ -1,6 +1,6 @@
 -- The faults of an answer whose first fault stays.
 use Rattle.std.specs.Prelude.{List, [], ◌∷◌}
-use Rattle.schema_node.specs.declared.context.keyword.Fault.{Fault}
+use Rattle.schema_parts.specs.declared.keyword.Fault.{Fault}
 
 abbrev pub first_kept : List Fault → Fault → List Fault
 first_kept [] f = f ∷ []

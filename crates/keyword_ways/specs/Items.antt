@@ -2,8 +2,8 @@
 use Rattle.std.specs.Prelude.{Bool, List, None, Option, Some, [], false, is_some, suc, zero, ℕ, ◌+◌, ◌∷◌}
 use Rattle.serde_json.specs.Data.{Items, item, no_items}
 use Rattle.serde_json.specs.Find.{as_array}
-use Rattle.schema_reports.specs.Instance.{Subject, a_name, a_value, to_item}
-use Rattle.schema_reports.specs.Keywords.{Question, down, here}
+use Rattle.schema_definitions.specs.Instance.{Subject, a_name, a_value, to_item}
+use Rattle.schema_definitions.specs.Keywords.{Question, down, here}
 
 abbrev pub items_count : Items → ℕ
 items_count no_items = 0

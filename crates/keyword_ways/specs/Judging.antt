@@ -1,8 +1,8 @@
 -- A turn of a run that judges, as the code takes it. Its questions are numbered.
 use Rattle.std.specs.Prelude.{List, None, Option, Some, ℕ}
-use Rattle.schema_reports.specs.Keywords.{Answer, Question, Reply, Turn, ask, done}
-use Rattle.schema_node.specs.KeywordViews.{mode_of}
-use Rattle.schema_node.specs.declared.context.keyword.Mode.{Mode}
+use Rattle.schema_definitions.specs.Keywords.{Answer, Question, Reply, Turn, ask, done}
+use Rattle.schema_parts.specs.KeywordViews.{mode_of}
+use Rattle.schema_parts.specs.declared.keyword.Mode.{Mode}
 use Rattle.keyword_ways.specs.declared.judging.Judging.{Judging}
 use Rattle.keyword_ways.specs.declared.judging.Judging.TheVariants.{Asks, Judged, Over}
 use Rattle.keyword_ways.specs.declared.run.Stage.{Stage}

@@ -1,8 +1,8 @@
 -- A turn of a run that asks a match, as the code takes it.
-use Rattle.schema_reports.specs.Instance.{Text}
-use Rattle.schema_reports.specs.Keywords.{Answer, Turn, done, match_text}
-use Rattle.schema_reports.specs.Matching.{Pair}
-use Rattle.schema_node.specs.declared.context.keyword.Mode.{Mode}
+use Rattle.schema_definitions.specs.Instance.{Text}
+use Rattle.schema_definitions.specs.Keywords.{Answer, Turn, done, match_text}
+use Rattle.schema_definitions.specs.Matching.{Pair}
+use Rattle.schema_parts.specs.declared.keyword.Mode.{Mode}
 use Rattle.keyword_ways.specs.declared.matching.MatchTurn.{MatchTurn}
 use Rattle.keyword_ways.specs.declared.matching.MatchTurn.TheVariants.{Answered, Asks, Over}
 use Rattle.keyword_ways.specs.Ways.{match_point, noted, unless}

@@ -2,8 +2,8 @@
 use Rattle.std.specs.Prelude.{Bool, List, None, Option, Some, [], false, is_some, true, ℕ, ◌+◌, ◌∷◌}
 use Rattle.serde_json.specs.Data.{Members, member, no_members}
 use Rattle.serde_json.specs.Find.{as_object}
-use Rattle.schema_reports.specs.Instance.{Subject, Text, a_name, a_value, after_step, to_member, to_name}
-use Rattle.schema_reports.specs.Keywords.{Question, down}
+use Rattle.schema_definitions.specs.Instance.{Subject, Text, a_name, a_value, after_step, to_member, to_name}
+use Rattle.schema_definitions.specs.Keywords.{Question, down}
 
 abbrev pub has_member : Text → Subject → Bool
 has_member k s = is_some (after_step (to_member k) s)

@@ -2,10 +2,10 @@
 -- not spoken of, each counts as empty. All that the laws of keywords name follows from that.
 use Rattle.std.proofs.Common.{◌≡◌, ◌∙◌, ℕ, Bool, List, false, refl, subst, sym, map}
 use Rattle.std.proofs.lemmas.List.Elements.{All-nil}
-use Rattle.schema_reports.specs.Instance.{Subject, Text}
+use Rattle.schema_definitions.specs.Instance.{Subject, Text}
 use Rattle.schema_reports.specs.ReportViews.{spoken}
-use Rattle.schema_reports.specs.Keywords.{Answer, Keywords, Question}
-use Rattle.schema_reports.specs.Turns.{FunctionLaws, Standing, TurnLaws}
+use Rattle.schema_definitions.specs.Keywords.{Answer, Keywords, Question}
+use Rattle.schema_definitions.specs.Turns.{FunctionLaws, Standing, TurnLaws}
 use Rattle.keyword_ways.specs.declared.run.Progress.{Progress}
 use Rattle.keyword_ways.specs.Places.{AsksPresent}
 use Rattle.keyword_ways.specs.Tallies.{Tally}

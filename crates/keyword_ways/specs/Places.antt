@@ -3,11 +3,11 @@ use Rattle.std.proofs.Common.{◌≡◌, ℕ, ◌+◌, ◌<◌, ◌∷◌, [], L
 use Rattle.std.proofs.lemmas.Slice.Eq.{bytes_eq-Decides}
 use Rattle.std.specs.Prelude.{All, bytes_eq, if◌then◌else◌, map, option_map}
 use Rattle.std.proofs.lemmas.List.Elements.{All-map, All-nil, All-cons, All-weaker}
-use Rattle.schema_reports.specs.Instance.{Subject, Text, a_name, a_value, item_of, member_of, to_item, to_member, to_name, subject_from, after_step}
+use Rattle.schema_definitions.specs.Instance.{Subject, Text, a_name, a_value, item_of, member_of, to_item, to_member, to_name, subject_from, after_step}
 use Rattle.serde_json.specs.Data.{Data, Items, Members, array, boolean, item, member, no_items, no_members, null, number, object, string}
-use Rattle.schema_reports.specs.Keywords.{Question, down}
-use Rattle.schema_reports.specs.Laws.{IsPresent, steps_below}
-use Rattle.schema_node.specs.KeywordViews.{option_list}
+use Rattle.schema_definitions.specs.Keywords.{Question, down}
+use Rattle.schema_definitions.specs.Laws.{IsPresent, steps_below}
+use Rattle.schema_parts.specs.KeywordViews.{option_list}
 use Rattle.keyword_ways.specs.Members.{at_name, has_member, members_from, names_in, only_if, subject_names}
 use Rattle.keyword_ways.specs.Somes.{somes}
 use Rattle.keyword_ways.specs.Items.{child_at_item, child_here, each_from, first_at_item, item_count, items_count}

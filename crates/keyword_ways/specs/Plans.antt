@@ -1,8 +1,8 @@
 -- Keywords that say by a plan how they go about an instance: they tell an error or none, or pass on what their questions answer,
 -- or want so many of them answered by yes. The way follows from the plan.
 use Rattle.std.specs.Prelude.{List, nat_le, true, ℕ}
-use Rattle.schema_reports.specs.Instance.{Subject, Text}
-use Rattle.schema_reports.specs.Keywords.{Question}
+use Rattle.schema_definitions.specs.Instance.{Subject, Text}
+use Rattle.schema_definitions.specs.Keywords.{Question}
 use Rattle.keyword_ways.specs.declared.planned.Asks.{Asks}
 use Rattle.keyword_ways.specs.declared.planned.Asks.TheVariants.{Children, Items}
 use Rattle.keyword_ways.specs.declared.planned.Plan.{Plan}

@@ -1,6 +1,6 @@
 -- Numbered questions of which some are there, and which of them comes next from a number on.
 use Rattle.std.specs.Prelude.{List, None, Option, Some, [], drop, ℕ, ◌+◌, ◌∷◌}
-use Rattle.schema_reports.specs.Keywords.{Question}
+use Rattle.schema_definitions.specs.Keywords.{Question}
 
 abbrev pub with_some : Option Question → List Question → List Question
 with_some None qs = qs

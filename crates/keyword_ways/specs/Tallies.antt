@@ -1,11 +1,11 @@
 -- Keywords that judge by how many of their questions are answered by yes: `anyOf`, `oneOf` and `not`, and how their runs
 -- count. (Core 2020-12, 10.2.1.2, 10.2.1.3 and 10.2.1.4)
 use Rattle.std.specs.Prelude.{Bool, List, [], false, min, nat_le, not, true, ℕ, ◌++◌, ◌+◌, ◌&&◌, ◌∷◌}
-use Rattle.schema_reports.specs.Instance.{Text}
-use Rattle.schema_reports.specs.Reports.{Unit_, report_of}
-use Rattle.schema_reports.specs.Keywords.{Answer, Gives, Question, Reply, all_of_it, first_of_it, for_units, no_reply, truth, unit_of_it}
-use Rattle.schema_node.specs.declared.context.keyword.Mode.{Mode}
-use Rattle.schema_node.specs.declared.context.keyword.Mode.TheVariants as mode
+use Rattle.schema_definitions.specs.Instance.{Text}
+use Rattle.schema_definitions.specs.Reports.{Unit_, report_of}
+use Rattle.schema_definitions.specs.Keywords.{Answer, Gives, Question, Reply, all_of_it, first_of_it, for_units, no_reply, truth, unit_of_it}
+use Rattle.schema_parts.specs.declared.keyword.Mode.{Mode}
+use Rattle.schema_parts.specs.declared.keyword.Mode.TheVariants as mode
 
 -- `told` gives the errors by how many accept, where `enough` stands for so many or more; where `shows` is true, the
 -- questions' units are given

@@ -3,16 +3,16 @@
 use Rattle.std.proofs.Common.{◌≡◌, ◌∙◌, ℕ, ◌+◌, ◌<◌, ◌⊎◌, ◌∷◌, [], List, Bool, true, false, Option, Some, None, refl, ap, subst, inl, inr, arith, drop, zero, suc}
 use Rattle.std.specs.Prelude.{All, Contains, not, ◌++◌}
 use Rattle.std.proofs.lemmas.List.Elements.{Contains-append_right}
-use Rattle.schema_reports.specs.Instance.{Subject}
-use Rattle.schema_reports.specs.Reports.{Unit_, report_of}
-use Rattle.schema_reports.specs.Matching.{Matching, Pair}
-use Rattle.schema_reports.specs.Keywords.{Answer, Answers, Marked, Question, Reply, Turn, done, match_text, for_all, for_first, for_units, for_verdict}
-use Rattle.schema_reports.specs.Keywords as spec
-use Rattle.schema_reports.specs.Laws.{AsksRightly, IsPresent, IsRight, answer_in, steps_below}
-use Rattle.schema_reports.specs.Turns.{FunctionLaws, Standing, TurnLaws, reply_to, next, step_at as turn_at}
-use Rattle.schema_node.specs.KeywordViews.{fresh, mode_of, option_list}
-use Rattle.schema_node.specs.declared.context.keyword.Mode.{Mode}
-use Rattle.schema_node.specs.declared.context.keyword.Mode.TheVariants as mode
+use Rattle.schema_definitions.specs.Instance.{Subject}
+use Rattle.schema_definitions.specs.Reports.{Unit_, report_of}
+use Rattle.schema_definitions.specs.Matching.{Matching, Pair}
+use Rattle.schema_definitions.specs.Keywords.{Answer, Answers, Marked, Question, Reply, Turn, done, match_text, for_all, for_first, for_units, for_verdict}
+use Rattle.schema_definitions.specs.Keywords as spec
+use Rattle.schema_definitions.specs.Laws.{AsksRightly, IsPresent, IsRight, answer_in, steps_below}
+use Rattle.schema_definitions.specs.Turns.{FunctionLaws, Standing, TurnLaws, reply_to, next, step_at as turn_at}
+use Rattle.schema_parts.specs.KeywordViews.{fresh, mode_of, option_list}
+use Rattle.schema_parts.specs.declared.keyword.Mode.{Mode}
+use Rattle.schema_parts.specs.declared.keyword.Mode.TheVariants as mode
 use Rattle.keyword_ways.specs.declared.run.Stage.{Stage}
 use Rattle.keyword_ways.specs.declared.run.Stage.TheVariants.{Begun, Asked, Counted, Ended}
 use Rattle.keyword_ways.specs.declared.run.Progress.{Progress}

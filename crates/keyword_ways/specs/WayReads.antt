@@ -3,12 +3,12 @@ use Rattle.std.proofs.Common.{◌≡◌, ◌∙◌, zero, ◌&&◌, ◌++◌, �
 use Rattle.std.specs.List.{list_all}
 use Rattle.std.specs.Prelude.{All, Contains, Option, None, Some, flat_map, min, ◌↔◌}
 use Rattle.std.proofs.lemmas.List.Elements.{All-nil, All-head, All-tail, All-append, All-map, All-cons, All-weaker, All-contains_itself, Contains-append_left, Contains-append_right}
-use Rattle.schema_reports.specs.Instance.{Text, Subject}
-use Rattle.schema_reports.specs.Reports.{Unit_, Error, report_of}
-use Rattle.schema_reports.specs.Matching.{Matching}
-use Rattle.schema_reports.specs.Keywords.{Answers, Fault, Gives, Question, all_valid, own, passed}
-use Rattle.schema_reports.specs.Laws.{Agrees, StandsInside, PassesUnchanged}
-use Rattle.schema_node.specs.KeywordViews.{is_nil, no_gives, option_list}
+use Rattle.schema_definitions.specs.Instance.{Text, Subject}
+use Rattle.schema_definitions.specs.Reports.{Unit_, Error, report_of}
+use Rattle.schema_definitions.specs.Matching.{Matching}
+use Rattle.schema_definitions.specs.Keywords.{Answers, Fault, Gives, Question, all_valid, own, passed}
+use Rattle.schema_definitions.specs.Laws.{Agrees, StandsInside, PassesUnchanged}
+use Rattle.schema_parts.specs.KeywordViews.{is_nil, no_gives, option_list}
 use Rattle.keyword_ways.specs.Ways.{Way, asks_match, described, is_matched, unless, tells, passes_on, passes_some, judges, branches, branch, given, plain, questions, way_holds, way_faults, way_units}
 use Rattle.keyword_ways.specs.Somes.{somes}
 use Rattle.keyword_ways.specs.Tallies.{counted, told_by, yes_count}

@@ -3,16 +3,16 @@ use Rattle.std.proofs.Common.{◌≡◌, ◌∙◌, ℕ, zero, suc, ◌+◌, ◌
 use Rattle.std.specs.List.{list_all}
 use Rattle.std.specs.Prelude.{flat_map, if◌then◌else◌, nat_le, not}
 use Rattle.std.proofs.lemmas.Bool.{leb-true}
-use Rattle.schema_reports.specs.Instance.{Text}
-use Rattle.schema_reports.specs.Reports.{Unit_, Error, report_of}
-use Rattle.schema_reports.specs.Matching.{Matching, Pair}
-use Rattle.schema_reports.specs.Keywords.{Answer, Answers, Fault, Gives, MatchPoint, Question, Reply, Turn, all_of_it, ask, done, first_of_it, for_all, for_first, for_units, for_verdict, match_text, own, passed, truth, unit_of_it}
-use Rattle.schema_reports.specs.Keywords as spec
-use Rattle.schema_reports.specs.Laws.{first_fault}
-use Rattle.schema_reports.specs.Runs.{first_error}
-use Rattle.schema_node.specs.KeywordViews.{is_nil, mode_of, no_gives, option_list, with_errors, fresh}
-use Rattle.schema_node.specs.declared.context.keyword.Mode.{Mode}
-use Rattle.schema_node.specs.declared.context.keyword.Mode.TheVariants as mode
+use Rattle.schema_definitions.specs.Instance.{Text}
+use Rattle.schema_definitions.specs.Reports.{Unit_, Error, report_of}
+use Rattle.schema_definitions.specs.Matching.{Matching, Pair}
+use Rattle.schema_definitions.specs.Keywords.{Answer, Answers, Fault, Gives, MatchPoint, Question, Reply, Turn, all_of_it, ask, done, first_of_it, for_all, for_first, for_units, for_verdict, match_text, own, passed, truth, unit_of_it}
+use Rattle.schema_definitions.specs.Keywords as spec
+use Rattle.schema_definitions.specs.Laws.{first_fault}
+use Rattle.schema_definitions.specs.Runs.{first_error}
+use Rattle.schema_parts.specs.KeywordViews.{is_nil, mode_of, no_gives, option_list, with_errors, fresh}
+use Rattle.schema_parts.specs.declared.keyword.Mode.{Mode}
+use Rattle.schema_parts.specs.declared.keyword.Mode.TheVariants as mode
 use Rattle.keyword_ways.specs.declared.run.Stage.{Stage}
 use Rattle.keyword_ways.specs.declared.run.Stage.TheVariants.{Begun, Asked, Counted, Ended}
 use Rattle.keyword_ways.specs.Ways.{Way, asks_match, described, evaluated, is_matched, match_point, unless, tells, passes_on, passes_some, judges, branches, branch, branch_number, chosen, counted_at, given, judged_at, plain, way_holds, way_faults, way_units, refused, with_first, noted, with_unit, taken, goes_on, nth, asked, stage_at, stage_some, next_if, next_some, step_at, stage_after, answer_after, mode_from, way_left, way_turns, left_of}

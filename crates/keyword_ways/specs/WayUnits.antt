@@ -1,12 +1,12 @@
 -- In each mode that wants no units, a run asks no child for its units.
 use Rattle.std.proofs.Common.{Bool, None, Option, Some, refl, suc, sym, zero, ℕ, ◌+◌, ◌∙◌, ◌≡◌}
-use Rattle.schema_reports.specs.Instance.{Subject}
-use Rattle.schema_reports.specs.Keywords.{Answer, Question, Reply, for_all, for_first, for_units, for_verdict, no_reply}
-use Rattle.schema_reports.specs.Keywords as spec
-use Rattle.schema_node.specs.KeywordViews.{mode_of}
-use Rattle.schema_node.specs.UnitQuestions.{AlwaysAsksForLess, AsksForLess, AsksNoUnits}
-use Rattle.schema_node.specs.declared.context.keyword.Mode.{Mode}
-use Rattle.schema_node.specs.declared.context.keyword.Mode.TheVariants as mode
+use Rattle.schema_definitions.specs.Instance.{Subject}
+use Rattle.schema_definitions.specs.Keywords.{Answer, Question, Reply, for_all, for_first, for_units, for_verdict, no_reply}
+use Rattle.schema_definitions.specs.Keywords as spec
+use Rattle.schema_parts.specs.KeywordViews.{mode_of}
+use Rattle.schema_parts.specs.UnitQuestions.{AlwaysAsksForLess, AsksForLess, AsksNoUnits}
+use Rattle.schema_parts.specs.declared.keyword.Mode.{Mode}
+use Rattle.schema_parts.specs.declared.keyword.Mode.TheVariants as mode
 use Rattle.keyword_ways.specs.declared.run.Stage.{Stage}
 use Rattle.keyword_ways.specs.declared.run.Stage.TheVariants.{Asked, Begun, Counted, Ended}
 use Rattle.keyword_ways.specs.declared.run.Progress.{Progress}

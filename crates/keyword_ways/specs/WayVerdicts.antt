@@ -1,11 +1,11 @@
 -- A run for the verdict asks for verdicts.
 use Rattle.std.proofs.Common.{Bool, None, Option, Some, refl, suc, zero, ℕ, ◌+◌, ◌≡◌}
-use Rattle.schema_reports.specs.Instance.{Subject}
-use Rattle.schema_reports.specs.Keywords.{Answer, Question, Reply, for_verdict, no_reply}
-use Rattle.schema_reports.specs.Remembering.{AlwaysAsksVerdict, AsksVerdict, EachAsksVerdicts}
-use Rattle.schema_node.specs.KeywordViews.{mode_of}
-use Rattle.schema_node.specs.declared.context.keyword.Mode.{Mode}
-use Rattle.schema_node.specs.declared.context.keyword.Mode.TheVariants as mode
+use Rattle.schema_definitions.specs.Instance.{Subject}
+use Rattle.schema_definitions.specs.Keywords.{Answer, Question, Reply, for_verdict, no_reply}
+use Rattle.schema_definitions.specs.Remembering.{AlwaysAsksVerdict, AsksVerdict, EachAsksVerdicts}
+use Rattle.schema_parts.specs.KeywordViews.{mode_of}
+use Rattle.schema_parts.specs.declared.keyword.Mode.{Mode}
+use Rattle.schema_parts.specs.declared.keyword.Mode.TheVariants as mode
 use Rattle.keyword_ways.specs.declared.run.Stage.{Stage}
 use Rattle.keyword_ways.specs.declared.run.Stage.TheVariants.{Asked, Begun, Counted, Ended}
 use Rattle.keyword_ways.specs.declared.run.Progress.{Progress}

@@ -1,10 +1,10 @@
 -- What the keywords of a type say of an instance, where each goes about it in a way. `way` names the way: whether texts are
 -- spoken of (one counts as empty where they are not), what is known of the keyword, and the instance.
 use Rattle.std.specs.Prelude.{Bool, List, [], false, ℕ}
-use Rattle.schema_reports.specs.Instance.{Subject, Text}
-use Rattle.schema_reports.specs.Keywords.{Answer, Keywords}
-use Rattle.schema_reports.specs.Turns.{Standing}
-use Rattle.schema_node.specs.KeywordViews.{fresh}
+use Rattle.schema_definitions.specs.Instance.{Subject, Text}
+use Rattle.schema_definitions.specs.Keywords.{Answer, Keywords}
+use Rattle.schema_definitions.specs.Turns.{Standing}
+use Rattle.schema_parts.specs.KeywordViews.{fresh}
 use Rattle.keyword_ways.specs.declared.run.Progress.{Progress}
 use Rattle.keyword_ways.specs.Ways.{Way, questions, way_begin, way_faults, way_holds, way_left, way_step, way_turn, way_turns, way_units}
 use Rattle.keyword_ways.specs.WayRuns.{Replies, end_at, fits_at, replies_by}

@@ -4,15 +4,15 @@
 -- turns follow from that.
 use Rattle.std.specs.List.{list_all}
 use Rattle.std.specs.Prelude.{Bool, List, None, Option, Some, [], false, flat_map, if◌then◌else◌, length, map, not, suc, true, zero, ℕ, ◌++◌, ◌+◌, ◌-◌, ◌∷◌}
-use Rattle.schema_reports.specs.Instance.{Text}
-use Rattle.schema_reports.specs.Reports.{Described, Unit_, report_of}
-use Rattle.schema_reports.specs.Matching.{Matching, Pair}
-use Rattle.schema_reports.specs.Keywords.{Answer, Answers, Fault, Gives, MatchPoint, Own, Question, Reply, Spot, Turn, all_of_it, ask, done, first_of_it, for_all, for_first, for_units, for_verdict, match_text, no_reply, own, passed, truth, unit_of_it}
-use Rattle.schema_reports.specs.Keywords as spec
+use Rattle.schema_definitions.specs.Instance.{Text}
+use Rattle.schema_definitions.specs.Reports.{Described, Unit_, report_of}
+use Rattle.schema_definitions.specs.Matching.{Matching, Pair}
+use Rattle.schema_definitions.specs.Keywords.{Answer, Answers, Fault, Gives, MatchPoint, Own, Question, Reply, Spot, Turn, all_of_it, ask, done, first_of_it, for_all, for_first, for_units, for_verdict, match_text, no_reply, own, passed, truth, unit_of_it}
+use Rattle.schema_definitions.specs.Keywords as spec
 use Rattle.schema_reports.specs.EvaluationResults.{errored}
-use Rattle.schema_node.specs.KeywordViews.{is_nil, mode_of, no_gives, option_list, with_errors}
-use Rattle.schema_node.specs.declared.context.keyword.Mode.{Mode}
-use Rattle.schema_node.specs.declared.context.keyword.Mode.TheVariants as mode
+use Rattle.schema_parts.specs.KeywordViews.{is_nil, mode_of, no_gives, option_list, with_errors}
+use Rattle.schema_parts.specs.declared.keyword.Mode.{Mode}
+use Rattle.schema_parts.specs.declared.keyword.Mode.TheVariants as mode
 use Rattle.keyword_ways.specs.declared.run.Stage.{Stage}
 use Rattle.keyword_ways.specs.declared.run.Stage.TheVariants.{Begun, Asked, Counted, Ended}
 use Rattle.keyword_ways.specs.declared.run.Progress.{Progress}

@@ -2,16 +2,16 @@
 ghost use Rattle.std.specs.Prelude.{All, ◌≡◌, ◌++◌, [], Bool, IfOk, map, string_bytes};
 ghost use Rattle.serde_json.specs.Data.{Data};
 ghost use Rattle.schema_reports.specs.ReportViews.{BorrowsItsPlace, error_of, spoken};
-ghost use Rattle.schema_reports.specs.Keywords.{own, passed};
-ghost use Rattle.schema_node.specs.declared.context.keyword.Fault.TheVariants.{Passed};
-ghost use Rattle.schema_node.specs.FaultViews.{errors_in, faults_in, PassesBorrowed};
-ghost use Rattle.schema_node.specs.KeywordViews.{answer_of, fault_of, reply_of};
+ghost use Rattle.schema_definitions.specs.Keywords.{own, passed};
+ghost use Rattle.schema_parts.specs.declared.keyword.Fault.TheVariants.{Passed};
+ghost use Rattle.schema_parts.specs.FaultViews.{errors_in, faults_in, PassesBorrowed};
+ghost use Rattle.schema_parts.specs.KeywordViews.{answer_of, fault_of, reply_of};
 ghost use Rattle.keyword_ways.specs.FaultLists.{first_kept};
 ghost use Rattle.keyword_ways.specs.Tallies.{says_yes};
 ghost use Rattle.keyword_ways.specs.Ways.{evaluated, goes_on, noted_one, plain, refused, taken, with_first};
 
 use crate::units::{invalidated, with_unit};
-use schema_node::context::keyword::{Answer, Fault, Mode, OwnError, Reply};
+use schema_parts::keyword::{Answer, Fault, Mode, OwnError, Reply};
 use schema_reports::evaluation::ErrorDescription;
 use schema_reports::location::OutOfMemory;
 use schema_reports::reports::ValidationError;

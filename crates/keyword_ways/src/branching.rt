@@ -2,14 +2,14 @@
 ghost use Rattle.std.specs.Prelude.{All, ◌≡◌, Bool, option_map, IfOk};
 ghost use Rattle.serde_json.specs.Data.{Data};
 ghost use Rattle.schema_reports.specs.ReportViews.{BorrowsItsPlace};
-ghost use Rattle.schema_node.specs.FaultViews.{errors_in, faults_in, PassesBorrowed};
-ghost use Rattle.schema_node.specs.KeywordViews.{answer_of, reply_of, turn_of};
+ghost use Rattle.schema_parts.specs.FaultViews.{errors_in, faults_in, PassesBorrowed};
+ghost use Rattle.schema_parts.specs.KeywordViews.{answer_of, reply_of, turn_of};
 ghost use Rattle.keyword_ways.specs.Items.{child_here};
 ghost use Rattle.keyword_ways.specs.Ways.{asked, branch_number, branches, chosen, stage_at, way_step, way_turn};
 
 use crate::answers::{says_yes, take};
 use crate::run::{Progress, Stage};
-use schema_node::context::keyword::{Answer, Below, Mode, Reply, Step};
+use schema_parts::keyword::{Answer, Below, Mode, Reply, Step};
 use schema_reports::location::OutOfMemory;
 use std::alloc::Global;
 

@@ -2,13 +2,13 @@
 //! it holds, its name and its error's text; its turns follow.
 ghost use Rattle.std.specs.Prelude.{All, ◌≡◌, ℕ, Bool, false, IfOk, map, string_bytes, true};
 ghost use Rattle.serde_json.specs.Data.{Data};
-ghost use Rattle.schema_reports.specs.Instance.{Subject, Text};
+ghost use Rattle.schema_definitions.specs.Instance.{Subject, Text};
 ghost use Rattle.schema_reports.specs.InstanceTexts.{subject_has_float};
 ghost use Rattle.schema_reports.specs.InstanceViews.{subject_of};
-ghost use Rattle.schema_reports.specs.Keywords.{Question, ask};
+ghost use Rattle.schema_definitions.specs.Keywords.{Question, ask};
 ghost use Rattle.schema_reports.specs.ReportViews.{BorrowsItsPlace, spoken};
-ghost use Rattle.schema_node.specs.FaultViews.{errors_in, faults_in, PassesBorrowed};
-ghost use Rattle.schema_node.specs.KeywordViews.{answer_of, mode_of, reply_of, turn_of, Tells};
+ghost use Rattle.schema_parts.specs.FaultViews.{errors_in, faults_in, PassesBorrowed};
+ghost use Rattle.schema_parts.specs.KeywordViews.{answer_of, mode_of, reply_of, turn_of, Tells};
 ghost use Rattle.keyword_ways.specs.Items.{each_from};
 ghost use Rattle.keyword_ways.specs.OwnWays.{judge_way, spoken_way};
 ghost use Rattle.keyword_ways.specs.Ways.{noted, unless, way_step, way_turn};
@@ -16,7 +16,7 @@ ghost use Rattle.keyword_ways.specs.Ways.{noted, unless, way_step, way_turn};
 use crate::answers::{note, refuse};
 use crate::judging::{Judge, Judging, judge_on};
 use crate::run::Progress;
-use schema_node::context::keyword::{Answer, Mode, Reply, Step};
+use schema_parts::keyword::{Answer, Mode, Reply, Step};
 use schema_reports::instance::Instance;
 use schema_reports::location::OutOfMemory;
 use std::alloc::Global;

@@ -1,9 +1,9 @@
 //! A run that judges: it asks one numbered question after the other, and tells errors by how many are answered by yes.
 ghost use Rattle.std.specs.Prelude.{All, ◌≡◌, ◌+◌, ℕ, Bool, IfOk, min, not};
 ghost use Rattle.serde_json.specs.Data.{Data};
-ghost use Rattle.schema_reports.specs.Keywords.{Answer as AnswerOfRun, Question, Reply as ReplyOfRun};
-ghost use Rattle.schema_node.specs.FaultViews.{faults_in, PassesBorrowed};
-ghost use Rattle.schema_node.specs.KeywordViews.{answer_of, reply_of};
+ghost use Rattle.schema_definitions.specs.Keywords.{Answer as AnswerOfRun, Question, Reply as ReplyOfRun};
+ghost use Rattle.schema_parts.specs.FaultViews.{faults_in, PassesBorrowed};
+ghost use Rattle.schema_parts.specs.KeywordViews.{answer_of, reply_of};
 ghost use Rattle.keyword_ways.specs.Asking.{nth_at};
 ghost use Rattle.keyword_ways.specs.Items.{child_here, each_from};
 ghost use Rattle.keyword_ways.specs.Judging.{counted_of, judging_answer, judging_turn, kept_at};
@@ -13,7 +13,7 @@ ghost use Rattle.keyword_ways.specs.Ways.{answer_after, asked, counted_at, judge
 use crate::answers::says_yes;
 use crate::run::{Progress, Stage};
 use crate::units::keep_child;
-use schema_node::context::keyword::{Answer, Mode, Reply};
+use schema_parts::keyword::{Answer, Mode, Reply};
 use schema_reports::location::OutOfMemory;
 use std::alloc::Global;
 

@@ -1,20 +1,20 @@
 //! Keywords that ask nothing. An author says when such a keyword holds, its name and its error's text; all laws follow.
 ghost use Rattle.std.specs.Prelude.{All, ◌≡◌, Bool, false, IfOk, map, string_bytes, true};
 ghost use Rattle.serde_json.specs.Data.{Data};
-ghost use Rattle.schema_reports.specs.Instance.{Subject, Text};
+ghost use Rattle.schema_definitions.specs.Instance.{Subject, Text};
 ghost use Rattle.schema_reports.specs.InstanceTexts.{subject_has_float};
 ghost use Rattle.schema_reports.specs.InstanceViews.{subject_of};
-ghost use Rattle.schema_reports.specs.Keywords.{done};
+ghost use Rattle.schema_definitions.specs.Keywords.{done};
 ghost use Rattle.schema_reports.specs.ReportViews.{BorrowsItsPlace, spoken};
-ghost use Rattle.schema_node.specs.FaultViews.{errors_in, faults_in, PassesBorrowed};
-ghost use Rattle.schema_node.specs.KeywordViews.{answer_of, reply_of, turn_of, Tells};
+ghost use Rattle.schema_parts.specs.FaultViews.{errors_in, faults_in, PassesBorrowed};
+ghost use Rattle.schema_parts.specs.KeywordViews.{answer_of, reply_of, turn_of, Tells};
 ghost use Rattle.keyword_ways.specs.OwnWays.{leaf_way, spoken_way};
 ghost use Rattle.keyword_ways.specs.Ways.{noted, unless, way_turn};
 
 use crate::answers::{note, refuse};
 use crate::run::Progress;
 use crate::telling::tell_on;
-use schema_node::context::keyword::{Answer, Mode, Reply, Step, Validate};
+use schema_parts::keyword::{Answer, Mode, Reply, Step, Validate};
 use schema_reports::instance::Instance;
 use schema_reports::location::OutOfMemory;
 use std::alloc::Global;

@@ -1,15 +1,15 @@
 //! A run that asks whether a pattern matches a text, and tells an error where it does not.
 ghost use Rattle.std.specs.Prelude.{◌≡◌, Bool};
-ghost use Rattle.schema_reports.specs.Instance.{Text};
-ghost use Rattle.schema_reports.specs.Keywords.{Answer as AnswerOfRun, match_text};
-ghost use Rattle.schema_reports.specs.Matching.{Pair};
-ghost use Rattle.schema_node.specs.KeywordViews.{point_of, reply_of, turn_of};
+ghost use Rattle.schema_definitions.specs.Instance.{Text};
+ghost use Rattle.schema_definitions.specs.Keywords.{Answer as AnswerOfRun, match_text};
+ghost use Rattle.schema_definitions.specs.Matching.{Pair};
+ghost use Rattle.schema_parts.specs.KeywordViews.{point_of, reply_of, turn_of};
 ghost use Rattle.keyword_ways.specs.MatchTurns.{match_answer, match_turn};
 ghost use Rattle.keyword_ways.specs.Ways.{asks_match, match_point, way_step, way_turn};
 
 use crate::answers::says_yes;
 use crate::run::{Progress, Stage};
-use schema_node::context::keyword::{MatchPoint, Mode, Reply, Step};
+use schema_parts::keyword::{MatchPoint, Mode, Reply, Step};
 
 /// What a turn of a run that asks a match does.
 #[derive(Clone, Copy)]

@@ -2,16 +2,16 @@
 //! keyword follow.
 ghost use Rattle.std.specs.Prelude.{All, ◌≡◌, Bool, IfOk};
 ghost use Rattle.serde_json.specs.Data.{Data};
-ghost use Rattle.schema_reports.specs.Instance.{Subject};
+ghost use Rattle.schema_definitions.specs.Instance.{Subject};
 ghost use Rattle.schema_reports.specs.InstanceViews.{subject_of};
 ghost use Rattle.schema_reports.specs.ReportViews.{BorrowsItsPlace};
-ghost use Rattle.schema_node.specs.FaultViews.{errors_in, faults_in, PassesBorrowed};
-ghost use Rattle.schema_node.specs.KeywordViews.{answer_of, reply_of, turn_of, Tells};
+ghost use Rattle.schema_parts.specs.FaultViews.{errors_in, faults_in, PassesBorrowed};
+ghost use Rattle.schema_parts.specs.KeywordViews.{answer_of, reply_of, turn_of, Tells};
 ghost use Rattle.keyword_ways.specs.OwnWays.{spoken_way, AlwaysPresent};
 ghost use Rattle.keyword_ways.specs.Ways.{Way, way_step, way_turn};
 
 use crate::run::Progress;
-use schema_node::context::keyword::{Answer, Mode, Reply, Step, Validate};
+use schema_parts::keyword::{Answer, Mode, Reply, Step, Validate};
 use schema_reports::instance::Instance;
 use schema_reports::location::OutOfMemory;
 use std::alloc::Global;

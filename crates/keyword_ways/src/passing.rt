@@ -2,17 +2,17 @@
 ghost use Rattle.std.specs.Prelude.{All, ◌≡◌, ◌≤◌, ◌+◌, ◌^◌, ◌<◌, ℕ, Bool, List, Option, length, option_map, IfOk};
 ghost use Rattle.serde_json.specs.Data.{Data};
 ghost use Rattle.schema_reports.specs.ReportViews.{BorrowsItsPlace};
-ghost use Rattle.schema_reports.specs.Keywords.{Question};
-ghost use Rattle.schema_node.specs.FaultViews.{errors_in, faults_in, PassesBorrowed};
-ghost use Rattle.schema_node.specs.KeywordViews.{answer_of, reply_of, turn_of};
-ghost use Rattle.schema_node.specs.declared.context.keyword.Mode.{Mode as ModeOfRun};
+ghost use Rattle.schema_definitions.specs.Keywords.{Question};
+ghost use Rattle.schema_parts.specs.FaultViews.{errors_in, faults_in, PassesBorrowed};
+ghost use Rattle.schema_parts.specs.KeywordViews.{answer_of, reply_of, turn_of};
+ghost use Rattle.schema_parts.specs.declared.keyword.Mode.{Mode as ModeOfRun};
 ghost use Rattle.keyword_ways.specs.Asking.{IsNext, IsNextFrom, nth_at, stage_of};
 ghost use Rattle.keyword_ways.specs.Items.{child_here, each_from};
 ghost use Rattle.keyword_ways.specs.Ways.{answer_after, asked, passes_on, way_step, way_turn};
 
 use crate::answers::{goes_on, take};
 use crate::run::{Progress, Stage};
-use schema_node::context::keyword::{Answer, Below, Mode, Reply, Step};
+use schema_parts::keyword::{Answer, Below, Mode, Reply, Step};
 use schema_reports::location::OutOfMemory;
 use std::alloc::Global;
 

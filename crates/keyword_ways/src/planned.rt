@@ -1,13 +1,13 @@
 //! Keywords that say by a plan how they go about an instance. Their runs and their laws are the same for all of them.
 ghost use Rattle.std.specs.Prelude.{All, ◌≡◌, ◌∷◌, [], Bool, IfOk, Some, false, refl, string_bytes, true};
 ghost use Rattle.serde_json.specs.Data.{Data};
-ghost use Rattle.schema_reports.specs.Instance.{Subject, Text};
+ghost use Rattle.schema_definitions.specs.Instance.{Subject, Text};
 ghost use Rattle.schema_reports.specs.InstanceTexts.{subject_has_float};
 ghost use Rattle.schema_reports.specs.InstanceViews.{subject_of};
-ghost use Rattle.schema_reports.specs.Keywords.{done};
+ghost use Rattle.schema_definitions.specs.Keywords.{done};
 ghost use Rattle.schema_reports.specs.ReportViews.{BorrowsItsPlace, spoken};
-ghost use Rattle.schema_node.specs.FaultViews.{errors_in, faults_in, PassesBorrowed};
-ghost use Rattle.schema_node.specs.KeywordViews.{answer_of, reply_of, turn_of, Tells as TellsRightly};
+ghost use Rattle.schema_parts.specs.FaultViews.{errors_in, faults_in, PassesBorrowed};
+ghost use Rattle.schema_parts.specs.KeywordViews.{answer_of, reply_of, turn_of, Tells as TellsRightly};
 ghost use Rattle.keyword_ways.specs.Plans.{asks_count, asks_of, least_way, plan_ways, question_of};
 ghost use Rattle.keyword_ways.specs.OwnWays.{leaf_way, spoken_way};
 ghost use Rattle.keyword_ways.specs.Ways.{asked, noted, passes_on, way_step, way_turn};
@@ -18,7 +18,7 @@ use crate::judging::{Judge, Judging, judge_on};
 use crate::passing::next_number;
 use crate::run::Progress;
 use crate::telling::tell_on;
-use schema_node::context::keyword::{Answer, Below, Mode, Reply, Step, Validate};
+use schema_parts::keyword::{Answer, Below, Mode, Reply, Step, Validate};
 use schema_reports::instance::Instance;
 use schema_reports::location::OutOfMemory;
 use std::alloc::Global;

@@ -1,9 +1,9 @@
 //! How far a run has come.
 ghost use Rattle.std.specs.Prelude.{◌≡◌};
-ghost use Rattle.schema_node.specs.KeywordViews.{mode_of};
+ghost use Rattle.schema_parts.specs.KeywordViews.{mode_of};
 ghost use Rattle.keyword_ways.specs.Ways.{way_begin};
 
-use schema_node::context::keyword::Mode;
+use schema_parts::keyword::Mode;
 
 /// How far a run has come: before its first turn, after the question of this place in order, or at its end.
 #[derive(Clone, Copy)]

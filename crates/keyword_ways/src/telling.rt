@@ -1,6 +1,6 @@
 //! A run that tells: it notes the keyword's own errors in its first turn, and asks nothing.
 ghost use Rattle.std.specs.Prelude.{◌≡◌, if◌then◌else◌};
-ghost use Rattle.schema_reports.specs.Keywords.{Answer as AnswerOfRun};
+ghost use Rattle.schema_definitions.specs.Keywords.{Answer as AnswerOfRun};
 ghost use Rattle.keyword_ways.specs.declared.run.Stage.TheVariants.{Ended};
 ghost use Rattle.keyword_ways.specs.Ways.{at_first};
 

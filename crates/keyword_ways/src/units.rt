@@ -3,14 +3,14 @@ ghost use Rattle.std.specs.Prelude.{All, ◌≡◌, [], Bool, false, IfOk};
 ghost use Rattle.serde_json.specs.Data.{Data};
 ghost use Rattle.schema_reports.specs.EvaluationResults.{gives_of};
 ghost use Rattle.schema_reports.specs.UnitViews.{unit_of};
-ghost use Rattle.schema_node.specs.FaultViews.{faults_in, PassesBorrowed};
-ghost use Rattle.schema_node.specs.KeywordViews.{answer_of, reply_of};
+ghost use Rattle.schema_parts.specs.FaultViews.{faults_in, PassesBorrowed};
+ghost use Rattle.schema_parts.specs.KeywordViews.{answer_of, reply_of};
 ghost use Rattle.keyword_ways.specs.Judging.{kept_at};
 ghost use Rattle.keyword_ways.specs.Tallies.{in_evaluation, with_inside};
 ghost use Rattle.keyword_ways.specs.Ways.{with_unit};
 
 use crate::run::Stage;
-use schema_node::context::keyword::{Answer, Reply};
+use schema_parts::keyword::{Answer, Reply};
 use schema_reports::evaluation::EvaluationNode;
 use schema_reports::evaluation_result::EvaluationResult;
 use schema_reports::location::OutOfMemory;

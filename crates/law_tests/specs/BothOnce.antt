@@ -4,16 +4,16 @@ use Rattle.std.proofs.Common.{◌≡◌, ◌∙◌, ℕ, zero, suc, ◌<◌, ◌
 use Rattle.std.specs.List.{list_any}
 use Rattle.std.specs.Prelude.{All, if◌then◌else◌, ⊤}
 use Rattle.std.proofs.lemmas.List.Elements.{All-nil, All-cons, All-head, All-tail, All-weaker}
-use Rattle.schema_reports.specs.Instance.{Subject, Text}
-use Rattle.schema_reports.specs.Reports.{Unit_, report_of}
-use Rattle.schema_reports.specs.Keywords.{Answer, Answers, Keywords, Marked, Mode, Question, Reply, Turn, a_child, all_of_it, ask, done, first_of_it, for_all, for_first, for_units, for_verdict, here, mark, no_reply, truth, unit_of_it}
-use Rattle.schema_reports.specs.Laws.{AnsweredAlike, AsksRightly, IsPresent, IsRight, steps_below}
-use Rattle.schema_reports.specs.Matching.{Matching}
-use Rattle.schema_reports.specs.Remembering.{AlwaysAsksVerdict, AsksVerdict, EachAsksVerdicts}
-use Rattle.schema_reports.specs.Runs.{with_mark}
-use Rattle.schema_reports.specs.Turns.{FunctionLaws, Standing, TurnLaws, marks_after, next, reply_to, step_at, turned}
-use Rattle.schema_node.specs.KeywordViews.{fresh}
-use Rattle.schema_node.specs.UnitQuestions.{AlwaysAsksForLess, AsksForLess, AsksNoUnits}
+use Rattle.schema_definitions.specs.Instance.{Subject, Text}
+use Rattle.schema_definitions.specs.Reports.{Unit_, report_of}
+use Rattle.schema_definitions.specs.Keywords.{Answer, Answers, Keywords, Marked, Mode, Question, Reply, Turn, a_child, all_of_it, ask, done, first_of_it, for_all, for_first, for_units, for_verdict, here, mark, no_reply, truth, unit_of_it}
+use Rattle.schema_definitions.specs.Laws.{AnsweredAlike, AsksRightly, IsPresent, IsRight, steps_below}
+use Rattle.schema_definitions.specs.Matching.{Matching}
+use Rattle.schema_definitions.specs.Remembering.{AlwaysAsksVerdict, AsksVerdict, EachAsksVerdicts}
+use Rattle.schema_definitions.specs.Runs.{with_mark}
+use Rattle.schema_definitions.specs.Turns.{FunctionLaws, Standing, TurnLaws, marks_after, next, reply_to, step_at, turned}
+use Rattle.schema_parts.specs.KeywordViews.{fresh}
+use Rattle.schema_parts.specs.UnitQuestions.{AlwaysAsksForLess, AsksForLess, AsksNoUnits}
 use Rattle.law_tests.specs.Refusals.{agree, and_true, refusals, refusals_pass, refusals_stand, told, told_all, told_first, told_gives, told_valid, told_verdict, unit_of}
 use Rattle.law_tests.specs.declared.both_once.Stage.{Stage}
 use Rattle.law_tests.specs.declared.both_once.Stage.TheVariants as stage

@@ -4,15 +4,15 @@ use Rattle.std.proofs.Common.{◌≡◌, ◌∙◌, ℕ, zero, suc, ◌+◌, ◌
 use Rattle.std.specs.Prelude.{All, Contains, ⊤}
 use Rattle.std.specs.List.{list_all}
 use Rattle.std.proofs.lemmas.List.Elements.{All-nil, All-cons, All-head, All-tail, All-weaker, Contains-append_right}
-use Rattle.schema_reports.specs.Instance.{Subject, Text}
-use Rattle.schema_reports.specs.Reports.{Unit_, report_of}
-use Rattle.schema_reports.specs.Keywords.{Answer, Answers, Keywords, Marked, Mode, Question, Reply, Turn, all_of_it, ask, done, first_of_it, for_all, for_first, for_units, for_verdict, no_reply, truth, unit_of_it}
-use Rattle.schema_reports.specs.Laws.{AsksRightly, IsPresent, IsRight, steps_below}
-use Rattle.schema_reports.specs.Matching.{Matching}
-use Rattle.schema_reports.specs.Remembering.{AlwaysAsksVerdict, AsksVerdict, EachAsksVerdicts}
-use Rattle.schema_reports.specs.Turns.{FunctionLaws, Standing, TurnLaws, next, step_at, turned}
-use Rattle.schema_node.specs.KeywordViews.{fresh}
-use Rattle.schema_node.specs.UnitQuestions.{AlwaysAsksForLess, AsksForLess, AsksNoUnits}
+use Rattle.schema_definitions.specs.Instance.{Subject, Text}
+use Rattle.schema_definitions.specs.Reports.{Unit_, report_of}
+use Rattle.schema_definitions.specs.Keywords.{Answer, Answers, Keywords, Marked, Mode, Question, Reply, Turn, all_of_it, ask, done, first_of_it, for_all, for_first, for_units, for_verdict, no_reply, truth, unit_of_it}
+use Rattle.schema_definitions.specs.Laws.{AsksRightly, IsPresent, IsRight, steps_below}
+use Rattle.schema_definitions.specs.Matching.{Matching}
+use Rattle.schema_definitions.specs.Remembering.{AlwaysAsksVerdict, AsksVerdict, EachAsksVerdicts}
+use Rattle.schema_definitions.specs.Turns.{FunctionLaws, Standing, TurnLaws, next, step_at, turned}
+use Rattle.schema_parts.specs.KeywordViews.{fresh}
+use Rattle.schema_parts.specs.UnitQuestions.{AlwaysAsksForLess, AsksForLess, AsksNoUnits}
 use Rattle.keyword_ways.specs.Items.{first_at_item, item_count}
 use Rattle.keyword_ways.specs.Places.{item_present}
 use Rattle.law_tests.specs.Refusals.{agree, and_true, refusals, refusals_pass, refusals_stand, told, told_all, told_first, told_gives, told_valid, told_verdict, unit_of}

@@ -1,16 +1,16 @@
 -- `x-items` and `type` with the value "array": each item accepts, by the run's mode; and an instance is an array.
 use Rattle.std.proofs.Common.{◌+◌, zero, suc, Bool, true, false, [], None, Option, Some}
 use Rattle.std.specs.Prelude.{codes, ◌++◌}
-use Rattle.schema_reports.specs.Instance.{Subject, Text}
-use Rattle.schema_reports.specs.Keywords.{Question, Reply}
-use Rattle.schema_reports.specs.Meaning.{subject_text}
+use Rattle.schema_definitions.specs.Instance.{Subject, Text}
+use Rattle.schema_definitions.specs.Keywords.{Question, Reply}
+use Rattle.schema_definitions.specs.Meaning.{subject_text}
 use Rattle.keyword_ways.specs.Items.{is_list}
 use Rattle.keyword_ways.specs.declared.planned.Asks.TheVariants as asks
 use Rattle.keyword_ways.specs.declared.planned.Plan.{Plan}
 use Rattle.keyword_ways.specs.declared.planned.Plan.TheVariants.{PassesOn, Tells}
 use Rattle.keyword_ways.specs.declared.run.Stage.{Stage}
 use Rattle.keyword_ways.specs.declared.run.Stage.TheVariants.{Asked, Begun, Counted, Ended}
-use Rattle.schema_node.specs.declared.context.keyword.Mode.{Mode}
+use Rattle.schema_parts.specs.declared.keyword.Mode.{Mode}
 use Rattle.keyword_ways.specs.Tallies.{asked_in, says_yes, tallied, wants_units}
 use Rattle.keyword_ways.specs.Somes.{question_of, some_from}
 use Rattle.keyword_ways.specs.Ways.{Way, asked, asks_match, branches, chosen, goes_on, judges, left_to_judge, next_if, next_some, nth, passes_on, passes_some, step_at, tells}

@@ -2,13 +2,13 @@
 use Rattle.std.proofs.Common.{refl}
 use Rattle.std.specs.Prelude.{Bool, None, Option, Some, [], bytes_eq, codes, false, true, ◌≡◌, ◌∷◌}
 use Rattle.serde_json.specs.Data.{Members}
-use Rattle.schema_reports.specs.Instance.{Text, to_member}
-use Rattle.schema_reports.specs.Drafts.{Draft, Vocabularies}
-use Rattle.schema_reports.specs.Making.{Script, a_keyword, for_items, nothing, then_compile, then_end, then_pending, then_reserve}
-use Rattle.schema_node.specs.MakerViews.{MakesRightly, Told, Waiting, a_reserved, a_skip, begun, ended, none_pending, nothing_yet, one_pending, the_number, waits, wants_pending, wants_reserved}
-use Rattle.schema_node.specs.declared.node.PendingSchemaNode.{PendingSchemaNode}
-use Rattle.schema_node.specs.declared.context.table.MakerStep.{MakerStep}
-use Rattle.schema_node.specs.declared.context.table.MakerStep.TheVariants as step
+use Rattle.schema_definitions.specs.Instance.{Text, to_member}
+use Rattle.schema_definitions.specs.Drafts.{Draft, Vocabularies}
+use Rattle.schema_definitions.specs.Making.{Script, a_keyword, for_items, nothing, then_compile, then_end, then_pending, then_reserve}
+use Rattle.schema_parts.specs.MakerViews.{MakesRightly, Told, Waiting, a_reserved, a_skip, begun, ended, none_pending, nothing_yet, one_pending, the_number, waits, wants_pending, wants_reserved}
+use Rattle.schema_parts.specs.declared.numbers.PendingSchemaNode.{PendingSchemaNode}
+use Rattle.schema_parts.specs.declared.table.MakerStep.{MakerStep}
+use Rattle.schema_parts.specs.declared.table.MakerStep.TheVariants as step
 use Rattle.law_tests.specs.ItemsWords.{items_absorbed}
 use Rattle.law_tests.specs.declared.items.ItemsKeyword.{ItemsKeyword}
 use Rattle.law_tests.specs.declared.items.ItemsPlan.{ItemsPlan}

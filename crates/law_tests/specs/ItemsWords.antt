@@ -1,10 +1,10 @@
 -- What the laws name of `x-items` and `type`, and that they keep them.
 use Rattle.std.proofs.Common.{◌∙◌, ℕ, Bool, List, refl, sym}
-use Rattle.schema_reports.specs.Instance.{Subject, Text}
-use Rattle.schema_reports.specs.Keywords.{Answer, Keywords}
-use Rattle.schema_reports.specs.Remembering.{EachAsksVerdicts}
-use Rattle.schema_reports.specs.Turns.{FunctionLaws, Standing, TurnLaws}
-use Rattle.schema_node.specs.UnitQuestions.{AsksNoUnits}
+use Rattle.schema_definitions.specs.Instance.{Subject, Text}
+use Rattle.schema_definitions.specs.Keywords.{Answer, Keywords}
+use Rattle.schema_definitions.specs.Remembering.{EachAsksVerdicts}
+use Rattle.schema_definitions.specs.Turns.{FunctionLaws, Standing, TurnLaws}
+use Rattle.schema_parts.specs.UnitQuestions.{AsksNoUnits}
 use Rattle.keyword_ways.specs.OwnWays.{own_absorbed, own_can_be, own_ends, own_fits, own_function_laws, own_remaining, own_turn_laws, own_words, spoken_ways}
 use Rattle.keyword_ways.specs.Plans.{plan_ways, plans_present}
 use Rattle.keyword_ways.specs.Ways.{Way}

@@ -3,12 +3,12 @@
 -- the other means.
 use Rattle.std.proofs.Common.{◌≡◌, ℕ, zero, suc, ◌+◌, ◌<◌, ◌⊎◌, [], List, Bool, true, false, refl, ap, arith, inl, inr}
 use Rattle.std.specs.Prelude.{if◌then◌else◌}
-use Rattle.schema_reports.specs.Instance.{Subject, Text}
-use Rattle.schema_reports.specs.Keywords.{Answer, Keywords, Mode, Reply, Turn, a_reservation, ask, done, ecma, for_units, for_verdict, mark, match_text, no_reply, unmark}
-use Rattle.schema_reports.specs.Laws.{AsksRightly}
-use Rattle.schema_reports.specs.Remembering.{AlwaysAsksVerdict, AsksVerdict, EachAsksVerdicts}
-use Rattle.schema_reports.specs.Turns.{FunctionLaws, Standing, TurnLaws, marks_after, next, reply_to, step_at, turned}
-use Rattle.schema_node.specs.UnitQuestions.{AlwaysAsksForLess, AsksForLess, AsksNoUnits}
+use Rattle.schema_definitions.specs.Instance.{Subject, Text}
+use Rattle.schema_definitions.specs.Keywords.{Answer, Keywords, Mode, Reply, Turn, a_reservation, ask, done, ecma, for_units, for_verdict, mark, match_text, no_reply, unmark}
+use Rattle.schema_definitions.specs.Laws.{AsksRightly}
+use Rattle.schema_definitions.specs.Remembering.{AlwaysAsksVerdict, AsksVerdict, EachAsksVerdicts}
+use Rattle.schema_definitions.specs.Turns.{FunctionLaws, Standing, TurnLaws, marks_after, next, reply_to, step_at, turned}
+use Rattle.schema_parts.specs.UnitQuestions.{AlwaysAsksForLess, AsksForLess, AsksNoUnits}
 use Rattle.law_tests.specs.declared.marking.Stage.{Stage}
 use Rattle.law_tests.specs.declared.marking.Stage.TheVariants as stage
 

@@ -2,12 +2,12 @@
 use Rattle.std.proofs.Common.{refl}
 use Rattle.std.proofs.lemmas.List.Elements.{All-cons, All-nil}
 use Rattle.std.specs.Prelude.{All, Bool, List, None, [], codes, false, if◌then◌else◌, true, ◌&&◌, ◌∷◌, ◌≡◌, ◌↔◌}
-use Rattle.schema_reports.specs.Instance.{Subject, Text}
+use Rattle.schema_definitions.specs.Instance.{Subject, Text}
 use Rattle.schema_reports.specs.ReportViews.{spoken}
-use Rattle.schema_reports.specs.Reports.{Described}
-use Rattle.schema_reports.specs.Keywords.{Answer, Answers, Fault, Gives, Mode, Question, for_all, for_first, for_units, for_verdict, own}
-use Rattle.schema_reports.specs.Laws.{PassesUnchanged, StandsInside, first_fault}
-use Rattle.schema_node.specs.KeywordViews.{fresh, no_gives, with_errors}
+use Rattle.schema_definitions.specs.Reports.{Described}
+use Rattle.schema_definitions.specs.Keywords.{Answer, Answers, Fault, Gives, Mode, Question, for_all, for_first, for_units, for_verdict, own}
+use Rattle.schema_definitions.specs.Laws.{PassesUnchanged, StandsInside, first_fault}
+use Rattle.schema_parts.specs.KeywordViews.{fresh, no_gives, with_errors}
 
 abbrev pub refusal_text : Bool → Text
 refusal_text texts = spoken texts (codes "is refused")

@@ -2,15 +2,15 @@
 use Rattle.std.proofs.Common.{ℕ, suc, zero, ◌<◌, [], List, Bool, false, refl, arith, inl}
 use Rattle.std.specs.Prelude.{⊤}
 use Rattle.std.proofs.lemmas.List.Elements.{All-nil, All-cons}
-use Rattle.schema_reports.specs.Instance.{Subject, Text}
-use Rattle.schema_reports.specs.Reports.{Unit_}
-use Rattle.schema_reports.specs.Keywords.{Answer, Answers, Keywords, Marked, Mode, Question, Reply, done, for_all, for_first, for_units, for_verdict, no_reply}
-use Rattle.schema_reports.specs.Laws.{IsRight, PassesUnchanged, StandsInside}
-use Rattle.schema_reports.specs.Matching.{Matching}
-use Rattle.schema_reports.specs.Remembering.{AlwaysAsksVerdict, EachAsksVerdicts}
-use Rattle.schema_reports.specs.Turns.{FunctionLaws, Standing, TurnLaws}
-use Rattle.schema_node.specs.KeywordViews.{fresh}
-use Rattle.schema_node.specs.UnitQuestions.{AlwaysAsksForLess, AsksNoUnits}
+use Rattle.schema_definitions.specs.Instance.{Subject, Text}
+use Rattle.schema_definitions.specs.Reports.{Unit_}
+use Rattle.schema_definitions.specs.Keywords.{Answer, Answers, Keywords, Marked, Mode, Question, Reply, done, for_all, for_first, for_units, for_verdict, no_reply}
+use Rattle.schema_definitions.specs.Laws.{IsRight, PassesUnchanged, StandsInside}
+use Rattle.schema_definitions.specs.Matching.{Matching}
+use Rattle.schema_definitions.specs.Remembering.{AlwaysAsksVerdict, EachAsksVerdicts}
+use Rattle.schema_definitions.specs.Turns.{FunctionLaws, Standing, TurnLaws}
+use Rattle.schema_parts.specs.KeywordViews.{fresh}
+use Rattle.schema_parts.specs.UnitQuestions.{AlwaysAsksForLess, AsksNoUnits}
 use Rattle.law_tests.specs.Refusals.{refusal, refused_in, refusals, unit_of}
 
 abbrev pub refusing_words : Bool → Keywords ⊤ (⊤ × Answer)

@@ -1,7 +1,7 @@
 //! A keyword with two children that holds where both accept. Its run marks each, and does not ask the second where that is
 //! marked already: then it is the first one again.
 ghost use Rattle.std.specs.Prelude.{◌≡◌, Bool};
-ghost use Rattle.schema_node.specs.KeywordViews.{reply_of};
+ghost use Rattle.schema_parts.specs.KeywordViews.{reply_of};
 ghost use Rattle.law_tests.specs.BothOnce.{says_yes};
 
 use crate::refusals::tell;

@@ -1,7 +1,7 @@
 //! A keyword that asks its only child of each item, the last one first, and refuses where one is refused. Its run counts the items
 //! that are left; their number is stored as it begins.
 ghost use Rattle.std.specs.Prelude.{◌≡◌, Bool};
-ghost use Rattle.schema_node.specs.KeywordViews.{reply_of};
+ghost use Rattle.schema_parts.specs.KeywordViews.{reply_of};
 ghost use Rattle.law_tests.specs.EachItem.{says_no};
 
 use crate::refusals::tell;

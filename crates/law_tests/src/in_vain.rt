@@ -11,7 +11,7 @@ pub struct InVain {}
 
 impl Validate for InVain {
     ghost use Rattle.std.specs.Prelude.{refl, true};
-    ghost use Rattle.schema_reports.specs.Keywords as spec;
+    ghost use Rattle.schema_definitions.specs.Keywords as spec;
     ghost use Rattle.law_tests.specs.InVain.{vain_absorbed, vain_can_be, vain_ends, vain_fits, vain_functions, vain_left};
     ghost use Rattle.law_tests.specs.InVain.{vain_turns, vain_units, vain_verdicts, vain_words};
 

@@ -1,18 +1,18 @@
 //! The table of `x-items`, and of `type`, which is made as if its value were "array". The maker of `x-items` asks for the number
 //! that is pending for items of its object, reserves one where there is none, and asks for its value.
 ghost use Rattle.std.specs.Prelude.{◌≡◌, ◌∷◌, [], IfOk};
-ghost use Rattle.schema_reports.specs.Instance.{to_member};
-ghost use Rattle.schema_node.specs.MakerViews.{maker_reply_of};
+ghost use Rattle.schema_definitions.specs.Instance.{to_member};
+ghost use Rattle.schema_parts.specs.MakerViews.{maker_reply_of};
 ghost use Rattle.law_tests.specs.ItemsTable.{AsksValue, Given, own_name};
 
 use crate::items::{ItemsKeyword, ItemsPlan};
 use keyword_ways::planned::Planned;
+use schema_keywords::keywords::{Draft, VocabularySet};
 use schema_node::context::schema_place::{SchemaPath, SchemaStep};
 use schema_node::context::table::{
     KeywordOrigin, KeywordTable, MakerReply, MakerStep, PendingKind,
 };
 use schema_node::node::PendingSchemaNode;
-use schema_reports::keywords::{Draft, VocabularySet};
 use schema_reports::location::OutOfMemory;
 use serde_json::{Map, Value};
 use std::alloc::Global;

@@ -1,6 +1,6 @@
 //! How the run of a keyword stands that marks a number while another run works.
 ghost use Rattle.std.specs.Prelude.{◌≡◌};
-ghost use Rattle.schema_node.specs.KeywordViews.{turn_of};
+ghost use Rattle.schema_parts.specs.KeywordViews.{turn_of};
 ghost use Rattle.law_tests.specs.Marking.{after, first, shown};
 
 use schema_node::context::keyword::Step;

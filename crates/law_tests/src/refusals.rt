@@ -1,8 +1,8 @@
 //! An answer that refuses.
 ghost use Rattle.std.specs.Prelude.{All, ◌≡◌, [], Bool, IfOk};
 ghost use Rattle.serde_json.specs.Data.{Data};
-ghost use Rattle.schema_node.specs.FaultViews.{faults_in, PassesBorrowed};
-ghost use Rattle.schema_node.specs.KeywordViews.{answer_of, fault_of};
+ghost use Rattle.schema_parts.specs.FaultViews.{faults_in, PassesBorrowed};
+ghost use Rattle.schema_parts.specs.KeywordViews.{answer_of, fault_of};
 ghost use Rattle.law_tests.specs.Refusals.{refusal, refused_in, told};
 
 use schema_node::context::keyword::{Answer, Fault, OwnError};

@@ -1,12 +1,12 @@
 //! Texts of errors, made and run through the traits' bounds.
 use bench_keywords::keyword::BenchKeyword;
 use bench_parts::table::BenchTable;
-use schema_node::context::keyword::{Answer, Fault, MatchPoint, Mode, Reply, Step, Validate};
-use schema_node::context::table::{KeywordOrigin, KeywordTable, MakerReply, MakerStep};
+use schema_keywords::keywords::{Draft, VocabularySet};
+use schema_parts::keyword::{Answer, Fault, MatchPoint, Mode, Reply, Step, Validate};
+use schema_parts::table::{KeywordOrigin, KeywordTable, MakerReply, MakerStep};
 use schema_reports::evaluation::{ChildList, ErrorDescription, EvaluationNode, UnitReport};
 use schema_reports::evaluation_result::EvaluationResult;
 use schema_reports::instance::Instance;
-use schema_reports::keywords::{Draft, VocabularySet};
 use schema_reports::location::{Location, OutOfMemory};
 use serde_json::{Map, Value};
 use std::alloc::Global;

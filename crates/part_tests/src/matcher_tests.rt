@@ -1,8 +1,8 @@
 //! What the matcher answers, through the trait's bound.
 use bench_parts::matcher::BenchMatcher;
-use schema_node::context::matcher::Matcher;
+use schema_matches::site::{Match, Reason};
+use schema_parts::matcher::Matcher;
 use schema_reports::location::OutOfMemory;
-use schema_reports::unfinished_matches::{Match, Reason};
 use std::alloc::Global;
 
 /// Whether a matcher says this: `yes`, `no`, or the text of a limit.

@@ -1,8 +1,8 @@
 //! The refusals, with their paths and texts, through the trait's bound.
 use crate::keyword_tests::draft_named;
 use bench_parts::meta::BenchMeta;
-use schema_node::context::meta::MetaValidators;
-use schema_reports::keywords::Draft;
+use schema_keywords::keywords::Draft;
+use schema_parts::meta::MetaValidators;
 use schema_reports::location::OutOfMemory;
 use schema_reports::reports::ValidationError;
 use serde_json::Value;

@@ -1,10 +1,11 @@
 //! Each public call that needs no keyword type once, with values of the standard.
 ghost use Rattle.std.specs.Prelude.{◌≡◌, []};
 
-use schema_node::context::keyword::Marked;
-use schema_node::context::schema_place::{SchemaPath, SchemaPlace, SchemaStep};
-use schema_node::context::validation::ValidationContext;
-use schema_node::node::{Edge, Entry, EntryForm, NodeForm, Nodes, SchemaNode};
+use schema_contexts::validation::ValidationContext;
+use schema_nodes::node::{Entry, EntryForm, NodeForm, Nodes};
+use schema_parts::keyword::Marked;
+use schema_parts::numbers::{Edge, SchemaNode};
+use schema_parts::schema_place::{SchemaPath, SchemaPlace, SchemaStep};
 use schema_reports::instance::{InstanceStep, Place};
 use schema_reports::location::{Location, LocationSegment, OutOfMemory};
 use std::alloc::Global;

@@ -1,8 +1,8 @@
 //! Evaluation paths under a reference: each call gives the right one, and from the 4,096th call on they are kept.
 
-use schema_node::context::kept_paths::KeptPaths;
-use schema_node::context::validation::ValidationContext;
-use schema_node::node::evaluation_path::EvaluationPath;
+use schema_contexts::evaluation_path::EvaluationPath;
+use schema_contexts::kept_paths::KeptPaths;
+use schema_contexts::validation::ValidationContext;
 use schema_reports::location::{Location, OutOfMemory};
 use std::alloc::Global;
 

@@ -2,9 +2,9 @@
 //! trait's bound.
 use bench_resolver::resolver::BenchResolver;
 use bench_resolver::resolver::documents::Document;
-use schema_node::context::resolver::{LookupError, Resolver, Target};
-use schema_node::context::schema_place::SchemaPlace;
-use schema_reports::keywords::{Draft, Vocabulary, VocabularySet};
+use schema_keywords::keywords::{Draft, Vocabulary, VocabularySet};
+use schema_parts::resolver::{LookupError, Resolver, Target};
+use schema_parts::schema_place::SchemaPlace;
 use schema_reports::location::OutOfMemory;
 use serde_json::Value;
 use std::alloc::Global;

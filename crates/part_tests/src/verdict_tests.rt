@@ -1,6 +1,6 @@
 //! When the verdict of a question is remembered, and when it is read.
-use schema_node::context::validation::ValidationContext;
-use schema_node::node::SchemaNode;
+use schema_contexts::validation::ValidationContext;
+use schema_parts::numbers::SchemaNode;
 use schema_reports::instance::{Instance, InstanceStep, Place};
 use schema_reports::location::OutOfMemory;
 use serde_json::{Map, Value};

@@ -1,5 +1,5 @@
 //! The table of the standard's keywords, cell by cell, and what keywords and vocabularies say of themselves.
-use schema_reports::keywords::*;
+use schema_keywords::keywords::*;
 use schema_reports::location::OutOfMemory;
 use serde_json::Value;
 use std::alloc::{AllocError, Global};

@@ -1,11 +1,12 @@
 //! Worked values from outside, and each public call once.
+use schema_matches::assumptions::MatchAssumptions;
+use schema_matches::site::{MatchFailure, MatchSite, Reason};
 use schema_reports::instance::{Instance, InstanceStep, Place};
 use schema_reports::location::{Location, OutOfMemory};
 use schema_reports::reports::ValidationError;
 use schema_reports::text::Text;
-use schema_reports::unfinished_matches::{
-    MatchAssumptions, MatchFailure, MatchSite, Outcomes, Reason, assume_each_outcome, errors,
-    errors_under_each, validity, validity_under_each,
+use schema_search::unfinished_matches::{
+    Outcomes, assume_each_outcome, errors, errors_under_each, validity, validity_under_each,
 };
 use serde_json::Value;
 use std::alloc::Global;

@@ -5,38 +5,39 @@ use Rattle.std.specs.Prelude.{AllPairs, Option, Some, None, slice_get, slice_ind
 use Rattle.std.proofs.lemmas.Bool.{eqb-true}
 use Rattle.std.proofs.lemmas.Slice.Eq.{bytes_eq-Decides}
 use Rattle.std.proofs.lemmas.Option.{slice_get-map, slice_get_within}
-use Rattle.schema_reports.specs.Instance.{Text}
-use Rattle.schema_reports.specs.Drafts.{Draft, Vocabularies, custom_vocabulary}
-use Rattle.schema_reports.specs.VocabularySets.{custom_of}
-use Rattle.schema_reports.specs.Resolving.{Resolver}
-use Rattle.schema_reports.specs.Matching.{Matcher}
-use Rattle.schema_reports.specs.Making.{Request, Table}
-use Rattle.schema_reports.specs.Keywords.{Keywords}
-use Rattle.schema_reports.specs.Parts.{Parts}
-use Rattle.schema_reports.specs.Plan.{Edge, Form, Key, Part, Plan, absolute_of, always, child, encoded, keyword, never, plan, reference, requested, same_key, these, without_fragment}
+use Rattle.schema_definitions.specs.Instance.{Text}
+use Rattle.schema_definitions.specs.Drafts.{Draft, Vocabularies, custom_vocabulary}
+use Rattle.schema_definitions.specs.VocabularySets.{custom_of}
+use Rattle.schema_definitions.specs.Resolving.{Resolver}
+use Rattle.schema_definitions.specs.Matching.{Matcher}
+use Rattle.schema_definitions.specs.Making.{Request, Table}
+use Rattle.schema_definitions.specs.Keywords.{Keywords}
+use Rattle.schema_definitions.specs.Parts.{Parts}
+use Rattle.schema_definitions.specs.Plan.{Edge, Form, Key, Part, Plan, absolute_of, always, child, encoded, keyword, never, plan, reference, requested, same_key, these, without_fragment}
 use Rattle.serde_json.specs.View.{view}
-use Rattle.schema_reports.specs.Reach.{Reached, asked_by, asked_edges, asked_for, at_first, different}
-use Rattle.schema_reports.specs.MapPointers as alone
-use Rattle.schema_reports.specs.MapPointers.{required_in, stands_in}
-use Rattle.schema_reports.specs.Refusals.{Cause, Stands, is_required, referred_by, stands_at, the_root, undeclared, unsupported_vocabulary}
-use Rattle.schema_reports.specs.Guarded.{Children, NodeEdge, NodeForm, NodePart, NodePlan, Nodes, node_always, node_child, node_keyword, node_never, node_reference, node_these}
-use Rattle.schema_reports.specs.Numbered.{IsNumber, Ranked, SameEdge, SameForm, SameParts, SamePlan, StandsFor}
-use Rattle.schema_node.specs.NodeTable.{IsOrdered, NodeEntry, absolute_in, numbered, shaped, shaped_form, plan_in}
-use Rattle.schema_node.proofs.RankedTable.{ranked_table}
-use Rattle.schema_compiler.specs.Compiling.{Each, In, Settled, StandsBelow, parts_of}
-use Rattle.schema_compiler.specs.Refusing.{AreDistinct, IsRefusal, Names}
+use Rattle.schema_meaning.specs.Reach.{Reached, asked_by, asked_edges, asked_for, at_first, different}
+use Rattle.schema_meaning.specs.MapPointers as alone
+use Rattle.schema_meaning.specs.MapPointers.{required_in, stands_in}
+use Rattle.schema_meaning.specs.Refusals.{Cause, Stands, is_required, referred_by, stands_at, the_root, undeclared, unsupported_vocabulary}
+use Rattle.schema_definitions.specs.Guarded.{Children, NodeEdge, NodeForm, NodePart, NodePlan, Nodes, node_always, node_child, node_keyword, node_never, node_reference, node_these}
+use Rattle.schema_meaning.specs.Numbered.{IsNumber, Ranked, SameEdge, SameForm, SameParts, SamePlan, StandsFor}
+use Rattle.schema_nodes.specs.NodeTable.{IsOrdered, NodeEntry, absolute_in, numbered, shaped, shaped_form, plan_in}
+use Rattle.schema_nodes.proofs.RankedTable.{ranked_table}
+use Rattle.schema_keys.specs.Compiling.{Each, In, Settled, StandsBelow, parts_of}
+use Rattle.schema_keys.specs.Refusing.{AreDistinct, IsRefusal, Names}
 use Rattle.schema_compiler.specs.Finding.{FindsAll, GuardsByStanding, standing_of}
 use Rattle.schema_compiler.specs.UnderWay.{EdgesWithin}
 use Rattle.schema_compiler.proofs.OtherCourses.{finds_all_too}
 use Rattle.schema_compiler.proofs.GuardsAgree.{guards_agree}
-use Rattle.schema_compiler.specs.Filling.{AreChildren, AreParts, IsForm, IsGrown, IsNode, IsPlan, IsPlanned, IsTable, LeadsTo, shown_base}
-use Rattle.schema_compiler.specs.Alone.{RefusesVocabularies}
+use Rattle.schema_keys.specs.ShownBases.{shown_base}
+use Rattle.schema_compiler.specs.Filling.{AreChildren, AreParts, IsForm, IsGrown, IsNode, IsPlan, IsPlanned, IsTable, LeadsTo}
+use Rattle.schema_keys.specs.Alone.{RefusesVocabularies}
 use Rattle.schema_compiler.specs.Compilation.{IsCompilation, IsCompilationAlone, RefusesAlone, RefusesRoot, all_parts}
-use Rattle.schema_compiler.specs.declared.compiler.error.BuildError.{BuildError}
-use Rattle.schema_compiler.specs.declared.compiler.error.BuildError.TheVariants.{KeywordRefused, Lookup, MetaSchema, MissingRoot, NodeLimit, NotASchema, OutOfMemory, ReferenceNotText, UnsupportedVocabulary}
-use Rattle.schema_compiler.proofs.Lists.{all_of, contains_of, each_append, each_in, each_map, in_of, there}
-use Rattle.schema_compiler.proofs.CustomVocabularies.{of_custom}
-use Rattle.schema_compiler.proofs.SameKeys.{and_parts, draft_true, one_key, schema_place_true, vocabularies_true}
+use Rattle.schema_keys.specs.declared.error.BuildError.{BuildError}
+use Rattle.schema_keys.specs.declared.error.BuildError.TheVariants.{KeywordRefused, Lookup, MetaSchema, MissingRoot, NodeLimit, NotASchema, OutOfMemory, ReferenceNotText, UnsupportedVocabulary}
+use Rattle.schema_keys.proofs.Lists.{all_of, contains_of, each_append, each_in, each_map, in_of, there}
+use Rattle.schema_keys.proofs.CustomVocabularies.{of_custom}
+use Rattle.schema_keys.proofs.SameKeys.{and_parts, draft_true, one_key, schema_place_true, vocabularies_true}
 
 -- two keys with the same parts are one
 same_key_true : {S K R : Type 0} (w : Parts S K R) → ((a b : S) → w.resolver.same_state a b ≡ true → a ≡ b) → (a b : Key S) → same_key w a b ≡ true → a ≡ b

@@ -3,23 +3,23 @@ use Rattle.std.proofs.Common.{◌≡◌, ℕ, Bool, true, false, cond, List, [],
 use Rattle.std.specs.Prelude.{Option, Some, None, nat_le}
 use Rattle.std.proofs.lemmas.List.{append-nil}
 use Rattle.serde_json.specs.Data.{Data, Members, member, no_members}
-use Rattle.schema_reports.specs.Instance.{Text}
-use Rattle.schema_reports.specs.Parts.{Parts}
-use Rattle.schema_reports.specs.Plan.{Edge, Key, Part, option_list, part, parts, sorted}
-use Rattle.schema_reports.specs.Reach.{members_edges}
-use Rattle.schema_reports.specs.Refusals.{Cause, members_causes}
-use Rattle.schema_reports.specs.Guarded.{NodeEdge, NodePart, form_edges, node_edges, node_these}
-use Rattle.schema_node.specs.NodeTable.{NodeEntry}
-use Rattle.schema_compiler.specs.Compiling.{Each, member_causes, member_edges}
+use Rattle.schema_definitions.specs.Instance.{Text}
+use Rattle.schema_definitions.specs.Parts.{Parts}
+use Rattle.schema_definitions.specs.Plan.{Edge, Key, Part, option_list, part, parts, sorted}
+use Rattle.schema_meaning.specs.Reach.{members_edges}
+use Rattle.schema_meaning.specs.Refusals.{Cause, members_causes}
+use Rattle.schema_definitions.specs.Guarded.{NodeEdge, NodePart, form_edges, node_edges, node_these}
+use Rattle.schema_nodes.specs.NodeTable.{NodeEntry}
+use Rattle.schema_keys.specs.Compiling.{Each, member_causes, member_edges}
 use Rattle.schema_compiler.specs.Ordering.{placed_after}
-use Rattle.schema_compiler.specs.Refusing.{Refused}
+use Rattle.schema_keys.specs.Refusing.{Refused}
 use Rattle.schema_compiler.specs.Carried.{Table, Task}
 use Rattle.schema_compiler.specs.UnderWay.{EdgeNow, Goes, IsUnderWay}
 use Rattle.schema_compiler.specs.Steps.{part_edges}
 use Rattle.schema_compiler.proofs.UnderWay.{goes_made, goes_none, goes_then}
-use Rattle.schema_compiler.proofs.Lists.{each_append, each_first, each_rest}
+use Rattle.schema_keys.proofs.Lists.{each_append, each_first, each_rest}
 use Rattle.schema_compiler.specs.Filling.{AreParts, IsMadePart, IsStep, IsTable}
-use Rattle.schema_compiler.specs.declared.compiler.error.BuildError.{BuildError}
+use Rattle.schema_keys.specs.declared.error.BuildError.{BuildError}
 use Rattle.schema_compiler.proofs.Growing.{grown_stays, parts_stay, refused_first, refused_later, step_none, step_then}
 use Rattle.schema_compiler.proofs.Placing.{one_placed}
 

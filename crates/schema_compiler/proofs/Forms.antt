@@ -2,24 +2,24 @@
 use Rattle.std.proofs.Common.{◌≡◌, ◌∙◌, ℕ, Bool, true, false, List, [], ◌∷◌, refl, ap, sym, subst}
 use Rattle.std.specs.Prelude.{Option, Some, None}
 use Rattle.serde_json.specs.Data.{Data, Members, array, boolean, null, number, object, string}
-use Rattle.schema_reports.specs.Parts.{Parts}
-use Rattle.schema_reports.specs.Plan.{Edge, Key, Plan, plan, plan_of, schema_of}
-use Rattle.schema_reports.specs.Reach.{asked_edges}
-use Rattle.schema_reports.specs.Refusals.{Cause, causes, not_a_schema, schema_causes}
-use Rattle.schema_reports.specs.Units.{annotations_of, object_annotations}
-use Rattle.schema_reports.specs.Guarded.{NodePlan, node_edges}
-use Rattle.schema_node.specs.NodeTable.{NodeEntry}
-use Rattle.schema_node.specs.NodeViews.{boolean_plan}
-use Rattle.schema_compiler.specs.Compiling.{object_edges}
-use Rattle.schema_compiler.specs.Refusing.{Names, Refused}
+use Rattle.schema_definitions.specs.Parts.{Parts}
+use Rattle.schema_definitions.specs.Plan.{Edge, Key, Plan, plan, plan_of, schema_of}
+use Rattle.schema_meaning.specs.Reach.{asked_edges}
+use Rattle.schema_meaning.specs.Refusals.{Cause, causes, not_a_schema, schema_causes}
+use Rattle.schema_definitions.specs.Units.{annotations_of, object_annotations}
+use Rattle.schema_definitions.specs.Guarded.{NodePlan, node_edges}
+use Rattle.schema_nodes.specs.NodeTable.{NodeEntry}
+use Rattle.schema_nodes.specs.NodeViews.{boolean_plan}
+use Rattle.schema_keys.specs.Compiling.{object_edges}
+use Rattle.schema_keys.specs.Refusing.{Names, Refused}
 use Rattle.schema_compiler.specs.Filling.{IsPlan, IsTable}
 use Rattle.schema_compiler.specs.Steps.{MakesPlan}
 use Rattle.schema_compiler.specs.Carried.{Table, Task}
 use Rattle.schema_compiler.specs.UnderWay.{Goes, IsUnderWay}
 use Rattle.schema_compiler.proofs.UnderWay.{goes_none}
-use Rattle.schema_compiler.specs.declared.compiler.error.BuildError.{BuildError}
+use Rattle.schema_keys.specs.declared.error.BuildError.{BuildError}
 use Rattle.schema_compiler.proofs.Growing.{names_refused, step_none}
-use Rattle.schema_compiler.proofs.Lists.{some_is}
+use Rattle.schema_keys.proofs.Lists.{some_is}
 use Rattle.serde_json.specs.Find.{as_bool, as_object}
 
 module _ {S K R : Type 0} (w : Parts S K R) (k : Key S) where

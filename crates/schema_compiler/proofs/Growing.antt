@@ -3,20 +3,20 @@ use Rattle.std.proofs.Common.{◌≡◌, ℕ, ◌<◌, ◌≤◌, inl, inr, List
 use Rattle.std.specs.Prelude.{Option, Some, None, slice_get, flat_map}
 use Rattle.std.proofs.lemmas.List.{append-nil}
 use Rattle.std.proofs.lemmas.Option.{slice_get_within}
-use Rattle.schema_reports.specs.Instance.{Text}
-use Rattle.schema_reports.specs.Parts.{Parts}
-use Rattle.schema_reports.specs.Making.{Request}
-use Rattle.schema_reports.specs.Plan.{Edge, Form, Key, Part, Plan, always, keyword, never, plan, reference, these, requested}
-use Rattle.schema_reports.specs.Reach.{Reached, asked_by, asked_edges, asked_for, at_first}
-use Rattle.schema_reports.specs.Refusals.{Cause, causes, undeclared}
-use Rattle.schema_reports.specs.Guarded.{NodeEdge, NodeForm, NodePart, NodePlan, Children, node_always, node_keyword, node_never, node_reference, node_these}
-use Rattle.schema_node.specs.NodeTable.{NodeEntry}
-use Rattle.schema_compiler.specs.Compiling.{Blames, Each, In, ReachedFrom, Settled, StandsBelow}
-use Rattle.schema_compiler.specs.Refusing.{AreDistinct, IsRefusal, Names, Refused}
+use Rattle.schema_definitions.specs.Instance.{Text}
+use Rattle.schema_definitions.specs.Parts.{Parts}
+use Rattle.schema_definitions.specs.Making.{Request}
+use Rattle.schema_definitions.specs.Plan.{Edge, Form, Key, Part, Plan, always, keyword, never, plan, reference, these, requested}
+use Rattle.schema_meaning.specs.Reach.{Reached, asked_by, asked_edges, asked_for, at_first}
+use Rattle.schema_meaning.specs.Refusals.{Cause, causes, undeclared}
+use Rattle.schema_definitions.specs.Guarded.{NodeEdge, NodeForm, NodePart, NodePlan, Children, node_always, node_keyword, node_never, node_reference, node_these}
+use Rattle.schema_nodes.specs.NodeTable.{NodeEntry}
+use Rattle.schema_keys.specs.Compiling.{Blames, Each, In, ReachedFrom, Settled, StandsBelow}
+use Rattle.schema_keys.specs.Refusing.{AreDistinct, IsRefusal, Names, Refused}
 use Rattle.schema_compiler.specs.Filling.{AreChildren, AreParts, HasFormOrWaits, IsForm, IsGrown, IsNode, IsPart, IsPlan, IsPlanned, IsStep, IsTable, LeadsTo}
-use Rattle.schema_compiler.specs.declared.compiler.error.BuildError.{BuildError}
-use Rattle.schema_compiler.specs.declared.compiler.error.BuildError.TheVariants.{KeywordRefused, Lookup, MetaSchema, MissingRoot, NodeLimit, NotASchema, OutOfMemory, ReferenceNotText, UnsupportedVocabulary}
-use Rattle.schema_compiler.proofs.Lists.{below_or, contains_of, each_append, each_map, get-append, in_left, in_right, longer, there}
+use Rattle.schema_keys.specs.declared.error.BuildError.{BuildError}
+use Rattle.schema_keys.specs.declared.error.BuildError.TheVariants.{KeywordRefused, Lookup, MetaSchema, MissingRoot, NodeLimit, NotASchema, OutOfMemory, ReferenceNotText, UnsupportedVocabulary}
+use Rattle.schema_keys.proofs.Lists.{below_or, contains_of, each_append, each_map, get-append, in_left, in_right, longer, there}
 
 -- a key of an edge stands among the edges' keys
 key_in : {S : Type 0} (es : List (Edge S)) (e : Edge S) → In es e → In (map (λ (d : Edge S). d.key) es) e.key

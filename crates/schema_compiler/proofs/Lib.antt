@@ -1,7 +1,3 @@
-pub mod SameKeys
-pub mod Chains
-pub mod Fragments
-pub mod Lists
 pub mod Courses
 pub mod Reserving
 pub mod ReservedTold
@@ -14,7 +10,6 @@ pub mod GuardsAgree
 pub mod TablesAgree
 pub mod Growing
 pub mod Tables
-pub mod Members
 pub mod Placing
 pub mod Turns
 pub mod References
@@ -24,8 +19,5 @@ pub mod MembersAsk
 pub mod Compiled
 pub mod CircleFound
 pub mod WorkedRows
-pub mod CustomVocabularies
 mod Unknown
 mod Absorbed
-pub mod BlankedDocuments
-pub mod CheckedDocuments

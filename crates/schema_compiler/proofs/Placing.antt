@@ -5,11 +5,11 @@ use Rattle.std.specs.List.{position_or_len}
 use Rattle.std.proofs.lemmas.List.Sums.{prefix_len-le-length}
 use Rattle.std.proofs.lemmas.Bool.{leb-true, le-leb, ltb-false, ltb-true}
 use Rattle.std.proofs.lemmas.Bool.Decides.{leb_tells}
-use Rattle.schema_reports.specs.Parts.{Parts}
-use Rattle.schema_reports.specs.Plan.{Key, Part, placed, sorted}
-use Rattle.schema_reports.specs.Guarded.{NodePart}
-use Rattle.schema_node.specs.NodeViews.{entry_of}
-use Rattle.schema_node.specs.declared.node.Entry.{Entry}
+use Rattle.schema_definitions.specs.Parts.{Parts}
+use Rattle.schema_definitions.specs.Plan.{Key, Part, placed, sorted}
+use Rattle.schema_definitions.specs.Guarded.{NodePart}
+use Rattle.schema_nodes.specs.NodeViews.{entry_of}
+use Rattle.schema_nodes.specs.declared.node.Entry.{Entry}
 use Rattle.schema_compiler.specs.Ordering.{placed_after}
 use Rattle.schema_compiler.specs.Filling.{AreParts, IsPart}
 

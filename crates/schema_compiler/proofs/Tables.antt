@@ -4,14 +4,15 @@ use Rattle.std.specs.Prelude.{Option, Some, None, option_map, slice_get}
 use Rattle.std.proofs.lemmas.Option.{slice_get_within}
 use Rattle.serde_json.specs.View.{view}
 use Rattle.serde_json.specs.declared.value.Value.{Value}
-use Rattle.schema_reports.specs.Parts.{Parts}
-use Rattle.schema_reports.specs.Units.{annotations_of}
-use Rattle.schema_reports.specs.Plan.{Key}
-use Rattle.schema_reports.specs.Guarded.{NodePlan}
-use Rattle.schema_node.specs.NodeTable.{Begins, Fills, NodeEntry, Waits, begun_in, filled, filled_count}
-use Rattle.schema_compiler.specs.Refusing.{AreDistinct}
-use Rattle.schema_compiler.specs.Filling.{Finishes, HasFormOrWaits, IsGrown, IsNode, IsPlanned, IsTable, shown_base}
-use Rattle.schema_compiler.proofs.Lists.{equal_or, get-append, get-end, get-pushed, get-set_other, get-set_same, length-more, set-length, some_is}
+use Rattle.schema_definitions.specs.Parts.{Parts}
+use Rattle.schema_definitions.specs.Units.{annotations_of}
+use Rattle.schema_definitions.specs.Plan.{Key}
+use Rattle.schema_definitions.specs.Guarded.{NodePlan}
+use Rattle.schema_nodes.specs.NodeTable.{Begins, Fills, NodeEntry, Waits, begun_in, filled, filled_count}
+use Rattle.schema_keys.specs.Refusing.{AreDistinct}
+use Rattle.schema_keys.specs.ShownBases.{shown_base}
+use Rattle.schema_compiler.specs.Filling.{Finishes, HasFormOrWaits, IsGrown, IsNode, IsPlanned, IsTable}
+use Rattle.schema_keys.proofs.Lists.{equal_or, get-append, get-end, get-pushed, get-set_other, get-set_same, length-more, set-length, some_is}
 use Rattle.schema_compiler.proofs.Growing.{node_stays}
 
 pub pushed_distinct : {S : Type 0} (keys : List (Key S)) (k : Key S) → AreDistinct keys → ((i : ℕ) → slice_get keys i ≢ Some k) → AreDistinct (keys ++ k ∷ [])

@@ -4,14 +4,14 @@ use Rattle.std.specs.Prelude.{Contains, None, Option, Some, option_and_then, opt
 use Rattle.std.proofs.Math.Path.{fun_ext}
 use Rattle.std.proofs.lemmas.Option.{slice_get-map, slice_get_past, slice_get_within}
 use Rattle.serde_json.specs.View.{view}
-use Rattle.schema_reports.specs.Instance.{Text}
-use Rattle.schema_reports.specs.Parts.{Parts}
-use Rattle.schema_reports.specs.Plan.{Key, plan}
-use Rattle.schema_reports.specs.Guarded.{NodeEdge, NodePlan, Nodes, node_always, node_edges}
-use Rattle.schema_reports.specs.Numbered.{IsNumber, StandsFor}
-use Rattle.schema_node.proofs.RankedTable.{node_edges-shaped}
-use Rattle.schema_node.specs.NodeTable.{NodeEntry, absolute_in, numbered, plan_in, shaped}
-use Rattle.schema_compiler.specs.Compiling.{In}
+use Rattle.schema_definitions.specs.Instance.{Text}
+use Rattle.schema_definitions.specs.Parts.{Parts}
+use Rattle.schema_definitions.specs.Plan.{Key, plan}
+use Rattle.schema_definitions.specs.Guarded.{NodeEdge, NodePlan, Nodes, node_always, node_edges}
+use Rattle.schema_meaning.specs.Numbered.{IsNumber, StandsFor}
+use Rattle.schema_nodes.proofs.RankedTable.{node_edges-shaped}
+use Rattle.schema_nodes.specs.NodeTable.{NodeEntry, absolute_in, numbered, plan_in, shaped}
+use Rattle.schema_keys.specs.Compiling.{In}
 use Rattle.schema_compiler.specs.Compilation.{IsCompilation}
 use Rattle.schema_compiler.specs.Finding.{Standing, standing_of}
 use Rattle.schema_compiler.specs.UnderWay.{EdgesWithin}
@@ -21,7 +21,7 @@ use Rattle.schema_compiler.proofs.AlikePlans.{plan_same}
 use Rattle.schema_compiler.proofs.AlikeRuns.{guarded_runs_same, guarded_senses_same}
 use Rattle.schema_compiler.proofs.Courses.{one_order}
 use Rattle.schema_compiler.proofs.GuardsAgree.{guard_between, guarded_so}
-use Rattle.schema_compiler.proofs.Lists.{below_or, contains_of, there}
+use Rattle.schema_keys.proofs.Lists.{below_or, contains_of, there}
 
 -- beyond the end of a table a number accepts
 module _ {K C : Type 0} (shape : C → K) (nodes : List (NodeEntry C)) (i : ℕ) (past : length nodes ≤ i) where

@@ -3,33 +3,33 @@ use Rattle.std.proofs.Common.{◌≡◌, ◌<◌, arith, ℕ, suc, max, Bool, co
 use Rattle.std.specs.Prelude.{Option, Some, None, String, string_bytes, filter_map, flat_map, Vec}
 use Rattle.std.specs.declared.alloc.Global.{Global}
 use Rattle.std.proofs.lemmas.List.{append-nil}
-use Rattle.schema_reports.specs.Instance.{Text, Place}
-use Rattle.schema_reports.specs.Parts.{Parts}
-use Rattle.schema_reports.specs.Making.{Made, Making, Request, Script, a_keyword, after_request, compile, followed, nothing, refer, refused, then_compile, then_end, then_pending, then_refer, then_reserve}
-use Rattle.schema_reports.specs.Plan.{Edge, Key, found, is_self, part_made, requested, subschema, to_ref, option_list}
-use Rattle.schema_reports.specs.Reach.{maker_edges}
-use Rattle.schema_reports.specs.Units.{absorbed_by}
-use Rattle.schema_compiler.specs.declared.compiler.error.BuildError.{BuildError}
-use Rattle.schema_compiler.specs.Refusing.{Refused}
+use Rattle.schema_definitions.specs.Instance.{Text, Place}
+use Rattle.schema_definitions.specs.Parts.{Parts}
+use Rattle.schema_definitions.specs.Making.{Made, Making, Request, Script, a_keyword, after_request, compile, followed, nothing, refer, refused, then_compile, then_end, then_pending, then_refer, then_reserve}
+use Rattle.schema_definitions.specs.Plan.{Edge, Key, found, is_self, part_made, requested, subschema, to_ref, option_list}
+use Rattle.schema_meaning.specs.Reach.{maker_edges}
+use Rattle.schema_definitions.specs.Units.{absorbed_by}
+use Rattle.schema_keys.specs.declared.error.BuildError.{BuildError}
+use Rattle.schema_keys.specs.Refusing.{Refused}
 use Rattle.schema_compiler.proofs.References.{asked_not_self, leads_none, leads_some, skipped_self}
-use Rattle.schema_reports.specs.Refusals.{Cause, end_causes, lookup_causes, maker_causes, request_causes}
+use Rattle.schema_meaning.specs.Refusals.{Cause, end_causes, lookup_causes, maker_causes, request_causes}
 use Rattle.schema_reports.specs.ReportViews.{owned_error_of}
 use Rattle.schema_reports.specs.declared.reports.OwnedError.{OwnedError}
-use Rattle.schema_reports.specs.Guarded.{Children, NodeEdge, form_edges, node_keyword}
-use Rattle.schema_node.specs.NodeTable.{NodeEntry}
-use Rattle.schema_node.specs.MakerViews.{IsStepOf, MakesRightly, PendingChangesNothing, TakesTurn, Told, Waiting, a_reserved, a_skip, begun, ended, none_pending, nothing_yet, one_pending, purpose_of, the_number, waits, wants_pending, wants_reserved}
-use Rattle.schema_node.specs.declared.context.table.MakerStep.{MakerStep}
-use Rattle.schema_node.specs.declared.context.table.MakerStep.TheVariants.{Compile, Refer, Pending, Reserve, Keyword, Nothing, Refuse}
-use Rattle.schema_node.specs.declared.context.table.PendingKind.{PendingKind}
+use Rattle.schema_definitions.specs.Guarded.{Children, NodeEdge, form_edges, node_keyword}
+use Rattle.schema_nodes.specs.NodeTable.{NodeEntry}
+use Rattle.schema_parts.specs.MakerViews.{IsStepOf, MakesRightly, PendingChangesNothing, TakesTurn, Told, Waiting, a_reserved, a_skip, begun, ended, none_pending, nothing_yet, one_pending, purpose_of, the_number, waits, wants_pending, wants_reserved}
+use Rattle.schema_parts.specs.declared.table.MakerStep.{MakerStep}
+use Rattle.schema_parts.specs.declared.table.MakerStep.TheVariants.{Compile, Refer, Pending, Reserve, Keyword, Nothing, Refuse}
+use Rattle.schema_parts.specs.declared.table.PendingKind.{PendingKind}
 use Rattle.serde_json.specs.Data.{Members}
 use Rattle.schema_compiler.specs.Reserving.{Holds, Reserved, Reserves}
 use Rattle.schema_compiler.proofs.Reserving.{having, holds_none, holds_one, holds_then, reserves_none}
-use Rattle.schema_compiler.specs.Compiling.{answers, reference_asked}
+use Rattle.schema_keys.specs.Compiling.{answers, reference_asked}
 use Rattle.schema_compiler.specs.Carried.{Table, Task}
 use Rattle.schema_compiler.specs.UnderWay.{Goes, IsUnderWay}
 use Rattle.schema_compiler.proofs.UnderWay.{goes_having, goes_made, goes_none, goes_then}
 use Rattle.schema_compiler.specs.Filling.{AreChildren, IsMadePart, IsStep, IsTable, LeadsTo}
-use Rattle.schema_compiler.proofs.Lists.{length-more}
+use Rattle.schema_keys.proofs.Lists.{length-more}
 use Rattle.schema_compiler.proofs.Growing.{children_stay, grown_stays, refused_first, refused_later, step_none, step_then}
 
 -- the script that a maker goes on with, by what it is told

@@ -6,13 +6,13 @@ use Rattle.std.proofs.lemmas.Bool.{eq-eqb, eqb-true, eqb-false, leb-true, le-leb
 use Rattle.std.proofs.lemmas.List.{map-append, map-set}
 use Rattle.std.proofs.lemmas.Option.{slice_get_within}
 use Rattle.serde_json.specs.declared.value.Value.{Value}
-use Rattle.schema_reports.specs.Guarded.{NodeEdge, NodePlan, node_edges}
-use Rattle.schema_reports.specs.Plan.{Edge, Key}
-use Rattle.schema_reports.specs.Reach.{asked_edges}
-use Rattle.schema_node.specs.NodeTable.{Begins, Fills, IsNewRound, MayBeFilled, MayLead, MayPass, NodeEntry, Waits, begun_in, filled, filled_count, guards_at, is_settled_entry}
-use Rattle.schema_node.proofs.NodeCounts.{count_begun, count_filled, count_more}
-use Rattle.schema_node.proofs.NodesFilled.{in_map}
-use Rattle.schema_compiler.specs.Compiling.{Each, In}
+use Rattle.schema_definitions.specs.Guarded.{NodeEdge, NodePlan, node_edges}
+use Rattle.schema_definitions.specs.Plan.{Edge, Key}
+use Rattle.schema_meaning.specs.Reach.{asked_edges}
+use Rattle.schema_nodes.specs.NodeTable.{Begins, Fills, IsNewRound, MayBeFilled, MayLead, MayPass, NodeEntry, Waits, begun_in, filled, filled_count, guards_at, is_settled_entry}
+use Rattle.schema_nodes.proofs.NodeCounts.{count_begun, count_filled, count_more}
+use Rattle.schema_nodes.proofs.NodesFilled.{in_map}
+use Rattle.schema_keys.specs.Compiling.{Each, In}
 use Rattle.schema_compiler.specs.Filling.{HasFormOrWaits}
 use Rattle.schema_compiler.specs.Finding.{Course, Finds, GuardsByStanding, IsNew, Standing, WorksOff, and_then, begun, closed, formed, formed_count, guards_edge, in_a_round, is_formed, is_open, is_opened, is_put, is_settled, nests, no_more, passed, put, round_begun, standing_of, waits, was_found}
 use Rattle.schema_compiler.specs.Carried.{Table, Task}
@@ -20,7 +20,7 @@ use Rattle.schema_compiler.specs.UnderWay.{EdgeNow, EdgesWithin, Goes, GoesTo, I
 use Rattle.schema_compiler.specs.Reserving.{Reserved, Reserves}
 use Rattle.schema_compiler.proofs.Reserving.{having, reserves_between, reserves_none, reserves_same, reserves_then}
 use Rattle.schema_compiler.proofs.Courses.{finds_append, formed_counts}
-use Rattle.schema_compiler.proofs.Lists.{all_of, each_append, each_in, each_map, equal_or, get-append, get-end, get-pushed, get-set_other, get-set_same, length-more, longer, set-length, some_is}
+use Rattle.schema_keys.proofs.Lists.{all_of, each_append, each_in, each_map, equal_or, get-append, get-end, get-pushed, get-set_other, get-set_same, length-more, longer, set-length, some_is}
 
 -- ---- how a number stands
 

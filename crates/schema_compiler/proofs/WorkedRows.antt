@@ -8,18 +8,18 @@ use Rattle.std.specs.Str.Lossy.{utf8_lossy, utf8_valid_len}
 use Rattle.std.specs.Str.{chars, is_utf8}
 use lib.Utf8.{encode}
 use Rattle.percent_encoding.specs.Percent.{percent_decode}
-use Rattle.schema_reports.specs.Instance.{Text}
-use Rattle.schema_reports.specs.Plan.{Key}
-use Rattle.schema_reports.specs.Reach.{asked_edges}
-use Rattle.schema_reports.specs.Guarded.{NodeEdge, NodePlan, node_edges}
-use Rattle.schema_reports.specs.RowsBench.{Word}
-use Rattle.schema_node.specs.NodeTable.{NodeEntry}
-use Rattle.schema_compiler.specs.Compiling.{In}
+use Rattle.schema_definitions.specs.Instance.{Text}
+use Rattle.schema_definitions.specs.Plan.{Key}
+use Rattle.schema_meaning.specs.Reach.{asked_edges}
+use Rattle.schema_definitions.specs.Guarded.{NodeEdge, NodePlan, node_edges}
+use Rattle.schema_meaning.specs.RowsBench.{Word}
+use Rattle.schema_nodes.specs.NodeTable.{NodeEntry}
+use Rattle.schema_keys.specs.Compiling.{In}
 use Rattle.schema_compiler.specs.Finding.{GuardsByStanding, Standing, guards_edge, nests, standing_of, waits}
 use Rattle.schema_compiler.specs.Rows as row
 use Rattle.schema_compiler.specs.Rows.{circle, first_edge, inner_key, last_key, nested_standings, root_key, waiting_standings}
 use Rattle.schema_compiler.proofs.CircleFound as found
-use Rattle.schema_compiler.proofs.Lists.{there}
+use Rattle.schema_keys.proofs.Lists.{there}
 
 pub circle_closes : row.CircleCloses
 unfolding digits percent_decode utf8_lossy utf8_valid_len is_utf8 chars encode

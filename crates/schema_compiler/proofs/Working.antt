@@ -3,22 +3,22 @@ use Rattle.std.proofs.Common.{◌≡◌, ◌≢◌, ℕ, suc, zero, ◌<◌, ◌
 use Rattle.std.specs.Prelude.{Option, Some, None, false, option_map, slice_get, not, unwrap_or}
 use Rattle.std.proofs.lemmas.Option.{slice_get-map, slice_get_within}
 use Rattle.serde_json.specs.declared.value.Value.{Value}
-use Rattle.schema_reports.specs.Plan.{Edge, Key}
-use Rattle.schema_reports.specs.Reach.{Reached, asked_edges, at_first}
-use Rattle.schema_reports.specs.Refusals.{causes}
-use Rattle.schema_reports.specs.Guarded.{NodePlan, node_edges}
-use Rattle.schema_node.specs.NodeTable.{Begins, Fills, IsBegun, IsFilled, MayBeFilled, NodeEntry, Waits, begun_in, filled, filled_count}
-use Rattle.schema_compiler.specs.Compiling.{Blames, Each, ReachedFrom, StandsBelow}
-use Rattle.schema_compiler.specs.Refusing.{Refused}
+use Rattle.schema_definitions.specs.Plan.{Edge, Key}
+use Rattle.schema_meaning.specs.Reach.{Reached, asked_edges, at_first}
+use Rattle.schema_meaning.specs.Refusals.{causes}
+use Rattle.schema_definitions.specs.Guarded.{NodePlan, node_edges}
+use Rattle.schema_nodes.specs.NodeTable.{Begins, Fills, IsBegun, IsFilled, MayBeFilled, NodeEntry, Waits, begun_in, filled, filled_count}
+use Rattle.schema_keys.specs.Compiling.{Blames, Each, ReachedFrom, StandsBelow}
+use Rattle.schema_keys.specs.Refusing.{Refused}
 use Rattle.schema_compiler.specs.Filling.{HasFormOrWaits, IsGrown}
 use Rattle.schema_compiler.specs.Finding.{Course, FindsAll, WorksOff, at_end, at_root, is_formed, is_open, passes_over, standing_of, waits}
 use Rattle.schema_compiler.specs.Carried.{IsWell, Table, Task}
 use Rattle.schema_compiler.specs.UnderWay.{Goes, course_of}
 use Rattle.schema_compiler.specs.Working.{IsAtNumber, RefusesRootKey}
-use Rattle.schema_compiler.specs.declared.compiler.error.BuildError.{BuildError}
+use Rattle.schema_keys.specs.declared.error.BuildError.{BuildError}
 use Rattle.schema_compiler.specs.Reserving.{IsGivenUp}
 use Rattle.schema_compiler.proofs.Reserving.{all_given_up}
-use Rattle.schema_compiler.proofs.Lists.{below_or, each_append, each_map, equal_or, get-append, get-set_other, get-set_same, some_is, there}
+use Rattle.schema_keys.proofs.Lists.{below_or, each_append, each_map, equal_or, get-append, get-set_other, get-set_same, some_is, there}
 use Rattle.schema_compiler.proofs.Growing.{blames_key, from_key, reach_on, refusal_map}
 use Rattle.schema_compiler.proofs.UnderWay.{course_is, may_be_filled, round_done, stands_waiting}
 

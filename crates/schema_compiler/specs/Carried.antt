@@ -2,27 +2,27 @@
 -- functions answers, over the two.
 use Rattle.std.specs.Prelude.{Bool, List, MatchOption, Option, Some, [], false, flat_map, map, true, ℕ, ◌≡◌}
 use Rattle.serde_json.specs.Data.{Data, Members, object}
-use Rattle.schema_reports.specs.Instance.{Place, Text}
-use Rattle.schema_reports.specs.Drafts.{Draft, Vocabularies}
-use Rattle.schema_reports.specs.Pointer.{joined}
-use Rattle.schema_reports.specs.Making.{Script, compile}
-use Rattle.schema_reports.specs.Resolving.{Resolver}
-use Rattle.schema_reports.specs.Parts.{Parts}
-use Rattle.schema_reports.specs.Plan.{Edge, Key, Reference, found, is_self, making, part, part_made, parts, plan, plan_of as plan_of_schema, reference_edge, reference_part, sorted, subschema, option_list, is_recursive_ref}
-use Rattle.schema_reports.specs.Reach.{Reached, asked_edges, maker_edges, members_edges, reference_edges}
-use Rattle.schema_reports.specs.Refusals.{Cause, causes, lookup_causes, maker_causes, members_causes, reference_causes, request_causes, schema_causes, undeclared}
-use Rattle.schema_reports.specs.Units.{absorbed_by, annotating, annotations_of, object_annotations}
-use Rattle.schema_reports.specs.Guarded.{NodeEdge, NodePart, NodePlan}
-use Rattle.schema_node.specs.NodeTable.{NodeEntry}
-use Rattle.schema_compiler.specs.KeyViews.{key_of}
+use Rattle.schema_definitions.specs.Instance.{Place, Text}
+use Rattle.schema_definitions.specs.Drafts.{Draft, Vocabularies}
+use Rattle.schema_definitions.specs.Pointer.{joined}
+use Rattle.schema_definitions.specs.Making.{Script, compile}
+use Rattle.schema_definitions.specs.Resolving.{Resolver}
+use Rattle.schema_definitions.specs.Parts.{Parts}
+use Rattle.schema_definitions.specs.Plan.{Edge, Key, Reference, found, is_self, making, part, part_made, parts, plan, plan_of as plan_of_schema, reference_edge, reference_part, sorted, subschema, option_list, is_recursive_ref}
+use Rattle.schema_meaning.specs.Reach.{Reached, asked_edges, maker_edges, members_edges, reference_edges}
+use Rattle.schema_meaning.specs.Refusals.{Cause, causes, lookup_causes, maker_causes, members_causes, reference_causes, request_causes, schema_causes, undeclared}
+use Rattle.schema_definitions.specs.Units.{absorbed_by, annotating, annotations_of, object_annotations}
+use Rattle.schema_definitions.specs.Guarded.{NodeEdge, NodePart, NodePlan}
+use Rattle.schema_nodes.specs.NodeTable.{NodeEntry}
+use Rattle.schema_keys.specs.KeyViews.{key_of}
 use Rattle.schema_compiler.specs.Options.{given_parts}
-use Rattle.schema_compiler.specs.Compiling.{StandsBelow, member_causes, member_edges, object_edges, reference_asked}
-use Rattle.schema_compiler.specs.Refusing.{IsRefusal, Refused}
+use Rattle.schema_keys.specs.Compiling.{StandsBelow, member_causes, member_edges, object_edges, reference_asked}
+use Rattle.schema_keys.specs.Refusing.{IsRefusal, Refused}
 use Rattle.schema_compiler.specs.Filling.{IsPlanned, IsTable}
 use Rattle.schema_compiler.specs.Reserving.{Reserved}
 use Rattle.schema_compiler.specs.Steps.{IsAnswered, IsEdgeTo, IsNumbered, MakesPart, MakesParts, MakesPlan}
-use Rattle.schema_compiler.specs.declared.compiler.error.BuildError.{BuildError}
-use Rattle.schema_compiler.specs.declared.compiler.key.SchemaKey.{SchemaKey}
+use Rattle.schema_keys.specs.declared.error.BuildError.{BuildError}
+use Rattle.schema_keys.specs.declared.key.SchemaKey.{SchemaKey}
 use Rattle.schema_compiler.specs.declared.compiler.given.Given.{Given}
 use Rattle.schema_compiler.specs.declared.compiler.compiled.Compiled.{Compiled}
 
@@ -51,12 +51,6 @@ task resolving owned script shape g = record {
   limit = g.options.now.node_limit;
   nested = g.nested_limit;
 }
-
--- a reference leads to this key; to none where it is skipped
-abbrev pub LeadsBy : {S K R P : Type 0} → Parts S K R → (P → S) → Key S → Reference → Text → Option (SchemaKey P) → Type 0
-LeadsBy w point k kind text o = MatchOption o (is_self w k kind text ≡ true)
-    (λ t. (is_self w k kind text ≡ false)
-    × ((name : Text) → reference_edge w k name kind text ≡ Some (record { key = key_of point t; path = joined [] name; is_reference = true; is_recursive = is_recursive_ref kind })))
 
 -- what is filled so far, by the sense of the resolver's states
 abbrev pub filled : {S P C : Type 0} → (S → P) → Compiled S C → Table P C

@@ -2,24 +2,24 @@
 -- refusal says. The root is a schema's, or a subschema that is compiled by itself: then a vocabulary is asked for only where a
 -- reference leads.
 use Rattle.std.specs.Prelude.{All, Bool, List, Option, Some, length, map, slice_get, string_bytes, ℕ, ◌≡◌, ◌≤◌}
-use Rattle.schema_reports.specs.Instance.{Text}
-use Rattle.schema_reports.specs.Drafts.{Draft}
-use Rattle.schema_reports.specs.Resolving.{Resolver}
-use Rattle.schema_reports.specs.Matching.{Matcher}
-use Rattle.schema_reports.specs.Making.{Table}
-use Rattle.schema_reports.specs.Keywords.{Keywords}
-use Rattle.schema_reports.specs.Parts.{Parts}
-use Rattle.schema_reports.specs.Plan.{Key}
-use Rattle.schema_reports.specs.Reach.{Reached, ReachesMoreThan}
-use Rattle.schema_reports.specs.MapPointers.{StandsBelow}
-use Rattle.schema_reports.specs.Refusals.{Cause, Stands, keyword_refused, lookup_refuses, not_a_schema, reference_not_text, unsupported_vocabulary}
+use Rattle.schema_definitions.specs.Instance.{Text}
+use Rattle.schema_definitions.specs.Drafts.{Draft}
+use Rattle.schema_definitions.specs.Resolving.{Resolver}
+use Rattle.schema_definitions.specs.Matching.{Matcher}
+use Rattle.schema_definitions.specs.Making.{Table}
+use Rattle.schema_definitions.specs.Keywords.{Keywords}
+use Rattle.schema_definitions.specs.Parts.{Parts}
+use Rattle.schema_definitions.specs.Plan.{Key}
+use Rattle.schema_meaning.specs.Reach.{Reached, ReachesMoreThan}
+use Rattle.schema_meaning.specs.MapPointers.{StandsBelow}
+use Rattle.schema_meaning.specs.Refusals.{Cause, Stands, keyword_refused, lookup_refuses, not_a_schema, reference_not_text, unsupported_vocabulary}
 use Rattle.schema_reports.specs.ReportViews.{owned_error_of}
-use Rattle.schema_reports.specs.Guarded.{NodePlan}
-use Rattle.schema_reports.specs.Numbered.{AreNumbered, Ranked}
-use Rattle.schema_node.specs.NodeTable.{NodeEntry, numbered}
+use Rattle.schema_definitions.specs.Guarded.{NodePlan}
+use Rattle.schema_meaning.specs.Numbered.{AreNumbered, Ranked}
+use Rattle.schema_nodes.specs.NodeTable.{NodeEntry, numbered}
 use Rattle.schema_compiler.specs.Finding.{FindsAll, GuardsByStanding, standing_of}
-use Rattle.schema_compiler.specs.declared.compiler.error.BuildError.{BuildError}
-use Rattle.schema_compiler.specs.declared.compiler.error.BuildError.TheVariants.{KeywordRefused, Lookup, MetaSchema, MissingRoot, NodeLimit, NotASchema, OutOfMemory, ReferenceNotText, UnsupportedVocabulary}
+use Rattle.schema_keys.specs.declared.error.BuildError.{BuildError}
+use Rattle.schema_keys.specs.declared.error.BuildError.TheVariants.{KeywordRefused, Lookup, MetaSchema, MissingRoot, NodeLimit, NotASchema, OutOfMemory, ReferenceNotText, UnsupportedVocabulary}
 
 -- everything that is handed in: what the compiler reads, and what it does not
 abbrev pub all_parts : {S K R : Type 0} → Resolver S → Table K → Option Bool → List Text → Matcher → Keywords K R → Option Draft → Option Text → Parts S K R

@@ -1,24 +1,20 @@
 -- The table of keys and nodes while it is filled: what a number's node says of its key, and how the table grows.
-use Rattle.std.specs.List.{starts_with}
-use Rattle.std.specs.Prelude.{List, None, Option, Some, [], codes, if◌then◌else◌, length, option_map, slice_get, slice_set, ℕ, ◌++◌, ◌==◌, ◌∷◌, ◌≡◌, ◌≤◌, ◌⊎◌}
-use Rattle.schema_reports.specs.Instance.{Text}
-use Rattle.schema_reports.specs.Parts.{Parts}
-use Rattle.schema_reports.specs.Plan.{Edge, Form, Key, Part, Plan, always, keyword, never, plan, reference, reference_edge, these, without_fragment, requested}
-use Rattle.schema_reports.specs.Making.{Request}
+use Rattle.std.specs.Prelude.{List, None, Option, Some, [], length, option_map, slice_get, slice_set, ℕ, ◌++◌, ◌∷◌, ◌≡◌, ◌≤◌, ◌⊎◌}
+use Rattle.schema_definitions.specs.Instance.{Text}
+use Rattle.schema_definitions.specs.Parts.{Parts}
+use Rattle.schema_definitions.specs.Plan.{Edge, Form, Key, Part, Plan, always, keyword, never, plan, reference, reference_edge, these, requested}
+use Rattle.schema_definitions.specs.Making.{Request}
 use Rattle.serde_json.specs.View.{view}
-use Rattle.schema_reports.specs.Units.{annotations_of}
-use Rattle.schema_reports.specs.Reach.{asked_edges}
-use Rattle.schema_reports.specs.Refusals.{Cause, causes}
-use Rattle.schema_reports.specs.Guarded.{NodeEdge, NodeForm, NodePart, NodePlan, node_always, node_keyword, node_never, node_reference, node_these, Children}
-use Rattle.schema_node.specs.NodeTable.{NodeEntry}
-use Rattle.schema_compiler.specs.Compiling.{Each, ReachedFrom, Settled}
-use Rattle.schema_compiler.specs.Refusing.{AreDistinct}
+use Rattle.schema_definitions.specs.Units.{annotations_of}
+use Rattle.schema_meaning.specs.Reach.{asked_edges}
+use Rattle.schema_meaning.specs.Refusals.{Cause, causes}
+use Rattle.schema_definitions.specs.Guarded.{NodeEdge, NodeForm, NodePart, NodePlan, node_always, node_keyword, node_never, node_reference, node_these, Children}
+use Rattle.schema_nodes.specs.NodeTable.{NodeEntry}
+use Rattle.schema_keys.specs.Compiling.{Each, ReachedFrom, Settled}
+use Rattle.schema_keys.specs.ShownBases.{shown_base}
+use Rattle.schema_keys.specs.Refusing.{AreDistinct}
 
 module _ {S K R : Type 0} (w : Parts S K R) where
-  -- the URI that absolute locations begin with; a base of scheme `json-schema` gives none
-  abbrev pub shown_base : Key S → Option Text
-  shown_base k = if starts_with (λ x y. x == y) (w.resolver.base_uri k.target.state) (codes "json-schema:") then None else Some (without_fragment (w.resolver.base_uri k.target.state))
-
   -- ---- nodes whose edges lead to the numbers of these keys
 
   module _ (keys : List (Key S)) where
@@ -73,7 +69,7 @@ module _ {S K R : Type 0} (w : Parts S K R) where
 
     pub record IsNode (keys : List (Key S)) (k : Key S) (n : NodeEntry C) : Type 0 where
       pub location : n.location ≡ k.location
-      pub base : n.base ≡ shown_base k
+      pub base : n.base ≡ shown_base w k
       pub start : n.start ≡ k.start
       pub planned : (p : NodePlan C) → n.plan ≡ Some p → IsPlanned keys k p
       -- and its annotations are the key's

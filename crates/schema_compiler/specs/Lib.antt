@@ -1,9 +1,4 @@
-pub mod KeyViews
-pub mod KeyHashes
-pub mod Compiling
-pub mod Referring
 pub mod Ordering
-pub mod Refusing
 pub mod Finding
 pub mod Reserving
 pub mod ReservedViews
@@ -15,10 +10,5 @@ pub mod Passing
 pub mod UnderWay
 pub mod Working
 pub mod Compilation
-pub mod Alone
 pub mod Agreeing
 pub mod Rows
-pub mod Builtins
-pub mod Dialects
-pub mod Readings
-pub mod Checking

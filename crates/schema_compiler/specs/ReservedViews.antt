@@ -1,11 +1,11 @@
 -- Reserved numbers as data.
 use Rattle.std.specs.Prelude.{List, None, Some, string_bytes, ℕ, ◌≡◌}
-use Rattle.schema_reports.specs.Drafts.{SchemaPlace}
-use Rattle.schema_reports.specs.Making.{Purpose}
-use Rattle.schema_node.specs.declared.context.table.MakerReply.{MakerReply}
-use Rattle.schema_node.specs.declared.context.table.MakerReply.TheVariants as reply
-use Rattle.schema_node.specs.MakerViews.{purpose_of}
-use Rattle.schema_node.specs.ResolverViews.{place_of}
+use Rattle.schema_definitions.specs.Drafts.{SchemaPlace}
+use Rattle.schema_definitions.specs.Making.{Purpose}
+use Rattle.schema_parts.specs.declared.table.MakerReply.{MakerReply}
+use Rattle.schema_parts.specs.declared.table.MakerReply.TheVariants as reply
+use Rattle.schema_parts.specs.MakerViews.{purpose_of}
+use Rattle.schema_parts.specs.ResolverViews.{place_of}
 use Rattle.schema_compiler.specs.Reserving as spec
 use Rattle.schema_compiler.specs.declared.compiler.reservations.ReservedNode.{ReservedNode}
 use Rattle.schema_compiler.specs.declared.compiler.reservations.ReservedNode.TheVariants as node

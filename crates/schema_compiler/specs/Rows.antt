@@ -3,14 +3,14 @@
 -- {"$ref": "#/$defs/a", "$defs": {"a": {"not": {"$ref": "#"}}}}
 use Rattle.std.specs.Prelude.{List, Some, [], codes, false, map, slice_get, suc, true, ℕ, ◌<◌, ◌≡◌, ◌∷◌}
 use Rattle.serde_json.specs.Data.{Data}
-use Rattle.schema_reports.specs.Instance.{Text}
-use Rattle.schema_reports.specs.Parts.{Parts}
-use Rattle.schema_reports.specs.Plan.{Edge, Key}
-use Rattle.schema_reports.specs.Reach.{asked_edges}
-use Rattle.schema_reports.specs.Guarded.{NodeEdge, NodePlan, node_edges}
-use Rattle.schema_reports.specs.RowsBench.{Running, Word, bench, one_member, ref_to, root_of, text, two_members}
-use Rattle.schema_node.specs.NodeTable.{NodeEntry}
-use Rattle.schema_compiler.specs.Compiling.{In}
+use Rattle.schema_definitions.specs.Instance.{Text}
+use Rattle.schema_definitions.specs.Parts.{Parts}
+use Rattle.schema_definitions.specs.Plan.{Edge, Key}
+use Rattle.schema_meaning.specs.Reach.{asked_edges}
+use Rattle.schema_definitions.specs.Guarded.{NodeEdge, NodePlan, node_edges}
+use Rattle.schema_meaning.specs.RowsBench.{Running, Word, bench, one_member, ref_to, root_of, text, two_members}
+use Rattle.schema_nodes.specs.NodeTable.{NodeEntry}
+use Rattle.schema_keys.specs.Compiling.{In}
 use Rattle.schema_compiler.specs.Finding.{FindsAll, GuardsByStanding, Standing, is_formed, standing_of}
 
 abbrev pub circle_schema : Data

@@ -1,16 +1,16 @@
 -- How far the worklist is worked off: the numbers below one have their forms, each other one has its form or waits.
 use Rattle.std.specs.Prelude.{Some, [], length, slice_get, ℕ, ◌<◌, ◌≡◌, ◌≤◌}
-use Rattle.schema_reports.specs.Plan.{Key}
-use Rattle.schema_reports.specs.Reach.{Reached}
-use Rattle.schema_node.specs.NodeTable.{IsFilled, NodeEntry}
-use Rattle.schema_compiler.specs.Compiling.{Each, StandsBelow}
+use Rattle.schema_definitions.specs.Plan.{Key}
+use Rattle.schema_meaning.specs.Reach.{Reached}
+use Rattle.schema_nodes.specs.NodeTable.{IsFilled, NodeEntry}
+use Rattle.schema_keys.specs.Compiling.{Each, StandsBelow}
 use Rattle.schema_compiler.specs.Reserving.{IsGivenUp}
-use Rattle.schema_compiler.specs.Refusing.{IsRefusal}
+use Rattle.schema_keys.specs.Refusing.{IsRefusal}
 use Rattle.schema_compiler.specs.Filling.{IsGrown}
 use Rattle.schema_compiler.specs.Finding.{Course, WorksOff, at_root}
 use Rattle.schema_compiler.specs.Carried.{IsWell, Table, Task}
 use Rattle.schema_compiler.specs.UnderWay.{IsUnderWay, course_of}
-use Rattle.schema_compiler.specs.declared.compiler.error.BuildError.{BuildError}
+use Rattle.schema_keys.specs.declared.error.BuildError.{BuildError}
 
 module _ {S K C : Type 0} (g : Task S K C) (root : Key S) where
   -- the list is worked off up to this number

@@ -1,7 +1,7 @@
 //! What is proved of any two compilations of one schema, for all parts: each function states one law, and does nothing.
 
 ghost use Rattle.schema_compiler.specs.Agreeing.{OneOrder, TablesAgree};
-ghost use Rattle.schema_reports.specs.Parts.{Parts};
+ghost use Rattle.schema_definitions.specs.Parts.{Parts};
 
 /// The keys that a root reaches are found in one order, and how each number gets its form is determined too.
 pub fn keys_are_found_in_one_order<S, K, R>()

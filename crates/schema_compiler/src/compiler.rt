@@ -1,24 +1,25 @@
 //! The compiler: from a key to numbered nodes, one for each key that is reached. What a key asks for is compiled before its
 //! own node is filled.
 //!
-//! What it is given is in `given`, what it fills in `compiled`; `context` says what draft, vocabularies and options decide where
-//! a schema stands. Its steps are in `vocabularies`, `values`, `makers`, `subschema`, `targets` (over the references of `ref_`
-//! and `start`), `entries` and `annotations`.
+//! What it is given is in `given`, what it fills in `compiled`. Keys, the contexts where they stand, subschemas and the targets
+//! of references are of `schema_keys`, the check by meta validators is `schema_check`'s; both are handed on. The steps are in
+//! `vocabularies`, `makers`, `targets`, `entries` and `annotations`, references are in `ref_`.
 ghost use Rattle.std.specs.Prelude.{◌≡◌, ◌≢◌, ◌<◌, ◌++◌, ℕ, IfErr, IfOk, Option, Some, [], flat_map, map, option_map};
 ghost use Rattle.std.specs.Prelude.{slice_get, string_bytes, true};
 ghost use Rattle.serde_json.specs.Data.{object};
 ghost use Rattle.serde_json.specs.View.{members_view, view};
-ghost use Rattle.schema_reports.specs.Instance.{Text};
-ghost use Rattle.schema_reports.specs.Drafts as drafts;
-ghost use Rattle.schema_reports.specs.Matching as matching;
-ghost use Rattle.schema_reports.specs.Keywords as words;
-ghost use Rattle.schema_node.specs.NodeViews.{edge_of, entry_of as entry_view, plan_of};
-ghost use Rattle.schema_compiler.specs.KeyViews.{key_of, kind_of};
-ghost use Rattle.schema_node.specs.ResolverViews.{place_of};
-ghost use Rattle.schema_compiler.specs.Builtins.{builtin};
-ghost use Rattle.schema_compiler.specs.Readings.{IsReading};
-ghost use Rattle.schema_reports.specs.Refusals.{undeclared};
-ghost use Rattle.schema_compiler.specs.Alone.{RefusesVocabularies};
+ghost use Rattle.schema_definitions.specs.Instance.{Text};
+ghost use Rattle.schema_definitions.specs.Drafts as drafts;
+ghost use Rattle.schema_definitions.specs.Matching as matching;
+ghost use Rattle.schema_definitions.specs.Keywords as words;
+ghost use Rattle.schema_parts.specs.EdgeViews.{edge_of};
+ghost use Rattle.schema_nodes.specs.NodeViews.{entry_of as entry_view, plan_of};
+ghost use Rattle.schema_keys.specs.KeyViews.{key_of, kind_of};
+ghost use Rattle.schema_parts.specs.ResolverViews.{place_of};
+ghost use Rattle.schema_keys.specs.Builtins.{builtin};
+ghost use Rattle.schema_keys.specs.Readings.{IsReading};
+ghost use Rattle.schema_meaning.specs.Refusals.{undeclared};
+ghost use Rattle.schema_keys.specs.Alone.{RefusesVocabularies};
 ghost use Rattle.schema_compiler.specs.Compilation.{IsCompilation, IsCompilationAlone, RefusesAlone, RefusesRoot, all_parts};
 ghost use Rattle.schema_compiler.specs.Carried.{AnswersChild, AnswersReference, IsWell, LeadsToKey};
 ghost use Rattle.schema_compiler.specs.Carried.{MakesKeyword, MakesMember, MakesMembers};
@@ -26,52 +27,49 @@ ghost use Rattle.schema_compiler.specs.Carried.{Numbers, PlansNode, PlansObject,
 ghost use Rattle.schema_compiler.specs.Carried.{RefusesKey, RefusesMaker, RefusesMember, RefusesMembers};
 ghost use Rattle.schema_compiler.specs.Carried.{RefusesNode, RefusesObject, filled, task};
 ghost use Rattle.schema_compiler.specs.Carried.{keyword_absorbs, member_absorbs};
-ghost use Rattle.schema_compiler.specs.Compiling.{Each};
+ghost use Rattle.schema_keys.specs.Compiling.{Each};
 ghost use Rattle.schema_compiler.specs.Reserving.{Ends, IsGivenUp, node_made};
 ghost use Rattle.schema_compiler.specs.UnderWay.{GoesChild, GoesMaker, GoesMember, GoesMembers, GoesNode};
 ghost use Rattle.schema_compiler.specs.UnderWay.{GoesObject, GoesRefer, GoesTo, IsUnderWay, Reaches};
 
 use crate::compiler::annotations::{absorb, object_of, without};
 use crate::compiler::compiled::{Compiled, PlannedNode};
-use crate::compiler::context::Context;
 use crate::compiler::entries::{entry_named, insert_by_priority, node_alone};
-use crate::compiler::error::BuildError;
-use crate::compiler::given::{CompileOptions, Given};
-use crate::compiler::key::SchemaKey;
-use crate::compiler::keys::find;
+use crate::compiler::given::Given;
 use crate::compiler::makers::keep_edge;
 use crate::compiler::reservations::ReservedNode;
-use crate::compiler::values::Reading;
-use crate::ref_::{ReferenceKind, reference_kind};
-use schema_node::context::keyword::Validate;
-use schema_node::context::resolver::Resolver;
-use schema_node::context::schema_place::SchemaPath;
-use schema_node::context::table::{KeywordTable, MakerReply, MakerStep};
-use schema_node::node::{Edge, Entry, EntryForm, NodeForm};
-use schema_reports::keywords::priorities::{CUSTOM_PRIORITY, REF_PRIORITY};
+use schema_keys::context::Context;
+use schema_keys::error::BuildError;
+use schema_keys::key::SchemaKey;
+use schema_keys::keys::find;
+use schema_keys::options::CompileOptions;
+use schema_keys::references::{ReferenceKind, reference_kind};
+use schema_keys::values;
+use schema_keys::values::{Reading, value_of};
+use schema_keywords::keywords::priorities::{CUSTOM_PRIORITY, REF_PRIORITY};
+use schema_nodes::node::{Entry, EntryForm, NodeForm};
+use schema_parts::keyword::Validate;
+use schema_parts::numbers::Edge;
+use schema_parts::resolver::Resolver;
+use schema_parts::schema_place::SchemaPath;
+use schema_parts::table::{KeywordTable, MakerReply, MakerStep};
 use schema_reports::location::{Location, LocationSegment};
 use serde_json::{Map, Value};
 use std::alloc::Global;
 use std::rc::Rc;
 
 mod annotations;
-pub mod check;
 pub mod compiled;
-pub mod context;
 pub(crate) mod entries;
-pub mod error;
 pub mod given;
-pub mod key;
-mod keys;
 mod makers;
 pub mod reservations;
-mod start;
-mod subschema;
 mod targets;
-pub(crate) mod text;
-mod values;
 mod vocabularies;
 mod worklist;
+
+pub use schema_check::check;
+pub use schema_keys::{context, error, key};
 
 /// Compiles the schema of a key and every schema that it reaches through subschemas and references. Returns their keys and
 /// nodes, one number for each key, the given key's being 0. At most `nested_limit` targets of `$ref` and `$dynamicRef` are
@@ -344,7 +342,7 @@ impl<'p, R: Resolver, T> Given<'p, R, T> {
             options: self.options,
             key,
         };
-        let value = self.value_of(key, reading);
+        let value = value_of(self.resolver, key, reading);
         match values::object_of(value) {
             Some(members) => self.planned_object(compiled, key, members),
             None => Ok(PlannedNode {

@@ -8,22 +8,22 @@ use Rattle.std.proofs.lemmas.Map.Keys.{IsDistinct-from_apart}
 use Rattle.std.proofs.lemmas.Map.Made.{length-le_from_is_member}
 use Rattle.std.proofs.lemmas.Map.Views.{Contains-from_any}
 use Rattle.serde_json.specs.Data.{Data}
-use Rattle.schema_reports.specs.Instance.{Text}
-use Rattle.schema_reports.specs.Documents.{Document}
-use Rattle.schema_reports.specs.Drafts.{Draft, SchemaPlace}
-use Rattle.schema_reports.specs.Parts.{Parts}
-use Rattle.schema_reports.specs.Plan.{Key, same_key}
-use Rattle.schema_reports.specs.Reach.{IsReach, Reached, ReachesMoreThan, different}
-use Rattle.schema_reports.specs.Refusals.{Cause, Stands}
-use Rattle.schema_reports.specs.Resolving.{Resolver}
-use Rattle.schema_reports.specs.Root.{base_of, root_draft}
-use Rattle.schema_compiler.specs.Checking.{EachAccepted, IsAccepted, MetaChecks, RefusesOne, documents_at}
-use Rattle.schema_compiler.specs.Compiling.{resolving_parts}
-use Rattle.schema_compiler.proofs.Lists.{each_in}
-use Rattle.schema_compiler.specs.declared.compiler.error.BuildError.{BuildError}
-use Rattle.schema_compiler.specs.declared.compiler.error.BuildError.TheVariants.{KeywordRefused, Lookup, MetaSchema, MissingRoot}
-use Rattle.schema_compiler.specs.declared.compiler.error.BuildError.TheVariants.{NodeLimit, NotASchema, OutOfMemory, ReferenceNotText}
-use Rattle.schema_compiler.specs.declared.compiler.error.BuildError.TheVariants.{UnsupportedVocabulary}
+use Rattle.schema_definitions.specs.Instance.{Text}
+use Rattle.schema_meaning.specs.Documents.{Document}
+use Rattle.schema_definitions.specs.Drafts.{Draft, SchemaPlace}
+use Rattle.schema_definitions.specs.Parts.{Parts}
+use Rattle.schema_definitions.specs.Plan.{Key, same_key}
+use Rattle.schema_meaning.specs.Reach.{IsReach, Reached, ReachesMoreThan, different}
+use Rattle.schema_meaning.specs.Refusals.{Cause, Stands}
+use Rattle.schema_definitions.specs.Resolving.{Resolver}
+use Rattle.schema_meaning.specs.Root.{base_of, root_draft}
+use Rattle.schema_check.specs.Checking.{EachAccepted, IsAccepted, MetaChecks, RefusesOne, documents_at}
+use Rattle.schema_keys.specs.Compiling.{resolving_parts}
+use Rattle.schema_keys.proofs.Lists.{each_in}
+use Rattle.schema_keys.specs.declared.error.BuildError.{BuildError}
+use Rattle.schema_keys.specs.declared.error.BuildError.TheVariants.{KeywordRefused, Lookup, MetaSchema, MissingRoot}
+use Rattle.schema_keys.specs.declared.error.BuildError.TheVariants.{NodeLimit, NotASchema, OutOfMemory, ReferenceNotText}
+use Rattle.schema_keys.specs.declared.error.BuildError.TheVariants.{UnsupportedVocabulary}
 use Rattle.schema_engine.specs.Checked.{FailsCheck, PassesCheck}
 use Rattle.schema_engine.specs.Handed.{Options}
 use Rattle.schema_engine.specs.Roots.{Builds, IsMissingBase, IsRootKey, RefusesBuild}

@@ -3,18 +3,18 @@ use Rattle.std.proofs.Common.{◌≡◌, ℕ, ◌≤◌, Bool, true, false, [], 
 use Rattle.std.specs.Prelude.{None, ◌↔◌}
 use Rattle.serde_json.specs.Data.{Data}
 use Rattle.serde_json.specs.Written.{has_float}
-use Rattle.schema_reports.specs.Cover.{Sense, branch_at, evaluate, is_valid}
-use Rattle.schema_reports.specs.Fractions.{AreWhole}
-use Rattle.schema_reports.specs.Guarded.{Nodes, guarded_sense, guarded_within, node_unit, yes_unit}
-use Rattle.schema_reports.specs.Headline.{VerdictSays}
-use Rattle.schema_reports.specs.Matching.{Completion, Matcher}
-use Rattle.schema_reports.specs.Means as means
-use Rattle.schema_reports.specs.Numbered.{subject_in}
+use Rattle.schema_definitions.specs.Cover.{Sense, branch_at, evaluate, is_valid}
+use Rattle.schema_meaning.specs.Fractions.{AreWhole}
+use Rattle.schema_definitions.specs.Guarded.{Nodes, guarded_sense, guarded_within, node_unit, yes_unit}
+use Rattle.schema_meaning.specs.Headline.{VerdictSays}
+use Rattle.schema_definitions.specs.Matching.{Completion, Matcher}
+use Rattle.schema_meaning.specs.Means as means
+use Rattle.schema_meaning.specs.Numbered.{subject_in}
 use Rattle.schema_reports.specs.UnitViews.{unit_of}
 use Rattle.schema_reports.specs.declared.evaluation.EvaluationNode.{EvaluationNode}
-use Rattle.schema_node.specs.NodeTable.{numbered}
-use Rattle.schema_node.specs.declared.context.keyword.Validate.{Ghosts as KeywordMembers}
-use Rattle.schema_node.specs.declared.context.matcher.Matcher.{Ghosts as MatcherMembers}
+use Rattle.schema_nodes.specs.NodeTable.{numbered}
+use Rattle.schema_parts.specs.declared.keyword.Validate.{Ghosts as KeywordMembers}
+use Rattle.schema_parts.specs.declared.matcher.Matcher.{Ghosts as MatcherMembers}
 use Rattle.schema_engine.specs.Cloned.{AnswerSame, SaySame}
 use Rattle.schema_engine.specs.Evaluated.{EvaluationAnswered}
 use Rattle.schema_engine.specs.Program.{Program}

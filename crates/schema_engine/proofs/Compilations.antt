@@ -3,24 +3,24 @@ use Rattle.std.proofs.Common.{◌≡◌, ℕ, zero, suc, Bool, List, [], ◌∷�
 use Rattle.std.specs.Prelude.{Decides, Option, Some, All, slice_get, slice_index_or}
 use Rattle.std.proofs.lemmas.Option.{slice_get_within}
 use Rattle.serde_json.specs.Data.{Data, Members}
-use Rattle.schema_reports.specs.Instance.{Text}
-use Rattle.schema_reports.specs.Drafts.{Draft, Vocabularies}
-use Rattle.schema_reports.specs.Matching.{Matcher}
-use Rattle.schema_reports.specs.Resolving.{Resolver}
-use Rattle.schema_reports.specs.Making.{Builtin, Script, Table}
-use Rattle.schema_reports.specs.Keywords.{Keywords}
-use Rattle.schema_reports.specs.KeywordTable.{builtin_in}
-use Rattle.schema_reports.specs.Parts.{Parts}
-use Rattle.schema_reports.specs.Plan.{Key}
-use Rattle.schema_reports.specs.Reach.{IsReach, Reached}
-use Rattle.schema_reports.specs.Refusals.{Cause, Compiles}
-use Rattle.schema_reports.specs.Root.{IsRoot}
-use Rattle.schema_reports.specs.Numbered.{Ranked}
-use Rattle.schema_node.specs.NodeTable.{NodeEntry, numbered}
-use Rattle.schema_compiler.specs.Builtins.{builtin}
+use Rattle.schema_definitions.specs.Instance.{Text}
+use Rattle.schema_definitions.specs.Drafts.{Draft, Vocabularies}
+use Rattle.schema_definitions.specs.Matching.{Matcher}
+use Rattle.schema_definitions.specs.Resolving.{Resolver}
+use Rattle.schema_definitions.specs.Making.{Builtin, Script, Table}
+use Rattle.schema_definitions.specs.Keywords.{Keywords}
+use Rattle.schema_keywords.specs.KeywordTable.{builtin_in}
+use Rattle.schema_definitions.specs.Parts.{Parts}
+use Rattle.schema_definitions.specs.Plan.{Key}
+use Rattle.schema_meaning.specs.Reach.{IsReach, Reached}
+use Rattle.schema_meaning.specs.Refusals.{Cause, Compiles}
+use Rattle.schema_meaning.specs.Root.{IsRoot}
+use Rattle.schema_meaning.specs.Numbered.{Ranked}
+use Rattle.schema_nodes.specs.NodeTable.{NodeEntry, numbered}
+use Rattle.schema_keys.specs.Builtins.{builtin}
 use Rattle.schema_compiler.specs.Compilation.{IsCompilation, IsCompilationBy, RefusesRoot, all_parts}
-use Rattle.schema_compiler.specs.Compiling.{no_keywords, no_matcher, no_table}
-use Rattle.schema_compiler.specs.declared.compiler.error.BuildError.{BuildError}
+use Rattle.schema_keys.specs.Compiling.{no_keywords, no_matcher, no_table}
+use Rattle.schema_keys.specs.declared.error.BuildError.{BuildError}
 use Rattle.schema_engine.specs.Handed.{Options, parts_of, table_of}
 use Rattle.schema_engine.specs.Compiled.{IsCompiled, IsWhole}
 use Rattle.schema_engine.specs.Roots.{IsRootKey}

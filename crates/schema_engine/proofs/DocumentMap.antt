@@ -3,18 +3,18 @@ use Rattle.std.proofs.Common.{◌≡◌, ◌∙◌, ◌∷◌, [], Bool, true, f
 use Rattle.std.specs.Prelude.{Contains, IsTrue, MatchOption, None, Option, Some, flat_map, is_some, option_map, unwrap_or}
 use Rattle.std.proofs.lemmas.Option.{MatchOption-at_some}
 use Rattle.serde_json.specs.Data.{Data, array, boolean, null, number, object, string}
-use Rattle.schema_reports.specs.Drafts.{SchemaPlace, at_path}
-use Rattle.schema_reports.specs.Instance.{Place, Text, a_value, subject_at}
-use Rattle.schema_reports.specs.MapPointers.{EntryCompiles, IsCompiled, StandsBelow, entry_key, is_schema, stands_in}
-use Rattle.schema_reports.specs.Parts.{Parts}
-use Rattle.schema_reports.specs.Plan.{Edge, Key, inside, ok_of, schema_of}
-use Rattle.schema_reports.specs.Pointer.{pointer_to}
-use Rattle.schema_reports.specs.Reach.{at_first}
-use Rattle.schema_reports.specs.Refusals.{Cause, not_a_schema, schema_causes, undeclared}
-use Rattle.schema_node.specs.ResolverViews.{IsInside}
-use Rattle.schema_compiler.specs.Compiling.{Each, In}
+use Rattle.schema_definitions.specs.Drafts.{SchemaPlace, at_path}
+use Rattle.schema_definitions.specs.Instance.{Place, Text, a_value, subject_at}
+use Rattle.schema_meaning.specs.MapPointers.{EntryCompiles, IsCompiled, StandsBelow, entry_key, is_schema, stands_in}
+use Rattle.schema_definitions.specs.Parts.{Parts}
+use Rattle.schema_definitions.specs.Plan.{Edge, Key, inside, ok_of, schema_of}
+use Rattle.schema_definitions.specs.Pointer.{pointer_to}
+use Rattle.schema_meaning.specs.Reach.{at_first}
+use Rattle.schema_meaning.specs.Refusals.{Cause, not_a_schema, schema_causes, undeclared}
+use Rattle.schema_parts.specs.ResolverViews.{IsInside}
+use Rattle.schema_keys.specs.Compiling.{Each, In}
 use Rattle.schema_compiler.proofs.Compiled.{stands_but}
-use Rattle.schema_compiler.proofs.Lists.{contains_of, each_in}
+use Rattle.schema_keys.proofs.Lists.{contains_of, each_in}
 use Rattle.schema_engine.specs.DocumentSchemas.{IndicesFit, schemas_in}
 use Rattle.schema_engine.specs.Entries.{HoldsPlaces, IsCompiledAlone, IsEntry, IsLeftOut}
 use Rattle.schema_engine.specs.Handed.{Handed, Options, parts_of}

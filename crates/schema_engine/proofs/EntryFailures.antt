@@ -1,15 +1,15 @@
 -- What a failure at a place of the map says of what stands there.
 use Rattle.std.proofs.Common.{◌≡◌, ℕ, subst, [], ◌∷◌, refl, inl, inr}
 use Rattle.std.specs.Prelude.{None, Option, Some, ◌⊎◌}
-use Rattle.schema_reports.specs.Instance.{Place}
-use Rattle.schema_reports.specs.MapPointers.{EntryCompiles, IsCompiled, StandsBelow, entry_key}
-use Rattle.schema_reports.specs.Parts.{Parts}
-use Rattle.schema_reports.specs.Plan.{Key}
-use Rattle.schema_reports.specs.Refusals.{Cause}
-use Rattle.schema_compiler.specs.Alone.{RefusesKeyAlone}
+use Rattle.schema_definitions.specs.Instance.{Place}
+use Rattle.schema_meaning.specs.MapPointers.{EntryCompiles, IsCompiled, StandsBelow, entry_key}
+use Rattle.schema_definitions.specs.Parts.{Parts}
+use Rattle.schema_definitions.specs.Plan.{Key}
+use Rattle.schema_meaning.specs.Refusals.{Cause}
+use Rattle.schema_keys.specs.Alone.{RefusesKeyAlone}
 use Rattle.schema_compiler.specs.Compilation.{RefusesAlone}
-use Rattle.schema_compiler.specs.declared.compiler.error.BuildError.{BuildError}
-use Rattle.schema_compiler.specs.declared.compiler.error.BuildError.TheVariants.{KeywordRefused, Lookup, MetaSchema, MissingRoot, NodeLimit, NotASchema, OutOfMemory, ReferenceNotText, UnsupportedVocabulary}
+use Rattle.schema_keys.specs.declared.error.BuildError.{BuildError}
+use Rattle.schema_keys.specs.declared.error.BuildError.TheVariants.{KeywordRefused, Lookup, MetaSchema, MissingRoot, NodeLimit, NotASchema, OutOfMemory, ReferenceNotText, UnsupportedVocabulary}
 use Rattle.schema_compiler.proofs.Compiled.{stands_too}
 use Rattle.schema_engine.specs.Handed.{Options}
 use Rattle.schema_engine.specs.Mapped.{RefusesLimit}

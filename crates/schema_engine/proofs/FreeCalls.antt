@@ -3,24 +3,24 @@ use Rattle.std.proofs.Common.{arith, false, refl, sym, true, Bool, List, [], map
 use Rattle.std.specs.Prelude.{None, Option, Some, is_none, option_map}
 use Rattle.std.specs.Cmp.{both_ways}
 use Rattle.serde_json.specs.Data.{Data}
-use Rattle.schema_reports.specs.Cover.{Call, Decides, Sense, branch_at, evaluate, is_valid, iter_errors, validate}
-use Rattle.schema_reports.specs.Deciding.{none_where_accepted}
-use Rattle.schema_reports.specs.Headline.{VerdictSays}
-use Rattle.schema_reports.specs.Laws.{EachKeeps}
-use Rattle.schema_reports.specs.Matching.{completion_of}
-use Rattle.schema_reports.specs.Members.{Follows}
-use Rattle.schema_reports.specs.Numbered.{subject_in}
+use Rattle.schema_definitions.specs.Cover.{Call, Decides, Sense, branch_at, evaluate, is_valid, iter_errors, validate}
+use Rattle.schema_meaning.specs.Deciding.{none_where_accepted}
+use Rattle.schema_meaning.specs.Headline.{VerdictSays}
+use Rattle.schema_definitions.specs.Laws.{EachKeeps}
+use Rattle.schema_definitions.specs.Matching.{completion_of}
+use Rattle.schema_meaning.specs.Members.{Follows}
+use Rattle.schema_meaning.specs.Numbered.{subject_in}
 use Rattle.schema_reports.specs.ReportViews.{error_of}
-use Rattle.schema_reports.specs.Reports.{Error}
-use Rattle.schema_reports.specs.SharedResults.{is_empty}
+use Rattle.schema_definitions.specs.Reports.{Error}
+use Rattle.schema_search.specs.SharedResults.{is_empty}
 use Rattle.schema_reports.specs.UnitViews.{unit_of}
 use Rattle.schema_reports.specs.declared.evaluation.EvaluationNode.{EvaluationNode}
 use Rattle.schema_reports.specs.declared.reports.ValidationError.{ValidationError}
-use Rattle.schema_reports.proofs.GuardedSense.{all_nodes_follow}
-use Rattle.schema_reports.proofs.Sentences.{listed_none}
-use Rattle.schema_node.specs.NodeTable.{numbered}
-use Rattle.schema_node.specs.declared.context.keyword.Validate.{Ghosts as KeywordMembers}
-use Rattle.schema_node.specs.declared.context.matcher.Matcher.{Ghosts as MatcherMembers}
+use Rattle.schema_meaning.proofs.GuardedSense.{all_nodes_follow}
+use Rattle.schema_meaning.proofs.Sentences.{listed_none}
+use Rattle.schema_nodes.specs.NodeTable.{numbered}
+use Rattle.schema_parts.specs.declared.keyword.Validate.{Ghosts as KeywordMembers}
+use Rattle.schema_parts.specs.declared.matcher.Matcher.{Ghosts as MatcherMembers}
 use Rattle.schema_engine.specs.Called.{GuardedlyOf, IsCompiledFrom, UnitsGuardedly}
 use Rattle.schema_engine.specs.Evaluated.{EvaluationAnswered}
 use Rattle.schema_engine.specs.FreeCalls as calls

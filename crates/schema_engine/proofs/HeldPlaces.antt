@@ -3,10 +3,10 @@ use Rattle.std.proofs.Common.{◌≡◌, ◌++◌, ◌∷◌, [], Bool, true, fa
 use Rattle.std.specs.Prelude.{MatchOption, None, Option, Some, bytes_eq}
 use Rattle.std.proofs.lemmas.Slice.Eq.{bytes_eq-Decides}
 use Rattle.serde_json.specs.Data.{Data}
-use Rattle.schema_reports.specs.Instance.{Place, Text}
-use Rattle.schema_reports.specs.Plan.{Key}
-use Rattle.schema_compiler.specs.Compiling.{Each}
-use Rattle.schema_compiler.proofs.Lists.{each_append}
+use Rattle.schema_definitions.specs.Instance.{Place, Text}
+use Rattle.schema_definitions.specs.Plan.{Key}
+use Rattle.schema_keys.specs.Compiling.{Each}
+use Rattle.schema_keys.proofs.Lists.{each_append}
 use Rattle.schema_engine.specs.Entries.{HoldsPlaces, IsEntry, IsLeftOut, IsPut}
 use Rattle.schema_engine.specs.Handed.{Handed, Options}
 use Rattle.schema_engine.specs.MapViews.{Entries, at_pointer}

@@ -2,14 +2,14 @@
 use Rattle.std.proofs.Common.{◌≡◌, [], Bool, inl, inr, subst, sym}
 use Rattle.std.specs.Prelude.{None, Option, Some, flat_map}
 use Rattle.serde_json.specs.Data.{Data}
-use Rattle.schema_reports.specs.Parts.{Parts}
-use Rattle.schema_reports.specs.Plan.{Key}
-use Rattle.schema_reports.specs.Refusals.{undeclared}
-use Rattle.schema_node.specs.ResolverViews.{IsInside}
-use Rattle.schema_compiler.specs.Alone.{RefusesVocabularies}
-use Rattle.schema_compiler.specs.Checking.{AcceptsSchema, MetaChecks, RefusesSchema}
-use Rattle.schema_compiler.specs.Compiling.{Each, no_keywords, no_matcher, no_table}
-use Rattle.schema_compiler.specs.declared.compiler.error.BuildError.{BuildError}
+use Rattle.schema_definitions.specs.Parts.{Parts}
+use Rattle.schema_definitions.specs.Plan.{Key}
+use Rattle.schema_meaning.specs.Refusals.{undeclared}
+use Rattle.schema_parts.specs.ResolverViews.{IsInside}
+use Rattle.schema_keys.specs.Alone.{RefusesVocabularies}
+use Rattle.schema_check.specs.Checking.{AcceptsSchema, MetaChecks, RefusesSchema}
+use Rattle.schema_keys.specs.Compiling.{Each, no_keywords, no_matcher, no_table}
+use Rattle.schema_keys.specs.declared.error.BuildError.{BuildError}
 use Rattle.schema_engine.specs.DocumentSchemas.{IndicesFit}
 use Rattle.schema_engine.specs.Entries.{HoldsPlaces, RefusesOneOf}
 use Rattle.schema_engine.specs.Handed.{Handed, Options, parts_of}

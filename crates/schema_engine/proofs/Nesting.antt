@@ -3,22 +3,22 @@
 use Rattle.std.proofs.Common.{Bool, List, [], ap, arith, false, inl, inr, map, refl, subst, sym, true, ◌∙◌, ◌∷◌, ◌≡◌, ◌⊎◌}
 use Rattle.std.specs.Prelude.{None, Option, Some, is_none, option_map}
 use Rattle.serde_json.specs.Data.{Data}
-use Rattle.schema_reports.specs.Cover.{Call, Decides, Sense, branch_at, evaluate, is_valid, iter_errors, validate, whole}
-use Rattle.schema_reports.specs.Deciding.{decides_or_not}
-use Rattle.schema_reports.specs.Headline as h
-use Rattle.schema_reports.specs.Keywords.{Answer}
-use Rattle.schema_reports.specs.Matching.{all_match}
-use Rattle.schema_reports.specs.Reports.{Error, Unit_}
+use Rattle.schema_definitions.specs.Cover.{Call, Decides, Sense, branch_at, evaluate, is_valid, iter_errors, validate, whole}
+use Rattle.schema_meaning.specs.Deciding.{decides_or_not}
+use Rattle.schema_meaning.specs.Headline as h
+use Rattle.schema_definitions.specs.Keywords.{Answer}
+use Rattle.schema_definitions.specs.Matching.{all_match}
+use Rattle.schema_definitions.specs.Reports.{Error, Unit_}
 use Rattle.schema_reports.specs.ReportViews.{error_of}
-use Rattle.schema_reports.specs.Shared.{Kept, keep, leave, none}
-use Rattle.schema_reports.specs.SharedResults.{is_empty}
+use Rattle.schema_meaning.specs.Shared.{Kept, keep, leave, none}
+use Rattle.schema_search.specs.SharedResults.{is_empty}
 use Rattle.schema_reports.specs.UnitViews.{unit_of}
 use Rattle.schema_reports.specs.declared.evaluation.EvaluationNode.{EvaluationNode}
 use Rattle.schema_reports.specs.declared.reports.ValidationError.{ValidationError}
-use Rattle.schema_node.specs.declared.context.keyword.Validate.{Ghosts as KeywordMembers}
-use Rattle.schema_node.specs.declared.context.matcher.Matcher.{Ghosts as MatcherMembers}
-use Rattle.schema_node.specs.declared.context.resolver.Resolver.{Ghosts as ResolverMembers}
-use Rattle.schema_node.specs.declared.context.table.KeywordTable.{Ghosts as TableMembers}
+use Rattle.schema_parts.specs.declared.keyword.Validate.{Ghosts as KeywordMembers}
+use Rattle.schema_parts.specs.declared.matcher.Matcher.{Ghosts as MatcherMembers}
+use Rattle.schema_parts.specs.declared.resolver.Resolver.{Ghosts as ResolverMembers}
+use Rattle.schema_parts.specs.declared.table.KeywordTable.{Ghosts as TableMembers}
 use Rattle.schema_output.specs.ErrorUnits.{errors_unit}
 use Rattle.schema_engine.specs.Asked.{UnitsInEverySense}
 use Rattle.schema_engine.specs.Called.{HasPlainUnits, MeansPlainly, PlainlyOf, UnitsPlainly}

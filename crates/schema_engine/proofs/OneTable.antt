@@ -2,22 +2,22 @@
 use Rattle.std.proofs.Common.{ap, ap₂, arith, length, map, refl, subst, sym, Bool, List, [], ℕ, ◌++◌, ◌∙◌, ◌∷◌, ◌≡◌}
 use Rattle.std.specs.Prelude.{All, Some, flat_map, slice_get, slice_index_or}
 use Rattle.serde_json.specs.Data.{Data}
-use Rattle.schema_reports.specs.Parts.{Parts}
-use Rattle.schema_reports.specs.Plan.{Key}
-use Rattle.schema_reports.specs.Refusals.{Compiles}
-use Rattle.schema_reports.specs.Fractions.{AreWhole, IsWholeWord, form_words, node_words}
-use Rattle.schema_reports.specs.Guarded.{NodeForm, NodePart, NodePlan, Nodes, guarded_sense, guarded_within, node_unit, yes_unit}
-use Rattle.schema_reports.specs.Guarded.{node_always, node_keyword, node_never, node_reference, node_these}
-use Rattle.schema_reports.specs.Instance.{Place, Subject}
-use Rattle.schema_reports.specs.Matching.{Assumptions, Matcher, completion_of}
-use Rattle.schema_reports.specs.Numbered.{Ranked, subject_in}
-use Rattle.schema_reports.specs.Reports.{Unit_}
-use Rattle.schema_reports.specs.Runs.{Run}
-use Rattle.schema_reports.proofs.NodeRuns.{runs_say_outcomes}
-use Rattle.schema_node.specs.NodeTable.{NodeEntry, numbered}
+use Rattle.schema_definitions.specs.Parts.{Parts}
+use Rattle.schema_definitions.specs.Plan.{Key}
+use Rattle.schema_meaning.specs.Refusals.{Compiles}
+use Rattle.schema_meaning.specs.Fractions.{AreWhole, IsWholeWord, form_words, node_words}
+use Rattle.schema_definitions.specs.Guarded.{NodeForm, NodePart, NodePlan, Nodes, guarded_sense, guarded_within, node_unit, yes_unit}
+use Rattle.schema_definitions.specs.Guarded.{node_always, node_keyword, node_never, node_reference, node_these}
+use Rattle.schema_definitions.specs.Instance.{Place, Subject}
+use Rattle.schema_definitions.specs.Matching.{Assumptions, Matcher, completion_of}
+use Rattle.schema_meaning.specs.Numbered.{Ranked, subject_in}
+use Rattle.schema_definitions.specs.Reports.{Unit_}
+use Rattle.schema_definitions.specs.Runs.{Run}
+use Rattle.schema_meaning.proofs.NodeRuns.{runs_say_outcomes}
+use Rattle.schema_nodes.specs.NodeTable.{NodeEntry, numbered}
 use Rattle.schema_compiler.specs.Agreeing.{AlikeForm, AlikeParts, AlikePlan, AreAlike}
 use Rattle.schema_compiler.specs.Compilation.{IsCompilation}
-use Rattle.schema_compiler.specs.Compiling.{no_keywords, no_matcher}
+use Rattle.schema_keys.specs.Compiling.{no_keywords, no_matcher}
 use Rattle.schema_compiler.specs.Finding.{Course, FindsAll, Standing, WorksOff, at_end, in_a_round, passes_over, standing_of}
 use Rattle.schema_compiler.proofs.Courses.{finds_go_on}
 use Rattle.schema_compiler.proofs.TablesAgree.{tables_agree}

@@ -1,16 +1,16 @@
 -- What is compiled does not depend on the matcher, nor on how keywords run.
 use Rattle.std.proofs.Common.{ℕ, List, [], ◌∷◌}
-use Rattle.schema_reports.specs.Instance.{Text}
-use Rattle.schema_reports.specs.Matching.{Matcher}
-use Rattle.schema_reports.specs.Resolving.{Resolver}
-use Rattle.schema_reports.specs.Making.{Table}
-use Rattle.schema_reports.specs.Keywords.{Keywords}
-use Rattle.schema_reports.specs.Parts.{Parts}
-use Rattle.schema_reports.specs.Plan.{Key, Part, Form, keyword, reference, Plan, always, never, these, plan}
-use Rattle.schema_reports.specs.Reach.{Reached, at_first, asked_by}
-use Rattle.schema_reports.specs.Refusals.{Cause, Compiles, Aimed, the_root, referred_by, Stands, stands_at, is_required}
-use Rattle.schema_reports.specs.Guarded.{NodeForm, node_keyword, node_reference, NodePart, NodePlan, node_always, node_never, node_these, Nodes}
-use Rattle.schema_reports.specs.Numbered.{Numbers, SameForm, SameParts, SamePlan, StandsFor, AreNumbered}
+use Rattle.schema_definitions.specs.Instance.{Text}
+use Rattle.schema_definitions.specs.Matching.{Matcher}
+use Rattle.schema_definitions.specs.Resolving.{Resolver}
+use Rattle.schema_definitions.specs.Making.{Table}
+use Rattle.schema_definitions.specs.Keywords.{Keywords}
+use Rattle.schema_definitions.specs.Parts.{Parts}
+use Rattle.schema_definitions.specs.Plan.{Key, Part, Form, keyword, reference, Plan, always, never, these, plan}
+use Rattle.schema_meaning.specs.Reach.{Reached, at_first, asked_by}
+use Rattle.schema_meaning.specs.Refusals.{Cause, Compiles, Aimed, the_root, referred_by, Stands, stands_at, is_required}
+use Rattle.schema_definitions.specs.Guarded.{NodeForm, node_keyword, node_reference, NodePart, NodePlan, node_always, node_never, node_these, Nodes}
+use Rattle.schema_meaning.specs.Numbered.{Numbers, SameForm, SameParts, SamePlan, StandsFor, AreNumbered}
 use Rattle.schema_engine.specs.Handed.{Options, parts_of}
 
 module _ {S K R R' : Type 0} (resolver : Resolver S) (table : Table K) (matcher matcher' : Matcher) (keywords : Keywords K R) (keywords' : Keywords K R') (options : Options) where

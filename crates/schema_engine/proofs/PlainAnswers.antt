@@ -2,15 +2,15 @@
 -- they have too.
 use Rattle.std.proofs.Common.{ℕ, ◌+◌, Bool, [], ◌∙◌, ap, arith}
 use Rattle.serde_json.specs.Data.{Data}
-use Rattle.schema_reports.specs.Matching.{Completion, Matcher}
-use Rattle.schema_reports.specs.Resolving.{Resolver}
-use Rattle.schema_reports.specs.Making.{Table}
-use Rattle.schema_reports.specs.Keywords.{Keywords}
-use Rattle.schema_reports.specs.Cover.{Sense, branch_at, evaluate, plain}
-use Rattle.schema_reports.specs.Headline.{Plainly, PlainlyWithUnits}
-use Rattle.schema_reports.specs.Parts.{Parts}
-use Rattle.schema_reports.specs.Reports.{Unit_}
-use Rattle.schema_reports.specs.Units.{plain_units}
+use Rattle.schema_definitions.specs.Matching.{Completion, Matcher}
+use Rattle.schema_definitions.specs.Resolving.{Resolver}
+use Rattle.schema_definitions.specs.Making.{Table}
+use Rattle.schema_definitions.specs.Keywords.{Keywords}
+use Rattle.schema_definitions.specs.Cover.{Sense, branch_at, evaluate, plain}
+use Rattle.schema_meaning.specs.Headline.{Plainly, PlainlyWithUnits}
+use Rattle.schema_definitions.specs.Parts.{Parts}
+use Rattle.schema_definitions.specs.Reports.{Unit_}
+use Rattle.schema_definitions.specs.Units.{plain_units}
 use Rattle.schema_reports.specs.declared.evaluation.EvaluationNode.{EvaluationNode}
 use Rattle.schema_engine.specs.Evaluated.{UnitsAnswered}
 use Rattle.schema_engine.specs.Program.{HasUnits, OfEveryEvaluation, OfEverySense, Program}

@@ -4,31 +4,31 @@ use Rattle.std.proofs.Common.{◌≡◌, ℕ, sym, subst, Bool, true, false, Lis
 use Rattle.std.proofs.lemmas.List.Elements.{All-cons, All-contains, All-contains_itself, All-head, All-map, All-nil, All-tail, All-weaker}
 use Rattle.std.specs.Prelude.{All, Contains, Option, ◌⊎◌}
 use Rattle.serde_json.specs.Data.{Data}
-use Rattle.schema_reports.specs.Instance.{Text}
-use Rattle.schema_reports.specs.Reports.{Error}
-use Rattle.schema_reports.specs.Matching.{Completion, Matcher, all_match}
-use Rattle.schema_reports.specs.Resolving.{Resolver}
-use Rattle.schema_reports.specs.Making.{Table}
-use Rattle.schema_reports.specs.Keywords.{Keywords}
-use Rattle.schema_reports.specs.Parts.{Parts}
-use Rattle.schema_reports.specs.Plan.{Key}
-use Rattle.schema_reports.specs.Cover.{Sense, iter_errors, validate}
-use Rattle.schema_reports.specs.Headline.{FirstShared, IsFailure, IsFirst}
+use Rattle.schema_definitions.specs.Instance.{Text}
+use Rattle.schema_definitions.specs.Reports.{Error}
+use Rattle.schema_definitions.specs.Matching.{Completion, Matcher, all_match}
+use Rattle.schema_definitions.specs.Resolving.{Resolver}
+use Rattle.schema_definitions.specs.Making.{Table}
+use Rattle.schema_definitions.specs.Keywords.{Keywords}
+use Rattle.schema_definitions.specs.Parts.{Parts}
+use Rattle.schema_definitions.specs.Plan.{Key}
+use Rattle.schema_definitions.specs.Cover.{Sense, iter_errors, validate}
+use Rattle.schema_meaning.specs.Headline.{FirstShared, IsFailure, IsFirst}
 use Rattle.schema_reports.specs.ReportViews.{error_of}
 use Rattle.schema_reports.specs.declared.reports.ValidationError.{ValidationError}
-use Rattle.schema_reports.specs.ErrorsLead.{EachKeepsAbsorbing, EachLeads, MakesAbsorbing, PointsAt}
-use Rattle.schema_reports.specs.Means as means
-use Rattle.schema_reports.specs.Guarded.{guarded_sense}
-use Rattle.schema_reports.specs.Numbered.{subject_in}
-use Rattle.schema_reports.proofs.NodeErrorsLead.{node_errors_lead}
-use Rattle.schema_reports.proofs.ListedLead.{of_failure, of_first, of_found, of_lists}
-use Rattle.schema_node.specs.NodeTable.{numbered}
-use Rattle.schema_node.proofs.PartLaws.{makes_absorbed}
+use Rattle.schema_meaning.specs.ErrorsLead.{EachKeepsAbsorbing, EachLeads, MakesAbsorbing, PointsAt}
+use Rattle.schema_meaning.specs.Means as means
+use Rattle.schema_definitions.specs.Guarded.{guarded_sense}
+use Rattle.schema_meaning.specs.Numbered.{subject_in}
+use Rattle.schema_meaning.proofs.NodeErrorsLead.{node_errors_lead}
+use Rattle.schema_meaning.proofs.ListedLead.{of_failure, of_first, of_found, of_lists}
+use Rattle.schema_nodes.specs.NodeTable.{numbered}
+use Rattle.schema_parts.proofs.PartLaws.{makes_absorbed}
 use Rattle.schema_engine.specs.Program.{Program, FromSomeDepth}
 use Rattle.schema_engine.specs.Spoken.{EachIsGiven, ErrorsAnswered, FirstAnswered, FirstIsGiven, IsGiven}
 use Rattle.schema_engine.specs.Compiled.{IsWhole}
 use Rattle.schema_engine.specs.ProgramOf.{IsProgramFrom, IsProgramOf}
-use Rattle.schema_compiler.specs.Compiling.{no_keywords, no_matcher}
+use Rattle.schema_keys.specs.Compiling.{no_keywords, no_matcher}
 use Rattle.schema_engine.specs.Handed.{Options, parts_of}
 use Rattle.schema_engine.specs.Promised.{MeansSchema, OfSchema, PointsFromKey, PointsIntoSchema}
 use Rattle.schema_engine.specs.Pointing.{EachPoints, FirstPoints}

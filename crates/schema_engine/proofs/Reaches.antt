@@ -5,13 +5,13 @@ use Rattle.std.specs.Prelude.{AllPairs, Some, slice_get, slice_index_or, Decides
 use Rattle.std.proofs.lemmas.Bool.{eqb-true, eq-eqb}
 use Rattle.std.proofs.lemmas.Option.{slice_get-map}
 use Rattle.std.proofs.lemmas.Slice.Eq.{bytes_eq-Decides}
-use Rattle.schema_reports.specs.Parts.{Parts}
-use Rattle.schema_reports.specs.Plan.{Key, same_key}
-use Rattle.schema_reports.specs.Reach.{IsReach, different}
-use Rattle.schema_reports.specs.Refusals.{Cause}
-use Rattle.schema_node.specs.NodeTable.{NodeEntry}
+use Rattle.schema_definitions.specs.Parts.{Parts}
+use Rattle.schema_definitions.specs.Plan.{Key, same_key}
+use Rattle.schema_meaning.specs.Reach.{IsReach, different}
+use Rattle.schema_meaning.specs.Refusals.{Cause}
+use Rattle.schema_nodes.specs.NodeTable.{NodeEntry}
 use Rattle.schema_compiler.specs.Compilation.{IsCompilationBy}
-use Rattle.schema_compiler.proofs.SameKeys.{and_parts, draft_itself, draft_true, one_key, schema_place_itself, schema_place_true, vocabularies_itself, vocabularies_true}
+use Rattle.schema_keys.proofs.SameKeys.{and_parts, draft_itself, draft_true, one_key, schema_place_itself, schema_place_true, vocabularies_itself, vocabularies_true}
 
 both : (a b : Bool) → a ≡ true → b ≡ true → (a && b) ≡ true
 both true true p q = refl

@@ -2,23 +2,23 @@
 use Rattle.std.proofs.Common.{◌≡◌, ◌∙◌, ℕ, Bool, true, false, ◌&&◌, List, [], ◌∷◌, refl, sym, ap, subst, arith, IfOk, Ok, Err, Result}
 use Rattle.std.specs.Prelude.{Option, Some, None, is_some, option_map}
 use Rattle.serde_json.specs.Data.{Data}
-use Rattle.schema_reports.specs.Reports.{Error, Outcome}
-use Rattle.schema_reports.specs.Matching.{Assumptions, Extends, Matcher, completion_of}
-use Rattle.schema_reports.specs.Keywords.{Keywords, Mode, all_of_it, first_of_it, for_verdict, truth}
-use Rattle.schema_reports.specs.Runs.{Run}
-use Rattle.schema_reports.specs.Unfinished.{Failure, Remembered, starting}
-use Rattle.schema_reports.specs.Cover.{Call, Cover, Sense, branch_at, is_valid, mode_of, whole}
-use Rattle.schema_reports.specs.Headline.{VerdictSays}
-use Rattle.schema_reports.specs.Members.{Follows, verdict_of}
-use Rattle.schema_reports.specs.Searched.{IsRunOf, Reaches, here, next}
-use Rattle.schema_reports.specs.Laws.{EachKeeps}
-use Rattle.schema_reports.specs.Guarded.{Nodes, guarded_node, guarded_sense, guarded_within, yes_run}
-use Rattle.schema_reports.specs.Numbered.{subject_in}
-use Rattle.schema_reports.proofs.CoverCounts.{pairs_differ}
-use Rattle.schema_reports.proofs.GuardedSense.{all_nodes_follow}
-use Rattle.schema_reports.proofs.NodeRuns.{runs_say_outcomes}
-use Rattle.schema_reports.proofs.Sentences.{verdict_says}
-use Rattle.schema_node.specs.Matches.{MeetsEach}
+use Rattle.schema_definitions.specs.Reports.{Error, Outcome}
+use Rattle.schema_definitions.specs.Matching.{Assumptions, Extends, Matcher, completion_of}
+use Rattle.schema_definitions.specs.Keywords.{Keywords, Mode, all_of_it, first_of_it, for_verdict, truth}
+use Rattle.schema_definitions.specs.Runs.{Run}
+use Rattle.schema_definitions.specs.Unfinished.{Failure, Remembered, starting}
+use Rattle.schema_definitions.specs.Cover.{Call, Cover, Sense, branch_at, is_valid, mode_of, whole}
+use Rattle.schema_meaning.specs.Headline.{VerdictSays}
+use Rattle.schema_meaning.specs.Members.{Follows, verdict_of}
+use Rattle.schema_meaning.specs.Searched.{IsRunOf, Reaches, here, next}
+use Rattle.schema_definitions.specs.Laws.{EachKeeps}
+use Rattle.schema_definitions.specs.Guarded.{Nodes, guarded_node, guarded_sense, guarded_within, yes_run}
+use Rattle.schema_meaning.specs.Numbered.{subject_in}
+use Rattle.schema_meaning.proofs.CoverCounts.{pairs_differ}
+use Rattle.schema_meaning.proofs.GuardedSense.{all_nodes_follow}
+use Rattle.schema_meaning.proofs.NodeRuns.{runs_say_outcomes}
+use Rattle.schema_meaning.proofs.Sentences.{verdict_says}
+use Rattle.schema_contexts.specs.Matches.{MeetsEach}
 use Rattle.schema_engine.proofs.Remembers.{remembers_of}
 
 module _ {K R : Type 0} (keywords : Keywords K R) (each : EachKeeps keywords) (matcher : Matcher) (nodes : Nodes K) (instance : Data) (root n : ℕ) where

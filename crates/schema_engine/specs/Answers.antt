@@ -1,22 +1,22 @@
 -- What the run of the root's node answers: at every great enough depth, what its guarded meaning does, by the mode.
 use Rattle.std.specs.Prelude.{◌≡◌, ℕ, ◌<◌, [], Bool, List, length, map, option_map, Option, Some, None, Result, Ok, Err}
 use Rattle.serde_json.specs.Data.{Data}
-use Rattle.schema_reports.specs.Matching.{Assumptions, Extends, Matcher, completion_of}
-use Rattle.schema_reports.specs.Keywords.{Keywords}
-use Rattle.schema_reports.specs.Keywords as wanted
-use Rattle.schema_reports.specs.Runs.{Run, first_error, reply_in}
-use Rattle.schema_reports.specs.Unfinished.{Remembered}
-use Rattle.schema_node.specs.Matches.{MeetsEach}
-use Rattle.schema_reports.specs.Guarded.{guarded_within, guarded_node, yes_run}
-use Rattle.schema_reports.specs.Numbered.{left, subject_in}
+use Rattle.schema_definitions.specs.Matching.{Assumptions, Extends, Matcher, completion_of}
+use Rattle.schema_definitions.specs.Keywords.{Keywords}
+use Rattle.schema_definitions.specs.Keywords as wanted
+use Rattle.schema_definitions.specs.Runs.{Run, first_error, reply_in}
+use Rattle.schema_definitions.specs.Unfinished.{Remembered}
+use Rattle.schema_contexts.specs.Matches.{MeetsEach}
+use Rattle.schema_definitions.specs.Guarded.{guarded_within, guarded_node, yes_run}
+use Rattle.schema_meaning.specs.Numbered.{left, subject_in}
 use Rattle.schema_reports.specs.ReportViews.{error_of}
 use Rattle.schema_reports.specs.UnitViews.{unit_of}
 use Rattle.schema_reports.specs.declared.evaluation.EvaluationNode.{EvaluationNode}
 use Rattle.schema_reports.specs.declared.reports.ValidationError.{ValidationError}
-use Rattle.schema_node.specs.KeywordViews.{mode_of, reply_of}
-use Rattle.schema_node.specs.NodeTable.{numbered}
-use Rattle.schema_node.specs.declared.context.keyword.Mode.{Mode}
-use Rattle.schema_node.specs.declared.context.keyword.Reply.{Reply}
+use Rattle.schema_parts.specs.KeywordViews.{mode_of, reply_of}
+use Rattle.schema_nodes.specs.NodeTable.{numbered}
+use Rattle.schema_parts.specs.declared.keyword.Mode.{Mode}
+use Rattle.schema_parts.specs.declared.keyword.Reply.{Reply}
 use Rattle.schema_engine.specs.Program.{Program, Speaks}
 
 module _ {K S R M : Type 0} (shape : K → S) (words : Bool → Keywords S R) (is_whole : S → Bool) (matching : M → Matcher) (p : Program K M) (instance : Data) where

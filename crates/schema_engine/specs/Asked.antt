@@ -2,17 +2,17 @@
 -- `Program` and `Spoken`, over the members of the keyword type's and the matcher type's traits.
 use Rattle.std.specs.Prelude.{Bool, List, Option}
 use Rattle.serde_json.specs.Data.{Data}
-use Rattle.schema_reports.specs.Cover.{is_valid}
-use Rattle.schema_reports.specs.Headline.{VerdictSays}
-use Rattle.schema_reports.specs.Keywords as wanted
-use Rattle.schema_reports.specs.Matching.{Assumptions}
-use Rattle.schema_reports.specs.Unfinished.{Remembered}
+use Rattle.schema_definitions.specs.Cover.{is_valid}
+use Rattle.schema_meaning.specs.Headline.{VerdictSays}
+use Rattle.schema_definitions.specs.Keywords as wanted
+use Rattle.schema_definitions.specs.Matching.{Assumptions}
+use Rattle.schema_definitions.specs.Unfinished.{Remembered}
 use Rattle.schema_reports.specs.declared.evaluation.EvaluationNode.{EvaluationNode}
 use Rattle.schema_reports.specs.declared.reports.ValidationError.{ValidationError}
-use Rattle.schema_node.specs.declared.context.keyword.Mode.{Mode}
-use Rattle.schema_node.specs.declared.context.keyword.Reply.{Reply}
-use Rattle.schema_node.specs.declared.context.keyword.Validate.{Ghosts as KeywordMembers}
-use Rattle.schema_node.specs.declared.context.matcher.Matcher.{Ghosts as MatcherMembers}
+use Rattle.schema_parts.specs.declared.keyword.Mode.{Mode}
+use Rattle.schema_parts.specs.declared.keyword.Reply.{Reply}
+use Rattle.schema_parts.specs.declared.keyword.Validate.{Ghosts as KeywordMembers}
+use Rattle.schema_parts.specs.declared.matcher.Matcher.{Ghosts as MatcherMembers}
 use Rattle.schema_engine.specs.Answers.{MeetsMatches, SaysErrors, SaysFirst, SaysReply, SaysUnit, SaysVerdict}
 use Rattle.schema_engine.specs.Evaluated.{EvaluationAnswered, UnitsAnswered}
 use Rattle.schema_engine.specs.Program.{FromSomeDepth, HasUnits, OfEveryEvaluation, OfEverySense, Program}

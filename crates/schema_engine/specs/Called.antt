@@ -2,19 +2,19 @@
 -- over all that is handed in. They are those of `Promised`, `ProgramOf`, `Roots`, `Spoken` and `Pointing`.
 use Rattle.std.specs.Prelude.{Bool, List, Option, ℕ, ◌⊎◌}
 use Rattle.serde_json.specs.Data.{Data}
-use Rattle.schema_reports.specs.Cover.{Sense, is_valid}
-use Rattle.schema_reports.specs.Headline.{IsValidAnswer, Plainly, PlainlyWithUnits, VerdictSays}
-use Rattle.schema_reports.specs.Means as means
-use Rattle.schema_reports.specs.Parts.{Parts}
-use Rattle.schema_reports.specs.Plan.{Key}
+use Rattle.schema_definitions.specs.Cover.{Sense, is_valid}
+use Rattle.schema_meaning.specs.Headline.{IsValidAnswer, Plainly, PlainlyWithUnits, VerdictSays}
+use Rattle.schema_meaning.specs.Means as means
+use Rattle.schema_definitions.specs.Parts.{Parts}
+use Rattle.schema_definitions.specs.Plan.{Key}
 use Rattle.schema_reports.specs.declared.evaluation.EvaluationNode.{EvaluationNode}
 use Rattle.schema_reports.specs.declared.reports.ValidationError.{ValidationError}
-use Rattle.schema_node.specs.NodeTable.{NodeEntry, numbered}
-use Rattle.schema_compiler.specs.declared.compiler.error.BuildError.{BuildError}
-use Rattle.schema_compiler.specs.Checking.{MetaChecks}
+use Rattle.schema_nodes.specs.NodeTable.{NodeEntry, numbered}
+use Rattle.schema_keys.specs.declared.error.BuildError.{BuildError}
+use Rattle.schema_check.specs.Checking.{MetaChecks}
 use Rattle.schema_engine.specs.Checked.{FailsCheck}
 use Rattle.schema_engine.specs.Compiled.{IsCompiled}
-use Rattle.schema_compiler.specs.Compiling.{no_keywords, no_matcher}
+use Rattle.schema_keys.specs.Compiling.{no_keywords, no_matcher}
 use Rattle.schema_engine.specs.Handed.{Handed, Options, default_nested, parts_of}
 use Rattle.schema_engine.specs.Pointing.{EachPoints, FirstPoints}
 use Rattle.schema_engine.specs.Evaluated.{EvaluationAnswered, UnitsAnswered}

@@ -1,10 +1,10 @@
 -- The check of a schema by the meta validators of its drafts, where the options ask for it. (Core 2020-12, 8.1.1 and 9.3.3)
 use Rattle.std.specs.Prelude.{true, ◌≡◌}
 use Rattle.serde_json.specs.Data.{Data}
-use Rattle.schema_reports.specs.Plan.{Key}
-use Rattle.schema_reports.specs.Resolving.{Resolver}
-use Rattle.schema_compiler.specs.Checking.{AcceptsSchema, MetaChecks, RefusesSchema}
-use Rattle.schema_compiler.specs.declared.compiler.error.BuildError.{BuildError}
+use Rattle.schema_definitions.specs.Plan.{Key}
+use Rattle.schema_definitions.specs.Resolving.{Resolver}
+use Rattle.schema_check.specs.Checking.{AcceptsSchema, MetaChecks, RefusesSchema}
+use Rattle.schema_keys.specs.declared.error.BuildError.{BuildError}
 use Rattle.schema_engine.specs.Handed.{Options}
 use Rattle.schema_engine.specs.Roots.{IsRootKey, root_parts}
 

@@ -2,16 +2,16 @@
 -- the source may be answered of the clone, and nothing else: both answer equally.
 use Rattle.std.specs.Prelude.{Bool, List, Option, [], ℕ, ◌≡◌, ◌↔◌}
 use Rattle.serde_json.specs.Data.{Data}
-use Rattle.schema_reports.specs.Cover.{Sense}
-use Rattle.schema_reports.specs.Guarded.{guarded_sense, guarded_within, node_unit, yes_unit}
-use Rattle.schema_reports.specs.Matching.{Completion}
-use Rattle.schema_reports.specs.Numbered.{subject_in}
-use Rattle.schema_reports.specs.Reports.{Unit_}
+use Rattle.schema_definitions.specs.Cover.{Sense}
+use Rattle.schema_definitions.specs.Guarded.{guarded_sense, guarded_within, node_unit, yes_unit}
+use Rattle.schema_definitions.specs.Matching.{Completion}
+use Rattle.schema_meaning.specs.Numbered.{subject_in}
+use Rattle.schema_definitions.specs.Reports.{Unit_}
 use Rattle.schema_reports.specs.declared.evaluation.EvaluationNode.{EvaluationNode}
 use Rattle.schema_reports.specs.declared.reports.ValidationError.{ValidationError}
-use Rattle.schema_node.specs.NodeTable.{numbered}
-use Rattle.schema_node.specs.declared.context.keyword.Validate.{Ghosts as KeywordMembers}
-use Rattle.schema_node.specs.declared.context.matcher.Matcher.{Ghosts as MatcherMembers}
+use Rattle.schema_nodes.specs.NodeTable.{numbered}
+use Rattle.schema_parts.specs.declared.keyword.Validate.{Ghosts as KeywordMembers}
+use Rattle.schema_parts.specs.declared.matcher.Matcher.{Ghosts as MatcherMembers}
 use Rattle.schema_engine.specs.Asked.{DecidesFromSomeDepth, ErrorsFromSomeDepth, EvaluatesFromSomeDepth, FirstFromSomeDepth, UnitsFromSomeDepth}
 use Rattle.schema_engine.specs.Program.{Program, Speaks}
 

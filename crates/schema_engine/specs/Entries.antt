@@ -2,16 +2,16 @@
 -- of the places that were passed.
 use Rattle.std.specs.Prelude.{Bool, List, Some, bytes_eq, if◌then◌else◌, length, MatchOption, ◌≡◌, ◌≤◌, ◌⊎◌}
 use Rattle.serde_json.specs.Data.{Data}
-use Rattle.schema_reports.specs.Instance.{Place, Text}
-use Rattle.schema_reports.specs.MapPointers.{IsCompiled, StandsBelow, entry_key}
-use Rattle.schema_reports.specs.Parts.{Parts}
-use Rattle.schema_reports.specs.Plan.{Key}
-use Rattle.schema_reports.specs.Refusals.{Cause}
-use Rattle.schema_compiler.specs.Alone.{RefusesKeyAlone}
+use Rattle.schema_definitions.specs.Instance.{Place, Text}
+use Rattle.schema_meaning.specs.MapPointers.{IsCompiled, StandsBelow, entry_key}
+use Rattle.schema_definitions.specs.Parts.{Parts}
+use Rattle.schema_definitions.specs.Plan.{Key}
+use Rattle.schema_meaning.specs.Refusals.{Cause}
+use Rattle.schema_keys.specs.Alone.{RefusesKeyAlone}
 use Rattle.schema_compiler.specs.Compilation as compilation
-use Rattle.schema_compiler.specs.Compiling.{Each, In}
-use Rattle.schema_compiler.specs.declared.compiler.error.BuildError.{BuildError}
-use Rattle.schema_compiler.specs.declared.compiler.error.BuildError.TheVariants.{OutOfMemory}
+use Rattle.schema_keys.specs.Compiling.{Each, In}
+use Rattle.schema_keys.specs.declared.error.BuildError.{BuildError}
+use Rattle.schema_keys.specs.declared.error.BuildError.TheVariants.{OutOfMemory}
 use Rattle.schema_engine.specs.Handed.{Handed, Options, default_nested, parts_of}
 use Rattle.schema_engine.specs.MapViews.{Entries, at_pointer}
 use Rattle.schema_engine.specs.Mapped.{RefusesLimit, name_of}

@@ -4,18 +4,18 @@
 -- sense. So do the calls of one validator.
 use Rattle.std.specs.Prelude.{Bool, List, None, Option, [], is_none, ℕ, ◌≡◌}
 use Rattle.serde_json.specs.Data.{Data}
-use Rattle.schema_reports.specs.Cover.{Decides, Sense, branch_at, evaluate, is_valid, iter_errors, validate}
-use Rattle.schema_reports.specs.Guarded.{guarded_sense, guarded_within, node_unit, yes_unit}
-use Rattle.schema_reports.specs.Matching.{Assumptions, completion_of}
-use Rattle.schema_reports.specs.Numbered.{subject_in}
-use Rattle.schema_reports.specs.Reports.{Unit_}
-use Rattle.schema_reports.specs.SharedResults.{is_empty}
+use Rattle.schema_definitions.specs.Cover.{Decides, Sense, branch_at, evaluate, is_valid, iter_errors, validate}
+use Rattle.schema_definitions.specs.Guarded.{guarded_sense, guarded_within, node_unit, yes_unit}
+use Rattle.schema_definitions.specs.Matching.{Assumptions, completion_of}
+use Rattle.schema_meaning.specs.Numbered.{subject_in}
+use Rattle.schema_definitions.specs.Reports.{Unit_}
+use Rattle.schema_search.specs.SharedResults.{is_empty}
 use Rattle.schema_reports.specs.UnitViews.{unit_of}
 use Rattle.schema_reports.specs.declared.evaluation.EvaluationNode.{EvaluationNode}
 use Rattle.schema_reports.specs.declared.reports.ValidationError.{ValidationError}
-use Rattle.schema_node.specs.NodeTable.{numbered}
-use Rattle.schema_node.specs.declared.context.keyword.Validate.{Ghosts as KeywordMembers}
-use Rattle.schema_node.specs.declared.context.matcher.Matcher.{Ghosts as MatcherMembers}
+use Rattle.schema_nodes.specs.NodeTable.{numbered}
+use Rattle.schema_parts.specs.declared.keyword.Validate.{Ghosts as KeywordMembers}
+use Rattle.schema_parts.specs.declared.matcher.Matcher.{Ghosts as MatcherMembers}
 use Rattle.schema_engine.specs.Asked.{DecidesFromSomeDepth, ErrorsFromSomeDepth, EvaluatesFromSomeDepth, FirstFromSomeDepth}
 use Rattle.schema_engine.specs.Called.{DecidesGuardedly, ErrorsGuardedly, EvaluatesGuardedly, FirstGuardedly, IsCompiledFrom, UnitsGuardedly}
 use Rattle.schema_engine.specs.Handed.{Handed, Options, default_nested}

@@ -2,18 +2,18 @@
 -- `#` and its pointer; and why there is no map. (section 6 of RFC 6901)
 use Rattle.std.specs.Prelude.{Bool, Some, [], flat_map, is_some, length, ◌≡◌, ◌↔◌, ◌∷◌, ◌≤◌, IsTrue}
 use Rattle.serde_json.specs.Data.{Data}
-use Rattle.schema_reports.specs.Instance.{Place, Text}
-use Rattle.schema_reports.specs.MapPointers.{IsCompiled, entry_key}
-use Rattle.schema_reports.specs.Parts.{Parts}
-use Rattle.schema_reports.specs.Plan.{Key}
-use Rattle.schema_reports.specs.Pointer.{pointer_to}
-use Rattle.schema_reports.specs.Reach.{ReachesMoreThan}
-use Rattle.schema_reports.specs.Refusals.{undeclared}
-use Rattle.schema_compiler.specs.Alone.{RefusesVocabularies}
-use Rattle.schema_compiler.specs.Compiling.{In}
-use Rattle.schema_compiler.specs.Checking.{AcceptsSchema, MetaChecks, RefusesSchema}
-use Rattle.schema_compiler.specs.declared.compiler.error.BuildError.{BuildError}
-use Rattle.schema_compiler.specs.declared.compiler.error.BuildError.TheVariants.{NodeLimit}
+use Rattle.schema_definitions.specs.Instance.{Place, Text}
+use Rattle.schema_meaning.specs.MapPointers.{IsCompiled, entry_key}
+use Rattle.schema_definitions.specs.Parts.{Parts}
+use Rattle.schema_definitions.specs.Plan.{Key}
+use Rattle.schema_definitions.specs.Pointer.{pointer_to}
+use Rattle.schema_meaning.specs.Reach.{ReachesMoreThan}
+use Rattle.schema_meaning.specs.Refusals.{undeclared}
+use Rattle.schema_keys.specs.Alone.{RefusesVocabularies}
+use Rattle.schema_keys.specs.Compiling.{In}
+use Rattle.schema_check.specs.Checking.{AcceptsSchema, MetaChecks, RefusesSchema}
+use Rattle.schema_keys.specs.declared.error.BuildError.{BuildError}
+use Rattle.schema_keys.specs.declared.error.BuildError.TheVariants.{NodeLimit}
 use Rattle.schema_engine.specs.DocumentSchemas.{schemas_in}
 use Rattle.schema_engine.specs.Handed.{Handed, Options, default_nested, parts_of}
 use Rattle.schema_engine.specs.MapViews.{Entries, at_pointer}

@@ -5,23 +5,23 @@
 -- meta validators, want of memory aside.
 use Rattle.std.specs.Prelude.{Bool, List, None, Option, Some, [], false, is_none, map, option_map, true, ◌∷◌, ◌≡◌, ◌⊎◌}
 use Rattle.serde_json.specs.Data.{Data}
-use Rattle.schema_reports.specs.Cover.{Call, Decides, Sense, branch_at, evaluate, iter_errors, validate}
-use Rattle.schema_reports.specs.Headline.{IsFailure, OneFailure}
-use Rattle.schema_reports.specs.Keywords.{Answer}
+use Rattle.schema_definitions.specs.Cover.{Call, Decides, Sense, branch_at, evaluate, iter_errors, validate}
+use Rattle.schema_meaning.specs.Headline.{IsFailure, OneFailure}
+use Rattle.schema_definitions.specs.Keywords.{Answer}
 use Rattle.schema_reports.specs.ReportViews.{error_of}
-use Rattle.schema_reports.specs.Reports.{Error, Unit_, report_of}
-use Rattle.schema_reports.specs.SharedResults.{is_empty}
+use Rattle.schema_definitions.specs.Reports.{Error, Unit_, report_of}
+use Rattle.schema_search.specs.SharedResults.{is_empty}
 use Rattle.schema_reports.specs.UnitViews.{unit_of}
 use Rattle.schema_reports.specs.declared.evaluation.EvaluationNode.{EvaluationNode}
 use Rattle.schema_reports.specs.declared.reports.ValidationError.{ValidationError}
-use Rattle.schema_node.specs.declared.context.keyword.Validate.{Ghosts as KeywordMembers}
-use Rattle.schema_node.specs.declared.context.matcher.Matcher.{Ghosts as MatcherMembers}
-use Rattle.schema_node.specs.declared.context.resolver.Resolver.{Ghosts as ResolverMembers}
-use Rattle.schema_node.specs.declared.context.table.KeywordTable.{Ghosts as TableMembers}
+use Rattle.schema_parts.specs.declared.keyword.Validate.{Ghosts as KeywordMembers}
+use Rattle.schema_parts.specs.declared.matcher.Matcher.{Ghosts as MatcherMembers}
+use Rattle.schema_parts.specs.declared.resolver.Resolver.{Ghosts as ResolverMembers}
+use Rattle.schema_parts.specs.declared.table.KeywordTable.{Ghosts as TableMembers}
 use Rattle.schema_output.specs.ErrorUnits.{errors_unit}
-use Rattle.schema_compiler.specs.Checking.{MetaChecks}
-use Rattle.schema_compiler.specs.declared.compiler.error.BuildError.{BuildError}
-use Rattle.schema_compiler.specs.declared.compiler.error.BuildError.TheVariants.{OutOfMemory}
+use Rattle.schema_check.specs.Checking.{MetaChecks}
+use Rattle.schema_keys.specs.declared.error.BuildError.{BuildError}
+use Rattle.schema_keys.specs.declared.error.BuildError.TheVariants.{OutOfMemory}
 use Rattle.schema_engine.specs.Asked.{DecidesInEverySense, ErrorsInEverySense, EvaluatesInEverySense, FirstInEverySense, UnitsInEverySense}
 use Rattle.schema_engine.specs.Called.{BuildRefused, HasPlainUnits, MeansPlainly, PlainlyOf, SchemaBuilds}
 use Rattle.schema_engine.specs.Checked.{PassesCheck}

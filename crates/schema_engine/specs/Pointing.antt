@@ -3,11 +3,11 @@
 -- stays unfinished. (Core 2020-12, 12.3)
 use Rattle.std.specs.Prelude.{All, Bool, List, None, Option, Some, map, true, ◌⊎◌}
 use Rattle.serde_json.specs.Data.{Data}
-use Rattle.schema_reports.specs.Parts.{Parts}
-use Rattle.schema_reports.specs.Plan.{Key}
-use Rattle.schema_reports.specs.Cover.{Decides, Sense, iter_errors, validate}
-use Rattle.schema_reports.specs.Headline.{Either, IsFailure, OneFailure}
-use Rattle.schema_reports.specs.ErrorsLead.{PointsAt}
+use Rattle.schema_definitions.specs.Parts.{Parts}
+use Rattle.schema_definitions.specs.Plan.{Key}
+use Rattle.schema_definitions.specs.Cover.{Decides, Sense, iter_errors, validate}
+use Rattle.schema_meaning.specs.Headline.{Either, IsFailure, OneFailure}
+use Rattle.schema_meaning.specs.ErrorsLead.{PointsAt}
 use Rattle.schema_reports.specs.ReportViews.{error_of}
 use Rattle.schema_reports.specs.declared.reports.ValidationError.{ValidationError}
 

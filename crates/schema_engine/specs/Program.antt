@@ -2,18 +2,18 @@
 use Rattle.std.specs.Prelude.{◌≡◌, ◌≤◌, ℕ, List, Bool, None, [], true, false, length}
 use Rattle.serde_json.specs.Data.{Data}
 use Rattle.serde_json.specs.Written.{has_float}
-use Rattle.schema_reports.specs.Drafts.{Draft}
-use Rattle.schema_reports.specs.Matching.{Completion, Matcher}
-use Rattle.schema_reports.specs.Keywords.{Keywords}
-use Rattle.schema_reports.specs.Cover.{Sense, branch_at, evaluate}
-use Rattle.schema_reports.specs.Guarded.{guarded_sense, guarded_within, node_unit, yes_unit}
-use Rattle.schema_reports.specs.Numbered.{subject_in}
-use Rattle.schema_reports.specs.Reports.{Unit_}
+use Rattle.schema_definitions.specs.Drafts.{Draft}
+use Rattle.schema_definitions.specs.Matching.{Completion, Matcher}
+use Rattle.schema_definitions.specs.Keywords.{Keywords}
+use Rattle.schema_definitions.specs.Cover.{Sense, branch_at, evaluate}
+use Rattle.schema_definitions.specs.Guarded.{guarded_sense, guarded_within, node_unit, yes_unit}
+use Rattle.schema_meaning.specs.Numbered.{subject_in}
+use Rattle.schema_definitions.specs.Reports.{Unit_}
 use Rattle.schema_reports.specs.UnitViews.{unit_of}
 use Rattle.schema_reports.specs.declared.evaluation.EvaluationNode.{EvaluationNode}
-use Rattle.schema_reports.specs.Means as means
-use Rattle.schema_reports.specs.Fractions.{AreWhole}
-use Rattle.schema_node.specs.NodeTable.{NodeEntry, numbered}
+use Rattle.schema_meaning.specs.Means as means
+use Rattle.schema_meaning.specs.Fractions.{AreWhole}
+use Rattle.schema_nodes.specs.NodeTable.{NodeEntry, numbered}
 
 -- the nodes, the number of the root's, the root's draft, and the matcher
 pub record Program (K M : Type 0) : Type 0 where

@@ -3,15 +3,15 @@
 -- and its matcher answers as the one that was handed in. The key is the schema's root's, or that of a subschema by itself.
 use Rattle.std.specs.Prelude.{◌≡◌, Ok, ℕ}
 use Rattle.serde_json.specs.Data.{Data}
-use Rattle.schema_reports.specs.Matching.{Matcher}
-use Rattle.schema_reports.specs.Resolving.{Resolver}
-use Rattle.schema_reports.specs.Making.{Table}
-use Rattle.schema_reports.specs.Plan.{Key}
-use Rattle.schema_reports.specs.Refusals.{Compiles}
-use Rattle.schema_reports.specs.Root.{root_draft}
+use Rattle.schema_definitions.specs.Matching.{Matcher}
+use Rattle.schema_definitions.specs.Resolving.{Resolver}
+use Rattle.schema_definitions.specs.Making.{Table}
+use Rattle.schema_definitions.specs.Plan.{Key}
+use Rattle.schema_meaning.specs.Refusals.{Compiles}
+use Rattle.schema_meaning.specs.Root.{root_draft}
 use Rattle.schema_engine.specs.Program.{Program}
 use Rattle.schema_engine.specs.Compiled.{IsWhole}
-use Rattle.schema_compiler.specs.Compiling.{no_keywords, no_matcher}
+use Rattle.schema_keys.specs.Compiling.{no_keywords, no_matcher}
 use Rattle.schema_engine.specs.Handed.{Options, parts_of}
 use Rattle.schema_engine.specs.Roots.{IsRootKey}
 

@@ -3,18 +3,18 @@
 -- and values of these.
 use Rattle.std.specs.Prelude.{Bool, ℕ}
 use Rattle.serde_json.specs.Data.{Data}
-use Rattle.schema_reports.specs.Matching.{Matcher}
-use Rattle.schema_reports.specs.Resolving.{Resolver}
-use Rattle.schema_reports.specs.Making.{Table}
-use Rattle.schema_reports.specs.Keywords.{Keywords}
-use Rattle.schema_reports.specs.Parts.{Parts}
-use Rattle.schema_reports.specs.Plan.{Key}
-use Rattle.schema_reports.specs.Root.{IsRoot}
-use Rattle.schema_reports.specs.Headline.{SpeaksRightly, Plainly, PlainlyWithUnits}
-use Rattle.schema_reports.specs.ErrorsLead.{EachLeads}
-use Rattle.schema_reports.specs.Guarded.{guarded_sense}
-use Rattle.schema_reports.specs.Numbered.{subject_in}
-use Rattle.schema_node.specs.NodeTable.{numbered}
+use Rattle.schema_definitions.specs.Matching.{Matcher}
+use Rattle.schema_definitions.specs.Resolving.{Resolver}
+use Rattle.schema_definitions.specs.Making.{Table}
+use Rattle.schema_definitions.specs.Keywords.{Keywords}
+use Rattle.schema_definitions.specs.Parts.{Parts}
+use Rattle.schema_definitions.specs.Plan.{Key}
+use Rattle.schema_meaning.specs.Root.{IsRoot}
+use Rattle.schema_meaning.specs.Headline.{SpeaksRightly, Plainly, PlainlyWithUnits}
+use Rattle.schema_meaning.specs.ErrorsLead.{EachLeads}
+use Rattle.schema_definitions.specs.Guarded.{guarded_sense}
+use Rattle.schema_meaning.specs.Numbered.{subject_in}
+use Rattle.schema_nodes.specs.NodeTable.{numbered}
 use Rattle.schema_engine.specs.Program.{HaveUnits, Program, Speaks, Means}
 use Rattle.schema_engine.specs.Handed.{Options, parts_of}
 

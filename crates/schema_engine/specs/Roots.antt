@@ -2,18 +2,18 @@
 -- and 9.1.1)
 use Rattle.std.specs.Prelude.{List, None, Ok, Err, Some, length, string_bytes, ◌≡◌, ◌⊎◌, ◌≤◌, ℕ}
 use Rattle.serde_json.specs.Data.{Data}
-use Rattle.schema_reports.specs.Instance.{Text}
-use Rattle.schema_reports.specs.Drafts.{Draft}
-use Rattle.schema_reports.specs.Resolving.{Entrance, Resolver}
-use Rattle.schema_reports.specs.Parts.{Parts}
-use Rattle.schema_reports.specs.Plan.{Key}
-use Rattle.schema_reports.specs.Reach.{IsReach}
-use Rattle.schema_reports.specs.Refusals.{Compiles}
-use Rattle.schema_reports.specs.Root.{root_draft, base_of, key_at}
-use Rattle.schema_compiler.specs.Compiling.{no_table, no_keywords, no_matcher}
+use Rattle.schema_definitions.specs.Instance.{Text}
+use Rattle.schema_definitions.specs.Drafts.{Draft}
+use Rattle.schema_definitions.specs.Resolving.{Entrance, Resolver}
+use Rattle.schema_definitions.specs.Parts.{Parts}
+use Rattle.schema_definitions.specs.Plan.{Key}
+use Rattle.schema_meaning.specs.Reach.{IsReach}
+use Rattle.schema_meaning.specs.Refusals.{Compiles}
+use Rattle.schema_meaning.specs.Root.{root_draft, base_of, key_at}
+use Rattle.schema_keys.specs.Compiling.{no_table, no_keywords, no_matcher}
 use Rattle.schema_compiler.specs.Compilation.{RefusesRoot}
-use Rattle.schema_compiler.specs.declared.compiler.error.BuildError.{BuildError}
-use Rattle.schema_compiler.specs.declared.compiler.error.BuildError.TheVariants.{KeywordRefused, Lookup, MetaSchema, MissingRoot, NodeLimit, NotASchema, OutOfMemory, ReferenceNotText, UnsupportedVocabulary}
+use Rattle.schema_keys.specs.declared.error.BuildError.{BuildError}
+use Rattle.schema_keys.specs.declared.error.BuildError.TheVariants.{KeywordRefused, Lookup, MetaSchema, MissingRoot, NodeLimit, NotASchema, OutOfMemory, ReferenceNotText, UnsupportedVocabulary}
 use Rattle.schema_engine.specs.Handed.{Options, parts_of}
 
 -- what depends on the resolver and the options alone

@@ -7,12 +7,12 @@ ghost use Rattle.schema_engine.specs.Handed.{default_nested, default_options, ha
 
 use crate::options::ValidationOptions;
 use crate::validator::Validator;
-use schema_compiler::compiler::error::BuildError;
-use schema_node::context::keyword::Validate;
-use schema_node::context::matcher::Matcher;
-use schema_node::context::meta::MetaValidators;
-use schema_node::context::resolver::Resolver;
-use schema_node::context::table::KeywordTable;
+use schema_keys::error::BuildError;
+use schema_parts::keyword::Validate;
+use schema_parts::matcher::Matcher;
+use schema_parts::meta::MetaValidators;
+use schema_parts::resolver::Resolver;
+use schema_parts::table::KeywordTable;
 use serde_json::Value;
 use std::alloc::Global;
 

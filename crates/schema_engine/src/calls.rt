@@ -9,13 +9,13 @@ ghost use Rattle.schema_engine.specs.Called.{ErrorsPlainly, ErrorsGuardedly, Eac
 ghost use Rattle.schema_engine.specs.Handed.{default_options, handed};
 
 use crate::validator::Validator;
-use schema_compiler::compiler::error::BuildError;
-use schema_node::context::keyword::Validate;
-use schema_node::context::matcher::Matcher;
-use schema_node::context::meta::MetaValidators;
-use schema_node::context::resolver::Resolver;
-use schema_node::context::table::KeywordTable;
+use schema_keys::error::BuildError;
 use schema_output::evaluation::Evaluation;
+use schema_parts::keyword::Validate;
+use schema_parts::matcher::Matcher;
+use schema_parts::meta::MetaValidators;
+use schema_parts::resolver::Resolver;
+use schema_parts::table::KeywordTable;
 use schema_reports::reports::{ErrorIterator, ValidationError};
 use serde_json::Value;
 use std::alloc::Global;

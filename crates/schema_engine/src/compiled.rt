@@ -1,16 +1,17 @@
 //! Validators of compiled nodes.
 ghost use Rattle.std.specs.Prelude.{◌≡◌, ◌<◌, IfOk, length};
-ghost use Rattle.schema_reports.specs.KeywordViews.{draft_of};
+ghost use Rattle.schema_keywords.specs.KeywordViews.{draft_of};
 ghost use Rattle.schema_engine.specs.Called.{HasUnitsAsCompiled, MeansAsCompiled};
 ghost use Rattle.schema_engine.specs.Handed.{handed};
 
 use crate::validator::Validator;
-use schema_node::context::keyword::Validate;
-use schema_node::context::matcher::Matcher;
-use schema_node::context::resolver::Resolver;
-use schema_node::context::table::KeywordTable;
-use schema_node::node::{Nodes, SchemaNode};
-use schema_reports::keywords::Draft;
+use schema_keywords::keywords::Draft;
+use schema_nodes::node::Nodes;
+use schema_parts::keyword::Validate;
+use schema_parts::matcher::Matcher;
+use schema_parts::numbers::SchemaNode;
+use schema_parts::resolver::Resolver;
+use schema_parts::table::KeywordTable;
 use schema_reports::location::OutOfMemory;
 use std::alloc::Global;
 

@@ -7,10 +7,10 @@ ghost use Rattle.schema_engine.specs.Handed.{handed};
 ghost use Rattle.schema_engine.specs.Nesting.{AllErrorsAgree, BuildsAgree, FirstErrorsAgree, VerdictsAgree};
 ghost use Rattle.schema_engine.specs.Nesting.{EvaluationsOfBoth, UnitsOfBoth};
 
-use schema_node::context::keyword::Validate;
-use schema_node::context::matcher::Matcher;
-use schema_node::context::resolver::Resolver;
-use schema_node::context::table::KeywordTable;
+use schema_parts::keyword::Validate;
+use schema_parts::matcher::Matcher;
+use schema_parts::resolver::Resolver;
+use schema_parts::table::KeywordTable;
 
 /// Two validators that mean the plain meaning of one schema answer alike of every instance, where no chain of references
 /// returns. `build` and `build_nested` give such validators whatever their limit on nested targets, so this limit changes no

@@ -11,5 +11,7 @@ pub mod validator;
 
 pub use crate::calls::{evaluate, is_valid, iter_errors, validate};
 pub use schema_compiler::compiler;
+pub use schema_keywords::keywords;
 pub use schema_node::{context, node};
-pub use schema_reports::{instance, keywords, location, reports, text, unfinished_matches};
+pub use schema_reports::{instance, location, reports, text};
+pub use schema_search::unfinished_matches;

@@ -2,7 +2,7 @@
 ghost use Rattle.std.specs.Prelude.{◌≡◌, ◌↔◌, [], OnOk, IsTrue, Some};
 ghost use Rattle.std.specs.Prelude.{bytes_eq, if◌then◌else◌, is_some, length, map, option_copied, string_bytes};
 ghost use Rattle.std.specs.Map.{keys_of};
-ghost use Rattle.schema_reports.specs.Instance.{Text};
+ghost use Rattle.schema_definitions.specs.Instance.{Text};
 ghost use Rattle.schema_engine.specs.MapViews.{EachOnce, at_pointer};
 
 pub(crate) mod schemas;

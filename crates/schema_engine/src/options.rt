@@ -1,10 +1,10 @@
 //! The options of a build.
 ghost use Rattle.std.specs.Prelude.{◌≡◌, ◌++◌, ◌∷◌, [], Some, IfOk};
-ghost use Rattle.schema_reports.specs.KeywordViews.{draft_of};
+ghost use Rattle.schema_keywords.specs.KeywordViews.{draft_of};
 ghost use Rattle.schema_engine.specs.Handed.{default_options};
 
-use schema_compiler::compiler::given::CompileOptions;
-use schema_reports::keywords::Draft;
+use schema_keys::options::CompileOptions;
+use schema_keywords::keywords::Draft;
 use schema_reports::location::OutOfMemory;
 use std::alloc::Global;
 use std::marker::Model;
@@ -29,7 +29,7 @@ pub struct ValidationOptions {
 
 impl Model for ValidationOptions {
     ghost use Rattle.std.specs.Prelude.{map, option_map, string_bytes};
-    ghost use Rattle.schema_reports.specs.KeywordViews.{draft_of};
+    ghost use Rattle.schema_keywords.specs.KeywordViews.{draft_of};
     ghost use Rattle.schema_engine.specs.Handed.{Options};
 
     ghost Value = { Options };

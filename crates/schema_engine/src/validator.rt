@@ -1,14 +1,14 @@
 //! A validator: what it answers of instances.
 ghost use Rattle.std.specs.Prelude.{◌≡◌, [], false, Bool, Option, IfOk, All, IfSome, length, slice_get, ◌<◌};
 ghost use Rattle.serde_json.specs.View.{view};
-ghost use Rattle.schema_reports.specs.KeywordViews.{draft_of};
-ghost use Rattle.schema_reports.specs.Unfinished.{starting};
+ghost use Rattle.schema_keywords.specs.KeywordViews.{draft_of};
+ghost use Rattle.schema_definitions.specs.Unfinished.{starting};
 ghost use Rattle.schema_reports.specs.ReportViews.{BorrowsItsPlace};
-ghost use Rattle.schema_node.specs.FaultViews.{errors_in};
-ghost use Rattle.schema_node.specs.KeywordViews.{mode_of, reply_of};
+ghost use Rattle.schema_parts.specs.FaultViews.{errors_in};
+ghost use Rattle.schema_parts.specs.KeywordViews.{mode_of, reply_of};
 ghost use Rattle.schema_node.specs.NodeRuns.{reply_by};
-ghost use Rattle.schema_reports.specs.Reports.{Outcome};
-ghost use Rattle.schema_reports.specs.Keywords.{for_all, for_first, for_units, for_verdict};
+ghost use Rattle.schema_definitions.specs.Reports.{Outcome};
+ghost use Rattle.schema_definitions.specs.Keywords.{for_all, for_first, for_units, for_verdict};
 ghost use Rattle.schema_engine.specs.Answers.{refusal_of};
 ghost use Rattle.schema_engine.specs.Asked.{DecidesFromSomeDepth, ErrorsFromSomeDepth, FirstFromSomeDepth};
 ghost use Rattle.schema_engine.specs.Asked.{DecidesInEverySense, ErrorsInEverySense, FirstInEverySense};
@@ -19,21 +19,22 @@ ghost use Rattle.schema_engine.specs.Asked.{RunDecides, RunFindsFirst, RunListsE
 
 mod cloning;
 
-use schema_node::context::keyword::{Mode, Reply, Validate};
-use schema_node::context::matcher::Matcher;
-use schema_node::context::validation::ValidationContext;
-use schema_node::node::run::FirstQuestion;
-use schema_node::node::{Nodes, SchemaNode};
+use schema_contexts::validation::ValidationContext;
+use schema_keywords::keywords::Draft;
+use schema_matches::assumptions::MatchAssumptions;
+use schema_node::node::RunNodes;
+use schema_node::node::runs::FirstQuestion;
+use schema_nodes::node::Nodes;
 use schema_output::error_units::unit_of_errors;
 use schema_output::evaluation::Evaluation;
+use schema_parts::keyword::{Mode, Reply, Validate};
+use schema_parts::matcher::Matcher;
+use schema_parts::numbers::SchemaNode;
 use schema_reports::evaluation::EvaluationNode;
 use schema_reports::instance::{Instance, Place};
-use schema_reports::keywords::Draft;
 use schema_reports::location::{Location, OutOfMemory};
 use schema_reports::reports::{ErrorIterator, ValidationError};
-use schema_reports::unfinished_matches::{
-    MatchAssumptions, errors_under_each, validity_under_each,
-};
+use schema_search::unfinished_matches::{errors_under_each, validity_under_each};
 use serde_json::Value;
 use std::alloc::Global;
 use std::marker::Model;
@@ -48,7 +49,7 @@ pub struct Validator<K, M> {
 }
 
 impl<K, M> Model for Validator<K, M> {
-    ghost use Rattle.schema_reports.specs.KeywordViews.{draft_of};
+    ghost use Rattle.schema_keywords.specs.KeywordViews.{draft_of};
     ghost use Rattle.schema_engine.specs.Program.{Program};
     ghost use Rattle.std.specs.Prelude.{◌<◌, length};
     ghost use Rattle.serde_json.specs.contracts.value.Value as value;

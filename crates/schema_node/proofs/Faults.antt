@@ -1,15 +1,15 @@
 -- The faults of an answer, and the first of them.
 use Rattle.std.proofs.Common.{◌≡◌, ◌∙◌, Bool, List, [], ◌∷◌, map, refl, ap, subst, arith}
 use Rattle.std.specs.Prelude.{Some, None, slice_get, All}
-use Rattle.schema_reports.specs.Instance.{Text}
-use Rattle.schema_reports.specs.Reports.{Error}
-use Rattle.schema_reports.specs.Meaning.{Where, fault_error}
-use Rattle.schema_reports.specs.Runs.{first_error}
-use Rattle.schema_node.specs.KeywordViews.{answer_of, fault_of}
-use Rattle.schema_node.specs.FaultViews.{faults_in}
-use Rattle.schema_node.specs.declared.context.keyword.Fault.{Fault}
-use Rattle.schema_node.specs.declared.context.keyword.Answer.{Answer}
-use Rattle.schema_node.specs.declared.context.keyword.Answer.TheVariants as answer
+use Rattle.schema_definitions.specs.Instance.{Text}
+use Rattle.schema_definitions.specs.Reports.{Error}
+use Rattle.schema_definitions.specs.Meaning.{Where, fault_error}
+use Rattle.schema_definitions.specs.Runs.{first_error}
+use Rattle.schema_parts.specs.KeywordViews.{answer_of, fault_of}
+use Rattle.schema_parts.specs.FaultViews.{faults_in}
+use Rattle.schema_parts.specs.declared.keyword.Fault.{Fault}
+use Rattle.schema_parts.specs.declared.keyword.Answer.{Answer}
+use Rattle.schema_parts.specs.declared.keyword.Answer.TheVariants as answer
 
 pub errors_of_faults : (texts : Bool) (a : Answer) → (answer_of texts a).errors ≡ map (fault_of texts) (faults_in a)
 errors_of_faults texts (answer.Verdict b) = refl

@@ -2,29 +2,29 @@
 use Rattle.std.proofs.Common.{◌≡◌, ◌∙◌, ◌+◌, ◌≤◌, ◌<◌, ◌==◌, ◌∷◌, ◌++◌, ℕ, zero, suc, Bool, true, false, List, [], length, get_or, map, refl, sym, ap, subst, arith, inl, inr, ⊎_elim}
 use Rattle.std.specs.Prelude.{◌⊎◌, Option, Some, None}
 use Rattle.std.specs.List.{list_any}
-use Rattle.schema_reports.specs.Instance.{Place, Text}
-use Rattle.schema_reports.specs.Keywords.{Mode, for_all, for_first, for_units, for_verdict, truth}
-use Rattle.schema_reports.specs.Matching.{Match}
-use Rattle.schema_reports.specs.Reports.{Outcome, accepted}
-use Rattle.schema_reports.specs.Runs.{Met}
-use Rattle.schema_reports.specs.Guarded.{NodeEdge, NodeForm, NodePart, NodePlan, Nodes, node_reference, node_these}
-use Rattle.schema_reports.specs.Remembering.{EachAsksVerdicts}
-use Rattle.schema_reports.specs.Unfinished.{Remembered}
-use Rattle.schema_node.specs.FaultViews.{errors_in}
-use Rattle.schema_node.specs.KeywordViews.{reply_of}
-use Rattle.schema_node.specs.Matches.{after_match, settling}
+use Rattle.schema_definitions.specs.Instance.{Place, Text}
+use Rattle.schema_definitions.specs.Keywords.{Mode, for_all, for_first, for_units, for_verdict, truth}
+use Rattle.schema_definitions.specs.Matching.{Match}
+use Rattle.schema_definitions.specs.Reports.{Outcome, accepted}
+use Rattle.schema_definitions.specs.Runs.{Met}
+use Rattle.schema_definitions.specs.Guarded.{NodeEdge, NodeForm, NodePart, NodePlan, Nodes, node_reference, node_these}
+use Rattle.schema_definitions.specs.Remembering.{EachAsksVerdicts}
+use Rattle.schema_definitions.specs.Unfinished.{Remembered}
+use Rattle.schema_parts.specs.FaultViews.{errors_in}
+use Rattle.schema_parts.specs.KeywordViews.{reply_of}
+use Rattle.schema_contexts.specs.Matches.{after_match, settling}
 use Rattle.schema_node.specs.NodeMeets.{NodeMeets}
 use Rattle.schema_node.specs.NodeRuns.{Joins, NodeReplies, SaysTheSame, Stamps, accepts, reply_by}
-use Rattle.schema_node.specs.Progress.{Context, busy_at}
+use Rattle.schema_contexts.specs.Progress.{Context, busy_at}
 use Rattle.schema_node.specs.RightVerdicts.{AreRight, IsRightVerdict, Layout}
 use Rattle.schema_node.specs.RunStates.{Asking, EdgeRemembers, EdgeSays, FormRemembers, GoesOn, Keeps, MeetsEdge, MeetsNode, NodeRemembers, NodeSays, PartsRemember, ReadsOrKeeps, RemembersRightly, Setting, StaysRight}
-use Rattle.schema_node.specs.Verdicts.{MayKeep, Remembers, is_alone, least_visits, one_more, read_in_mode, read_verdict, verdict_of, visited_in_mode}
-use Rattle.schema_node.specs.declared.context.keyword.Reply as code
-use Rattle.schema_node.proofs.Matches.{after_assumes}
+use Rattle.schema_contexts.specs.Verdicts.{MayKeep, Remembers, is_alone, least_visits, one_more, read_in_mode, read_verdict, verdict_of, visited_in_mode}
+use Rattle.schema_parts.specs.declared.keyword.Reply as code
+use Rattle.schema_contexts.proofs.Matches.{after_assumes}
 use Rattle.schema_node.proofs.RightVerdicts.{accepts_alike, alone_entered, alone_is_none, computed_right, kept_or_not, read_alone, read_entered, read_meets, read_replies, right_after_match, right_kept}
 use Rattle.schema_node.proofs.NodeMeets.{meets_entered}
 use Rattle.schema_node.proofs.NodeRuns.{edge_entered}
-use Rattle.schema_node.proofs.Pairs.{busy-pushed, snoc_first}
+use Rattle.schema_contexts.proofs.Pairs.{busy-pushed, snoc_first}
 
 module _ {K R : Type 0} (g : Setting K R) (layout : Layout) where
   -- nothing that matters has changed

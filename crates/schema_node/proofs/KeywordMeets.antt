@@ -1,14 +1,14 @@
 -- Which unfinished matches a keyword's run has met between two turns, and which are left to meet.
 use Rattle.std.proofs.Common.{◌≡◌, ◌∙◌, ℕ, zero, suc, ◌<◌, Bool, List, [], ◌∷◌, ◌++◌, refl, sym, ap, subst, arith, append_assoc, append-nil}
 use Rattle.std.specs.List.{list_any}
-use Rattle.schema_reports.specs.Instance.{Subject, Text}
-use Rattle.schema_reports.specs.Matching.{Assumptions, Match, Matcher, Pair, completed, completion_of, finished, settled, unfinished}
-use Rattle.schema_reports.specs.Keywords.{Keywords, Marked, MatchPoint, Mode, Question, Reply, Turn, ask, done, ecma, mark, match_text, no_reply, truth, unmark}
-use Rattle.schema_reports.specs.Meaning.{Where}
-use Rattle.schema_reports.specs.Runs.{Met, Run, keyword_met, reply_in, site_at, turns, with_mark, without_last}
-use Rattle.schema_reports.specs.Unfinished.{Remembered}
-use Rattle.schema_node.specs.Matches.{MeetsEach, after_match}
-use Rattle.schema_node.proofs.Matches.{meets_append}
+use Rattle.schema_definitions.specs.Instance.{Subject, Text}
+use Rattle.schema_definitions.specs.Matching.{Assumptions, Match, Matcher, Pair, completed, completion_of, finished, settled, unfinished}
+use Rattle.schema_definitions.specs.Keywords.{Keywords, Marked, MatchPoint, Mode, Question, Reply, Turn, ask, done, ecma, mark, match_text, no_reply, truth, unmark}
+use Rattle.schema_definitions.specs.Meaning.{Where}
+use Rattle.schema_definitions.specs.Runs.{Met, Run, keyword_met, reply_in, site_at, turns, with_mark, without_last}
+use Rattle.schema_definitions.specs.Unfinished.{Remembered}
+use Rattle.schema_contexts.specs.Matches.{MeetsEach, after_match}
+use Rattle.schema_contexts.proofs.Matches.{meets_append}
 
 module _ {K R : Type 0} (keywords : Keywords K R) (matcher : Matcher) (as' : Assumptions) (x : Where) (s : Subject) (run_of : Question → Run) (same : Marked → Marked → Bool) (name : Text) (m : K) (remaining : R → ℕ) (old : Remembered) (total : List Met) where
   abbrev MetIn : ℕ → List Marked → R → Reply → List Met

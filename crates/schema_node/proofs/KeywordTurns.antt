@@ -4,28 +4,28 @@ use Rattle.std.specs.List.{list_any}
 use Rattle.std.specs.Prelude.{All, Some, ◌⊎◌, slice_get}
 use Rattle.std.proofs.lemmas.List.Elements.{All-contains}
 use Rattle.serde_json.specs.Data.{Data}
-use Rattle.schema_reports.specs.Instance.{Place, Subject, Text, subject_at}
-use Rattle.schema_reports.specs.Guarded.{Nodes, node_at}
-use Rattle.schema_reports.specs.Numbered.{subject_in}
-use Rattle.schema_node.specs.NodeTable.{NodeEntry, numbered}
+use Rattle.schema_definitions.specs.Instance.{Place, Subject, Text, subject_at}
+use Rattle.schema_definitions.specs.Guarded.{Nodes, node_at}
+use Rattle.schema_meaning.specs.Numbered.{subject_in}
+use Rattle.schema_nodes.specs.NodeTable.{NodeEntry, numbered}
 use Rattle.schema_node.proofs.NodeRuns.{stands_in, where_is}
-use Rattle.schema_reports.specs.Reports.{Error, Unit_, report_of}
-use Rattle.schema_reports.specs.Matching.{Pair, completed, matching, settled}
-use Rattle.schema_reports.specs.Keywords.{Answer, Answers, Fault, Keywords, Marked, MatchPoint, Mode, Question, Reply, Turn, all_of_it, ask, done, ecma, first_of_it, for_all, for_first, for_units, for_verdict, mark, match_text, no_reply, truth, unmark}
-use Rattle.schema_reports.specs.Meaning.{Where, fault_error, keyword_outcome}
-use Rattle.schema_reports.specs.Runs.{first_error, with_mark, without_last}
-use Rattle.schema_reports.specs.Laws.{Agrees, AnsweredAlike, AsksRightly, IsPresent, IsRight, SpotInside, StandsInside, answer_in, first_fault, steps_below}
-use Rattle.schema_reports.specs.Turns.{Standing, TurnLaws, marks_after, next, reply_to}
-use Rattle.schema_node.specs.KeywordViews.{Tells, answer_of, fault_of}
-use Rattle.schema_node.specs.FaultViews.{FaultsLieInside, LiesInside, PassesBorrowed, answer_reply, faults_in}
-use Rattle.schema_node.specs.Matches.{Settling}
-use Rattle.schema_node.proofs.Matches.{decides, deciding}
+use Rattle.schema_definitions.specs.Reports.{Error, Unit_, report_of}
+use Rattle.schema_definitions.specs.Matching.{Pair, completed, matching, settled}
+use Rattle.schema_definitions.specs.Keywords.{Answer, Answers, Fault, Keywords, Marked, MatchPoint, Mode, Question, Reply, Turn, all_of_it, ask, done, ecma, first_of_it, for_all, for_first, for_units, for_verdict, mark, match_text, no_reply, truth, unmark}
+use Rattle.schema_definitions.specs.Meaning.{Where, fault_error, keyword_outcome}
+use Rattle.schema_definitions.specs.Runs.{first_error, with_mark, without_last}
+use Rattle.schema_definitions.specs.Laws.{Agrees, AnsweredAlike, AsksRightly, IsPresent, IsRight, SpotInside, StandsInside, answer_in, first_fault, steps_below}
+use Rattle.schema_definitions.specs.Turns.{Standing, TurnLaws, marks_after, next, reply_to}
+use Rattle.schema_parts.specs.KeywordViews.{Tells, answer_of, fault_of}
+use Rattle.schema_parts.specs.FaultViews.{FaultsLieInside, LiesInside, PassesBorrowed, answer_reply, faults_in}
+use Rattle.schema_contexts.specs.Matches.{Settling}
+use Rattle.schema_contexts.proofs.Matches.{decides, deciding}
 use Rattle.schema_node.specs.NodeRuns.{Reading, Reads, entry_where, reply_by}
 use Rattle.schema_node.specs.Turning.{EvaluatesOn, OnItsWay, StaysWithoutUnits, stands_at, unit_with}
-use Rattle.schema_node.specs.UnitQuestions.{AlwaysAsksForLess, AsksForLess}
-use Rattle.schema_node.specs.declared.context.keyword.Fault as code
-use Rattle.schema_node.specs.declared.context.keyword.Fault.TheVariants as fault
-use Rattle.schema_node.specs.declared.context.keyword.Answer as code_answer
+use Rattle.schema_parts.specs.UnitQuestions.{AlwaysAsksForLess, AsksForLess}
+use Rattle.schema_parts.specs.declared.keyword.Fault as code
+use Rattle.schema_parts.specs.declared.keyword.Fault.TheVariants as fault
+use Rattle.schema_parts.specs.declared.keyword.Answer as code_answer
 use Rattle.schema_node.proofs.Faults.{errors_of_faults}
 
 module _ {K R : Type 0} (keywords : Keywords K R) (m : K) (absorbed : List Text) (remaining : Subject → R → ℕ) (can_be : Subject → R → Type 0) (end_of : Standing R → Answer) (Fits : Standing R → Type 0)

@@ -1,12 +1,12 @@
 -- Unfinished matches that were met, and are met again with the reasons that the matcher gives.
 use Rattle.std.proofs.Common.{◌≡◌, List, [], ◌∷◌, refl, subst, sym}
 use Rattle.std.proofs.lemmas.List.Elements.{All-cons, All-head, All-nil, All-tail, All-weaker}
-use Rattle.schema_reports.specs.Matching.{Matcher, Reason, unfinished}
-use Rattle.schema_reports.specs.Runs.{Met}
-use Rattle.schema_reports.specs.Unfinished.{Failure, Remembered, meet}
-use Rattle.schema_reports.specs.Remembering.{HasMet, SameMet, SameMets}
-use Rattle.schema_reports.proofs.MetAgain.{all_same, meet_same, met_now, met_still, same_has_met}
-use Rattle.schema_node.specs.Matches.{MeetsEach}
+use Rattle.schema_definitions.specs.Matching.{Matcher, Reason, unfinished}
+use Rattle.schema_definitions.specs.Runs.{Met}
+use Rattle.schema_definitions.specs.Unfinished.{Failure, Remembered, meet}
+use Rattle.schema_definitions.specs.Remembering.{HasMet, SameMet, SameMets}
+use Rattle.schema_meaning.proofs.MetAgain.{all_same, meet_same, met_now, met_still, same_has_met}
+use Rattle.schema_contexts.specs.Matches.{MeetsEach}
 use Rattle.schema_node.specs.Remembering.{Knows, KnowsEach}
 
 abbrev with_reason : Met → Reason → Failure

@@ -3,23 +3,23 @@ use Rattle.std.proofs.Common.{◌≡◌, ◌∙◌, ℕ, zero, suc, ◌<◌, ◌
 use Rattle.std.specs.Prelude.{Option, Some, None, is_some, ◌↔◌, option_and_then}
 use Rattle.std.specs.List.{list_any}
 use Rattle.serde_json.specs.Data.{Data}
-use Rattle.schema_reports.specs.Instance.{Place, Step, Subject, Text, a_value, after_step, subject_at}
-use Rattle.schema_reports.specs.Reports.{Error, Outcome, accepted}
-use Rattle.schema_reports.specs.Matching.{Matcher, completion_of}
-use Rattle.schema_reports.specs.Keywords.{Below, Keywords, Mode, Question, down, for_all, for_first, for_units, for_verdict, here}
-use Rattle.schema_reports.specs.Meaning.{both}
-use Rattle.schema_reports.specs.Runs.{Looked, Met, Run, first_error, no_run, plan_met, reply_in}
-use Rattle.schema_reports.specs.Laws.{Agrees}
-use Rattle.schema_reports.specs.Guarded.{Children, NodeEdge, NodeForm, NodePart, NodePlan, Nodes, node_always, node_child, node_never, node_part, node_reference, node_these, yes_run}
-use Rattle.schema_reports.specs.Numbered.{left, subject_in}
-use Rattle.schema_reports.specs.Unfinished.{Remembered}
-use Rattle.schema_reports.proofs.Falls.{from_below}
-use Rattle.schema_node.specs.Matches.{MeetsEach, Settling}
+use Rattle.schema_definitions.specs.Instance.{Place, Step, Subject, Text, a_value, after_step, subject_at}
+use Rattle.schema_definitions.specs.Reports.{Error, Outcome, accepted}
+use Rattle.schema_definitions.specs.Matching.{Matcher, completion_of}
+use Rattle.schema_definitions.specs.Keywords.{Below, Keywords, Mode, Question, down, for_all, for_first, for_units, for_verdict, here}
+use Rattle.schema_definitions.specs.Meaning.{both}
+use Rattle.schema_definitions.specs.Runs.{Looked, Met, Run, first_error, no_run, plan_met, reply_in}
+use Rattle.schema_definitions.specs.Laws.{Agrees}
+use Rattle.schema_definitions.specs.Guarded.{Children, NodeEdge, NodeForm, NodePart, NodePlan, Nodes, node_always, node_child, node_never, node_part, node_reference, node_these, yes_run}
+use Rattle.schema_meaning.specs.Numbered.{left, subject_in}
+use Rattle.schema_definitions.specs.Unfinished.{Remembered}
+use Rattle.schema_meaning.proofs.Falls.{from_below}
+use Rattle.schema_contexts.specs.Matches.{MeetsEach, Settling}
 use Rattle.schema_node.specs.NodeMeets.{ChildMeets, EdgeMeets, FormMeets, NodeMeets, PartsMeet, child_run, deep_run, edge_run, entry_met, part_holds, part_looked, parts_looked, reading}
-use Rattle.schema_node.specs.KeywordViews.{reply_of}
-use Rattle.schema_node.specs.declared.context.keyword.Reply as code
+use Rattle.schema_parts.specs.KeywordViews.{reply_of}
+use Rattle.schema_parts.specs.declared.keyword.Reply as code
 use Rattle.schema_node.specs.NodeRuns.{Joins, Reads, Replies, accepts, child_says, edge_needs, edge_says, form_says, refuses, reply_by}
-use Rattle.schema_node.proofs.Matches.{meets_append, meets_same}
+use Rattle.schema_contexts.proofs.Matches.{meets_append, meets_same}
 use Rattle.schema_node.proofs.NodeOutcomes.{across_is, outcome_is}
 use Rattle.schema_node.proofs.NodeRuns.{busy_case, entered_case, free_case, some_case}
 

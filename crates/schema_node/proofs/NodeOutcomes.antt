@@ -1,13 +1,13 @@
 -- A run's outcome is the one that its nodes have under its completion.
 use Rattle.std.proofs.Common.{◌≡◌, ◌∙◌, ℕ, zero, suc, ◌==◌, Bool, true, false, List, ◌++◌, refl, sym, ap}
 use Rattle.std.specs.List.{list_any}
-use Rattle.schema_reports.specs.Instance.{Place, Subject, Text}
-use Rattle.schema_reports.specs.Reports.{Outcome}
-use Rattle.schema_reports.specs.Matching.{Assumptions, Matcher, completion_of}
-use Rattle.schema_reports.specs.Keywords.{Below, Keywords, Mode, for_all, for_first, for_units, for_verdict}
-use Rattle.schema_reports.specs.Meaning.{place_below}
-use Rattle.schema_reports.specs.Runs.{Run, reply_in}
-use Rattle.schema_reports.specs.Guarded.{NodeEdge, Nodes, across, guarded_node, guarded_within, node_outcome, progress_below, yes_outcome, yes_run}
+use Rattle.schema_definitions.specs.Instance.{Place, Subject, Text}
+use Rattle.schema_definitions.specs.Reports.{Outcome}
+use Rattle.schema_definitions.specs.Matching.{Assumptions, Matcher, completion_of}
+use Rattle.schema_definitions.specs.Keywords.{Below, Keywords, Mode, for_all, for_first, for_units, for_verdict}
+use Rattle.schema_definitions.specs.Meaning.{place_below}
+use Rattle.schema_definitions.specs.Runs.{Run, reply_in}
+use Rattle.schema_definitions.specs.Guarded.{NodeEdge, Nodes, across, guarded_node, guarded_within, node_outcome, progress_below, yes_outcome, yes_run}
 use Rattle.schema_node.specs.NodeRuns.{reply_by}
 
 module _ {K R : Type 0} (keywords : Keywords K R) (matcher : Matcher) (nodes : Nodes K) (subject_of : Place → Subject) (as' : Assumptions) where

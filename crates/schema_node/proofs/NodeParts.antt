@@ -1,27 +1,25 @@
 -- The code's entries beside the parts of a plan, and what holds no fraction.
-use Rattle.std.proofs.Common.{◌≡◌, ◌∙◌, ℕ, zero, suc, ◌<◌, ◌≤◌, ◌+◌, Bool, true, false, cond, List, [], ◌∷◌, length, get_or, map, drop, refl, sym, ap, subst, arith, add-one, true≢false}
+use Rattle.std.proofs.Common.{◌≡◌, ◌∙◌, ℕ, zero, suc, ◌<◌, Bool, true, false, cond, List, [], ◌∷◌, length, get_or, map, refl, sym, ap, subst, arith, true≢false}
 use Rattle.std.specs.Prelude.{All, Contains, Option, Some, None, option_map, option_and_then, slice_get, unwrap_or, filter_map, flat_map, bytes_eq, ◌||◌}
 use Rattle.std.specs.List.{cons_option}
-use Rattle.std.proofs.Math.Seq.{drop-cons}
-use Rattle.std.proofs.Math.ListN.{drop_of_length-le}
 use Rattle.std.proofs.lemmas.List.Elements.{All-contains, Contains-append_left, Contains-append_right}
 use Rattle.serde_json.specs.Data.{Data, Items, Members, array, boolean, item, member, no_items, no_members, null, number, object, string}
 use Rattle.serde_json.specs.Written.{has_float, items_have_float, members_have_float}
-use Rattle.schema_reports.specs.Instance.{Place, Step, Subject, Text, a_name, a_value, after_step, item_of, member_of, subject_at, subject_from, to_item, to_member, to_name}
+use Rattle.schema_definitions.specs.Instance.{Place, Step, Subject, Text, a_name, a_value, after_step, item_of, member_of, subject_at, subject_from, to_item, to_member, to_name}
 use Rattle.schema_reports.specs.InstanceTexts.{subject_has_float}
-use Rattle.schema_reports.specs.Guarded.{Children, NodeEdge, NodePlan, Nodes, form_edges, node_always, node_at, node_edges, node_keyword, node_reference}
-use Rattle.schema_reports.specs.Numbered.{subject_in}
-use Rattle.schema_reports.specs.Keywords.{Keywords, Mode}
-use Rattle.schema_reports.specs.Meaning.{false_outcome}
-use Rattle.schema_reports.specs.Pointer.{joined}
+use Rattle.schema_definitions.specs.Guarded.{Children, NodeEdge, NodePlan, Nodes, form_edges, node_always, node_at, node_edges, node_keyword, node_reference}
+use Rattle.schema_meaning.specs.Numbered.{subject_in}
+use Rattle.schema_definitions.specs.Keywords.{Keywords, Mode}
+use Rattle.schema_definitions.specs.Meaning.{false_outcome}
+use Rattle.schema_definitions.specs.Pointer.{joined}
 use Rattle.schema_reports.specs.ReportViews.{BorrowsItsPlace}
-use Rattle.schema_node.specs.FaultViews.{errors_in}
-use Rattle.schema_node.specs.declared.context.keyword.Reply as code
+use Rattle.schema_parts.specs.FaultViews.{errors_in}
+use Rattle.schema_parts.specs.declared.keyword.Reply as code
 use Rattle.schema_node.proofs.NodeRuns.{stands_in, where_is}
-use Rattle.schema_node.specs.KeywordViews.{Tells, reply_of}
-use Rattle.schema_node.specs.NodeTable.{absolute_in, NodeEntry, numbered, plan_in, shaped}
-use Rattle.schema_reports.specs.Fractions.{IsWholeWord, form_words, node_words}
-use Rattle.schema_node.specs.Matches.{Settling}
+use Rattle.schema_parts.specs.KeywordViews.{Tells, reply_of}
+use Rattle.schema_nodes.specs.NodeTable.{absolute_in, NodeEntry, numbered, plan_in, shaped}
+use Rattle.schema_meaning.specs.Fractions.{IsWholeWord, form_words, node_words}
+use Rattle.schema_contexts.specs.Matches.{Settling}
 use Rattle.schema_node.specs.NodeRuns.{HasChildren, HasForm, Reading, Reads, Replies, entry_where, reply_by}
 
 -- ---- lists
@@ -47,12 +45,6 @@ pub part_at : {A B C : Type 0} (f : A → B) (g : B → C) (xs : List A) (i : �
 part_at f g [] i x h e = absurd (omega arith)
 part_at f g (y ∷ ys) zero x h e = (0, omega arith, ap (λ z. g (f z)) (sym e))
 part_at f g (y ∷ ys) (suc i) x h e = later (g (f y)) (map g (map f ys)) (g (f x)) (part_at f g ys i x (omega arith) e)
-
-pub drop_at : {A : Type 0} (xs : List A) (i : ℕ) (x : A) → i < length xs → x ≡ get_or xs i x → drop i xs ≡ x ∷ drop (i + 1) xs
-drop_at xs i x h is = rw (drop-cons xs i x h, ← is, add-one) refl
-
-pub drop_past : {A : Type 0} (xs : List A) (i : ℕ) → length xs ≤ i → drop i xs ≡ []
-drop_past xs i h = drop_of_length-le xs h
 
 -- ---- the plan of a number
 

@@ -3,24 +3,24 @@ use Rattle.std.proofs.Common.{◌≡◌, ◌∙◌, ℕ, zero, suc, ◌<◌, ◌
 use Rattle.std.specs.Prelude.{All, Contains, Option, Some, None, option_map, option_and_then, slice_get, unwrap_or, is_some, not, ◌↔◌}
 use Rattle.std.specs.List.{list_any}
 use Rattle.serde_json.specs.Data.{Data, null}
-use Rattle.schema_reports.specs.Instance.{Place, Step, Subject, Text, a_value, after_step, subject_at}
-use Rattle.schema_reports.specs.Reports.{Error, Outcome, accepted}
-use Rattle.schema_reports.specs.Matching.{Completion, Matcher, matching}
-use Rattle.schema_reports.specs.Keywords.{Answers, Below, Keywords, Mode, Question, down, first_of_it, for_all, for_first, for_units, for_verdict, here, truth}
-use Rattle.schema_reports.specs.Meaning.{both, fault_error, false_outcome}
-use Rattle.schema_reports.specs.Pointer.{joined}
-use Rattle.schema_reports.specs.Runs.{first_error}
-use Rattle.schema_reports.specs.Laws.{Agrees}
-use Rattle.schema_reports.specs.Guarded.{Children, NodeEdge, NodeForm, NodePart, NodePlan, Nodes, across, guarded_within, node_always, node_asked, node_at, node_child, node_edges, node_keyword, node_never, node_part, node_parts, node_reference, node_these, yes_outcome}
-use Rattle.schema_reports.specs.Numbered.{Ranked, left, subject_in}
+use Rattle.schema_definitions.specs.Instance.{Place, Step, Subject, Text, a_value, after_step, subject_at}
+use Rattle.schema_definitions.specs.Reports.{Error, Outcome, accepted}
+use Rattle.schema_definitions.specs.Matching.{Completion, Matcher, matching}
+use Rattle.schema_definitions.specs.Keywords.{Answers, Below, Keywords, Mode, Question, down, first_of_it, for_all, for_first, for_units, for_verdict, here, truth}
+use Rattle.schema_definitions.specs.Meaning.{both, fault_error, false_outcome}
+use Rattle.schema_definitions.specs.Pointer.{joined}
+use Rattle.schema_definitions.specs.Runs.{first_error}
+use Rattle.schema_definitions.specs.Laws.{Agrees}
+use Rattle.schema_definitions.specs.Guarded.{Children, NodeEdge, NodeForm, NodePart, NodePlan, Nodes, across, guarded_within, node_always, node_asked, node_at, node_child, node_edges, node_keyword, node_never, node_part, node_parts, node_reference, node_these, yes_outcome}
+use Rattle.schema_meaning.specs.Numbered.{Ranked, left, subject_in}
 use Rattle.schema_reports.specs.ReportViews.{BorrowsItsPlace}
-use Rattle.schema_reports.proofs.Falls.{from_below, left_below, left_entered, left_lower, step_falls}
-use Rattle.schema_node.specs.FaultViews.{errors_in}
-use Rattle.schema_node.specs.KeywordViews.{reply_of}
-use Rattle.schema_node.specs.Matches.{Settling}
-use Rattle.schema_node.specs.NodeTable.{NodeEntry, absolute_in, numbered}
+use Rattle.schema_meaning.proofs.Falls.{from_below, left_below, left_entered, left_lower, step_falls}
+use Rattle.schema_parts.specs.FaultViews.{errors_in}
+use Rattle.schema_parts.specs.KeywordViews.{reply_of}
+use Rattle.schema_contexts.specs.Matches.{Settling}
+use Rattle.schema_nodes.specs.NodeTable.{NodeEntry, absolute_in, numbered}
 use Rattle.schema_node.specs.NodeRuns.{Reading, Reads, Replies, Joins, Stamps, NodeReplies, EdgeReplies, ChildReplies, FormReplies, accepts, child_says, deep, edge_needs, edge_says, entry_where, form_says, node_says, parts_say, refuses, reply_by}
-use Rattle.schema_node.specs.declared.context.keyword.Reply as code
+use Rattle.schema_parts.specs.declared.keyword.Reply as code
 
 -- ---- where a table's number stands
 

@@ -3,32 +3,32 @@ use Rattle.std.proofs.Common.{◌≡◌, ◌∙◌, ℕ, zero, suc, ◌<◌, ◌
 use Rattle.std.specs.Prelude.{Option, Some, None, option_and_then}
 use Rattle.std.specs.List.{list_all, list_any}
 use Rattle.serde_json.specs.Data.{Data}
-use Rattle.schema_reports.specs.Instance.{Place, Step, Subject, Text, a_value, after_step, subject_at}
-use Rattle.schema_reports.specs.Keywords.{Question, down, here}
-use Rattle.schema_reports.specs.Matching.{Assumptions, matching}
-use Rattle.schema_reports.specs.Meaning.{Where}
-use Rattle.schema_reports.specs.Numbered.{left, subject_in}
-use Rattle.schema_reports.specs.Reports.{Unit_, report_of}
-use Rattle.schema_reports.specs.Guarded.{Children, NodeEdge, NodeForm, NodePart, NodePlan, node_always, node_at, node_child, node_keyword, node_never, node_reference, node_these, yes_unit}
-use Rattle.schema_reports.specs.Units.{Entry, entry_units, false_unit, given_units, no_unit, plan_unit, reference_units, schema_unit, true_unit}
-use Rattle.schema_reports.specs.UnitOrder.{Placed, all_placed, each_placed, nothing_placed, placed}
-use Rattle.schema_reports.specs.UnitsOrdered.{placed_in_order}
+use Rattle.schema_definitions.specs.Instance.{Place, Step, Subject, Text, a_value, after_step, subject_at}
+use Rattle.schema_definitions.specs.Keywords.{Question, down, here}
+use Rattle.schema_definitions.specs.Matching.{Assumptions, matching}
+use Rattle.schema_definitions.specs.Meaning.{Where}
+use Rattle.schema_meaning.specs.Numbered.{left, subject_in}
+use Rattle.schema_definitions.specs.Reports.{Unit_, report_of}
+use Rattle.schema_definitions.specs.Guarded.{Children, NodeEdge, NodeForm, NodePart, NodePlan, node_always, node_at, node_child, node_keyword, node_never, node_reference, node_these, yes_unit}
+use Rattle.schema_definitions.specs.Units.{Entry, entry_units, false_unit, given_units, no_unit, plan_unit, reference_units, schema_unit, true_unit}
+use Rattle.schema_definitions.specs.UnitOrder.{Placed, all_placed, each_placed, nothing_placed, placed}
+use Rattle.schema_meaning.specs.UnitsOrdered.{placed_in_order}
 use Rattle.schema_reports.specs.UnitViews.{unit_of}
-use Rattle.schema_reports.specs.Unfinished.{Remembered}
+use Rattle.schema_definitions.specs.Unfinished.{Remembered}
 use Rattle.schema_reports.specs.EntryUnits.{entry_units_of}
 use Rattle.schema_reports.specs.declared.evaluation.EvaluationNode.{EvaluationNode}
 use Rattle.schema_reports.specs.declared.evaluation_order.EntryUnits.{EntryUnits}
-use Rattle.schema_reports.proofs.Falls.{from_below}
-use Rattle.schema_node.specs.KeywordViews.{answer_of}
-use Rattle.schema_node.specs.Matches.{settling}
+use Rattle.schema_meaning.proofs.Falls.{from_below}
+use Rattle.schema_parts.specs.KeywordViews.{answer_of}
+use Rattle.schema_contexts.specs.Matches.{settling}
 use Rattle.schema_node.specs.NodeMeets.{NodeMeets}
 use Rattle.schema_node.specs.NodeRuns.{Reading, Reads, edge_needs}
-use Rattle.schema_node.specs.Progress.{Context, Pairs}
+use Rattle.schema_contexts.specs.Progress.{Context, Pairs}
 use Rattle.schema_node.specs.RunStates.{Asking, MeetsEdge, MeetsNode, Setting, busy, settled_by}
 use Rattle.schema_node.specs.UnitStates.{ChildGives, ChildTells, EdgeGives, FindsUnits, FormGives, NodeGives, PartsGive, child_unit, deep_unit, edge_unit, parts_units}
-use Rattle.schema_node.specs.declared.context.keyword.Answer as code_answer
-use Rattle.schema_node.specs.declared.context.keyword.Reply as code_reply
-use Rattle.schema_node.proofs.Matches.{moved}
+use Rattle.schema_parts.specs.declared.keyword.Answer as code_answer
+use Rattle.schema_parts.specs.declared.keyword.Reply as code_reply
+use Rattle.schema_contexts.proofs.Matches.{moved}
 use Rattle.schema_node.proofs.NodeMeets.{meets_entered}
 use Rattle.schema_node.proofs.NodeRuns.{busy_case, entered_case, free_case, none_case, some_case, stands_in}
 

@@ -5,29 +5,29 @@ use Rattle.std.specs.List.{list_all, list_any}
 use Rattle.std.proofs.lemmas.Bool.{eqb-true}
 use Rattle.std.proofs.lemmas.List.Elements.{All-nil}
 use Rattle.serde_json.specs.Data.{Data, null}
-use Rattle.schema_reports.specs.Instance.{Place, Step, Subject, Text, a_value, after_step, same_place, same_step, subject_at, subject_from, to_item, to_member, to_name}
-use Rattle.schema_reports.specs.Matching.{Assumptions, Match, Matcher, finished, unfinished}
-use Rattle.schema_reports.specs.Keywords.{Keywords, for_verdict, truth}
-use Rattle.schema_reports.specs.Runs.{Met}
-use Rattle.schema_reports.specs.Guarded.{Nodes}
-use Rattle.schema_reports.specs.Numbered.{subject_in}
-use Rattle.schema_reports.specs.Unfinished.{Remembered}
-use Rattle.schema_reports.specs.Remembering.{EachAsksVerdicts}
-use Rattle.schema_reports.proofs.Falls.{from_below}
-use Rattle.schema_reports.proofs.SamePaths.{paths_keep_runs, paths_keep_verdicts}
+use Rattle.schema_definitions.specs.Instance.{Place, Step, Subject, Text, a_value, after_step, same_place, same_step, subject_at, subject_from, to_item, to_member, to_name}
+use Rattle.schema_definitions.specs.Matching.{Assumptions, Match, Matcher, finished, unfinished}
+use Rattle.schema_definitions.specs.Keywords.{Keywords, for_verdict, truth}
+use Rattle.schema_definitions.specs.Runs.{Met}
+use Rattle.schema_definitions.specs.Guarded.{Nodes}
+use Rattle.schema_meaning.specs.Numbered.{subject_in}
+use Rattle.schema_definitions.specs.Unfinished.{Remembered}
+use Rattle.schema_definitions.specs.Remembering.{EachAsksVerdicts}
+use Rattle.schema_meaning.proofs.Falls.{from_below}
+use Rattle.schema_meaning.proofs.SamePaths.{paths_keep_runs, paths_keep_verdicts}
 use Rattle.schema_reports.specs.ReportViews.{BorrowsItsPlace}
-use Rattle.schema_node.specs.FaultViews.{errors_in}
-use Rattle.schema_node.specs.KeywordViews.{reply_of}
-use Rattle.schema_node.specs.Matches.{MeetsEach, Settling, after_match, settling}
+use Rattle.schema_parts.specs.FaultViews.{errors_in}
+use Rattle.schema_parts.specs.KeywordViews.{reply_of}
+use Rattle.schema_contexts.specs.Matches.{MeetsEach, Settling, after_match, settling}
 use Rattle.schema_node.specs.NodeMeets.{NodeMeets}
 use Rattle.schema_node.specs.NodeRuns.{NodeReplies, accepts}
-use Rattle.schema_node.specs.Progress.{Context, Pairs, Verdicts, busy_at}
+use Rattle.schema_contexts.specs.Progress.{Context, Pairs, Verdicts, busy_at}
 use Rattle.schema_node.specs.RightVerdicts.{AreRight, IsRightVerdict, LaysOut, Layout}
-use Rattle.schema_node.specs.Verdicts.{MayKeep, Remembers, is_alone, is_container, is_pair, least_visits, read_verdict, verdict_of}
-use Rattle.schema_node.specs.declared.context.keyword.Reply as code
+use Rattle.schema_contexts.specs.Verdicts.{MayKeep, Remembers, is_alone, is_container, is_pair, least_visits, read_verdict, verdict_of}
+use Rattle.schema_parts.specs.declared.keyword.Reply as code
 use Rattle.schema_node.proofs.MeetsAgain.{known_by_path, known_stays, met_again, met_is_known}
 use Rattle.schema_node.proofs.NodeRuns.{stands_in}
-use Rattle.schema_node.proofs.Pairs.{busy-pushed, place_equal, same_place-self}
+use Rattle.schema_contexts.proofs.Pairs.{busy-pushed, place_equal, same_place-self}
 
 -- ---- what stands at each place
 

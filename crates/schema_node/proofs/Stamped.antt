@@ -1,14 +1,14 @@
 -- Errors that are stamped where they are: element by element, and not at all where there is nothing to stamp.
 use Rattle.std.proofs.Common.{◌≡◌, ℕ, zero, suc, ◌+◌, ◌<◌, ◌≤◌, List, [], ◌∷◌, ◌++◌, length, get_or, map, take, drop, set, refl, sym, ◌∙◌, ap, subst, arith, add-one, option_map, false, true≢false}
 use Rattle.std.specs.Prelude.{Option, Some, None, is_some}
-use Rattle.schema_reports.specs.Instance.{Text}
-use Rattle.schema_reports.specs.Keywords.{Reply}
-use Rattle.schema_reports.specs.Meaning.{stamped}
-use Rattle.schema_reports.specs.Reports.{Error, Outcome}
-use Rattle.schema_reports.specs.Plan.{encoded}
-use Rattle.schema_reports.specs.Pointer.{joined}
+use Rattle.schema_definitions.specs.Instance.{Text}
+use Rattle.schema_definitions.specs.Keywords.{Reply}
+use Rattle.schema_definitions.specs.Meaning.{stamped}
+use Rattle.schema_definitions.specs.Reports.{Error, Outcome}
+use Rattle.schema_definitions.specs.Plan.{encoded}
+use Rattle.schema_definitions.specs.Pointer.{joined}
 use Rattle.schema_node.specs.NodeRuns.{Stamps, reply_by}
-use Rattle.schema_node.specs.NodeTable.{NodeEntry, keyword_absolute}
+use Rattle.schema_nodes.specs.NodeTable.{NodeEntry, keyword_absolute}
 
 -- an element is written, and is what the function makes of it
 written : {A C : Type 0} (e : A → C) (f : C → C) (xs : List A) (i : ℕ) (x y : A) → i < length xs → y ≡ get_or xs i y → e x ≡ f (e y)

@@ -3,19 +3,19 @@ use Rattle.std.proofs.Common.{◌≡◌, ℕ, zero, suc, ◌==◌, Bool, true, f
 use Rattle.std.specs.Prelude.{Option, Some, None}
 use Rattle.std.specs.List.{list_any}
 use Rattle.serde_json.specs.Data.{Data}
-use Rattle.schema_reports.specs.Instance.{Place, Subject, Text}
-use Rattle.schema_reports.specs.Keywords.{Answers, Below, Keywords, Marked, Mode, Question, for_all, for_first, for_units, for_verdict, unit_of_it}
-use Rattle.schema_reports.specs.Laws.{Agrees, KeepsLaws, answer_in}
-use Rattle.schema_reports.specs.Matching.{Matching, matching}
-use Rattle.schema_reports.specs.Meaning.{place_below}
-use Rattle.schema_reports.specs.Numbered.{subject_in}
-use Rattle.schema_reports.specs.Reports.{Outcome, Unit_, accepted, report_of}
-use Rattle.schema_reports.specs.Runs.{Run, no_run, reply_in}
-use Rattle.schema_reports.specs.Guarded.{Children, NodeEdge, Nodes, across, guarded_within, node_child, progress_below, yes_outcome, yes_run, yes_unit}
-use Rattle.schema_reports.specs.Units.{no_unit}
-use Rattle.schema_reports.proofs.GuardedSense.{node_valid}
-use Rattle.schema_reports.proofs.NodeRuns.{runs_say_outcomes}
-use Rattle.schema_node.specs.Matches.{Settling}
+use Rattle.schema_definitions.specs.Instance.{Place, Subject, Text}
+use Rattle.schema_definitions.specs.Keywords.{Answers, Below, Keywords, Marked, Mode, Question, for_all, for_first, for_units, for_verdict, unit_of_it}
+use Rattle.schema_definitions.specs.Laws.{Agrees, KeepsLaws, answer_in}
+use Rattle.schema_definitions.specs.Matching.{Matching, matching}
+use Rattle.schema_definitions.specs.Meaning.{place_below}
+use Rattle.schema_meaning.specs.Numbered.{subject_in}
+use Rattle.schema_definitions.specs.Reports.{Outcome, Unit_, accepted, report_of}
+use Rattle.schema_definitions.specs.Runs.{Run, no_run, reply_in}
+use Rattle.schema_definitions.specs.Guarded.{Children, NodeEdge, Nodes, across, guarded_within, node_child, progress_below, yes_outcome, yes_run, yes_unit}
+use Rattle.schema_definitions.specs.Units.{no_unit}
+use Rattle.schema_meaning.proofs.GuardedSense.{node_valid}
+use Rattle.schema_meaning.proofs.NodeRuns.{runs_say_outcomes}
+use Rattle.schema_contexts.specs.Matches.{Settling}
 use Rattle.schema_node.specs.NodeMeets.{child_run, deep_run, edge_run, reading}
 use Rattle.schema_node.specs.NodeRuns.{Reading, child_says, deep, edge_says, node_says}
 use Rattle.schema_node.specs.UnitStates.{child_unit, deep_unit, edge_unit, reply_with, unit_here}

@@ -1,7 +1,7 @@
 -- The mode that an answer is of.
-use Rattle.schema_reports.specs.Keywords.{Mode, for_all, for_first, for_units, for_verdict}
-use Rattle.schema_node.specs.declared.context.keyword.Answer.{Answer}
-use Rattle.schema_node.specs.declared.context.keyword.Answer.TheVariants as answer
+use Rattle.schema_definitions.specs.Keywords.{Mode, for_all, for_first, for_units, for_verdict}
+use Rattle.schema_parts.specs.declared.keyword.Answer.{Answer}
+use Rattle.schema_parts.specs.declared.keyword.Answer.TheVariants as answer
 
 abbrev pub mode_in : Answer → Mode
 mode_in (answer.Verdict b) = for_verdict

@@ -1,6 +1,6 @@
 -- The place at which a node is asked, as its steps.
 use Rattle.std.specs.Prelude.{◌++◌, ◌∷◌, []}
-use Rattle.schema_reports.specs.Instance.{Place}
+use Rattle.schema_definitions.specs.Instance.{Place}
 use Rattle.schema_reports.specs.InstanceViews.{step_of}
 use Rattle.schema_node.specs.declared.node.evaluation_place.EvaluationPlace.{EvaluationPlace, Given, Below'}
 

@@ -1,14 +1,14 @@
 -- Which unfinished matches the runs of nodes meet, said for every depth of questions that is enough.
 use Rattle.std.specs.Prelude.{◌<◌, ◌≤◌, ℕ, Bool, true, false, [], List, ◌++◌}
 use Rattle.serde_json.specs.Data.{Data}
-use Rattle.schema_reports.specs.Instance.{Place, Subject, Text}
-use Rattle.schema_reports.specs.Matching.{completion_of}
-use Rattle.schema_reports.specs.Keywords.{Below, Keywords, Mode, Question, for_all, for_first, for_units, for_verdict, here}
-use Rattle.schema_reports.specs.Runs.{Looked, Met, Run, no_run, plan_met}
-use Rattle.schema_reports.specs.Guarded.{Children, NodeEdge, NodeForm, NodePart, Nodes, across, guarded_node, guarded_within, node_asked, node_looked, node_part, node_part_met, yes_run}
-use Rattle.schema_reports.specs.Numbered.{left, subject_in}
-use Rattle.schema_reports.specs.Unfinished.{Remembered}
-use Rattle.schema_node.specs.Matches.{MeetsEach, Settling}
+use Rattle.schema_definitions.specs.Instance.{Place, Subject, Text}
+use Rattle.schema_definitions.specs.Matching.{completion_of}
+use Rattle.schema_definitions.specs.Keywords.{Below, Keywords, Mode, Question, for_all, for_first, for_units, for_verdict, here}
+use Rattle.schema_definitions.specs.Runs.{Looked, Met, Run, no_run, plan_met}
+use Rattle.schema_definitions.specs.Guarded.{Children, NodeEdge, NodeForm, NodePart, Nodes, across, guarded_node, guarded_within, node_asked, node_looked, node_part, node_part_met, yes_run}
+use Rattle.schema_meaning.specs.Numbered.{left, subject_in}
+use Rattle.schema_definitions.specs.Unfinished.{Remembered}
+use Rattle.schema_contexts.specs.Matches.{MeetsEach, Settling}
 use Rattle.schema_node.specs.NodeRuns.{Reading, Reads, edge_needs}
 
 -- what the run of one entry meets; a leaf's verdict is asked first, and what else is wanted only where it is no

@@ -3,22 +3,22 @@ use Rattle.std.specs.Prelude.{◌≡◌, ◌<◌, ◌≤◌, ◌==◌, ℕ, suc,
 use Rattle.std.specs.List.{list_any}
 use Rattle.serde_json.specs.Data.{Data}
 use Rattle.serde_json.specs.Written.{has_float}
-use Rattle.schema_reports.specs.Instance.{Place, Subject, Text, subject_at}
-use Rattle.schema_reports.specs.Reports.{Outcome, accepted}
-use Rattle.schema_reports.specs.Matching.{Completion, Matcher, Pair, assumed, completed}
-use Rattle.schema_reports.specs.Keywords.{Below, Keywords, Mode, Question, Reply, all_of_it, first_of_it, for_all, for_first, for_units, for_verdict, here, no_reply, truth}
-use Rattle.schema_reports.specs.Meaning.{Where, both, stamped}
-use Rattle.schema_reports.specs.Runs.{first_error}
-use Rattle.schema_reports.specs.Unfinished.{or_no}
-use Rattle.schema_reports.specs.Guarded.{Children, NodeEdge, NodeForm, NodePart, Nodes, across, guarded_within, node_asked, node_child, node_edges, node_outcome, node_part, node_parts, node_these, yes_outcome}
-use Rattle.schema_reports.specs.Fractions.{AreWhole}
-use Rattle.schema_reports.specs.Numbered.{left, subject_in}
+use Rattle.schema_definitions.specs.Instance.{Place, Subject, Text, subject_at}
+use Rattle.schema_definitions.specs.Reports.{Outcome, accepted}
+use Rattle.schema_definitions.specs.Matching.{Completion, Matcher, Pair, assumed, completed}
+use Rattle.schema_definitions.specs.Keywords.{Below, Keywords, Mode, Question, Reply, all_of_it, first_of_it, for_all, for_first, for_units, for_verdict, here, no_reply, truth}
+use Rattle.schema_definitions.specs.Meaning.{Where, both, stamped}
+use Rattle.schema_definitions.specs.Runs.{first_error}
+use Rattle.schema_definitions.specs.Unfinished.{or_no}
+use Rattle.schema_definitions.specs.Guarded.{Children, NodeEdge, NodeForm, NodePart, Nodes, across, guarded_within, node_asked, node_child, node_edges, node_outcome, node_part, node_parts, node_these, yes_outcome}
+use Rattle.schema_meaning.specs.Fractions.{AreWhole}
+use Rattle.schema_meaning.specs.Numbered.{left, subject_in}
 use Rattle.schema_reports.specs.ReportViews.{BorrowsItsPlace}
-use Rattle.schema_node.specs.Matches.{Settling}
-use Rattle.schema_node.specs.NodeTable.{NodeEntry, absolute_in}
-use Rattle.schema_node.specs.KeywordViews.{reply_of}
-use Rattle.schema_node.specs.FaultViews.{errors_in}
-use Rattle.schema_node.specs.declared.context.keyword.Reply as code
+use Rattle.schema_contexts.specs.Matches.{Settling}
+use Rattle.schema_nodes.specs.NodeTable.{NodeEntry, absolute_in}
+use Rattle.schema_parts.specs.KeywordViews.{reply_of}
+use Rattle.schema_parts.specs.FaultViews.{errors_in}
+use Rattle.schema_parts.specs.declared.keyword.Reply as code
 
 -- the reply that an outcome gives in a mode; none where units are wanted
 abbrev pub reply_by : Mode → Outcome → Reply

@@ -1,9 +1,9 @@
 -- What a run knows of unfinished matches: meeting these again, by another path and with the reasons that the matcher gives, changes nothing.
 use Rattle.std.specs.Prelude.{All, List, ◌≡◌}
-use Rattle.schema_reports.specs.Matching.{Matcher, Reason, unfinished}
-use Rattle.schema_reports.specs.Runs.{Met}
-use Rattle.schema_reports.specs.Unfinished.{Remembered}
-use Rattle.schema_reports.specs.Remembering.{HasMet}
+use Rattle.schema_definitions.specs.Matching.{Matcher, Reason, unfinished}
+use Rattle.schema_definitions.specs.Runs.{Met}
+use Rattle.schema_definitions.specs.Unfinished.{Remembered}
+use Rattle.schema_definitions.specs.Remembering.{HasMet}
 
 -- the matcher does not finish it, and nothing is left to remember of it
 abbrev pub Knows : Matcher → Remembered → Met → Type 0

@@ -2,18 +2,18 @@
 -- and what its run meets of unfinished matches is known.
 use Rattle.std.specs.Prelude.{ℕ, ◌≡◌, ◌<◌, ◌++◌, ◌∷◌, Bool, Some, []}
 use Rattle.serde_json.specs.Data.{Data}
-use Rattle.schema_reports.specs.Instance.{Place, Step, Subject, Text, after_step}
-use Rattle.schema_reports.specs.Matching.{Assumptions, Matcher}
-use Rattle.schema_reports.specs.Keywords.{Keywords, for_verdict}
-use Rattle.schema_reports.specs.Guarded.{Nodes}
-use Rattle.schema_reports.specs.Numbered.{left}
-use Rattle.schema_reports.specs.Unfinished.{Remembered}
-use Rattle.schema_node.specs.Matches.{Settling, settling}
+use Rattle.schema_definitions.specs.Instance.{Place, Step, Subject, Text, after_step}
+use Rattle.schema_definitions.specs.Matching.{Assumptions, Matcher}
+use Rattle.schema_definitions.specs.Keywords.{Keywords, for_verdict}
+use Rattle.schema_definitions.specs.Guarded.{Nodes}
+use Rattle.schema_meaning.specs.Numbered.{left}
+use Rattle.schema_definitions.specs.Unfinished.{Remembered}
+use Rattle.schema_contexts.specs.Matches.{Settling, settling}
 use Rattle.schema_node.specs.NodeMeets.{deep_run, reading}
 use Rattle.schema_node.specs.NodeRuns.{Reading, Reads, deep}
-use Rattle.schema_node.specs.Progress.{Verdicts}
+use Rattle.schema_contexts.specs.Progress.{Verdicts}
 use Rattle.schema_node.specs.Remembering.{KnowsEach}
-use Rattle.schema_node.specs.Verdicts.{verdict_of}
+use Rattle.schema_contexts.specs.Verdicts.{verdict_of}
 
 -- what stands at each place
 abbrev pub Layout : Type 0

@@ -2,36 +2,36 @@
 use Rattle.std.specs.List.{list_any}
 use Rattle.std.specs.Prelude.{◌≡◌, ◌<◌, ◌≤◌, ◌==◌, ◌∷◌, [], ℕ, Bool, All, List, None, Some, false, length, map, option_map, true}
 use Rattle.serde_json.specs.Data.{Data}
-use Rattle.schema_reports.specs.Instance.{Place, Subject, Text, subject_at}
+use Rattle.schema_definitions.specs.Instance.{Place, Subject, Text, subject_at}
 use Rattle.schema_reports.specs.InstanceViews.{subject_of}
-use Rattle.schema_reports.specs.Keywords.{Answer, Keywords, Mode, Question as ChildQuestion, for_units, for_verdict, truth}
-use Rattle.schema_reports.specs.Laws.{IsRight}
-use Rattle.schema_reports.specs.Meaning.{Where}
-use Rattle.schema_reports.specs.Matching.{Extends, Matcher, completion_of, matching}
-use Rattle.schema_reports.specs.Reports.{Outcome}
+use Rattle.schema_definitions.specs.Keywords.{Answer, Keywords, Mode, Question as ChildQuestion, for_units, for_verdict, truth}
+use Rattle.schema_definitions.specs.Laws.{IsRight}
+use Rattle.schema_definitions.specs.Meaning.{Where}
+use Rattle.schema_definitions.specs.Matching.{Extends, Matcher, completion_of, matching}
+use Rattle.schema_definitions.specs.Reports.{Outcome}
 use Rattle.schema_reports.specs.ReportViews.{BorrowsItsPlace}
-use Rattle.schema_reports.specs.Runs.{Run, reply_in}
-use Rattle.schema_reports.specs.Guarded.{Children, NodeEdge, NodeForm, NodePart, Nodes, guarded_node, guarded_within, node_keyword, node_reference, node_these, same_edge, yes_run}
-use Rattle.schema_reports.specs.Numbered.{Ranked, left, subject_in}
-use Rattle.schema_node.specs.EvaluationPaths.{path_of}
+use Rattle.schema_definitions.specs.Runs.{Run, reply_in}
+use Rattle.schema_definitions.specs.Guarded.{Children, NodeEdge, NodeForm, NodePart, Nodes, guarded_node, guarded_within, node_keyword, node_reference, node_these, same_edge, yes_run}
+use Rattle.schema_meaning.specs.Numbered.{Ranked, left, subject_in}
+use Rattle.schema_contexts.specs.EvaluationPaths.{path_of}
 use Rattle.schema_node.specs.EvaluationPlaces.{steps_to}
-use Rattle.schema_node.specs.FaultViews.{PassesBorrowed, errors_in, faults_in}
-use Rattle.schema_node.specs.KeywordViews.{answer_of, mode_of, reply_of}
-use Rattle.schema_node.specs.Matches.{MeetsEach, Settling, settling}
+use Rattle.schema_parts.specs.FaultViews.{PassesBorrowed, errors_in, faults_in}
+use Rattle.schema_parts.specs.KeywordViews.{answer_of, mode_of, reply_of}
+use Rattle.schema_contexts.specs.Matches.{MeetsEach, Settling, settling}
 use Rattle.schema_node.specs.NodeMeets.{ChildMeets, EdgeMeets, EntryMeets, FormMeets, NodeMeets, PartsMeet}
 use Rattle.schema_node.specs.NodeRuns.{ChildReplies, EdgeReplies, FormReplies, NodeReplies, PartsReply, Reading, Reads, TellsAll, child_says, entry_where, reply_by}
-use Rattle.schema_node.specs.NodeTable.{NodeEntry, numbered}
-use Rattle.schema_node.specs.NodeViews.{edge_of}
-use Rattle.schema_node.specs.Progress.{Context, NoDeeper, busy_at}
+use Rattle.schema_nodes.specs.NodeTable.{NodeEntry, numbered}
+use Rattle.schema_parts.specs.EdgeViews.{edge_of}
+use Rattle.schema_contexts.specs.Progress.{Context, NoDeeper, busy_at}
 use Rattle.schema_node.specs.RightVerdicts.{AreRight, LaysOut, Layout}
 use Rattle.schema_node.specs.Turning.{unit_with}
-use Rattle.schema_node.specs.Verdicts.{MayKeep, one_more, read_verdict, verdict_of}
-use Rattle.schema_node.specs.declared.context.keyword.Answer as code_answer
-use Rattle.schema_node.specs.declared.context.keyword.Reply as code
+use Rattle.schema_contexts.specs.Verdicts.{MayKeep, one_more, read_verdict, verdict_of}
+use Rattle.schema_parts.specs.declared.keyword.Answer as code_answer
+use Rattle.schema_parts.specs.declared.keyword.Reply as code
 use Rattle.schema_node.specs.declared.node.question.Engine.{Engine}
 use Rattle.schema_node.specs.declared.node.question.Question.{Question}
 use Rattle.schema_node.specs.declared.node.question.NamedKeyword.{NamedKeyword}
-use Rattle.schema_node.specs.declared.node.run.FirstQuestion.{FirstQuestion}
+use Rattle.schema_node.specs.declared.node.runs.FirstQuestion.{FirstQuestion}
 
 -- what a run is made with: the keywords as they are read, the numbered nodes and how many there are, and the matcher
 pub record Setting (K R : Type 0) : Type 0 where

@@ -1,12 +1,12 @@
 -- How a keyword's run stands between two turns.
 use Rattle.std.specs.Prelude.{◌<◌, ℕ, Bool, List, [], None}
-use Rattle.schema_reports.specs.Instance.{Subject}
-use Rattle.schema_reports.specs.Reports.{Outcome, Unit_, no_units, unit}
-use Rattle.schema_reports.specs.Matching.{matching}
-use Rattle.schema_reports.specs.Keywords.{Answer, Answers, Keywords, Marked, Mode, Question, Reply}
-use Rattle.schema_reports.specs.Laws.{IsRight}
-use Rattle.schema_reports.specs.Turns.{Standing}
-use Rattle.schema_node.specs.UnitQuestions.{AlwaysAsksForLess}
+use Rattle.schema_definitions.specs.Instance.{Subject}
+use Rattle.schema_definitions.specs.Reports.{Outcome, Unit_, no_units, unit}
+use Rattle.schema_definitions.specs.Matching.{matching}
+use Rattle.schema_definitions.specs.Keywords.{Answer, Answers, Keywords, Marked, Mode, Question, Reply}
+use Rattle.schema_definitions.specs.Laws.{IsRight}
+use Rattle.schema_definitions.specs.Turns.{Standing}
+use Rattle.schema_parts.specs.UnitQuestions.{AlwaysAsksForLess}
 use Rattle.schema_node.specs.NodeRuns.{Reading}
 
 -- a unit that has the verdict of an outcome

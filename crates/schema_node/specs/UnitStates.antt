@@ -1,23 +1,23 @@
 -- What each function of an evaluation answers: units, by the setting and the question, for every depth of questions that is enough.
 use Rattle.std.specs.Prelude.{◌≡◌, ◌<◌, ◌≤◌, ℕ, Bool, List, map}
-use Rattle.schema_reports.specs.Instance.{Place, Subject, Text}
-use Rattle.schema_reports.specs.Keywords.{Below, Keywords, Mode, Question, Reply, all_of_it, first_of_it, for_all, for_first, for_units, for_verdict, here, truth, unit_of_it}
-use Rattle.schema_reports.specs.Matching.{matching}
-use Rattle.schema_reports.specs.Numbered.{Ranked, left, subject_in}
-use Rattle.schema_reports.specs.Reports.{Outcome, Unit_}
-use Rattle.schema_reports.specs.Runs.{first_error}
-use Rattle.schema_reports.specs.Units.{Entry, PartUnits, entry_units, no_unit}
+use Rattle.schema_definitions.specs.Instance.{Place, Subject, Text}
+use Rattle.schema_definitions.specs.Keywords.{Below, Keywords, Mode, Question, Reply, all_of_it, first_of_it, for_all, for_first, for_units, for_verdict, here, truth, unit_of_it}
+use Rattle.schema_definitions.specs.Matching.{matching}
+use Rattle.schema_meaning.specs.Numbered.{Ranked, left, subject_in}
+use Rattle.schema_definitions.specs.Reports.{Outcome, Unit_}
+use Rattle.schema_definitions.specs.Runs.{first_error}
+use Rattle.schema_definitions.specs.Units.{Entry, PartUnits, entry_units, no_unit}
 use Rattle.schema_reports.specs.UnitViews.{unit_of}
 use Rattle.schema_reports.specs.EntryUnits.{entry_units_of}
-use Rattle.schema_reports.specs.Guarded.{Children, NodeEdge, NodeForm, NodePart, Nodes, across, guarded_within, node_asked, node_entries_of, node_part_units, node_unit, yes_unit}
+use Rattle.schema_definitions.specs.Guarded.{Children, NodeEdge, NodeForm, NodePart, Nodes, across, guarded_within, node_asked, node_entries_of, node_part_units, node_unit, yes_unit}
 use Rattle.schema_reports.specs.declared.evaluation.EvaluationNode.{EvaluationNode}
 use Rattle.schema_reports.specs.declared.evaluation_order.EntryUnits.{EntryUnits}
-use Rattle.schema_node.specs.KeywordViews.{answer_of, reply_of}
+use Rattle.schema_parts.specs.KeywordViews.{answer_of, reply_of}
 use Rattle.schema_node.specs.NodeRuns.{Reading, Reads, child_says, edge_needs}
-use Rattle.schema_node.specs.Progress.{Context, NoDeeper}
+use Rattle.schema_contexts.specs.Progress.{Context, NoDeeper}
 use Rattle.schema_node.specs.RunStates.{Asking, GoesOn, OfWholeRun, Setting, busy, settled_by}
-use Rattle.schema_node.specs.declared.context.keyword.Answer as code_answer
-use Rattle.schema_node.specs.declared.context.keyword.Reply as code
+use Rattle.schema_parts.specs.declared.keyword.Answer as code_answer
+use Rattle.schema_parts.specs.declared.keyword.Reply as code
 
 -- the units of nodes in a reading
 module _ {K R : Type 0} (words : Bool → Keywords K R) (nodes : Nodes K) (x : Reading) where

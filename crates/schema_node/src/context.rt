@@ -1,12 +1,3 @@
 //! The traits of the parts that are handed in, and the context of a run.
-pub mod cloning;
-pub mod kept_paths;
-pub mod keyword;
-pub(crate) mod marks;
-pub mod matcher;
-pub mod meta;
-pub mod resolver;
-pub mod schema_place;
-pub mod table;
-pub mod validation;
-mod verdicts;
+pub use schema_contexts::{kept_paths, validation};
+pub use schema_parts::{cloning, keyword, matcher, meta, resolver, schema_place, table};

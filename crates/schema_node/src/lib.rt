@@ -1,4 +1,4 @@
-//! The parts that are handed in, and the numbered nodes that run over an instance.
+//! The runs of numbered nodes over an instance; the parts, the context and the table are handed on.
 #![tactic(auto)]
 
 pub mod context;

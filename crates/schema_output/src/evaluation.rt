@@ -1,7 +1,7 @@
 //! An evaluation of an instance: its units, and what is shown of them. (Core 2020-12, 12.4)
 ghost use Rattle.std.specs.Prelude.{◌≡◌, Bool, IfOk, map, true};
 ghost use Rattle.serde_json.specs.View.{view};
-ghost use Rattle.schema_reports.specs.Reports.{report_of};
+ghost use Rattle.schema_definitions.specs.Reports.{report_of};
 ghost use Rattle.schema_reports.specs.UnitViews.{unit_of};
 ghost use Rattle.schema_output.specs.EntryViews.{shown_of};
 ghost use Rattle.schema_output.specs.Output.{output_list, shown_in};

@@ -1,9 +1,9 @@
 -- The code's units of an entry, and those that are placed, as the definitions have them.
 use Rattle.std.specs.Prelude.{Bool, map, string_bytes}
-use Rattle.schema_reports.specs.Instance.{Text}
-use Rattle.schema_reports.specs.Reports.{Unit_}
-use Rattle.schema_reports.specs.Units.{PartUnits}
-use Rattle.schema_reports.specs.UnitOrder.{Placed}
+use Rattle.schema_definitions.specs.Instance.{Text}
+use Rattle.schema_definitions.specs.Reports.{Unit_}
+use Rattle.schema_definitions.specs.Units.{PartUnits}
+use Rattle.schema_definitions.specs.UnitOrder.{Placed}
 use Rattle.schema_reports.specs.UnitViews.{unit_of}
 use Rattle.schema_reports.specs.declared.evaluation_order.AbsorbedUnit.{AbsorbedUnit}
 use Rattle.schema_reports.specs.declared.evaluation_order.EntryUnits.{EntryUnits}

@@ -1,7 +1,7 @@
 //! Evaluations: what each place of a schema says of a place of an instance, unit by unit. (Core 2020-12, 12.4)
 ghost use Rattle.std.specs.Prelude.{◌≡◌, [], ◌++◌, ◌∷◌, Bool, IfOk, OnErr, map};
 ghost use Rattle.std.specs.List.{list_all};
-ghost use Rattle.schema_reports.specs.Reports.{report_of};
+ghost use Rattle.schema_definitions.specs.Reports.{report_of};
 ghost use Rattle.schema_reports.specs.UnitViews.{unit_of};
 
 use crate::location::{Location, OutOfMemory};

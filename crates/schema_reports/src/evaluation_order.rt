@@ -2,7 +2,7 @@
 //! entry that looks inside the instance.
 ghost use Rattle.std.specs.Prelude.{◌≡◌, Bool, IfOk, map};
 ghost use Rattle.schema_reports.specs.UnitViews.{unit_of};
-ghost use Rattle.schema_reports.specs.UnitOrder.{all_placed, nothing_placed, placed, with_absorbed};
+ghost use Rattle.schema_definitions.specs.UnitOrder.{all_placed, nothing_placed, placed, with_absorbed};
 ghost use Rattle.schema_reports.specs.EntryUnits.{absorbed_of, entry_units_of, placed_of};
 
 use crate::evaluation::{ChildList, EvaluationNode};

@@ -2,8 +2,8 @@
 ghost use Rattle.std.specs.Prelude.{◌≡◌, List, Bool, true, false, IfOk, IfSome, length, option_map, Some, string_bytes};
 ghost use Rattle.std.specs.Iterator.{UpTo, YieldsFirst, at_most, item_count};
 ghost use Rattle.std.specs.Iterator.SizeHint.{IsWithinCount};
-ghost use Rattle.schema_reports.specs.Pointer.{pointer_to};
-ghost use Rattle.schema_reports.specs.Meaning.{false_error, false_text};
+ghost use Rattle.schema_definitions.specs.Pointer.{pointer_to};
+ghost use Rattle.schema_definitions.specs.Meaning.{false_error, false_text};
 ghost use Rattle.schema_reports.specs.Owned.{owned, prefixed};
 ghost use Rattle.schema_reports.specs.InstanceTexts.{subject_has_float};
 ghost use Rattle.schema_reports.specs.InstanceViews.{subject_of};

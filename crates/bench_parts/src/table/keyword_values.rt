@@ -1,7 +1,7 @@
 //! The values of keywords.
 ghost use Rattle.std.specs.Prelude.{◌≡◌, ◌++◌, ◌∷◌, [], IfOk, map, option_map, string_bytes};
 ghost use Rattle.serde_json.specs.View.{items_view, members_view, view};
-ghost use Rattle.schema_reports.specs.Instance.{to_item, to_member};
+ghost use Rattle.schema_definitions.specs.Instance.{to_item, to_member};
 ghost use Rattle.bench_parts.specs.Makers.{count_shape, items_from, names_of, pattern_shape, required_shape, texts_of, type_named, type_of};
 ghost use Rattle.bench_parts.specs.Makers.{type_shape, types_of, values_below};
 ghost use Rattle.bench_keywords.specs.Shapes.{shape_of};
@@ -10,7 +10,7 @@ use crate::table::schema_values::value_of;
 use bench_keywords::counts::CountKind;
 use bench_keywords::keyword::BenchKeyword;
 use bench_keywords::type_names::TypeName;
-use schema_node::context::schema_place::{SchemaPath, SchemaStep};
+use schema_parts::schema_place::{SchemaPath, SchemaStep};
 use schema_reports::location::OutOfMemory;
 use serde_json::{Map, Value};
 use std::alloc::Global;

@@ -1,14 +1,14 @@
 //! The makers.
 ghost use Rattle.std.specs.Prelude.{◌≡◌, Some, IfOk};
-ghost use Rattle.schema_reports.specs.Making.{then_end};
-ghost use Rattle.schema_node.specs.MakerViews.{begun, maker_reply_of, TakesTurn};
+ghost use Rattle.schema_definitions.specs.Making.{then_end};
+ghost use Rattle.schema_parts.specs.MakerViews.{begun, maker_reply_of, TakesTurn};
 ghost use Rattle.bench_keywords.specs.Shapes.{shape_of};
 ghost use Rattle.bench_parts.specs.MakerViews.{list_shape, made_of, waiting_of};
 
 use bench_keywords::keyword::BenchKeyword;
-use schema_node::context::keyword::Validate;
-use schema_node::context::schema_place::SchemaPath;
-use schema_node::context::table::{MakerReply, MakerStep};
+use schema_parts::keyword::Validate;
+use schema_parts::schema_place::SchemaPath;
+use schema_parts::table::{MakerReply, MakerStep};
 use schema_reports::location::OutOfMemory;
 use schema_reports::reports::OwnedError;
 use std::alloc::Global;

@@ -2,13 +2,13 @@
 ghost use Rattle.std.specs.Prelude.{◌≡◌, ◌++◌, ◌∷◌, [], IfOk, codes, option_and_then, option_map};
 ghost use Rattle.serde_json.specs.Find.{as_array, get_member};
 ghost use Rattle.serde_json.specs.View.{members_view, view};
-ghost use Rattle.schema_reports.specs.Instance.{to_member};
-ghost use Rattle.schema_reports.specs.KeywordViews.{draft_of};
+ghost use Rattle.schema_definitions.specs.Instance.{to_member};
+ghost use Rattle.schema_keywords.specs.KeywordViews.{draft_of};
 ghost use Rattle.keyword_ways.specs.Items.{count_in};
 ghost use Rattle.bench_parts.specs.Makers.{branch_child, branch_places, has_branch, has_prefix, is_older_list, items_before};
 
-use schema_node::context::schema_place::{SchemaPath, SchemaStep};
-use schema_reports::keywords::Draft;
+use schema_keywords::keywords::Draft;
+use schema_parts::schema_place::{SchemaPath, SchemaStep};
 use schema_reports::location::OutOfMemory;
 use serde_json::{Map, Value};
 use std::alloc::Global;

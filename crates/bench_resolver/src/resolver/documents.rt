@@ -1,14 +1,14 @@
 //! The documents that the resolver holds.
 ghost use Rattle.std.specs.Prelude.{◌≡◌, option_map, slice_get};
 ghost use Rattle.serde_json.specs.View.{view};
-ghost use Rattle.schema_node.specs.ResolverViews.{place_of};
+ghost use Rattle.schema_parts.specs.ResolverViews.{place_of};
 ghost use Rattle.bench_resolver.specs.BenchDocuments.{value_in};
 ghost use Rattle.bench_resolver.specs.BenchViews.{held};
 ghost use Rattle.bench_resolver.specs.BenchStates.{uri_of_document};
 
-use crate::resolver::identifiers::without_fragment;
 use crate::resolver::places::value_after;
-use schema_node::context::schema_place::SchemaPlace;
+use bench_subschemas::identifiers::without_fragment;
+use schema_parts::schema_place::SchemaPlace;
 use serde_json::Value;
 
 /// A document, and the URI that it is found under; a fragment of the URI is left aside.

@@ -2,16 +2,16 @@
 ghost use Rattle.std.specs.Prelude.{◌≡◌, ◌++◌, IfOk, map, option_and_then, option_map, slice_get};
 ghost use Rattle.std.specs.HashMap.{get_by_text};
 ghost use Rattle.bench_resolver.specs.BenchKeys.{IsNumbered};
-ghost use Rattle.bench_resolver.specs.BenchResolving.{text_member};
+ghost use Rattle.bench_subschemas.specs.BenchResolving.{text_member};
 ghost use Rattle.bench_resolver.specs.BenchResources.{dynamic_key, dynamic_number, name_if, name_key, name_number, names_at, names_in};
 ghost use Rattle.bench_resolver.specs.BenchNameViews.{name_of};
 ghost use Rattle.bench_resolver.specs.BenchViews.{visited_of};
 
-use crate::resolver::drafts::text_member;
 use crate::resolver::numbers::add_number;
 use crate::resolver::walk::{Visited, walked};
-use schema_node::context::schema_place::SchemaPath;
-use schema_reports::keywords::Draft;
+use bench_subschemas::drafts::text_member;
+use schema_keywords::keywords::Draft;
+use schema_parts::schema_place::SchemaPath;
 use schema_reports::location::OutOfMemory;
 use std::alloc::Global;
 use std::collections::HashMap;

@@ -1,7 +1,7 @@
 //! Elements of a list that are found by a text.
 ghost use Rattle.std.specs.Prelude.{◌≡◌, ◌++◌, ◌∷◌, [], IfOk, List, Option, length, option_map};
 ghost use Rattle.std.specs.HashMap.{get_by_text};
-ghost use Rattle.schema_reports.specs.Instance.{Text};
+ghost use Rattle.schema_definitions.specs.Instance.{Text};
 ghost use Rattle.bench_resolver.specs.BenchKeys.{IsNumbered};
 
 use schema_reports::location::OutOfMemory;

@@ -3,14 +3,14 @@ ghost use Rattle.std.specs.Prelude.{◌≡◌, ◌∷◌, [], flat_map, option_m
 ghost use Rattle.std.specs.List.{list_any};
 ghost use Rattle.serde_json.specs.Find.{get};
 ghost use Rattle.serde_json.specs.View.{view};
-ghost use Rattle.schema_reports.specs.Instance.{same_place, same_step, to_member};
-ghost use Rattle.schema_node.specs.SchemaViews.{schema_step_of};
-ghost use Rattle.bench_resolver.specs.BenchResolving.{below_list, below_object, below_value, names_of_lists, names_of_objects};
+ghost use Rattle.schema_definitions.specs.Instance.{same_place, same_step, to_member};
+ghost use Rattle.schema_parts.specs.SchemaViews.{schema_step_of};
+ghost use Rattle.bench_subschemas.specs.BenchResolving.{below_list, below_object, below_value, names_of_lists, names_of_objects};
 ghost use Rattle.bench_resolver.specs.BenchLookups.{is_subschema};
 ghost use Rattle.bench_resolver.specs.OnWay.{leads_to_item, leads_to_member, pairs_below, schema_found, singles_below};
 
-use crate::resolver::subschemas::is_schema;
-use schema_node::context::schema_place::{SchemaPath, SchemaStep};
+use bench_subschemas::subschemas::is_schema;
+use schema_parts::schema_place::{SchemaPath, SchemaStep};
 use serde_json::Value;
 
 /// Whether a step leads to the member of this name.

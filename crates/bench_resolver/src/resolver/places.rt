@@ -2,19 +2,19 @@
 ghost use Rattle.std.specs.Prelude.{◌≡◌, ◌<◌, ◌++◌, IfOk, Some, length, map, option_map, string_bytes};
 ghost use Rattle.serde_json.specs.Data.{object};
 ghost use Rattle.serde_json.specs.View.{members_view, view};
-ghost use Rattle.schema_reports.specs.Instance.{after_step, a_value, subject_from};
-ghost use Rattle.schema_reports.specs.Drafts as schemas;
-ghost use Rattle.schema_reports.specs.Drafts.{at_path};
-ghost use Rattle.schema_node.specs.SchemaViews.{schema_step_of};
-ghost use Rattle.schema_node.specs.ResolverViews.{place_of};
-ghost use Rattle.bench_resolver.specs.BenchResolving.{root_place};
+ghost use Rattle.schema_definitions.specs.Instance.{after_step, a_value, subject_from};
+ghost use Rattle.schema_definitions.specs.Drafts as schemas;
+ghost use Rattle.schema_definitions.specs.Drafts.{at_path};
+ghost use Rattle.schema_parts.specs.SchemaViews.{schema_step_of};
+ghost use Rattle.schema_parts.specs.ResolverViews.{place_of};
+ghost use Rattle.bench_subschemas.specs.BenchResolving.{root_place};
 ghost use Rattle.bench_resolver.specs.BenchDocuments.{value_in};
 ghost use Rattle.bench_resolver.specs.BenchViews.{held};
 ghost use Rattle.bench_resolver.specs.BenchAnswers.{RefusesWith};
 
 use crate::resolver::documents::Documents;
-use schema_node::context::resolver::LookupError;
-use schema_node::context::schema_place::{SchemaPath, SchemaPlace, SchemaStep};
+use schema_parts::resolver::LookupError;
+use schema_parts::schema_place::{SchemaPath, SchemaPlace, SchemaStep};
 use schema_reports::location::OutOfMemory;
 use serde_json::{Map, Value};
 use std::alloc::Global;

@@ -6,14 +6,14 @@ ghost use Rattle.std.specs.Str.Lossy.{utf8_lossy};
 ghost use Rattle.percent_encoding.specs.Percent.{percent_decode};
 ghost use Rattle.serde_json.specs.Find.{unescape};
 ghost use Rattle.serde_json.specs.View.{view};
-ghost use Rattle.schema_node.specs.SchemaViews.{schema_step_of};
+ghost use Rattle.schema_parts.specs.SchemaViews.{schema_step_of};
 ghost use Rattle.bench_resolver.specs.BenchPointersLead.{PointersLead};
 ghost use Rattle.bench_resolver.specs.BenchPointers.{index_named, is_index, path_named, path_of_pointer};
 ghost use Rattle.bench_resolver.specs.BenchPointers.{step_named};
 
 use crate::resolver::places::value_below;
 use percent_encoding::percent_decode;
-use schema_node::context::schema_place::{SchemaPath, SchemaStep};
+use schema_parts::schema_place::{SchemaPath, SchemaStep};
 use schema_reports::location::OutOfMemory;
 use serde_json::Value;
 use std::alloc::Global;

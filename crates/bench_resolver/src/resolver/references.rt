@@ -1,8 +1,8 @@
 //! Where references lead.
 ghost use Rattle.std.specs.Prelude.{◌≡◌, [], IfOk, MatchResult, Ok, option_and_then, option_map, slice_get};
 ghost use Rattle.serde_json.specs.View.{view};
-ghost use Rattle.schema_reports.specs.Parts.{Parts};
-ghost use Rattle.schema_node.specs.ResolverViews.{found_of, Refuses};
+ghost use Rattle.schema_definitions.specs.Parts.{Parts};
+ghost use Rattle.schema_parts.specs.ResolverViews.{found_of, Refuses};
 ghost use Rattle.bench_resolver.specs.BenchAnswers.{RefusesWith};
 ghost use Rattle.bench_resolver.specs.BenchDocuments.{value_in};
 ghost use Rattle.bench_resolver.specs.BenchLookups.{arrived, dynamic_in, first_dynamic, first_recursive, looked_up, looked_up_recursive};
@@ -17,8 +17,6 @@ ghost use Rattle.bench_resolver.specs.BenchViews.{held, point_of};
 
 use crate::resolver::BenchState;
 use crate::resolver::documents::Documents;
-use crate::resolver::drafts::detected;
-use crate::resolver::identifiers::without_fragment;
 use crate::resolver::names::Name;
 use crate::resolver::on_way::is_subschema;
 use crate::resolver::places::{refusal, value_below};
@@ -26,8 +24,10 @@ use crate::resolver::pointers::{decoded, path_of_pointer};
 use crate::resolver::resources::{Resource, Resources};
 use crate::resolver::states::{enter, entered_below};
 use crate::resolver::uris::{fragment_of, resolve_uri};
-use schema_node::context::resolver::{LookupError, Target};
-use schema_node::context::schema_place::{SchemaPath, SchemaPlace};
+use bench_subschemas::drafts::detected;
+use bench_subschemas::identifiers::without_fragment;
+use schema_parts::resolver::{LookupError, Target};
+use schema_parts::schema_place::{SchemaPath, SchemaPlace};
 use schema_reports::location::OutOfMemory;
 use serde_json::Value;
 use std::alloc::Global;

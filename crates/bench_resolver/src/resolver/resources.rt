@@ -1,9 +1,9 @@
 //! The resources of documents.
 ghost use Rattle.std.specs.Prelude.{◌≡◌, ◌∷◌, [], IfOk, option_map, slice_get};
 ghost use Rattle.serde_json.specs.View.{view};
-ghost use Rattle.schema_reports.specs.Instance.{Text};
-ghost use Rattle.schema_reports.specs.KeywordViews.{draft_of};
-ghost use Rattle.schema_node.specs.ResolverViews.{place_of};
+ghost use Rattle.schema_definitions.specs.Instance.{Text};
+ghost use Rattle.schema_keywords.specs.KeywordViews.{draft_of};
+ghost use Rattle.schema_parts.specs.ResolverViews.{place_of};
 ghost use Rattle.bench_resolver.specs.BenchResources as spec;
 ghost use Rattle.bench_resolver.specs.BenchResources.{document_resource, document_resources, embedded, embedded_resources};
 ghost use Rattle.bench_resolver.specs.BenchResources.{is_recursive, number_of, place_of_resource, resource_if, resources_of, uri_at};
@@ -13,14 +13,14 @@ ghost use Rattle.bench_resolver.specs.BenchResourceViews.{resource_of};
 ghost use Rattle.bench_resolver.specs.BenchViews.{held, visited_of};
 
 use crate::resolver::documents::Documents;
-use crate::resolver::drafts::detected;
-use crate::resolver::identifiers::{identifier, without_fragment};
 use crate::resolver::names::{Names, names_in};
 use crate::resolver::numbers::add_number;
 use crate::resolver::uris::own_uri;
 use crate::resolver::walk::{Visited, walked};
-use schema_node::context::schema_place::{SchemaPath, SchemaPlace};
-use schema_reports::keywords::Draft;
+use bench_subschemas::drafts::detected;
+use bench_subschemas::identifiers::{identifier, without_fragment};
+use schema_keywords::keywords::Draft;
+use schema_parts::schema_place::{SchemaPath, SchemaPlace};
 use schema_reports::location::OutOfMemory;
 use serde_json::Value;
 use std::alloc::Global;

@@ -2,21 +2,21 @@
 ghost use Rattle.std.specs.Prelude.{◌≡◌, IfOk, MatchResult, Ok, nat_eq, option_map};
 ghost use Rattle.std.specs.List.{list_any};
 ghost use Rattle.serde_json.specs.View.{view};
-ghost use Rattle.schema_reports.specs.KeywordViews.{draft_of};
-ghost use Rattle.schema_node.specs.ResolverViews.{Refuses, place_of};
+ghost use Rattle.schema_keywords.specs.KeywordViews.{draft_of};
+ghost use Rattle.schema_parts.specs.ResolverViews.{Refuses, place_of};
 ghost use Rattle.bench_resolver.specs.BenchAnswers.{RefusesWith};
 ghost use Rattle.bench_resolver.specs.BenchStates.{enter, entered, entered_below, entered_by, entered_root, no_identified};
 ghost use Rattle.bench_resolver.specs.BenchViews.{held, point_of};
 
 use crate::resolver::BenchState;
 use crate::resolver::documents::Documents;
-use crate::resolver::identifiers::identifier;
 use crate::resolver::places::refusal;
 use crate::resolver::resources::Resources;
 use crate::resolver::uris::own_uri;
-use schema_node::context::resolver::LookupError;
-use schema_node::context::schema_place::SchemaPlace;
-use schema_reports::keywords::Draft;
+use bench_subschemas::identifiers::identifier;
+use schema_keywords::keywords::Draft;
+use schema_parts::resolver::LookupError;
+use schema_parts::schema_place::SchemaPlace;
 use schema_reports::location::OutOfMemory;
 use serde_json::Value;
 use std::alloc::Global;

@@ -1,11 +1,11 @@
 //! References and URIs (sections 3 and 4 of RFC 3986).
 ghost use Rattle.std.specs.Prelude.{◌≡◌, ◌++◌, MatchResult, Ok, option_map, string_bytes};
-ghost use Rattle.schema_node.specs.ResolverViews.{Refuses};
+ghost use Rattle.schema_parts.specs.ResolverViews.{Refuses};
 ghost use Rattle.bench_resolver.specs.BenchUris.{fragment_of, is_absolute, own_uri, resolve_uri};
 
-use crate::resolver::identifiers::without_fragment;
 use crate::resolver::places::refusal;
-use schema_node::context::resolver::LookupError;
+use bench_subschemas::identifiers::without_fragment;
+use schema_parts::resolver::LookupError;
 use std::alloc::Global;
 
 /// Whether a `:` stands before any `/`, `?` or `#`.

@@ -1,9 +1,9 @@
 //! The vocabularies of drafts.
 ghost use Rattle.std.specs.Prelude.{◌≡◌, IfOk};
-ghost use Rattle.schema_reports.specs.KeywordViews.{draft_of};
+ghost use Rattle.schema_keywords.specs.KeywordViews.{draft_of};
 ghost use Rattle.bench_resolver.specs.BenchDocuments.{vocabularies_in, HasCustom, HasDrafts};
 
-use schema_reports::keywords::{Draft, Vocabulary, VocabularySet};
+use schema_keywords::keywords::{Draft, Vocabulary, VocabularySet};
 use schema_reports::location::OutOfMemory;
 
 /// The vocabularies of drafts before 2019-09, of 2019-09, and of later ones.

@@ -2,16 +2,16 @@
 ghost use Rattle.std.specs.Prelude.{◌≡◌, ◌<◌, ◌++◌, ℕ, IfOk, map};
 ghost use Rattle.serde_json.specs.Data.{depth};
 ghost use Rattle.serde_json.specs.View.{view};
-ghost use Rattle.schema_reports.specs.KeywordViews.{draft_of};
+ghost use Rattle.schema_keywords.specs.KeywordViews.{draft_of};
 ghost use Rattle.bench_resolver.specs.BenchResources.{goes_into, visited_below, walked};
 ghost use Rattle.bench_resolver.specs.BenchViews.{visited_of};
 
-use crate::resolver::drafts::detected;
-use crate::resolver::identifiers::identifier;
 use crate::resolver::places::{root_place, value_after};
-use crate::resolver::subschemas::subschemas;
-use schema_node::context::schema_place::SchemaPath;
-use schema_reports::keywords::Draft;
+use bench_subschemas::drafts::detected;
+use bench_subschemas::identifiers::identifier;
+use bench_subschemas::subschemas::subschemas;
+use schema_keywords::keywords::Draft;
+use schema_parts::schema_place::SchemaPath;
 use schema_reports::location::OutOfMemory;
 use serde_json::Value;
 use std::alloc::Global;

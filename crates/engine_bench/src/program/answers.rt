@@ -2,9 +2,9 @@
 ghost use Rattle.std.specs.Prelude.{◌≡◌, ◌++◌, true, IfOk, string_bytes};
 ghost use Rattle.serde_json.specs.Data.{Data};
 ghost use Rattle.serde_json.specs.View.{view};
-ghost use Rattle.schema_reports.specs.Making.{Table};
-ghost use Rattle.schema_reports.specs.Matching.{Matcher};
-ghost use Rattle.schema_reports.specs.Resolving.{Resolver};
+ghost use Rattle.schema_definitions.specs.Making.{Table};
+ghost use Rattle.schema_definitions.specs.Matching.{Matcher};
+ghost use Rattle.schema_definitions.specs.Resolving.{Resolver};
 ghost use Rattle.schema_reports.specs.ReportViews.{error_of};
 ghost use Rattle.schema_engine.specs.Handed.{Options};
 ghost use Rattle.bench_resolver.specs.BenchStates.{Point};

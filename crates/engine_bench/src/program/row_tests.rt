@@ -1,7 +1,9 @@
-//! The worked rows, printed texts and statuses, through `run`.
+//! What the program writes and how it ends, through `run`: printed texts, statuses, and faults in the words. What the engine
+//! answers of schemas and instances is in the rows of `check_rows`.
 //!
 //! A row is `[schema, instance, unfinished patterns, lines of all errors]`, which each mode answers; or
-//! `[words, standard output, standard error, status]`, where a word that is not a text is written as JSON.
+//! `[words, standard output, standard error, status]`, where a word that is not a text is written as JSON, and a standard output
+//! that is a list is its texts one after the other.
 use crate::program::run;
 use schema_reports::location::OutOfMemory;
 use serde_json::Value;
@@ -17,7 +19,7 @@ fn written(alloc: Global, words: &[Vec<u8>]) -> (Vec<u8>, Vec<u8>, u8) {
 }
 
 /// Whether the program writes this for its words, and ends with this status.
-pub fn writes(alloc: Global, words: &[Vec<u8>], out: &str, err: &str, status: u64) -> bool {
+fn writes(alloc: Global, words: &[Vec<u8>], out: &str, err: &str, status: u64) -> bool {
     let found = written(alloc, words);
     found.0.as_slice() == out.as_bytes()
         && found.1.as_slice() == err.as_bytes()
@@ -40,14 +42,24 @@ fn words_of(alloc: Global, list: &[Value]) -> Result<Vec<Vec<u8>>, OutOfMemory> 
     Ok(words)
 }
 
+/// The text that a column is, or, of a column that is a list, its texts one after the other.
+fn joined_text(alloc: Global, row: &Value, number: usize) -> Result<String, OutOfMemory> {
+    let mut text = String::from_str(alloc, text_at(row, number))?;
+    for part in list_at(row, number) {
+        text.push_str(part.as_str().unwrap_or("?"))?;
+    }
+    Ok(text)
+}
+
 /// Whether a row of words holds.
 fn tells(alloc: Global, row: &Value) -> Result<bool, OutOfMemory> {
     let words = words_of(alloc, list_at(row, 0))?;
+    let out = joined_text(alloc, row, 1)?;
     let status = column(row, 3).as_u64().unwrap_or(99);
     Ok(writes(
         alloc,
         words.as_slice(),
-        text_at(row, 1),
+        out.as_str(),
         text_at(row, 2),
         status,
     ))
@@ -64,7 +76,7 @@ fn words_for(alloc: Global, mode: &str, row: &Value) -> Result<Vec<Vec<u8>>, Out
 }
 
 /// Whether a mode prints this for a row, and ends with this status.
-pub fn prints(
+fn prints(
     alloc: Global,
     mode: &str,
     row: &Value,
@@ -123,95 +135,39 @@ fn holds(alloc: Global, row: &Value) -> Result<bool, OutOfMemory> {
     }
 }
 
-fn wrong(alloc: Global, table: &str) -> Result<Option<usize>, serde_json::Error> {
-    wrong_row(alloc, table, |row| holds(alloc, row))
-}
-
 #[test]
-fn verdicts_and_errors(rt: HostRuntime) -> Result<(), serde_json::Error> {
-    assert_eq!(rt; wrong(rt.alloc(), ANSWERS)?, None);
+fn words_are_answered(rt: HostRuntime) -> Result<(), serde_json::Error> {
+    let alloc = rt.alloc();
+    assert_eq!(rt; wrong_row(alloc, ANSWERS, |row| holds(alloc, row))?, None);
+    assert_eq!(rt; wrong_row(alloc, FAULTS, |row| holds(alloc, row))?, None);
     Ok(())
 }
 
+// Each form of an answer in each mode, to the letter: none, one and several lines, a failure, a name's place, and a list.
 const ANSWERS: &str = r##"[
 [{"type":"string"}, "AB", [], []],
 [{"type":"string"}, 1, [], ["\t/type\t/type\t1 is not of type \"string\""]],
-[{"properties":{"a":{"properties":{"b":false}}}}, {"a":{"c":1}}, [], []],
-[{"properties":{"a":{"properties":{"b":false}}}}, {"a":{"b":1}}, [],
- ["/a/b\t/properties/a/properties/b\t/properties/a/properties/b\tFalse schema does not allow 1"]],
-[true, 1, ["p","q"], []],
 [false, null, [], ["\t\t\tFalse schema does not allow null"]],
 [{"properties":{"a":{"type":"string"},"b":{"type":"string"}},"required":["c"]}, {"a":1,"b":2}, [],
  ["\t/required\t/required\t\"c\" is a required property",
   "/a\t/properties/a/type\t/properties/a/type\t1 is not of type \"string\"",
   "/b\t/properties/b/type\t/properties/b/type\t2 is not of type \"string\""]],
-[{"properties":{"a":{"type":"string"},"b":{"type":"string"}},"required":["c"]}, 3, [], []],
 [{"minProperties":2,"propertyNames":{"minLength":3}}, {"a":3}, [],
  ["\t/minProperties\t/minProperties\t{\"a\":3} has less than 2 properties",
   "\t/propertyNames/minLength\t/propertyNames/minLength\t\"a\" is shorter than 3 characters"]],
-[{"prefixItems":[{},{},{}],"items":false}, [1,2,3,4,5], [],
- ["/3\t/items\t/items\tFalse schema does not allow 4", "/4\t/items\t/items\tFalse schema does not allow 5"]],
-[{"required":["foo","bar"]}, {}, [],
- ["\t/required\t/required\t\"foo\" is a required property", "\t/required\t/required\t\"bar\" is a required property"]],
-[{"if":{"type":"string"},"then":{"minLength":4},"else":{"type":"integer"}}, "abc", [],
- ["\t/then/minLength\t/then/minLength\t\"abc\" is shorter than 4 characters"]],
-[{"if":{"type":"string"},"then":{"minLength":4},"else":{"type":"integer"}}, 1, [], []]
-]"##;
-
-#[test]
-fn references(rt: HostRuntime) -> Result<(), serde_json::Error> {
-    assert_eq!(rt; wrong(rt.alloc(), REFERENCES)?, None);
-    Ok(())
-}
-
-const REFERENCES: &str = r##"[
 [{"properties":{"x":{"$ref":"#/$defs/s"}},"$defs":{"s":{"type":"string"}}}, {"x":1}, [],
  ["/x\t/$defs/s/type\t/properties/x/$ref/type\t1 is not of type \"string\""]],
-[{"$ref":"#/$defs/a%25b","$defs":{"a%b":{"type":"string"}}}, 1, [],
- ["\t/$defs/a%b/type\t/$ref/type\t1 is not of type \"string\""]],
-[{"$ref":"#"}, 1, [], []],
-[{"properties":{"a":{"$ref":"#/$defs/s"},"b":{"$ref":"#/$defs/s"}},"$defs":{"s":{"type":"string"}}}, {"a":1,"b":2}, [],
- ["/a\t/$defs/s/type\t/properties/a/$ref/type\t1 is not of type \"string\"",
-  "/b\t/$defs/s/type\t/properties/b/$ref/type\t2 is not of type \"string\""]],
-[{"$ref":"#/$defs/c0","$defs":{
-  "c0":{"$ref":"#/$defs/c1"},"c1":{"$ref":"#/$defs/c2"},"c2":{"$ref":"#/$defs/c3"},"c3":{"$ref":"#/$defs/c4"},
-  "c4":{"$ref":"#/$defs/c5"},"c5":{"$ref":"#/$defs/c6"},"c6":{"$ref":"#/$defs/c7"},"c7":{"$ref":"#/$defs/c8"},
-  "c8":{"$ref":"#/$defs/c9"},"c9":{"type":"string"}}}, 1, [],
- ["\t/$defs/c9/type\t/$ref/$ref/$ref/$ref/$ref/$ref/$ref/$ref/$ref/$ref/type\t1 is not of type \"string\""]],
-[{"properties":{"n":{"$ref":"#"}},"required":["v"]}, {"v":1,"n":{"v":1,"n":{}}}, [],
- ["/n/n\t/required\t/properties/n/$ref/properties/n/$ref/required\t\"v\" is a required property"]],
-[{"properties":{"n":{"$ref":"#"}},"required":["v"]}, {"v":1,"n":{"v":1,"n":{"v":2}}}, [], []],
-[{"$schema":"http://json-schema.org/draft-07/schema#","$ref":"#/definitions/s","maxLength":1,"definitions":{"s":{"type":"string"}}},
- "abc", [], []],
-[{"$ref":"#/$defs/s","maxLength":1,"$defs":{"s":{"type":"string"}}}, "abc", [],
- ["\t/maxLength\t/maxLength\t\"abc\" is longer than 1 character"]]
+[{"not":{"pattern":"(?<=ab)c"}}, "abc", ["(?<=ab)c"],
+ ["\t/not/pattern\t/not/pattern\tError executing regex: Max limit for backtracking count exceeded"]],
+[["first", {"items":{"pattern":"(?<=ab)c"},"type":"object"}, ["a","b","c","d","e","f"], ["(?<=ab)c"]],
+ "\t/type\t/type\t[\"a\",\"b\",\"c\",\"d\",\"e\",\"f\"] is not of type \"object\"\n", "", 1],
+[["list", {"type":"string"}, "\"AB\""],
+ ["{\"details\":[{\"evaluationPath\":\"\",\"instanceLocation\":\"\",\"schemaLocation\":\"\",\"valid\":true},",
+  "{\"evaluationPath\":\"/type\",\"instanceLocation\":\"\",\"schemaLocation\":\"/type\",\"valid\":true}],\"valid\":true}\n"], "", 0],
+[["list", false, 1],
+ ["{\"details\":[{\"errors\":{\"falseSchema\":\"False schema does not allow 1\"},",
+  "\"evaluationPath\":\"\",\"instanceLocation\":\"\",\"schemaLocation\":\"\",\"valid\":false}],\"valid\":false}\n"], "", 1]
 ]"##;
-
-// Chains of references that come back to a target at one place.
-#[test]
-fn cycles(rt: HostRuntime) -> Result<(), serde_json::Error> {
-    assert_eq!(rt; wrong(rt.alloc(), CYCLES)?, None);
-    Ok(())
-}
-
-const CYCLES: &str = r##"[
-[{"$ref":"#/$defs/a","$defs":{"a":{"$ref":"#/$defs/b"},"b":{"$ref":"#/$defs/a","type":"string"}}}, 1, [],
- ["\t/$defs/b/type\t/$ref/$ref/type\t1 is not of type \"string\"",
-  "\t/$defs/b/type\t/$ref/$ref/$ref/$ref/type\t1 is not of type \"string\""]],
-[{"$ref":"#/$defs/a","$defs":{"a":{"$ref":"#/$defs/b"},"b":{"$ref":"#/$defs/a","type":"string"}}}, "a", [], []],
-[{"not":{"$ref":"#"}}, 1, [], []],
-[{"not":{"not":{"$ref":"#"}}}, 1, [], []],
-[{"oneOf":[{"$ref":"#"},{"type":"string"}]}, 1, [], []],
-[{"oneOf":[{"$ref":"#"},{"type":"string"}]}, "abc", [], []],
-[{"allOf":[{"$ref":"#"}],"type":"string"}, 1, [],
- ["\t/type\t/type\t1 is not of type \"string\"", "\t/type\t/allOf/0/$ref/type\t1 is not of type \"string\""]]
-]"##;
-
-#[test]
-fn faults(rt: HostRuntime) -> Result<(), serde_json::Error> {
-    assert_eq!(rt; wrong(rt.alloc(), FAULTS)?, None);
-    Ok(())
-}
 
 const FAULTS: &str = r##"[
 [["valid", {"properties":{"a":3}}, 1], "", "build refused: 1\n", 2],
@@ -237,104 +193,3 @@ const FAULTS: &str = r##"[
 [["valid", 7, 1, {}], "", "not JSON: UNFINISHED\n", 3],
 [["valid", true, 1, ["p", 1]], "", "not JSON: UNFINISHED\n", 3]
 ]"##;
-
-#[test]
-fn matches(rt: HostRuntime) -> Result<(), serde_json::Error> {
-    assert_eq!(rt; wrong(rt.alloc(), MATCHES_UNMET)?, None);
-    assert_eq!(rt; wrong(rt.alloc(), MATCHES)?, None);
-    Ok(())
-}
-
-// Calls that meet no match that stays unfinished.
-const MATCHES_UNMET: &str = r##"[
-[{"pattern":"b"}, "abc", ["(?<=ab)c"], []],
-[{"pattern":"b"}, 1, ["(?<=ab)c"], []],
-[{"pattern":"b"}, "ac", ["(?<=ab)c"], ["\t/pattern\t/pattern\t\"ac\" does not match \"b\""]],
-[{"propertyNames":{"pattern":"b"}}, {"a":1,"b":2}, ["(?<=ab)c"],
- ["\t/propertyNames/pattern\t/propertyNames/pattern\t\"a\" does not match \"b\""]]
-]"##;
-
-// The last rows: a call that ends before it asks for a match, and one that asks for more than any call decides by.
-pub const MATCHES: &str = r##"[
-[{"not":{"pattern":"(?<=ab)c"}}, "abc", ["(?<=ab)c"],
- ["\t/not/pattern\t/not/pattern\tError executing regex: Max limit for backtracking count exceeded"]],
-[{"oneOf":[{"pattern":"(?<=ab)c"},{"type":"string"}]}, "abc", ["(?<=ab)c"],
- ["\t/oneOf/0/pattern\t/oneOf/0/pattern\tError executing regex: Max limit for backtracking count exceeded"]],
-[{"anyOf":[{"pattern":"(?<=ab)c"},{"not":{"pattern":"(?<=ab)c"}}]}, "abc", ["(?<=ab)c"], []],
-[{"if":{"pattern":"(?<=ab)c"},"then":{"minLength":1},"else":{"minLength":1}}, "abc", ["(?<=ab)c"], []],
-[{"pattern":"(?<=ab)c","maxLength":1}, "abc", ["(?<=ab)c"],
- ["\t/maxLength\t/maxLength\t\"abc\" is longer than 1 character"]],
-[{"if":{"pattern":"(?<=ab)c"},"then":{"minLength":9},"maxLength":1}, "abc", ["(?<=ab)c"],
- ["\t/maxLength\t/maxLength\t\"abc\" is longer than 1 character"]],
-[{"$defs":{"s":{"pattern":"(?<=ab)c"}},"properties":{"x":{"$ref":"#/$defs/s"}}}, {"x":"abc"}, ["(?<=ab)c"],
- ["/x\t/$defs/s/pattern\t/properties/x/$ref/pattern\tError executing regex: Max limit for backtracking count exceeded"]],
-[{"properties":{"a":{"not":{"not":{"pattern":"(?<=ab)c"}}},"b":{"pattern":"(?<=ab)c"}}}, {"a":"abc","b":"abc"}, ["(?<=ab)c"],
- ["/b\t/properties/b/pattern\t/properties/b/pattern\tError executing regex: Max limit for backtracking count exceeded"]],
-[{"if":{"pattern":"(?<=ab)c"},"then":{"pattern":"q"}}, "abc", ["(?<=ab)c","q"],
- ["\t/if/pattern\t/if/pattern\tError executing regex: Max limit for backtracking count exceeded"]],
-[["first", {"items":{"pattern":"(?<=ab)c"},"type":"object"}, ["a","b","c","d","e","f"], ["(?<=ab)c"]],
- "\t/type\t/type\t[\"a\",\"b\",\"c\",\"d\",\"e\",\"f\"] is not of type \"object\"\n", "", 1],
-[["errors", {"items":{"pattern":"(?<=ab)c"},"type":"object"}, ["a","b","c","d","e","f"], ["(?<=ab)c"]],
- "/0\t/items/pattern\t/items/pattern\tError executing regex: Max limit for backtracking count exceeded\n", "", 1],
-[["valid", {"items":{"pattern":"(?<=ab)c"},"type":"object"}, ["a","b","c","d","e","f"], ["(?<=ab)c"]], "false\n", "", 1]
-]"##;
-
-#[test]
-fn many_unfinished_matches(rt: HostRuntime) -> Result<(), serde_json::Error> {
-    assert_eq!(rt; wrong(rt.alloc(), MANY_MATCHES)?, None);
-    Ok(())
-}
-
-// Five matches have thirty-two outcomes, which a call decides by; six have more.
-pub const MANY_MATCHES: &str = r##"[
-[{"allOf":[
-  {"anyOf":[{"pattern":"(?<=d)c"},{"type":"string"}]}, {"anyOf":[{"pattern":"(?<=e)c"},{"type":"string"}]},
-  {"anyOf":[{"pattern":"(?<=f)c"},{"type":"string"}]}, {"anyOf":[{"pattern":"(?<=g)c"},{"type":"string"}]},
-  {"anyOf":[{"pattern":"(?<=h)c"},{"type":"string"}]}]},
- "abc", ["(?<=d)c","(?<=e)c","(?<=f)c","(?<=g)c","(?<=h)c"], []],
-[{"allOf":[
-  {"anyOf":[{"pattern":"(?<=d)c"},{"type":"string"}]}, {"anyOf":[{"pattern":"(?<=e)c"},{"type":"string"}]},
-  {"anyOf":[{"pattern":"(?<=f)c"},{"type":"string"}]}, {"anyOf":[{"pattern":"(?<=g)c"},{"type":"string"}]},
-  {"anyOf":[{"pattern":"(?<=h)c"},{"type":"string"}]}, {"anyOf":[{"pattern":"(?<=i)c"},{"type":"string"}]}]},
- "abc", ["(?<=d)c","(?<=e)c","(?<=f)c","(?<=g)c","(?<=h)c","(?<=i)c"],
- ["\t/allOf/0/anyOf/0/pattern\t/allOf/0/anyOf/0/pattern\tError executing regex: Max limit for backtracking count exceeded"]],
-[{"allOf":[
-  {"anyOf":[{"pattern":"(?<=d)c"},{"type":"string"}]}, {"anyOf":[{"pattern":"(?<=e)c"},{"type":"string"}]},
-  {"anyOf":[{"pattern":"(?<=f)c"},{"type":"string"}]}, {"anyOf":[{"pattern":"(?<=g)c"},{"type":"string"}]},
-  {"anyOf":[{"pattern":"(?<=h)c"},{"type":"string"}]}, {"anyOf":[{"pattern":"(?<=i)c"},{"type":"string"}]},
-  {"anyOf":[{"pattern":"(?<=j)c"},{"type":"string"}]}, {"anyOf":[{"pattern":"(?<=k)c"},{"type":"string"}]}]},
- "abc", ["(?<=d)c","(?<=e)c","(?<=f)c","(?<=g)c","(?<=h)c","(?<=i)c","(?<=j)c","(?<=k)c"],
- ["\t/allOf/0/anyOf/0/pattern\t/allOf/0/anyOf/0/pattern\tError executing regex: Max limit for backtracking count exceeded"]]
-]"##;
-
-/// A list of so many texts, each with its number.
-fn numbered_texts(alloc: Global, count: u32) -> Result<String, OutOfMemory> {
-    let mut list = String::from_str(alloc, "[")?;
-    let mut between = "";
-    for number in 0..count {
-        write!(list, "{between}\"s{number}\"")?;
-        between = ",";
-    }
-    list.push_str("]")?;
-    Ok(list)
-}
-
-/// The row of a schema that refuses so many texts by matches that stay unfinished.
-pub fn row_of_many(alloc: Global, count: u32) -> Result<Value, serde_json::Error> {
-    let texts = numbered_texts(alloc, count)?;
-    let line =
-        r#"/0\t/items/pattern\t/items/pattern\tError executing regex: Max limit for backtracking count exceeded"#;
-    let row = format!(in alloc;
-        "[{{\"items\":{{\"pattern\":\"(?<=ab)c\"}}}}, {texts}, [\"(?<=ab)c\"], [\"{line}\"]]"
-    )?;
-    Value::from_str(alloc, row.as_str())
-}
-
-// Far more matches than any call decides by.
-#[test]
-fn three_hundred_matches(rt: HostRuntime) -> Result<(), serde_json::Error> {
-    let alloc = rt.alloc();
-    let row = row_of_many(alloc, 300)?;
-    assert!(rt; holds(alloc, &row)?);
-    Ok(())
-}

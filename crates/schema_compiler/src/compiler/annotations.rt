@@ -2,12 +2,12 @@
 ghost use Rattle.std.specs.Prelude.{◌≡◌, ◌++◌, IfOk, map, option_map, string_bytes, if◌then◌else◌};
 ghost use Rattle.serde_json.specs.Data.{put};
 ghost use Rattle.serde_json.specs.View.{view, members_view};
-ghost use Rattle.schema_reports.specs.Units.{object_of, without};
-ghost use Rattle.schema_reports.specs.KeywordViews.{draft_of};
+ghost use Rattle.schema_definitions.specs.Units.{object_of, without};
+ghost use Rattle.schema_keywords.specs.KeywordViews.{draft_of};
 
 use crate::compiler::given::Given;
-use crate::compiler::key::SchemaKey;
-use schema_node::context::resolver::Resolver;
+use schema_keys::key::SchemaKey;
+use schema_parts::resolver::Resolver;
 use schema_reports::location::OutOfMemory;
 use serde_json::{Map, Value};
 

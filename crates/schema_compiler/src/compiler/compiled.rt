@@ -1,24 +1,25 @@
 //! The keys that were reached and their nodes, while they are filled.
 ghost use Rattle.std.specs.Prelude.{◌≡◌, ◌≢◌, ℕ, ◌<◌, ◌≤◌, ◌++◌, ◌∷◌, [], true, false, suc, IfOk, IfErr, OnOk};
 ghost use Rattle.std.specs.Prelude.{map, Some, None, slice_get, length, if◌then◌else◌};
-ghost use Rattle.schema_compiler.specs.KeyViews.{key_of};
+ghost use Rattle.schema_keys.specs.KeyViews.{key_of};
 ghost use Rattle.schema_compiler.specs.Carried.{IsWell, RefusesKey, filled, task};
-ghost use Rattle.schema_compiler.specs.Compiling.{resolving_parts};
-ghost use Rattle.schema_compiler.specs.Filling.{shown_base};
+ghost use Rattle.schema_keys.specs.Compiling.{resolving_parts};
+ghost use Rattle.schema_keys.specs.ShownBases.{shown_base};
 ghost use Rattle.schema_compiler.specs.Passing.{Numbered, PassesTo};
 ghost use Rattle.schema_compiler.specs.UnderWay.{IsUnderWay};
-ghost use Rattle.schema_compiler.specs.declared.compiler.error.BuildError.TheVariants as build;
+ghost use Rattle.schema_keys.specs.declared.error.BuildError.TheVariants as build;
 
-use crate::compiler::context::Context;
-use crate::compiler::error::BuildError;
 use crate::compiler::given::Given;
-use crate::compiler::key::SchemaKey;
-use crate::compiler::keys::Keys;
 use crate::compiler::reservations::Reservations;
-use schema_node::context::keyword::Validate;
-use schema_node::context::resolver::Resolver;
-use schema_node::context::table::KeywordTable;
-use schema_node::node::{Edge, NodeForm, Nodes, SchemaNode};
+use schema_keys::context::Context;
+use schema_keys::error::BuildError;
+use schema_keys::key::SchemaKey;
+use schema_keys::keys::Keys;
+use schema_nodes::node::{NodeForm, Nodes};
+use schema_parts::keyword::Validate;
+use schema_parts::numbers::{Edge, SchemaNode};
+use schema_parts::resolver::Resolver;
+use schema_parts::table::KeywordTable;
 use schema_reports::location::{Location, OutOfMemory};
 use serde_json::Value;
 use std::alloc::Global;

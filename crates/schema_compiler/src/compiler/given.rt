@@ -1,16 +1,6 @@
 //! What a compilation is given, and does not change.
+pub use schema_keys::options::CompileOptions;
 use std::alloc::Global;
-
-/// The options that a compilation reads.
-#[derive(Drop)]
-pub struct CompileOptions {
-    /// Whether formats are checked; `None` leaves that to the schema's draft and vocabularies.
-    pub formats: Option<bool>,
-    /// The URIs of the custom vocabularies that a schema may require.
-    pub declared: Vec<String>,
-    /// How many keys may be reached; one more is refused.
-    pub node_limit: usize,
-}
 
 /// The memory, the resolver, the keyword table and the options of a compilation, and how many targets of `$ref` and
 /// `$dynamicRef` may be open one inside another; one that is found then is compiled later. The compiler's functions are its

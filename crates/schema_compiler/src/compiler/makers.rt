@@ -1,21 +1,21 @@
 //! The maker of one keyword: how it begins, and what it is told of what it asked for.
 ghost use Rattle.std.specs.Prelude.{◌≡◌, ◌++◌, ◌∷◌, [], IfOk, OnOk, length, map, option_map, string_bytes};
 ghost use Rattle.serde_json.specs.View.{members_view};
-ghost use Rattle.schema_reports.specs.Plan.{checks_formats};
-ghost use Rattle.schema_reports.specs.KeywordViews.{draft_of};
-ghost use Rattle.schema_node.specs.MakerViews.{begun, is_own, maker_reply_of, name_of};
-ghost use Rattle.schema_node.specs.NodeViews.{edge_of};
-ghost use Rattle.schema_compiler.specs.Compiling.{answers};
+ghost use Rattle.schema_definitions.specs.Plan.{checks_formats};
+ghost use Rattle.schema_keywords.specs.KeywordViews.{draft_of};
+ghost use Rattle.schema_parts.specs.MakerViews.{begun, is_own, maker_reply_of, name_of};
+ghost use Rattle.schema_parts.specs.EdgeViews.{edge_of};
+ghost use Rattle.schema_keys.specs.Compiling.{answers};
 ghost use Rattle.schema_compiler.specs.Carried.{task};
-ghost use Rattle.schema_compiler.specs.KeyViews.{key_of};
+ghost use Rattle.schema_keys.specs.KeyViews.{key_of};
 
-use crate::compiler::context::Context;
 use crate::compiler::given::Given;
-use crate::compiler::key::SchemaKey;
-use schema_node::context::keyword::Validate;
-use schema_node::context::resolver::Resolver;
-use schema_node::context::table::{KeywordOrigin, KeywordTable, MakerReply};
-use schema_node::node::Edge;
+use schema_keys::context::Context;
+use schema_keys::key::SchemaKey;
+use schema_parts::keyword::Validate;
+use schema_parts::numbers::Edge;
+use schema_parts::resolver::Resolver;
+use schema_parts::table::{KeywordOrigin, KeywordTable, MakerReply};
 use schema_reports::location::OutOfMemory;
 use serde_json::{Map, Value};
 

@@ -1,14 +1,14 @@
 //! The numbers that makers reserve: each is in force until its maker ends, and stands for a node of the keyword that was made
 //! alone, or of no entry. They are only ever marked, and counted apart from the numbers of nodes.
 ghost use Rattle.std.specs.Prelude.{◌≡◌, ◌++◌, ◌∷◌, [], IfOk, MatchOption, OnErr, OnOk, length, map, string_bytes};
-ghost use Rattle.schema_node.specs.MakerViews.{purpose_of};
-ghost use Rattle.schema_node.specs.ResolverViews.{place_of};
+ghost use Rattle.schema_parts.specs.MakerViews.{purpose_of};
+ghost use Rattle.schema_parts.specs.ResolverViews.{place_of};
 ghost use Rattle.schema_compiler.specs.Reserving.{IsPending, NonePending, in_force, is_for, with_node, with_nodes_from};
 ghost use Rattle.schema_compiler.specs.ReservedViews.{TellsPending, TellsReserved, node_of, reserved_of};
 
-use schema_node::context::schema_place::SchemaPlace;
-use schema_node::context::table::{MakerReply, PendingKind};
-use schema_node::node::PendingSchemaNode;
+use schema_parts::numbers::PendingSchemaNode;
+use schema_parts::schema_place::SchemaPlace;
+use schema_parts::table::{MakerReply, PendingKind};
 use schema_reports::location::OutOfMemory;
 use std::alloc::Global;
 use std::marker::Model;

@@ -1,17 +1,17 @@
 //! What a reference leads to, where that requires no vocabulary that is not declared.
 ghost use Rattle.std.specs.Prelude.{◌≡◌, [], IfOk, IfErr, IfSome, MatchOption};
-ghost use Rattle.schema_compiler.specs.KeyViews.{key_of, kind_of};
+ghost use Rattle.schema_keys.specs.KeyViews.{key_of, kind_of};
 ghost use Rattle.schema_compiler.specs.Carried.{RefusesTarget, Targets, lacking, task};
-ghost use Rattle.schema_compiler.specs.Refusing.{Names};
+ghost use Rattle.schema_keys.specs.Refusing.{Names};
 
-use crate::compiler::context::Context;
-use crate::compiler::error::BuildError;
 use crate::compiler::given::Given;
-use crate::compiler::key::SchemaKey;
-use crate::ref_::ReferenceKind;
-use schema_node::context::keyword::Validate;
-use schema_node::context::resolver::Resolver;
-use schema_node::context::table::KeywordTable;
+use schema_keys::context::Context;
+use schema_keys::error::BuildError;
+use schema_keys::key::SchemaKey;
+use schema_keys::references::ReferenceKind;
+use schema_parts::keyword::Validate;
+use schema_parts::resolver::Resolver;
+use schema_parts::table::KeywordTable;
 
 impl<'p, R: Resolver, T> Given<'p, R, T> {
     // Refuses a custom vocabulary that is not declared, where a reference's target requires it.

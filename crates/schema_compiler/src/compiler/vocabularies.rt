@@ -1,16 +1,16 @@
 //! Whether the custom vocabularies that a schema requires are declared.
 ghost use Rattle.std.specs.Prelude.{◌≡◌, [], IfOk, IfErr, map, string_bytes, bytes_eq};
 ghost use Rattle.std.specs.List.{list_any};
-ghost use Rattle.schema_reports.specs.Drafts.{custom_vocabulary};
+ghost use Rattle.schema_definitions.specs.Drafts.{custom_vocabulary};
 ghost use Rattle.schema_compiler.specs.Carried.{lacking, task};
-ghost use Rattle.schema_compiler.specs.Refusing.{Names};
+ghost use Rattle.schema_keys.specs.Refusing.{Names};
 
-use crate::compiler::error::BuildError;
 use crate::compiler::given::Given;
-use schema_node::context::keyword::Validate;
-use schema_node::context::resolver::Resolver;
-use schema_node::context::table::KeywordTable;
-use schema_reports::keywords::VocabularySet;
+use schema_keys::error::BuildError;
+use schema_keywords::keywords::VocabularySet;
+use schema_parts::keyword::Validate;
+use schema_parts::resolver::Resolver;
+use schema_parts::table::KeywordTable;
 
 // Whether a custom vocabulary is declared.
 fn is_declared(declared: &[String], uri: &str) -> bool

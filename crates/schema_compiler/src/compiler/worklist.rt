@@ -1,20 +1,20 @@
 //! The worklist: keys that were found while as many targets of references as may nest were open. Each is compiled in a round
 //! of its own, in the order of finding, which is that of the numbers.
 ghost use Rattle.std.specs.Prelude.{◌<◌, IfErr, IfOk, length, suc};
-ghost use Rattle.schema_node.specs.NodeTable.{Waits};
-ghost use Rattle.schema_compiler.specs.KeyViews.{key_of};
+ghost use Rattle.schema_nodes.specs.NodeTable.{Waits};
+ghost use Rattle.schema_keys.specs.KeyViews.{key_of};
 ghost use Rattle.schema_compiler.specs.Carried.{filled, task};
 ghost use Rattle.schema_compiler.specs.Working.{IsAtNumber, IsWorkedOff, RefusesRootKey};
 
 use crate::compiler::compiled::{Compiled, Progress};
-use crate::compiler::error::BuildError;
 use crate::compiler::given::Given;
-use crate::compiler::key::SchemaKey;
-use crate::compiler::values::Reading;
-use schema_node::context::keyword::Validate;
-use schema_node::context::resolver::Resolver;
-use schema_node::context::table::KeywordTable;
-use schema_node::node::SchemaNode;
+use schema_keys::error::BuildError;
+use schema_keys::key::SchemaKey;
+use schema_keys::values::Reading;
+use schema_parts::keyword::Validate;
+use schema_parts::numbers::SchemaNode;
+use schema_parts::resolver::Resolver;
+use schema_parts::table::KeywordTable;
 use std::rc::Rc;
 
 impl<'p, R: Resolver, T> Given<'p, R, T> {

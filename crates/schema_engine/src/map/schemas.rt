@@ -1,11 +1,11 @@
 //! The places of a document's schemas: of its objects and booleans.
 ghost use Rattle.std.specs.Prelude.{◌≡◌, ◌++◌, ◌∷◌, [], IfOk};
 ghost use Rattle.serde_json.specs.View.{items_view, members_view, view};
-ghost use Rattle.schema_node.specs.SchemaViews.{schema_step_of};
-ghost use Rattle.schema_compiler.specs.Compiling.{Each};
+ghost use Rattle.schema_parts.specs.SchemaViews.{schema_step_of};
+ghost use Rattle.schema_keys.specs.Compiling.{Each};
 ghost use Rattle.schema_engine.specs.DocumentSchemas.{IndicesFit, schemas_in, schemas_in_items, schemas_in_members};
 
-use schema_node::context::schema_place::{SchemaPath, SchemaStep};
+use schema_parts::schema_place::{SchemaPath, SchemaStep};
 use schema_reports::location::OutOfMemory;
 use serde_json::{Map, Value};
 use std::alloc::Global;

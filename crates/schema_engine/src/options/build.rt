@@ -2,9 +2,9 @@
 ghost use Rattle.std.specs.Prelude.{◌≡◌, IfOk, IfErr, true};
 ghost use Rattle.serde_json.specs.View.{view};
 ghost use Rattle.schema_engine.specs.Called.{HasPlainUnits, IsCompiledFrom, MeansPlainly, PointsPlainly, SchemaBuilds, BuildRefused};
-ghost use Rattle.schema_reports.specs.KeywordViews.{draft_of};
-ghost use Rattle.schema_node.specs.ResolverViews.{place_of};
-ghost use Rattle.schema_compiler.specs.Checking.{AcceptsSchema, RefusesSchema};
+ghost use Rattle.schema_keywords.specs.KeywordViews.{draft_of};
+ghost use Rattle.schema_parts.specs.ResolverViews.{place_of};
+ghost use Rattle.schema_check.specs.Checking.{AcceptsSchema, RefusesSchema};
 ghost use Rattle.schema_engine.specs.Checked.{PassesCheck};
 ghost use Rattle.schema_engine.specs.Handed.{default_nested, handed};
 
@@ -12,16 +12,16 @@ use crate::compiled::of_compiled;
 use crate::options::ValidationOptions;
 use crate::options::root::root_key;
 use crate::validator::Validator;
-use schema_compiler::compiler::check::validate_schema;
+use schema_check::check::validate_schema;
 use schema_compiler::compiler::compile;
-use schema_compiler::compiler::error::BuildError;
-use schema_compiler::compiler::key::SchemaKey;
-use schema_node::context::keyword::Validate;
-use schema_node::context::matcher::Matcher;
-use schema_node::context::meta::MetaValidators;
-use schema_node::context::resolver::Resolver;
-use schema_node::context::table::KeywordTable;
-use schema_node::node::SchemaNode;
+use schema_keys::error::BuildError;
+use schema_keys::key::SchemaKey;
+use schema_parts::keyword::Validate;
+use schema_parts::matcher::Matcher;
+use schema_parts::meta::MetaValidators;
+use schema_parts::numbers::SchemaNode;
+use schema_parts::resolver::Resolver;
+use schema_parts::table::KeywordTable;
 use serde_json::Value;
 use std::alloc::Global;
 

@@ -1,19 +1,19 @@
 //! The key of a schema's root.
 ghost use Rattle.std.specs.Prelude.{◌≡◌, Ok, IfOk, IfErr};
 ghost use Rattle.serde_json.specs.View.{view};
-ghost use Rattle.schema_reports.specs.KeywordViews.{draft_of};
-ghost use Rattle.schema_reports.specs.Root.{root_draft, base_of, key_at};
-ghost use Rattle.schema_node.specs.ResolverViews.{place_of};
-ghost use Rattle.schema_compiler.specs.KeyViews.{key_of};
-ghost use Rattle.schema_compiler.specs.Compiling as compiling;
+ghost use Rattle.schema_keywords.specs.KeywordViews.{draft_of};
+ghost use Rattle.schema_meaning.specs.Root.{root_draft, base_of, key_at};
+ghost use Rattle.schema_parts.specs.ResolverViews.{place_of};
+ghost use Rattle.schema_keys.specs.KeyViews.{key_of};
+ghost use Rattle.schema_keys.specs.Compiling as compiling;
 ghost use Rattle.schema_engine.specs.Roots.{IsRootKey, RefusesKey, root_parts};
 
 use crate::options::ValidationOptions;
-use schema_compiler::compiler::error::BuildError;
-use schema_compiler::compiler::key::SchemaKey;
-use schema_node::context::resolver::Resolver;
-use schema_node::context::schema_place::SchemaPlace;
-use schema_reports::keywords::Draft;
+use schema_keys::error::BuildError;
+use schema_keys::key::SchemaKey;
+use schema_keywords::keywords::Draft;
+use schema_parts::resolver::Resolver;
+use schema_parts::schema_place::SchemaPlace;
 use schema_reports::location::{Location, OutOfMemory};
 use serde_json::Value;
 use std::alloc::Global;

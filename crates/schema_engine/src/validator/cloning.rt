@@ -1,11 +1,11 @@
 //! Clones of validators.
 ghost use Rattle.std.specs.Prelude.{◌≡◌, IfOk};
-ghost use Rattle.schema_node.specs.Cloned.{shaped_nodes};
+ghost use Rattle.schema_nodes.specs.Cloned.{shaped_nodes};
 ghost use Rattle.schema_engine.specs.Cloned.{AnswerSame, SaySame};
 
 use crate::validator::Validator;
-use schema_node::context::cloning::CloneKeyword;
-use schema_node::context::matcher::Matcher;
+use schema_parts::cloning::CloneKeyword;
+use schema_parts::matcher::Matcher;
 use schema_reports::location::OutOfMemory;
 use std::alloc::Global;
 

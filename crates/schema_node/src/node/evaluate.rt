@@ -1,24 +1,19 @@
 //! Evaluations of nodes over instances. What a keyword asks for beside units is asked of the runs.
-ghost use Rattle.std.specs.Prelude.{◌≡◌, ◌<◌, [], IfOk, length, map, option_map, string_bytes, true, false};
+ghost use Rattle.std.specs.Prelude.{◌≡◌, ◌<◌, [], IfOk, map, option_map, string_bytes, true, false};
 ghost use Rattle.schema_reports.specs.InstanceViews.{subject_of};
-ghost use Rattle.schema_reports.specs.Keywords.{for_units};
-ghost use Rattle.schema_reports.specs.Laws.{IsPresent, steps_below};
-ghost use Rattle.schema_node.specs.KeywordViews.{below_of, mode_of};
-ghost use Rattle.schema_node.specs.NodeTable.{numbered, shaped_form, shaped_part};
-ghost use Rattle.schema_node.specs.NodeViews.{edge_of, entry_of, form_of};
+ghost use Rattle.schema_definitions.specs.Keywords.{for_units};
+ghost use Rattle.schema_definitions.specs.Laws.{IsPresent, steps_below};
+ghost use Rattle.schema_parts.specs.KeywordViews.{below_of, mode_of};
+ghost use Rattle.schema_nodes.specs.NodeTable.{numbered, shaped_form, shaped_part};
+ghost use Rattle.schema_parts.specs.EdgeViews.{edge_of};
+ghost use Rattle.schema_nodes.specs.NodeViews.{entry_of, form_of};
 ghost use Rattle.schema_node.specs.NodeRuns.{HasForm, HasParts, HasChildren};
-ghost use Rattle.schema_node.specs.Progress.{NoDeeper};
-ghost use Rattle.schema_node.specs.RunStates.{asking, form_at_work, setting, setting_over};
-ghost use Rattle.schema_node.specs.RunStates.{HasBegun, Keeps, RunBorrows, RunMeets, RunRemembers, StaysRight};
+ghost use Rattle.schema_node.specs.RunStates.{asking, form_at_work, setting};
+ghost use Rattle.schema_node.specs.RunStates.{HasBegun, Keeps, RunBorrows, StaysRight};
 ghost use Rattle.schema_node.specs.RunStates.{MeetsChild, MeetsEdge, MeetsForm, MeetsNode, MeetsParts};
-ghost use Rattle.schema_node.specs.UnitStates.{MayAsk, MayEvaluate, RunGives, evaluating};
+ghost use Rattle.schema_node.specs.UnitStates.{MayAsk, MayEvaluate};
 ghost use Rattle.schema_node.specs.UnitStates.{ChildGives, ChildTells, EdgeGives, FindsUnits, FormGives, NodeGives, PartsGive};
 
-use crate::context::keyword::{Answer, Below, Mode, Reply, Step, Validate};
-use crate::context::marks::child_edge;
-use crate::context::matcher::Matcher;
-use crate::context::validation::ValidationContext;
-use crate::node::evaluation_path::EvaluationPath;
 use crate::node::evaluation_place::EvaluationPlace;
 use crate::node::faults::begun;
 use crate::node::matches::asked_match;
@@ -27,12 +22,15 @@ use crate::node::run::{one_below, run_child};
 use crate::node::units::{
     accepting_unit, entries_unit, refusing_unit, unasked_unit, units_of_keyword, units_of_reference,
 };
-use crate::node::{Edge, Entry, EntryForm, NodeForm, Nodes, SchemaNode};
+use schema_contexts::marks::child_edge;
+use schema_contexts::validation::ValidationContext;
+use schema_nodes::node::{Entry, EntryForm, NodeForm};
+use schema_parts::keyword::{Answer, Below, Mode, Reply, Step, Validate};
+use schema_parts::matcher::Matcher;
+use schema_parts::numbers::{Edge, SchemaNode};
 use schema_reports::evaluation::{ChildList, EvaluationNode};
 use schema_reports::evaluation_order::{EntryUnits, UnitsInOrder};
-use schema_reports::instance::{Instance, Place};
-use schema_reports::location::{Location, OutOfMemory};
-use std::alloc::Global;
+use schema_reports::location::OutOfMemory;
 
 // Whether units are wanted.
 fn wants_units(mode: Mode) -> bool
@@ -49,7 +47,7 @@ fn wants_units(mode: Mode) -> bool
 
 // The unit of a node at a place.
 #[cycle(evaluate)]
-fn evaluate_node<'i, K: Validate, M: Matcher>(
+pub(crate) fn evaluate_node<'i, K: Validate, M: Matcher>(
     engine: &Engine<'_, K, M>,
     node: SchemaNode,
     question: &Question<'_, 'i>,
@@ -387,55 +385,4 @@ fn evaluate_edge<'i, K: Validate, M: Matcher>(
     let unit = evaluate_node(engine, edge.node, &asked, context)?;
     context.exit(edge.node, &here);
     Ok(unit)
-}
-
-impl<K: Validate> Nodes<K> {
-    /// Evaluates a node over the instance at a place, with the path that led to it: returns the node's unit, with one child for each
-    /// of its entries in their order. A match that the matcher leaves unfinished comes out as the context assumes it to, or else
-    /// as no, and the context remembers it. The pairs in progress and the marks are as before, except on `Err`. Verdicts that the
-    /// context remembers are forgotten first; each that it remembers afterwards is what the node says at the place with its own
-    /// pair alone in progress there. Fails only if memory cannot be allocated.
-    pub fn evaluate_instance<'i, M: Matcher>(
-        &self,
-        alloc: Global,
-        matcher: &M,
-        node: SchemaNode,
-        instance: Instance<'i>,
-        place: &Place<'i>,
-        path: &Location,
-        context: &mut ValidationContext<'i>,
-    ) -> Result<EvaluationNode, OutOfMemory>
-        requires known { node.0 < length self.now }
-        requires above { NoDeeper place.now context.old.in_progress }
-        ensures kept { IfOk result (λ _. context.new.in_progress ≡ context.old.in_progress) }
-        ensures assumes { IfOk result (λ _. context.new.remembered.assumptions ≡ context.old.remembered.assumptions) }
-        ensures marking { IfOk result (λ _. context.new.marking ≡ context.old.marking) }
-        ensures gives { IfOk result (λ u. RunGives
-            (setting_over K.words K.is_whole K.shape self.now (M.matching matcher.now))
-            (evaluating (subject_of instance.entry) place.now path.now) context.old node.0 u) }
-        ensures meets { IfOk result (λ _. RunMeets
-            (setting_over K.words K.is_whole K.shape self.now (M.matching matcher.now))
-            (evaluating (subject_of instance.entry) place.now path.now) context.old context.new node.0) }
-        ensures right { IfOk result (λ _. RunRemembers
-            (setting_over K.words K.is_whole K.shape self.now (M.matching matcher.now))
-            (evaluating (subject_of instance.entry) place.now path.now) context.new) }
-    {
-        // (the use says that the table is ranked)
-        let _ = &self.nodes;
-        context.forget_verdicts();
-        let place = EvaluationPlace::given(place);
-        let path = EvaluationPath::given(path);
-        let engine = Engine {
-            nodes: self,
-            alloc,
-            matcher,
-        };
-        let question = Question {
-            instance,
-            place: &place,
-            path: &path,
-            mode: Mode::Evaluate,
-        };
-        evaluate_node(&engine, node, &question, context)
-    }
 }

@@ -1,21 +1,21 @@
 //! A match that a keyword asks for.
 ghost use Rattle.std.specs.Prelude.{◌≡◌, IfOk, OnOk, string_bytes};
 ghost use Rattle.schema_reports.specs.InstanceViews.{subject_of};
-ghost use Rattle.schema_reports.specs.Laws.{IsPresent};
-ghost use Rattle.schema_reports.specs.Runs.{site_at};
-ghost use Rattle.schema_node.specs.KeywordViews.{point_of};
-ghost use Rattle.schema_node.specs.Matches.{after_match, comes_out};
+ghost use Rattle.schema_definitions.specs.Laws.{IsPresent};
+ghost use Rattle.schema_definitions.specs.Runs.{site_at};
+ghost use Rattle.schema_parts.specs.KeywordViews.{point_of};
+ghost use Rattle.schema_contexts.specs.Matches.{after_match, comes_out};
 ghost use Rattle.schema_node.specs.RunStates.{asking, where_asked};
-ghost use Rattle.schema_node.specs.NodeViews.{node_of};
+ghost use Rattle.schema_nodes.specs.NodeViews.{node_of};
 
-use crate::context::keyword::MatchPoint;
-use crate::context::matcher::Matcher;
-use crate::context::validation::ValidationContext;
-use crate::node::Node;
 use crate::node::question::{Engine, Question};
 use crate::node::sites::match_site;
+use schema_contexts::validation::ValidationContext;
+use schema_matches::site::Match;
+use schema_nodes::node::Node;
+use schema_parts::keyword::MatchPoint;
+use schema_parts::matcher::Matcher;
 use schema_reports::location::OutOfMemory;
-use schema_reports::unfinished_matches::Match;
 
 /// How a match that a keyword of the node asks for comes out. Its site is made only where the matcher leaves it unfinished.
 /// Its room on the stack is its own, so that a turn that asks for none pays nothing.

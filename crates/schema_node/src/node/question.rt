@@ -1,9 +1,10 @@
 //! What a run is made with, and what it is asked.
 
-use crate::context::keyword::Mode;
-use crate::node::evaluation_path::EvaluationPath;
 use crate::node::evaluation_place::EvaluationPlace;
-use crate::node::{Edge, Nodes};
+use schema_contexts::evaluation_path::EvaluationPath;
+use schema_nodes::node::Nodes;
+use schema_parts::keyword::Mode;
+use schema_parts::numbers::Edge;
 use schema_reports::instance::Instance;
 use std::alloc::Global;
 

@@ -1,16 +1,16 @@
 //! Verdicts of guarded nodes that a run remembers, and those that it comes to remember.
 ghost use Rattle.std.specs.Prelude.{◌≡◌, ◌≤◌, Bool, IfOk, OnOk};
 ghost use Rattle.schema_reports.specs.InstanceViews.{subject_of};
-ghost use Rattle.schema_reports.specs.Keywords.{for_verdict};
-ghost use Rattle.schema_node.specs.KeywordViews.{mode_of, reply_of};
+ghost use Rattle.schema_definitions.specs.Keywords.{for_verdict};
+ghost use Rattle.schema_parts.specs.KeywordViews.{mode_of, reply_of};
 ghost use Rattle.schema_node.specs.NodeRuns.{accepts, SaysTheSame};
-ghost use Rattle.schema_node.specs.Verdicts.{MayKeep, Remembers, read_in_mode, visited_in_mode};
+ghost use Rattle.schema_contexts.specs.Verdicts.{MayKeep, Remembers, read_in_mode, visited_in_mode};
 
-use crate::context::keyword::{Mode, Reply};
-use crate::context::validation::ValidationContext;
-use crate::node::SchemaNode;
 use crate::node::question::Question;
 use crate::node::replies::is_yes;
+use schema_contexts::validation::ValidationContext;
+use schema_parts::keyword::{Mode, Reply};
+use schema_parts::numbers::SchemaNode;
 use schema_reports::instance::Place;
 use schema_reports::location::OutOfMemory;
 

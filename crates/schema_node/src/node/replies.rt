@@ -1,26 +1,26 @@
 //! Replies of runs, by the mode.
 ghost use Rattle.std.specs.Prelude.{◌≡◌, IfOk, Bool, true, false, All, [], Some};
 ghost use Rattle.serde_json.specs.Data.{Data};
-ghost use Rattle.schema_reports.specs.Reports.{accepted};
-ghost use Rattle.schema_reports.specs.Meaning.{both};
+ghost use Rattle.schema_definitions.specs.Reports.{accepted};
+ghost use Rattle.schema_definitions.specs.Meaning.{both};
 ghost use Rattle.schema_reports.specs.InstanceTexts.{subject_has_float};
 ghost use Rattle.schema_reports.specs.InstanceViews.{subject_of};
 ghost use Rattle.schema_reports.specs.ReportViews.{error_of, BorrowsItsPlace};
-ghost use Rattle.schema_reports.specs.Meaning.{stamped, false_outcome, false_error};
+ghost use Rattle.schema_definitions.specs.Meaning.{stamped, false_outcome, false_error};
 ghost use Rattle.std.specs.Prelude.{string_bytes, option_map, map};
-ghost use Rattle.schema_node.specs.KeywordViews.{mode_of, reply_of};
-ghost use Rattle.schema_node.specs.declared.context.keyword.Reply.TheVariants as variant;
-ghost use Rattle.schema_node.specs.NodeTable.{keyword_absolute};
-ghost use Rattle.schema_node.specs.NodeViews.{node_of};
-ghost use Rattle.schema_node.specs.FaultViews.{errors_in};
+ghost use Rattle.schema_parts.specs.KeywordViews.{mode_of, reply_of};
+ghost use Rattle.schema_parts.specs.declared.keyword.Reply.TheVariants as variant;
+ghost use Rattle.schema_nodes.specs.NodeTable.{keyword_absolute};
+ghost use Rattle.schema_nodes.specs.NodeViews.{node_of};
+ghost use Rattle.schema_parts.specs.FaultViews.{errors_in};
 ghost use Rattle.schema_node.specs.EvaluationPlaces.{steps_to};
 ghost use Rattle.schema_node.specs.RunStates.{IsAskedOf, asking, where_asked};
 ghost use Rattle.schema_node.specs.NodeRuns.{reply_by, refuses, accepts, Joins, Stamps};
 
-use crate::context::keyword::{Mode, Reply};
-use crate::node::Node;
-use crate::node::absolute::absolute_location;
 use crate::node::question::Question;
+use schema_nodes::node::Node;
+use schema_nodes::node::absolute::absolute_location;
+use schema_parts::keyword::{Mode, Reply};
 use schema_reports::location::{Location, LocationSegment, OutOfMemory};
 use schema_reports::reports::ValidationError;
 use std::alloc::Global;

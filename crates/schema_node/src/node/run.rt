@@ -1,28 +1,22 @@
 //! Runs of nodes over instances.
-ghost use Rattle.std.specs.Prelude.{◌≡◌, ◌<◌, ◌≤◌, [], Bool, IfOk, true, false, Some, MatchOption};
-ghost use Rattle.std.specs.Prelude.{length, map, option_map, string_bytes};
-ghost use Rattle.schema_reports.specs.Instance.{after_step};
+ghost use Rattle.std.specs.Prelude.{◌≡◌, ◌<◌, ◌≤◌, [], IfOk, true, false, Some, MatchOption};
+ghost use Rattle.std.specs.Prelude.{map, option_map, string_bytes};
+ghost use Rattle.schema_definitions.specs.Instance.{after_step};
 ghost use Rattle.schema_reports.specs.InstanceViews.{subject_of, step_of};
-ghost use Rattle.schema_reports.specs.Keywords.{down, here, for_units, for_verdict};
-ghost use Rattle.schema_reports.specs.Laws.{IsPresent, steps_below};
-ghost use Rattle.schema_node.specs.FaultViews.{faults_in};
-ghost use Rattle.schema_node.specs.KeywordViews.{below_of, mode_of};
-ghost use Rattle.schema_node.specs.NodeTable.{numbered, shaped_form, shaped_part};
-ghost use Rattle.schema_node.specs.NodeViews.{edge_of, entry_of, form_of};
+ghost use Rattle.schema_definitions.specs.Keywords.{down, here, for_units, for_verdict};
+ghost use Rattle.schema_definitions.specs.Laws.{IsPresent, steps_below};
+ghost use Rattle.schema_parts.specs.FaultViews.{faults_in};
+ghost use Rattle.schema_parts.specs.KeywordViews.{below_of, mode_of};
+ghost use Rattle.schema_nodes.specs.NodeTable.{numbered, shaped_form, shaped_part};
+ghost use Rattle.schema_parts.specs.EdgeViews.{edge_of};
+ghost use Rattle.schema_nodes.specs.NodeViews.{entry_of, form_of};
 ghost use Rattle.schema_node.specs.NodeRuns.{HasForm, HasParts, HasChildren};
-ghost use Rattle.schema_node.specs.Progress.{NoDeeper};
-ghost use Rattle.schema_node.specs.RunStates.{asking, asking_first, form_at_work, setting, setting_over};
+ghost use Rattle.schema_node.specs.RunStates.{asking, form_at_work, setting};
 ghost use Rattle.schema_node.specs.RunStates.{FindsRightly, HasBegun, Keeps, MayRun, PassesItsOwn};
 ghost use Rattle.schema_node.specs.RunStates.{ChildSays, EdgeSays, FormSays, NodeSays, PartsSay};
 ghost use Rattle.schema_node.specs.RunStates.{MeetsChild, MeetsEdge, MeetsEntry, MeetsForm, MeetsNode, MeetsParts};
-ghost use Rattle.schema_node.specs.RunStates.{RunBorrows, RunMeets, RunReplies, RunSpeaks};
-ghost use Rattle.schema_node.specs.RunStates.{EdgeRemembers, FormRemembers, GoesOn, NodeRemembers, PartsRemember, RunRemembers, StaysRight};
+ghost use Rattle.schema_node.specs.RunStates.{EdgeRemembers, FormRemembers, NodeRemembers, PartsRemember, StaysRight};
 
-use crate::context::keyword::{Answer, Below, Mode, Reply, Step, Validate};
-use crate::context::marks::child_edge;
-use crate::context::matcher::Matcher;
-use crate::context::validation::ValidationContext;
-use crate::node::evaluation_path::EvaluationPath;
 use crate::node::evaluation_place::EvaluationPlace;
 use crate::node::faults::{begun, finished};
 use crate::node::matches::asked_match;
@@ -30,10 +24,14 @@ use crate::node::question::{Engine, NamedKeyword, Question};
 use crate::node::remembered::{begin_visit, kept_reply, remembered_verdict};
 use crate::node::replies::{accepted, is_settled, is_yes, joined, refused, stamped_reply};
 use crate::node::spots::after;
-use crate::node::{Edge, Entry, EntryForm, NodeForm, Nodes, SchemaNode};
-use schema_reports::instance::{Instance, InstanceStep, Place};
-use schema_reports::location::{Location, OutOfMemory};
-use std::alloc::Global;
+use schema_contexts::marks::child_edge;
+use schema_contexts::validation::ValidationContext;
+use schema_nodes::node::{Entry, EntryForm, NodeForm};
+use schema_parts::keyword::{Answer, Below, Mode, Reply, Step, Validate};
+use schema_parts::matcher::Matcher;
+use schema_parts::numbers::{Edge, SchemaNode};
+use schema_reports::instance::{Instance, InstanceStep};
+use schema_reports::location::OutOfMemory;
 
 // What stands one step below, and the step; none where the question is asked here.
 pub(crate) fn one_below<'i>(
@@ -75,7 +73,7 @@ fn asks_verdict_first<K>(entry: &Entry<K>, mode: Mode) -> bool
 
 // The reply of a node at a place.
 #[cycle(run)]
-fn run_node<'i, K: Validate, M: Matcher>(
+pub(crate) fn run_node<'i, K: Validate, M: Matcher>(
     engine: &Engine<'_, K, M>,
     node: SchemaNode,
     question: &Question<'_, 'i>,
@@ -461,104 +459,4 @@ fn run_edge<'i, K: Validate, M: Matcher>(
     let reply = kept_reply(context, edge.node, &here, &asked, computed, mark)?;
     context.exit(edge.node, &here);
     Ok(reply)
-}
-
-/// What a run begins with: the instance at a place, the path that led there, and what is wanted.
-#[derive(Clone, Copy)]
-pub struct FirstQuestion<'q, 'i> {
-    pub instance: Instance<'i>,
-    pub place: &'q Place<'i>,
-    pub path: &'q Location,
-    pub mode: Mode,
-}
-
-impl<K: Validate> Nodes<K> {
-    /// Runs a node over the instance at a place, for its verdict, its first error or all errors, with the path that led to
-    /// it. The reply is of the mode. A match that the matcher leaves unfinished comes out as the context assumes it to, or
-    /// else as no, and the context remembers it. The pairs in progress and the marks are as before, except on `Err`. Each error
-    /// borrows the instance at its place. Verdicts that the context remembers are forgotten first; each that it remembers after the
-    /// run is what the node says at the place with its own pair alone in progress there.
-    pub fn run<'i, M: Matcher>(
-        &self,
-        alloc: Global,
-        matcher: &M,
-        node: SchemaNode,
-        question: &FirstQuestion<'_, 'i>,
-        context: &mut ValidationContext<'i>,
-    ) -> Result<Reply<'i>, OutOfMemory>
-        requires known { node.0 < length self.now }
-        requires above { NoDeeper question.now.place.now context.old.in_progress }
-        requires wanted { ¬ (mode_of question.now.mode ≡ for_units) }
-        ensures kept { IfOk result (λ _. context.new.in_progress ≡ context.old.in_progress) }
-        ensures assumes { IfOk result (λ _. context.new.remembered.assumptions ≡ context.old.remembered.assumptions) }
-        ensures marking { IfOk result (λ _. context.new.marking ≡ context.old.marking) }
-        ensures replies { IfOk result (λ r. RunReplies
-            (setting_over K.words K.is_whole K.shape self.now (M.matching matcher.now)) (asking_first question.now)
-            context.old node.0 r) }
-        ensures meets { IfOk result (λ _. RunMeets
-            (setting_over K.words K.is_whole K.shape self.now (M.matching matcher.now)) (asking_first question.now)
-            context.old context.new node.0) }
-        ensures speaks { IfOk result (λ r. RunSpeaks (asking_first question.now) r) }
-        ensures borrows { IfOk result (λ r. RunBorrows (asking_first question.now) r) }
-        ensures right { IfOk result (λ _. RunRemembers
-            (setting_over K.words K.is_whole K.shape self.now (M.matching matcher.now)) (asking_first question.now)
-            context.new) }
-    {
-        context.forget_verdicts();
-        self.run_further(alloc, matcher, node, question, context)
-    }
-
-    /// Runs a node as a part of a run that has begun: as `run` does, but verdicts that the run remembers are read, and stay
-    /// remembered. For the verdict a node whose one entry is a guarded reference, its target's pair not in progress, gives the
-    /// verdict that `get_cached_result` reads, where it reads one, and leaves the context as it was; else the visit is counted,
-    /// and the verdict is remembered where it took enough visits, on an array or an object, with no other node in progress at
-    /// the place. Visits never become fewer.
-    pub fn run_further<'i, M: Matcher>(
-        &self,
-        alloc: Global,
-        matcher: &M,
-        node: SchemaNode,
-        question: &FirstQuestion<'_, 'i>,
-        context: &mut ValidationContext<'i>,
-    ) -> Result<Reply<'i>, OutOfMemory>
-        requires known { node.0 < length self.now }
-        requires above { NoDeeper question.now.place.now context.old.in_progress }
-        requires wanted { ¬ (mode_of question.now.mode ≡ for_units) }
-        requires goes_on { GoesOn (setting_over K.words K.is_whole K.shape self.now (M.matching matcher.now))
-            (asking_first question.now) context.old }
-        ensures kept { IfOk result (λ _. context.new.in_progress ≡ context.old.in_progress) }
-        ensures assumes { IfOk result (λ _. context.new.remembered.assumptions ≡ context.old.remembered.assumptions) }
-        ensures marking { IfOk result (λ _. context.new.marking ≡ context.old.marking) }
-        ensures counts { IfOk result (λ _. context.old.visits ≤ context.new.visits) }
-        ensures replies { IfOk result (λ r. RunReplies
-            (setting_over K.words K.is_whole K.shape self.now (M.matching matcher.now)) (asking_first question.now)
-            context.old node.0 r) }
-        ensures meets { IfOk result (λ _. RunMeets
-            (setting_over K.words K.is_whole K.shape self.now (M.matching matcher.now)) (asking_first question.now)
-            context.old context.new node.0) }
-        ensures speaks { IfOk result (λ r. RunSpeaks (asking_first question.now) r) }
-        ensures borrows { IfOk result (λ r. RunBorrows (asking_first question.now) r) }
-        ensures stays { IfOk result (λ _. StaysRight
-            (setting_over K.words K.is_whole K.shape self.now (M.matching matcher.now)) (asking_first question.now)
-            context.old context.new) }
-        ensures remembers { IfOk result (λ r. NodeRemembers (asking_first question.now) context.old context.new
-            (numbered K.shape self.now) node.0 r) }
-    {
-        // (the use says that the table is ranked)
-        let _ = &self.nodes;
-        let place = EvaluationPlace::given(question.place);
-        let path = EvaluationPath::given(question.path);
-        let engine = Engine {
-            nodes: self,
-            alloc,
-            matcher,
-        };
-        let asked = Question {
-            instance: question.instance,
-            place: &place,
-            path: &path,
-            mode: question.mode,
-        };
-        run_node(&engine, node, &asked, context)
-    }
 }

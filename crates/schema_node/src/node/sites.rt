@@ -1,19 +1,20 @@
 //! Where a match is asked for.
 ghost use Rattle.std.specs.Prelude.{◌≡◌, IfOk, None, map, option_map, string_bytes};
 ghost use Rattle.schema_reports.specs.InstanceViews.{step_of, subject_of};
-ghost use Rattle.schema_reports.specs.Laws.{IsPresent};
-ghost use Rattle.schema_reports.specs.Runs.{site_at};
-ghost use Rattle.schema_node.specs.KeywordViews.{point_of, spot_of};
+ghost use Rattle.schema_definitions.specs.Laws.{IsPresent};
+ghost use Rattle.schema_definitions.specs.Runs.{site_at};
+ghost use Rattle.schema_parts.specs.KeywordViews.{point_of, spot_of};
 ghost use Rattle.schema_node.specs.RunStates.{asking, where_asked};
-ghost use Rattle.schema_node.specs.NodeViews.{node_of};
+ghost use Rattle.schema_nodes.specs.NodeViews.{node_of};
 
-use crate::context::keyword::{MatchPoint, Spot};
-use crate::node::Node;
 use crate::node::question::Question;
-use crate::node::spots::{own_steps, path_from, place_below};
+use crate::node::spots::{own_steps, place_below};
+use schema_contexts::evaluation_path::path_from;
+use schema_matches::site::MatchSite;
+use schema_nodes::node::Node;
+use schema_parts::keyword::{MatchPoint, Spot};
 use schema_reports::instance::InstanceStep;
 use schema_reports::location::OutOfMemory;
-use schema_reports::unfinished_matches::MatchSite;
 use std::alloc::Global;
 
 // The site at a path from a keyword of this name on and steps below its place, without a pattern.

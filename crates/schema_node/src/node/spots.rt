@@ -1,14 +1,13 @@
 //! Where an error of a keyword, or a match that it asks for, stands: steps below the keyword's place, and a path from it on.
 ghost use Rattle.std.specs.Prelude.{◌≡◌, ◌++◌, IfOk, IfSome, Some, is_some, map, option_map, true};
-ghost use Rattle.schema_reports.specs.Instance.{after_step};
+ghost use Rattle.schema_definitions.specs.Instance.{after_step};
 ghost use Rattle.schema_reports.specs.InstanceViews.{step_of, subject_of};
-ghost use Rattle.schema_reports.specs.Laws.{IsPresent};
-ghost use Rattle.schema_reports.specs.Pointer.{joined};
+ghost use Rattle.schema_definitions.specs.Laws.{IsPresent};
 ghost use Rattle.schema_node.specs.EvaluationPlaces.{steps_to};
 
 use crate::node::evaluation_place::EvaluationPlace;
 use schema_reports::instance::{Instance, InstanceStep, Place};
-use schema_reports::location::{Location, LocationSegment, OutOfMemory};
+use schema_reports::location::OutOfMemory;
 use std::alloc::Global;
 
 /// What a step leads to, and the step by the instance's own name; none where it leads nowhere.
@@ -69,21 +68,4 @@ pub fn place_below<'i>(
         lower = lower.below(*step)?;
     }
     Ok(lower)
-}
-
-/// The path from a keyword of this name on.
-pub fn path_from(
-    alloc: Global,
-    location: &Location,
-    name: &str,
-    rest: &str,
-) -> Result<Location, OutOfMemory>
-    ensures path { IfOk result (λ l. l ≡ joined location.now name.now ++ rest.now) }
-{
-    let path = location.join(LocationSegment::Property(name))?;
-    if rest.is_empty() {
-        return Ok(path);
-    }
-    let rest = Location::from_escaped(alloc, rest)?;
-    path.append(&rest)
 }

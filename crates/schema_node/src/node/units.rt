@@ -3,25 +3,25 @@ ghost use Rattle.std.specs.Prelude.{◌≡◌, [], ◌∷◌, Bool, IfOk, map, o
 ghost use Rattle.serde_json.specs.View.{view};
 ghost use Rattle.schema_reports.specs.InstanceTexts.{subject_has_float};
 ghost use Rattle.schema_reports.specs.InstanceViews.{subject_of};
-ghost use Rattle.schema_reports.specs.Meaning.{Where};
-ghost use Rattle.schema_reports.specs.Reports.{report_of};
+ghost use Rattle.schema_definitions.specs.Meaning.{Where};
+ghost use Rattle.schema_definitions.specs.Reports.{report_of};
 ghost use Rattle.schema_reports.specs.EntryUnits.{absorbed_of, entry_units_of};
 ghost use Rattle.schema_reports.specs.EvaluationResults.{gives_of, named_of};
-ghost use Rattle.schema_reports.specs.Units.{false_unit, given_units, keyword_unit, no_unit, reference_units, schema_unit, true_unit};
+ghost use Rattle.schema_definitions.specs.Units.{false_unit, given_units, keyword_unit, no_unit, reference_units, schema_unit, true_unit};
 ghost use Rattle.schema_reports.specs.UnitViews.{described_of, unit_of};
 ghost use Rattle.std.specs.List.{list_all};
-ghost use Rattle.schema_node.specs.EvaluationPaths.{path_of};
-ghost use Rattle.schema_node.specs.KeywordViews.{answer_of};
-ghost use Rattle.schema_node.specs.NodeViews.{node_of};
+ghost use Rattle.schema_contexts.specs.EvaluationPaths.{path_of};
+ghost use Rattle.schema_parts.specs.KeywordViews.{answer_of};
+ghost use Rattle.schema_nodes.specs.NodeViews.{node_of};
 ghost use Rattle.schema_node.specs.NodeUnits.{named_gives};
 ghost use Rattle.schema_node.specs.RunStates.{asking, where_asked};
 
-use crate::context::keyword::Answer;
-use crate::context::validation::ValidationContext;
-use crate::node::Node;
-use crate::node::absolute::absolute_location;
 use crate::node::question::Question;
 use crate::node::replies::false_error;
+use schema_contexts::validation::ValidationContext;
+use schema_nodes::node::Node;
+use schema_nodes::node::absolute::absolute_location;
+use schema_parts::keyword::Answer;
 use schema_reports::evaluation::{
     Annotations, ChildList, ErrorDescription, EvaluationNode, UnitReport,
 };

@@ -1,5 +1,5 @@
 use Rattle.std.proofs.Common.{◌≡◌, ◌∙◌, sym, subst}
-use Rattle.schema_node.specs.KeywordViews.{answer_of, reply_of, turn_of}
+use Rattle.schema_parts.specs.KeywordViews.{answer_of, reply_of, turn_of}
 use Rattle.keyword_ways.specs.Items.{first_at_item, each_from}
 use Rattle.keyword_ways.specs.Ways.{passes_on, way_step, way_turn}
 use Rattle.bench_keywords.proofs.each.turn_items.Goals as goal

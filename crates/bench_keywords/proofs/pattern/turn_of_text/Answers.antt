@@ -1,7 +1,7 @@
 use Rattle.std.proofs.Common.{ap, codes, sym, ◌∙◌}
 use Rattle.schema_reports.specs.InstanceViews.{subject_of}
 use Rattle.schema_reports.specs.ReportViews.{spoken}
-use Rattle.schema_node.specs.KeywordViews.{answer_of}
+use Rattle.schema_parts.specs.KeywordViews.{answer_of}
 use Rattle.bench_keywords.specs.Words.{pattern_text}
 use Rattle.bench_keywords.proofs.pattern.turn_of_text.Goals as goal
 

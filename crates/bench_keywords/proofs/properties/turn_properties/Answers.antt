@@ -1,8 +1,8 @@
 use Rattle.std.proofs.Common.{◌≤◌, [], List, Option, map, length, string_bytes, arith}
 use Rattle.std.proofs.lemmas.List.{length-map}
 use Rattle.schema_reports.specs.InstanceViews.{subject_of}
-use Rattle.schema_reports.specs.Keywords.{Question}
-use Rattle.schema_node.specs.KeywordViews.{answer_of}
+use Rattle.schema_definitions.specs.Keywords.{Question}
+use Rattle.schema_parts.specs.KeywordViews.{answer_of}
 use Rattle.keyword_ways.specs.Members.{members_from}
 use Rattle.keyword_ways.proofs.NextQuestions.{length-members, some_stepped, some_turned}
 use Rattle.bench_keywords.proofs.properties.turn_properties.Goals as goal

@@ -1,10 +1,10 @@
 use Rattle.std.proofs.Common.{true, false, ◌+◌, ◌∙◌, ◌≡◌, ◌<◌, ◌∷◌, ap, codes, drop, length, map, rules, string_bytes, sym}
 use Rattle.std.specs.List.{list_any}
-use Rattle.schema_node.specs.declared.context.keyword.Mode.TheVariants as mode
+use Rattle.schema_parts.specs.declared.keyword.Mode.TheVariants as mode
 use Rattle.schema_reports.specs.InstanceViews.{subject_of}
 use Rattle.schema_reports.specs.ReportViews.{spoken}
-use Rattle.schema_node.specs.KeywordViews.{answer_of}
-use Rattle.schema_node.proofs.NodeParts.{drop_at}
+use Rattle.schema_parts.specs.KeywordViews.{answer_of}
+use Rattle.schema_parts.proofs.Drops.{drop_at}
 use Rattle.keyword_ways.specs.Ways.{noted}
 use Rattle.bench_keywords.specs.Words.{missing, required_text}
 use Rattle.bench_keywords.proofs.MissingNames.{lacks_it, lacks_none, lacks_some, missing_later, told_missing}

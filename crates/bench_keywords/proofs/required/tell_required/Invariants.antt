@@ -1,9 +1,9 @@
 use Rattle.std.proofs.Common.{◌≡◌, Bool, map, drop, string_bytes, codes, All}
 use Rattle.serde_json.specs.Data.{Data}
-use Rattle.schema_node.specs.FaultViews.{faults_in, PassesBorrowed}
+use Rattle.schema_parts.specs.FaultViews.{faults_in, PassesBorrowed}
 use Rattle.schema_reports.specs.InstanceViews.{subject_of}
 use Rattle.schema_reports.specs.ReportViews.{spoken}
-use Rattle.schema_node.specs.KeywordViews.{answer_of}
+use Rattle.schema_parts.specs.KeywordViews.{answer_of}
 use Rattle.keyword_ways.specs.Ways.{noted}
 use Rattle.bench_keywords.specs.Words.{missing, required_text}
 use Rattle.bench_keywords.proofs.required.tell_required.Given as goal

@@ -4,7 +4,7 @@ use Rattle.std.specs.Map.{keys_of}
 use Rattle.serde_json.specs.View.{items_view, members_view, view}
 use Rattle.serde_json.specs.declared.value.Value.{Value}
 use Rattle.serde_json.proofs.Views.{Entry}
-use Rattle.schema_reports.specs.Instance.{Text, member_of, to_member}
+use Rattle.schema_definitions.specs.Instance.{Text, member_of, to_member}
 use Rattle.bench_parts.proofs.BelowPlaces.{below_list, below_object, item_there, member_there}
 use Rattle.bench_parts.proofs.meta.+walk.Goals as goal
 

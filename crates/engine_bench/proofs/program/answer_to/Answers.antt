@@ -1,5 +1,5 @@
 use Rattle.std.proofs.Common.{List, ap, inl, inr, map, string_bytes, subst}
-use Rattle.schema_reports.specs.Instance.{Text}
+use Rattle.schema_definitions.specs.Instance.{Text}
 use Rattle.std.proofs.lemmas.Result.{err_from_is_err_and}
 use Rattle.serde_json.specs.View.{view}
 use Rattle.schema_engine.specs.Handed.{default_nested, default_options, parts_of}

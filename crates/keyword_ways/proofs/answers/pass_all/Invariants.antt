@@ -1,8 +1,8 @@
 use Rattle.std.proofs.Common.{◌≡◌, ◌++◌, Bool, map}
 use Rattle.schema_reports.specs.ReportViews.{error_of}
-use Rattle.schema_reports.specs.Keywords.{passed}
-use Rattle.schema_node.specs.KeywordViews.{fault_of}
-use Rattle.schema_node.specs.declared.context.keyword.Fault.TheVariants.{Passed}
+use Rattle.schema_definitions.specs.Keywords.{passed}
+use Rattle.schema_parts.specs.KeywordViews.{fault_of}
+use Rattle.schema_parts.specs.declared.keyword.Fault.TheVariants.{Passed}
 use Rattle.keyword_ways.proofs.answers.pass_all.Given as goal
 
 abbrev pub invariant-loop-error : goal.invariant-loop-error

@@ -1,5 +1,5 @@
 use Rattle.std.proofs.Common.{All, subst, sym}
-use Rattle.schema_node.specs.FaultViews.{PassesBorrowed, faults_in}
+use Rattle.schema_parts.specs.FaultViews.{PassesBorrowed, faults_in}
 use Rattle.keyword_ways.proofs.BorrowedFaults.{kept_borrowed}
 use Rattle.keyword_ways.proofs.answers.with_own_first.Goals as goal
 

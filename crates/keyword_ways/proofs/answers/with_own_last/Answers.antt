@@ -1,5 +1,5 @@
 use Rattle.std.proofs.Common.{All, subst, sym}
-use Rattle.schema_node.specs.FaultViews.{PassesBorrowed}
+use Rattle.schema_parts.specs.FaultViews.{PassesBorrowed}
 use Rattle.keyword_ways.proofs.BorrowedFaults.{pushed_borrowed}
 use Rattle.keyword_ways.proofs.answers.with_own_last.Goals as goal
 

@@ -1,7 +1,7 @@
 use Rattle.std.proofs.Common.{All, [], subst, sym}
 use Rattle.schema_reports.specs.ReportViews.{BorrowsItsPlace}
-use Rattle.schema_node.specs.FaultViews.{PassesBorrowed, faults_in}
-use Rattle.schema_node.proofs.Replies.{all_first}
+use Rattle.schema_parts.specs.FaultViews.{PassesBorrowed, faults_in}
+use Rattle.schema_parts.proofs.Replies.{all_first}
 use Rattle.keyword_ways.proofs.BorrowedFaults.{kept_borrowed, passed_borrowed}
 use Rattle.keyword_ways.proofs.answers.with_reply.Goals as goal
 

@@ -1,6 +1,6 @@
 use Rattle.std.proofs.Common.{◌∙◌, sym, ap, is_some}
 use Rattle.serde_json.specs.View.{view}
-use Rattle.schema_reports.specs.Instance.{after_step, to_member}
+use Rattle.schema_definitions.specs.Instance.{after_step, to_member}
 use Rattle.schema_reports.specs.InstanceViews.{subject_of}
 use Rattle.keyword_ways.proofs.MemberNames.{has_member-get, is_some-map}
 use Rattle.keyword_ways.proofs.members.has_member.Goals as goal

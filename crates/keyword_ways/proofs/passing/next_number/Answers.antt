@@ -1,5 +1,5 @@
 use Rattle.std.proofs.Common.{ap, sym}
-use Rattle.schema_node.specs.KeywordViews.{answer_of, reply_of}
+use Rattle.schema_parts.specs.KeywordViews.{answer_of, reply_of}
 use Rattle.keyword_ways.specs.Items.{each_from}
 use Rattle.keyword_ways.specs.Ways.{asked}
 use Rattle.keyword_ways.proofs.EachQuestion.{length_each}

@@ -1,5 +1,5 @@
 use Rattle.std.proofs.Common.{sym, subst, arith, None}
-use Rattle.schema_node.specs.KeywordViews.{reply_of}
+use Rattle.schema_parts.specs.KeywordViews.{reply_of}
 use Rattle.keyword_ways.specs.Asking.{IsNext, IsNextFrom}
 use Rattle.keyword_ways.proofs.NextQuestions.{ended_at_limit, some_ended_at_limit}
 use Rattle.keyword_ways.proofs.passing.onward.Goals as goal

@@ -1,6 +1,6 @@
 use Rattle.std.specs.Prelude.{[]}
 use Rattle.std.proofs.lemmas.List.Elements.{All-cons, All-nil}
-use Rattle.schema_node.specs.FaultViews.{PassesBorrowed}
+use Rattle.schema_parts.specs.FaultViews.{PassesBorrowed}
 use Rattle.law_tests.proofs.refusals.refused.Goals as goal
 
 pub returns-in_ok-new-in-First-clause-borrows : goal.returns-in_ok-new-in-First-clause-borrows

@@ -1,8 +1,8 @@
 use Rattle.std.proofs.Common.{map}
 use Rattle.std.specs.Prelude.{string_bytes}
 use Rattle.std.proofs.lemmas.Result.{err_from_is_err_and}
-use Rattle.schema_compiler.specs.KeyViews.{key_of}
-use Rattle.schema_compiler.specs.Builtins.{builtin}
+use Rattle.schema_keys.specs.KeyViews.{key_of}
+use Rattle.schema_keys.specs.Builtins.{builtin}
 use Rattle.schema_compiler.proofs.Compiled.{vocabulary_refuses}
 use Rattle.schema_compiler.proofs.compiler.check_vocabularies.Goals as goal
 

@@ -1,8 +1,8 @@
 use Rattle.std.proofs.Common.{map}
 use Rattle.std.specs.Prelude.{string_bytes}
 use Rattle.std.proofs.lemmas.Result.{err_from_is_err_and}
-use Rattle.schema_compiler.specs.KeyViews.{key_of}
-use Rattle.schema_compiler.specs.Builtins.{builtin}
+use Rattle.schema_keys.specs.KeyViews.{key_of}
+use Rattle.schema_keys.specs.Builtins.{builtin}
 use Rattle.schema_compiler.specs.Compilation.{all_parts}
 use Rattle.schema_compiler.proofs.Compiled.{compilation_of, refuses_root, vocabularies_refuse}
 use Rattle.schema_compiler.proofs.compiler.compile.Goals as goal

@@ -1,8 +1,8 @@
 use Rattle.std.proofs.Common.{map, ap, ◌∙◌}
 use Rattle.std.specs.Prelude.{string_bytes}
 use Rattle.std.proofs.lemmas.Result.{err_from_is_err_and}
-use Rattle.schema_compiler.specs.KeyViews.{key_of}
-use Rattle.schema_compiler.specs.Builtins.{builtin}
+use Rattle.schema_keys.specs.KeyViews.{key_of}
+use Rattle.schema_keys.specs.Builtins.{builtin}
 use Rattle.schema_compiler.specs.Carried.{filled}
 use Rattle.schema_compiler.specs.declared.compiler.compiled.Progress.{Progress}
 use Rattle.schema_compiler.proofs.Compiled.{compiled, refuses_alone}

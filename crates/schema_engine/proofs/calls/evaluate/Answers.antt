@@ -1,6 +1,6 @@
 use Rattle.std.proofs.lemmas.Result.{err_from_is_err_and}
 use Rattle.serde_json.specs.View.{view}
-use Rattle.schema_reports.specs.KeywordTable.{builtin_in}
+use Rattle.schema_keywords.specs.KeywordTable.{builtin_in}
 use Rattle.schema_engine.specs.Evaluated.{EvaluationAnswered, UnitsAnswered}
 use Rattle.schema_engine.specs.Handed.{default_options, table_of}
 use Rattle.schema_engine.proofs.PlainAnswers.{plainly_from, plainly_with_units}

@@ -1,8 +1,8 @@
 use Rattle.std.proofs.lemmas.Result.{err_from_is_err_and}
 use Rattle.serde_json.specs.View.{view}
-use Rattle.schema_reports.specs.KeywordTable.{builtin_in}
-use Rattle.schema_reports.specs.Cover.{is_valid}
-use Rattle.schema_reports.specs.Headline.{VerdictSays}
+use Rattle.schema_keywords.specs.KeywordTable.{builtin_in}
+use Rattle.schema_definitions.specs.Cover.{is_valid}
+use Rattle.schema_meaning.specs.Headline.{VerdictSays}
 use Rattle.schema_engine.specs.Handed.{default_options, table_of}
 use Rattle.schema_engine.proofs.PlainAnswers.{plainly_from}
 use Rattle.schema_engine.proofs.calls.is_valid.Goals as goal

@@ -1,11 +1,11 @@
 use Rattle.std.proofs.Common.{sym, ◌∙◌, ap, subst, length}
-use Rattle.schema_reports.specs.Laws.{EachKeeps}
-use Rattle.schema_reports.specs.Headline.{Plainly, PlainlyWithUnits}
-use Rattle.schema_reports.specs.KeywordTable.{builtin_in}
-use Rattle.schema_reports.specs.Means as means
-use Rattle.schema_reports.proofs.TurnsGiveRuns.{keeps_of_turns}
-use Rattle.schema_node.specs.NodeTable.{numbered}
-use Rattle.schema_reports.specs.Fractions.{AreWhole}
+use Rattle.schema_definitions.specs.Laws.{EachKeeps}
+use Rattle.schema_meaning.specs.Headline.{Plainly, PlainlyWithUnits}
+use Rattle.schema_keywords.specs.KeywordTable.{builtin_in}
+use Rattle.schema_meaning.specs.Means as means
+use Rattle.schema_meaning.proofs.TurnsGiveRuns.{keeps_of_turns}
+use Rattle.schema_nodes.specs.NodeTable.{numbered}
+use Rattle.schema_meaning.specs.Fractions.{AreWhole}
 use Rattle.schema_engine.specs.Program.{HaveUnits, Program, Means}
 use Rattle.schema_engine.specs.Handed.{table_of, parts_of}
 use Rattle.schema_engine.proofs.Built.{whole_from, means_from, units_from}

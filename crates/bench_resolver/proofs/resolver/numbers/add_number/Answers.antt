@@ -3,7 +3,7 @@ use Rattle.std.specs.Prelude.{None, Some, bytes_eq, is_some}
 use Rattle.std.specs.HashMap.{get_by_text}
 use Rattle.std.proofs.lemmas.Grind.{common_steps}
 use Rattle.std.proofs.lemmas.Map.Text.{hash_map_updates_text}
-use Rattle.schema_reports.specs.Instance.{Text}
+use Rattle.schema_definitions.specs.Instance.{Text}
 use Rattle.bench_resolver.specs.BenchKeys.{IsNumbered}
 use Rattle.bench_resolver.proofs.Numbers.{numbered_again, numbered_more, numbered_none}
 use Rattle.bench_resolver.proofs.resolver.numbers.add_number.Goals as goal

@@ -2,7 +2,7 @@ use Rattle.std.proofs.Common.{◌&&◌, ◌∙◌, sym, ap}
 use Rattle.std.specs.Prelude.{option_map}
 use Rattle.serde_json.specs.Find.{get}
 use Rattle.serde_json.specs.View.{view}
-use Rattle.schema_node.specs.SchemaViews.{schema_step_of}
+use Rattle.schema_parts.specs.SchemaViews.{schema_step_of}
 use Rattle.bench_resolver.specs.OnWay.{leads_to_member}
 use Rattle.bench_resolver.proofs.OnWay.{holds_of, in_an_object}
 use Rattle.bench_resolver.proofs.resolver.on_way.in_object.Goals as goal

@@ -1,6 +1,6 @@
 use Rattle.std.proofs.Common.{◌∙◌, sym, ap, arith}
 use Rattle.serde_json.specs.View.{view}
-use Rattle.schema_node.specs.SchemaViews.{schema_step_of}
+use Rattle.schema_parts.specs.SchemaViews.{schema_step_of}
 use Rattle.bench_resolver.specs.BenchLookups.{is_subschema}
 use Rattle.bench_resolver.proofs.OnWay.{first_step, first_steps, is_neither, is_pair, is_single, whole}
 use Rattle.bench_resolver.proofs.resolver.on_way.is_subschema.Goals as goal

@@ -1,7 +1,7 @@
 use Rattle.std.proofs.Common.{◌∙◌, sym, ap}
 use Rattle.std.specs.Rc.{rc_str_bytes}
 use Rattle.serde_json.specs.View.{view}
-use Rattle.schema_node.specs.SchemaViews.{schema_step_of}
+use Rattle.schema_parts.specs.SchemaViews.{schema_step_of}
 use Rattle.bench_resolver.specs.OnWay.{leads_to_item, schema_found}
 use Rattle.bench_resolver.proofs.OnWay.{leads_to_no_item, leads_to_the_item}
 use Rattle.bench_resolver.proofs.resolver.on_way.leads_to_item.Goals as goal

@@ -3,7 +3,7 @@ use Rattle.std.specs.Rc.{rc_str_bytes}
 use Rattle.std.specs.Prelude.{option_map}
 use Rattle.serde_json.specs.Find.{get}
 use Rattle.serde_json.specs.View.{members_view, view}
-use Rattle.schema_node.specs.SchemaViews.{schema_step_of}
+use Rattle.schema_parts.specs.SchemaViews.{schema_step_of}
 use Rattle.bench_resolver.specs.OnWay.{leads_to_member, schema_found}
 use Rattle.bench_resolver.proofs.OnWay.{leads_to_no_member, leads_to_the_member, object_is}
 use Rattle.bench_resolver.proofs.resolver.on_way.leads_to_member.Goals as goal

@@ -1,7 +1,7 @@
 use Rattle.std.proofs.Common.{◌≡◌, drop, map}
 use Rattle.serde_json.specs.View.{view}
-use Rattle.schema_reports.specs.Instance.{a_value, subject_from}
-use Rattle.schema_node.specs.SchemaViews.{schema_step_of}
+use Rattle.schema_definitions.specs.Instance.{a_value, subject_from}
+use Rattle.schema_parts.specs.SchemaViews.{schema_step_of}
 use Rattle.bench_resolver.proofs.resolver.places.value_after.Given as goal
 
 abbrev pub invariant-loop-step : goal.invariant-loop-step

@@ -2,9 +2,9 @@ use Rattle.std.proofs.Common.{◌∙◌, ◌≡◌, ◌-◌, List, Option, ap, a
 use Rattle.std.proofs.lemmas.List.{length-drop, take_all}
 use Rattle.serde_json.specs.Data.{object}
 use Rattle.serde_json.specs.View.{members_view, view}
-use Rattle.schema_reports.specs.Instance.{Subject, a_value, subject_from}
-use Rattle.schema_node.specs.SchemaViews.{schema_step_of}
-use Rattle.schema_node.specs.declared.context.schema_place.SchemaStep.{SchemaStep}
+use Rattle.schema_definitions.specs.Instance.{Subject, a_value, subject_from}
+use Rattle.schema_parts.specs.SchemaViews.{schema_step_of}
+use Rattle.schema_parts.specs.declared.schema_place.SchemaStep.{SchemaStep}
 use Rattle.bench_resolver.proofs.Insides.{first_then}
 use Rattle.bench_resolver.proofs.resolver.places.value_after_member.Goals as goal
 

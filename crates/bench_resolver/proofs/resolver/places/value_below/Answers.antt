@@ -1,7 +1,7 @@
 use Rattle.std.proofs.Common.{◌∙◌, sym, ap, option_map}
 use Rattle.serde_json.specs.View.{view}
-use Rattle.schema_reports.specs.Instance.{a_value, after_step, to_member}
-use Rattle.schema_node.specs.SchemaViews.{schema_step_of}
+use Rattle.schema_definitions.specs.Instance.{a_value, after_step, to_member}
+use Rattle.schema_parts.specs.SchemaViews.{schema_step_of}
 use Rattle.schema_reports.proofs.Found.{after_member}
 use Rattle.bench_resolver.proofs.Insides.{map_then}
 use Rattle.bench_resolver.proofs.resolver.places.value_below.Goals as goal

@@ -1,9 +1,9 @@
 use Rattle.std.proofs.Common.{◌∙◌, ap, sym}
 use Rattle.serde_json.specs.Data.{object}
 use Rattle.serde_json.specs.View.{members_view, view}
-use Rattle.schema_reports.specs.Instance.{a_value, subject_from}
-use Rattle.schema_node.specs.ResolverViews.{place_of}
-use Rattle.bench_resolver.specs.BenchResolving.{data_of}
+use Rattle.schema_definitions.specs.Instance.{a_value, subject_from}
+use Rattle.schema_parts.specs.ResolverViews.{place_of}
+use Rattle.bench_subschemas.specs.BenchResolving.{data_of}
 use Rattle.bench_resolver.specs.BenchViews.{held}
 use Rattle.bench_resolver.proofs.Insides.{data-of-values, inside_value}
 use Rattle.bench_resolver.proofs.resolver.places.value_inside.Goals as goal

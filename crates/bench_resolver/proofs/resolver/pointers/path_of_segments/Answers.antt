@@ -5,9 +5,9 @@ use Rattle.std.proofs.lemmas.Iterator.Consumers.{YieldsList-turn, YieldsList-end
 use Rattle.std.proofs.lemmas.Iterator.Splits.{YieldsList-from_str_split}
 use Rattle.serde_json.specs.View.{view}
 use Rattle.serde_json.specs.declared.value.Value.{Value}
-use Rattle.schema_reports.specs.Instance.{Place, a_value}
-use Rattle.schema_node.specs.SchemaViews.{schema_step_of}
-use Rattle.bench_resolver.specs.BenchResolving.{data_of}
+use Rattle.schema_definitions.specs.Instance.{Place, a_value}
+use Rattle.schema_parts.specs.SchemaViews.{schema_step_of}
+use Rattle.bench_subschemas.specs.BenchResolving.{data_of}
 use Rattle.bench_resolver.specs.BenchPointers.{path_named}
 use Rattle.bench_resolver.proofs.PathsNamed.{longer, names_all, names_no_step, names_nothing, names_step}
 use Rattle.bench_resolver.proofs.resolver.pointers.path_of_segments.Goals as goal

@@ -1,7 +1,7 @@
 use Rattle.std.proofs.Common.{◌≡◌, [], drop, map}
 use Rattle.serde_json.specs.View.{view}
-use Rattle.schema_reports.specs.KeywordViews.{draft_of}
-use Rattle.schema_node.specs.SchemaViews.{schema_step_of}
+use Rattle.schema_keywords.specs.KeywordViews.{draft_of}
+use Rattle.schema_parts.specs.SchemaViews.{schema_step_of}
 use Rattle.bench_resolver.specs.BenchLookups.{arrived}
 use Rattle.bench_resolver.specs.BenchResourceViews.{resource_of}
 use Rattle.bench_resolver.specs.BenchViews.{point_of}

@@ -1,7 +1,7 @@
 use Rattle.std.proofs.Common.{List, ap, arith, get_or, length, string_bytes, subst, ◌+◌, ◌<◌, ◌≡◌, ◌≤◌, ◌∙◌, ◌∷◌, []}
 use Rattle.serde_json.specs.View.{view}
-use Rattle.schema_reports.specs.Instance.{Text}
-use Rattle.schema_reports.specs.KeywordViews.{draft_of}
+use Rattle.schema_definitions.specs.Instance.{Text}
+use Rattle.schema_keywords.specs.KeywordViews.{draft_of}
 use Rattle.bench_resolver.specs.declared.resolver.documents as code
 use Rattle.bench_resolver.specs.BenchDocuments.{Document, document_of}
 use Rattle.bench_resolver.specs.BenchResources.{document_resource}

@@ -1,5 +1,5 @@
 use Rattle.std.proofs.Common.{suc, take}
-use Rattle.schema_reports.specs.KeywordViews.{draft_of}
+use Rattle.schema_keywords.specs.KeywordViews.{draft_of}
 use Rattle.bench_resolver.specs.BenchResources.{document_resources}
 use Rattle.bench_resolver.specs.BenchGathered.{Adds}
 use Rattle.bench_resolver.specs.BenchViews.{held}

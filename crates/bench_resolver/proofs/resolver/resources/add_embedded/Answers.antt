@@ -2,9 +2,9 @@ use Rattle.std.proofs.Common.{List, [], true, ap, length, map, subst, take, ◌<
 use Rattle.std.specs.Prelude.{flat_map}
 use Rattle.std.proofs.lemmas.List.{take_all}
 use Rattle.serde_json.specs.View.{view}
-use Rattle.schema_reports.specs.Drafts.{Draft}
-use Rattle.schema_reports.specs.Instance.{Place}
-use Rattle.schema_reports.specs.KeywordViews.{draft_of}
+use Rattle.schema_definitions.specs.Drafts.{Draft}
+use Rattle.schema_definitions.specs.Instance.{Place}
+use Rattle.schema_keywords.specs.KeywordViews.{draft_of}
 use Rattle.bench_resolver.specs.BenchResources.{Resource, Visited, resource_if, uri_at, walked}
 use Rattle.bench_resolver.specs.BenchGathered.{Adds}
 use Rattle.bench_resolver.specs.BenchViews.{visited_of}

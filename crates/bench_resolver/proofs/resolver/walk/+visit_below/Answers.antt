@@ -3,11 +3,11 @@ use Rattle.std.proofs.lemmas.List.{map-append}
 use Rattle.serde_json.specs.Data.{depth}
 use Rattle.serde_json.specs.View.{view}
 use Rattle.serde_json.specs.declared.value.Value.{Value}
-use Rattle.schema_reports.specs.Instance.{Place, a_value, subject_at, subject_from}
-use Rattle.schema_reports.specs.KeywordViews.{draft_of}
-use Rattle.bench_resolver.specs.BenchResolving.{data_of, subschemas}
+use Rattle.schema_definitions.specs.Instance.{Place, a_value, subject_at, subject_from}
+use Rattle.schema_keywords.specs.KeywordViews.{draft_of}
+use Rattle.bench_subschemas.specs.BenchResolving.{data_of, subschemas}
 use Rattle.bench_resolver.specs.BenchResources.{Visited, visited_below}
-use Rattle.schema_node.specs.ResolverViews.{place_of}
+use Rattle.schema_parts.specs.ResolverViews.{place_of}
 use Rattle.bench_resolver.specs.declared.resolver.walk.Visited as code
 use Rattle.bench_resolver.specs.BenchViews.{visited_of}
 use Rattle.bench_resolver.proofs.Walks.{comes_to_nothing, from, goes_on, item_has_steps, leaves, finished, lower, next_path, path_at, paths_are, subschemas_have, turned}

@@ -2,7 +2,7 @@ use Rattle.std.proofs.Common.{ℕ, ◌≡◌, ◌≤◌, ◌++◌, drop, map}
 use Rattle.std.specs.Prelude.{flat_map}
 use Rattle.serde_json.specs.Data.{depth}
 use Rattle.serde_json.specs.View.{view}
-use Rattle.schema_reports.specs.KeywordViews.{draft_of}
+use Rattle.schema_keywords.specs.KeywordViews.{draft_of}
 use Rattle.bench_resolver.specs.BenchViews.{visited_of}
 use Rattle.bench_resolver.proofs.Walks.{from, path_at}
 use Rattle.bench_resolver.proofs.resolver.walk.+visit_below.Given as goal

@@ -1,7 +1,7 @@
 use Rattle.std.proofs.Common.{sym, subst}
 use Rattle.std.specs.Prelude.{All}
 use Rattle.std.proofs.lemmas.List.Elements.{All-nil}
-use Rattle.schema_node.specs.FaultViews.{PassesBorrowed}
+use Rattle.schema_parts.specs.FaultViews.{PassesBorrowed}
 use Rattle.fused_keywords.proofs.array.ArrayKeyword.errors.Goals as goal
 
 pub returns-in_ok-push_error-in-MinItems-clause-borrows : goal.returns-in_ok-push_error-in-MinItems-clause-borrows

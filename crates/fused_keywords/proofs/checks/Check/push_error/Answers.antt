@@ -1,7 +1,7 @@
 use Rattle.std.proofs.Common.{[], sym, subst}
 use Rattle.std.specs.Prelude.{All}
 use Rattle.std.proofs.lemmas.List.Elements.{All-append, All-cons, All-nil}
-use Rattle.schema_node.specs.FaultViews.{PassesBorrowed}
+use Rattle.schema_parts.specs.FaultViews.{PassesBorrowed}
 use Rattle.fused_keywords.proofs.checks.Check.push_error.Goals as goal
 
 pub returns-clause-borrows : goal.returns-clause-borrows

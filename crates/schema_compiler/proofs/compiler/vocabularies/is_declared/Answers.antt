@@ -2,7 +2,7 @@ use Rattle.std.proofs.Common.{◌∙◌, rules, tests}
 use Rattle.std.specs.Prelude.{bytes_eq, string_bytes}
 use Rattle.std.proofs.lemmas.Iterator.{YieldsList-from_slice}
 use Rattle.std.proofs.lemmas.Iterator.Search.{any_from_yields_List}
-use Rattle.schema_compiler.proofs.CustomVocabularies.{any_mapped}
+use Rattle.schema_keys.proofs.CustomVocabularies.{any_mapped}
 use Rattle.schema_compiler.proofs.compiler.vocabularies.is_declared.Goals as goal
 
 pub returns : goal.returns

@@ -3,8 +3,8 @@ use Rattle.std.proofs.lemmas.List.{drop_more}
 use Rattle.serde_json.specs.View.{items_view, members_view, view}
 use Rattle.serde_json.specs.declared.value.Value.{Value}
 use Rattle.serde_json.proofs.Views.{Entry}
-use Rattle.schema_reports.specs.Instance.{Place, Text, to_item, to_member}
-use Rattle.schema_compiler.proofs.CheckedDocuments.{turned}
+use Rattle.schema_definitions.specs.Instance.{Place, Text, to_item, to_member}
+use Rattle.schema_check.proofs.CheckedDocuments.{turned}
 use Rattle.schema_engine.specs.DocumentSchemas.{IndicesFit, schemas_in, schemas_in_items, schemas_in_members}
 use Rattle.schema_engine.proofs.DocumentPlaces.{fit_below}
 use Rattle.schema_engine.proofs.map.schemas.+walk.Goals as goal

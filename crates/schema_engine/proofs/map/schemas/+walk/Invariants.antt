@@ -1,6 +1,6 @@
 use Rattle.std.proofs.Common.{◌≡◌, ◌++◌, drop}
 use Rattle.serde_json.specs.View.{items_view, members_view}
-use Rattle.schema_compiler.specs.Compiling.{Each}
+use Rattle.schema_keys.specs.Compiling.{Each}
 use Rattle.schema_engine.specs.DocumentSchemas.{IndicesFit, schemas_in_items, schemas_in_members}
 use Rattle.schema_engine.proofs.map.schemas.+walk.Given as goal
 

@@ -3,20 +3,20 @@ use Rattle.std.specs.Prelude.{Ok, option_map, string_bytes}
 use Rattle.std.proofs.lemmas.Option.{slice_get_within}
 use Rattle.std.proofs.lemmas.Result.{err_from_is_err_and}
 use Rattle.serde_json.specs.View.{view}
-use Rattle.schema_reports.specs.KeywordTable.{builtin_in}
-use Rattle.schema_reports.specs.KeywordViews.{draft_of}
-use Rattle.schema_reports.specs.Plan.{Key}
-use Rattle.schema_compiler.specs.Builtins.{builtin}
-use Rattle.schema_compiler.specs.Checking.{AcceptsSchema}
-use Rattle.schema_compiler.specs.Compiling.{no_table, no_keywords, no_matcher}
-use Rattle.schema_compiler.specs.KeyViews.{key_of}
+use Rattle.schema_keywords.specs.KeywordTable.{builtin_in}
+use Rattle.schema_keywords.specs.KeywordViews.{draft_of}
+use Rattle.schema_definitions.specs.Plan.{Key}
+use Rattle.schema_keys.specs.Builtins.{builtin}
+use Rattle.schema_check.specs.Checking.{AcceptsSchema}
+use Rattle.schema_keys.specs.Compiling.{no_table, no_keywords, no_matcher}
+use Rattle.schema_keys.specs.KeyViews.{key_of}
 use Rattle.schema_compiler.specs.Compilation.{IsCompilation, RefusesRoot, all_parts}
 use Rattle.schema_engine.specs.Compiled.{IsWhole}
 use Rattle.schema_engine.specs.Handed.{Options, parts_of, table_of}
 use Rattle.schema_engine.specs.Roots.{root_parts}
 use Rattle.schema_engine.proofs.Compilations.{compiled_from_roots, compiles_in, reach_in, refuses_in, whole_in, whole_too}
-use Rattle.schema_reports.specs.ErrorsLead.{EachKeepsAbsorbing}
-use Rattle.schema_reports.proofs.TurnsGiveRuns.{keeps_of_turns}
+use Rattle.schema_meaning.specs.ErrorsLead.{EachKeepsAbsorbing}
+use Rattle.schema_meaning.proofs.TurnsGiveRuns.{keeps_of_turns}
 use Rattle.schema_engine.proofs.Pointing.{points_into}
 use Rattle.schema_engine.proofs.OtherParts.{compiles_too}
 use Rattle.schema_engine.proofs.RootKeys.{one_root_key, root_key_too, root_too}

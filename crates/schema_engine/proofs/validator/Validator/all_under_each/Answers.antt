@@ -1,14 +1,14 @@
 use Rattle.std.proofs.Common.{rules, ◌≡◌, ◌∙◌, ◌<◌, false, true, suc, [], refl, sym, ap, subst, arith, length}
 use Rattle.std.specs.Prelude.{is_some}
 use Rattle.serde_json.specs.View.{view}
-use Rattle.schema_reports.specs.Cover.{iter_errors}
-use Rattle.schema_reports.specs.Keywords.{for_all}
-use Rattle.schema_reports.specs.Laws.{EachKeeps}
-use Rattle.schema_reports.specs.Numbered.{left, subject_in}
-use Rattle.schema_reports.specs.Unfinished.{Remembered, starting}
-use Rattle.schema_reports.proofs.TurnsGiveRuns.{keeps_of_turns}
-use Rattle.schema_node.specs.NodeTable.{numbered}
-use Rattle.schema_node.proofs.Matches.{nothing_twice}
+use Rattle.schema_definitions.specs.Cover.{iter_errors}
+use Rattle.schema_definitions.specs.Keywords.{for_all}
+use Rattle.schema_definitions.specs.Laws.{EachKeeps}
+use Rattle.schema_meaning.specs.Numbered.{left, subject_in}
+use Rattle.schema_definitions.specs.Unfinished.{Remembered, starting}
+use Rattle.schema_meaning.proofs.TurnsGiveRuns.{keeps_of_turns}
+use Rattle.schema_nodes.specs.NodeTable.{numbered}
+use Rattle.schema_contexts.proofs.Matches.{nothing_twice}
 use Rattle.schema_engine.specs.Answers.{MeetsMatches, SaysErrors}
 use Rattle.schema_engine.specs.Program.{Speaks}
 use Rattle.schema_engine.proofs.ErrorSearches.{borrowed, errors_first, errors_searched}

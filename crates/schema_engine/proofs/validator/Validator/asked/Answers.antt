@@ -1,7 +1,7 @@
 use Rattle.std.proofs.Common.{ap, subst}
 use Rattle.serde_json.specs.View.{view}
-use Rattle.schema_reports.specs.Instance.{Place, subject_at}
-use Rattle.schema_node.specs.KeywordViews.{mode_of}
+use Rattle.schema_definitions.specs.Instance.{Place, subject_at}
+use Rattle.schema_parts.specs.KeywordViews.{mode_of}
 use Rattle.schema_engine.specs.Answers.{MeetsMatches, SaysReply}
 use Rattle.schema_engine.proofs.validator.Validator.asked.Goals as goal
 

@@ -1,5 +1,5 @@
 use Rattle.std.proofs.Common.{◌∙◌, ap, length}
-use Rattle.schema_node.specs.NodeTable.{numbered}
+use Rattle.schema_nodes.specs.NodeTable.{numbered}
 use Rattle.schema_engine.specs.Program.{Program}
 use Rattle.schema_engine.proofs.ClonedValidators.{answer_same, say_same}
 use Rattle.schema_engine.proofs.validator.Validator.clone.Goals as goal

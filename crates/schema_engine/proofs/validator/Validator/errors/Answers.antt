@@ -2,9 +2,9 @@ use Rattle.std.proofs.Common.{◌∙◌, sym, ap, subst}
 use Rattle.std.specs.Prelude.{All}
 use Rattle.serde_json.specs.View.{view}
 use Rattle.schema_reports.specs.ReportViews.{BorrowsItsPlace}
-use Rattle.schema_node.specs.FaultViews.{errors_in}
-use Rattle.schema_node.specs.KeywordViews.{reply_of}
-use Rattle.schema_node.specs.declared.context.keyword.Reply.{Reply}
+use Rattle.schema_parts.specs.FaultViews.{errors_in}
+use Rattle.schema_parts.specs.KeywordViews.{reply_of}
+use Rattle.schema_parts.specs.declared.keyword.Reply.{Reply}
 use Rattle.schema_engine.proofs.Searches.{errors_are}
 use Rattle.schema_engine.proofs.validator.Validator.errors.Goals as goal
 

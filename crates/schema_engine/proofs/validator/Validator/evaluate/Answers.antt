@@ -1,10 +1,10 @@
 use Rattle.std.proofs.Common.{subst, sym}
 use Rattle.serde_json.specs.View.{view}
-use Rattle.schema_reports.specs.Cover.{Sense}
-use Rattle.schema_reports.specs.Means.{FromSomeDepth}
+use Rattle.schema_definitions.specs.Cover.{Sense}
+use Rattle.schema_meaning.specs.Means.{FromSomeDepth}
 use Rattle.schema_reports.specs.declared.evaluation.EvaluationNode.{EvaluationNode}
-use Rattle.schema_reports.proofs.SensesMeant.{of_every_sense}
-use Rattle.schema_node.specs.NodeTable.{numbered}
+use Rattle.schema_meaning.proofs.SensesMeant.{of_every_sense}
+use Rattle.schema_nodes.specs.NodeTable.{numbered}
 use Rattle.schema_engine.specs.Evaluated.{EvaluationAnswered}
 use Rattle.schema_engine.specs.Program.{HasUnits}
 use Rattle.schema_engine.proofs.PlainAnswers.{units_in_every_sense}

@@ -1,14 +1,14 @@
 use Rattle.std.proofs.Common.{rules, ◌≡◌, ◌∙◌, ◌<◌, true, suc, [], sym, arith, length}
 use Rattle.std.specs.Prelude.{is_some}
 use Rattle.serde_json.specs.View.{view}
-use Rattle.schema_reports.specs.Keywords.{for_all}
-use Rattle.schema_reports.specs.Laws.{EachKeeps}
-use Rattle.schema_reports.specs.Numbered.{left, subject_in}
-use Rattle.schema_reports.specs.Unfinished.{starting}
-use Rattle.schema_reports.proofs.TurnsGiveRuns.{keeps_of_turns}
-use Rattle.schema_node.specs.NodeTable.{numbered}
-use Rattle.schema_node.proofs.Matches.{nothing_twice}
-use Rattle.schema_node.proofs.Replies.{if_ok_mono}
+use Rattle.schema_definitions.specs.Keywords.{for_all}
+use Rattle.schema_definitions.specs.Laws.{EachKeeps}
+use Rattle.schema_meaning.specs.Numbered.{left, subject_in}
+use Rattle.schema_definitions.specs.Unfinished.{starting}
+use Rattle.schema_meaning.proofs.TurnsGiveRuns.{keeps_of_turns}
+use Rattle.schema_nodes.specs.NodeTable.{numbered}
+use Rattle.schema_contexts.proofs.Matches.{nothing_twice}
+use Rattle.schema_parts.proofs.Replies.{if_ok_mono}
 use Rattle.schema_engine.specs.Answers.{MeetsMatches, SaysErrors}
 use Rattle.schema_engine.proofs.ErrorSearches.{evaluated_first, evaluated_searched, units_first, units_searched}
 use Rattle.schema_engine.proofs.Searches.{none_of}

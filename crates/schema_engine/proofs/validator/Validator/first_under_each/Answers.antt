@@ -3,16 +3,16 @@ use Rattle.std.specs.Prelude.{IfSome, Option, is_some}
 use Rattle.schema_reports.specs.declared.reports.ValidationError.{ValidationError}
 use Rattle.schema_engine.specs.Spoken.{FirstAnswered}
 use Rattle.serde_json.specs.View.{view}
-use Rattle.schema_reports.specs.Cover.{validate}
-use Rattle.schema_reports.specs.Keywords.{for_all}
-use Rattle.schema_reports.specs.Laws.{EachKeeps}
-use Rattle.schema_reports.specs.Numbered.{left, subject_in}
+use Rattle.schema_definitions.specs.Cover.{validate}
+use Rattle.schema_definitions.specs.Keywords.{for_all}
+use Rattle.schema_definitions.specs.Laws.{EachKeeps}
+use Rattle.schema_meaning.specs.Numbered.{left, subject_in}
 use Rattle.schema_reports.specs.ReportViews.{BorrowsItsPlace}
-use Rattle.schema_reports.specs.Unfinished.{starting}
-use Rattle.schema_reports.proofs.Sentences.{validate_later}
-use Rattle.schema_reports.proofs.TurnsGiveRuns.{keeps_of_turns}
-use Rattle.schema_node.specs.NodeTable.{numbered}
-use Rattle.schema_node.proofs.Matches.{nothing_twice}
+use Rattle.schema_definitions.specs.Unfinished.{starting}
+use Rattle.schema_meaning.proofs.Sentences.{validate_later}
+use Rattle.schema_meaning.proofs.TurnsGiveRuns.{keeps_of_turns}
+use Rattle.schema_nodes.specs.NodeTable.{numbered}
+use Rattle.schema_contexts.proofs.Matches.{nothing_twice}
 use Rattle.schema_engine.specs.Answers.{MeetsMatches, SaysErrors}
 use Rattle.schema_engine.specs.Program.{Speaks}
 use Rattle.schema_engine.proofs.ErrorSearches.{borrowed, first_first, first_has, first_searched}

@@ -1,8 +1,8 @@
 use Rattle.serde_json.specs.View.{view}
-use Rattle.schema_reports.specs.Cover.{Sense, is_valid}
-use Rattle.schema_reports.specs.Headline.{VerdictSays}
-use Rattle.schema_reports.proofs.SensesMeant.{of_every_sense}
-use Rattle.schema_node.specs.NodeTable.{numbered}
+use Rattle.schema_definitions.specs.Cover.{Sense, is_valid}
+use Rattle.schema_meaning.specs.Headline.{VerdictSays}
+use Rattle.schema_meaning.proofs.SensesMeant.{of_every_sense}
+use Rattle.schema_nodes.specs.NodeTable.{numbered}
 use Rattle.schema_engine.proofs.validator.Validator.is_valid.Goals as goal
 
 pub returns-clause-senses : goal.returns-clause-senses

@@ -1,14 +1,14 @@
 use Rattle.std.proofs.Common.{List, subst, sym}
 use Rattle.std.specs.Prelude.{All}
 use Rattle.serde_json.specs.View.{view}
-use Rattle.schema_reports.specs.Cover.{Sense}
-use Rattle.schema_reports.specs.Guarded.{guarded_sense}
-use Rattle.schema_reports.specs.Numbered.{subject_in}
-use Rattle.schema_reports.specs.Means.{FromSomeDepth}
+use Rattle.schema_definitions.specs.Cover.{Sense}
+use Rattle.schema_definitions.specs.Guarded.{guarded_sense}
+use Rattle.schema_meaning.specs.Numbered.{subject_in}
+use Rattle.schema_meaning.specs.Means.{FromSomeDepth}
 use Rattle.schema_reports.specs.ReportViews.{BorrowsItsPlace}
 use Rattle.schema_reports.specs.declared.reports.ValidationError.{ValidationError}
-use Rattle.schema_reports.proofs.SensesMeant.{of_every_sense}
-use Rattle.schema_node.specs.NodeTable.{numbered}
+use Rattle.schema_meaning.proofs.SensesMeant.{of_every_sense}
+use Rattle.schema_nodes.specs.NodeTable.{numbered}
 use Rattle.schema_engine.specs.Spoken.{EachIsGiven, ErrorsAnswered}
 use Rattle.schema_engine.proofs.Pointing.{each_is_given}
 use Rattle.schema_engine.proofs.validator.Validator.iter_errors.Goals as goal

@@ -1,8 +1,8 @@
 use Rattle.std.proofs.Common.{Bool, subst}
 use Rattle.std.specs.Prelude.{IfErr, IfOk}
 use Rattle.serde_json.specs.View.{view}
-use Rattle.schema_reports.specs.KeywordTable.{builtin_in}
-use Rattle.schema_compiler.specs.declared.compiler.error.BuildError.{BuildError}
+use Rattle.schema_keywords.specs.KeywordTable.{builtin_in}
+use Rattle.schema_keys.specs.declared.error.BuildError.{BuildError}
 use Rattle.schema_engine.specs.Called.{BuildRefused}
 use Rattle.schema_engine.specs.Handed.{Options, handed, parts_of, table_of}
 use Rattle.schema_engine.specs.Program.{Program}

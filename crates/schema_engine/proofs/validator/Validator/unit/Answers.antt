@@ -1,8 +1,8 @@
 use Rattle.std.proofs.Common.{[], ap, subst}
 use Rattle.serde_json.specs.View.{view}
-use Rattle.schema_reports.specs.Instance.{Place, subject_at}
-use Rattle.schema_reports.specs.Keywords.{for_units}
-use Rattle.schema_reports.specs.Unfinished.{starting}
+use Rattle.schema_definitions.specs.Instance.{Place, subject_at}
+use Rattle.schema_definitions.specs.Keywords.{for_units}
+use Rattle.schema_definitions.specs.Unfinished.{starting}
 use Rattle.schema_engine.specs.Answers.{MeetsMatches, SaysUnit}
 use Rattle.schema_engine.proofs.validator.Validator.unit.Goals as goal
 

@@ -1,15 +1,15 @@
 use Rattle.std.proofs.Common.{rules, ◌≡◌, ◌∙◌, ◌≤◌, ◌<◌, ℕ, Bool, suc, [], sym, ap, subst, arith, length}
 use Rattle.serde_json.specs.View.{view}
-use Rattle.schema_reports.specs.Cover.{is_valid}
-use Rattle.schema_reports.specs.Headline.{VerdictSays}
-use Rattle.schema_reports.specs.Keywords.{for_verdict}
-use Rattle.schema_reports.specs.Laws.{EachKeeps}
-use Rattle.schema_reports.specs.Numbered.{left, subject_in}
-use Rattle.schema_reports.specs.Unfinished.{Remembered, starting}
-use Rattle.schema_reports.proofs.TurnsGiveRuns.{keeps_of_turns}
-use Rattle.schema_node.specs.NodeTable.{numbered}
-use Rattle.schema_node.proofs.Matches.{nothing_twice}
-use Rattle.schema_node.proofs.Replies.{if_ok_mono}
+use Rattle.schema_definitions.specs.Cover.{is_valid}
+use Rattle.schema_meaning.specs.Headline.{VerdictSays}
+use Rattle.schema_definitions.specs.Keywords.{for_verdict}
+use Rattle.schema_definitions.specs.Laws.{EachKeeps}
+use Rattle.schema_meaning.specs.Numbered.{left, subject_in}
+use Rattle.schema_definitions.specs.Unfinished.{Remembered, starting}
+use Rattle.schema_meaning.proofs.TurnsGiveRuns.{keeps_of_turns}
+use Rattle.schema_nodes.specs.NodeTable.{numbered}
+use Rattle.schema_contexts.proofs.Matches.{nothing_twice}
+use Rattle.schema_parts.proofs.Replies.{if_ok_mono}
 use Rattle.schema_engine.specs.Answers.{MeetsMatches, SaysVerdict}
 use Rattle.schema_engine.specs.Program.{Speaks}
 use Rattle.schema_engine.proofs.Searches.{follows, if_ok_each, none_of, sense, verdict_first, verdict_runs}

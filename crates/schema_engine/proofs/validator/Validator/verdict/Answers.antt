@@ -1,5 +1,5 @@
 use Rattle.std.proofs.Common.{◌∙◌, sym, ap}
-use Rattle.schema_node.specs.KeywordViews.{reply_of}
+use Rattle.schema_parts.specs.KeywordViews.{reply_of}
 use Rattle.schema_engine.proofs.Searches.{truth_is}
 use Rattle.schema_engine.proofs.validator.Validator.verdict.Goals as goal
 

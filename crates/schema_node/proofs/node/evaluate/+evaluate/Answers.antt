@@ -1,44 +1,46 @@
 use Rattle.std.proofs.Common.{◌≡◌, ◌∙◌, ◌+◌, ◌*◌, ◌<◌, ◌≤◌, ℕ, suc, arith, sym, refl, ap, subst, map, option_map, string_bytes, length, Some, false, List, [], ◌∷◌, ◌++◌, drop}
 use Rattle.schema_reports.specs.InstanceViews.{subject_of, step_of}
-use Rattle.schema_reports.specs.Instance.{Text}
-use Rattle.schema_reports.specs.Keywords.{Marked, MatchPoint, Mode, Question, ask, done, ecma, mark, match_text, no_reply, truth, unmark}
-use Rattle.schema_reports.specs.Laws.{IsRight}
-use Rattle.schema_reports.specs.Meaning.{Where}
-use Rattle.schema_reports.specs.Numbered.{left, subject_in}
-use Rattle.schema_reports.specs.Runs.{keyword_met, plan_met, site_at}
-use Rattle.schema_reports.specs.Unfinished.{Remembered}
-use Rattle.schema_reports.specs.Matching.{Matcher, Pair, completed, matching, settled}
-use Rattle.schema_reports.specs.Guarded.{node_always, node_at, node_reference, same_edge}
+use Rattle.schema_definitions.specs.Instance.{Text}
+use Rattle.schema_definitions.specs.Keywords.{Marked, MatchPoint, Mode, Question, ask, done, ecma, mark, match_text, no_reply, truth, unmark}
+use Rattle.schema_definitions.specs.Laws.{IsRight}
+use Rattle.schema_definitions.specs.Meaning.{Where}
+use Rattle.schema_meaning.specs.Numbered.{left, subject_in}
+use Rattle.schema_definitions.specs.Runs.{keyword_met, plan_met, site_at}
+use Rattle.schema_definitions.specs.Unfinished.{Remembered}
+use Rattle.schema_definitions.specs.Matching.{Matcher, Pair, completed, matching, settled}
+use Rattle.schema_definitions.specs.Guarded.{node_always, node_at, node_reference, same_edge}
 use Rattle.schema_reports.specs.EntryUnits.{entry_units_of, placed_of}
-use Rattle.schema_reports.specs.UnitOrder.{each_placed}
-use Rattle.schema_reports.specs.Units.{true_unit}
+use Rattle.schema_definitions.specs.UnitOrder.{each_placed}
+use Rattle.schema_definitions.specs.Units.{true_unit}
 use Rattle.serde_json.specs.View.{view}
 use Rattle.std.specs.Prelude.{option_and_then}
 use Rattle.schema_node.specs.RightVerdicts.{LaysOut}
-use Rattle.schema_reports.proofs.Alike.{asked_alike}
-use Rattle.schema_reports.proofs.TurnsGiveRuns.{keeps_of_turns}
+use Rattle.schema_meaning.proofs.Alike.{asked_alike}
+use Rattle.schema_meaning.proofs.TurnsGiveRuns.{keeps_of_turns}
 use Rattle.schema_node.specs.EvaluationPlaces.{steps_to}
-use Rattle.schema_node.specs.EvaluationPaths.{path_of}
-use Rattle.schema_node.specs.KeywordViews.{below_of, marked_of, mode_of, reply_of, answer_of, point_of}
-use Rattle.schema_node.specs.Matches.{after_match, settling}
+use Rattle.schema_contexts.specs.EvaluationPaths.{path_of}
+use Rattle.schema_parts.specs.KeywordViews.{below_of, marked_of, mode_of, reply_of, answer_of, point_of}
+use Rattle.schema_contexts.specs.Matches.{after_match, settling}
 use Rattle.schema_node.specs.NodeMeets.{ChildMeets, EdgeMeets, FormMeets, child_run, part_looked, parts_looked, reading}
-use Rattle.schema_node.specs.NodeTable.{numbered, shaped_part}
-use Rattle.schema_node.specs.NodeViews.{edge_of, entry_of, node_of, plan_of}
+use Rattle.schema_nodes.specs.NodeTable.{numbered, shaped_part}
+use Rattle.schema_parts.specs.EdgeViews.{edge_of}
+use Rattle.schema_nodes.specs.NodeViews.{entry_of, node_of, plan_of}
 use Rattle.schema_node.specs.NodeRuns.{child_says, edge_needs, entry_where}
-use Rattle.schema_node.specs.Progress.{Context, NoDeeper, busy_at}
+use Rattle.schema_contexts.specs.Progress.{Context, NoDeeper, busy_at}
 use Rattle.schema_node.specs.RunStates.{Asking, RemembersRightly, asking, setting}
 use Rattle.schema_node.specs.UnitStates.{child_unit, parts_units}
-use Rattle.schema_node.specs.declared.node.Entry.{Entry}
+use Rattle.schema_nodes.specs.declared.node.Entry.{Entry}
 use Rattle.schema_node.proofs.GoesOn.{right_matched, right_same}
 use Rattle.schema_node.proofs.RightVerdicts.{laid_below}
-use Rattle.schema_node.proofs.Pairs.{busy-below, busy-pushed, deeper-below, deeper-pushed, entered_new, entered_old}
+use Rattle.schema_contexts.proofs.Pairs.{busy-below, busy-pushed, deeper-below, deeper-pushed, entered_new, entered_old}
 use Rattle.schema_node.proofs.KeywordTurns.{silent, silent_reads, asked_on, asks_there, begins_on, can_after, ended_on, falls_turned, mark_taken_on, marked_on, matched_on, matches_there, tells_nothing, told_pattern_on}
-use Rattle.schema_node.proofs.Replies.{if_ok_always, if_ok_mono}
+use Rattle.schema_parts.proofs.Replies.{if_ok_always, if_ok_mono}
 use Rattle.schema_node.proofs.NodeRuns.{agrees_answers, falls_below, falls_here, needs_of_entered, stands_in, where_is}
-use Rattle.schema_node.proofs.Matches.{after_assumes, meets_same, moved}
+use Rattle.schema_contexts.proofs.Matches.{after_assumes, meets_same, moved}
 use Rattle.schema_node.proofs.KeywordMeets.{meets_all, meets_asked, meets_begun, meets_mark_taken, meets_marked, meets_matched, meets_nothing}
 use Rattle.schema_node.proofs.NodeMeets.{end_met, meets_below, meets_busy, meets_by_plan, meets_here, meets_never, meets_reference, meets_these, next_met, other_entry, stops}
-use Rattle.schema_node.proofs.NodeParts.{drop_at, drop_past, keyword_children, part_at, plain_there, plan_is, plan_none, reference_edge, tells_keyword}
+use Rattle.schema_parts.proofs.Drops.{drop_at, drop_past}
+use Rattle.schema_node.proofs.NodeParts.{keyword_children, part_at, plain_there, plan_is, plan_none, reference_edge, tells_keyword}
 use Rattle.schema_node.proofs.NodeUnits.{entered_meets, finds_moved, form_moved, gives_always, gives_below, gives_busy, gives_entered, gives_here, gives_keyword, gives_never, gives_reference, gives_these, placed_last, placed_next, tells_moved}
 use Rattle.schema_node.proofs.UnitsAsked.{answer_is, child_valid, told_is}
 use Rattle.schema_node.proofs.node.evaluate.+evaluate.Goals as goal

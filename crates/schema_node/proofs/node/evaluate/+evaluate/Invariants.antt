@@ -1,23 +1,24 @@
 use Rattle.std.proofs.Common.{◌≡◌, ◌≤◌, ◌+◌, ◌*◌, ◌++◌, ℕ, Bool, List, false, length, map, drop, option_map, string_bytes}
 use Rattle.serde_json.specs.Data.{Data}
 use Rattle.schema_reports.specs.InstanceViews.{subject_of}
-use Rattle.schema_reports.specs.Numbered.{left, subject_in}
-use Rattle.schema_reports.specs.Guarded.{node_at, same_edge}
-use Rattle.schema_reports.specs.Runs.{Met, keyword_met, plan_met}
+use Rattle.schema_meaning.specs.Numbered.{left, subject_in}
+use Rattle.schema_definitions.specs.Guarded.{node_at, same_edge}
+use Rattle.schema_definitions.specs.Runs.{Met, keyword_met, plan_met}
 use Rattle.schema_reports.specs.EntryUnits.{placed_of}
-use Rattle.schema_reports.specs.UnitOrder.{each_placed, nothing_placed}
+use Rattle.schema_definitions.specs.UnitOrder.{each_placed, nothing_placed}
 use Rattle.schema_node.specs.EvaluationPlaces.{steps_to}
-use Rattle.schema_node.specs.EvaluationPaths.{path_of}
-use Rattle.schema_node.specs.KeywordViews.{answer_of, mode_of, reply_of}
-use Rattle.schema_node.specs.NodeTable.{numbered, shaped_part}
-use Rattle.schema_node.specs.NodeViews.{edge_of, entry_of}
-use Rattle.schema_node.specs.Matches.{MeetsEach, settling}
+use Rattle.schema_contexts.specs.EvaluationPaths.{path_of}
+use Rattle.schema_parts.specs.KeywordViews.{answer_of, mode_of, reply_of}
+use Rattle.schema_nodes.specs.NodeTable.{numbered, shaped_part}
+use Rattle.schema_parts.specs.EdgeViews.{edge_of}
+use Rattle.schema_nodes.specs.NodeViews.{entry_of}
+use Rattle.schema_contexts.specs.Matches.{MeetsEach, settling}
 use Rattle.schema_node.specs.NodeMeets.{child_run, parts_looked, reading}
 use Rattle.schema_node.specs.NodeRuns.{Reading, Reads, child_says, edge_needs}
 use Rattle.schema_node.specs.RunStates.{StaysRight, asking, setting}
 use Rattle.schema_node.specs.UnitStates.{child_unit, parts_units}
 use Rattle.schema_node.proofs.KeywordMeets.{MeetsSoFar}
-use Rattle.schema_node.specs.Progress.{busy_at}
+use Rattle.schema_contexts.specs.Progress.{busy_at}
 use Rattle.schema_node.specs.Turning.{EvaluatesOn}
 use Rattle.schema_node.proofs.node.evaluate.+evaluate.Given as goal
 

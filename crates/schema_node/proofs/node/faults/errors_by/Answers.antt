@@ -1,14 +1,14 @@
 use Rattle.std.proofs.Common.{◌∙◌, string_bytes, All, subst}
 use Rattle.schema_reports.specs.InstanceViews.{subject_of}
-use Rattle.schema_reports.specs.Meaning.{fault_error}
+use Rattle.schema_definitions.specs.Meaning.{fault_error}
 use Rattle.schema_reports.specs.ReportViews.{error_of, BorrowsItsPlace}
 use Rattle.schema_node.specs.EvaluationPlaces.{steps_to}
-use Rattle.schema_node.specs.EvaluationPaths.{path_of}
-use Rattle.schema_node.specs.FaultViews.{LiesInside}
-use Rattle.schema_node.specs.KeywordViews.{fault_of}
+use Rattle.schema_contexts.specs.EvaluationPaths.{path_of}
+use Rattle.schema_parts.specs.FaultViews.{LiesInside}
+use Rattle.schema_parts.specs.KeywordViews.{fault_of}
 use Rattle.schema_node.specs.NodeRuns.{entry_where}
-use Rattle.schema_node.specs.NodeViews.{node_of}
-use Rattle.schema_node.proofs.Replies.{made_more, all_pushed, all_first, all_rest}
+use Rattle.schema_nodes.specs.NodeViews.{node_of}
+use Rattle.schema_parts.proofs.Replies.{made_more, all_pushed, all_first, all_rest}
 use Rattle.schema_node.proofs.node.faults.errors_by.Goals as goal
 
 pub loop-fault-preserved : goal.loop-fault-preserved

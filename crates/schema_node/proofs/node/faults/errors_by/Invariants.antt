@@ -1,16 +1,16 @@
 use Rattle.std.proofs.Common.{◌≡◌, ◌++◌, Bool, map, All, string_bytes, Some}
 use Rattle.std.specs.Vec.Iter.{into_iter_items}
 use Rattle.serde_json.specs.Data.{Data}
-use Rattle.schema_reports.specs.Instance.{subject_at}
+use Rattle.schema_definitions.specs.Instance.{subject_at}
 use Rattle.schema_reports.specs.InstanceViews.{subject_of}
-use Rattle.schema_reports.specs.Meaning.{fault_error}
+use Rattle.schema_definitions.specs.Meaning.{fault_error}
 use Rattle.schema_reports.specs.ReportViews.{error_of, BorrowsItsPlace}
 use Rattle.schema_node.specs.EvaluationPlaces.{steps_to}
-use Rattle.schema_node.specs.EvaluationPaths.{path_of}
-use Rattle.schema_node.specs.FaultViews.{LiesInside}
-use Rattle.schema_node.specs.KeywordViews.{fault_of}
+use Rattle.schema_contexts.specs.EvaluationPaths.{path_of}
+use Rattle.schema_parts.specs.FaultViews.{LiesInside}
+use Rattle.schema_parts.specs.KeywordViews.{fault_of}
 use Rattle.schema_node.specs.NodeRuns.{entry_where}
-use Rattle.schema_node.specs.NodeViews.{node_of}
+use Rattle.schema_nodes.specs.NodeViews.{node_of}
 use Rattle.schema_node.proofs.node.faults.errors_by.Given as goal
 
 abbrev pub invariant-loop-fault : goal.invariant-loop-fault

@@ -1,14 +1,14 @@
 use Rattle.std.proofs.Common.{◌∙◌, ap, subst, sym, string_bytes, [], arith, Some}
 use Rattle.schema_reports.specs.InstanceViews.{subject_of}
-use Rattle.schema_reports.specs.Keywords.{first_of_it}
+use Rattle.schema_definitions.specs.Keywords.{first_of_it}
 use Rattle.schema_reports.specs.ReportViews.{BorrowsItsPlace, error_of}
 use Rattle.schema_node.specs.EvaluationPlaces.{steps_to}
-use Rattle.schema_node.specs.EvaluationPaths.{path_of}
-use Rattle.schema_node.specs.FaultViews.{LiesInside, faults_in}
+use Rattle.schema_contexts.specs.EvaluationPaths.{path_of}
+use Rattle.schema_parts.specs.FaultViews.{LiesInside, faults_in}
 use Rattle.schema_node.specs.NodeRuns.{entry_where}
-use Rattle.schema_node.specs.NodeViews.{node_of}
+use Rattle.schema_nodes.specs.NodeViews.{node_of}
 use Rattle.schema_node.proofs.Faults.{first_made, first_holds}
-use Rattle.schema_node.proofs.Replies.{all_pushed}
+use Rattle.schema_parts.proofs.Replies.{all_pushed}
 use Rattle.schema_node.proofs.node.faults.first_finished.Goals as goal
 
 pub returns-in_ok-new-in-Some-clause-reply : goal.returns-in_ok-new-in-Some-clause-reply

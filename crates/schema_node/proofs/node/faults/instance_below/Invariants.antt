@@ -1,5 +1,5 @@
 use Rattle.std.proofs.Common.{◌≡◌, map, drop}
-use Rattle.schema_reports.specs.Instance.{subject_from}
+use Rattle.schema_definitions.specs.Instance.{subject_from}
 use Rattle.schema_reports.specs.InstanceViews.{step_of, subject_of}
 use Rattle.schema_node.proofs.node.faults.instance_below.Given as goal
 

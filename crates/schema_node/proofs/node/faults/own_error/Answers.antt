@@ -1,7 +1,7 @@
 use Rattle.std.proofs.Common.{map}
 use Rattle.schema_reports.specs.InstanceViews.{step_of, subject_of}
 use Rattle.schema_node.specs.EvaluationPlaces.{steps_to}
-use Rattle.schema_node.proofs.Replies.{stands_below}
+use Rattle.schema_parts.proofs.Replies.{stands_below}
 use Rattle.schema_node.proofs.node.faults.own_error.Goals as goal
 
 pub returns-clause-borrows : goal.returns-clause-borrows

@@ -1,5 +1,5 @@
 use Rattle.std.proofs.Common.{◌∙◌, ap, false, true≢false, sym}
-use Rattle.schema_node.proofs.Replies.{if_ok_mono}
+use Rattle.schema_parts.proofs.Replies.{if_ok_mono}
 use Rattle.schema_node.proofs.node.replies.false_error.Goals as goal
 
 pub returns-clause-place : goal.returns-clause-place

@@ -1,4 +1,4 @@
-use Rattle.schema_node.proofs.Replies.{if_ok_mono}
+use Rattle.schema_parts.proofs.Replies.{if_ok_mono}
 use Rattle.schema_node.proofs.node.replies.joined.Goals as goal
 
 pub returns-in-First-clause-borrows : goal.returns-in-First-clause-borrows

@@ -1,8 +1,8 @@
 use Rattle.std.proofs.Common.{◌∙◌, ap, sym, Some, [], arith}
-use Rattle.schema_reports.specs.Instance.{subject_at}
+use Rattle.schema_definitions.specs.Instance.{subject_at}
 use Rattle.schema_reports.specs.InstanceViews.{subject_of}
 use Rattle.schema_reports.specs.ReportViews.{BorrowsItsPlace}
-use Rattle.schema_node.proofs.Replies.{all_first, all_pushed}
+use Rattle.schema_parts.proofs.Replies.{all_first, all_pushed}
 use Rattle.schema_node.proofs.node.replies.stamped_by_base.Goals as goal
 
 pub returns-in_ok-stamp-in-Some-clause-borrows : goal.returns-in_ok-stamp-in-Some-clause-borrows

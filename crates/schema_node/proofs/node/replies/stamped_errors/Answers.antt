@@ -1,12 +1,12 @@
 use Rattle.std.proofs.Common.{◌<◌, ◌∙◌, ap, map, string_bytes, sym, subst, Some, length, arith}
 use Rattle.std.specs.Prelude.{All}
 use Rattle.std.proofs.lemmas.List.Elements.{All-set}
-use Rattle.schema_reports.specs.Instance.{subject_at}
+use Rattle.schema_definitions.specs.Instance.{subject_at}
 use Rattle.schema_reports.specs.InstanceViews.{subject_of}
-use Rattle.schema_reports.specs.Meaning.{stamped}
+use Rattle.schema_definitions.specs.Meaning.{stamped}
 use Rattle.schema_reports.specs.ReportViews.{error_of, BorrowsItsPlace}
-use Rattle.schema_node.specs.NodeTable.{keyword_absolute}
-use Rattle.schema_node.specs.NodeViews.{node_of}
+use Rattle.schema_nodes.specs.NodeTable.{keyword_absolute}
+use Rattle.schema_nodes.specs.NodeViews.{node_of}
 use Rattle.schema_node.proofs.Stamped.{all_written, one_written, written_back}
 use Rattle.schema_node.proofs.node.replies.stamped_errors.Goals as goal
 

@@ -1,10 +1,10 @@
 use Rattle.std.proofs.Common.{◌≡◌, ◌++◌, Bool, map, take, drop, string_bytes}
 use Rattle.std.specs.Prelude.{All}
 use Rattle.serde_json.specs.Data.{Data}
-use Rattle.schema_reports.specs.Meaning.{stamped}
+use Rattle.schema_definitions.specs.Meaning.{stamped}
 use Rattle.schema_reports.specs.ReportViews.{error_of, BorrowsItsPlace}
-use Rattle.schema_node.specs.NodeTable.{keyword_absolute}
-use Rattle.schema_node.specs.NodeViews.{node_of}
+use Rattle.schema_nodes.specs.NodeTable.{keyword_absolute}
+use Rattle.schema_nodes.specs.NodeViews.{node_of}
 use Rattle.schema_node.proofs.node.replies.stamped_errors.Given as goal
 
 abbrev pub invariant-loop-error : goal.invariant-loop-error

@@ -1,6 +1,6 @@
 use Rattle.std.proofs.Common.{◌∙◌, ap, string_bytes, not}
-use Rattle.schema_node.specs.KeywordViews.{reply_of}
-use Rattle.schema_node.specs.NodeViews.{node_of}
+use Rattle.schema_parts.specs.KeywordViews.{reply_of}
+use Rattle.schema_nodes.specs.NodeViews.{node_of}
 use Rattle.schema_node.proofs.Stamped.{stamps_nothing, stays_none}
 use Rattle.schema_node.proofs.node.replies.stamped_reply.Goals as goal
 

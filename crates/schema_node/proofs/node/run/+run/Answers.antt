@@ -1,44 +1,46 @@
 use Rattle.std.proofs.lemmas.List.Elements.{All-nil}
 use Rattle.std.specs.Prelude.{All}
 use Rattle.schema_reports.specs.ReportViews.{BorrowsItsPlace}
-use Rattle.schema_node.specs.FaultViews.{PassesBorrowed}
+use Rattle.schema_parts.specs.FaultViews.{PassesBorrowed}
 use Rattle.std.proofs.Common.{◌≡◌, ◌∙◌, ◌+◌, ◌*◌, ◌<◌, ◌≤◌, ℕ, Bool, suc, arith, sym, refl, ap, subst, map, option_map, string_bytes, length, Some, false, true≢false, List, [], ◌∷◌, ◌++◌, drop}
 use Rattle.schema_reports.specs.InstanceViews.{subject_of, step_of}
-use Rattle.schema_reports.specs.Instance.{Text}
-use Rattle.schema_reports.specs.Keywords.{Marked, MatchPoint, Mode, Question, ask, done, ecma, mark, match_text, no_reply, truth, unmark}
+use Rattle.schema_definitions.specs.Instance.{Text}
+use Rattle.schema_definitions.specs.Keywords.{Marked, MatchPoint, Mode, Question, ask, done, ecma, mark, match_text, no_reply, truth, unmark}
 use Rattle.schema_node.specs.EvaluationPlaces.{steps_to}
-use Rattle.schema_node.specs.EvaluationPaths.{path_of}
-use Rattle.schema_reports.specs.Laws.{IsRight}
-use Rattle.schema_reports.specs.Meaning.{Where}
-use Rattle.schema_reports.specs.Numbered.{left, subject_in}
-use Rattle.schema_reports.specs.Runs.{keyword_met, plan_met, site_at}
-use Rattle.schema_reports.specs.Unfinished.{Remembered}
-use Rattle.schema_reports.specs.Matching.{Matcher, Pair, completed, matching, settled}
-use Rattle.schema_reports.specs.Guarded.{node_at, node_never, same_edge}
-use Rattle.schema_node.specs.KeywordViews.{below_of, marked_of, mode_of, reply_of, answer_of, point_of}
-use Rattle.schema_node.specs.Matches.{after_match, settling}
+use Rattle.schema_contexts.specs.EvaluationPaths.{path_of}
+use Rattle.schema_definitions.specs.Laws.{IsRight}
+use Rattle.schema_definitions.specs.Meaning.{Where}
+use Rattle.schema_meaning.specs.Numbered.{left, subject_in}
+use Rattle.schema_definitions.specs.Runs.{keyword_met, plan_met, site_at}
+use Rattle.schema_definitions.specs.Unfinished.{Remembered}
+use Rattle.schema_definitions.specs.Matching.{Matcher, Pair, completed, matching, settled}
+use Rattle.schema_definitions.specs.Guarded.{node_at, node_never, same_edge}
+use Rattle.schema_parts.specs.KeywordViews.{below_of, marked_of, mode_of, reply_of, answer_of, point_of}
+use Rattle.schema_contexts.specs.Matches.{after_match, settling}
 use Rattle.schema_node.specs.NodeMeets.{ChildMeets, EdgeMeets, EntryMeets, FormMeets, child_run, part_looked, parts_looked, reading}
-use Rattle.schema_node.specs.NodeTable.{numbered, shaped_form, shaped_part}
-use Rattle.schema_node.specs.NodeViews.{edge_of, entry_of, form_of, node_of, plan_of}
+use Rattle.schema_nodes.specs.NodeTable.{numbered, shaped_form, shaped_part}
+use Rattle.schema_parts.specs.EdgeViews.{edge_of}
+use Rattle.schema_nodes.specs.NodeViews.{entry_of, form_of, node_of, plan_of}
 use Rattle.schema_node.specs.NodeRuns.{ChildReplies, EdgeReplies, Reading, Reads, child_says, edge_needs, entry_where, parts_say, refuses, reply_by}
-use Rattle.schema_node.specs.Progress.{Context, NoDeeper, busy_at}
+use Rattle.schema_contexts.specs.Progress.{Context, NoDeeper, busy_at}
 use Rattle.schema_node.specs.RightVerdicts.{LaysOut}
 use Rattle.schema_node.specs.RunStates.{EdgeRemembers, MeetsNode, NodeSays, RemembersRightly, StaysRight, asking, setting}
-use Rattle.schema_node.specs.Verdicts.{visited_in_mode}
-use Rattle.schema_node.specs.declared.context.keyword.Reply.TheVariants as told
+use Rattle.schema_contexts.specs.Verdicts.{visited_in_mode}
+use Rattle.schema_parts.specs.declared.keyword.Reply.TheVariants as told
 use Rattle.schema_node.proofs.GoesOn.{alone_remembers, asked_across, computed_meets, computed_remembers, computed_says, computed_stays, ended_remembers, pairs_back, planned_remembers, read_meets_edge, read_remembers, read_says, right_matched, right_same, stamped_remembers}
 use Rattle.schema_node.proofs.RightVerdicts.{laid_below}
 use Rattle.schema_node.specs.Turning.{unit_with}
-use Rattle.schema_node.proofs.Pairs.{busy-below, busy-pushed, deeper-below, deeper-pushed, entered_new, entered_old}
+use Rattle.schema_contexts.proofs.Pairs.{busy-below, busy-pushed, deeper-below, deeper-pushed, entered_new, entered_old}
 use Rattle.schema_node.proofs.KeywordTurns.{can_be_in, less_after, less_first, asked, asks_less, marked, mark_taken, matched, matches_present, told_pattern, asks_present, begins, ended_right, falls_turned, faults_lie, keyword_says, right_reply, silent, silent_reads, tells_nothing}
-use Rattle.schema_reports.proofs.Alike.{asked_alike}
-use Rattle.schema_node.proofs.Replies.{if_ok_always, if_ok_both, if_ok_mono}
+use Rattle.schema_meaning.proofs.Alike.{asked_alike}
+use Rattle.schema_parts.proofs.Replies.{if_ok_always, if_ok_both, if_ok_mono}
 use Rattle.schema_node.proofs.NodeRuns.{agrees_answers, agrees_says, child_below, child_here, edge_busy, falls_below, falls_here, form_reference, leaf_accepts, needs_of_entered, node_by_plan, one_entry, settled_entries, stands_in, start_entries, where_is}
-use Rattle.schema_node.proofs.Matches.{after_assumes, moved, meets_append, meets_same}
+use Rattle.schema_contexts.proofs.Matches.{after_assumes, moved, meets_append, meets_same}
 use Rattle.schema_node.proofs.KeywordMeets.{meets_all, meets_asked, meets_begun, meets_mark_taken, meets_marked, meets_matched, meets_nothing}
 use Rattle.schema_node.proofs.NodeMeets.{child_replies, end_met, last_met, leaf_holds, leaf_no, leaf_yes, meets_below, meets_busy, meets_here, meets_never, meets_reference, meets_these, next_met, nothing_refused, other_entry, stops_at}
-use Rattle.schema_node.proofs.NodeParts.{absolute_is, drop_at, drop_past, keyword_children, part_at, plain_there, plan_is, reference_edge, replies_refused, tells_keyword}
-use Rattle.schema_node.specs.declared.node.Entry.{Entry}
+use Rattle.schema_parts.proofs.Drops.{drop_at, drop_past}
+use Rattle.schema_node.proofs.NodeParts.{absolute_is, keyword_children, part_at, plain_there, plan_is, reference_edge, replies_refused, tells_keyword}
+use Rattle.schema_nodes.specs.declared.node.Entry.{Entry}
 use Rattle.schema_node.proofs.node.run.+run.Goals as goal
 
 -- ---- a call's measure falls

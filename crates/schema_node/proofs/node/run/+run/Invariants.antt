@@ -1,26 +1,27 @@
 use Rattle.std.proofs.Common.{◌≡◌, ◌≤◌, ◌<◌, ◌+◌, ◌*◌, ◌++◌, ℕ, Bool, List, false, length, map, drop, option_map, string_bytes, Some}
 use Rattle.std.specs.Prelude.{All}
 use Rattle.serde_json.specs.Data.{Data}
-use Rattle.schema_reports.specs.Instance.{subject_at}
+use Rattle.schema_definitions.specs.Instance.{subject_at}
 use Rattle.schema_reports.specs.InstanceViews.{subject_of}
-use Rattle.schema_reports.specs.Reports.{Outcome, accepted}
+use Rattle.schema_definitions.specs.Reports.{Outcome, accepted}
 use Rattle.schema_reports.specs.ReportViews.{BorrowsItsPlace}
-use Rattle.schema_reports.specs.Meaning.{both}
-use Rattle.schema_reports.specs.Numbered.{left, subject_in}
-use Rattle.schema_reports.specs.Guarded.{node_at, same_edge}
-use Rattle.schema_reports.specs.Runs.{Met, keyword_met, plan_met}
+use Rattle.schema_definitions.specs.Meaning.{both}
+use Rattle.schema_meaning.specs.Numbered.{left, subject_in}
+use Rattle.schema_definitions.specs.Guarded.{node_at, same_edge}
+use Rattle.schema_definitions.specs.Runs.{Met, keyword_met, plan_met}
 use Rattle.schema_node.specs.EvaluationPlaces.{steps_to}
-use Rattle.schema_node.specs.EvaluationPaths.{path_of}
-use Rattle.schema_node.specs.FaultViews.{errors_in, faults_in, PassesBorrowed}
-use Rattle.schema_node.specs.KeywordViews.{answer_of, mode_of, reply_of}
-use Rattle.schema_node.specs.NodeTable.{numbered, shaped_part}
-use Rattle.schema_node.specs.NodeViews.{edge_of, entry_of}
-use Rattle.schema_node.specs.Matches.{MeetsEach, settling}
+use Rattle.schema_contexts.specs.EvaluationPaths.{path_of}
+use Rattle.schema_parts.specs.FaultViews.{errors_in, faults_in, PassesBorrowed}
+use Rattle.schema_parts.specs.KeywordViews.{answer_of, mode_of, reply_of}
+use Rattle.schema_nodes.specs.NodeTable.{numbered, shaped_part}
+use Rattle.schema_parts.specs.EdgeViews.{edge_of}
+use Rattle.schema_nodes.specs.NodeViews.{entry_of}
+use Rattle.schema_contexts.specs.Matches.{MeetsEach, settling}
 use Rattle.schema_node.specs.NodeMeets.{child_run, parts_looked, reading}
 use Rattle.schema_node.specs.NodeRuns.{Reading, Reads, Replies, child_says, edge_needs, parts_say, refuses, reply_by}
 use Rattle.schema_node.specs.RunStates.{PartsRemember, StaysRight, asking, setting}
 use Rattle.schema_node.proofs.KeywordMeets.{MeetsSoFar}
-use Rattle.schema_node.specs.Progress.{busy_at}
+use Rattle.schema_contexts.specs.Progress.{busy_at}
 use Rattle.schema_node.specs.Turning.{OnItsWay, StaysWithoutUnits}
 use Rattle.schema_node.proofs.node.run.+run.Given as goal
 

@@ -1,9 +1,9 @@
 use Rattle.std.proofs.Common.{◌≡◌, ◌+◌, map, drop, is_some, true, Some, None, subst}
 use Rattle.std.specs.Prelude.{Option, option_and_then}
 use Rattle.std.proofs.lemmas.List.{drop_more}
-use Rattle.schema_reports.specs.Instance.{Place, Step, Subject, after_step, subject_from}
+use Rattle.schema_definitions.specs.Instance.{Place, Step, Subject, after_step, subject_from}
 use Rattle.schema_reports.specs.InstanceViews.{step_of, subject_of}
-use Rattle.schema_reports.specs.Laws.{IsPresent}
+use Rattle.schema_definitions.specs.Laws.{IsPresent}
 use Rattle.schema_node.proofs.node.spots.own_steps.Goals as goal
 
 step_there : (t : Step) (p : Place) (s : Subject) → is_some (option_and_then (subject_from p) (after_step t s)) ≡ true → is_some (after_step t s) ≡ true

@@ -1,6 +1,6 @@
 use Rattle.std.proofs.Common.{◌≡◌, ◌++◌, map, drop}
 use Rattle.schema_reports.specs.InstanceViews.{step_of, subject_of}
-use Rattle.schema_reports.specs.Laws.{IsPresent}
+use Rattle.schema_definitions.specs.Laws.{IsPresent}
 use Rattle.schema_node.proofs.node.spots.own_steps.Given as goal
 
 abbrev pub invariant-loop-step : goal.invariant-loop-step

@@ -1,14 +1,14 @@
 use Rattle.std.proofs.Common.{◌∙◌, ap, string_bytes}
 use Rattle.schema_reports.specs.EntryUnits.{absorbed_of}
 use Rattle.schema_reports.specs.EvaluationResults.{gives_of, named_of}
-use Rattle.schema_reports.specs.Instance.{Text}
-use Rattle.schema_reports.specs.Keywords.{Named}
-use Rattle.schema_reports.specs.Reports.{Unit_}
-use Rattle.schema_reports.specs.Units.{keyword_unit}
+use Rattle.schema_definitions.specs.Instance.{Text}
+use Rattle.schema_definitions.specs.Keywords.{Named}
+use Rattle.schema_definitions.specs.Reports.{Unit_}
+use Rattle.schema_definitions.specs.Units.{keyword_unit}
 use Rattle.schema_node.specs.NodeUnits.{named_gives}
-use Rattle.schema_node.specs.NodeViews.{node_of}
+use Rattle.schema_nodes.specs.NodeViews.{node_of}
 use Rattle.schema_node.specs.RunStates.{asking, where_asked}
-use Rattle.schema_node.proofs.Replies.{made_more}
+use Rattle.schema_parts.proofs.Replies.{made_more}
 use Rattle.schema_node.proofs.node.units.absorbed_units.Goals as goal
 
 pub loop-one-preserved : goal.loop-one-preserved

@@ -2,11 +2,11 @@ use Rattle.std.proofs.Common.{◌≡◌, ◌++◌, Bool, map}
 use Rattle.std.specs.Vec.Iter.{into_iter_items}
 use Rattle.schema_reports.specs.EntryUnits.{absorbed_of}
 use Rattle.schema_reports.specs.EvaluationResults.{named_of}
-use Rattle.schema_reports.specs.Instance.{Text}
-use Rattle.schema_reports.specs.Keywords.{Named}
-use Rattle.schema_reports.specs.Reports.{Unit_}
-use Rattle.schema_reports.specs.Units.{keyword_unit}
-use Rattle.schema_node.specs.NodeViews.{node_of}
+use Rattle.schema_definitions.specs.Instance.{Text}
+use Rattle.schema_definitions.specs.Keywords.{Named}
+use Rattle.schema_definitions.specs.Reports.{Unit_}
+use Rattle.schema_definitions.specs.Units.{keyword_unit}
+use Rattle.schema_nodes.specs.NodeViews.{node_of}
 use Rattle.schema_node.specs.RunStates.{asking, where_asked}
 use Rattle.schema_node.proofs.node.units.absorbed_units.Given as goal
 

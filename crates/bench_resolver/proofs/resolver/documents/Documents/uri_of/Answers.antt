@@ -2,7 +2,7 @@ use Rattle.std.proofs.Common.{Bor, List, Option, Some, ap, arith, map, option_ma
 use Rattle.std.specs.Prelude.{slice_get, string_bytes}
 use Rattle.serde_json.specs.View.{view}
 use Rattle.bench_resolver.specs.declared.resolver.documents.Document.{Document}
-use Rattle.bench_resolver.specs.BenchResolving.{without_fragment}
+use Rattle.bench_subschemas.specs.BenchResolving.{without_fragment}
 use Rattle.bench_resolver.specs.BenchDocuments as spec
 use Rattle.bench_resolver.specs.BenchDocuments.{document_of}
 use Rattle.bench_resolver.specs.BenchViews.{given_of}

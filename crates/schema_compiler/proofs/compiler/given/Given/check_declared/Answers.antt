@@ -1,11 +1,11 @@
 use Rattle.std.proofs.Common.{◌≡◌, ◌∙◌, List, [], ap, map, sym, subst}
 use Rattle.std.specs.Prelude.{IfErr, IfOk, flat_map}
-use Rattle.schema_reports.specs.Instance.{Text}
-use Rattle.schema_reports.specs.Drafts.{custom_vocabulary}
-use Rattle.schema_reports.specs.Refusals.{Cause, undeclared}
+use Rattle.schema_definitions.specs.Instance.{Text}
+use Rattle.schema_definitions.specs.Drafts.{custom_vocabulary}
+use Rattle.schema_meaning.specs.Refusals.{Cause, undeclared}
 use Rattle.schema_compiler.specs.Options.{given_parts}
-use Rattle.schema_compiler.specs.Refusing.{Names}
-use Rattle.schema_compiler.proofs.CustomVocabularies.{of_custom}
+use Rattle.schema_keys.specs.Refusing.{Names}
+use Rattle.schema_keys.proofs.CustomVocabularies.{of_custom}
 use Rattle.schema_compiler.proofs.compiler.given.Given.check_declared.Goals as goal
 
 pub returns-clause-declared : goal.returns-clause-declared

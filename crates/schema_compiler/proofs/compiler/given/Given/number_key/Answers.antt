@@ -1,6 +1,6 @@
 use Rattle.std.proofs.Common.{map, ◌∙◌, ap, refl, arith, ◌++◌, ◌∷◌, []}
 use Rattle.std.proofs.lemmas.List.{length-map, map-append}
-use Rattle.schema_compiler.specs.KeyViews.{key_of}
+use Rattle.schema_keys.specs.KeyViews.{key_of}
 use Rattle.schema_compiler.specs.Options.{given_parts}
 use Rattle.schema_compiler.proofs.Tables.{reserved_table}
 use Rattle.schema_compiler.proofs.compiler.given.Given.number_key.Goals as goal

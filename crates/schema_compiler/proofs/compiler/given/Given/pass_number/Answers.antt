@@ -1,6 +1,6 @@
 use Rattle.std.proofs.Common.{arith}
 use Rattle.std.proofs.lemmas.List.{length-map}
-use Rattle.schema_compiler.specs.KeyViews.{key_of}
+use Rattle.schema_keys.specs.KeyViews.{key_of}
 use Rattle.schema_compiler.specs.Carried.{filled, task}
 use Rattle.schema_compiler.proofs.Working.{at_next_number}
 use Rattle.schema_compiler.proofs.compiler.given.Given.pass_number.Goals as goal

@@ -1,5 +1,5 @@
 use Rattle.std.proofs.Common.{◌-◌}
-use Rattle.schema_compiler.specs.KeyViews.{key_of}
+use Rattle.schema_keys.specs.KeyViews.{key_of}
 use Rattle.schema_compiler.specs.Carried.{filled, task}
 use Rattle.schema_compiler.specs.Working.{IsAtNumber}
 use Rattle.schema_compiler.proofs.compiler.given.Given.work_off.Given as goal

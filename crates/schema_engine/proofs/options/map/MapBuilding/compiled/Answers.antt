@@ -3,14 +3,14 @@ use Rattle.std.specs.Prelude.{option_map, string_bytes}
 use Rattle.std.proofs.lemmas.Option.{slice_get_within}
 use Rattle.std.proofs.lemmas.Result.{err_from_is_err_and}
 use Rattle.serde_json.specs.View.{view}
-use Rattle.schema_reports.specs.ErrorsLead.{EachKeepsAbsorbing}
-use Rattle.schema_reports.specs.KeywordTable.{builtin_in}
-use Rattle.schema_reports.specs.KeywordViews.{draft_of}
-use Rattle.schema_reports.proofs.TurnsGiveRuns.{keeps_of_turns}
-use Rattle.schema_node.specs.NodeTable.{NodeEntry}
-use Rattle.schema_compiler.specs.Builtins.{builtin}
+use Rattle.schema_meaning.specs.ErrorsLead.{EachKeepsAbsorbing}
+use Rattle.schema_keywords.specs.KeywordTable.{builtin_in}
+use Rattle.schema_keywords.specs.KeywordViews.{draft_of}
+use Rattle.schema_meaning.proofs.TurnsGiveRuns.{keeps_of_turns}
+use Rattle.schema_nodes.specs.NodeTable.{NodeEntry}
+use Rattle.schema_keys.specs.Builtins.{builtin}
 use Rattle.schema_compiler.specs.Compilation.{IsCompilationAlone, RefusesAlone, all_parts}
-use Rattle.schema_compiler.specs.KeyViews.{key_of}
+use Rattle.schema_keys.specs.KeyViews.{key_of}
 use Rattle.schema_engine.specs.Handed.{Options, default_nested, table_of}
 use Rattle.schema_engine.proofs.CompiledAlone.{alone_in, compiled_alone, program_alone, refuses_alone_in, within_alone}
 use Rattle.schema_engine.proofs.Pointing.{points_from_key}

@@ -1,6 +1,6 @@
 use Rattle.std.proofs.Common.{inr}
 use Rattle.std.proofs.lemmas.Result.{MatchResult-weaker}
-use Rattle.schema_compiler.specs.KeyViews.{key_of}
+use Rattle.schema_keys.specs.KeyViews.{key_of}
 use Rattle.schema_engine.proofs.options.map.MapBuilding.entry.Goals as goal
 
 pub returns-clause-entry : goal.returns-clause-entry

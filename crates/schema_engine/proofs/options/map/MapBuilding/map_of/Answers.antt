@@ -2,9 +2,9 @@ use Rattle.std.proofs.Common.{◌≡◌, ◌∙◌, ◌+◌, ◌++◌, ◌∷◌
 use Rattle.std.proofs.lemmas.List.{take_more}
 use Rattle.std.proofs.lemmas.Result.{err_from_is_err_and}
 use Rattle.serde_json.specs.View.{view}
-use Rattle.schema_reports.specs.Instance.{Place}
-use Rattle.schema_compiler.specs.KeyViews.{key_of}
-use Rattle.schema_compiler.proofs.Lists.{in_of}
+use Rattle.schema_definitions.specs.Instance.{Place}
+use Rattle.schema_keys.specs.KeyViews.{key_of}
+use Rattle.schema_keys.proofs.Lists.{in_of}
 use Rattle.schema_engine.specs.Entries.{HoldsPlaces}
 use Rattle.schema_engine.specs.Handed.{handed}
 use Rattle.schema_engine.specs.MapViews.{Entries}

@@ -1,6 +1,6 @@
 use Rattle.std.proofs.Common.{take}
 use Rattle.serde_json.specs.View.{view}
-use Rattle.schema_compiler.specs.KeyViews.{key_of}
+use Rattle.schema_keys.specs.KeyViews.{key_of}
 use Rattle.schema_engine.specs.Entries.{HoldsPlaces}
 use Rattle.schema_engine.specs.Handed.{handed}
 use Rattle.schema_engine.proofs.options.map.MapBuilding.map_of.Given as goal

@@ -1,5 +1,5 @@
 use Rattle.std.proofs.Common.{refl}
-use Rattle.schema_compiler.proofs.SameKeys.{one_key}
+use Rattle.schema_keys.proofs.SameKeys.{one_key}
 use Rattle.schema_engine.proofs.options.map.MapBuilding.root_again.Goals as goal
 
 pub returns-clause-key : goal.returns-clause-key

@@ -1,0 +1,45 @@
+//! The drafts that values name.
+ghost use Rattle.std.specs.Prelude.{◌≡◌, option_map};
+ghost use Rattle.serde_json.specs.View.{view};
+ghost use Rattle.schema_keywords.specs.KeywordViews.{draft_of};
+ghost use Rattle.bench_subschemas.specs.BenchResolving.{detected, draft_of_uri, text_member};
+
+use schema_keywords::keywords::Draft;
+use serde_json::Value;
+
+/// The string under a name.
+pub fn text_member<'v>(value: &'v Value, name: &str) -> Option<&'v str>
+    ensures text { option_map (λ t. t.now) result ≡ text_member name.now (view value.now) }
+{
+    value.get(name)?.as_str()
+}
+
+/// The draft that a URI names, with or without a last `#`.
+fn draft_of_uri(uri: &str) -> Draft
+    ensures draft { draft_of result ≡ draft_of_uri uri.now }
+{
+    match uri {
+        "http://json-schema.org/draft-04/schema" | "http://json-schema.org/draft-04/schema#" =>
+            Draft::Draft4,
+        "http://json-schema.org/draft-06/schema" | "http://json-schema.org/draft-06/schema#" =>
+            Draft::Draft6,
+        "http://json-schema.org/draft-07/schema" | "http://json-schema.org/draft-07/schema#" =>
+            Draft::Draft7,
+        "https://json-schema.org/draft/2019-09/schema"
+        | "https://json-schema.org/draft/2019-09/schema#" => Draft::Draft201909,
+        "https://json-schema.org/draft/2020-12/schema"
+        | "https://json-schema.org/draft/2020-12/schema#" => Draft::Draft202012,
+        "https://json-schema.org/schema" | "https://json-schema.org/schema#" => Draft::Draft202012,
+        _ => Draft::Unknown,
+    }
+}
+
+/// The draft of a value inside a schema of this draft.
+pub fn detected(draft: Draft, value: &Value) -> Draft
+    ensures draft { draft_of result ≡ detected (draft_of draft) (view value.now) }
+{
+    match text_member(value, "$schema") {
+        Some(uri) => draft_of_uri(uri),
+        None => draft,
+    }
+}

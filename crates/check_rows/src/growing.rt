@@ -1,0 +1,229 @@
+//! Values that are written shorter than they are.
+//!
+//! In a list, an object whose member `@times` is `[count, value]` stands for so many copies of the value. In an object, a member
+//! `@members` that is `[count, name, value]` stands for so many members. Their texts and names have the number of the copy, from 0,
+//! in place of `{}`, and the next one in place of `{+}`. An object whose member `@within` is `[count, name, value]` is the value inside
+//! so many objects, each with this one member. One whose member `@text` is `[count, text, last]` is so many times the text, then the last
+//! one. What is repeated is grown first, so a number belongs to the innermost one around it.
+
+use serde_json::{Map, Value};
+use std::alloc::{AllocError, Global};
+
+/// How a value is written shorter: how often, and what.
+#[derive(Clone, Copy)]
+struct Repetition<'v> {
+    count: u64,
+    first: &'v Value,
+    /// The first again, where there is no second.
+    second: &'v Value,
+    /// The whole list, whose first item is the count.
+    list: &'v [Value],
+}
+
+// What the value of this member repeats.
+fn repetition_in<'v>(value: &'v Value) -> Option<Repetition<'v>> {
+    let count = value.get(0).and_then(Value::as_u64)?;
+    let first = value.get(1)?;
+    let second = value.get(2).unwrap_or(first);
+    let list = value.as_array()?.as_slice();
+    Some(Repetition {
+        count,
+        first,
+        second,
+        list,
+    })
+}
+
+// The text with a number in place of `{}`, and the next one in place of `{+}`.
+fn numbered_text(alloc: Global, text: &str, number: u64) -> Result<String, AllocError> {
+    if !text.contains("{") {
+        return String::from_str(alloc, text);
+    }
+    let here = format!(in alloc; "{number}")?;
+    let next = format!(in alloc; "{}", number.saturating_add(1))?;
+    let text = text.replace(alloc, "{}", here.as_str())?;
+    text.as_str().replace(alloc, "{+}", next.as_str())
+}
+
+// A copy of a value whose texts and names of members are numbered.
+#[cycle(numbering)]
+fn numbered(alloc: Global, value: &Value, number: u64) -> Result<Value, AllocError> {
+    match value {
+        Value::String(text) => Ok(Value::String(numbered_text(alloc, text.as_str(), number)?)),
+        Value::Array(items) => Ok(Value::Array(numbered_items(alloc, items, number)?)),
+        Value::Object(members) => Ok(Value::Object(numbered_members(alloc, members, number)?)),
+        _ => value.clone(),
+    }
+}
+
+// The same of items.
+#[cycle(numbering)]
+fn numbered_items(
+    alloc: Global,
+    items: &Vec<Value>,
+    number: u64,
+) -> Result<Vec<Value>, AllocError> {
+    let mut copies = Vec::new(alloc);
+    for item in items {
+        copies.push(numbered(alloc, item, number)?)?;
+    }
+    Ok(copies)
+}
+
+// The same of members.
+#[cycle(numbering)]
+fn numbered_members(
+    alloc: Global,
+    members: &Map<String, Value>,
+    number: u64,
+) -> Result<Map<String, Value>, AllocError> {
+    let mut copies = Map::new(alloc);
+    for (name, member) in members.iter() {
+        let name = numbered_text(alloc, name.as_str(), number)?;
+        let copy = numbered(alloc, member, number)?;
+        drop(copies.insert(name, copy)?);
+    }
+    Ok(copies)
+}
+
+// Adds the numbered copies of a group of values, which come after the first of the list.
+fn push_group(
+    alloc: Global,
+    items: &mut Vec<Value>,
+    list: &[Value],
+    number: u64,
+) -> Result<(), AllocError> {
+    for value in list.iter().skip(1) {
+        items.push(numbered(alloc, value, number)?)?;
+    }
+    Ok(())
+}
+
+// Adds a group of values so many times.
+fn push_times(
+    alloc: Global,
+    items: &mut Vec<Value>,
+    count: u64,
+    list: &[Value],
+) -> Result<(), AllocError> {
+    for number in 0..count {
+        push_group(alloc, items, list, number)?;
+    }
+    Ok(())
+}
+
+// Adds so many numbered members.
+fn insert_times(
+    alloc: Global,
+    members: &mut Map<String, Value>,
+    count: u64,
+    name: &str,
+    value: &Value,
+) -> Result<(), AllocError> {
+    for number in 0..count {
+        let name = numbered_text(alloc, name, number)?;
+        let member = numbered(alloc, value, number)?;
+        drop(members.insert(name, member)?);
+    }
+    Ok(())
+}
+
+// A value inside so many objects, each with one member.
+fn within(alloc: Global, count: u64, name: &str, value: Value) -> Result<Value, AllocError> {
+    let mut outer = value;
+    for _ in 0..count {
+        let mut members = Map::new(alloc);
+        drop(members.insert(String::from_str(alloc, name)?, outer)?);
+        outer = Value::Object(members);
+    }
+    Ok(outer)
+}
+
+// So many times a text, then another one.
+fn repeated_text(alloc: Global, count: u64, text: &str, last: &str) -> Result<String, AllocError> {
+    let mut whole = String::new(alloc);
+    for _ in 0..count {
+        whole.push_str(text)?;
+    }
+    whole.push_str(last)?;
+    Ok(whole)
+}
+
+/// Returns the value that is written so. Where nothing is written shorter, it is a copy.
+///
+/// # Errors
+///
+/// Fails only out of memory.
+#[cycle(grow)]
+pub fn grown(alloc: Global, value: &Value) -> Result<Value, AllocError> {
+    match value {
+        Value::Array(items) => Ok(Value::Array(grown_items(alloc, items)?)),
+        Value::Object(members) => whole(alloc, grown_members(alloc, members)?),
+        _ => value.clone(),
+    }
+}
+
+// The same of items.
+#[cycle(grow)]
+fn grown_items(alloc: Global, items: &Vec<Value>) -> Result<Vec<Value>, AllocError> {
+    let mut copies = Vec::new(alloc);
+    for item in items {
+        let copy = grown(alloc, item)?;
+        push_whole(alloc, &mut copies, copy)?;
+    }
+    Ok(copies)
+}
+
+// The same of members.
+#[cycle(grow)]
+fn grown_members(
+    alloc: Global,
+    members: &Map<String, Value>,
+) -> Result<Map<String, Value>, AllocError> {
+    let mut copies = Map::new(alloc);
+    for (name, member) in members.iter() {
+        let copy = grown(alloc, member)?;
+        insert_whole(alloc, &mut copies, name.as_str(), copy)?;
+    }
+    Ok(copies)
+}
+
+// Adds an item whose parts are grown.
+fn push_whole(alloc: Global, items: &mut Vec<Value>, item: Value) -> Result<(), AllocError> {
+    match item.get("@times").and_then(repetition_in) {
+        Some(times) => push_times(alloc, items, times.count, times.list),
+        None => Ok(items.push(item)?),
+    }
+}
+
+// Adds a member whose parts are grown.
+fn insert_whole(
+    alloc: Global,
+    members: &mut Map<String, Value>,
+    name: &str,
+    member: Value,
+) -> Result<(), AllocError> {
+    if name == "@members" {
+        if let Some(times) = repetition_in(&member) {
+            let name = times.first.as_str().unwrap_or("");
+            return insert_times(alloc, members, times.count, name, times.second);
+        }
+    }
+    drop(members.insert(String::from_str(alloc, name)?, member)?);
+    Ok(())
+}
+
+// What an object stands for whose members are grown.
+fn whole(alloc: Global, members: Map<String, Value>) -> Result<Value, AllocError> {
+    if let Some(within_of) = members.get("@within").and_then(repetition_in) {
+        let name = within_of.first.as_str().unwrap_or("");
+        return within(alloc, within_of.count, name, within_of.second.clone()?);
+    }
+    if let Some(text) = members.get("@text").and_then(repetition_in) {
+        let first = text.first.as_str().unwrap_or("");
+        let last = text.second.as_str().unwrap_or("");
+        let text = repeated_text(alloc, text.count, first, last)?;
+        return Ok(Value::String(text));
+    }
+    Ok(Value::Object(members))
+}

@@ -1,0 +1,76 @@
+//! `check_rows FILE ..`: reads rows of the engine's cases, one on a line, as JSON, and prints which are answered otherwise than they
+//! say, and how many there are. It ends with 0 where none is, else with 1.
+#![tactic(auto)]
+
+mod comparing;
+mod growing;
+mod judging;
+mod reading;
+
+use crate::judging::{Wrong, judged};
+use anyhow::Context;
+use std::collections::BTreeSet;
+use std::env::Env;
+use std::process::ExitCode;
+use std::rt::Files;
+use std::{env, fs, io};
+
+/// How many rows there were, how many of them were wrong, and their names.
+#[derive(Drop)]
+struct Tally {
+    rows: u64,
+    wrong: u64,
+    names: BTreeSet<String>,
+}
+
+/// Judges the rows of a file, and prints a line for each that is wrong.
+fn check_file<R: Files + Print + AllocGlobal>(
+    rt: &R,
+    tally: &mut Tally,
+    file: &str,
+) -> anyhow::Result<()> {
+    let text = fs::read_to_string(rt, file).context(format_args!("reading {file}"))?;
+    for (number, line) in text.lines().enumerate() {
+        if line.trim().is_empty() {
+            continue;
+        }
+        tally.rows = tally.rows.saturating_add(1);
+        if let Some(wrong) = judged(rt.alloc(), &mut tally.names, line)? {
+            tally.wrong = tally.wrong.saturating_add(1);
+            tell(rt, wrong, number.saturating_add(1), file)?;
+        }
+    }
+    Ok(())
+}
+
+/// Prints the line of a wrong row, which is named by its name, or else by its place.
+fn tell(rt: &impl Print, wrong: Wrong, number: usize, file: &str) -> io::Result<()> {
+    let Wrong { name, given } = wrong;
+    match name {
+        Some(name) => println!(rt; "wrong: {name}\t{given}"),
+        None => println!(rt; "wrong: line {number} of {file}\t{given}"),
+    }
+}
+
+/// Judges the rows of all files that the process is given, and prints how many there were.
+fn check_files<R: Files + Env + Print + AllocGlobal>(rt: &R) -> anyhow::Result<Tally> {
+    let mut tally = Tally {
+        rows: 0,
+        wrong: 0,
+        names: BTreeSet::new(rt.alloc()),
+    };
+    for file in env::args(rt)?.skip(1) {
+        check_file(rt, &mut tally, file.as_str())?;
+    }
+    println!(rt; "{} rows, {} wrong", tally.rows, tally.wrong)?;
+    Ok(tally)
+}
+
+fn main(rt: HostRuntime) -> anyhow::Result<ExitCode> {
+    let tally = check_files(&rt)?;
+    Ok(if tally.wrong == 0 {
+        ExitCode::SUCCESS
+    } else {
+        ExitCode::FAILURE
+    })
+}

@@ -1,0 +1,56 @@
+//! From a case to its answer.
+ghost use Rattle.std.specs.Prelude.{◌≡◌, IfOk, None, codes};
+ghost use Rattle.serde_json.specs.Find.{get};
+ghost use Rattle.serde_json.specs.View.{view};
+ghost use Rattle.engine_cases.specs.Calls.{no_case};
+
+use crate::building::answered;
+use crate::call::Call;
+use crate::case::{Case, Table};
+use crate::checking::checked;
+use crate::clones::answered_alike;
+use crate::free_calls::answered_free;
+use crate::maps::answered_by_map;
+use bench_parts::table::BenchTable;
+use fused_keywords::table::FusedTable;
+use law_tests::items_table::ItemsTable;
+use schema_engine::context::keyword::Validate;
+use schema_engine::context::table::KeywordTable;
+use schema_engine::location::OutOfMemory;
+use serde_json::{Value, json};
+use std::alloc::Global;
+
+// What the engine answers of a case by a table.
+fn answer_by<K: Validate, T: KeywordTable<K>>(
+    alloc: Global,
+    case: &Case<'_>,
+    table: &T,
+) -> Result<Value, OutOfMemory> {
+    match case.call {
+        Call::Validator(question) => answered(alloc, case, table, question),
+        Call::Clones(question) => answered_alike(alloc, case, question),
+        Call::Map(question) => answered_by_map(alloc, case, table, question),
+        Call::Free => answered_free(alloc, case, table),
+        Call::Check => checked(alloc, case),
+    }
+}
+
+/// Returns what the engine answers of a case: as its call says, or `{"refused": number, "at": place, "text": text}` where the schema
+/// is refused, its place `null` for refusals that have none, or `{"disagree": ..}` where calls that are to agree do not. A value
+/// that is no case is answered `{"fault": text}`.
+///
+/// # Errors
+///
+/// Fails only out of memory.
+pub fn answer(alloc: Global, case: &Value) -> Result<Value, OutOfMemory>
+    ensures fault { IfOk result (λ v. get (codes "schema") (view case.now) ≡ None → view v ≡ no_case) }
+{
+    let Some(case) = Case::read(case) else {
+        return json!(in alloc; {"fault": "no case"});
+    };
+    match case.table {
+        Table::Bench => answer_by(alloc, &case, &BenchTable {}),
+        Table::Fused => answer_by(alloc, &case, &FusedTable {}),
+        Table::Items => answer_by(alloc, &case, &ItemsTable {}),
+    }
+}

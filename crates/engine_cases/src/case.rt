@@ -1,0 +1,125 @@
+//! The members of a case.
+ghost use Rattle.std.specs.Prelude.{◌≡◌, IfSome, None, Some, codes, unwrap_or};
+ghost use Rattle.serde_json.specs.Find.{get};
+ghost use Rattle.serde_json.specs.View.{view};
+ghost use Rattle.engine_cases.specs.Calls.{call_in};
+
+use crate::call::Call;
+use schema_engine::keywords::Draft;
+use serde_json::Value;
+
+/// A keyword table.
+#[derive(Clone, Copy, PartialEq, Eq)]
+pub enum Table {
+    /// That of `bench_parts`.
+    Bench,
+    /// That of `fused_keywords`, where `items` absorbs two others.
+    Fused,
+    /// That of `x-items` in `law_tests`.
+    Items,
+}
+
+/// A case. Its values are borrowed.
+#[derive(Clone, Copy)]
+pub struct Case<'c> {
+    pub call: Call,
+    pub table: Table,
+    pub schema: &'c Value,
+    /// The schema again, where the case has no instance.
+    pub instance: &'c Value,
+    members: &'c Value,
+}
+
+impl<'c> Case<'c> {
+    /// Returns the case that this object is: `None` where it has no schema, where there is no call of the name that its member
+    /// `call` has, and where its member `table`, if it has one, names no table. Allocates nothing.
+    pub fn read(members: &'c Value) -> Option<Case<'c>>
+        ensures schema { IfSome result (λ c. get (codes "schema") (view members.now) ≡ Some (view c.schema.now)) }
+        ensures instance { IfSome result (λ c. view c.instance.now
+            ≡ unwrap_or (get (codes "instance") (view members.now)) (view c.schema.now)) }
+        ensures call { IfSome result (λ c. call_in (view members.now) ≡ Some c.call) }
+        ensures lacking { get (codes "schema") (view members.now) ≡ None → result ≡ None }
+    {
+        let schema = members.get("schema")?;
+        let instance = members.get("instance").unwrap_or(schema);
+        let call = Call::named(members.get("call").and_then(Value::as_str)?)?;
+        let table = table_of(members.get("table"))?;
+        Some(Case {
+            call,
+            table,
+            schema,
+            instance,
+            members,
+        })
+    }
+
+    // The text that the member of this name is.
+    pub(crate) fn text(&self, name: &str) -> Option<&'c str> {
+        self.members.get(name).and_then(Value::as_str)
+    }
+
+    // The boolean that the member of this name is.
+    pub(crate) fn truth(&self, name: &str) -> Option<bool> {
+        self.members.get(name).and_then(Value::as_bool)
+    }
+
+    // The number that the member of this name is.
+    pub(crate) fn count(&self, name: &str) -> Option<usize> {
+        let number = self.members.get(name).and_then(Value::as_u64)?;
+        usize::try_from(number).ok()
+    }
+
+    // The draft whose number the member of this name is.
+    pub(crate) fn draft(&self, name: &str) -> Option<Draft> {
+        draft_numbered(self.members.get(name).and_then(Value::as_u64)?)
+    }
+
+    // What is in the list that the member of this name is, or nothing.
+    pub(crate) fn list(&self, name: &str) -> &'c [Value] {
+        match self.members.get(name).and_then(Value::as_array) {
+            Some(items) => items.as_slice(),
+            None => &[],
+        }
+    }
+}
+
+// The table of this name; the bench's where there is none.
+fn table_of(name: Option<&Value>) -> Option<Table> {
+    let Some(name) = name else {
+        return Some(Table::Bench);
+    };
+    let name = name.as_str()?;
+    if name == "bench" {
+        Some(Table::Bench)
+    } else if name == "fused" {
+        Some(Table::Fused)
+    } else if name == "items" {
+        Some(Table::Items)
+    } else {
+        None
+    }
+}
+
+// The draft of this number.
+fn draft_numbered(number: u64) -> Option<Draft> {
+    match number {
+        4 => Some(Draft::Draft4),
+        6 => Some(Draft::Draft6),
+        7 => Some(Draft::Draft7),
+        2019 => Some(Draft::Draft201909),
+        2020 => Some(Draft::Draft202012),
+        _ => None,
+    }
+}
+
+// The number of a draft; 0 for one that is not known.
+pub(crate) fn number_of(draft: Draft) -> u64 {
+    match draft {
+        Draft::Draft4 => 4,
+        Draft::Draft6 => 6,
+        Draft::Draft7 => 7,
+        Draft::Draft201909 => 2019,
+        Draft::Draft202012 => 2020,
+        Draft::Unknown => 0,
+    }
+}

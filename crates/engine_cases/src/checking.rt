@@ -1,0 +1,30 @@
+//! The check of a schema by the meta validators alone.
+
+use crate::case::Case;
+use crate::refusals::{refusal, text_or_null};
+use crate::setting::{default_draft, resolver_of};
+use bench_parts::meta::BenchMeta;
+use bench_resolver::resolver::places::root_place;
+use schema_check::check::validate_schema;
+use schema_engine::location::OutOfMemory;
+use schema_keys::error::BuildError;
+use serde_json::Value;
+use std::alloc::Global;
+
+// What the meta validators say of a case's schema, as one of its default draft.
+fn check_of(alloc: Global, case: &Case<'_>) -> Result<(), BuildError> {
+    let resolver = resolver_of(alloc, case)?;
+    let draft = default_draft(case);
+    validate_schema(alloc, &resolver, &BenchMeta {}, draft, &root_place(alloc))
+}
+
+// The instance path of the error by which the meta validators refuse a case's schema; `null` where they accept it.
+pub(crate) fn checked(alloc: Global, case: &Case<'_>) -> Result<Value, OutOfMemory> {
+    match check_of(alloc, case) {
+        Ok(()) => Ok(Value::Null),
+        Err(BuildError::MetaSchema(error)) => {
+            text_or_null(alloc, Some(error.instance_path.as_str()))
+        }
+        Err(error) => refusal(alloc, &error),
+    }
+}

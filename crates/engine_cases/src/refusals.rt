@@ -1,0 +1,35 @@
+//! Why there is no validator.
+
+use schema_engine::location::OutOfMemory;
+use schema_keys::error::BuildError;
+use serde_json::{Value, json};
+use std::alloc::{AllocError, Global};
+
+// Where what was refused stands, for a refusal that says so: a location in the schema, or, by the meta validators, an instance path.
+fn place_of(error: &BuildError) -> Option<&str> {
+    match error {
+        BuildError::NotASchema(location) => Some(location.as_str()),
+        BuildError::ReferenceNotText(location) => Some(location.as_str()),
+        BuildError::MetaSchema(error) => Some(error.instance_path.as_str()),
+        _ => None,
+    }
+}
+
+// A text, or `null` where there is none.
+pub(crate) fn text_or_null(alloc: Global, text: Option<&str>) -> Result<Value, OutOfMemory> {
+    match text {
+        Some(text) => Value::try_from_str(alloc, text),
+        None => Ok(Value::Null),
+    }
+}
+
+// A refusal as a value: its number, its place and its text.
+pub(crate) fn refusal(alloc: Global, error: &BuildError) -> Result<Value, OutOfMemory> {
+    if matches!(error, BuildError::OutOfMemory) {
+        return Err(AllocError);
+    }
+    let number = error.number();
+    let place = text_or_null(alloc, place_of(error))?;
+    let text = format!(in alloc; "{error}")?;
+    json!(in alloc; {"refused": number, "at": place, "text": text})
+}

@@ -1,0 +1,122 @@
+//! What the schema of a case is built with.
+
+use crate::case::Case;
+use bench_parts::matcher::BenchMatcher;
+use bench_resolver::resolver::BenchResolver;
+use bench_resolver::resolver::documents::Document;
+use schema_engine::keywords::{Draft, Vocabulary, VocabularySet};
+use schema_engine::location::OutOfMemory;
+use schema_engine::options::ValidationOptions;
+use serde_json::Value;
+use std::alloc::Global;
+
+/// The options, the resolver and the matcher, and how many targets of references are compiled one inside another, where the case
+/// says so.
+#[derive(Drop)]
+pub(crate) struct Setting<'c> {
+    pub options: ValidationOptions,
+    pub resolver: BenchResolver<'c>,
+    pub matcher: BenchMatcher,
+    pub nested: Option<usize>,
+}
+
+impl<'c> Setting<'c> {
+    // The setting of a case.
+    pub(crate) fn of(alloc: Global, case: &Case<'c>) -> Result<Setting<'c>, OutOfMemory> {
+        Ok(Setting {
+            options: options_of(alloc, case)?,
+            resolver: resolver_of(alloc, case)?,
+            matcher: matcher_of(alloc, case)?,
+            nested: case.count("nested"),
+        })
+    }
+}
+
+// The options of a case.
+fn options_of(alloc: Global, case: &Case<'_>) -> Result<ValidationOptions, OutOfMemory> {
+    let mut options = plain_options_of(alloc, case);
+    if let Some(base) = case.text("base") {
+        options = options.with_base_uri(alloc, base)?;
+    }
+    for uri in case.list("declares") {
+        options = options.with_vocabulary(alloc, uri.as_str().unwrap_or(""))?;
+    }
+    Ok(options)
+}
+
+// The options of a case that hold no text.
+fn plain_options_of(alloc: Global, case: &Case<'_>) -> ValidationOptions {
+    let mut options = ValidationOptions::new(alloc);
+    if let Some(draft) = case.draft("draft") {
+        options = options.with_draft(draft);
+    }
+    if let Some(limit) = case.count("limit") {
+        options = options.with_node_limit(limit);
+    }
+    if let Some(checked) = case.truth("check") {
+        options = options.should_validate_schema(checked);
+    }
+    if let Some(checked) = case.truth("formats") {
+        options = options.should_validate_formats(checked);
+    }
+    options
+}
+
+// The vocabularies that the resolver requires, each a custom one.
+fn required_by(alloc: Global, case: &Case<'_>) -> Result<VocabularySet, OutOfMemory> {
+    let mut required = VocabularySet::new(alloc);
+    for uri in case.list("requires") {
+        let uri = String::from_str(alloc, uri.as_str().unwrap_or(""))?;
+        required = required.with(Vocabulary::Custom(uri))?;
+    }
+    Ok(required)
+}
+
+// A document that is found under this URI.
+fn document<'c>(alloc: Global, uri: &str, value: &'c Value) -> Result<Document<'c>, OutOfMemory> {
+    let uri = String::from_str(alloc, uri)?;
+    Ok(Document { uri, value })
+}
+
+// The further documents: of each pair a URI and a value.
+fn further_documents<'c>(
+    alloc: Global,
+    pairs: &'c [Value],
+) -> Result<Vec<Document<'c>>, OutOfMemory> {
+    let mut documents = Vec::new(alloc);
+    for pair in pairs {
+        let uri = pair.get(0).and_then(Value::as_str).unwrap_or("");
+        let value = pair.get(1).unwrap_or(pair);
+        documents.push(document(alloc, uri, value)?)?;
+    }
+    Ok(documents)
+}
+
+// The draft of a case's schemas that name none.
+pub(crate) fn default_draft(case: &Case<'_>) -> Draft {
+    case.draft("default").unwrap_or(Draft::Draft202012)
+}
+
+// The resolver of a case's documents. Where the case has a URI for its schema, the schema is found under it.
+pub(crate) fn resolver_of<'c>(
+    alloc: Global,
+    case: &Case<'c>,
+) -> Result<BenchResolver<'c>, OutOfMemory> {
+    let required = required_by(alloc, case)?;
+    let draft = default_draft(case);
+    let Some(uri) = case.text("uri") else {
+        return BenchResolver::with_draft(alloc, draft, case.schema, required);
+    };
+    let root = document(alloc, uri, case.schema)?;
+    let others = further_documents(alloc, case.list("documents"))?;
+    BenchResolver::with_documents(alloc, draft, root, others, required)
+}
+
+// The matcher that leaves a case's patterns unfinished.
+fn matcher_of(alloc: Global, case: &Case<'_>) -> Result<BenchMatcher, OutOfMemory> {
+    let mut unfinished = Vec::new(alloc);
+    for pattern in case.list("unfinished") {
+        unfinished.push(String::from_str(alloc, pattern.as_str().unwrap_or(""))?)?;
+    }
+    Ok(BenchMatcher::new(unfinished))
+}

@@ -1,0 +1,11 @@
+use Rattle.std.proofs.Common.{ℕ, ◌≡◌}
+use Rattle.schema_definitions.specs.Keywords.{Answer}
+use Rattle.bench_keywords.specs.declared.names.NamesRun.{NamesRun}
+use Rattle.engine_tests.specs.Detours.{Detouring}
+use Rattle.engine_tests.proofs.leaf_tests.DetourKeywordValidate.begin.Goals as goal
+
+both : (left before : ℕ) (run own : NamesRun × Answer) → before ≡ left → run ≡ own → ◌≡◌ {A = Detouring × Answer} ((left, run.0), run.1) ((before, own.0), own.1)
+both left before run own e f = cc
+
+pub returns : goal.returns
+returns c = record { begins = λ texts. both _ _ _ _ (rw c.as_slice.ensures.value at c.matches_before.ensures.before) (c.in_ok-own.ensures.begins texts) }

@@ -1,0 +1,23 @@
+-- In each mode that wants no units, a detour asks no child for its units.
+use Rattle.std.proofs.Common.{Bool, suc, sym, zero, ℕ, ◌∙◌}
+use Rattle.schema_definitions.specs.Instance.{Subject}
+use Rattle.schema_definitions.specs.Keywords.{Answer, Reply, no_reply}
+use Rattle.schema_parts.specs.KeywordViews.{fresh}
+use Rattle.schema_parts.specs.UnitQuestions.{AlwaysAsksForLess, AsksNoUnits}
+use Rattle.bench_keywords.specs.declared.names.NamesRun.{NamesRun}
+use Rattle.engine_tests.specs.Detours.{Detour, detour_words, matches_before}
+use Rattle.bench_keywords.specs.Words.{run_way, words}
+use Rattle.keyword_ways.specs.WayUnits.{WantsNone, mode-kept, step_for_less}
+
+-- each turn keeps the run's mode
+turns_for_less : (texts : Bool) (m : Detour) (s : Subject) (n left : ℕ) (r : NamesRun × Answer) (reply : Reply) → WantsNone r.0.progress.mode
+    → AlwaysAsksForLess (detour_words texts) m s n ((left, r.0), r.1) reply
+turns_for_less texts m s zero left r reply none = tt
+turns_for_less texts m s (suc n) zero r reply none =
+    (step_for_less (run_way texts (m.1, r.0.names) s) r.0.progress.mode r.0.progress.stage reply none, λ next. turns_for_less texts m s n 0 ((words texts).turn m.1 s r reply) next none)
+turns_for_less texts m s (suc n) (suc k) r reply none = (tt, λ next. turns_for_less texts m s n k r next none)
+
+-- units are asked for by evaluations alone
+pub detour_asks_no_units : (texts : Bool) → AsksNoUnits (detour_words texts)
+detour_asks_no_units texts = λ m s mode' none.
+    turns_for_less texts m s ((detour_words texts).most_turns m s) (matches_before m.0 mode') (((words texts).begin m.1 s mode').0, fresh mode') no_reply (λ e. none (sym (mode-kept mode') ∙ e))

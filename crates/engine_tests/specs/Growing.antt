@@ -1,0 +1,35 @@
+-- A resolver that never comes back to a state: each lookup leads to the root, in a state that is one more.
+use Rattle.std.specs.Prelude.{Err, None, Ok, Result, Some, [], codes, if◌then◌else◌, nat_eq, nat_lt, suc, true, ℕ}
+use Rattle.schema_definitions.specs.Instance.{Text}
+use Rattle.schema_definitions.specs.Drafts.{draft_7}
+use Rattle.schema_definitions.specs.Resolving.{Found, Resolver}
+use Rattle.bench_subschemas.specs.BenchResolving.{root_place}
+use Rattle.bench_resolver.specs.BenchDocuments.{BenchDocument}
+use Rattle.bench_resolver.specs.BenchAnswers.{bench_resolving}
+
+-- the state is how many lookups there were, which is refused where it would pass what 64 bits hold
+abbrev pub next : ℕ → Result (Found ℕ) Text
+next n =
+    if nat_lt n 18446744073709551615 then
+    Ok (record { place = root_place; state = suc n; draft = draft_7 })
+    else
+    Err (codes "no more states")
+
+abbrev pub growing : BenchDocument → Resolver ℕ
+growing r = record {
+  same_state = nat_eq;
+  value = (bench_resolving r).value;
+  root = λ uri. Some (record { place = root_place; state = 0 });
+  lookup = λ n reference dynamic. next n;
+  lookup_recursive = next;
+  in_subresource = λ n d p. Ok n;
+  resolve_uri = λ n reference. Ok reference;
+  base_uri = λ n. codes "json-schema:///";
+  resource_root = λ n. root_place;
+  find_vocabularies = λ n d p. [];
+  detect = λ d v. d;
+  draft_for = λ v. Ok draft_7;
+  id = λ d v. None;
+  subresources_of = λ d p. [];
+  is_known_keyword = λ d name. true;
+}

@@ -1,0 +1,5 @@
+pub mod Detours
+pub mod DetourUnits
+pub mod DetourVerdicts
+pub mod Growing
+pub mod MarkingTable

@@ -1,0 +1,2 @@
+pub mod BlankedDocuments
+pub mod CheckedDocuments

@@ -1,9 +1,0 @@
-use Rattle.std.proofs.Common.{◌≡◌, ◌+◌, drop}
-use Rattle.schema_reports.specs.Plan.{segments_length}
-use Rattle.schema_compiler.proofs.compiler.start.segments_length.Given as goal
-
-abbrev pub invariant-loop-x : goal.invariant-loop-x
-invariant-loop-x l = record {
-  so_far : l.size + segments_length l.left (drop l.x-index l.x-items) ≡ segments_length l.count l.x-items;
-  size : l.size ≡ l.x-index;
-}

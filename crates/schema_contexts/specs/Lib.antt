@@ -1,0 +1,15 @@
+pub use Rattle.schema_parts.specs.SchemaViews
+pub use Rattle.schema_parts.specs.ResolverViews
+pub use Rattle.schema_parts.specs.KeywordViews
+pub use Rattle.schema_parts.specs.MakerViews
+pub use Rattle.schema_parts.specs.UnitQuestions
+pub use Rattle.schema_parts.specs.FaultViews
+pub use Rattle.schema_parts.specs.EdgeViews
+pub mod Progress
+pub mod Verdicts
+pub mod VerdictViews
+pub mod Matches
+pub mod MarkViews
+pub mod ProgressViews
+pub mod EvaluationPaths
+pub mod KeptPaths

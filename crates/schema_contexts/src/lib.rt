@@ -1,0 +1,8 @@
+//! The context of a run: what is in progress, what is marked, and what is remembered and kept.
+#![tactic(auto)]
+
+pub mod evaluation_path;
+pub mod kept_paths;
+pub mod marks;
+pub mod validation;
+mod verdicts;

@@ -1,0 +1,4 @@
+pub mod Products
+pub mod VocabularyLists
+pub mod RisingTexts
+pub mod SameVocabularies

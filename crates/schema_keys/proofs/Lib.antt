@@ -1,0 +1,6 @@
+pub mod SameKeys
+pub mod Chains
+pub mod Fragments
+pub mod Lists
+pub mod Members
+pub mod CustomVocabularies

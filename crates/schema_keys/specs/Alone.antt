@@ -1,0 +1,37 @@
+-- A subschema that is compiled by itself: its key, why it has none, and what is said of its root's own vocabularies.
+use Rattle.std.specs.Prelude.{Contains, None, Option, [], flat_map, option_map, string_bytes, ◌≡◌}
+use Rattle.schema_definitions.specs.Instance.{Place}
+use Rattle.schema_definitions.specs.Parts.{Parts}
+use Rattle.schema_definitions.specs.Plan.{Key, subschema}
+use Rattle.schema_meaning.specs.Refusals.{undeclared, unsupported_vocabulary}
+use Rattle.schema_keys.specs.declared.error.BuildError.{BuildError}
+use Rattle.schema_keys.specs.declared.error.BuildError.TheVariants.{KeywordRefused, Lookup, MetaSchema, MissingRoot, NodeLimit, NotASchema, OutOfMemory, ReferenceNotText, UnsupportedVocabulary}
+
+-- why a subschema has no key: the resolver refuses its state; want of memory says nothing
+abbrev pub RefusesKeyAlone : {A : Type 0} → Option A → BuildError → Type 0
+RefusesKeyAlone o (NotASchema location) = ⊥
+RefusesKeyAlone o (ReferenceNotText location) = ⊥
+RefusesKeyAlone o (Lookup text) = o ≡ None
+RefusesKeyAlone o (KeywordRefused error) = ⊥
+RefusesKeyAlone o (UnsupportedVocabulary uri) = ⊥
+RefusesKeyAlone o (MetaSchema error) = ⊥
+RefusesKeyAlone o (MissingRoot uri) = ⊥
+RefusesKeyAlone o (NodeLimit n) = ⊥
+RefusesKeyAlone o OutOfMemory = Unit {0}
+
+module _ {S K R : Type 0} (w : Parts S K R) where
+  -- the key of the subschema at a path below a root, at the empty location
+  abbrev pub key_alone : Key S → Place → Option (Key S)
+  key_alone root path = option_map (λ edge. record edge.key { location = []; base = []; start = 0 }) (subschema w root path)
+
+  -- why a root's own vocabularies are refused: one of them is not declared; want of memory says nothing
+  abbrev pub RefusesVocabularies : Key S → BuildError → Type 0
+  RefusesVocabularies root (NotASchema location) = ⊥
+  RefusesVocabularies root (ReferenceNotText location) = ⊥
+  RefusesVocabularies root (Lookup text) = ⊥
+  RefusesVocabularies root (KeywordRefused error) = ⊥
+  RefusesVocabularies root (UnsupportedVocabulary uri) = Contains (flat_map (undeclared w) root.target.vocabularies) (unsupported_vocabulary (string_bytes uri))
+  RefusesVocabularies root (MetaSchema error) = ⊥
+  RefusesVocabularies root (MissingRoot uri) = ⊥
+  RefusesVocabularies root (NodeLimit n) = ⊥
+  RefusesVocabularies root OutOfMemory = Unit {0}

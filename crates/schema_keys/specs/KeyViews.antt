@@ -1,0 +1,20 @@
+-- The code's keys and kinds of references, as the definitions have them.
+use Rattle.schema_definitions.specs.Plan as plan
+use Rattle.schema_keywords.specs.KeywordViews.{draft_of}
+use Rattle.schema_parts.specs.ResolverViews.{place_of}
+use Rattle.schema_keys.specs.declared.key.SchemaKey.{SchemaKey}
+use Rattle.schema_keys.specs.declared.references.ReferenceKind.{ReferenceKind}
+use Rattle.schema_keys.specs.declared.references.ReferenceKind.TheVariants as kind
+
+abbrev pub key_of : {S P : Type 0} → (S → P) → SchemaKey S → plan.Key P
+key_of point k = record {
+  target = record { place = place_of k.place; state = point k.state; draft = draft_of k.draft; vocabularies = k.vocabularies };
+  location = k.location;
+  base = k.base;
+  start = k.start;
+}
+
+abbrev pub kind_of : ReferenceKind → plan.Reference
+kind_of kind.Ref = plan.to_ref
+kind_of kind.Dynamic = plan.to_dynamic
+kind_of kind.Recursive = plan.to_recursive

@@ -1,0 +1,10 @@
+pub mod KeyViews
+pub mod KeyHashes
+pub mod Compiling
+pub mod Referring
+pub mod Refusing
+pub mod Alone
+pub mod Builtins
+pub mod Dialects
+pub mod Readings
+pub mod ShownBases

@@ -1,0 +1,75 @@
+-- What a refusal of the compiler says: a cause that stands, or more keys than the limit.
+use Rattle.std.specs.Prelude.{List, None, Option, Some, codes, length, slice_get, string_bytes, ℕ, ◌++◌, ◌<◌, ◌≡◌}
+use Rattle.schema_definitions.specs.Parts.{Parts}
+use Rattle.schema_definitions.specs.Plan.{Edge, Key}
+use Rattle.schema_meaning.specs.Refusals.{Cause, keyword_refused, lookup_refuses, not_a_schema, reference_not_text, unsupported_vocabulary}
+use Rattle.schema_reports.specs.ReportViews.{owned_error_of}
+use Rattle.schema_parts.specs.declared.resolver.LookupError.{LookupError}
+use Rattle.schema_parts.specs.declared.resolver.LookupError.TheVariants as lookup
+use Rattle.schema_keys.specs.Compiling.{Blames, Each, In, ReachedFrom}
+use Rattle.schema_keys.specs.declared.error.BuildError.{BuildError}
+use Rattle.schema_keys.specs.declared.error.BuildError.TheVariants.{KeywordRefused, Lookup, MetaSchema, MissingRoot, NodeLimit, NotASchema, OutOfMemory, ReferenceNotText, UnsupportedVocabulary}
+
+abbrev pub build_error_of : LookupError → BuildError
+build_error_of (lookup.Refused t) = Lookup t
+build_error_of lookup.OutOfMemory = OutOfMemory
+
+-- the refusals in the order of their numbers
+abbrev pub number_of : BuildError → ℕ
+number_of (NotASchema location) = 1
+number_of (ReferenceNotText location) = 2
+number_of (Lookup text) = 3
+number_of (KeywordRefused error) = 4
+number_of (UnsupportedVocabulary uri) = 5
+number_of (MetaSchema error) = 6
+number_of (MissingRoot uri) = 7
+number_of (NodeLimit limit) = 8
+number_of OutOfMemory = 9
+
+-- what is printed of a required vocabulary that is not declared; the other texts are for people alone
+abbrev pub refusal_text : BuildError → Option (List ℕ)
+refusal_text (NotASchema location) = None
+refusal_text (ReferenceNotText location) = None
+refusal_text (Lookup text) = None
+refusal_text (KeywordRefused error) = None
+refusal_text (UnsupportedVocabulary uri) = Some (codes "Unknown vocabulary: '" ++ (string_bytes uri ++ codes "' is required by the meta-schema. Adjust configuration to declare support for it"))
+refusal_text (MetaSchema error) = None
+refusal_text (MissingRoot uri) = None
+refusal_text (NodeLimit limit) = None
+refusal_text OutOfMemory = None
+
+-- each key once
+abbrev pub AreDistinct : {S : Type 0} → List (Key S) → Type 0
+AreDistinct {S} keys = (i j : ℕ) (k : Key S) → slice_get keys i ≡ Some k → slice_get keys j ≡ Some k → i ≡ j
+
+-- with these keys and others for which P holds there are more than the limit
+abbrev pub OverLimit : {S : Type 0} → ℕ → List (Key S) → (Key S → Type 0) → Type 0
+OverLimit {S} limit keys P = (ks : List (Key S)) × Each P ks × AreDistinct (keys ++ ks) × (limit < length (keys ++ ks))
+
+-- a refusal shows a cause for which C holds; want of memory says nothing
+abbrev pub IsRefusal : {S : Type 0} → ℕ → List (Key S) → (Key S → Type 0) → (Cause → Type 0) → BuildError → Type 0
+IsRefusal limit keys P C (NotASchema location) = C (not_a_schema location)
+IsRefusal limit keys P C (ReferenceNotText location) = C (reference_not_text location)
+IsRefusal limit keys P C (Lookup text) = C (lookup_refuses (string_bytes text))
+IsRefusal limit keys P C (KeywordRefused error) = C (keyword_refused (owned_error_of error))
+IsRefusal limit keys P C (UnsupportedVocabulary uri) = C (unsupported_vocabulary (string_bytes uri))
+IsRefusal limit keys P C (MetaSchema error) = ⊥
+IsRefusal limit keys P C (MissingRoot uri) = ⊥
+IsRefusal limit keys P C (NodeLimit n) = (n ≡ limit) × OverLimit limit keys P
+IsRefusal limit keys P C OutOfMemory = Unit {0}
+
+-- a refusal of a step that asks for these edges, and for which these causes are to be looked at
+abbrev pub Refused : {S K R : Type 0} → Parts S K R → ℕ → List (Edge S) → List Cause → List (Key S) → BuildError → Type 0
+Refused w limit es cs keys = IsRefusal limit keys (ReachedFrom w es) (Blames w es cs)
+
+-- a refusal of one of these causes, with no key asked for
+abbrev pub Names : List Cause → BuildError → Type 0
+Names cs (NotASchema location) = In cs (not_a_schema location)
+Names cs (ReferenceNotText location) = In cs (reference_not_text location)
+Names cs (Lookup text) = In cs (lookup_refuses (string_bytes text))
+Names cs (KeywordRefused error) = In cs (keyword_refused (owned_error_of error))
+Names cs (UnsupportedVocabulary uri) = In cs (unsupported_vocabulary (string_bytes uri))
+Names cs (MetaSchema error) = ⊥
+Names cs (MissingRoot uri) = ⊥
+Names cs (NodeLimit n) = ⊥
+Names cs OutOfMemory = Unit {0}

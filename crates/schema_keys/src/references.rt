@@ -1,0 +1,314 @@
+//! References: where they lead, and the keys of their targets.
+ghost use Rattle.std.specs.Prelude.{◌≡◌, ◌==◌, IfOk, IfErr, MatchResult, Ok, not, option_map, string_bytes};
+ghost use Rattle.std.specs.Str.Lossy.{utf8_lossy};
+ghost use Rattle.percent_encoding.specs.Percent.{percent_decode};
+ghost use Rattle.schema_definitions.specs.Pointer.{pointer_to};
+ghost use Rattle.schema_definitions.specs.Plan.{found, fragment, location_by, looked_up, resolved, start_by, referred_at, reference_named};
+ghost use Rattle.schema_definitions.specs.Plan.{is_recursive_ref, without_prefix};
+ghost use Rattle.schema_meaning.specs.Refusals.{lookup_causes};
+ghost use Rattle.schema_parts.specs.ResolverViews.{Refuses, found_of, place_of};
+ghost use Rattle.schema_keys.specs.KeyViews.{key_of, kind_of};
+ghost use Rattle.schema_keys.specs.Compiling.{resolving_parts, skips};
+ghost use Rattle.schema_keys.specs.Referring.{LeadsBy};
+ghost use Rattle.schema_keys.specs.Referring.{IsReferredBy, by_flag, referred_by};
+ghost use Rattle.schema_keys.specs.Refusing.{Names};
+
+use crate::context::Context;
+use crate::error::BuildError;
+use crate::key::SchemaKey;
+use crate::text::fragment_of;
+use percent_encoding::{decode_utf8_lossy, percent_decode};
+use schema_parts::resolver::{LookupError, Resolver, Target};
+use schema_reports::location::{Location, OutOfMemory};
+use std::alloc::Global;
+
+/// A reference keyword.
+#[derive(Clone, Copy)]
+pub enum ReferenceKind {
+    /// `$ref`.
+    Ref,
+    /// `$dynamicRef`.
+    Dynamic,
+    /// `$recursiveRef`.
+    Recursive,
+}
+
+impl ReferenceKind {
+    /// Returns whether its target counts among those that nest: that of a `$recursiveRef` does not.
+    pub fn nests(self) -> bool
+        ensures nests { result ≡ not (is_recursive_ref (kind_of self)) }
+    {
+        !matches!(self, ReferenceKind::Recursive)
+    }
+}
+
+/// The reference keyword of a name, if it is one.
+pub fn reference_kind(name: &str) -> Option<ReferenceKind>
+    ensures kind { option_map kind_of result ≡ reference_named name.now }
+{
+    if name == "$ref" {
+        Some(ReferenceKind::Ref)
+    } else if name == "$dynamicRef" {
+        Some(ReferenceKind::Dynamic)
+    } else if name == "$recursiveRef" {
+        Some(ReferenceKind::Recursive)
+    } else {
+        None
+    }
+}
+
+// The text of a pointer in a fragment.
+fn decoded_pointer(alloc: Global, fragment: &str) -> Result<Location, OutOfMemory>
+    ensures decoded { IfOk result (λ l. l ≡ utf8_lossy (percent_decode fragment.now)) }
+{
+    let bytes = percent_decode(fragment.as_bytes()).into_cow(alloc)?;
+    let text = decode_utf8_lossy(alloc, bytes)?;
+    Location::from_escaped(alloc, text.as_str())
+}
+
+// What a reference leads to, and the URI that its text stands for.
+#[derive(Drop)]
+struct Sought<S> {
+    target: Target<S>,
+    uri: String,
+}
+
+/// Where a reference's target stands: its location, and how much of it lies outside the target's resource.
+#[derive(Drop)]
+pub struct RefTarget {
+    /// The pointer that the reference's fragment is, or the target's path below the root of its resource.
+    pub location: Location,
+    /// How many bytes of `location` lie outside the target's resource.
+    pub start: usize,
+}
+
+impl<'p, 'c, R: Resolver> Context<'p, 'c, R> {
+    /// Returns the URI that a reference stands for in the schema's resource. An empty reference is read as `#`. Fails if the
+    /// resolver refuses the reference, or if memory cannot be allocated.
+    pub fn resolve_reference_uri(&self, reference: &str) -> Result<String, LookupError>
+        ensures uri { MatchResult result
+            (λ t. resolved (resolving_parts (R.resolving self.now.resolver.now))
+            (key_of R.point self.now.key.now) reference.now ≡ Ok (string_bytes t))
+            (Refuses (resolved (resolving_parts (R.resolving self.now.resolver.now))
+            (key_of R.point self.now.key.now) reference.now)) }
+    {
+        let text = if reference.is_empty() { "#" } else { reference };
+        self.resolver.resolve_uri(self.alloc, &self.key.state, text)
+    }
+
+    /// Returns what a reference leads to; `dynamic` says that it is a `$dynamicRef`. An empty reference is read as `#`.
+    /// Fails if the resolver refuses the reference, or if memory cannot be allocated.
+    pub fn lookup(&self, reference: &str, dynamic: bool) -> Result<Target<R::State>, LookupError>
+        ensures found { MatchResult result
+            (λ t. looked_up (resolving_parts (R.resolving self.now.resolver.now))
+            (key_of R.point self.now.key.now) dynamic reference.now ≡ Ok (found_of R.point t))
+            (Refuses (looked_up (resolving_parts (R.resolving self.now.resolver.now))
+            (key_of R.point self.now.key.now) dynamic reference.now)) }
+    {
+        let reference = if reference.is_empty() { "#" } else { reference };
+        self.resolver
+            .lookup(self.alloc, &self.key.state, reference, dynamic)
+    }
+
+    /// Returns what a `$recursiveRef` leads to. Fails if the resolver refuses it, or if memory cannot be allocated.
+    pub fn lookup_recursive_reference(&self) -> Result<Target<R::State>, LookupError>
+        ensures found { MatchResult result
+            (λ t. (R.resolving self.now.resolver.now).lookup_recursive (R.point self.now.key.now.state) ≡
+            Ok (found_of R.point t))
+            (Refuses ((R.resolving self.now.resolver.now).lookup_recursive
+            (R.point self.now.key.now.state))) }
+    {
+        self.resolver
+            .lookup_recursive_ref(self.alloc, &self.key.state)
+    }
+
+    // What the resolver finds for a `$ref`'s or a `$dynamicRef`'s text, and the URI that the text stands for.
+    fn sought_by_uri(&self, text: &str, dynamic: bool) -> Result<Sought<R::State>, LookupError>
+        ensures found { MatchResult result
+            (λ s. found (resolving_parts (R.resolving self.now.resolver.now))
+            (key_of R.point self.now.key.now) (by_flag dynamic) text.now ≡ Ok (found_of R.point s.target))
+            (Refuses (found (resolving_parts (R.resolving self.now.resolver.now))
+            (key_of R.point self.now.key.now) (by_flag dynamic) text.now)) }
+        ensures uri { IfOk result (λ s. resolved (resolving_parts (R.resolving self.now.resolver.now))
+            (key_of R.point self.now.key.now) text.now ≡ Ok (string_bytes s.uri)) }
+    {
+        let uri = self.resolve_reference_uri(text)?;
+        let target = self.lookup(text, dynamic)?;
+        Ok(Sought { target, uri })
+    }
+
+    // What the resolver finds for a reference's text, and the URI that the text stands for; a `$recursiveRef` has none.
+    fn sought(&self, kind: ReferenceKind, text: &str) -> Result<Sought<R::State>, LookupError>
+        ensures found { MatchResult result
+            (λ s. found (resolving_parts (R.resolving self.now.resolver.now))
+            (key_of R.point self.now.key.now) (kind_of kind) text.now ≡ Ok (found_of R.point s.target))
+            (Refuses (found (resolving_parts (R.resolving self.now.resolver.now))
+            (key_of R.point self.now.key.now) (kind_of kind) text.now)) }
+        ensures uri { IfOk result (λ s. IsReferredBy (resolving_parts (R.resolving self.now.resolver.now))
+            (key_of R.point self.now.key.now) (kind_of kind) text.now (string_bytes s.uri)) }
+    {
+        match kind {
+            ReferenceKind::Ref => self.sought_by_uri(text, false),
+            ReferenceKind::Dynamic => self.sought_by_uri(text, true),
+            ReferenceKind::Recursive => Ok(Sought {
+                target: self.lookup_recursive_reference()?,
+                uri: String::new(self.alloc),
+            }),
+        }
+    }
+
+    // What a reference's text leads to, and the URI that it stands for.
+    fn lookup_reference(
+        &self,
+        kind: ReferenceKind,
+        text: &str,
+    ) -> Result<Sought<R::State>, BuildError>
+        ensures found { IfOk result (λ s.
+            found (resolving_parts (R.resolving self.now.resolver.now))
+            (key_of R.point self.now.key.now) (kind_of kind) text.now ≡ Ok (found_of R.point s.target)) }
+        ensures uri { IfOk result (λ s. IsReferredBy (resolving_parts (R.resolving self.now.resolver.now))
+            (key_of R.point self.now.key.now) (kind_of kind) text.now (string_bytes s.uri)) }
+        ensures refused { IfErr result (Names
+            (lookup_causes (resolving_parts (R.resolving self.now.resolver.now))
+            (found (resolving_parts (R.resolving self.now.resolver.now))
+            (key_of R.point self.now.key.now) (kind_of kind) text.now))) }
+    {
+        Ok(self.sought(kind, text)?)
+    }
+
+    // Whether a reference leads to the object that holds it; `$recursiveRef` counts as one that does not.
+    fn is_skipped(&self, kind: ReferenceKind, target: &Target<R::State>) -> bool
+        ensures skipped { result ≡
+            skips (kind_of kind) (place_of target.now.place) (place_of self.now.key.now.place) }
+    {
+        match kind {
+            ReferenceKind::Recursive => false,
+            ReferenceKind::Ref => target.place == self.key.place,
+            ReferenceKind::Dynamic => target.place == self.key.place,
+        }
+    }
+
+    /// Returns the location in its resource of a target that a name leads to: its path below the resource's root. Fails
+    /// only if memory cannot be allocated.
+    pub fn anchor_location(&self, target: &Target<R::State>) -> Result<Location, OutOfMemory>
+        ensures location { IfOk result (λ l. l ≡ pointer_to (without_prefix target.now.place.path
+            ((R.resolving self.now.resolver.now).resource_root (R.point target.now.state)).path)) }
+    {
+        let root = self.resolver.resource_root(self.alloc, &target.state)?;
+        let path = target.place.path.after(self.alloc, root.path.len())?;
+        path.pointer(self.alloc)
+    }
+
+    // The pointer that a fragment is, or else, for a name, the target's path below the root of its resource.
+    fn location_of_target(
+        &self,
+        target: &Target<R::State>,
+        fragment: &str,
+    ) -> Result<Location, OutOfMemory>
+        ensures location { IfOk result (λ l. l ≡
+            location_by (resolving_parts (R.resolving self.now.resolver.now))
+            (found_of R.point target.now) fragment.now) }
+    {
+        if fragment.is_empty() {
+            return Ok(Location::new(self.alloc));
+        }
+        if fragment.as_bytes()[0] == b'/' {
+            return decoded_pointer(self.alloc, fragment);
+        }
+        self.anchor_location(target)
+    }
+
+    // How much of a pointer's location lies outside the target's resource; a name's location lies in it.
+    fn start_of_fragment(
+        &self,
+        target: &Target<R::State>,
+        fragment: &str,
+        location: &Location,
+    ) -> Result<usize, OutOfMemory>
+        requires location { location.now ≡
+            location_by (resolving_parts (R.resolving self.now.resolver.now))
+            (found_of R.point target.now) fragment.now }
+        ensures start { IfOk result (λ n. n ≡
+            start_by (resolving_parts (R.resolving self.now.resolver.now))
+            (found_of R.point target.now) fragment.now) }
+    {
+        if fragment.is_empty() {
+            return Ok(0);
+        }
+        if fragment.as_bytes()[0] == b'/' {
+            return self.start_of_target(target, location);
+        }
+        Ok(0)
+    }
+
+    /// Returns where a reference's target stands, by the URI that the reference stands for. Fails only if memory cannot be allocated.
+    pub fn ref_target(&self, uri: &str, target: &Target<R::State>) -> Result<RefTarget, OutOfMemory>
+        ensures location { IfOk result (λ t. t.location ≡
+            location_by (resolving_parts (R.resolving self.now.resolver.now))
+            (found_of R.point target.now) (fragment uri.now)) }
+        ensures start { IfOk result (λ t. t.start ≡
+            start_by (resolving_parts (R.resolving self.now.resolver.now))
+            (found_of R.point target.now) (fragment uri.now)) }
+    {
+        let fragment = fragment_of(uri);
+        let location = self.location_of_target(target, fragment)?;
+        let start = self.start_of_fragment(target, fragment, &location)?;
+        Ok(RefTarget { location, start })
+    }
+
+    /// Returns the key of a reference's target that stands there, with the vocabularies that are in force at it. Fails only
+    /// if memory cannot be allocated.
+    pub fn with_resolver_and_draft(
+        &self,
+        target: Target<R::State>,
+        stands: RefTarget,
+    ) -> Result<SchemaKey<R::State>, OutOfMemory>
+        ensures key { IfOk result (λ k. key_of R.point k ≡
+            referred_at (resolving_parts (R.resolving self.now.resolver.now))
+            (found_of R.point target) stands.location stands.start) }
+    {
+        let vocabularies = self
+            .resolver
+            .find_vocabularies(self.alloc, &target.state, target.draft, &target.place)?;
+        Ok(SchemaKey {
+            place: target.place,
+            state: target.state,
+            draft: target.draft,
+            vocabularies,
+            base: stands.location.clone()?,
+            location: stands.location,
+            start: stands.start,
+        })
+    }
+
+    // The key of a reference's target.
+    fn referred_key(&self, sought: Sought<R::State>) -> Result<SchemaKey<R::State>, OutOfMemory>
+        ensures key { IfOk result (λ k. key_of R.point k ≡
+            referred_by (resolving_parts (R.resolving self.now.resolver.now))
+            (found_of R.point sought.target) (string_bytes sought.uri)) }
+    {
+        let stands = self.ref_target(sought.uri.as_str(), &sought.target)?;
+        self.with_resolver_and_draft(sought.target, stands)
+    }
+
+    /// Returns the key that a reference leads to; none where it leads to the very object that holds it.
+    pub fn target_key(
+        &self,
+        kind: ReferenceKind,
+        text: &str,
+    ) -> Result<Option<SchemaKey<R::State>>, BuildError>
+        ensures target { IfOk result
+            (LeadsBy (resolving_parts (R.resolving self.now.resolver.now)) R.point
+            (key_of R.point self.now.key.now) (kind_of kind) text.now) }
+        ensures refused { IfErr result (Names
+            (lookup_causes (resolving_parts (R.resolving self.now.resolver.now))
+            (found (resolving_parts (R.resolving self.now.resolver.now))
+            (key_of R.point self.now.key.now) (kind_of kind) text.now))) }
+    {
+        let sought = self.lookup_reference(kind, text)?;
+        if self.is_skipped(kind, &sought.target) {
+            return Ok(None);
+        }
+        Ok(Some(self.referred_key(sought)?))
+    }
+}

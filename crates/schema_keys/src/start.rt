@@ -1,0 +1,75 @@
+//! How much of a pointer lies outside the resource of the target that it leads to.
+ghost use Rattle.std.specs.Prelude.{◌≡◌, IfOk};
+ghost use Rattle.schema_definitions.specs.Plan.{lies_in, resource_depth, segment_count, segments_length, start_of};
+ghost use Rattle.schema_parts.specs.ResolverViews.{found_of, place_of};
+ghost use Rattle.schema_keys.specs.Compiling.{resolving_parts};
+
+use crate::context::Context;
+use schema_parts::resolver::{Resolver, Target};
+use schema_parts::schema_place::SchemaPlace;
+use schema_reports::location::{Location, OutOfMemory};
+
+// How many segments a pointer has.
+fn segment_count(location: &str) -> usize
+    ensures count { result ≡ segment_count location.now }
+{
+    location.as_bytes().iter().filter(|x| **x == b'/').count()
+}
+
+// How long its first segments are.
+fn segments_length(count: usize, location: &str) -> usize
+    ensures length { result ≡ segments_length count location.now }
+{
+    let mut left = count;
+    let mut size = 0usize;
+    for x in location.as_bytes() {
+        if *x == b'/' {
+            if left == 0 {
+                return size;
+            }
+            left -= 1;
+        }
+        size += 1;
+    }
+    size
+}
+
+// Whether a place is another, or lies below it.
+fn lies_in(place: &SchemaPlace, outer: &SchemaPlace) -> bool
+    ensures lies { result ≡ lies_in (place_of place.now) (place_of outer.now) }
+{
+    place.document == outer.document && outer.path.is_prefix_of(&place.path)
+}
+
+impl<'p, 'c, R: Resolver> Context<'p, 'c, R> {
+    // How far the root of the target's resource lies below the place that a pointer with so many segments counts from, where
+    // the target lies in that resource; else 0.
+    fn resource_depth(
+        &self,
+        target: &Target<R::State>,
+        segments: usize,
+    ) -> Result<usize, OutOfMemory>
+        ensures depth { IfOk result (λ n. n ≡ resource_depth
+            (resolving_parts (R.resolving self.now.resolver.now)) (found_of R.point target.now) segments) }
+    {
+        let root = self.resolver.resource_root(self.alloc, &target.state)?;
+        if !lies_in(&target.place, &root) {
+            return Ok(0);
+        }
+        let from = target.place.path.len().saturating_sub(segments);
+        Ok(root.path.len().saturating_sub(from))
+    }
+
+    /// The length of a pointer's part that lies outside the target's resource.
+    pub(crate) fn start_of_target(
+        &self,
+        target: &Target<R::State>,
+        location: &Location,
+    ) -> Result<usize, OutOfMemory>
+        ensures start { IfOk result (λ n. n ≡ start_of (resolving_parts (R.resolving self.now.resolver.now))
+            (found_of R.point target.now) location.now) }
+    {
+        let depth = self.resource_depth(target, segment_count(location.as_str()))?;
+        Ok(segments_length(depth, location.as_str()))
+    }
+}

@@ -1,0 +1,5 @@
+pub mod KeywordNames
+pub mod KeywordRows
+mod PlacedTexts
+pub mod AnyLeft
+pub mod ClonedTexts

@@ -1,0 +1,2 @@
+pub mod KeywordTable
+pub mod KeywordViews

@@ -1,0 +1,2 @@
+pub mod HashIndexed
+mod MatchesIndexed

@@ -1,0 +1,21 @@
+use Rattle.schema_meaning.specs.Deciding.{decides_or_not, none_where_accepted, undecided_past}
+use Rattle.schema_meaning.proofs.Sentences.{one_cover, listed_none, first_is_head}
+use Rattle.schema_meaning.proofs.covers.calls_agree.Goals as goal
+
+pub returns-clause-one : goal.returns-clause-one
+returns-clause-one c = λ v call ms ns s t. one_cover v call s t
+
+pub returns-clause-none : goal.returns-clause-none
+returns-clause-none c = λ v follows call es it. listed_none v call follows es it
+
+pub returns-clause-head : goal.returns-clause-head
+returns-clause-head c = λ v errors kept o k f. first_is_head v k f
+
+pub returns-clause-undecided : goal.returns-clause-undecided
+returns-clause-undecided c = λ v call n part many. undecided_past v call n part many
+
+pub returns-clause-decided : goal.returns-clause-decided
+returns-clause-decided c = λ v call. decides_or_not v call
+
+pub returns-clause-accepted : goal.returns-clause-accepted
+returns-clause-accepted c = λ v follows o says decides. none_where_accepted v follows o says decides

@@ -1,0 +1,93 @@
+-- Laws of deciding. Whether a call decides is itself decided: its cover is grown as far as 32 members, and by then it is whole
+-- or goes on. And where `validate` decides, its answer is none exactly where every completion accepts.
+use Rattle.std.proofs.Common.{arith, ap, inl, inr, refl, subst, sym, zero, suc, ℕ, ◌+◌, ◌<◌, ◌∙◌, ◌⊎◌}
+use Rattle.std.specs.Prelude.{List, None, Option, Some, [], false, length, true, ◌++◌, ◌↔◌, ◌∷◌, ◌≡◌, ◌≤◌}
+use Rattle.std.proofs.lemmas.Bool.{cases_lt}
+use Rattle.std.proofs.lemmas.List.{length-append}
+use Rattle.schema_definitions.specs.Reports.{Error}
+use Rattle.schema_definitions.specs.Matching.{Assumptions, all_match}
+use Rattle.schema_definitions.specs.Runs.{Met}
+use Rattle.schema_definitions.specs.Cover.{Call, Cover, Decides, Sense, assuming, branch_at, split, validate, whole}
+use Rattle.schema_meaning.specs.Shared.{EachAccepts}
+use Rattle.schema_meaning.specs.Headline as h
+use Rattle.schema_meaning.specs.Members.{Follows, Partly, splits, waits}
+
+module _ (v : Sense) (call : Call) where
+  -- ---- a cover has no fewer members than a part of it has lists
+
+  no_less : {as' : Assumptions} {n : ℕ} {ms : List Assumptions} → Partly v call as' n → Cover v call as' ms → n ≤ length ms
+  no_less waits (whole e) = omega arith
+  no_less {ms = ms} waits (split {no = ns} {yes = ys} m e s t) =
+      let one : 1 ≤ length ns = no_less waits s in
+      omega (arith, length-append ns ys)
+  no_less (splits m f s t) (whole e) = absurd (cc (sym e ∙ f))
+  no_less {as'} (splits {a = a} {b = b} m f s t) (split {no = ns} {yes = ys} m' e s' t') =
+      let same : m' ≡ m = ap (λ o. elim o [ Some x ↦ x | None ↦ m ]) (sym e ∙ f) in
+      let one : a ≤ length ns = no_less s (subst (λ x. Cover v call (assuming x false as') ns) same s') in
+      let two : b ≤ length ys = no_less t (subst (λ x. Cover v call (assuming x true as') ys) same t') in
+      omega (arith, length-append ns ys)
+
+  -- a call doesn't decide where a part of its cover has more than 32 lists
+  pub undecided_past : (n : ℕ) → Partly v call [] n → 32 < n → ¬ (Decides v call)
+  undecided_past n part many (ms, cover, few) = let least : n ≤ length ms = no_less part cover in absurd (omega arith)
+
+  -- ---- a cover is grown as far as so many members
+
+  -- so many members at most, or a part with more lists
+  abbrev Within : ℕ → Assumptions → Type 0
+  Within n as' = ((ms : List Assumptions) × Cover v call as' ms × (length ms ≤ n)) ⊎ ((k : ℕ) × Partly v call as' k × (n < k))
+
+  a_part : {as' : Assumptions} {ms : List Assumptions} → Cover v call as' ms → Partly v call as' (length ms)
+  a_part (whole e) = waits
+  a_part {as'} (split {no = ns} {yes = ys} m e s t) =
+      subst (Partly v call as') (sym (length-append ns ys)) (splits m e (a_part s) (a_part t))
+
+  some_member : {as' : Assumptions} {ms : List Assumptions} → Cover v call as' ms → 0 < length ms
+  some_member (whole e) = omega arith
+  some_member (split {no = ns} {yes = ys} m e s t) = omega (arith, length-append ns ys, some_member s)
+
+  -- what grows from the two sides of a branch
+  both : (n : ℕ) (as' : Assumptions) (m : Met) → branch_at v call as' ≡ Some m
+      → Within n (assuming m false as') → Within n (assuming m true as') → Within (suc n) as'
+  both n as' m e (inr (k, part, many)) side = inr (k + 1, splits m e part waits, omega arith)
+  both n as' m e (inl (ns, s, few)) (inr (k, part, many)) = inr (length ns + k, splits m e (a_part s) part, omega (arith, some_member s))
+  both n as' m e (inl (ns, s, few)) (inl (ys, t, few')) = go (cases_lt (suc n) (length ns + length ys))
+    where
+      go : (suc n < length ns + length ys) ⊎ (length ns + length ys ≤ suc n) → Within (suc n) as'
+      go (inl more) = inr (length ns + length ys, splits m e (a_part s) (a_part t), more)
+      go (inr few) = inl (ns ++ ys, split m e s t, omega (arith, length-append ns ys))
+
+  grown : (n : ℕ) (as' : Assumptions) → Within n as'
+  grown zero as' = inr (1, waits, omega arith)
+  grown (suc n) as' = go (branch_at v call as') refl (λ as'. grown n as')
+    where
+      go : (o : Option Met) → branch_at v call as' ≡ o → ((as' : Assumptions) → Within n as') → Within (suc n) as'
+      go None e less = inl (as' ∷ [], whole e, omega arith)
+      go (Some m) e less = both n as' m e (less (assuming m false as')) (less (assuming m true as'))
+
+-- a call's cover has at most 32 members, or it has not
+pub decides_or_not : (v : Sense) (call : Call) → Decides v call ⊎ ¬ (Decides v call)
+decides_or_not v call = go (grown v call 32 [])
+  where
+    go : Within v call 32 [] → Decides v call ⊎ ¬ (Decides v call)
+    go (inl d) = inl d
+    go (inr (k, part, many)) = inr (undecided_past v call k part many)
+
+-- ---- where `validate` decides, it answers none exactly where every completion accepts
+
+pub none_where_accepted : (v : Sense) → Follows v → (o : Option Error) → h.FirstSays v o → Decides v validate → (o ≡ None) ↔ EachAccepts v
+none_where_accepted v follows o says decides =
+    let (shared, is_first, is) = says.0 decides in
+    go shared o is_first is
+  where
+    no_first : {es : List Error} {first : Option Error} → h.FirstShared v es first → es ≡ [] → first ≡ None
+    no_first h.none e = refl
+    no_first (h.here s) e = absurd (cc e)
+    no_first (h.later t more) e = absurd (cc e)
+
+    go : (shared o : Option Error) → h.FirstShared v (v.says all_match).errors shared → h.IsFirst v shared o → (o ≡ None) ↔ EachAccepts v
+    go None None k is = (λ e. is, λ each. refl)
+    go None (Some e) k is =
+        let ((c, nay), fails) = is in
+        (λ e'. absurd (cc e'), λ each. absurd (cc (each c, nay)))
+    go (Some f) o k is = (λ e. absurd (cc (is, e)), λ each. absurd (cc (no_first k ((follows.agrees all_match).0 (each all_match)))))

@@ -1,0 +1,124 @@
+-- What each of the four calls answers.
+use Rattle.std.specs.Prelude.{Bool, Contains, List, None, Option, Some, [], codes, false, true, unwrap_or, ℕ, ◌++◌, ◌↔◌, ◌∷◌, ◌≡◌, ◌≤◌}
+use Rattle.serde_json.specs.Data.{Data}
+use Rattle.serde_json.specs.Written.{has_float}
+use Rattle.schema_definitions.specs.Instance.{Place, Subject, Text}
+use Rattle.schema_definitions.specs.Pointer.{shown_place}
+use Rattle.schema_definitions.specs.Reports.{Error, Unit_, report_of}
+use Rattle.schema_definitions.specs.Matching.{Assumptions, Completion, Match, Matcher, all_match, engine, finished, limit, unfinished}
+use Rattle.schema_definitions.specs.Keywords.{Keywords}
+use Rattle.schema_definitions.specs.Parts.{Parts}
+use Rattle.schema_definitions.specs.Plan.{Key, schema_of}
+use Rattle.schema_meaning.specs.Returns.{Asked, Return}
+use Rattle.schema_definitions.specs.Units.{plain_units}
+use Rattle.schema_definitions.specs.Runs.{Met, Site}
+use Rattle.schema_definitions.specs.Cover.{Call, Decides, IsRun, Sense, branch_at, evaluate, is_valid, iter_errors, plain, validate}
+use Rattle.schema_meaning.specs.Shared.{EachAccepts, IsShared, Shared, SomeRefuses}
+use Rattle.schema_meaning.specs.Reach.{IsReach, Reached, deep_enough}
+use Rattle.schema_definitions.specs.Guarded.{Nodes, guarded_sense}
+
+-- what is said where a call decides, and where it doesn't
+abbrev pub Either : Type 0 → Type 0 → Type 0 → Type 0
+Either decides P Q = (decides → P) × (¬ decides → Q)
+
+-- the text of a match that stays unfinished
+abbrev pub reason_text : Text → Match → Text
+reason_text pattern (unfinished (limit text)) = text
+reason_text pattern (unfinished engine) = codes "Regex engine failed to evaluate pattern '" ++ (pattern ++ codes "'")
+reason_text pattern (finished b) = []
+
+-- where a failure is shown: at the value that the pointer of the site's place leads to
+abbrev pub shown_at : Text × Place → Text × Place
+shown_at at = (at.0, shown_place at.1)
+
+-- the pattern that a failure shows: the site's, or else that of the first site, or else the compiled one
+abbrev pub shown_pattern : Site → Met → Text
+shown_pattern site first = unwrap_or site.pattern (unwrap_or first.site.pattern first.pair.pattern)
+
+module _ (v : Sense) where
+  -- one error for the first unfinished match of the call's first run, at a site that one of its runs gives for that match; its keyword is `pattern`
+  pub record IsFailure (call : Call) (e : Error) : Type 0 where
+    pub first : Met
+    pub is_first : branch_at v call [] ≡ Some first
+    pub run : Assumptions
+    pub is_run : IsRun v call run
+    pub met : Met
+    pub meets : Contains (v.meets call run) met
+    pub same : met.pair ≡ first.pair
+    pub text : e.text ≡ reason_text (shown_pattern met.site first) (v.is_match first.pair.pattern first.pair.subject)
+    pub schema : e.schema_path ≡ met.site.schema_path
+    pub located : (e.evaluation_path, e.place) ≡ shown_at (unwrap_or met.site.located (met.site.schema_path, []))
+    pub nowhere : e.absolute ≡ None
+    pub named : e.name ≡ codes "pattern"
+
+  -- the shared errors, or one failure where none is shared and some completion refuses
+  abbrev pub IsListed : Call → List Error → List Error → Type 0
+  IsListed call (f ∷ shared) es = es ≡ f ∷ shared
+  IsListed call [] [] = EachAccepts v
+  IsListed call [] (e ∷ es) = SomeRefuses v × IsFailure call e × (es ≡ [])
+
+  abbrev pub Lists : Call → List Error → Type 0
+  Lists call es = (shared : List Error) × Shared v shared × IsListed call shared es
+
+  abbrev pub OneFailure : Call → List Error → Type 0
+  OneFailure call es = (e : Error) × IsFailure call e × (es ≡ e ∷ [])
+
+  -- what a call answers, where it decides and where it doesn't
+  abbrev pub VerdictSays : Call → Bool → Type 0
+  VerdictSays call valid = Either (Decides v call) ((valid ≡ true) ↔ EachAccepts v) (valid ≡ false)
+
+  -- the errors of a call whose further runs want all errors
+  abbrev pub ErrorsOf : Call → List Error → Type 0
+  ErrorsOf call errors = Either (Decides v call) (Lists call errors) (OneFailure call errors)
+
+  abbrev pub ErrorsSay : List Error → Type 0
+  ErrorsSay = ErrorsOf iter_errors
+
+  -- the first of the shared errors, in the order of a list
+  pub data FirstShared : List Error → Option Error → Type 0 where
+    none : FirstShared [] None
+    here : {e : Error} {es : List Error} → IsShared v e → FirstShared (e ∷ es) (Some e)
+    later : {e : Error} {es : List Error} {o : Option Error} → ¬ (IsShared v e) → FirstShared es o → FirstShared (e ∷ es) o
+
+  abbrev pub IsFirst : Option Error → Option Error → Type 0
+  IsFirst (Some e) first = first ≡ Some e
+  IsFirst None None = EachAccepts v
+  IsFirst None (Some e) = SomeRefuses v × IsFailure validate e
+
+  -- the first of what `iter_errors` gives by its sentence, the failure being the call's own
+  abbrev pub FirstSays : Option Error → Type 0
+  FirstSays first = Either (Decides v validate) ((o : Option Error) × FirstShared (v.says all_match).errors o × IsFirst o first) ((e : Error) × IsFailure validate e × (first ≡ Some e))
+
+module _ {S K R : Type 0} (w : Parts S K R) (root : Key S) (instance : Data) where
+  -- texts are spoken of only where neither the instance nor a schema that is reached holds a fraction
+  abbrev pub SpeaksRightly : Type 0
+  SpeaksRightly = w.keywords.texts ≡ true → (has_float instance ≡ false) × ((k : Key S) → Reached w root k → has_float (schema_of w k) ≡ false)
+
+  abbrev pub at_root : Asked w instance
+  at_root = record { key = root; path = []; place = [] }
+
+  -- a fact about the plain meaning: it holds with references followed as deep as is enough, or deeper
+  abbrev pub Plainly : (Sense → Type 0) → Type 0
+  Plainly fact = ¬ (Return w instance at_root) → (keys : List (Key S)) → IsReach w root keys → (n : ℕ) → deep_enough w keys instance ≤ n → fact (plain w instance n root)
+
+  -- the same of the plain meaning and of its units, under each completion
+  abbrev pub PlainlyWithUnits : (Sense → (Completion → Unit_) → Type 0) → Type 0
+  PlainlyWithUnits fact = ¬ (Return w instance at_root) → (keys : List (Key S)) → IsReach w root keys → (n : ℕ) → deep_enough w keys instance ≤ n
+      → fact (plain w instance n root) (λ c. plain_units w instance c n root [] [])
+
+  -- what the contracts of the four calls cite
+  abbrev pub IsValidAnswer : Bool → Type 0
+  IsValidAnswer valid = Plainly (λ v. VerdictSays v is_valid valid)
+
+  abbrev pub ValidateAnswer : Option Error → Type 0
+  ValidateAnswer first = Plainly (λ v. FirstSays v first)
+
+  abbrev pub IterErrorsAnswer : List Error → Type 0
+  IterErrorsAnswer errors = Plainly (λ v. ErrorsSay v errors)
+
+  abbrev pub EvaluateAnswer : Unit_ → Type 0
+  EvaluateAnswer u = Plainly (λ v. VerdictSays v evaluate (report_of u).valid)
+
+-- the same of numbered nodes, returns or none: from some depth on
+abbrev pub Guardedly : {K R : Type 0} → Keywords K R → Matcher → Nodes K → (Place → Subject) → ℕ → (Sense → Type 0) → Type 0
+Guardedly keywords matcher nodes subject_of root fact = (deep : ℕ) × ((n : ℕ) → deep ≤ n → fact (guarded_sense keywords matcher nodes subject_of n root))

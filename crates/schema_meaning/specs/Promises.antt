@@ -1,0 +1,106 @@
+-- What a cover's members say, and so what the four calls answer where they decide.
+use Rattle.std.specs.Prelude.{Contains, List, None, Option, Some, [], length, map, ℕ, ◌*◌, ◌+◌, ◌++◌, ◌<◌, ◌↔◌, ◌∷◌, ◌≡◌, ◌≤◌, ◌⊎◌}
+use Rattle.schema_definitions.specs.Instance.{Place, Subject}
+use Rattle.schema_definitions.specs.Reports.{Error}
+use Rattle.schema_definitions.specs.Matching.{Assumptions, Completion, Extends, Matcher, completion_of}
+use Rattle.schema_definitions.specs.Keywords.{Keywords}
+use Rattle.schema_definitions.specs.Parts.{Parts}
+use Rattle.schema_definitions.specs.Meaning.{unfold_}
+use Rattle.schema_definitions.specs.Units.{plain_units}
+use Rattle.schema_definitions.specs.Runs.{Met, first_error, run}
+use Rattle.schema_definitions.specs.Cover.{Call, Cover, Decides, IsRun, Sense, branch_at, evaluate, iter_errors, plain, validate}
+use Rattle.schema_meaning.specs.Shared.{EachAccepts, Kept, Shared}
+use Rattle.schema_definitions.specs.Laws.{EachKeeps}
+use Rattle.schema_definitions.specs.Guarded.{Nodes, guarded_sense}
+use Rattle.schema_meaning.specs.Headline.{ErrorsSay, FirstSays, FirstShared, IsFailure, Lists, VerdictSays}
+use Rattle.schema_meaning.specs.Depths.{AtEachDepth}
+use Rattle.schema_meaning.specs.Members.{ExtendsAt, Follows, Partly, RunsAre, Speaks, StandOnce, all_accept, is_nil, listed, shared_with}
+
+module _ {S K R : Type 0} (w : Parts S K R) where
+  -- a plain run under assumptions speaks, in each mode, for every completion that extends them
+  abbrev pub RunsSpeak : Type 0
+  RunsSpeak = AtEachDepth w (λ instance root n. (as' : Assumptions) (c : Completion) → Extends (completion_of as') as' → Extends c as'
+      → Speaks as' (run w instance as' n root [] []) (unfold_ w instance c n root [] []) (plain_units w instance c n root [] []))
+
+  -- where the first run of `evaluate` meets no unfinished match, its units are the plain ones under every completion
+  abbrev pub UnitsArePlain : Type 0
+  UnitsArePlain = AtEachDepth w (λ instance root n. branch_at (plain w instance n root) evaluate [] ≡ None
+      → (c : Completion) → (run w instance [] n root [] []).units tt ≡ plain_units w instance c n root [] [])
+
+  abbrev pub PlainFollows : Type 0
+  PlainFollows = AtEachDepth w (λ instance root n. Follows (plain w instance n root))
+
+-- and so does a run over numbered nodes, returns or none
+abbrev pub NodesFollow : {K R : Type 0} → Keywords K R → Type 0
+NodesFollow {K} keywords = EachKeeps keywords → (matcher : Matcher) (nodes : Nodes K) (subject_of : Place → Subject) (n i : ℕ)
+    → Follows (guarded_sense keywords matcher nodes subject_of n i)
+
+-- the failure is one of the call, if its first run meets an unfinished match
+abbrev pub FailsWith : Sense → Call → Error → Type 0
+FailsWith v call e = (m : Met) → branch_at v call [] ≡ Some m → IsFailure v call e
+
+-- the members of a call that decides, the last of which assumes a yes everywhere
+abbrev pub AreMembers : Sense → Call → List Assumptions → Assumptions → Type 0
+AreMembers v call others last = Cover v call [] (others ++ last ∷ []) × (length (others ++ last ∷ []) ≤ 32)
+
+abbrev pub VerdictOfMembers : Type 0
+VerdictOfMembers = (v : Sense) → Follows v → (call : Call) (ms : List Assumptions) → Cover v call [] ms → length ms ≤ 32 → VerdictSays v call (all_accept v ms)
+
+abbrev pub SharedOfMembers : Type 0
+SharedOfMembers = (v : Sense) → Follows v → (others : List Assumptions) (last : Assumptions) → Cover v iter_errors [] (others ++ last ∷ []) → Shared v (shared_with v others last)
+
+abbrev pub ErrorsOfMembers : Type 0
+ErrorsOfMembers = (v : Sense) → Follows v → (others : List Assumptions) (last : Assumptions) (failure : Error) → AreMembers v iter_errors others last → FailsWith v iter_errors failure
+    → ErrorsSay v (listed v others last failure)
+
+abbrev pub FirstOfMembers : Type 0
+FirstOfMembers = (v : Sense) → Follows v → (others : List Assumptions) (last : Assumptions) (failure : Error) → AreMembers v validate others last → FailsWith v validate failure
+    → FirstSays v (first_error (listed v others last failure))
+
+abbrev pub EvaluationOfMembers : Type 0
+EvaluationOfMembers = (v : Sense) → Follows v → (others : List Assumptions) (last : Assumptions) (failure : Error) → AreMembers v evaluate others last → FailsWith v evaluate failure
+    → VerdictSays v evaluate (is_nil (listed v others last failure))
+
+-- a call has one cover, and so doesn't decide where that has more than 32 members
+abbrev pub OneCover : Type 0
+OneCover = (v : Sense) (call : Call) (ms ns : List Assumptions) → Cover v call [] ms → Cover v call [] ns → ms ≡ ns
+
+-- a call doesn't decide where a part of its cover has more than 32 lists
+abbrev pub UndecidedPast : Type 0
+UndecidedPast = (v : Sense) (call : Call) (n : ℕ) → Partly v call [] n → 32 < n → ¬ (Decides v call)
+
+-- a call's cover has at most 32 members, or it has not
+abbrev pub DecidesOrNot : Type 0
+DecidesOrNot = (v : Sense) (call : Call) → Decides v call ⊎ ¬ (Decides v call)
+
+-- where `validate` decides, its answer is none exactly where every completion accepts
+abbrev pub NoneWhereAccepted : Type 0
+NoneWhereAccepted = (v : Sense) → Follows v → (o : Option Error) → FirstSays v o → Decides v validate → (o ≡ None) ↔ EachAccepts v
+
+-- no error is listed exactly where every completion accepts
+abbrev pub NoneListed : Type 0
+NoneListed = (v : Sense) → Follows v → (call : Call) (es : List Error) → Lists v call es → (es ≡ []) ↔ EachAccepts v
+
+-- the first error is the head of the errors listed, where some are shared
+abbrev pub FirstIsHead : Type 0
+FirstIsHead = (v : Sense) (errors kept : List Error) (o : Option Error) → Kept v errors kept → FirstShared v errors o → o ≡ first_error kept
+
+-- each completion extends exactly one member of a cover
+abbrev pub OneMember : Type 0
+OneMember = (v : Sense) (call : Call) (ms : List Assumptions) → Cover v call [] ms → (c : Completion) → (i : ℕ) × ExtendsAt c ms i × ((j : ℕ) → ExtendsAt c ms j → j ≡ i)
+
+-- a cover of L members takes 2 L - 1 runs
+abbrev pub RunsOfCover : Type 0
+RunsOfCover = (v : Sense) (call : Call) (ms : List Assumptions) → Cover v call [] ms → (runs : List Assumptions) × RunsAre v call runs × (length runs + 1 ≡ 2 * length ms)
+
+-- a call's branches are on distinct pairs: in no run's list does a pair stand twice, so its completion extends it
+abbrev pub PairsDiffer : Type 0
+PairsDiffer = (v : Sense) (call : Call) (as' : Assumptions) → IsRun v call as' → StandOnce (map (λ a. a.pair) as') × Extends (completion_of as') as'
+
+-- a member is the list of a run that branches no more
+abbrev pub MembersRun : Type 0
+MembersRun = (v : Sense) (call : Call) (ms : List Assumptions) → Cover v call [] ms → (m : Assumptions) → Contains ms m → IsRun v call m × (branch_at v call m ≡ None)
+
+-- and so in no member's list does a pair stand twice, and its completion extends it
+abbrev pub MembersDiffer : Type 0
+MembersDiffer = (v : Sense) (call : Call) (ms : List Assumptions) → Cover v call [] ms → (m : Assumptions) → Contains ms m → StandOnce (map (λ a. a.pair) m) × Extends (completion_of m) m

@@ -1,0 +1,55 @@
+//! Laws of covers: what its members say is what every completion says.
+ghost use Rattle.schema_definitions.specs.Keywords.{Keywords};
+ghost use Rattle.schema_definitions.specs.Parts.{Parts};
+ghost use Rattle.schema_meaning.specs.Promises.{NodesFollow, PlainFollows, RunsSpeak, UnitsArePlain};
+ghost use Rattle.schema_meaning.specs.Promises.{ErrorsOfMembers, EvaluationOfMembers, FirstOfMembers, SharedOfMembers, VerdictOfMembers};
+ghost use Rattle.schema_meaning.specs.Promises.{DecidesOrNot, FirstIsHead, NoneListed, NoneWhereAccepted, OneCover, UndecidedPast};
+ghost use Rattle.schema_meaning.specs.Promises.{MembersDiffer, MembersRun, OneMember, PairsDiffer, RunsOfCover};
+
+/// A run under assumptions speaks for every completion that extends them.
+pub fn runs_speak<S, K, R>()
+    ensures speak { (w : Parts S K R) → RunsSpeak w }
+    ensures units { (w : Parts S K R) → UnitsArePlain w }
+    ensures plain { (w : Parts S K R) → PlainFollows w }
+{}
+
+/// So does a run over numbered nodes, returns or none.
+pub fn nodes_speak<K, R>()
+    ensures follow { (keywords : Keywords K R) → NodesFollow keywords }
+{}
+
+/// The members of a cover say what every completion says.
+pub fn members_speak()
+    ensures verdict { VerdictOfMembers }
+    ensures shared { SharedOfMembers }
+    ensures errors { ErrorsOfMembers }
+    ensures first { FirstOfMembers }
+    ensures evaluation { EvaluationOfMembers }
+{}
+
+/// The four calls agree, and each decides or does not.
+pub fn calls_agree()
+    ensures one { OneCover }
+    ensures undecided { UndecidedPast }
+    ensures decided { DecidesOrNot }
+    ensures none { NoneListed }
+    ensures accepted { NoneWhereAccepted }
+    ensures head { FirstIsHead }
+{}
+
+/// Each completion extends exactly one member of a cover.
+pub fn members_are_apart()
+    ensures one { OneMember }
+{}
+
+/// A cover of L members takes 2 L - 1 runs.
+pub fn runs_are_counted()
+    ensures counted { RunsOfCover }
+{}
+
+/// A call's branches are on distinct pairs, so each member's completion extends it.
+pub fn branches_differ()
+    ensures pairs { PairsDiffer }
+    ensures members { MembersRun }
+    ensures differ { MembersDiffer }
+{}

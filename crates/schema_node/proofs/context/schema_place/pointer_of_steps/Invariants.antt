@@ -1,7 +1,0 @@
-use Rattle.std.proofs.Common.{◌≡◌, ◌++◌, map, drop}
-use Rattle.schema_node.specs.SchemaViews.{schema_step_of}
-use Rattle.schema_reports.specs.Pointer.{pointer_to}
-use Rattle.schema_node.proofs.context.schema_place.pointer_of_steps.Given as goal
-
-abbrev pub invariant-loop-step : goal.invariant-loop-step
-invariant-loop-step l = l.location ++ pointer_to (map schema_step_of (drop l.step-index l.steps)) ≡ pointer_to (map schema_step_of l.steps)

@@ -1,9 +1,0 @@
-//! Keywords that can be cloned.
-ghost use Rattle.std.specs.Prelude.{◌≡◌};
-
-use crate::context::keyword::Validate;
-
-/// A keyword that can be cloned. A clone has its source's shape, so it answers equally.
-pub trait CloneKeyword: Validate + Clone {
-    ghost cloned: { (m n : Self) → Self.is_clone m n → Self.shape n ≡ Self.shape m };
-}

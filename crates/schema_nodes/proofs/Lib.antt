@@ -1,0 +1,12 @@
+pub mod NodePlaces
+pub mod NodeCounts
+pub mod NodeOrders
+pub mod EdgesMade
+pub mod NodeSteps
+pub mod EdgesStay
+pub mod NodesFilled
+pub mod NodesAdded
+pub mod RankedTable
+pub mod FilledNumbers
+pub mod Escaping
+pub mod Cloned

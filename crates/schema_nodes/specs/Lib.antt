@@ -1,0 +1,11 @@
+pub use Rattle.schema_parts.specs.SchemaViews
+pub use Rattle.schema_parts.specs.ResolverViews
+pub use Rattle.schema_parts.specs.KeywordViews
+pub use Rattle.schema_parts.specs.MakerViews
+pub use Rattle.schema_parts.specs.UnitQuestions
+pub use Rattle.schema_parts.specs.FaultViews
+pub use Rattle.schema_parts.specs.EdgeViews
+pub mod NodeTable
+pub mod NodeViews
+pub mod Cloned
+pub mod ValidatorViews

@@ -1,0 +1,4 @@
+//! The table of numbered nodes.
+#![tactic(auto)]
+
+pub mod node;

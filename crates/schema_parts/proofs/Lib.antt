@@ -1,0 +1,4 @@
+pub mod Replies
+pub mod PartLaws
+pub mod SchemaPaths
+pub mod Drops

@@ -1,0 +1,7 @@
+pub mod SchemaViews
+pub mod ResolverViews
+pub mod KeywordViews
+pub mod MakerViews
+pub mod UnitQuestions
+pub mod FaultViews
+pub mod EdgeViews

@@ -1,0 +1,38 @@
+-- What the code's resolver answers, as the definitions have it.
+use Rattle.std.specs.List.{AllByRecursion}
+use Rattle.std.specs.Prelude.{◌≡◌, ◌∷◌, Some, Result, Err, string_bytes}
+use Rattle.serde_json.specs.Data.{Data}
+use Rattle.schema_definitions.specs.Instance.{Text, Place, Step, subject_at, a_value}
+use Rattle.schema_definitions.specs.Drafts as spec
+use Rattle.schema_definitions.specs.Resolving.{Found, Entrance, Resolver}
+use Rattle.schema_keywords.specs.KeywordViews.{draft_of}
+use Rattle.schema_parts.specs.declared.schema_place.SchemaPlace.{SchemaPlace}
+use Rattle.schema_parts.specs.declared.resolver.Target.{Target}
+use Rattle.schema_parts.specs.declared.resolver.LookupError.{LookupError}
+use Rattle.schema_parts.specs.declared.resolver.LookupError.TheVariants.{Refused, OutOfMemory}
+
+abbrev pub place_of : SchemaPlace → spec.SchemaPlace
+place_of p = record { document = p.document; path = p.path }
+
+abbrev pub entrance_of : {S P : Type 0} → (S → P) → S × SchemaPlace → Entrance P
+entrance_of point e = record { place = place_of e.1; state = point e.0 }
+
+abbrev pub found_of : {S P : Type 0} → (S → P) → Target S → Found P
+found_of point t = record { place = place_of t.place; state = point t.state; draft = draft_of t.draft }
+
+-- a refusal has the text that the definitions give it; want of memory says nothing
+abbrev pub Refuses : {A : Type 0} → Result A Text → LookupError → Type 0
+Refuses r (Refused t) = r ≡ Err (string_bytes t)
+Refuses r OutOfMemory = Unit {0}
+
+-- what stands at a path below a place stands there inside the place's value
+abbrev pub IsInside : {S : Type 0} → Resolver S → Type 0
+IsInside r = (p : spec.SchemaPlace) (path : Place) (inner : Data) → r.value (spec.at_path p path) ≡ Some inner → (outer : Data) × (r.value p ≡ Some outer) × (subject_at outer path ≡ Some (a_value inner))
+
+-- a value stands at the second place, which lies below the first
+abbrev pub StandsBelow : {S : Type 0} → Resolver S → spec.SchemaPlace → spec.SchemaPlace → Type 0
+StandsBelow r outer inner = (step : Step) × (path : Place) × (there : Data) × (inner ≡ spec.at_path outer (step ∷ path)) × (r.value inner ≡ Some there)
+
+-- a subschema stands below its schema
+abbrev pub SubschemasStandBelow : {S : Type 0} → Resolver S → Type 0
+SubschemasStandBelow r = (draft : spec.Draft) (p : spec.SchemaPlace) → AllByRecursion (StandsBelow r p) (r.subresources_of draft p)

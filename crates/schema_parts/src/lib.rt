@@ -1,0 +1,11 @@
+//! The traits of the parts that are handed in: keywords, their table, a resolver, a matcher and meta validators.
+#![tactic(auto)]
+
+pub mod cloning;
+pub mod keyword;
+pub mod matcher;
+pub mod meta;
+pub mod numbers;
+pub mod resolver;
+pub mod schema_place;
+pub mod table;

@@ -1,0 +1,23 @@
+//! The matcher, which says whether a text matches a pattern.
+ghost use Rattle.std.specs.Prelude.{◌≡◌, IfOk};
+ghost use Rattle.schema_definitions.specs.Matching as spec;
+ghost use Rattle.schema_matches.specs.MatchViews.{match_of};
+
+use schema_matches::site::Match;
+use schema_reports::location::OutOfMemory;
+use std::alloc::Global;
+
+/// A regular expression engine. Memory aside, both calls are functions of their arguments; a clone answers equally.
+pub trait Matcher: Clone + Drop {
+    ghost matching: { Self → spec.Matcher };
+
+    /// Whether the subject matches the pattern.
+    fn is_match(&self, alloc: Global, pattern: &str, subject: &str) -> Result<Match, OutOfMemory>
+        ensures matches { IfOk result (λ m. match_of m ≡ (matching self.now).is_match pattern.now subject.now) };
+
+    /// Whether the text is a pattern of ECMA-262.
+    fn is_valid_ecma_regex(&self, alloc: Global, pattern: &str) -> Result<bool, OutOfMemory>
+        ensures valid { IfOk result (λ b. b ≡ (matching self.now).is_ecma pattern.now) };
+
+    ghost cloned: { (m n : Self) → Self.is_clone m n → matching n ≡ matching m };
+}

@@ -1,0 +1,286 @@
+//! Places in schemas.
+ghost use Rattle.std.specs.Prelude.{◌≡◌, List, [], ◌∷◌, ◌++◌, OnErr, OnOk, IfOk, length, take, drop, map};
+ghost use Rattle.std.specs.Cmp.{on_equiv, partial_equiv_from_equiv};
+ghost use Rattle.std.specs.Ordering.{on};
+ghost use Rattle.schema_definitions.specs.Instance.{same_place, same_step};
+ghost use Rattle.schema_reports.specs.SamePlaces.{places_equiv, schema_places_equiv};
+ghost use Rattle.schema_definitions.specs.Pointer.{pointer_to, step_text};
+ghost use Rattle.schema_definitions.specs.Drafts.{same_schema_place, at_path};
+ghost use Rattle.schema_parts.specs.SchemaViews.{schema_step_of};
+ghost use Rattle.schema_parts.specs.ResolverViews.{place_of};
+
+use schema_reports::location::{Location, LocationSegment, OutOfMemory};
+use std::alloc::{AllocError, Global};
+use std::marker::Model;
+use std::rc::RcStr;
+
+/// A step from a value of a schema to one inside it. A member's name is shared by all places below it, so that a clone costs no memory.
+#[derive(Drop)]
+pub enum SchemaStep {
+    Member(RcStr),
+    Item(usize),
+}
+
+// Whether both are one step.
+fn same_schema_step(a: &SchemaStep, b: &SchemaStep) -> bool
+    ensures same { result ≡ same_step (schema_step_of a.now) (schema_step_of b.now) }
+{
+    match (a, b) {
+        (SchemaStep::Member(x), SchemaStep::Member(y)) => x.as_str() == y.as_str(),
+        (SchemaStep::Item(x), SchemaStep::Item(y)) => *x == *y,
+        _ => false,
+    }
+}
+
+// Whether both are the same steps in the same order.
+fn same_schema_steps(a: &[SchemaStep], b: &[SchemaStep]) -> bool
+    ensures same { result ≡ same_place (map schema_step_of a.now) (map schema_step_of b.now) }
+{
+    if a.len() != b.len() {
+        return false;
+    }
+    for (i, step) in a.iter().enumerate() {
+        if !same_schema_step(step, &b[i]) {
+            return false;
+        }
+    }
+    true
+}
+
+impl Clone for SchemaStep {
+    ghost is_clone = { λ s copy. schema_step_of copy ≡ schema_step_of s };
+
+    /// Returns a clone of the step. Fails only if memory cannot be allocated.
+    fn clone(&self) -> Result<SchemaStep, AllocError> {
+        match self {
+            SchemaStep::Member(name) => Ok(SchemaStep::Member(name.clone()?)),
+            SchemaStep::Item(index) => Ok(SchemaStep::Item(*index)),
+        }
+    }
+}
+
+// Adds copies of steps.
+fn push_steps(steps: &mut Vec<SchemaStep>, more: &[SchemaStep]) -> Result<(), OutOfMemory>
+    ensures added { IfOk result (λ _. map schema_step_of steps.new.items
+        ≡ map schema_step_of steps.old.items ++ map schema_step_of more.now) }
+{
+    for step in more {
+        steps.push(step.clone()?)?;
+    }
+    Ok(())
+}
+
+// The first steps, or all where there are no more.
+#[tactic(auto, using(crate::proofs::SchemaPaths::map_take, crate::proofs::SchemaPaths::map_take_all))]
+fn first_steps<'s>(steps: &'s [SchemaStep], count: usize) -> &'s [SchemaStep]
+    ensures first { map schema_step_of result.now ≡ take count (map schema_step_of steps.now) }
+{
+    if count < steps.len() {
+        &steps[..count]
+    } else {
+        steps
+    }
+}
+
+// What is left after the first steps.
+#[tactic(auto, using(crate::proofs::SchemaPaths::map_later, crate::proofs::SchemaPaths::map_drop_all))]
+fn later_steps<'s>(steps: &'s [SchemaStep], count: usize) -> &'s [SchemaStep]
+    ensures later { map schema_step_of result.now ≡ drop count (map schema_step_of steps.now) }
+{
+    if count < steps.len() {
+        &steps[count..]
+    } else {
+        &[]
+    }
+}
+
+// The pointer after one step more.
+fn join_schema_step(location: Location, step: &SchemaStep) -> Result<Location, OutOfMemory>
+    ensures joined { IfOk result (λ l. l ≡ location ++ step_text (schema_step_of step.now)) }
+{
+    match step {
+        SchemaStep::Member(name) => location.join(LocationSegment::Property(name.as_str())),
+        SchemaStep::Item(index) => location.join(LocationSegment::Index(*index)),
+    }
+}
+
+// The pointer of some steps.
+fn pointer_of_steps(alloc: Global, steps: &[SchemaStep]) -> Result<Location, OutOfMemory>
+    ensures pointer { IfOk result (λ l. l ≡ pointer_to (map schema_step_of steps.now)) }
+{
+    let mut location = Location::new(alloc);
+    for step in steps {
+        location = join_schema_step(location, step)?;
+    }
+    Ok(location)
+}
+
+/// A path in a document. Contracts see its steps.
+#[derive(Drop)]
+pub struct SchemaPath {
+    steps: Vec<SchemaStep>,
+}
+
+impl Model for SchemaPath {
+    ghost use Rattle.std.specs.Prelude.{List, map};
+    ghost use Rattle.schema_definitions.specs.Instance.{Step};
+    ghost use Rattle.schema_parts.specs.SchemaViews.{schema_step_of};
+
+    ghost Value = { List Step };
+
+    ghost view = { λ p. map schema_step_of p.steps.items };
+}
+
+impl SchemaPath {
+    /// Returns the path of the document's root.
+    pub fn root(alloc: Global) -> SchemaPath
+        ensures root { result ≡ [] }
+    {
+        SchemaPath {
+            steps: Vec::new(alloc),
+        }
+    }
+
+    /// Returns the steps, from the document's root on.
+    pub fn steps(&self) -> &[SchemaStep]
+        ensures steps { map schema_step_of result.now ≡ self.now }
+    {
+        self.steps.as_slice()
+    }
+
+    /// Adds a step at the end. On `Err` nothing has changed.
+    pub fn push(&mut self, step: SchemaStep) -> Result<(), OutOfMemory>
+        ensures pushed { OnOk result (self.new ≡ self.old ++ schema_step_of step ∷ []) }
+        ensures unchanged { OnErr result (self.new ≡ self.old) }
+    {
+        self.steps.push(step)?;
+        Ok(())
+    }
+
+    /// Returns the number of steps.
+    pub fn len(&self) -> usize
+        ensures count { result ≡ length self.now }
+    {
+        self.steps.len()
+    }
+
+    /// Returns `true` if the other path begins with this one.
+    pub fn is_prefix_of(&self, other: &SchemaPath) -> bool
+        ensures prefix { result ≡ same_place self.now (take (length self.now) other.now) }
+    {
+        same_schema_steps(
+            self.steps.as_slice(),
+            first_steps(other.steps.as_slice(), self.steps.len()),
+        )
+    }
+
+    /// Returns the first `count` steps, or all if there are fewer. Fails only if memory cannot be allocated.
+    pub fn first(&self, alloc: Global, count: usize) -> Result<SchemaPath, OutOfMemory>
+        ensures first { IfOk result (λ p. p ≡ take count self.now) }
+    {
+        let kept = first_steps(self.steps.as_slice(), count);
+        let mut steps = Vec::with_capacity(alloc, kept.len())?;
+        push_steps(&mut steps, kept)?;
+        Ok(SchemaPath { steps })
+    }
+
+    /// Returns what is left after the first `count` steps. Fails only if memory cannot be allocated.
+    pub fn after(&self, alloc: Global, count: usize) -> Result<SchemaPath, OutOfMemory>
+        ensures rest { IfOk result (λ p. p ≡ drop count self.now) }
+    {
+        let kept = later_steps(self.steps.as_slice(), count);
+        let mut steps = Vec::with_capacity(alloc, kept.len())?;
+        push_steps(&mut steps, kept)?;
+        Ok(SchemaPath { steps })
+    }
+
+    /// Returns the path followed by another. Fails only if memory cannot be allocated.
+    pub fn append(&self, alloc: Global, rest: &SchemaPath) -> Result<SchemaPath, OutOfMemory>
+        ensures appended { IfOk result (λ p. p ≡ self.now ++ rest.now) }
+    {
+        let count = self.steps.len().saturating_add(rest.steps.len());
+        let mut steps = Vec::with_capacity(alloc, count)?;
+        push_steps(&mut steps, self.steps.as_slice())?;
+        push_steps(&mut steps, rest.steps.as_slice())?;
+        Ok(SchemaPath { steps })
+    }
+
+    /// Returns the JSON Pointer of the path. Fails only if memory cannot be allocated.
+    pub fn pointer(&self, alloc: Global) -> Result<Location, OutOfMemory>
+        ensures pointer { IfOk result (λ l. l ≡ pointer_to self.now) }
+    {
+        pointer_of_steps(alloc, self.steps.as_slice())
+    }
+}
+
+impl PartialEq for SchemaPath {
+    ghost eq = { same_place };
+
+    ghost laws = { partial_equiv_from_equiv places_equiv };
+
+    /// Returns `true` if both paths consist of the same steps.
+    fn eq(&self, other: &SchemaPath) -> bool {
+        same_schema_steps(self.steps.as_slice(), other.steps.as_slice())
+    }
+}
+
+impl Eq for SchemaPath {
+    ghost laws = { places_equiv };
+}
+
+impl Clone for SchemaPath {
+    ghost is_clone = { λ p copy. copy ≡ p };
+
+    /// Returns a clone of the path. Fails only if memory cannot be allocated.
+    fn clone(&self) -> Result<SchemaPath, AllocError> {
+        let mut steps = Vec::with_capacity(*self.steps.allocator(), self.steps.len())?;
+        push_steps(&mut steps, self.steps.as_slice())?;
+        Ok(SchemaPath { steps })
+    }
+}
+
+/// A document's number and a path in it.
+#[derive(Drop)]
+pub struct SchemaPlace {
+    pub document: usize,
+    pub path: SchemaPath,
+}
+
+impl SchemaPlace {
+    /// Returns the place at a path below. Fails only if memory cannot be allocated.
+    pub fn below(&self, alloc: Global, path: &SchemaPath) -> Result<SchemaPlace, OutOfMemory>
+        ensures below { IfOk result (λ p. place_of p ≡ at_path (place_of self.now) path.now) }
+    {
+        Ok(SchemaPlace {
+            document: self.document,
+            path: self.path.append(alloc, path)?,
+        })
+    }
+}
+
+impl PartialEq for SchemaPlace {
+    ghost eq = { on place_of same_schema_place };
+
+    ghost laws = { partial_equiv_from_equiv (on_equiv place_of schema_places_equiv) };
+
+    /// Returns `true` if both are the same path in the same document.
+    fn eq(&self, other: &SchemaPlace) -> bool {
+        self.document == other.document && self.path == other.path
+    }
+}
+
+impl Eq for SchemaPlace {
+    ghost laws = { on_equiv place_of schema_places_equiv };
+}
+
+impl Clone for SchemaPlace {
+    ghost is_clone = { λ p copy. place_of copy ≡ place_of p };
+
+    /// Returns a clone of the place. Fails only if memory cannot be allocated.
+    fn clone(&self) -> Result<SchemaPlace, AllocError> {
+        Ok(SchemaPlace {
+            document: self.document,
+            path: self.path.clone()?,
+        })
+    }
+}

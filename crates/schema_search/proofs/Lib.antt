@@ -1,0 +1,9 @@
+mod Forest
+mod SearchCounts
+mod RunUses
+mod SharedLists
+mod SearchedSense
+mod SearchedFailure
+mod SearchedSays
+mod SearchedErrors
+pub mod KeysIndexed

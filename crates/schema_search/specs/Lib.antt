@@ -1,0 +1,4 @@
+pub mod SharedResults
+pub mod SearchGives
+pub mod Outcomes
+pub mod KeyHashes
