@@ -1,5 +1,5 @@
 //! What evaluations give, and in which order the units of a schema's entries come: worked values from outside.
-use crate::fixtures::{described, unit_at};
+use crate::fixtures::{both, described, unit_at};
 use schema_reports::evaluation::{Annotations, ChildList, ErrorDescription, EvaluationNode};
 use schema_reports::evaluation_order::{AbsorbedUnit, EntryUnits, UnitsInOrder};
 use schema_reports::evaluation_result::{AbsorbedResult, EvaluationResult, accepts};
@@ -76,24 +76,24 @@ fn push_unit(alloc: Global, valid: bool, children: &mut ChildList) -> Result<(),
     children.push(unit_at(alloc, valid, "/1")?)
 }
 
-/// Whether two units make a valid one.
-fn two_are_valid(alloc: Global, first: bool, second: bool) -> Result<bool, OutOfMemory> {
+/// Whether two units make one of this verdict.
+fn two_make(alloc: Global, first: bool, second: bool, want: bool) -> Result<bool, OutOfMemory> {
     let mut children = ChildList::of(alloc, unit_at(alloc, first, "/0")?)?;
     let pushed = push_unit(alloc, second, &mut children);
     let result = EvaluationResult::from_children(alloc, children);
     let is_valid = result.is_valid();
     drop(result);
     pushed?;
-    Ok(is_valid)
+    Ok(is_valid == want)
 }
 
 #[test]
 fn units_make_a_valid_one_together(rt: HostRuntime) -> Result<(), OutOfMemory> {
     let alloc = rt.alloc();
-    let both = two_are_valid(alloc, true, true)?;
-    let first = two_are_valid(alloc, false, true)?;
-    let second = two_are_valid(alloc, true, false)?;
-    assert!(rt; both && !first && !second);
+    let both_valid = two_make(alloc, true, true, true);
+    let first_invalid = two_make(alloc, false, true, false);
+    let second_invalid = two_make(alloc, true, false, false);
+    assert!(rt; both(both_valid, both(first_invalid, second_invalid))?);
     Ok(())
 }
 

@@ -6,6 +6,17 @@ use schema_reports::reports::ValidationError;
 use serde_json::Value;
 use std::alloc::Global;
 
+/// Whether both are so; a failure where the first one that is not so fails.
+pub(crate) fn both(
+    one: Result<bool, OutOfMemory>,
+    other: Result<bool, OutOfMemory>,
+) -> Result<bool, OutOfMemory> {
+    match one {
+        Ok(true) => other,
+        _ => one,
+    }
+}
+
 /// An error of this keyword with this text.
 pub(crate) fn described(
     alloc: Global,

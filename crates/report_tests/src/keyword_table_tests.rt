@@ -1,4 +1,5 @@
 //! The table of the standard's keywords, cell by cell, and what keywords and vocabularies say of themselves.
+use crate::fixtures::both;
 use schema_keywords::keywords::*;
 use schema_reports::location::OutOfMemory;
 use serde_json::Value;
@@ -104,8 +105,31 @@ fn form_found(draft: Draft, set: &VocabularySet, name: &str) -> Option<KeywordFo
     }
 }
 
-/// Whether a draft, with all vocabularies, has the row's priority and leaf and this form.
-fn has_row(all: &VocabularySet, draft: Draft, row: &Value, form: Option<KeywordForm>) -> bool {
+/// Whether a draft has the keyword of a row in its cell's form with every vocabulary, and without the one that the cell needs
+/// where it needs none: the drafts before 2019-09, whose cells come before the sixth column, have no vocabularies.
+fn has_form(
+    alloc: Global,
+    all: &VocabularySet,
+    draft: Draft,
+    row: &Value,
+    number: usize,
+) -> Result<bool, AllocError> {
+    let cell = text_at(row, number);
+    let form = form_in(cell);
+    let without = if number < 6 || cell == "F" {
+        form
+    } else {
+        None
+    };
+    let others = needed_but(alloc, cell)?;
+    let found = form_found(draft, &others, text_at(row, 0));
+    drop(others);
+    Ok(form_found(draft, all, text_at(row, 0)) == form && found == without)
+}
+
+/// Whether a draft, with all vocabularies, has the row's priority and leaf and its cell's form.
+fn has_row(all: &VocabularySet, draft: Draft, row: &Value, number: usize) -> bool {
+    let form = form_in(text_at(row, number));
     match builtin_row(draft, all, text_at(row, 0)) {
         None => form.is_none(),
         Some(found) => {
@@ -114,26 +138,6 @@ fn has_row(all: &VocabularySet, draft: Draft, row: &Value, form: Option<KeywordF
                 && column(row, 2).as_bool() == Some(found.is_leaf)
         }
     }
-}
-
-/// Whether a draft has the keyword of a row as its cell says, with every vocabulary, and without the one that the cell needs
-/// where it needs none: the drafts before 2019-09, whose cells come before the sixth column, have no vocabularies.
-fn has_cell(alloc: Global, draft: Draft, row: &Value, number: usize) -> Result<bool, AllocError> {
-    let cell = text_at(row, number);
-    let form = form_in(cell);
-    let all = needed_but(alloc, "")?;
-    let has_row = has_row(&all, draft, row, form);
-    let found = form_found(draft, &all, text_at(row, 0));
-    drop(all);
-    let others = needed_but(alloc, cell)?;
-    let without = form_found(draft, &others, text_at(row, 0));
-    drop(others);
-    let wanted = if number < 6 || cell == "F" {
-        form
-    } else {
-        None
-    };
-    Ok(has_row && found == form && without == wanted)
 }
 
 /// Whether a keyword of the row's name has its priority and is a leaf where the row says so.
@@ -148,7 +152,7 @@ fn is_known(row: &Value) -> bool {
 }
 
 /// Whether the keyword of a row is known, and each draft has it as the row says.
-fn is_as_published(alloc: Global, row: &Value) -> Result<bool, OutOfMemory> {
+fn is_as_published(alloc: Global, all: &VocabularySet, row: &Value) -> Result<bool, OutOfMemory> {
     for (draft, number) in [
         (Draft::Draft4, 3),
         (Draft::Draft6, 4),
@@ -157,7 +161,7 @@ fn is_as_published(alloc: Global, row: &Value) -> Result<bool, OutOfMemory> {
         (Draft::Draft202012, 7),
         (Draft::Unknown, 7),
     ] {
-        if !has_cell(alloc, draft, row, number)? {
+        if !has_form(alloc, all, draft, row, number)? || !has_row(all, draft, row, number) {
             return Ok(false);
         }
     }
@@ -167,7 +171,9 @@ fn is_as_published(alloc: Global, row: &Value) -> Result<bool, OutOfMemory> {
 #[test]
 fn has_every_row_in_every_draft(rt: HostRuntime) -> Result<(), serde_json::Error> {
     let alloc = rt.alloc();
-    let wrong = wrong_row(alloc, ROWS, |row| is_as_published(alloc, row));
+    let all = needed_but(alloc, "")?;
+    let wrong = wrong_row(alloc, ROWS, |row| is_as_published(alloc, &all, row));
+    drop(all);
     assert_eq!(rt; wrong?, None);
     Ok(())
 }
@@ -239,20 +245,21 @@ fn answers_by_vocabulary(rt: HostRuntime) -> Result<(), AllocError> {
 }
 
 /// Whether a keyword is printed so.
-fn prints(alloc: Global, keyword: Keyword, want: &str) -> Result<bool, AllocError> {
-    let text = format!(in alloc; "{keyword}");
-    drop(keyword);
-    Ok(text?.as_str() == want)
+fn prints(alloc: Global, keyword: &Keyword, want: &str) -> Result<bool, AllocError> {
+    let text = format!(in alloc; "{keyword}")?;
+    Ok(text.as_str() == want)
 }
 
 #[test]
 fn prints_keywords(rt: HostRuntime) -> Result<(), AllocError> {
     let custom = Keyword::custom(String::from_str(rt.alloc(), "even")?);
     let is_late = !keyword_is_leaf(&custom) && keyword_priority(&custom) == 80;
-    let is_printed = prints(rt.alloc(), custom, "even")?;
+    let custom_prints = prints(rt.alloc(), &custom, "even");
+    drop(custom);
     let keyword = Keyword::from(BuiltinKeyword::DynamicRef);
-    let standard_is_printed = prints(rt.alloc(), keyword, "$dynamicRef")?;
-    assert!(rt; is_late && is_printed && standard_is_printed);
+    let standard_prints = prints(rt.alloc(), &keyword, "$dynamicRef");
+    drop(keyword);
+    assert!(rt; both(custom_prints, standard_prints)? && is_late);
     Ok(())
 }
 
@@ -287,22 +294,22 @@ fn set_of(alloc: Global, uris: &[&str]) -> Result<VocabularySet, AllocError> {
     Ok(set)
 }
 
-/// Whether a set has two custom vocabularies, `http://v/x` the first of them, and of those for formats the one that asserts; an
-/// empty one has none.
-fn has_those(alloc: Global, set: &VocabularySet) -> Result<bool, AllocError> {
-    let custom = Vocabulary::Custom(String::from_str(alloc, "http://v/x")?);
-    let has_custom = set.contains(&custom) && !VocabularySet::new(alloc).contains(&custom);
-    drop(custom);
-    let comes_first = match set.custom() {
-        [first, _] => first.as_str() == "http://v/x",
+/// Whether a set has two custom vocabularies, `http://v/x` the first of them, and of those for formats the one that asserts.
+fn has_those(set: &VocabularySet) -> bool {
+    match set.custom() {
+        [first, _] => {
+            first.as_str() == "http://v/x"
+                && set.contains(&Vocabulary::FormatAssertion)
+                && !set.contains(&Vocabulary::FormatAnnotation)
+        }
         _ => false,
-    };
-    Ok(
-        has_custom
-            && comes_first
-            && set.contains(&Vocabulary::FormatAssertion)
-            && !set.contains(&Vocabulary::FormatAnnotation),
-    )
+    }
+}
+
+/// Whether a set has the custom vocabulary `http://v/x`.
+fn has_custom(alloc: Global, set: &VocabularySet) -> Result<bool, AllocError> {
+    let custom = Vocabulary::Custom(String::from_str(alloc, "http://v/x")?);
+    Ok(set.contains(&custom))
 }
 
 /// Whether a set is the same as its copy, and another one once the copy has one vocabulary more.
@@ -324,13 +331,21 @@ fn is_set_of(alloc: Global, set: &VocabularySet, uris: &[&str]) -> Result<bool, 
 fn keeps_vocabularies_in_no_order(rt: HostRuntime) -> Result<(), AllocError> {
     let alloc = rt.alloc();
     let set = set_of(alloc, &["http://v/y", "http://v/x", "http://v/y", ""])?;
-    let has_those = has_those(alloc, &set);
+    let has_those = has_those(&set);
+    let has_custom = has_custom(alloc, &set);
     let is_turned = is_set_of(alloc, &set, &["", "http://v/x", "http://v/y"]);
     let is_copied = is_copied(&set);
     drop(set);
-    assert!(rt; has_those?);
-    assert!(rt; is_turned?);
-    assert!(rt; is_copied?);
+    assert!(rt; both(both(has_custom, is_turned), is_copied)? && has_those);
+    Ok(())
+}
+
+#[test]
+fn an_empty_set_has_no_vocabulary(rt: HostRuntime) -> Result<(), AllocError> {
+    let none = VocabularySet::new(rt.alloc());
+    let has_custom = has_custom(rt.alloc(), &none);
+    drop(none);
+    assert!(rt; !has_custom?);
     Ok(())
 }
 

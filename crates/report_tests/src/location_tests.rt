@@ -1,5 +1,5 @@
 //! Worked values from outside, and each public call once.
-use crate::fixtures::{errors_at, located};
+use crate::fixtures::{both, errors_at, located};
 use schema_reports::instance::{Instance, InstanceStep, Place, same_step};
 use schema_reports::location::{Location, LocationSegment, OutOfMemory};
 use schema_reports::reports::{ErrorIterator, OwnedError, ValidationError};
@@ -119,22 +119,29 @@ fn reached<'i>(root: Instance<'i>, steps: &[Value]) -> Option<Instance<'i>> {
     Some(instance)
 }
 
-/// Whether an instance has this text, and is the same as a value.
+/// Whether an instance has this text.
 fn is_text(alloc: Global, instance: Instance<'_>, want: &str) -> Result<bool, OutOfMemory> {
     let text = instance.text(alloc)?;
-    let is_text = text.as_str() == want;
-    drop(text);
+    Ok(text.as_str() == want)
+}
+
+/// Whether an instance has this text as a value.
+fn is_value(alloc: Global, instance: Instance<'_>, want: &str) -> Result<bool, OutOfMemory> {
     let value = instance.to_value(alloc)?;
     let text = value.to_string(alloc);
     drop(value);
-    Ok(text?.as_str() == want && is_text)
+    Ok(text?.as_str() == want)
 }
 
 /// Whether a row's steps lead to what it says.
 fn is_led(alloc: Global, row: &Value) -> Result<bool, OutOfMemory> {
+    let want = text_at(row, 3);
     match reached(Instance::Value(column(row, 1)), list_at(row, 2)) {
-        Some(instance) => is_text(alloc, instance, text_at(row, 3)),
-        None => Ok(text_at(row, 3).is_empty()),
+        Some(instance) => both(
+            is_text(alloc, instance, want),
+            is_value(alloc, instance, want),
+        ),
+        None => Ok(want.is_empty()),
     }
 }
 
@@ -144,13 +151,16 @@ fn refusal<'i>(alloc: Global, value: &'i Value) -> Result<ValidationError<'i>, O
     ValidationError::false_schema(alloc, Instance::Value(value), place, path, way, None)
 }
 
-/// Whether an error has this text, the keyword of a false schema, and the path of its place.
-fn shows(alloc: Global, error: &ValidationError<'_>, want: &str) -> Result<bool, OutOfMemory> {
+/// Whether an error has this text.
+fn says(alloc: Global, error: &ValidationError<'_>, want: &str) -> Result<bool, OutOfMemory> {
     let text = error.to_string(alloc)?;
-    let is_text = text.as_str() == want;
-    drop(text);
+    Ok(text.as_str() == want)
+}
+
+/// Whether an error has the keyword of a false schema, and the path of its place.
+fn is_of_place(alloc: Global, error: &ValidationError<'_>) -> Result<bool, OutOfMemory> {
     let path = error.instance_path(alloc)?;
-    Ok(path.as_str() == "/a" && is_text && error.keyword() == "falseSchema")
+    Ok(path.as_str() == "/a" && error.keyword() == "falseSchema")
 }
 
 /// The error as seen from the location `/outer`.
@@ -168,6 +178,12 @@ fn from_above(alloc: Global, error: OwnedError) -> Result<OwnedError, OutOfMemor
     }
 }
 
+/// Whether an owned error has this text, and its path below `/outer`.
+fn owned_says(alloc: Global, owned: &OwnedError, want: &str) -> Result<bool, OutOfMemory> {
+    let text = owned.to_string(alloc)?;
+    Ok(text.as_str() == want && owned.instance_path.as_str() == "/outer/a")
+}
+
 /// Whether an error, owned and seen from `/outer`, has this text, and its path there.
 fn owned_shows(
     alloc: Global,
@@ -175,19 +191,21 @@ fn owned_shows(
     want: &str,
 ) -> Result<bool, OutOfMemory> {
     let owned = from_above(alloc, error.to_owned(alloc)?)?;
-    let is_below = owned.instance_path.as_str() == "/outer/a";
-    let text = owned.to_string(alloc);
+    let says = owned_says(alloc, &owned, want);
     drop(owned);
-    Ok(text?.as_str() == want && is_below)
+    says
 }
 
 /// Whether the refusal of a row's value, and its owned copy, show what the row says.
 fn is_refused(alloc: Global, row: &Value) -> Result<bool, OutOfMemory> {
     let error = refusal(alloc, column(row, 1))?;
-    let is_shown = shows(alloc, &error, text_at(row, 2));
-    let is_owned = owned_shows(alloc, &error, text_at(row, 2));
+    let says = both(
+        says(alloc, &error, text_at(row, 2)),
+        is_of_place(alloc, &error),
+    );
+    let owned = owned_shows(alloc, &error, text_at(row, 2));
     drop(error);
-    Ok(is_shown? && is_owned?)
+    both(says, owned)
 }
 
 /// Whether a row holds.
@@ -247,25 +265,23 @@ fn has_name_apart(alloc: Global, object: &Place<'static>, want: &str) -> Result<
     let shown = name.shown();
     let is_shown = *object == shown;
     drop(shown);
-    Ok(has_pointer? && !is_same && is_shown)
+    both(has_pointer, Ok(is_shown && !is_same))
 }
 
 /// Whether the item 3 of `a/b` has its pointer, its copy and the names in it.
 fn is_item(alloc: Global, item: &Place<'static>) -> Result<bool, OutOfMemory> {
-    let has_pointer = points(alloc, item, "/a~1b/3")?;
-    let is_copy = is_its_copy(item)?;
-    let has_name = has_name_apart(alloc, item, "/a~1b/3")?;
-    Ok(has_pointer && is_copy && has_name)
+    let has_pointer = points(alloc, item, "/a~1b/3");
+    let has_name = has_name_apart(alloc, item, "/a~1b/3");
+    both(both(has_pointer, has_name), is_its_copy(item))
 }
 
 #[test]
 fn places(rt: HostRuntime) -> Result<(), OutOfMemory> {
-    let root_points = root_points(rt.alloc())?;
     let item = item_of_member(rt.alloc())?;
     let is_item = is_item(rt.alloc(), &item);
     drop(item);
-    let is_same = same_step(InstanceStep::Member("c"), InstanceStep::NameOf("c"));
-    assert!(rt; is_item? && root_points && !is_same);
+    assert!(rt; both(is_item, root_points(rt.alloc()))?);
+    assert!(rt; !same_step(InstanceStep::Member("c"), InstanceStep::NameOf("c")));
     Ok(())
 }
 

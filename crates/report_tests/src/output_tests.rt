@@ -1,5 +1,5 @@
 //! What evaluations show, of units that are made by hand: worked values from outside, and each public call once.
-use crate::fixtures::{described, error_at, unit_at};
+use crate::fixtures::{both, described, error_at, unit_at};
 use schema_output::error_units::unit_of_errors;
 use schema_output::errors::{ErrorEntry, EvaluationErrors};
 use schema_output::evaluation::Evaluation;
@@ -274,7 +274,7 @@ fn is_shown(alloc: Global, row: &Value) -> Result<bool, OutOfMemory> {
     let has_errors = come_in_order(alloc, &evaluation, list_at(row, 3));
     let has_list = is_listed(alloc, &evaluation, column(row, 4));
     drop(evaluation);
-    Ok(has_errors? && has_list? && has_verdict)
+    both(both(has_errors, has_list), Ok(has_verdict))
 }
 
 #[test]

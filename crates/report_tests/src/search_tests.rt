@@ -1,5 +1,5 @@
 //! Worked values from outside, and each public call once.
-use crate::fixtures::{errors_at, located};
+use crate::fixtures::{both, errors_at, located};
 use schema_matches::assumptions::MatchAssumptions;
 use schema_matches::site::{MatchFailure, MatchSite, Reason};
 use schema_reports::location::{Location, OutOfMemory};
@@ -77,15 +77,15 @@ fn a_failure<'i>(alloc: Global, reason: Reason) -> Result<Option<MatchFailure<'i
 
 // Whether the errors have these texts, in order.
 fn have_texts(list: &[ValidationError<'_>], texts: &[&str]) -> bool {
-    if list.len() != texts.len() {
-        return false;
-    }
-    for (error, text) in list.iter().zip(texts.iter()) {
+    for (number, text) in texts.iter().enumerate() {
+        let Some(error) = list.get(number) else {
+            return false;
+        };
         if error.text.as_str() != *text {
             return false;
         }
     }
-    true
+    list.len() == texts.len()
 }
 
 // What a search gives of which two runs gave the errors at these paths.
@@ -116,10 +116,10 @@ fn share(alloc: Global, runs: &[&[&str]], texts: &[&str]) -> Result<bool, OutOfM
 fn what_two_results_share(rt: HostRuntime) -> Result<(), OutOfMemory> {
     let alloc = rt.alloc();
     let alone = "Regex engine failed to evaluate pattern 'compiled'";
-    let both = share(alloc, &[&["/b", "/a"], &["/a", "/b"]], &["/a", "/b"])?;
-    let none = share(alloc, &[&["/b", "/a"], &["/c", "/d"]], &[alone])?;
-    let empty = share(alloc, &[&[], &[]], &[])?;
-    assert!(rt; both && none && empty);
+    let shared = share(alloc, &[&["/b", "/a"], &["/a", "/b"]], &["/a", "/b"]);
+    let none = share(alloc, &[&["/b", "/a"], &["/c", "/d"]], &[alone]);
+    let empty = share(alloc, &[&[], &[]], &[]);
+    assert!(rt; both(shared, both(none, empty))?);
     Ok(())
 }
 
@@ -141,22 +141,28 @@ fn an_undecided_search_fails(rt: HostRuntime) -> Result<(), OutOfMemory> {
     Ok(())
 }
 
-// Whether a match that is met at two places comes out alike, and no other is known to be unfinished.
+// Whether a match that is met at two places comes out alike.
 fn comes_out_alike<'i>(alloc: Global, met: &mut MatchAssumptions<'i>) -> Result<bool, OutOfMemory> {
     let one = met_at(alloc, met, "p", Reason::Engine, "/a/pattern")?;
-    if met.is_unfinished("q", "abc") || met.is_unfinished("p", "ab") {
-        return Ok(false);
-    }
     if !met.is_unfinished("p", "abc") {
         return Ok(false);
     }
-    let site = schema_site(alloc, "/b/pattern")?;
-    let other = met.resolve_unfinished("p", "abc", site)?;
-    Ok(one == other)
+    match schema_site(alloc, "/b/pattern") {
+        Ok(site) => {
+            let other = met.resolve_unfinished("p", "abc", site)?;
+            Ok(one == other)
+        }
+        Err(failed) => Err(failed),
+    }
+}
+
+// Whether neither the match of another pattern nor that of another text is known to be unfinished.
+fn knows_no_other(met: &MatchAssumptions<'_>) -> bool {
+    !met.is_unfinished("q", "abc") && !met.is_unfinished("p", "ab")
 }
 
 // Each of these patterns is met once, and that is accepted whatever comes out; then one match is met at two places, if it is to
-// be met twice, and that is accepted where both come out alike.
+// be met twice, and that is accepted where both come out alike, and no other match is known to be unfinished.
 fn meet<'i>(
     alloc: Global,
     patterns: &[&str],
@@ -167,7 +173,8 @@ fn meet<'i>(
         met_at(alloc, met, pattern, Reason::Engine, "/anyOf/0/pattern")?;
     }
     if twice {
-        comes_out_alike(alloc, met)
+        let is_alike = comes_out_alike(alloc, met);
+        both(is_alike, Ok(knows_no_other(met)))
     } else {
         Ok(true)
     }
@@ -203,10 +210,12 @@ fn accepts(alloc: Global, patterns: &[&str], twice: bool) -> Result<bool, OutOfM
 #[test]
 fn accepted_with_at_most_five(rt: HostRuntime) -> Result<(), OutOfMemory> {
     let alloc = rt.alloc();
-    assert!(rt; accepts(alloc, &["d"], false)?);
-    assert!(rt; accepts(alloc, &["d", "e", "f", "g", "h"], false)?);
-    assert!(rt; !accepts(alloc, &["d", "e", "f", "g", "h", "i"], false)?);
-    assert!(rt; !accepts(alloc, &["d", "e", "f", "g", "h", "i", "j", "k"], false)?);
+    let one = accepts(alloc, &["d"], false);
+    let five = accepts(alloc, &["d", "e", "f", "g", "h"], false);
+    assert!(rt; both(one, five)?);
+    let six = accepts(alloc, &["d", "e", "f", "g", "h", "i"], false)?;
+    let eight = accepts(alloc, &["d", "e", "f", "g", "h", "i", "j", "k"], false)?;
+    assert!(rt; !six && !eight);
     Ok(())
 }
 
@@ -276,30 +285,42 @@ fn errors_of_search<'i>(
     errors_under_each(alloc, |met| meet_at(alloc, root, met), first, root)
 }
 
-// Whether an error is the failure of the site with a place: its instance path, its instance, its text and its paths.
+// Whether an error has the text and the paths of the site with a place.
+fn is_of_site(error: &ValidationError<'_>) -> bool {
+    error.text.as_str() == "Regex engine failed to evaluate pattern 'source'"
+        && error.schema_path.as_str() == "/$defs/s/pattern"
+        && error.evaluation_path.as_str() == "/properties/a/$ref/pattern"
+}
+
+// Whether an error has the instance path of that place.
 fn is_at_place(alloc: Global, error: &ValidationError<'_>) -> Result<bool, OutOfMemory> {
     let path = error.instance_path(alloc)?;
-    let is_path = path.as_str() == "/a";
-    drop(path);
-    let instance = error.instance.text(alloc)?;
-    Ok(
-        is_path
-            && instance.as_str() == "\"abc\""
-            && error.text.as_str() == "Regex engine failed to evaluate pattern 'source'"
-            && error.schema_path.as_str() == "/$defs/s/pattern"
-            && error.evaluation_path.as_str() == "/properties/a/$ref/pattern",
-    )
+    Ok(path.as_str() == "/a")
+}
+
+// Whether an error has the instance that stands there.
+fn has_instance(alloc: Global, error: &ValidationError<'_>) -> Result<bool, OutOfMemory> {
+    let text = error.instance.text(alloc)?;
+    Ok(text.as_str() == "\"abc\"")
+}
+
+// Whether these are the failure of that site alone.
+fn are_taken(alloc: Global, alone: &[ValidationError<'_>]) -> Result<bool, OutOfMemory> {
+    match alone {
+        [error] => both(
+            both(is_at_place(alloc, error), has_instance(alloc, error)),
+            Ok(is_of_site(error)),
+        ),
+        _ => Ok(false),
+    }
 }
 
 // Whether the search gives that failure alone.
 fn is_taken(alloc: Global, root: &Value) -> Result<bool, OutOfMemory> {
     let alone = errors_of_search(alloc, root)?;
-    let is_taken = match alone.as_slice() {
-        [error] => is_at_place(alloc, error),
-        _ => Ok(false),
-    };
+    let are_taken = are_taken(alloc, &alone);
     drop(alone);
-    is_taken
+    are_taken
 }
 
 #[test]
