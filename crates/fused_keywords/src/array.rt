@@ -15,7 +15,7 @@ use crate::checks::Check;
 use keyword_ways::items::item_count;
 use keyword_ways::passing::next_number;
 use keyword_ways::run::{Progress, Stage};
-use schema_parts::keyword::{Answer, Below, Fault, Mode, Reply, Step};
+use schema_parts::keyword::{Answer, Below, Fault, Found, Mode, Reply, Step};
 use schema_reports::evaluation_result::EvaluationResult;
 use schema_reports::instance::Instance;
 use schema_reports::location::OutOfMemory;
@@ -132,13 +132,15 @@ impl ArrayKeyword {
         match self {
             ArrayKeyword::MinItems(least) => {
                 let own = Check::HasLeast(least).result(alloc, instance)?;
-                Ok(Answer::Evaluation(own, absorbed))
+                let found = Box::new(alloc, Found { own, absorbed })?;
+                Ok(Answer::Evaluation(found))
             }
             ArrayKeyword::ArrayShape(_, least) => {
                 absorbed.push(Check::IsArray.absorbed_result(alloc, instance)?)?;
                 absorbed.push(Check::HasLeast(least).absorbed_result(alloc, instance)?)?;
                 let own = EvaluationResult::valid_empty(alloc);
-                Ok(Answer::Evaluation(own, absorbed))
+                let found = Box::new(alloc, Found { own, absorbed })?;
+                Ok(Answer::Evaluation(found))
             }
         }
     }

@@ -177,7 +177,7 @@ fn evaluate_keyword<'i, K: Validate, M: Matcher>(
     let mut run = keyword
         .keyword
         .begin(engine.alloc, question.instance, question.mode)?;
-    let mut answer = begun(engine.alloc, question.mode);
+    let mut answer = begun(engine.alloc, question.mode)?;
     let aside = context.set_aside(engine.alloc);
     evaluate_turns(
         engine,

@@ -21,7 +21,7 @@ use crate::node::replies::false_error;
 use schema_contexts::validation::ValidationContext;
 use schema_nodes::node::Node;
 use schema_nodes::node::absolute::absolute_location;
-use schema_parts::keyword::Answer;
+use schema_parts::keyword::{Answer, Found};
 use schema_reports::evaluation::{
     Annotations, ChildList, ErrorDescription, EvaluationNode, UnitReport,
 };
@@ -223,8 +223,8 @@ pub fn units_of_keyword<K>(
         (answer_of texts answer.entry).gives) }
     ensures stays { context.new ≡ context.old }
 {
-    let (given, absorbed) = answer.into_evaluation(alloc);
-    let own = unit_of_keyword(alloc, node, name.as_str(), question, given, context)?;
+    let Found { own, absorbed } = Box::into_inner(answer.into_evaluation(alloc)?);
+    let own = unit_of_keyword(alloc, node, name.as_str(), question, own, context)?;
     let absorbed = absorbed_units(alloc, node, question, absorbed, context)?;
     Ok(EntryUnits { own, absorbed })
 }
