@@ -16,6 +16,7 @@ use Rattle.schema_definitions.specs.Meaning.{Where, fault_error, keyword_outcome
 use Rattle.schema_definitions.specs.Runs.{first_error, with_mark, without_last}
 use Rattle.schema_definitions.specs.Laws.{Agrees, AnsweredAlike, AsksRightly, IsPresent, IsRight, SpotInside, StandsInside, answer_in, first_fault, steps_below}
 use Rattle.schema_definitions.specs.Turns.{Standing, TurnLaws, marks_after, next, reply_to}
+use Rattle.schema_parts.specs.AtOnce.{EndsAtOnce}
 use Rattle.schema_parts.specs.KeywordViews.{Tells, answer_of, fault_of}
 use Rattle.schema_parts.specs.FaultViews.{FaultsLieInside, LiesInside, PassesBorrowed, answer_reply, faults_in}
 use Rattle.schema_contexts.specs.Matches.{Settling}
@@ -118,6 +119,15 @@ module _ {K R : Type 0} (keywords : Keywords K R) (m : K) (absorbed : List Text)
     pub ended_right : (marks : List Marked) (r r' : R) (reply : Reply) (a : Answer) → OnBareWay marks r reply → keywords.turn m s r reply ≡ r' → keywords.answer r' ≡ a → keywords.step m s r reply ≡ done
         → IsRight keywords m s (matching x.matcher x.completion) answers bare same mode a
     ended_right = ended_on s x mode answers bare same
+
+  -- ---- a run that is done at its first turn says what is right
+
+  module _ (s : Subject) (x : Reading) (answers : Answers) (same : Marked → Marked → Bool) where
+    pub right_at_once : (valid : Bool) → ((q : Question) → Agrees (answers q)) → AnsweredAlike same answers → EndsAtOnce keywords m s valid → valid ≡ keywords.holds m s (matching x.matcher x.completion) (λ q. (answers q).verdict)
+    right_at_once valid agree alike ends =
+        let r = keywords.begin m s for_verdict in
+        let way = begins s x for_verdict answers same [] r refl agree alike refl in
+        sym ends.says ∙ ended_right s x for_verdict answers same [] r (keywords.turn m s r no_reply) no_reply (keywords.answer (keywords.turn m s r no_reply)) way refl refl ends.asks_nothing
 
   -- ---- whatever is replied
 

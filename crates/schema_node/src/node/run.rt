@@ -1,12 +1,13 @@
 //! Runs of nodes over instances.
-ghost use Rattle.std.specs.Prelude.{◌≡◌, ◌<◌, ◌≤◌, [], IfOk, true, false, Some, MatchOption};
+ghost use Rattle.std.specs.Prelude.{◌≡◌, ◌<◌, ◌≤◌, [], Bool, IfOk, IfSome, true, false, Some, MatchOption};
 ghost use Rattle.std.specs.Prelude.{map, option_map, string_bytes};
 ghost use Rattle.schema_definitions.specs.Instance.{after_step};
 ghost use Rattle.schema_reports.specs.InstanceViews.{subject_of, step_of};
 ghost use Rattle.schema_definitions.specs.Keywords.{down, here, for_units, for_verdict};
 ghost use Rattle.schema_definitions.specs.Laws.{IsPresent, steps_below};
+ghost use Rattle.schema_parts.specs.AtOnce.{EndsAtOnce};
 ghost use Rattle.schema_parts.specs.FaultViews.{faults_in};
-ghost use Rattle.schema_parts.specs.KeywordViews.{below_of, mode_of};
+ghost use Rattle.schema_parts.specs.KeywordViews.{below_of, mode_of, Tells};
 ghost use Rattle.schema_nodes.specs.NodeTable.{numbered, shaped_form, shaped_part};
 ghost use Rattle.schema_parts.specs.EdgeViews.{edge_of};
 ghost use Rattle.schema_nodes.specs.NodeViews.{entry_of, form_of};
@@ -236,7 +237,25 @@ fn run_form<'i, K: Validate, M: Matcher>(
     }
 }
 
-// The reply of a keyword. Its run begins with no marks; those of the run that asks are set aside until it has ended.
+// What a keyword tells at once of the instance, where the verdict is wanted.
+fn verdict_at_once<K: Validate>(
+    keyword: &NamedKeyword<'_, K>,
+    question: &Question<'_, '_>,
+) -> Option<bool>
+    ensures verdict { IfSome result (λ _. mode_of question.now.mode ≡ for_verdict) }
+    ensures at_once { IfSome result (λ valid. (texts : Bool)
+        → Tells texts (K.is_whole (K.shape keyword.now.keyword.now)) (subject_of question.now.instance)
+        → EndsAtOnce (K.words texts) (K.shape keyword.now.keyword.now) (subject_of question.now.instance) valid) }
+{
+    match question.mode {
+        Mode::Verdict => keyword.keyword.is_valid_at_once(question.instance),
+        Mode::First => None,
+        Mode::All => None,
+        Mode::Evaluate => None,
+    }
+}
+
+// The reply of a keyword. One that tells its verdict at once takes no run. A run begins with no marks; those of the run that asks are set aside until it has ended.
 #[cycle(run)]
 fn run_keyword<'i, K: Validate, M: Matcher>(
     engine: &Engine<'_, K, M>,
@@ -259,6 +278,9 @@ fn run_keyword<'i, K: Validate, M: Matcher>(
     ensures stays { IfOk result (λ _. StaysRight
         (setting K.words K.is_whole K.shape M.matching engine.now) (asking question.now) context.old context.new) }
 {
+    if let Some(valid) = verdict_at_once(keyword, question) {
+        return Ok(Reply::Truth(valid));
+    }
     let mut run = keyword
         .keyword
         .begin(engine.alloc, question.instance, question.mode)?;

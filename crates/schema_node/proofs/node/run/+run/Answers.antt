@@ -5,7 +5,7 @@ use Rattle.schema_parts.specs.FaultViews.{PassesBorrowed}
 use Rattle.std.proofs.Common.{◌≡◌, ◌∙◌, ◌+◌, ◌*◌, ◌<◌, ◌≤◌, ℕ, Bool, suc, arith, sym, refl, ap, subst, map, option_map, string_bytes, length, Some, false, true≢false, List, [], ◌∷◌, ◌++◌, drop}
 use Rattle.schema_reports.specs.InstanceViews.{subject_of, step_of}
 use Rattle.schema_definitions.specs.Instance.{Text}
-use Rattle.schema_definitions.specs.Keywords.{Marked, MatchPoint, Mode, Question, ask, done, ecma, mark, match_text, no_reply, truth, unmark}
+use Rattle.schema_definitions.specs.Keywords.{Marked, MatchPoint, Mode, Question, ask, done, ecma, for_verdict, mark, match_text, no_reply, truth, unmark}
 use Rattle.schema_node.specs.EvaluationPlaces.{steps_to}
 use Rattle.schema_contexts.specs.EvaluationPaths.{path_of}
 use Rattle.schema_definitions.specs.Laws.{IsRight}
@@ -14,14 +14,14 @@ use Rattle.schema_meaning.specs.Numbered.{left, subject_in}
 use Rattle.schema_definitions.specs.Runs.{keyword_met, plan_met, site_at}
 use Rattle.schema_definitions.specs.Unfinished.{Remembered}
 use Rattle.schema_definitions.specs.Matching.{Matcher, Pair, completed, matching, settled}
-use Rattle.schema_definitions.specs.Guarded.{node_at, node_never, same_edge}
+use Rattle.schema_definitions.specs.Guarded.{node_at, node_keyword, node_never, same_edge}
 use Rattle.schema_parts.specs.KeywordViews.{below_of, marked_of, mode_of, reply_of, answer_of, point_of}
 use Rattle.schema_contexts.specs.Matches.{after_match, settling}
 use Rattle.schema_node.specs.NodeMeets.{ChildMeets, EdgeMeets, EntryMeets, FormMeets, child_run, part_looked, parts_looked, reading}
 use Rattle.schema_nodes.specs.NodeTable.{numbered, shaped_form, shaped_part}
 use Rattle.schema_parts.specs.EdgeViews.{edge_of}
 use Rattle.schema_nodes.specs.NodeViews.{entry_of, form_of, node_of, plan_of}
-use Rattle.schema_node.specs.NodeRuns.{ChildReplies, EdgeReplies, Reading, Reads, child_says, edge_needs, entry_where, parts_say, refuses, reply_by}
+use Rattle.schema_node.specs.NodeRuns.{ChildReplies, EdgeReplies, Reading, Reads, child_says, edge_needs, entry_where, form_says, parts_say, refuses, reply_by}
 use Rattle.schema_contexts.specs.Progress.{Context, NoDeeper, busy_at}
 use Rattle.schema_node.specs.RightVerdicts.{LaysOut}
 use Rattle.schema_node.specs.RunStates.{EdgeRemembers, MeetsNode, NodeSays, RemembersRightly, StaysRight, asking, setting}
@@ -31,12 +31,12 @@ use Rattle.schema_node.proofs.GoesOn.{alone_remembers, asked_across, computed_me
 use Rattle.schema_node.proofs.RightVerdicts.{laid_below}
 use Rattle.schema_node.specs.Turning.{unit_with}
 use Rattle.schema_contexts.proofs.Pairs.{busy-below, busy-pushed, deeper-below, deeper-pushed, entered_new, entered_old}
-use Rattle.schema_node.proofs.KeywordTurns.{can_be_in, less_after, less_first, asked, asks_less, marked, mark_taken, matched, matches_present, told_pattern, asks_present, begins, ended_right, falls_turned, faults_lie, keyword_says, right_reply, silent, silent_reads, tells_nothing}
+use Rattle.schema_node.proofs.KeywordTurns.{can_be_in, less_after, less_first, asked, asks_less, marked, mark_taken, matched, matches_present, told_pattern, asks_present, begins, ended_right, falls_turned, faults_lie, keyword_says, right_at_once, right_reply, silent, silent_reads, tells_nothing}
 use Rattle.schema_meaning.proofs.Alike.{asked_alike}
 use Rattle.schema_parts.proofs.Replies.{if_ok_always, if_ok_both, if_ok_mono}
 use Rattle.schema_node.proofs.NodeRuns.{agrees_answers, agrees_says, child_below, child_here, edge_busy, falls_below, falls_here, form_reference, leaf_accepts, needs_of_entered, node_by_plan, one_entry, settled_entries, stands_in, start_entries, where_is}
 use Rattle.schema_contexts.proofs.Matches.{after_assumes, moved, meets_append, meets_same}
-use Rattle.schema_node.proofs.KeywordMeets.{meets_all, meets_asked, meets_begun, meets_mark_taken, meets_marked, meets_matched, meets_nothing}
+use Rattle.schema_node.proofs.KeywordMeets.{meets_all, meets_asked, meets_at_once, meets_begun, meets_mark_taken, meets_marked, meets_matched, meets_nothing}
 use Rattle.schema_node.proofs.NodeMeets.{child_replies, end_met, last_met, leaf_holds, leaf_no, leaf_yes, meets_below, meets_busy, meets_here, meets_never, meets_reference, meets_these, next_met, nothing_refused, other_entry, stops_at}
 use Rattle.schema_parts.proofs.Drops.{drop_at, drop_past}
 use Rattle.schema_node.proofs.NodeParts.{absolute_is, keyword_children, part_at, plain_there, plan_is, reference_edge, replies_refused, tells_keyword}
@@ -352,13 +352,51 @@ run_turns-returns-in-Done-clause-passes g t c = λ root at_place.
 
 pub run_keyword-run_turns-requires : goal.run_keyword-run_turns-requires
 run_keyword-run_turns-requires g t c =
-    let begun = λ (texts : Bool). c.in_ok-run.ensures.begins texts ∙ ap (λ a. (c.in_ok-run.run', a)) (sym (c.begun-answer.ensures.fresh texts)) in
+    let begun = λ (texts : Bool). c.in_ok-run.ensures.begins texts ∙ ap (λ a. (c.in_ok-run.run', a)) (sym (c.in_ok-answer.ensures.fresh texts)) in
     let ns = numbered g.K.Validate.shape c.args.engine.now.nodes.now in
     let p = steps_to c.args.question.now.place.now in
     let s = subject_of c.args.question.now.instance in
     let kept = c.set_aside-aside.ensures.in_progress in
     let l = ap (λ es. left ns (length c.args.engine.now.nodes.now) c.args.node.0 s (busy_at p es)) kept in
-    λ κs h. (lower_same _ _ t 2 0 l c.decreases, (h.0, (h.1.0, (h.1.1.0, (h.1.1.1, (record { known = c.requires.may.known; ranked = c.requires.may.ranked; above = subst (NoDeeper p) (sym kept) c.requires.may.above; wanted = c.requires.may.wanted; goes_on = (c.requires.may.goes_on.0, c.requires.may.goes_on.1, right_same (setting g.K.Validate.words g.K.Validate.is_whole g.K.Validate.shape g.M.Matcher.matching c.args.engine.now) c.requires.may.goes_on.0 c.args.context.now c.set_aside-aside.new.self c.set_aside-aside.ensures.remembered c.set_aside-aside.ensures.verdicts c.requires.may.goes_on.2) }, (c.requires.form, (begun, (c.begun-answer.ensures.no_faults, c.set_aside-aside.ensures.none)))))))))
+    λ κs h. (lower_same _ _ t 2 0 l c.decreases, (h.0, (h.1.0, (h.1.1.0, (h.1.1.1, (record { known = c.requires.may.known; ranked = c.requires.may.ranked; above = subst (NoDeeper p) (sym kept) c.requires.may.above; wanted = c.requires.may.wanted; goes_on = (c.requires.may.goes_on.0, c.requires.may.goes_on.1, right_same (setting g.K.Validate.words g.K.Validate.is_whole g.K.Validate.shape g.M.Matcher.matching c.args.engine.now) c.requires.may.goes_on.0 c.args.context.now c.set_aside-aside.new.self c.set_aside-aside.ensures.remembered c.set_aside-aside.ensures.verdicts c.requires.may.goes_on.2) }, (c.requires.form, (begun, (c.in_ok-answer.ensures.no_faults, c.set_aside-aside.ensures.none)))))))))
+
+pub run_keyword-returns-in-Some-clause-says : goal.run_keyword-returns-in-Some-clause-says
+run_keyword-returns-in-Some-clause-says g t c = λ x reads l.
+    let ns = numbered g.K.Validate.shape c.args.engine.now.nodes.now in
+    let w = settling (g.M.Matcher.matching c.args.engine.now.matcher.now) c.args.context.now.remembered.assumptions in
+    let p = steps_to c.args.question.now.place.now in
+    let s = subject_of c.args.question.now.instance in
+    let m = g.K.Validate.shape c.args.keyword.now.keyword.now in
+    let es = map (option_map edge_of) c.args.keyword.now.children.now in
+    let busy = busy_at p c.args.context.now.in_progress in
+    let path = path_of c.args.question.now.path.now in
+    let name = string_bytes c.args.keyword.now.name.now in
+    let tells = tells_keyword g.K.Validate.is_whole ns (length c.args.engine.now.nodes.now) w p s x c.args.node.0 m es c.requires.may.known reads c.requires.form in
+    let answers = child_says g.K.Validate.words ns x path p busy es in
+    let right = right_at_once (g.K.Validate.words x.texts) m (g.K.Validate.absorbed m) (g.K.Validate.remaining m) (g.K.Validate.can_be x.texts m) (g.K.Validate.ends x.texts m) (g.K.Validate.fits x.texts m) (g.met.K.Validate.turn_laws x.texts m) s x answers (same_edge es) c.in-Some.valid
+    (agrees_answers g.K.Validate.words ns (λ texts m s completion matcher a h. (g.met.K.Validate.function_laws texts m).agree s (matching matcher completion) a h) x path p busy es)
+    (asked_alike (g.K.Validate.words x.texts) x.matcher ns (subject_in x.root) x.completion x.depth path p busy es)
+    (c.in-Some.ensures.at_once x.texts tells) in
+    let there = right ∙ ap (λ v. (g.K.Validate.words x.texts).holds m v (matching x.matcher x.completion) (λ q. (answers q).verdict)) (sym (stands_in x.root p s reads.stands)) in
+    record { same = subst (λ mode. truth c.in-Some.valid ≡ reply_by mode (form_says g.K.Validate.words ns x c.args.node.0 path p busy name (node_keyword m es))) (sym c.in-Some.ensures.verdict) (ap truth there); borrows = All-nil (BorrowsItsPlace x.root) }
+
+pub run_keyword-returns-in-Some-clause-meets : goal.run_keyword-returns-in-Some-clause-meets
+run_keyword-returns-in-Some-clause-meets g t c = λ texts root depth reads l.
+    let ns = numbered g.K.Validate.shape c.args.engine.now.nodes.now in
+    let w = settling (g.M.Matcher.matching c.args.engine.now.matcher.now) c.args.context.now.remembered.assumptions in
+    let p = steps_to c.args.question.now.place.now in
+    let s = subject_of c.args.question.now.instance in
+    let m = g.K.Validate.shape c.args.keyword.now.keyword.now in
+    let es = map (option_map edge_of) c.args.keyword.now.children.now in
+    let busy = busy_at p c.args.context.now.in_progress in
+    let path = path_of c.args.question.now.path.now in
+    let name = string_bytes c.args.keyword.now.name.now in
+    let at_node = node_at (g.K.Validate.words texts) w.matcher ns (subject_in root) c.args.node.0 path p in
+    let runs = child_run g.K.Validate.words ns w texts root depth path p busy es in
+    let tells = tells_keyword g.K.Validate.is_whole ns (length c.args.engine.now.nodes.now) w p s (reading w texts root depth) c.args.node.0 m es c.requires.may.known reads c.requires.form in
+    let all = meets_at_once (g.K.Validate.words texts) w.matcher w.assumptions at_node s runs (same_edge es) name m (g.K.Validate.remaining m s) c.args.context.now.remembered c.in-Some.valid (c.in-Some.ensures.at_once texts tells) ((g.met.K.Validate.turn_laws texts m).bounded s for_verdict) in
+    meets_same w.matcher _ _ _ _ (ap (keyword_met (g.K.Validate.words texts) w.matcher w.assumptions at_node s runs (same_edge es) name m) (sym c.in-Some.ensures.verdict)
+    ∙ ap (λ v. keyword_met (g.K.Validate.words texts) w.matcher w.assumptions at_node v runs (same_edge es) name m (mode_of c.args.question.now.mode)) (sym (stands_in root p s reads.stands))) all
 
 pub run_keyword-returns-clause-says : goal.run_keyword-returns-clause-says
 run_keyword-returns-clause-says g t c =
