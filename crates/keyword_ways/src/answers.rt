@@ -110,7 +110,9 @@ fn evaluated<'i>(
 {
     let mut found = before.into_evaluation(alloc)?;
     let keyword = String::from_str(alloc, keyword)?;
-    found.own.mark_errored(alloc, ErrorDescription { keyword, text })?;
+    found
+        .own
+        .mark_errored(alloc, ErrorDescription { keyword, text })?;
     Ok(Answer::Evaluation(found))
 }
 
