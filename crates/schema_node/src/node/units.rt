@@ -50,7 +50,7 @@ fn own_unit<K>(
             evaluation_path: question.path.made(alloc)?,
             absolute_keyword_location: absolute_location(alloc, node, &node.location)?,
             schema_location: node.location.clone()?,
-            instance_location: question.place.made()?.pointer(alloc)?,
+            instance_location: question.place.pointer(alloc)?,
             annotations,
             errors,
         },
@@ -164,7 +164,7 @@ fn unit_of_keyword<K>(
     let evaluation_path = context.evaluation_path(alloc, question.path, name, "")?;
     let schema_location = node.location.join(LocationSegment::Property(name))?;
     let absolute_keyword_location = absolute_location(alloc, node, &schema_location)?;
-    let instance_location = question.place.made()?.pointer(alloc)?;
+    let instance_location = question.place.pointer(alloc)?;
     let (valid, annotations, errors, children) = match given {
         EvaluationResult::Valid(annotations, children) => {
             (true, annotations, Vec::new(alloc), children)
