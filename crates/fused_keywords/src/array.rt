@@ -1,5 +1,5 @@
 //! `minItems`, and `items` that absorbs it and `type`.
-ghost use Rattle.std.specs.Prelude.{All, ◌≡◌, ◌+◌, ◌^◌, ◌<◌, Bool, IfOk, map, option_map, true};
+ghost use Rattle.std.specs.Prelude.{All, ◌≡◌, ◌+◌, ◌^◌, ◌<◌, Bool, IfOk, IfSome, map, option_map, true};
 ghost use Rattle.serde_json.specs.Data.{Data};
 ghost use Rattle.schema_reports.specs.InstanceViews.{subject_of};
 ghost use Rattle.schema_definitions.specs.Keywords.{for_first};
@@ -92,6 +92,17 @@ impl ArrayKeyword {
                 if before < all { all - before } else { 0 }
             }
         }
+    }
+
+    /// Whether the keyword holds of the instance, where a run for the verdict asks at no item: its checks alone decide then.
+    pub fn holds_at_once(self, instance: Instance<'_>) -> Option<bool>
+        ensures asks_none { IfSome result (λ _. asked_count Mode.Verdict self (subject_of instance.entry) ≡ 0) }
+        ensures holds { IfSome result (λ valid. checks_hold self (subject_of instance.entry) ≡ valid) }
+    {
+        if self.asked_count(Mode::Verdict, instance) > 0 {
+            return None;
+        }
+        Some(self.checks_hold(instance))
     }
 
     /// The errors of its checks.
