@@ -1,16 +1,17 @@
 //! Texts of errors, made and run through the traits' bounds.
+use crate::words::{Rows, draft_named, push_all, push_path, wrong};
 use bench_keywords::keyword::BenchKeyword;
 use bench_parts::table::BenchTable;
 use schema_keywords::keywords::{Draft, VocabularySet};
 use schema_parts::keyword::{Answer, Fault, Found, MatchPoint, Mode, Reply, Step, Validate};
 use schema_parts::table::{KeywordOrigin, KeywordTable, MakerReply, MakerStep};
-use schema_reports::evaluation::{ChildList, ErrorDescription, EvaluationNode, UnitReport};
+use schema_reports::evaluation::{ErrorDescription, EvaluationNode, UnitReport};
 use schema_reports::evaluation_result::EvaluationResult;
 use schema_reports::instance::Instance;
 use schema_reports::location::{Location, OutOfMemory};
 use serde_json::{Map, Value};
 use std::alloc::Global;
-use test_rows::{column, list_at, text_at, wrong_row};
+use test_rows::{column, list_at, text_at};
 
 /// Whether a maker asks for a child, whose path is then added and a space; a refusal adds its text.
 fn asks_child<K>(
@@ -18,26 +19,26 @@ fn asks_child<K>(
     step: &MakerStep<K>,
     log: &mut String,
 ) -> Result<bool, OutOfMemory> {
-    match step {
-        MakerStep::Compile(path) => {
-            let pointer = path.pointer(alloc)?;
-            log.push_str(pointer.as_str())?;
-            log.push_str(" ")?;
-            Ok(true)
-        }
-        MakerStep::Refuse(error) => {
-            log.push_str(error.text.as_str())?;
-            Ok(false)
-        }
-        _ => Ok(false),
-    }
+    let (asks, told) = match step {
+        MakerStep::Compile(path) => (true, push_path(alloc, path, " ", log)),
+        MakerStep::Refuse(error) => (false, log.push_str(error.text.as_str())),
+        _ => (false, Ok(())),
+    };
+    told?;
+    Ok(asks)
 }
 
 /// The keyword that a maker ends with, if it does.
-fn keyword_in<K>(step: MakerStep<K>) -> Option<K> {
+fn keyword_in<K: Drop>(step: MakerStep<K>) -> Option<K> {
     match step {
-        MakerStep::Keyword(keyword, _) => Some(keyword),
-        _ => None,
+        MakerStep::Keyword(keyword, absorbed) => {
+            drop(absorbed);
+            Some(keyword)
+        }
+        other => {
+            drop(other);
+            None
+        }
     }
 }
 
@@ -83,14 +84,10 @@ fn maker_of<K: Validate, T: KeywordTable<K>>(
     name: &str,
 ) -> Result<T::Maker, OutOfMemory> {
     let vocabularies = VocabularySet::new(alloc);
-    table.begin(
-        alloc,
-        KeywordOrigin::Builtin(name),
-        object,
-        draft,
-        &vocabularies,
-        false,
-    )
+    let origin = KeywordOrigin::Builtin(name);
+    let maker = table.begin(alloc, origin, object, draft, &vocabularies, false);
+    drop(vocabularies);
+    maker
 }
 
 /// Makes the keyword that a table makes of a member, if it makes one, and adds the paths of its children, or a refusal's
@@ -108,12 +105,14 @@ fn make<K: Validate, T: KeywordTable<K>>(
         return Ok(());
     };
     let mut maker = maker_of(alloc, table, object, draft, name)?;
-    make_turns(alloc, table, &mut maker, made, log)
+    let told = make_turns(alloc, table, &mut maker, made, log);
+    drop(maker);
+    told
 }
 
 /// A unit with this verdict, and nothing else in it.
-fn unit_with(alloc: Global, valid: bool) -> EvaluationNode {
-    EvaluationNode {
+fn unit_with<'i>(alloc: Global, valid: bool) -> Result<Reply<'i>, OutOfMemory> {
+    let unit = EvaluationNode {
         report: UnitReport {
             valid,
             evaluation_path: Location::new(alloc),
@@ -124,7 +123,8 @@ fn unit_with(alloc: Global, valid: bool) -> EvaluationNode {
             errors: Vec::new(alloc),
         },
         children: Vec::new(alloc),
-    }
+    };
+    Ok(Reply::Unit(Box::new(alloc, unit)?))
 }
 
 /// The answer to the question of a mode, if one was asked: this verdict, a unit with this verdict, or no error.
@@ -137,33 +137,21 @@ fn reply_to<'i>(
         Some(Mode::Verdict) => Ok(Reply::Truth(verdict)),
         Some(Mode::First) => Ok(Reply::First(None)),
         Some(Mode::All) => Ok(Reply::All(Vec::new(alloc))),
-        Some(Mode::Evaluate) => {
-            let unit = unit_with(alloc, verdict);
-            Ok(Reply::Unit(Box::new(alloc, unit)?))
-        }
+        Some(Mode::Evaluate) => unit_with(alloc, verdict),
         None => Ok(Reply::Nothing),
     }
 }
 
 /// Adds what a match asks: its pattern, its subject and `located` or `bare`, each with a space after it.
-fn push_match(
-    pattern: &str,
-    subject: &str,
-    located: bool,
+fn push_match<'w>(
+    pattern: &'w str,
+    subject: &'w str,
+    point: MatchPoint<'_>,
     log: &mut String,
 ) -> Result<(), OutOfMemory> {
-    log.push_str(pattern)?;
-    log.push_str(" ")?;
-    log.push_str(subject)?;
-    log.push_str(if located { " located " } else { " bare " })
-}
-
-/// Says whether a match is asked with its evaluation path and its place.
-fn is_located(point: MatchPoint<'_>) -> bool {
-    match point {
-        MatchPoint::AtKeyword(located) => located,
-        MatchPoint::AtSpot(located, _) => located,
-    }
+    let (MatchPoint::AtKeyword(located) | MatchPoint::AtSpot(located, _)) = point;
+    let how = if located { " located " } else { " bare " };
+    push_all(log, &[pattern, " ", subject, how])
 }
 
 /// The mode in which a turn with this reply asks a question, where it asks one: it adds `!` for one that asks a verdict,
@@ -183,7 +171,7 @@ fn asks<'i, K: Validate>(
             Ok(Some(mode))
         }
         Step::Match(pattern, subject, point) => {
-            push_match(pattern, subject, is_located(point), log)?;
+            push_match(pattern, subject, point, log)?;
             Ok(Some(Mode::Verdict))
         }
         _ => Ok(None),
@@ -246,7 +234,7 @@ fn told<K: Validate>(
     let instance = Instance::Value(value);
     let mut run = keyword.begin(alloc, instance, mode)?;
     let mut answer = answer_in(alloc, mode)?;
-    tell_turns(
+    let asked = tell_turns(
         alloc,
         keyword,
         &mut run,
@@ -254,8 +242,11 @@ fn told<K: Validate>(
         verdicts,
         &mut answer,
         log,
-    )?;
-    push_answer(answer, log)
+    );
+    drop(run);
+    let found = push_answer(answer, log);
+    asked?;
+    found
 }
 
 /// Adds the texts of own errors, each with `;` after it; an evaluation leaves its verdict, its errors and its units alone.
@@ -274,8 +265,7 @@ fn push_answer(answer: Answer<'_>, log: &mut String) -> Result<(), OutOfMemory> 
 fn push_texts(faults: &[Fault<'_>], log: &mut String) -> Result<(), OutOfMemory> {
     for fault in faults {
         if let Fault::Own(error) = fault {
-            log.push_str(error.text.as_str())?;
-            log.push_str(";")?;
+            push_all(log, &[error.text.as_str(), ";"])?;
         }
     }
     Ok(())
@@ -285,20 +275,25 @@ fn push_texts(faults: &[Fault<'_>], log: &mut String) -> Result<(), OutOfMemory>
 fn push_evaluation(own: EvaluationResult, log: &mut String) -> Result<(), OutOfMemory> {
     match own {
         EvaluationResult::Valid(_, children) => {
-            log.push_str("valid ")?;
-            push_units(children, log)
+            let units = children.into_nodes();
+            push_units("valid ", units.as_slice(), log)
         }
         EvaluationResult::Invalid(errors, _, children) => {
-            log.push_str("invalid ")?;
-            push_units(children, log)?;
-            push_descriptions(errors.as_slice(), log)
+            let units = children.into_nodes();
+            let begun = push_units("invalid ", units.as_slice(), log);
+            drop(units);
+            let ended = push_descriptions(errors.as_slice(), log);
+            drop(errors);
+            begun?;
+            ended
         }
     }
 }
 
-/// Adds the verdicts of units, each as `+` or `-`.
-fn push_units(units: ChildList, log: &mut String) -> Result<(), OutOfMemory> {
-    for unit in units.into_nodes() {
+/// Adds a word and the verdicts of units, each as `+` or `-`.
+fn push_units(word: &str, units: &[EvaluationNode], log: &mut String) -> Result<(), OutOfMemory> {
+    log.push_str(word)?;
+    for unit in units {
         log.push_str(if unit.report.valid { "+" } else { "-" })?;
     }
     Ok(())
@@ -307,29 +302,27 @@ fn push_units(units: ChildList, log: &mut String) -> Result<(), OutOfMemory> {
 /// Adds the errors of an evaluation, each as its keyword, `: ` and its text.
 fn push_descriptions(errors: &[ErrorDescription], log: &mut String) -> Result<(), OutOfMemory> {
     for error in errors {
-        log.push_str(error.keyword.as_str())?;
-        log.push_str(": ")?;
-        log.push_str(error.text.as_str())?;
+        push_all(log, &[error.keyword.as_str(), ": ", error.text.as_str()])?;
     }
     Ok(())
 }
 
-/// The draft of this name.
-pub(crate) fn draft_named(name: &str) -> Draft {
+/// The mode of this name.
+fn mode_named(name: &str) -> Mode {
     match name {
-        "4" => Draft::Draft4,
-        "7" => Draft::Draft7,
-        "2019-09" => Draft::Draft201909,
-        "unknown" => Draft::Unknown,
-        _ => Draft::Draft202012,
+        "verdict" => Mode::Verdict,
+        "first" => Mode::First,
+        "evaluation" => Mode::Evaluate,
+        _ => Mode::All,
     }
 }
 
-/// Adds what a row's keyword is asked for when it is made, and what it then tells of the row's value in a mode.
-fn push_log(alloc: Global, row: &Value, mode: Mode, log: &mut String) -> Result<(), OutOfMemory> {
+/// Adds what a row's keyword is asked for when it is made, and what it then tells of the row's value in the row's mode.
+fn push_log(alloc: Global, row: &Value, log: &mut String) -> Result<(), OutOfMemory> {
     let draft = draft_named(text_at(row, 0));
+    let mode = mode_named(text_at(row, 6));
     let mut made: Option<BenchKeyword> = None;
-    make(
+    let asked = make(
         alloc,
         &BenchTable {},
         column(row, 1),
@@ -337,31 +330,37 @@ fn push_log(alloc: Global, row: &Value, mode: Mode, log: &mut String) -> Result<
         text_at(row, 2),
         &mut made,
         log,
-    )?;
-    match &made {
+    );
+    let told = match &made {
         Some(keyword) => told(alloc, keyword, column(row, 3), mode, list_at(row, 4), log),
         None => Ok(()),
-    }
+    };
+    drop(made);
+    asked?;
+    told
 }
 
-/// Whether a row's log in a mode is this.
-fn logs(alloc: Global, row: &Value, mode: Mode) -> Result<bool, OutOfMemory> {
+/// Whether a row of drafts, schemas, names, values, verdicts, logs, and modes where not all errors are asked for, is right.
+pub(crate) fn logs(alloc: Global, row: &Value) -> Result<bool, OutOfMemory> {
     let mut log = String::new(alloc);
-    push_log(alloc, row, mode, &mut log)?;
-    Ok(log.as_str() == text_at(row, 5))
-}
-
-/// The number of the first row that is wrong of a table of drafts, schemas, names, values, verdicts and logs in a mode.
-fn wrong_log(alloc: Global, table: &str, mode: Mode) -> Result<Option<usize>, serde_json::Error> {
-    wrong_row(alloc, table, |row| logs(alloc, row, mode))
+    let told = push_log(alloc, row, &mut log);
+    let right = log.as_str() == text_at(row, 5);
+    drop(log);
+    told?;
+    Ok(right)
 }
 
 #[test]
-fn keywords_that_ask_nothing(rt: HostRuntime) -> Result<(), serde_json::Error> {
-    assert_eq!(rt; wrong_log(rt.alloc(), LEAVES, Mode::All)?, None);
+fn keywords(rt: HostRuntime) -> Result<(), serde_json::Error> {
+    let alloc = rt.alloc();
+    assert_eq!(rt; wrong(alloc, LEAVES, Rows::Keywords)?, None);
+    assert_eq!(rt; wrong(alloc, QUESTIONS, Rows::Keywords)?, None);
+    assert_eq!(rt; wrong(alloc, UNITS, Rows::Keywords)?, None);
+    assert_eq!(rt; wrong(alloc, PATTERNS, Rows::Keywords)?, None);
     Ok(())
 }
 
+// Keywords that ask nothing.
 const LEAVES: &str = r##"[
 ["2020-12", {"type":"string"}, "type", 1, [], "1 is not of type \"string\";"],
 ["2020-12", {"type":"string"}, "type", "AB", [], ""],
@@ -378,12 +377,7 @@ const LEAVES: &str = r##"[
 ["2020-12", {"pattern":1}, "pattern", 1, [], "\"pattern\" has a value of another shape"]
 ]"##;
 
-#[test]
-fn keywords_that_ask(rt: HostRuntime) -> Result<(), serde_json::Error> {
-    assert_eq!(rt; wrong_log(rt.alloc(), QUESTIONS, Mode::All)?, None);
-    Ok(())
-}
-
+// Keywords that ask.
 const QUESTIONS: &str = r##"[
 ["2020-12", {"properties":{"b":true,"a":{}}}, "properties", {"a":3}, [], "/properties/a /properties/b ?"],
 ["2020-12", {"allOf":[true,{}]}, "allOf", 1, [], "/allOf/0 /allOf/1 ??"],
@@ -414,63 +408,28 @@ const QUESTIONS: &str = r##"[
 ["2020-12", {"else":{},"if":{}}, "if", 1, [false], "/if /else !?"]
 ]"##;
 
-#[test]
-fn units(rt: HostRuntime) -> Result<(), serde_json::Error> {
-    assert_eq!(rt; wrong_log(rt.alloc(), UNITS, Mode::Evaluate)?, None);
-    Ok(())
-}
-
 // What the evaluation gives for the unit: its verdict, those of the units inside it, and its errors.
 const UNITS: &str = r##"[
-["2020-12", {"type":"string"}, "type", 1, [], "invalid type: 1 is not of type \"string\""],
-["2020-12", {"type":"string"}, "type", "AB", [], "valid "],
-["2020-12", {"not":{"type":"integer"}}, "not", 1, [true], "invalid not: {\"type\":\"integer\"} is not allowed for 1"],
-["2020-12", {"not":{"type":"integer"}}, "not", 1, [false], "valid "],
-["2020-12", {"allOf":[true,{},{}]}, "allOf", 1, [true,false,true], "invalid +-+"],
-["2020-12", {"allOf":[true,{}]}, "allOf", 1, [true,true], "valid ++"],
-["2020-12", {"properties":{"b":true,"a":{}}}, "properties", {"a":3}, [false], "invalid -"],
-["2020-12", {"anyOf":[{},{},{}]}, "anyOf", 1, [false,true,false], "valid -+-"],
+["2020-12", {"type":"string"}, "type", 1, [], "invalid type: 1 is not of type \"string\"", "evaluation"],
+["2020-12", {"type":"string"}, "type", "AB", [], "valid ", "evaluation"],
+["2020-12", {"not":{"type":"integer"}}, "not", 1, [true], "invalid not: {\"type\":\"integer\"} is not allowed for 1", "evaluation"],
+["2020-12", {"not":{"type":"integer"}}, "not", 1, [false], "valid ", "evaluation"],
+["2020-12", {"allOf":[true,{},{}]}, "allOf", 1, [true,false,true], "invalid +-+", "evaluation"],
+["2020-12", {"allOf":[true,{}]}, "allOf", 1, [true,true], "valid ++", "evaluation"],
+["2020-12", {"properties":{"b":true,"a":{}}}, "properties", {"a":3}, [false], "invalid -", "evaluation"],
+["2020-12", {"anyOf":[{},{},{}]}, "anyOf", 1, [false,true,false], "valid -+-", "evaluation"],
 ["2020-12", {"anyOf":[{},{}]}, "anyOf", 1, [false,false],
- "invalid --anyOf: 1 is not valid under any of the schemas listed in the 'anyOf' keyword"],
+ "invalid --anyOf: 1 is not valid under any of the schemas listed in the 'anyOf' keyword", "evaluation"],
 ["2020-12", {"oneOf":[{},{},{}]}, "oneOf", 1, [true,true,false],
- "invalid ++-oneOf: 1 is valid under more than one of the schemas listed in the 'oneOf' keyword"],
-["2020-12", {"oneOf":[{},{},{}]}, "oneOf", 1, [false,false,true], "valid --+"],
-["2020-12", {"else":{},"if":{},"then":{}}, "if", 1, [true,false], "invalid -"],
-["2020-12", {"else":{},"if":{},"then":{}}, "if", 1, [false,true], "valid +"]
+ "invalid ++-oneOf: 1 is valid under more than one of the schemas listed in the 'oneOf' keyword", "evaluation"],
+["2020-12", {"oneOf":[{},{},{}]}, "oneOf", 1, [false,false,true], "valid --+", "evaluation"],
+["2020-12", {"else":{},"if":{},"then":{}}, "if", 1, [true,false], "invalid -", "evaluation"],
+["2020-12", {"else":{},"if":{},"then":{}}, "if", 1, [false,true], "valid +", "evaluation"]
 ]"##;
 
-/// Adds what the keyword `pattern` of a row asks of the row's value in a mode, and what it then tells.
-fn tell_match(alloc: Global, row: &Value, log: &mut String) -> Result<(), OutOfMemory> {
-    let mode = match text_at(row, 2) {
-        "verdict" => Mode::Verdict,
-        "first" => Mode::First,
-        _ => Mode::All,
-    };
-    let pattern = String::from_str(alloc, text_at(row, 0))?;
-    let keyword = BenchKeyword::Pattern(pattern);
-    told(alloc, &keyword, column(row, 1), mode, list_at(row, 3), log)
-}
-
-/// Whether a row's keyword `pattern` asks and tells this.
-fn asks_match(alloc: Global, row: &Value) -> Result<bool, OutOfMemory> {
-    let mut log = String::new(alloc);
-    tell_match(alloc, row, &mut log)?;
-    Ok(log.as_str() == text_at(row, 4))
-}
-
-#[test]
-fn pattern(rt: HostRuntime) -> Result<(), serde_json::Error> {
-    let alloc = rt.alloc();
-    assert_eq!(rt;
-        wrong_row(alloc, PATTERNS, |row| asks_match(alloc, row))?,
-        None
-    );
-    Ok(())
-}
-
 const PATTERNS: &str = r##"[
-["b\"c", "é", "all", [false], "b\"c é located \"é\" does not match \"b\"c\";"],
-["b\"c", "é", "first", [true], "b\"c é located "],
-["b\"c", "é", "verdict", [true], "b\"c é bare "],
-["b\"c", [1], "all", [false], ""]
+["2020-12", {"pattern":"b\"c"}, "pattern", "é", [false], "b\"c é located \"é\" does not match \"b\"c\";", "all"],
+["2020-12", {"pattern":"b\"c"}, "pattern", "é", [true], "b\"c é located ", "first"],
+["2020-12", {"pattern":"b\"c"}, "pattern", "é", [true], "b\"c é bare ", "verdict"],
+["2020-12", {"pattern":"b\"c"}, "pattern", [1], [false], "", "all"]
 ]"##;

@@ -1,6 +1,9 @@
-//! Tests of the public calls of `schema_node` and of the bench's keywords and parts. Nothing stands on this crate.
+//! Tests of `schema_contexts`, `schema_nodes`, `schema_parts` and the bench's keywords and parts: their public calls.
+//! Nothing stands on this crate.
 #![tactic(auto)]
 
+#[cfg(test)]
+mod context_tests;
 #[cfg(test)]
 mod keyword_tests;
 #[cfg(test)]
@@ -14,4 +17,4 @@ mod path_tests;
 #[cfg(test)]
 mod resolver_tests;
 #[cfg(test)]
-mod verdict_tests;
+mod words;

@@ -1,4 +1,5 @@
 //! What the matcher answers, through the trait's bound.
+use crate::words::all_hold;
 use bench_parts::matcher::BenchMatcher;
 use schema_matches::site::{Match, Reason};
 use schema_parts::matcher::Matcher;
@@ -24,21 +25,35 @@ fn says<M: Matcher>(
 /// Whether a matcher that leaves `(?<=ab)c` unfinished and a copy of it answer each call.
 fn answers<M: Matcher>(alloc: Global, matcher: &M, copy: &M) -> Result<bool, OutOfMemory> {
     let limit = "Error executing regex: Max limit for backtracking count exceeded";
-    Ok(
-        says(alloc, copy, "(?<=ab)c", "abc", limit)?
-            && says(alloc, matcher, "bc", "abcd", "yes")?
-            && says(alloc, matcher, "", "", "yes")?
-            && says(alloc, matcher, "cb", "abcd", "no")?
-            && matcher.is_valid_ecma_regex(alloc, "(")?,
-    )
+    all_hold(&[
+        says(alloc, copy, "(?<=ab)c", "abc", limit),
+        says(alloc, matcher, "bc", "abcd", "yes"),
+        says(alloc, matcher, "", "", "yes"),
+        says(alloc, matcher, "cb", "abcd", "no"),
+        matcher.is_valid_ecma_regex(alloc, "("),
+    ])
+}
+
+/// A matcher that leaves `(?<=ab)c` unfinished.
+fn a_matcher(alloc: Global) -> Result<BenchMatcher, OutOfMemory> {
+    let pattern = String::from_str(alloc, "(?<=ab)c")?;
+    let mut unfinished = Vec::new(alloc);
+    unfinished.push(pattern)?;
+    Ok(BenchMatcher::new(unfinished))
+}
+
+/// Whether that matcher and its copy answer each call.
+fn copied_answers(alloc: Global, matcher: &BenchMatcher) -> Result<bool, OutOfMemory> {
+    let copy = matcher.clone()?;
+    answers(alloc, matcher, &copy)
 }
 
 #[test]
 fn matches(rt: HostRuntime) -> Result<(), OutOfMemory> {
     let alloc = rt.alloc();
-    let unfinished = vec![in alloc; String::from_str(alloc, "(?<=ab)c")?]?;
-    let matcher = BenchMatcher::new(unfinished);
-    let copy = matcher.clone()?;
-    assert!(rt; answers(alloc, &matcher, &copy)?);
+    let matcher = a_matcher(alloc)?;
+    let answered = copied_answers(alloc, &matcher);
+    drop(matcher);
+    assert!(rt; answered?);
     Ok(())
 }

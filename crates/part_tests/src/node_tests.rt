@@ -1,66 +1,50 @@
 //! Each public call that needs no keyword type once, with values of the standard.
 ghost use Rattle.std.specs.Prelude.{◌≡◌, []};
 
-use schema_contexts::validation::ValidationContext;
+use crate::words::{all_hold, push_path};
 use schema_nodes::node::{Entry, EntryForm, NodeForm, Nodes};
-use schema_parts::keyword::Marked;
-use schema_parts::numbers::{Edge, SchemaNode};
 use schema_parts::schema_place::{SchemaPath, SchemaPlace, SchemaStep};
-use schema_reports::instance::{InstanceStep, Place};
 use schema_reports::location::{Location, LocationSegment, OutOfMemory};
 use std::alloc::Global;
 use std::rc::RcStr;
 
+// Adds `/$defs/a~1b/2` to a path.
+fn push_steps(alloc: Global, path: &mut SchemaPath) -> Result<(), OutOfMemory> {
+    path.push(SchemaStep::Member(RcStr::from_str(alloc, "$defs")?))?;
+    path.push(SchemaStep::Member(RcStr::from_str(alloc, "a/b")?))?;
+    path.push(SchemaStep::Item(2))
+}
+
 // `/$defs/a~1b/2`
 fn a_path(alloc: Global) -> Result<SchemaPath, OutOfMemory> {
     let mut path = SchemaPath::root(alloc);
-    path.push(SchemaStep::Member(RcStr::from_str(alloc, "$defs")?))?;
-    path.push(SchemaStep::Member(RcStr::from_str(alloc, "a/b")?))?;
-    path.push(SchemaStep::Item(2))?;
+    push_steps(alloc, &mut path)?;
     Ok(path)
 }
 
-/// The pointers of a path's first steps, so many, and of those after them.
-fn cut_at(alloc: Global, path: &SchemaPath, count: usize) -> Result<String, OutOfMemory> {
-    let mut text = String::new(alloc);
-    text.push_str(path.first(alloc, count)?.pointer(alloc)?.as_str())?;
-    text.push_str(" ")?;
-    text.push_str(path.after(alloc, count)?.pointer(alloc)?.as_str())?;
-    Ok(text)
+/// Adds the pointers of a path's first steps, so many, and of those after them, with a space between.
+fn push_cut(
+    alloc: Global,
+    path: &SchemaPath,
+    count: usize,
+    log: &mut String,
+) -> Result<(), OutOfMemory> {
+    let first = path.first(alloc, count)?;
+    let told = push_path(alloc, &first, " ", log);
+    drop(first);
+    told?;
+    let after = path.after(alloc, count)?;
+    push_path(alloc, &after, "", log)
 }
 
 /// Whether a path cut after so many steps gives these pointers.
 fn is_cut(alloc: Global, path: &SchemaPath, count: usize, want: &str) -> Result<bool, OutOfMemory> {
-    let text = cut_at(alloc, path, count)?;
-    Ok(text.as_str() == want)
-}
-
-/// Whether the root's path cut before all steps gives two empty pointers.
-fn root_is_cut(alloc: Global) -> Result<bool, OutOfMemory> {
-    let root = SchemaPath::root(alloc);
-    is_cut(alloc, &root, 0, " ")
-}
-
-#[test]
-fn parts_of_paths(rt: HostRuntime) -> Result<(), OutOfMemory> {
-    let alloc = rt.alloc();
-    let path = a_path(alloc)?;
-    let length = path.len();
-    let count = path.steps().len();
-    let at_one = is_cut(alloc, &path, 1, "/$defs /a~1b/2");
-    let past_end = is_cut(alloc, &path, 9, "/$defs/a~1b/2 ");
-    drop(path);
-    assert_eq!(rt; length, 3);
-    assert_eq!(rt; count, 3);
-    assert!(rt; at_one?);
-    assert!(rt; past_end?);
-    assert!(rt; root_is_cut(alloc)?);
-    Ok(())
-}
-
-/// Whether a path begins another, is not begun by it, and is not the same.
-fn is_shorter(path: &SchemaPath, longer: &SchemaPath) -> bool {
-    path.is_prefix_of(longer) && !longer.is_prefix_of(path) && *path != *longer
+    let mut log = String::new(alloc);
+    let told = push_cut(alloc, path, count, &mut log);
+    let right = log.as_str() == want;
+    drop(log);
+    told?;
+    Ok(right)
 }
 
 /// Whether the copy of a path is the same.
@@ -69,38 +53,38 @@ fn is_its_copied_path(alloc: Global, path: &SchemaPath) -> Result<bool, OutOfMem
     Ok(*path == copied)
 }
 
-#[test]
-fn longer_paths(rt: HostRuntime) -> Result<(), OutOfMemory> {
-    let alloc = rt.alloc();
-    let path = a_path(alloc)?;
-    let twice = path.append(alloc, &path)?;
-    let is_twice = is_cut(alloc, &twice, 0, " /$defs/a~1b/2/$defs/a~1b/2");
-    let is_shorter = is_shorter(&path, &twice);
-    let is_copy = is_its_copied_path(alloc, &path);
+/// Whether a path begins another, is not begun by it, and is not the same.
+fn is_shorter(path: &SchemaPath, longer: &SchemaPath) -> bool {
+    path.is_prefix_of(longer) && !longer.is_prefix_of(path) && *path != *longer
+}
+
+/// Whether the root's path and that path have their lengths, their cuts and their order.
+fn paths_hold(alloc: Global, root: &SchemaPath, path: &SchemaPath) -> Result<bool, OutOfMemory> {
+    let twice = path.append(alloc, path)?;
+    let held = [
+        Ok(path.len() == 3 && path.steps().len() == 3),
+        is_cut(alloc, root, 0, " "),
+        is_cut(alloc, path, 1, "/$defs /a~1b/2"),
+        is_cut(alloc, path, 9, "/$defs/a~1b/2 "),
+        is_cut(alloc, &twice, 0, " /$defs/a~1b/2/$defs/a~1b/2"),
+        Ok(is_shorter(path, &twice)),
+        is_its_copied_path(alloc, path),
+    ];
     drop(twice);
-    drop(path);
-    assert!(rt; is_twice?);
-    assert!(rt; is_shorter);
-    assert!(rt; is_copy?);
-    Ok(())
+    all_hold(&held)
 }
 
-/// The place of that path in a document.
-fn a_place(alloc: Global, document: usize) -> Result<SchemaPlace, OutOfMemory> {
-    let path = a_path(alloc)?;
-    Ok(SchemaPlace { document, path })
-}
-
-/// The place of that path below a place.
-fn below_by_path(alloc: Global, root: &SchemaPlace) -> Result<SchemaPlace, OutOfMemory> {
-    let path = a_path(alloc)?;
-    root.below(alloc, &path)
-}
-
-/// Whether a place is that of the path in a document.
-fn stands_in(alloc: Global, place: &SchemaPlace, document: usize) -> Result<bool, OutOfMemory> {
-    let other = a_place(alloc, document)?;
-    Ok(*place == other)
+/// Whether a place is that of a path in a document, or is not.
+fn stands_in(
+    alloc: Global,
+    place: &SchemaPlace,
+    path: &SchemaPath,
+    document: usize,
+    want: bool,
+) -> Result<bool, OutOfMemory> {
+    let path = path.clone()?;
+    let other = SchemaPlace { document, path };
+    Ok((*place == other) == want)
 }
 
 /// Whether the copy of a place is the same.
@@ -109,105 +93,35 @@ fn is_its_copy(alloc: Global, place: &SchemaPlace) -> Result<bool, OutOfMemory> 
     Ok(*place == copied)
 }
 
+/// Whether a place below the root of document 1, by this path, is that of the path in the document, and no other.
+fn is_below(alloc: Global, root: &SchemaPlace, path: &SchemaPath) -> Result<bool, OutOfMemory> {
+    let below = root.below(alloc, path)?;
+    let is_another = below != *root;
+    let held = [
+        Ok(is_another),
+        stands_in(alloc, &below, path, 1, true),
+        stands_in(alloc, &below, path, 2, false),
+        is_its_copy(alloc, &below),
+    ];
+    drop(below);
+    all_hold(&held)
+}
+
 #[test]
-fn schema_places(rt: HostRuntime) -> Result<(), OutOfMemory> {
+fn schema_paths_and_places(rt: HostRuntime) -> Result<(), OutOfMemory> {
     let alloc = rt.alloc();
+    let path = a_path(alloc)?;
     let root = SchemaPlace {
         document: 1,
         path: SchemaPath::root(alloc),
     };
-    let below = below_by_path(alloc, &root)?;
-    let is_root = below == root;
+    let paths = paths_hold(alloc, &root.path, &path);
+    let places = is_below(alloc, &root, &path);
     drop(root);
-    let in_document = stands_in(alloc, &below, 1);
-    let is_copy = is_its_copy(alloc, &below);
-    let in_another = stands_in(alloc, &below, 2);
-    drop(below);
-    assert!(rt; in_document? && !is_root);
-    assert!(rt; is_copy?);
-    assert!(rt; !in_another?);
+    drop(path);
+    assert!(rt; paths?);
+    assert!(rt; places?);
     Ok(())
-}
-
-// One node at two places, and two nodes at one place, are pairs of their own.
-#[test]
-fn pairs_in_progress(rt: HostRuntime) -> Result<(), OutOfMemory> {
-    let alloc = rt.alloc();
-    let root = Place::root(alloc);
-    let member = root.below(InstanceStep::Member("a"))?;
-    let mut context = ValidationContext::new(alloc);
-    let root_first = context.enter(SchemaNode(0), &root);
-    let member_first = context.enter(SchemaNode(0), &member);
-    let other_first = context.enter(SchemaNode(1), &member);
-    let root_again = context.enter(SchemaNode(0), &root);
-    let member_again = context.enter(SchemaNode(0), &member);
-    drop(context);
-    drop(member);
-    drop(root);
-    assert!(rt; !root_first?);
-    assert!(rt; !member_first?);
-    assert!(rt; !other_first?);
-    assert!(rt; root_again?);
-    assert!(rt; member_again?);
-    Ok(())
-}
-
-/// Children that lead to these nodes, none of them guarded.
-fn children_to(alloc: Global, nodes: &[usize]) -> Result<Vec<Option<Edge>>, OutOfMemory> {
-    let mut children = Vec::new(alloc);
-    for node in nodes {
-        children.push(Some(Edge {
-            node: SchemaNode(*node),
-            path: Location::new(alloc),
-            guarded: false,
-        }))?;
-    }
-    Ok(children)
-}
-
-// Of three children the first two lead to one node, so they are one mark. One that is held is not added again: once the last
-// mark that was added is taken away, it is gone, and so is the first after it.
-#[test]
-fn marks_of_a_run(rt: HostRuntime) -> Result<(), OutOfMemory> {
-    let alloc = rt.alloc();
-    let children = children_to(alloc, &[4, 4, 5])?;
-    let mut context = ValidationContext::new(alloc);
-    let first = context.enter_marking(children.as_slice(), Marked::Child(0));
-    let other = context.enter_marking(children.as_slice(), Marked::Child(2));
-    let again = context.enter_marking(children.as_slice(), Marked::Child(0));
-    let alike = context.enter_marking(children.as_slice(), Marked::Child(1));
-    context.exit_marking();
-    let other_gone = context.enter_marking(children.as_slice(), Marked::Child(2));
-    context.exit_marking();
-    context.exit_marking();
-    let first_gone = context.enter_marking(children.as_slice(), Marked::Child(1));
-    drop(context);
-    drop(children);
-    assert!(rt; !first? && !other?);
-    assert!(rt; again? && alike?);
-    assert!(rt; !other_gone? && !first_gone?);
-    Ok(())
-}
-
-// Two reservations are two, and none is a child.
-#[test]
-fn reservations_are_marked(rt: HostRuntime) -> Result<(), OutOfMemory> {
-    let alloc = rt.alloc();
-    let mut context = ValidationContext::new(alloc);
-    let child = context.enter_marking(&[], Marked::Child(0));
-    let first = context.enter_marking(&[], Marked::Reservation(0));
-    let second = context.enter_marking(&[], Marked::Reservation(1));
-    let again = context.enter_marking(&[], Marked::Reservation(0));
-    drop(context);
-    assert!(rt; !child? && !first? && !second?);
-    assert!(rt; again?);
-    Ok(())
-}
-
-/// A copy of the root's location.
-fn copied_root(alloc: Global) -> Result<Location, OutOfMemory> {
-    let here = Location::new(alloc);
-    here.clone()
 }
 
 /// The location of the member `a` of the root.
@@ -242,45 +156,25 @@ fn nodes_show(
     Ok(reserved && without && of_never && of_root && located)
 }
 
-#[test]
-fn validators_of_nodes(rt: HostRuntime) -> Result<(), OutOfMemory> {
-    let alloc = rt.alloc();
-    let here = copied_root(alloc)?;
-    let below = member_of_root(alloc)?;
-    let mut nodes: Nodes<usize> = Nodes::new(alloc);
-    let show = nodes_show(&mut nodes, here, below);
-    drop(nodes);
-    assert!(rt; show?);
-    Ok(())
-}
-
 /// Whether a node that accepts, or one that refuses, has so many validators.
 fn boolean_has(
+    alloc: Global,
     nodes: &mut Nodes<usize>,
-    here: Location,
     accepts: bool,
     count: usize,
 ) -> Result<bool, OutOfMemory> {
-    let node = nodes.from_boolean(here, None, 0, accepts)?;
+    let node = nodes.from_boolean(Location::new(alloc), None, 0, accepts)?;
     Ok(nodes.validators(node).len() == count)
 }
 
 /// Whether a node of no entry has no validators, and so accepts.
-fn no_entry_accepts(
-    alloc: Global,
-    nodes: &mut Nodes<usize>,
-    here: Location,
-) -> Result<bool, OutOfMemory> {
-    let node = nodes.from_array(here, None, 0, Vec::new(alloc))?;
+fn no_entry_accepts(alloc: Global, nodes: &mut Nodes<usize>) -> Result<bool, OutOfMemory> {
+    let node = nodes.from_array(Location::new(alloc), None, 0, Vec::new(alloc))?;
     Ok(nodes.validators(node).len() == 0 && nodes.single_validator(node).is_none())
 }
 
 /// Whether a node of one keyword shows it.
-fn one_keyword_shows(
-    alloc: Global,
-    nodes: &mut Nodes<usize>,
-    here: Location,
-) -> Result<bool, OutOfMemory> {
+fn one_keyword_shows(alloc: Global, nodes: &mut Nodes<usize>) -> Result<bool, OutOfMemory> {
     let name = String::from_str(alloc, "type")?;
     let mut entries = Vec::new(alloc);
     entries.push(Entry {
@@ -289,19 +183,30 @@ fn one_keyword_shows(
         is_leaf: true,
         form: EntryForm::Keyword(7, Vec::new(alloc)),
     })?;
-    let node = nodes.from_keywords(here, None, 0, entries, None)?;
+    let node = nodes.from_keywords(Location::new(alloc), None, 0, entries, None)?;
     Ok(nodes.validators(node).len() == 1 && nodes.single_validator(node).is_some())
 }
 
+/// Whether nodes that are reserved and filled show what they are.
+fn filled_show(alloc: Global, nodes: &mut Nodes<usize>) -> Result<bool, OutOfMemory>
+    requires empty { nodes.old ≡ [] }
+{
+    let below = member_of_root(alloc)?;
+    nodes_show(nodes, Location::new(alloc), below)
+}
+
 #[test]
-fn nodes_that_are_made_at_once(rt: HostRuntime) -> Result<(), OutOfMemory> {
+fn nodes(rt: HostRuntime) -> Result<(), OutOfMemory> {
     let alloc = rt.alloc();
     let mut nodes: Nodes<usize> = Nodes::new(alloc);
-    let accepts = boolean_has(&mut nodes, copied_root(alloc)?, true, 0);
-    let refuses = boolean_has(&mut nodes, copied_root(alloc)?, false, 1);
-    let empty = no_entry_accepts(alloc, &mut nodes, copied_root(alloc)?);
-    let one = one_keyword_shows(alloc, &mut nodes, member_of_root(alloc)?);
+    let held = [
+        filled_show(alloc, &mut nodes),
+        boolean_has(alloc, &mut nodes, true, 0),
+        boolean_has(alloc, &mut nodes, false, 1),
+        no_entry_accepts(alloc, &mut nodes),
+        one_keyword_shows(alloc, &mut nodes),
+    ];
     drop(nodes);
-    assert!(rt; accepts? && refuses? && empty? && one?);
+    assert!(rt; all_hold(&held)?);
     Ok(())
 }

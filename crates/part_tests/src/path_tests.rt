@@ -45,131 +45,81 @@ fn all_give(
     Ok(right)
 }
 
-/// How many paths were kept after some calls, and whether all paths were right.
-#[derive(Drop)]
-struct Seen {
-    right: bool,
-    counts: Vec<usize>,
-}
+/// Some calls for the path of a keyword: whether the path is under a reference, whether it goes over the second edge too, the
+/// keyword's name, how many calls there are, the path that each gives, and how many paths are kept after them.
+type Turn<'t> = (bool, bool, &'t str, u32, &'t str, usize);
 
-// What each call for a path is to give in the turns below.
-const WANTED: &str = "/allOf/0/$ref/properties/a~1b/x~0y/0";
-
-/// Whether so many calls for a path that is under no reference give the right one.
-fn plain_turn(
+/// Whether the calls of a turn that goes on from this path give their path.
+fn goes_on(
     alloc: Global,
     kept: &mut KeptPaths,
     edges: &Edges,
-    times: u32,
+    start: &EvaluationPath<'_>,
+    turn: &Turn<'_>,
 ) -> Result<bool, OutOfMemory> {
-    let given = EvaluationPath::given(&edges.given);
-    let first = given.across(&edges.first);
-    let second = first.across(&edges.second);
-    all_give(alloc, kept, &second, "x~y", times, WANTED)
+    let (_, is_long, name, times, want, _) = *turn;
+    let first = start.across(&edges.first);
+    if is_long {
+        let second = first.across(&edges.second);
+        all_give(alloc, kept, &second, name, times, want)
+    } else {
+        all_give(alloc, kept, &first, name, times, want)
+    }
 }
 
-/// Whether so many calls for a path that is under a reference give the right one.
-fn under_turn(
+/// Whether the calls of a turn give their path, and so many paths are then kept.
+fn is_right(
     alloc: Global,
     kept: &mut KeptPaths,
     edges: &Edges,
-    times: u32,
+    turn: &Turn<'_>,
 ) -> Result<bool, OutOfMemory> {
+    let (is_under, _, _, _, _, count) = *turn;
     let given = EvaluationPath::given(&edges.given);
-    let under = given.under_reference();
-    let first = under.across(&edges.first);
-    let second = first.across(&edges.second);
-    all_give(alloc, kept, &second, "x~y", times, WANTED)
+    let gives = if is_under {
+        let under = given.under_reference();
+        goes_on(alloc, kept, edges, &under, turn)
+    } else {
+        goes_on(alloc, kept, edges, &given, turn)
+    };
+    Ok(gives? && kept.len() == count)
 }
 
-/// Asks for paths in turns of so many calls: where the turn says so the path is under a reference, and else it is not.
-fn seen_after(alloc: Global, turns: &[(bool, u32)]) -> Result<Seen, OutOfMemory> {
-    let edges = some_edges(alloc)?;
-    let mut kept = KeptPaths::new(alloc);
+/// Whether each of some turns is right, one after the other.
+fn turns_are_right(
+    alloc: Global,
+    kept: &mut KeptPaths,
+    edges: &Edges,
+    turns: &[Turn<'_>],
+) -> Result<bool, OutOfMemory> {
     let mut right = true;
-    let mut counts = Vec::new(alloc);
-    for (is_under, times) in turns {
-        let as_wanted = if *is_under {
-            under_turn(alloc, &mut kept, &edges, *times)?
-        } else {
-            plain_turn(alloc, &mut kept, &edges, *times)?
-        };
-        if !as_wanted {
-            right = false;
-        }
-        counts.push(kept.len())?;
+    for turn in turns {
+        let is_right = is_right(alloc, kept, edges, turn)?;
+        right = right && is_right;
     }
-    Ok(Seen { right, counts })
+    Ok(right)
 }
 
-#[test]
-fn one_path_is_kept_from_the_threshold_on(rt: HostRuntime) -> Result<(), OutOfMemory> {
-    let alloc = rt.alloc();
-    // calls 1, 2 to 4,095, 4,096, and 4,097 to 5,000
-    let seen = seen_after(alloc, &[(true, 1), (true, 4094), (true, 1), (true, 904)])?;
-    assert!(rt; seen.right);
-    assert_eq!(rt; seen.counts.as_slice(), [0usize, 0, 1, 1].as_slice());
-    Ok(())
-}
-
-#[test]
-fn paths_under_no_reference_are_not_counted(rt: HostRuntime) -> Result<(), OutOfMemory> {
-    let alloc = rt.alloc();
-    let turns = [
-        (false, 5000),
-        (true, 4095),
-        (false, 10),
-        (true, 1),
-        (false, 10),
-    ];
-    let seen = seen_after(alloc, &turns)?;
-    assert!(rt; seen.right);
-    assert_eq!(rt; seen.counts.as_slice(), [0usize, 0, 0, 1, 1].as_slice());
-    Ok(())
-}
-
-/// Whether, past the threshold, other paths and other keywords each give their own path, twice; and how many are then kept.
-fn others_after(alloc: Global) -> Result<(bool, usize), OutOfMemory> {
+/// Whether some turns from the beginning on are right.
+fn all_right(alloc: Global, turns: &[Turn<'_>]) -> Result<bool, OutOfMemory> {
     let edges = some_edges(alloc)?;
-    let given = EvaluationPath::given(&edges.given);
-    let under = given.under_reference();
-    let first = under.across(&edges.first);
-    let second = first.across(&edges.second);
     let mut kept = KeptPaths::new(alloc);
-    let mut right = all_give(
-        alloc,
-        &mut kept,
-        &first,
-        "type",
-        5000,
-        "/allOf/0/$ref/type/0",
-    )?;
-    for _ in 0..2 {
-        let as_before = all_give(alloc, &mut kept, &first, "type", 1, "/allOf/0/$ref/type/0")?;
-        let by_name = all_give(alloc, &mut kept, &first, "enum", 1, "/allOf/0/$ref/enum/0")?;
-        let want = "/allOf/0/$ref/properties/a~1b/type/0";
-        let by_path = all_give(alloc, &mut kept, &second, "type", 1, want)?;
-        right = right && as_before && by_name && by_path;
-    }
-    let count = kept.len();
-    Ok((right, count))
-}
-
-#[test]
-fn each_keyword_has_its_own_path(rt: HostRuntime) -> Result<(), OutOfMemory> {
-    let (right, count) = others_after(rt.alloc())?;
-    assert!(rt; right);
-    assert_eq!(rt; count, 3);
-    Ok(())
+    let right = turns_are_right(alloc, &mut kept, &edges, turns);
+    drop(kept);
+    drop(edges);
+    right
 }
 
 /// Whether a context gives this path at each of 5,000 calls.
-fn context_gives(alloc: Global, want: &str) -> Result<bool, OutOfMemory> {
-    let edges = some_edges(alloc)?;
+fn context_gives(
+    alloc: Global,
+    context: &mut ValidationContext<'_>,
+    edges: &Edges,
+    want: &str,
+) -> Result<bool, OutOfMemory> {
     let given = EvaluationPath::given(&edges.given);
     let under = given.under_reference();
     let path = under.across(&edges.first);
-    let mut context = ValidationContext::new(alloc);
     let mut right = true;
     for _ in 0..5000 {
         let found = context.evaluation_path(alloc, &path, "required", "")?;
@@ -180,8 +130,50 @@ fn context_gives(alloc: Global, want: &str) -> Result<bool, OutOfMemory> {
     Ok(right)
 }
 
+/// Whether a new context gives the path.
+fn new_context_gives(alloc: Global) -> Result<bool, OutOfMemory> {
+    let edges = some_edges(alloc)?;
+    let mut context = ValidationContext::new(alloc);
+    let right = context_gives(alloc, &mut context, &edges, "/allOf/0/$ref/required");
+    drop(context);
+    drop(edges);
+    right
+}
+
 #[test]
-fn context_gives_the_path(rt: HostRuntime) -> Result<(), OutOfMemory> {
-    assert!(rt; context_gives(rt.alloc(), "/allOf/0/$ref/required")?);
+fn paths_under_references(rt: HostRuntime) -> Result<(), OutOfMemory> {
+    let alloc = rt.alloc();
+    let long = "/allOf/0/$ref/properties/a~1b/x~0y/0";
+    // calls 1, 2 to 4,095, 4,096, and 4,097 to 5,000: one path is kept from the threshold on
+    let threshold = [
+        (true, true, "x~y", 1, long, 0),
+        (true, true, "x~y", 4094, long, 0),
+        (true, true, "x~y", 1, long, 1),
+        (true, true, "x~y", 904, long, 1),
+    ];
+    assert!(rt; all_right(alloc, &threshold)?);
+    // paths under no reference are not counted
+    let others = [
+        (false, true, "x~y", 5000, long, 0),
+        (true, true, "x~y", 4095, long, 0),
+        (false, true, "x~y", 10, long, 0),
+        (true, true, "x~y", 1, long, 1),
+        (false, true, "x~y", 10, long, 1),
+    ];
+    assert!(rt; all_right(alloc, &others)?);
+    // past the threshold, other paths and other keywords each give their own path, twice
+    let (by_type, by_enum) = ("/allOf/0/$ref/type/0", "/allOf/0/$ref/enum/0");
+    let by_path = "/allOf/0/$ref/properties/a~1b/type/0";
+    let each = [
+        (true, false, "type", 5000, by_type, 1),
+        (true, false, "type", 1, by_type, 1),
+        (true, false, "enum", 1, by_enum, 2),
+        (true, true, "type", 1, by_path, 3),
+        (true, false, "type", 1, by_type, 3),
+        (true, false, "enum", 1, by_enum, 3),
+        (true, true, "type", 1, by_path, 3),
+    ];
+    assert!(rt; all_right(alloc, &each)?);
+    assert!(rt; new_context_gives(alloc)?);
     Ok(())
 }

@@ -1,0 +1,147 @@
+#!/usr/bin/env python3
+"""The schemas and instances that docs/PERFORMANCE.md counts and measures: python3 tools/cases.py [NAME SIZE]
+
+Without words it lists the names and the sizes that are counted. With a name and a size it prints the schema, the instance and, where
+there is one, the fourth word of engine_bench, a line each.
+"""
+
+import json
+import sys
+
+# Linux gives a program no word that is longer
+LONGEST_WORD = 131071
+
+
+def text_of(value):
+    """The value as JSON without spaces."""
+    return json.dumps(value, separators=(",", ":"))
+
+
+class Case:
+    """A schema, an instance, an instance of its kind with nothing in it, and the words that engine_bench takes after an instance."""
+
+    def __init__(self, schema, instance, empty, more=()):
+        self.schema = text_of(schema)
+        self.instance = text_of(instance)
+        self.empty = text_of(empty)
+        self.more = list(more)
+
+    def words(self):
+        return [self.schema, self.instance, *self.more]
+
+    def too_long(self):
+        """Whether a word does not fit into a call of a program."""
+        return any(len(word.encode()) > LONGEST_WORD for word in self.words())
+
+
+def records_under_one_schema(size, value):
+    """An array of records, with the member `v` that `value` gives for a record's number."""
+    entry = {
+        "type": "object",
+        "required": ["id", "name", "tags"],
+        "properties": {
+            "id": {"type": "integer"},
+            "name": {"type": "string", "minLength": 1},
+            "tags": {"type": "array", "items": {"type": "string"}},
+            "v": {"anyOf": [{"type": "string"}, {"type": "integer"}]},
+        },
+    }
+    schema = {"type": "array", "items": {"$ref": "#/$defs/e"}, "$defs": {"e": entry}}
+    instance = [{"id": k, "name": f"n{k}", "tags": ["a", "b"], "v": value(k)} for k in range(size)]
+    return Case(schema, instance, [])
+
+
+def objects(size):
+    """Records under one schema that is referred to, all accepted."""
+    return records_under_one_schema(size, lambda k: k if k % 2 else "x")
+
+
+def objects_refused(size):
+    """The same, with every tenth record refused."""
+    return records_under_one_schema(size, lambda k: None if k % 10 == 0 else k if k % 2 else "x")
+
+
+def wide(size):
+    """An object of so many members, each with a schema of its own."""
+    members = [f"p{k}" for k in range(size)]
+    return Case({"properties": {name: {"type": "integer"} for name in members}}, {name: 1 for name in members}, {})
+
+
+def names(size):
+    """The names of so many members, each asked."""
+    return Case({"propertyNames": {"minLength": 1}}, {f"p{k}": 1 for k in range(size)}, {})
+
+
+def deep(size):
+    """A schema that refers to itself, and an instance so deep."""
+    instance = {}
+    for _ in range(size):
+        instance = {"n": instance}
+    return Case({"properties": {"n": {"$ref": "#"}}}, instance, {})
+
+
+def refusing(size):
+    """An instance with an array of 200 numbers that so many alternatives, one inside another, refuse."""
+    schema = {"type": "string"}
+    for _ in range(size):
+        schema = {"anyOf": [schema, {"type": "null"}]}
+    return Case(schema, {"a": list(range(200))}, {})
+
+
+def unfinished(size):
+    """So many texts, each of which asks a match that stays unfinished and is accepted all the same."""
+    schema = {"items": {"anyOf": [{"pattern": "P"}, {"type": "string"}]}}
+    return Case(schema, [f"s{k}" for k in range(size)], [], [text_of(["P"])])
+
+
+def chain(size):
+    """So many definitions, each with a member that refers to the next; they are built, and asked of 1."""
+    definitions = {f"c{k}": {"properties": {"x": {"$ref": f"#/$defs/c{k + 1}"}}} for k in range(size)}
+    definitions[f"c{size}"] = {}
+    return Case({"$ref": "#/$defs/c0", "$defs": definitions}, 1, 1)
+
+
+def records(size):
+    """Small records, each refused through two references."""
+    schema = {
+        "type": "array",
+        "items": {"$ref": "#/$defs/entry"},
+        "$defs": {
+            "entry": {"type": "object", "properties": {"value": {"$ref": "#/$defs/leaf"}}},
+            "leaf": {"type": "integer"},
+        },
+    }
+    return Case(schema, [{"value": "no"}] * size, [])
+
+
+# what makes a case of a size, and the sizes that are counted
+CASES = {
+    "objects": (objects, (500, 1000, 2000)),
+    "objects-refused": (objects_refused, (500, 1000, 2000)),
+    "wide": (wide, (250, 500, 1000)),
+    "names": (names, (500, 1000, 2000)),
+    "deep": (deep, (30, 60, 120)),
+    "refusing": (refusing, (10, 20, 40)),
+    "unfinished": (unfinished, (100, 200, 400)),
+    "chain": (chain, (100, 200, 400)),
+    "records": (records, (1250, 2500, 5000)),
+}
+
+
+def case_of(name, size):
+    """The case of a name, in a size."""
+    return CASES[name][0](size)
+
+
+def main():
+    if len(sys.argv) == 1:
+        for name, (_, sizes) in CASES.items():
+            print(name, *sizes)
+    elif len(sys.argv) == 3 and sys.argv[1] in CASES and sys.argv[2].isdigit():
+        print("\n".join(case_of(sys.argv[1], int(sys.argv[2])).words()))
+    else:
+        sys.exit(__doc__)
+
+
+if __name__ == "__main__":
+    main()

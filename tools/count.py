@@ -1,0 +1,148 @@
+#!/usr/bin/env python3
+"""Counts what engine_bench takes: python3 tools/count.py PROGRAM [BEFORE] [--only NAME] [--mode MODE]
+
+PROGRAM is the built engine_bench. Every case of cases.py is counted in each of its sizes, and a line is printed for each mode, `name size
+mode count`:
+
+- valid, errors, list: instructions in that mode of the program, by `valgrind --tool=callgrind`, its line `Collected`.
+- allocations: requests for memory in the mode valid, by `total heap usage` of valgrind.
+- run-allocations: those less what the schema takes with an instance that is empty, so the reading and the building of the schema are
+  set aside. This is what the run takes.
+
+What the program takes for the same instance with the schema `true` is subtracted in each, so the reading of the instance is set aside;
+the reading and the building of the schema are counted.
+
+BEFORE is what an earlier run printed; the ratio to it is noted. Notes go to standard error: the ratio to the size before and to BEFORE.
+The program ends with 1 where `objects` of 1,000 and of 2,000 records make different numbers of requests for memory. --only and --mode may
+be given several times. Counts depend on the compiler: compare within one kit (`rt version`). They are the same each time, but where
+the program's path has another length some differ by a few in ten thousand. valgrind has to be there.
+"""
+
+import argparse
+import os
+import re
+import resource
+import shutil
+import subprocess
+import sys
+
+from cases import CASES, LONGEST_WORD, case_of
+
+INSTRUCTIONS = ("valid", "errors", "list")
+REQUESTS = ("allocations", "run-allocations")
+MODES = INSTRUCTIONS + REQUESTS
+# what a program is started with beside its words moves them in memory, and a copy of a text that starts elsewhere may take a few
+# instructions more; so it is started with nothing but what valgrind may need to find its own parts, and always in the same folder
+ENVIRONMENT = {name: os.environ[name] for name in ("VALGRIND_LIB",) if name in os.environ}
+# a verdict on these takes as many requests for memory in the one size as in the other
+EQUAL_REQUESTS = ("objects", (1000, 2000))
+
+
+def run(tool, line, program, words):
+    """The number that valgrind's tool shows in the line, of the program with the words."""
+    valgrind = shutil.which("valgrind")
+    if valgrind is None:
+        sys.exit("valgrind is not there")
+    command = [valgrind, *tool, os.path.abspath(program), *words]
+    done = subprocess.run(command, stdout=subprocess.DEVNULL, stderr=subprocess.PIPE, env=ENVIRONMENT, cwd="/")
+    shown = done.stderr.decode(errors="replace")
+    number = re.search(line, shown)
+    if number is None or done.returncode not in (0, 1):
+        sys.exit(f"no count, status {done.returncode}, of {program} {words[0]}:\n{shown[-2000:]}")
+    return int(number.group(1).replace(",", ""))
+
+
+def instructions(program, words):
+    return run(["--tool=callgrind", "--callgrind-out-file=/dev/null"], r"Collected : (\d+)", program, words)
+
+
+def requests(program, words):
+    return run(["--undef-value-errors=no"], r"total heap usage: ([\d,]+) allocs", program, words)
+
+
+class Counter:
+    """The counts of one case in one size; each is made once."""
+
+    def __init__(self, program, case):
+        self.program = program
+        self.case = case
+        self.made = {}
+
+    def apart(self, counted, mode, instance):
+        """What the schema takes on the instance, less what `true` takes."""
+        key = (counted, mode, instance)
+        if key not in self.made:
+            with_schema, with_true = (
+                counted(self.program, [mode, schema, instance, *self.case.more])
+                for schema in (self.case.schema, "true")
+            )
+            self.made[key] = with_schema - with_true
+        return self.made[key]
+
+    def count(self, mode):
+        if mode in INSTRUCTIONS:
+            return self.apart(instructions, mode, self.case.instance)
+        taken = self.apart(requests, "valid", self.case.instance)
+        return taken if mode == "allocations" else taken - self.apart(requests, "valid", self.case.empty)
+
+
+def counts_of(path):
+    """What an earlier run printed, by `name size mode`."""
+    with open(path, encoding="utf-8") as file:
+        return {key: int(count) for key, count in (line.rsplit(" ", 1) for line in file if line.strip())}
+
+
+def note(count, other, what):
+    """How a count stands to another, where there is one."""
+    if other is None:
+        return []
+    if count == other:
+        return [f"equal to {what}"]
+    return [f"{count / other:.2f} times {what}" if other > 0 else f"more than {what}, {other}"]
+
+
+def arguments():
+    parser = argparse.ArgumentParser(description=__doc__, formatter_class=argparse.RawDescriptionHelpFormatter)
+    parser.add_argument("program", help="the built engine_bench")
+    parser.add_argument("before", nargs="?", help="what an earlier run printed")
+    parser.add_argument("--only", action="append", choices=sorted(CASES), metavar="NAME", help="count this case alone")
+    parser.add_argument("--mode", action="append", choices=MODES, metavar="MODE", help="count in this mode alone")
+    return parser.parse_args()
+
+
+def more_stack():
+    """As much stack as the system gives: a run goes as deep as its instance and its chain of references."""
+    _, most = resource.getrlimit(resource.RLIMIT_STACK)
+    resource.setrlimit(resource.RLIMIT_STACK, (most, most))
+
+
+def main():
+    given = arguments()
+    before = counts_of(given.before) if given.before else {}
+    counts = {}
+    more_stack()
+    for name, (_, sizes) in CASES.items():
+        if given.only and name not in given.only:
+            continue
+        smaller = {}
+        for size in sizes:
+            case = case_of(name, size)
+            if case.too_long():
+                sys.exit(f"{name} {size}: a word of more than {LONGEST_WORD} bytes")
+            counter = Counter(given.program, case)
+            for mode in given.mode or MODES:
+                count = counter.count(mode)
+                key = f"{name} {size} {mode}"
+                print(key, count, flush=True)
+                notes = note(count, smaller.get(mode), "the size before") + note(count, before.get(key), "what it was")
+                if notes:
+                    print(f"    {key}: {', '.join(notes)}", file=sys.stderr, flush=True)
+                smaller[mode] = counts[name, size, mode] = count
+    name, sizes = EQUAL_REQUESTS
+    taken = [counts.get((name, size, "allocations")) for size in sizes]
+    if None not in taken and len(set(taken)) > 1:
+        sys.exit(f"{name}: {' and '.join(map(str, taken))} requests for memory, which should be equal")
+
+
+if __name__ == "__main__":
+    main()

@@ -1,0 +1,246 @@
+#!/usr/bin/env python3
+"""Measures the time per instance of this engine and of its peers, side by side: python3 tools/peers/run.py --ours COMMAND
+
+The instance is the case `objects` of 2,000 records (tools/cases.py); it is read once and validated many times. A line is printed for
+each: name, version, and the milliseconds that an instance takes, as the median of the rounds, the lowest and the highest, with tabs
+between. Lines that begin with # say what ran beside, and which peers were not found.
+
+COMMAND is the built engine_bench, or a command among whose words are {repeats}, and {schema} and {instance} for the texts or {schema_file}
+and {instance_file}. A command with {repeats} validates so often, and ends with 0 where the instance is accepted and with 1 where it is
+refused. engine_bench validates once: the time with the schema `true` is subtracted from the time with the schema, so the
+reading of the instance is set aside, and the reading and the building of the schema are in what is shown.
+
+The peers:
+- valijson, in C++, with rapidjson (Debian: libvalijson-dev, rapidjson-dev); it is built by `g++ -O2 -DNDEBUG` in a temporary folder.
+- fastjsonschema, in Python (Debian: python3-fastjsonschema, or pip).
+- python-jsonschema, in Python (Debian: python3-jsonschema, or jsonschema of pip).
+
+A time is processor time, of the process with many repeats less that of the same with one, by the number of repeats between. Rounds go
+over all peers in turn. --python may be given several times: the first interpreter that has a module runs it.
+"""
+
+import argparse
+import os
+import pathlib
+import platform
+import shlex
+import statistics
+import subprocess
+import sys
+import tempfile
+
+HERE = pathlib.Path(__file__).resolve().parent
+sys.path.insert(0, str(HERE.parent))
+
+from cases import case_of  # noqa: E402
+
+NAME, SIZE = "objects", 2000
+# what a peer has to refuse, so that a peer that looks at nothing is seen
+REFUSED = "objects-refused"
+# the processor time, in seconds, that a measurement takes at least where a process can repeat
+ENOUGH = 0.6
+# how often a process that validates once is run in a round
+PAIRS = 25
+
+
+class NotFound(Exception):
+    """Why a peer cannot be measured."""
+
+
+def ended(command):
+    """The processor time of the command, in seconds, and its status."""
+    process = subprocess.Popen(command, stdout=subprocess.DEVNULL, stderr=subprocess.PIPE)
+    with process.stderr as pipe:
+        said = pipe.read()
+    _, status, usage = os.wait4(process.pid, 0)
+    process.returncode = os.WEXITSTATUS(status) if os.WIFEXITED(status) else -os.WTERMSIG(status)
+    if process.returncode not in (0, 1):
+        raise NotFound(f"status {process.returncode}: " + " ".join(said.decode(errors="replace").split())[-200:])
+    return usage.ru_utime + usage.ru_stime, process.returncode
+
+
+class Texts:
+    """A case's schema and instance, as texts and as files."""
+
+    def __init__(self, folder, name):
+        case = case_of(name, SIZE)
+        self.schema, self.instance = case.schema, case.instance
+        self.schema_file, self.instance_file = folder / f"{name}.schema.json", folder / f"{name}.instance.json"
+        self.schema_file.write_text(self.schema, encoding="utf-8")
+        self.instance_file.write_text(self.instance, encoding="utf-8")
+
+    def fill(self, words, repeats):
+        """The words of a command, with what stands for these texts put in."""
+        parts = {
+            "{schema_file}": str(self.schema_file),
+            "{instance_file}": str(self.instance_file),
+            "{schema}": self.schema,
+            "{instance}": self.instance,
+            "{repeats}": str(repeats),
+        }
+        return [parts.get(word, word) for word in words]
+
+
+class Repeating:
+    """A peer whose process takes a number of repeats."""
+
+    said = "the schema is built once, and the instance is validated many times"
+
+    def __init__(self, name, version, words):
+        self.name, self.version, self.words = name, version, words
+        self.repeats = 1
+
+    def accepts(self, texts):
+        return ended(texts.fill(self.words, 1))[1] == 0
+
+    def prepare(self, texts):
+        """Takes as many repeats as a measurement needs."""
+        while self.repeats < 10**7 and self.seconds(texts) < ENOUGH:
+            self.repeats *= 2
+
+    def seconds(self, texts):
+        """The processor time that so many more repeats take."""
+        return ended(texts.fill(self.words, 1 + self.repeats))[0] - ended(texts.fill(self.words, 1))[0]
+
+    def measure(self, texts):
+        """Milliseconds per instance."""
+        return 1000 * self.seconds(texts) / self.repeats
+
+
+class Once:
+    """engine_bench, whose process validates once."""
+
+    said = "a process validates once; what it takes with the schema true is subtracted; building the schema is in it"
+
+    def __init__(self, name, version, words):
+        self.name, self.version, self.words = name, version, words
+
+    def command(self, schema, texts):
+        return [*self.words, "valid", schema, texts.instance]
+
+    def accepts(self, texts):
+        return ended(self.command(texts.schema, texts))[1] == 0
+
+    def prepare(self, texts):
+        pass
+
+    def measure(self, texts):
+        """Milliseconds per instance: the median of many runs."""
+        pairs = (
+            ended(self.command(texts.schema, texts))[0] - ended(self.command("true", texts))[0] for _ in range(PAIRS)
+        )
+        return 1000 * statistics.median(pairs)
+
+
+def output(command):
+    """What the command prints, or nothing where it fails or is not there."""
+    try:
+        done = subprocess.run(command, stdout=subprocess.PIPE, stderr=subprocess.DEVNULL)
+    except OSError:
+        return ""
+    return done.stdout.decode(errors="replace").strip() if done.returncode == 0 else ""
+
+
+def ours(given, folder):
+    words = shlex.split(given.ours)
+    version = given.ours_version or output(["git", "-C", str(HERE), "describe", "--always", "--dirty"]) or "-"
+    return (Repeating if "{repeats}" in words else Once)("ours", version, words)
+
+
+def valijson(given, folder):
+    program = folder / "valijson_peer"
+    command = ["g++", "-O2", "-DNDEBUG", "-o", str(program), str(HERE / "valijson_peer.cpp")]
+    try:
+        built = subprocess.run(command, stdout=subprocess.DEVNULL, stderr=subprocess.PIPE)
+    except OSError:
+        raise NotFound("no g++")
+    if built.returncode != 0:
+        said = [line for line in built.stderr.decode(errors="replace").splitlines() if "error" in line]
+        raise NotFound("it does not build: " + (said[0].split("error: ")[-1] if said else f"status {built.returncode}"))
+    own, reader = (output(["dpkg-query", "-W", "-f", "${Version}", name]) or "-" for name in ("libvalijson-dev", "rapidjson-dev"))
+    version = f"{own}, rapidjson {reader}, g++ {output(['g++', '-dumpfullversion'])}"
+    return Repeating("valijson", version, [str(program), "{schema_file}", "{instance_file}", "{repeats}"])
+
+
+def in_python(name, module):
+    def peer(given, folder):
+        for interpreter in [*given.python, sys.executable, "python3"]:
+            words = [interpreter, str(HERE / "python_peer.py"), module]
+            version = output(words)
+            if version:
+                return Repeating(name, version, [*words, "{schema_file}", "{instance_file}", "{repeats}"])
+        raise NotFound("no interpreter that was tried has the module")
+
+    return peer
+
+
+PEERS = {
+    "ours": ours,
+    "valijson": valijson,
+    "fastjsonschema": in_python("fastjsonschema", "fastjsonschema"),
+    "python-jsonschema": in_python("python-jsonschema", "jsonschema"),
+}
+
+
+def found(given, folder, texts, refused):
+    """The peers that are there and that answer."""
+    peers = []
+    for name, make in PEERS.items():
+        if name == "ours" and not given.ours:
+            continue
+        try:
+            peer = make(given, folder)
+            if not peer.accepts(texts) or peer.accepts(refused):
+                raise NotFound("it does not answer as it should")
+            peer.prepare(texts)
+            peers.append(peer)
+            print(f"# {name}: {peer.said}", flush=True)
+        except (NotFound, OSError) as error:
+            print(f"# {name} is not measured: {error}", flush=True)
+    return peers
+
+
+def processor():
+    """The processor's name, where the system tells it."""
+    try:
+        with open("/proc/cpuinfo", encoding="utf-8") as file:
+            names = [line.split(":", 1)[1].strip() for line in file if line.startswith("model name")]
+    except OSError:
+        names = []
+    return names[0] if names else platform.machine()
+
+
+def load():
+    return " ".join(f"{number:.1f}" for number in os.getloadavg())
+
+
+def arguments():
+    parser = argparse.ArgumentParser(description=__doc__, formatter_class=argparse.RawDescriptionHelpFormatter)
+    parser.add_argument("--ours", metavar="COMMAND", help="the built engine_bench, or a command with {repeats}")
+    parser.add_argument("--ours-version", metavar="TEXT", help="what to call its version; else the commit that is checked out")
+    parser.add_argument("--python", action="append", default=[], metavar="INTERPRETER", help="an interpreter to look for modules in")
+    parser.add_argument("--rounds", type=int, default=7, help="how often each is measured")
+    return parser.parse_args()
+
+
+def main():
+    given = arguments()
+    with tempfile.TemporaryDirectory() as name:
+        folder = pathlib.Path(name)
+        texts, refused = Texts(folder, NAME), Texts(folder, REFUSED)
+        about = f"{NAME} of {SIZE:,} records, {len(texts.instance):,} bytes"
+        print(f"# the case {about}; one thread of {processor()}, {os.cpu_count()} processors")
+        print(f"# load of the last one, five and fifteen minutes before: {load()}", flush=True)
+        peers = found(given, folder, texts, refused)
+        times = {peer.name: [] for peer in peers}
+        for _ in range(given.rounds):
+            for peer in peers:
+                times[peer.name].append(peer.measure(texts))
+        print(f"# load after: {load()}; {given.rounds} rounds")
+        for peer in peers:
+            row = times[peer.name]
+            print(peer.name, peer.version, *(f"{number:.3f}" for number in (statistics.median(row), min(row), max(row))), sep="\t")
+
+
+if __name__ == "__main__":
+    main()
