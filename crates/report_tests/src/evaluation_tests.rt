@@ -1,12 +1,36 @@
 //! What evaluations give, and in which order the units of a schema's entries come: worked values from outside.
-use crate::fixtures::{both, described, unit_at};
-use schema_reports::evaluation::{Annotations, ChildList, ErrorDescription, EvaluationNode};
+use schema_reports::evaluation::{
+    Annotations, ChildList, ErrorDescription, EvaluationNode, UnitReport,
+};
 use schema_reports::evaluation_order::{AbsorbedUnit, EntryUnits, UnitsInOrder};
 use schema_reports::evaluation_result::{AbsorbedResult, EvaluationResult, accepts};
-use schema_reports::location::OutOfMemory;
+use schema_reports::location::{Location, OutOfMemory};
 use serde_json::Value;
 use std::alloc::Global;
-use std::slice::from_ref;
+
+/// A unit at this path, which says nothing else.
+fn unit_at(alloc: Global, valid: bool, path: &str) -> Result<EvaluationNode, OutOfMemory> {
+    Ok(EvaluationNode {
+        report: UnitReport {
+            valid,
+            evaluation_path: Location::from_escaped(alloc, path)?,
+            absolute_keyword_location: None,
+            schema_location: Location::from_escaped(alloc, path)?,
+            instance_location: Location::new(alloc),
+            annotations: None,
+            errors: Vec::new(alloc),
+        },
+        children: Vec::new(alloc),
+    })
+}
+
+/// The error of the keyword `k` with the text `t`.
+fn one_error(alloc: Global) -> Result<ErrorDescription, OutOfMemory> {
+    Ok(ErrorDescription {
+        keyword: String::from_str(alloc, "k")?,
+        text: String::from_str(alloc, "t")?,
+    })
+}
 
 /// Whether the first of these is the one error of `k`.
 fn are_the_one(errors: &[ErrorDescription]) -> bool {
@@ -24,12 +48,9 @@ fn are_true(annotations: &Option<Annotations>) -> bool {
     }
 }
 
-/// Marks it so often with the error of the keyword `k` with the text `t`.
-fn mark(alloc: Global, given: &mut EvaluationResult, times: usize) -> Result<(), OutOfMemory> {
-    for _ in 0..times {
-        given.mark_errored(alloc, described(alloc, "k", "t")?)?;
-    }
-    Ok(())
+/// Marks it with the one error.
+fn mark(alloc: Global, given: &mut EvaluationResult) -> Result<(), OutOfMemory> {
+    given.mark_errored(alloc, one_error(alloc)?)
 }
 
 /// Whether it is invalid, with so many errors, the first of which is the one of `k`, so many units, and a yes as annotations.
@@ -37,11 +58,10 @@ fn is_invalid_with(given: EvaluationResult, errors: usize, units: usize) -> bool
     match given {
         EvaluationResult::Valid(_, _) => false,
         EvaluationResult::Invalid(found, annotations, children) => {
-            let inside = children.into_nodes().len();
-            inside == units
-                && found.len() == errors
+            found.len() == errors
                 && are_the_one(found.as_slice())
                 && are_true(&annotations)
+                && children.into_nodes().len() == units
         }
     }
 }
@@ -49,91 +69,82 @@ fn is_invalid_with(given: EvaluationResult, errors: usize, units: usize) -> bool
 // A valid one that is marked errored, and then annotated: invalid, no children, the one error; and the annotations.
 #[test]
 fn a_marked_one_is_invalid(rt: HostRuntime) -> Result<(), OutOfMemory> {
-    let mut given = EvaluationResult::valid_empty(rt.alloc());
-    let marked = mark(rt.alloc(), &mut given, 1);
+    let alloc = rt.alloc();
+    let mut given = EvaluationResult::valid_empty(alloc);
+    mark(alloc, &mut given)?;
     given.annotate(Value::Bool(true));
-    let is_invalid = is_invalid_with(given, 1, 0);
-    marked?;
-    assert!(rt; is_invalid);
+    assert!(rt; is_invalid_with(given, 1, 0));
     Ok(())
 }
 
 // A valid one keeps its children and annotations where it is marked; a second error comes after the first.
 #[test]
 fn a_marked_one_keeps_what_it_has(rt: HostRuntime) -> Result<(), OutOfMemory> {
-    let unit = unit_at(rt.alloc(), true, "/a")?;
-    let mut given = EvaluationResult::from_node(rt.alloc(), unit)?;
+    let alloc = rt.alloc();
+    let mut given = EvaluationResult::from_node(alloc, unit_at(alloc, true, "/a")?)?;
     given.annotate(Value::Bool(true));
-    let marked = mark(rt.alloc(), &mut given, 2);
-    let is_invalid = is_invalid_with(given, 2, 1);
-    marked?;
-    assert!(rt; is_invalid);
+    mark(alloc, &mut given)?;
+    mark(alloc, &mut given)?;
+    assert!(rt; is_invalid_with(given, 2, 1));
     Ok(())
 }
 
-/// Adds a unit.
-fn push_unit(alloc: Global, valid: bool, children: &mut ChildList) -> Result<(), OutOfMemory> {
-    children.push(unit_at(alloc, valid, "/1")?)
+/// Two units, one after the other.
+fn two(alloc: Global, first: bool, second: bool) -> Result<ChildList, OutOfMemory> {
+    let mut children = ChildList::of(alloc, unit_at(alloc, first, "/0")?)?;
+    children.push(unit_at(alloc, second, "/1")?)?;
+    Ok(children)
 }
 
-/// Whether two units make one of this verdict.
-fn two_make(alloc: Global, first: bool, second: bool, want: bool) -> Result<bool, OutOfMemory> {
-    let mut children = ChildList::of(alloc, unit_at(alloc, first, "/0")?)?;
-    let pushed = push_unit(alloc, second, &mut children);
-    let result = EvaluationResult::from_children(alloc, children);
-    let is_valid = result.is_valid();
-    drop(result);
-    pushed?;
-    Ok(is_valid == want)
+/// Whether two units make a valid one.
+fn two_are_valid(alloc: Global, first: bool, second: bool) -> Result<bool, OutOfMemory> {
+    let children = two(alloc, first, second)?;
+    Ok(EvaluationResult::from_children(alloc, children).is_valid())
 }
 
 #[test]
 fn units_make_a_valid_one_together(rt: HostRuntime) -> Result<(), OutOfMemory> {
     let alloc = rt.alloc();
-    let both_valid = two_make(alloc, true, true, true);
-    let first_invalid = two_make(alloc, false, true, false);
-    let second_invalid = two_make(alloc, true, false, false);
-    assert!(rt; both(both_valid, both(first_invalid, second_invalid))?);
+    let both = two_are_valid(alloc, true, true)?;
+    let first = two_are_valid(alloc, false, true)?;
+    let second = two_are_valid(alloc, true, false)?;
+    assert!(rt; both && !first && !second);
     Ok(())
 }
 
-// A keyword accepts where its own evaluation is valid and each that it absorbs, here `minItems`.
+/// What an invalid `minItems` gives that is absorbed.
+fn absorbed_counts(alloc: Global) -> Result<Vec<AbsorbedResult>, OutOfMemory> {
+    let mut absorbed = Vec::new(alloc);
+    absorbed.push(AbsorbedResult {
+        keyword: String::from_str(alloc, "minItems")?,
+        result: EvaluationResult::invalid_empty(alloc, Vec::new(alloc)),
+    })?;
+    Ok(absorbed)
+}
+
+// A keyword accepts where its own evaluation is valid and each that it absorbs.
 #[test]
 fn an_absorbed_one_counts(rt: HostRuntime) -> Result<(), OutOfMemory> {
-    let keyword = String::from_str(rt.alloc(), "minItems")?;
-    let result = EvaluationResult::invalid_empty(rt.alloc(), Vec::new(rt.alloc()));
-    let absorbed = AbsorbedResult { keyword, result };
-    let own = EvaluationResult::valid_empty(rt.alloc());
-    let alone = accepts(&own, &[]);
-    let with_absorbed = accepts(&own, from_ref(&absorbed));
-    drop(own);
-    drop(absorbed);
-    assert!(rt; alone && !with_absorbed);
+    let alloc = rt.alloc();
+    let absorbed = absorbed_counts(alloc)?;
+    let own = EvaluationResult::valid_empty(alloc);
+    assert!(rt; accepts(&own, &[]) && !accepts(&own, absorbed.as_slice()));
     Ok(())
 }
 
-/// Adds the unit of an absorbed keyword of this name, at its own path.
-fn push_absorbed(
-    alloc: Global,
-    name: &str,
-    path: &str,
-    absorbed: &mut Vec<AbsorbedUnit>,
-) -> Result<(), OutOfMemory> {
-    let keyword = String::from_str(alloc, name)?;
-    let unit = unit_at(alloc, true, path)?;
-    absorbed.push(AbsorbedUnit { keyword, unit })?;
-    Ok(())
+/// The unit of an absorbed keyword of this name, at its own path.
+fn absorbed_at(alloc: Global, name: &str, path: &str) -> Result<AbsorbedUnit, OutOfMemory> {
+    Ok(AbsorbedUnit {
+        keyword: String::from_str(alloc, name)?,
+        unit: unit_at(alloc, true, path)?,
+    })
 }
 
-/// The units of absorbed keywords of these names, at these paths.
-fn absorbed_at(alloc: Global, rows: &[(&str, &str)]) -> Result<Vec<AbsorbedUnit>, OutOfMemory> {
+/// The units of an absorbed `minItems` and an absorbed `type`.
+fn counts_and_type(alloc: Global) -> Result<Vec<AbsorbedUnit>, OutOfMemory> {
     let mut absorbed = Vec::new(alloc);
-    for row in rows {
-        if let Err(failed) = push_absorbed(alloc, row.0, row.1, &mut absorbed) {
-            drop(absorbed);
-            return Err(failed);
-        }
-    }
+    absorbed.push(absorbed_at(alloc, "minItems", "/minItems")?)?;
+    absorbed.push(absorbed_at(alloc, "type", "/type")?)?;
     Ok(absorbed)
 }
 
@@ -143,37 +154,30 @@ fn place(
     units: &mut UnitsInOrder,
     priority: u8,
     path: &str,
-    rows: &[(&str, &str)],
+    absorbed: Vec<AbsorbedUnit>,
 ) -> Result<(), OutOfMemory> {
-    let absorbed = absorbed_at(alloc, rows)?;
-    match unit_at(alloc, true, path) {
-        Ok(own) => units.place(priority, EntryUnits { own, absorbed }),
-        Err(failed) => {
-            drop(absorbed);
-            Err(failed)
-        }
-    }
+    let own = unit_at(alloc, true, path)?;
+    units.place(priority, EntryUnits { own, absorbed })
 }
 
 /// Places three entries.
 fn place_three(alloc: Global, units: &mut UnitsInOrder) -> Result<(), OutOfMemory> {
-    let absorbed = [("minItems", "/minItems"), ("type", "/type")];
-    place(alloc, units, 10, "/minLength", &[])?;
-    place(alloc, units, 44, "/items", &absorbed)?;
-    place(alloc, units, 1, "/x", &[])
+    place(alloc, units, 10, "/minLength", Vec::new(alloc))?;
+    place(alloc, units, 44, "/items", counts_and_type(alloc)?)?;
+    place(alloc, units, 1, "/x", Vec::new(alloc))
 }
 
 /// Whether the units stand at these paths, in this order.
 fn stand_at(units: &[EvaluationNode], paths: &[&str]) -> bool {
-    for (number, path) in paths.iter().enumerate() {
-        let Some(unit) = units.get(number) else {
-            return false;
-        };
+    if units.len() != paths.len() {
+        return false;
+    }
+    for (unit, path) in units.iter().zip(paths.iter()) {
         if unit.report.evaluation_path.as_str() != *path {
             return false;
         }
     }
-    units.len() == paths.len()
+    true
 }
 
 // `minLength` of priority 10 before `items` of priority 44, which absorbs `minItems` and `type`; `x` of priority 1 comes after it.
@@ -181,14 +185,9 @@ fn stand_at(units: &[EvaluationNode], paths: &[&str]) -> bool {
 fn absorbed_units_have_their_places(rt: HostRuntime) -> Result<(), OutOfMemory> {
     let alloc = rt.alloc();
     let mut units = UnitsInOrder::new(alloc);
-    if let Err(failed) = place_three(alloc, &mut units) {
-        drop(units);
-        return Err(failed);
-    }
+    place_three(alloc, &mut units)?;
     let nodes = units.into_children()?.into_nodes();
     let want = ["/type", "/minLength", "/minItems", "/items", "/x"];
-    let stand = stand_at(nodes.as_slice(), &want);
-    drop(nodes);
-    assert!(rt; stand);
+    assert!(rt; stand_at(nodes.as_slice(), &want));
     Ok(())
 }

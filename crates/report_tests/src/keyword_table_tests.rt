@@ -1,10 +1,24 @@
 //! The table of the standard's keywords, cell by cell, and what keywords and vocabularies say of themselves.
-use crate::fixtures::both;
 use schema_keywords::keywords::*;
 use schema_reports::location::OutOfMemory;
 use serde_json::Value;
 use std::alloc::{AllocError, Global};
+use std::test::Fail;
 use test_rows::{column, text_at, wrong_row};
+
+/// What a draft says of a keyword, as the published table has it.
+#[derive(Clone, Copy, Debug, PartialEq, Eq)]
+enum Cell {
+    Absent,
+    Free,
+    Legacy,
+    Validation,
+    Applicator,
+    Unevaluated,
+    Content,
+}
+
+use Cell::{Absent, Applicator, Content, Free, Legacy, Unevaluated, Validation};
 
 /// Rows of the published table: name, priority, leaf, and a cell for each of the drafts 4, 6, 7, 2019-09 and 2020-12: `-`
 /// where it is not there, `F` with no need, `D` with no need in draft 4's form, or by the vocabulary `V` (validation),
@@ -54,46 +68,83 @@ const ROWS: &str = r##"[
 ["$dynamicRef", 72, false, "-", "-", "-", "-", "F"]
 ]"##;
 
-/// The form that a cell says, if the keyword is there.
-fn form_in(cell: &str) -> Option<KeywordForm> {
+fn drafts() -> [Draft; 6] {
+    [
+        Draft::Draft4,
+        Draft::Draft6,
+        Draft::Draft7,
+        Draft::Draft201909,
+        Draft::Draft202012,
+        Draft::Unknown,
+    ]
+}
+
+/// The column of a draft's cells.
+fn column_of(draft: Draft) -> usize {
+    match draft {
+        Draft::Draft4 => 3,
+        Draft::Draft6 => 4,
+        Draft::Draft7 => 5,
+        Draft::Draft201909 => 6,
+        Draft::Draft202012 | Draft::Unknown => 7,
+    }
+}
+
+fn cell_in(draft: Draft, row: &Value) -> Cell {
+    match text_at(row, column_of(draft)) {
+        "F" => Free,
+        "D" => Legacy,
+        "V" => Validation,
+        "A" => Applicator,
+        "U" => Unevaluated,
+        "C" => Content,
+        _ => Absent,
+    }
+}
+
+fn has_vocabularies(draft: Draft) -> bool {
+    match draft {
+        Draft::Draft4 | Draft::Draft6 | Draft::Draft7 => false,
+        Draft::Draft201909 | Draft::Draft202012 | Draft::Unknown => true,
+    }
+}
+
+fn form_in(cell: Cell) -> Option<KeywordForm> {
     match cell {
-        "-" => None,
-        "D" => Some(KeywordForm::Draft4),
-        "C" => Some(KeywordForm::Annotating),
-        _ => Some(KeywordForm::Plain),
+        Absent => None,
+        Legacy => Some(KeywordForm::Draft4),
+        Content => Some(KeywordForm::Annotating),
+        Free | Validation | Applicator | Unevaluated => Some(KeywordForm::Plain),
     }
 }
 
-/// The vocabulary that a cell says, if there is a need of one.
-fn need_in(cell: &str) -> Option<Vocabulary> {
+fn need_in(cell: Cell) -> Option<Vocabulary> {
     match cell {
-        "V" => Some(Vocabulary::Validation),
-        "A" => Some(Vocabulary::Applicator),
-        "U" => Some(Vocabulary::Unevaluated),
-        "C" => Some(Vocabulary::Content),
-        _ => None,
+        Absent | Free | Legacy => None,
+        Validation => Some(Vocabulary::Validation),
+        Applicator => Some(Vocabulary::Applicator),
+        Unevaluated => Some(Vocabulary::Unevaluated),
+        Content => Some(Vocabulary::Content),
     }
 }
 
-/// Adds the vocabulary that a cell says.
-fn add_needed(set: &mut VocabularySet, cell: &str) -> Result<(), AllocError> {
-    match need_in(cell) {
-        None => Ok(()),
-        Some(vocabulary) => set.add(vocabulary),
-    }
-}
-
-/// The four vocabularies that keywords need, without the one that this cell says.
-fn needed_but(alloc: Global, left_out: &str) -> Result<VocabularySet, AllocError> {
+/// The four vocabularies that keywords need, without one of them.
+fn needed_but(alloc: Global, left_out: &Option<Vocabulary>) -> Result<VocabularySet, AllocError> {
     let mut set = VocabularySet::new(alloc);
-    for cell in ["V", "A", "U", "C"] {
-        if cell == left_out {
+    for vocabulary in [
+        Vocabulary::Validation,
+        Vocabulary::Applicator,
+        Vocabulary::Unevaluated,
+        Vocabulary::Content,
+    ] {
+        let is_left_out = match left_out {
+            None => false,
+            Some(other) => vocabulary == *other,
+        };
+        if is_left_out {
             continue;
         }
-        if let Err(failed) = add_needed(&mut set, cell) {
-            drop(set);
-            return Err(failed);
-        }
+        set.add(vocabulary)?;
     }
     Ok(set)
 }
@@ -105,39 +156,47 @@ fn form_found(draft: Draft, set: &VocabularySet, name: &str) -> Option<KeywordFo
     }
 }
 
-/// Whether a draft has the keyword of a row in its cell's form with every vocabulary, and without the one that the cell needs
-/// where it needs none: the drafts before 2019-09, whose cells come before the sixth column, have no vocabularies.
-fn has_form(
+/// The form that is found with every vocabulary, and without the one that the cell needs.
+fn forms_found(
     alloc: Global,
-    all: &VocabularySet,
     draft: Draft,
-    row: &Value,
-    number: usize,
-) -> Result<bool, AllocError> {
-    let cell = text_at(row, number);
-    let form = form_in(cell);
-    let without = if number < 6 || cell == "F" {
-        form
-    } else {
-        None
-    };
-    let others = needed_but(alloc, cell)?;
-    let found = form_found(draft, &others, text_at(row, 0));
-    drop(others);
-    Ok(form_found(draft, all, text_at(row, 0)) == form && found == without)
+    name: &str,
+    cell: Cell,
+) -> Result<(Option<KeywordForm>, Option<KeywordForm>), AllocError> {
+    let all = needed_but(alloc, &None)?;
+    let others = needed_but(alloc, &need_in(cell))?;
+    Ok((
+        form_found(draft, &all, name),
+        form_found(draft, &others, name),
+    ))
 }
 
-/// Whether a draft, with all vocabularies, has the row's priority and leaf and its cell's form.
-fn has_row(all: &VocabularySet, draft: Draft, row: &Value, number: usize) -> bool {
-    let form = form_in(text_at(row, number));
-    match builtin_row(draft, all, text_at(row, 0)) {
-        None => form.is_none(),
-        Some(found) => {
-            form == Some(found.entry.form)
-                && column(row, 1).as_u64() == Some(u64::from(found.priority))
-                && column(row, 2).as_bool() == Some(found.is_leaf)
+/// The forms that the published table has there.
+fn forms_published(draft: Draft, cell: Cell) -> (Option<KeywordForm>, Option<KeywordForm>) {
+    let form = form_in(cell);
+    if has_vocabularies(draft) && need_in(cell).is_some() {
+        (form, None)
+    } else {
+        (form, form)
+    }
+}
+
+/// Whether each draft has the row's form, with every vocabulary and without the one that its cell needs.
+fn is_found(alloc: Global, row: &Value) -> Result<bool, OutOfMemory> {
+    for draft in drafts() {
+        let cell = cell_in(draft, row);
+        if forms_found(alloc, draft, text_at(row, 0), cell)? != forms_published(draft, cell) {
+            return Ok(false);
         }
     }
+    Ok(true)
+}
+
+#[test]
+fn walks_every_name_in_every_draft(rt: HostRuntime) -> Result<(), serde_json::Error> {
+    let alloc = rt.alloc();
+    assert_eq!(rt; wrong_row(alloc, ROWS, |row| is_found(alloc, row))?, None);
+    Ok(())
 }
 
 /// Whether a keyword of the row's name has its priority and is a leaf where the row says so.
@@ -151,201 +210,180 @@ fn is_known(row: &Value) -> bool {
         && column(row, 2).as_bool() == Some(keyword_is_leaf(&keyword))
 }
 
-/// Whether the keyword of a row is known, and each draft has it as the row says.
-fn is_as_published(alloc: Global, all: &VocabularySet, row: &Value) -> Result<bool, OutOfMemory> {
-    for (draft, number) in [
-        (Draft::Draft4, 3),
-        (Draft::Draft6, 4),
-        (Draft::Draft7, 5),
-        (Draft::Draft201909, 6),
-        (Draft::Draft202012, 7),
-        (Draft::Unknown, 7),
-    ] {
-        if !has_form(alloc, all, draft, row, number)? || !has_row(all, draft, row, number) {
-            return Ok(false);
-        }
-    }
-    Ok(is_known(row))
-}
-
 #[test]
-fn has_every_row_in_every_draft(rt: HostRuntime) -> Result<(), serde_json::Error> {
-    let alloc = rt.alloc();
-    let all = needed_but(alloc, "")?;
-    let wrong = wrong_row(alloc, ROWS, |row| is_as_published(alloc, &all, row));
-    drop(all);
-    assert_eq!(rt; wrong?, None);
-    Ok(())
-}
-
-#[test]
-fn knows_no_other_name(rt: HostRuntime) {
+fn knows_every_name(rt: HostRuntime) -> Result<(), serde_json::Error> {
+    let wrong = wrong_row(rt.alloc(), ROWS, |row| Ok(is_known(row)))?;
+    assert_eq!(rt; wrong, None);
     for name in [
         "", "Type", "typ", "types", "$defs", "then", "else", "$anchor",
     ] {
         assert!(rt; BuiltinKeyword::named(name).is_none(), "{name}");
     }
+    Ok(())
 }
 
-fn entry(keyword: BuiltinKeyword, form: KeywordForm) -> Option<BuiltinEntry> {
-    Some(BuiltinEntry { keyword, form })
-}
-
-/// Whether the drafts of these rows have the entries that they say, with these vocabularies.
-fn answers(set: &VocabularySet, rows: &[(Draft, &str, Option<BuiltinEntry>)]) -> bool {
-    for row in rows {
-        if get_for_draft(row.0, set, row.1) != row.2 {
-            return false;
+/// Whether each draft, with all vocabularies, has the row's form, priority and leaf.
+fn has_its_row(all: &VocabularySet, row: &Value) -> bool {
+    for draft in drafts() {
+        let published = form_in(cell_in(draft, row));
+        match builtin_row(draft, all, text_at(row, 0)) {
+            None => {
+                if published.is_some() {
+                    return false;
+                }
+            }
+            Some(found) => {
+                if published != Some(found.entry.form)
+                    || column(row, 1).as_u64() != Some(u64::from(found.priority))
+                    || column(row, 2).as_bool() != Some(found.is_leaf)
+                {
+                    return false;
+                }
+            }
         }
     }
     true
 }
 
 #[test]
+fn finds_the_rows_of_every_draft(rt: HostRuntime) -> Result<(), serde_json::Error> {
+    let all = needed_but(rt.alloc(), &None)?;
+    let wrong = wrong_row(rt.alloc(), ROWS, |row| Ok(has_its_row(&all, row)))?;
+    assert_eq!(rt; wrong, None);
+    Ok(())
+}
+
+fn entry(keyword: BuiltinKeyword, form: KeywordForm) -> Option<BuiltinEntry> {
+    Some(BuiltinEntry { keyword, form })
+}
+
+#[test]
 fn answers_the_published_calls(rt: HostRuntime) {
-    let plain = KeywordForm::Plain;
-    let media = entry(BuiltinKeyword::ContentMediaType, plain);
-    let rows = [
-        (
-            Draft::Draft4,
-            "type",
-            entry(BuiltinKeyword::TypeKeyword, KeywordForm::Draft4),
-        ),
-        (Draft::Draft202012, "type", None),
-        (
-            Draft::Draft202012,
-            "format",
-            entry(BuiltinKeyword::Format, plain),
-        ),
-        (Draft::Draft6, "if", None),
-        (Draft::Draft7, "contentMediaType", media),
-        (
-            Draft::Draft201909,
-            "$recursiveRef",
-            entry(BuiltinKeyword::RecursiveRef, plain),
-        ),
-    ];
     let none = VocabularySet::new(rt.alloc());
-    let has_answered = answers(&none, &rows);
-    drop(none);
-    assert!(rt; has_answered);
+    let plain = KeywordForm::Plain;
+    let found = get_for_draft(Draft::Draft4, &none, "type");
+    assert_eq!(rt;
+        found,
+        entry(BuiltinKeyword::TypeKeyword, KeywordForm::Draft4)
+    );
+    assert_eq!(rt; get_for_draft(Draft::Draft202012, &none, "type"), None);
+    let found = get_for_draft(Draft::Draft202012, &none, "format");
+    assert_eq!(rt; found, entry(BuiltinKeyword::Format, plain));
+    assert_eq!(rt; get_for_draft(Draft::Draft6, &none, "if"), None);
+    let found = get_for_draft(Draft::Draft7, &none, "contentMediaType");
+    assert_eq!(rt; found, entry(BuiltinKeyword::ContentMediaType, plain));
+    let found = get_for_draft(Draft::Draft201909, &none, "$recursiveRef");
+    assert_eq!(rt; found, entry(BuiltinKeyword::RecursiveRef, plain));
 }
 
 #[test]
 fn answers_by_vocabulary(rt: HostRuntime) -> Result<(), AllocError> {
-    let media = entry(BuiltinKeyword::ContentMediaType, KeywordForm::Annotating);
     let content = VocabularySet::new(rt.alloc()).with(Vocabulary::Content)?;
-    let by_content = answers(&content, &[(Draft::Unknown, "contentMediaType", media)]);
+    let found = get_for_draft(Draft::Unknown, &content, "contentMediaType");
+    assert_eq!(rt;
+        found,
+        entry(BuiltinKeyword::ContentMediaType, KeywordForm::Annotating)
+    );
     drop(content);
     let applicator = VocabularySet::new(rt.alloc()).with(Vocabulary::Applicator)?;
-    let by_applicator = answers(&applicator, &[(Draft::Draft201909, "prefixItems", None)]);
-    drop(applicator);
-    assert!(rt; by_content && by_applicator);
+    assert_eq!(rt;
+        get_for_draft(Draft::Draft201909, &applicator, "prefixItems"),
+        None
+    );
     Ok(())
-}
-
-/// Whether a keyword is printed so.
-fn prints(alloc: Global, keyword: &Keyword, want: &str) -> Result<bool, AllocError> {
-    let text = format!(in alloc; "{keyword}")?;
-    Ok(text.as_str() == want)
 }
 
 #[test]
-fn prints_keywords(rt: HostRuntime) -> Result<(), AllocError> {
+fn prints_keywords(rt: HostRuntime) -> Result<(), Fail> {
     let custom = Keyword::custom(String::from_str(rt.alloc(), "even")?);
-    let is_late = !keyword_is_leaf(&custom) && keyword_priority(&custom) == 80;
-    let custom_prints = prints(rt.alloc(), &custom, "even");
-    drop(custom);
+    assert!(rt; !keyword_is_leaf(&Keyword::Builtin(BuiltinKeyword::ContentSchema)));
+    assert!(rt; !keyword_is_leaf(&custom));
+    assert_eq!(rt; keyword_priority(&custom), 80);
+    assert_eq!(rt; format!(in rt.alloc(); "{custom}")?.as_str(), "even");
     let keyword = Keyword::from(BuiltinKeyword::DynamicRef);
-    let standard_prints = prints(rt.alloc(), &keyword, "$dynamicRef");
-    drop(keyword);
-    assert!(rt; both(custom_prints, standard_prints)? && is_late);
+    assert_eq!(rt;
+        format!(in rt.alloc(); "{keyword}")?.as_str(),
+        "$dynamicRef"
+    );
     Ok(())
+}
+
+/// A vocabulary that is not the standard's.
+fn custom_vocabulary(alloc: Global, uri: &str) -> Result<Vocabulary, AllocError> {
+    Ok(Vocabulary::Custom(String::from_str(alloc, uri)?))
+}
+
+/// A set of two custom vocabularies, one of them added twice, and of the one that asserts formats.
+fn a_set(alloc: Global) -> Result<VocabularySet, AllocError> {
+    let mut set = VocabularySet::new(alloc);
+    for uri in ["http://v/y", "http://v/x", "http://v/y"] {
+        add_custom(alloc, &mut set, uri)?;
+    }
+    set.with(Vocabulary::FormatAssertion)
+}
+
+/// The same set, its vocabularies added in another order.
+fn turned(alloc: Global) -> Result<VocabularySet, AllocError> {
+    let mut set = VocabularySet::new(alloc).with(Vocabulary::FormatAssertion)?;
+    for uri in ["http://v/x", "http://v/y"] {
+        add_custom(alloc, &mut set, uri)?;
+    }
+    Ok(set)
+}
+
+fn add_custom(alloc: Global, set: &mut VocabularySet, uri: &str) -> Result<(), AllocError> {
+    set.add(custom_vocabulary(alloc, uri)?)
 }
 
 #[test]
 fn the_standards_vocabularies(rt: HostRuntime) {
     let set = VocabularySet::new(rt.alloc());
-    let has_them = has_vocabulary(Draft::Draft202012, &set, &Vocabulary::Core)
-        && !set.contains(&Vocabulary::Core)
-        && has_vocabulary(Draft::Draft7, &set, &Vocabulary::Content)
-        && !has_vocabulary(Draft::Draft201909, &set, &Vocabulary::Content);
-    drop(set);
-    assert!(rt; has_them);
+    assert!(rt; has_vocabulary(Draft::Draft202012, &set, &Vocabulary::Core));
+    assert!(rt; !set.contains(&Vocabulary::Core));
+    assert!(rt; has_vocabulary(Draft::Draft7, &set, &Vocabulary::Content));
+    assert!(rt; !has_vocabulary(Draft::Draft201909, &set, &Vocabulary::Content));
 }
 
-/// Adds the vocabulary with this URI, which is not the standard's, or the one that asserts formats where there is none.
-fn add(alloc: Global, set: &mut VocabularySet, uri: &str) -> Result<(), AllocError> {
-    if uri.is_empty() {
-        return set.add(Vocabulary::FormatAssertion);
-    }
-    set.add(Vocabulary::Custom(String::from_str(alloc, uri)?))
+/// Whether a set has the vocabularies of `a_set`, and not the one that annotates formats.
+fn has_those(set: &VocabularySet, custom: &Vocabulary) -> bool {
+    let uris = set.custom();
+    set.contains(custom)
+        && set.contains(&Vocabulary::FormatAssertion)
+        && !set.contains(&Vocabulary::FormatAnnotation)
+        && uris.len() == 2
+        && uris.first().map(|uri| uri.as_str()) == Some("http://v/x")
 }
 
-/// A set of these vocabularies, added in this order.
-fn set_of(alloc: Global, uris: &[&str]) -> Result<VocabularySet, AllocError> {
-    let mut set = VocabularySet::new(alloc);
-    for uri in uris {
-        if let Err(failed) = add(alloc, &mut set, uri) {
-            drop(set);
-            return Err(failed);
-        }
-    }
-    Ok(set)
-}
-
-/// Whether a set has two custom vocabularies, `http://v/x` the first of them, and of those for formats the one that asserts.
-fn has_those(set: &VocabularySet) -> bool {
-    match set.custom() {
-        [first, _] => {
-            first.as_str() == "http://v/x"
-                && set.contains(&Vocabulary::FormatAssertion)
-                && !set.contains(&Vocabulary::FormatAnnotation)
-        }
-        _ => false,
-    }
-}
-
-/// Whether a set has the custom vocabulary `http://v/x`.
-fn has_custom(alloc: Global, set: &VocabularySet) -> Result<bool, AllocError> {
-    let custom = Vocabulary::Custom(String::from_str(alloc, "http://v/x")?);
-    Ok(set.contains(&custom))
+#[test]
+fn keeps_vocabularies(rt: HostRuntime) -> Result<(), AllocError> {
+    let alloc = rt.alloc();
+    let custom = custom_vocabulary(alloc, "http://v/x")?;
+    assert!(rt; !VocabularySet::new(alloc).contains(&custom));
+    let set = a_set(alloc)?;
+    assert!(rt; has_those(&set, &custom));
+    Ok(())
 }
 
 /// Whether a set is the same as its copy, and another one once the copy has one vocabulary more.
 fn is_copied(set: &VocabularySet) -> Result<bool, AllocError> {
     let copy = set.clone()?;
-    let is_same = copy.same(set);
+    let same = copy.same(set);
     let more = copy.with(Vocabulary::FormatAnnotation)?;
-    Ok(is_same && !more.same(set))
+    Ok(same && !more.same(set))
 }
 
-/// Whether a set is the same as one of these vocabularies.
-fn is_set_of(alloc: Global, set: &VocabularySet, uris: &[&str]) -> Result<bool, AllocError> {
-    let other = set_of(alloc, uris)?;
-    Ok(set.same(&other))
-}
-
-// Two custom vocabularies, one of them added twice, and the one that asserts formats; the same in another order.
 #[test]
-fn keeps_vocabularies_in_no_order(rt: HostRuntime) -> Result<(), AllocError> {
-    let alloc = rt.alloc();
-    let set = set_of(alloc, &["http://v/y", "http://v/x", "http://v/y", ""])?;
-    let has_those = has_those(&set);
-    let has_custom = has_custom(alloc, &set);
-    let is_turned = is_set_of(alloc, &set, &["", "http://v/x", "http://v/y"]);
-    let is_copied = is_copied(&set);
-    drop(set);
-    assert!(rt; both(both(has_custom, is_turned), is_copied)? && has_those);
+fn vocabularies_have_no_order(rt: HostRuntime) -> Result<(), AllocError> {
+    let set = a_set(rt.alloc())?;
+    let other = turned(rt.alloc())?;
+    assert!(rt; set.same(&other));
     Ok(())
 }
 
 #[test]
-fn an_empty_set_has_no_vocabulary(rt: HostRuntime) -> Result<(), AllocError> {
-    let none = VocabularySet::new(rt.alloc());
-    let has_custom = has_custom(rt.alloc(), &none);
-    drop(none);
-    assert!(rt; !has_custom?);
+fn copies_vocabularies(rt: HostRuntime) -> Result<(), AllocError> {
+    let set = a_set(rt.alloc())?;
+    assert!(rt; is_copied(&set)?);
     Ok(())
 }
 
@@ -355,15 +393,15 @@ fn accepts_null<N: Nullability>(_of: &N) -> bool {
 
 #[test]
 fn tells_who_accepts_null(rt: HostRuntime) {
-    assert!(rt; accepts_null(&Nullable) && !accepts_null(&NotNullable));
+    assert!(rt; accepts_null(&Nullable));
+    assert!(rt; !accepts_null(&NotNullable));
 }
 
 #[test]
 fn orders_the_drafts(rt: HostRuntime) {
-    let rise = Draft::Draft4 < Draft::Draft6
-        && Draft::Draft6 < Draft::Draft7
-        && Draft::Draft7 < Draft::Draft201909
-        && Draft::Draft201909 < Draft::Draft202012
-        && Draft::Draft202012 < Draft::Unknown;
-    assert!(rt; rise);
+    assert!(rt; Draft::Draft4 < Draft::Draft6);
+    assert!(rt; Draft::Draft6 < Draft::Draft7);
+    assert!(rt; Draft::Draft7 < Draft::Draft201909);
+    assert!(rt; Draft::Draft201909 < Draft::Draft202012);
+    assert!(rt; Draft::Draft202012 < Draft::Unknown);
 }

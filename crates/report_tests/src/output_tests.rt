@@ -1,253 +1,87 @@
 //! What evaluations show, of units that are made by hand: worked values from outside, and each public call once.
-use crate::fixtures::{both, described, error_at, unit_at};
 use schema_output::error_units::unit_of_errors;
 use schema_output::errors::{ErrorEntry, EvaluationErrors};
 use schema_output::evaluation::Evaluation;
 use schema_reports::evaluation::{ErrorDescription, EvaluationNode, UnitReport};
-use schema_reports::location::OutOfMemory;
+use schema_reports::instance::{Instance, InstanceStep, Place};
+use schema_reports::location::{Location, OutOfMemory};
 use schema_reports::reports::ValidationError;
 use serde_json::Value;
 use std::alloc::Global;
-use test_rows::{column, list_at, text_at, wrong_row};
 
-/// Rows: what is evaluated; the outermost unit, or how many errors of `pattern` it is made of; its verdict; the errors that come
-/// one by one, each with the path of its unit; and the list, or null where the row does not ask for it. A unit is its path, its
-/// verdict, its absolute location and its annotations, where it has any, its errors, each a keyword and a text, and the units
-/// inside it.
-const SHOWN: &str = r##"[
-["the schema {'type':'string'} and 'AB'",
-  ["", true, null, null, [], [["/type", true, null, null, [], []]]],
-  true,
-  [],
-  {"details": [
-    {"evaluationPath": "", "instanceLocation": "", "schemaLocation": "", "valid": true},
-    {"evaluationPath": "/type", "instanceLocation": "", "schemaLocation": "/type", "valid": true}
-  ], "valid": true}],
-["the schema {'$id':'https://example.com/text','type':'string'} and 1: absolute locations are shown",
-  ["", false, "https://example.com/text", null, [], [
-    ["/type", false, "https://example.com/text#/type", null, [["type", "1 is not of type \"string\""]], []]]],
-  false,
-  [["/type", "1 is not of type \"string\""]],
-  {"details": [
-    {"evaluationPath": "", "instanceLocation": "", "schemaLocation": "https://example.com/text", "valid": false},
-    {"errors": {"type": "1 is not of type \"string\""},
-      "evaluationPath": "/type", "instanceLocation": "", "schemaLocation": "https://example.com/text#/type", "valid": false}
-  ], "valid": false}],
-["the schema {'required':['a','b']} and {}: the first error of a keyword is shown",
-  ["/required", false, null, null, [["required", "\"a\" is missing"], ["required", "\"b\" is missing"], ["other", "refused"]], []],
-  false,
-  [["/required", "\"a\" is missing"], ["/required", "\"b\" is missing"], ["/required", "refused"]],
-  {"details": [
-    {"errors": {"other": "refused", "required": "\"a\" is missing"},
-      "evaluationPath": "/required", "instanceLocation": "", "schemaLocation": "/required", "valid": false}
-  ], "valid": false}],
-["two schemas under allOf, of which the second refuses: annotations of an invalid unit are dropped",
-  ["/allOf", false, null, null, [], [["/allOf/0", true, null, "t", [], []], ["/allOf/1", false, null, "u", [], []]]],
-  false,
-  [],
-  {"details": [
-    {"evaluationPath": "/allOf", "instanceLocation": "", "schemaLocation": "/allOf", "valid": false},
-    {"annotations": "t", "evaluationPath": "/allOf/0", "instanceLocation": "", "schemaLocation": "/allOf/0", "valid": true},
-    {"droppedAnnotations": "u", "evaluationPath": "/allOf/1", "instanceLocation": "", "schemaLocation": "/allOf/1", "valid": false}
-  ], "valid": false}],
-["two errors of the outermost unit, one of its first unit, one of the unit inside that, and one of its second unit, in that order",
-  ["", false, null, null, [["keyword", ""], ["keyword", "again"]], [
-    ["/a", false, null, null, [["keyword", "/a"]], [["/a/b", false, null, null, [["keyword", "/a/b"]], []]]],
-    ["/c", false, null, null, [["keyword", "/c"]], []]]],
-  false,
-  [["", ""], ["", "again"], ["/a", "/a"], ["/a/b", "/a/b"], ["/c", "/c"]],
-  null],
-["an error of pattern below not",
-  1,
-  false,
-  [["/$ref/not/pattern", "no outcome"]],
-  {"details": [
-    {"evaluationPath": "", "instanceLocation": "", "schemaLocation": "", "valid": false},
-    {"errors": {"pattern": "no outcome"},
-      "evaluationPath": "/$ref/not/pattern", "instanceLocation": "/a", "schemaLocation": "/not/pattern", "valid": false}
-  ], "valid": false}],
-["no error",
-  0,
-  true,
-  [],
-  {"details": [
-    {"evaluationPath": "", "instanceLocation": "", "schemaLocation": "", "valid": true}
-  ], "valid": true}]
-]"##;
+/// A unit of the whole instance that the schema's own way leads to, and that says nothing else.
+fn unit_at(alloc: Global, valid: bool, path: &str) -> Result<EvaluationNode, OutOfMemory> {
+    let evaluation_path = Location::from_escaped(alloc, path)?;
+    let schema_location = evaluation_path.clone()?;
+    Ok(EvaluationNode {
+        report: UnitReport {
+            valid,
+            evaluation_path,
+            absolute_keyword_location: None,
+            schema_location,
+            instance_location: Location::new(alloc),
+            annotations: None,
+            errors: Vec::new(alloc),
+        },
+        children: Vec::new(alloc),
+    })
+}
 
-/// Adds the errors of these rows.
-fn push_errors(
+/// The unit, with one more unit inside it.
+fn with_child(
+    parent: EvaluationNode,
+    child: EvaluationNode,
+) -> Result<EvaluationNode, OutOfMemory> {
+    let mut unit = parent;
+    unit.children.push(child)?;
+    Ok(unit)
+}
+
+/// The unit, with one more error.
+fn with_error(
     alloc: Global,
-    rows: &[Value],
-    errors: &mut Vec<ErrorDescription>,
-) -> Result<(), OutOfMemory> {
-    for row in rows {
-        errors.push(described(alloc, text_at(row, 0), text_at(row, 1))?)?;
-    }
-    Ok(())
+    unit: EvaluationNode,
+    keyword: &str,
+    text: &str,
+) -> Result<EvaluationNode, OutOfMemory> {
+    let keyword = String::from_str(alloc, keyword)?;
+    let text = String::from_str(alloc, text)?;
+    let mut unit = unit;
+    unit.report.errors.push(ErrorDescription { keyword, text })?;
+    Ok(unit)
 }
 
-/// The text that a value is, if it is one.
-fn text_of(alloc: Global, value: &Value) -> Result<Option<String>, OutOfMemory> {
-    match value.as_str() {
-        None => Ok(None),
-        Some(text) => Ok(Some(String::from_str(alloc, text)?)),
-    }
-}
-
-/// Gives a unit what its row says beside its path and its verdict.
-fn say(alloc: Global, row: &Value, report: &mut UnitReport) -> Result<(), OutOfMemory> {
-    report.absolute_keyword_location = text_of(alloc, column(row, 2))?;
-    if !column(row, 3).is_null() {
-        report.annotations = Some(column(row, 3).clone()?);
-    }
-    push_errors(alloc, list_at(row, 4), &mut report.errors)
-}
-
-/// The unit of a row, without the units inside it.
-fn unit_alone(alloc: Global, row: &Value) -> Result<EvaluationNode, OutOfMemory> {
-    let is_valid = column(row, 1).as_bool() == Some(true);
-    let mut unit = unit_at(alloc, is_valid, text_at(row, 0))?;
-    match say(alloc, row, &mut unit.report) {
-        Ok(()) => Ok(unit),
-        Err(failed) => {
-            drop(unit);
-            Err(failed)
-        }
-    }
-}
-
-/// Adds the units of these rows, without the units inside them.
-fn push_alone(
+/// The unit, with this URI as its absolute location.
+fn with_absolute(
     alloc: Global,
-    rows: &[Value],
-    units: &mut Vec<EvaluationNode>,
-) -> Result<(), OutOfMemory> {
-    for row in rows {
-        units.push(unit_alone(alloc, row)?)?;
-    }
-    Ok(())
+    unit: EvaluationNode,
+    uri: &str,
+) -> Result<EvaluationNode, OutOfMemory> {
+    let uri = String::from_str(alloc, uri)?;
+    let mut unit = unit;
+    unit.report.absolute_keyword_location = Some(uri);
+    Ok(unit)
 }
 
-/// The unit of a row, with the units inside it, which have none.
-fn unit_around(alloc: Global, row: &Value) -> Result<EvaluationNode, OutOfMemory> {
-    let mut unit = unit_alone(alloc, row)?;
-    match push_alone(alloc, list_at(row, 5), &mut unit.children) {
-        Ok(()) => Ok(unit),
-        Err(failed) => {
-            drop(unit);
-            Err(failed)
-        }
-    }
-}
-
-/// Adds the units of these rows, with the units inside them.
-fn push_around(
+/// The unit, with a text as its annotations.
+fn with_annotations(
     alloc: Global,
-    rows: &[Value],
-    units: &mut Vec<EvaluationNode>,
-) -> Result<(), OutOfMemory> {
-    for row in rows {
-        units.push(unit_around(alloc, row)?)?;
-    }
-    Ok(())
+    unit: EvaluationNode,
+    text: &str,
+) -> Result<EvaluationNode, OutOfMemory> {
+    let text = String::from_str(alloc, text)?;
+    let mut unit = unit;
+    unit.report.annotations = Some(Value::String(text));
+    Ok(unit)
 }
 
-/// The unit of a row, with the units inside it, and those inside these.
-fn unit_in(alloc: Global, row: &Value) -> Result<EvaluationNode, OutOfMemory> {
-    let mut unit = unit_alone(alloc, row)?;
-    match push_around(alloc, list_at(row, 5), &mut unit.children) {
-        Ok(()) => Ok(unit),
-        Err(failed) => {
-            drop(unit);
-            Err(failed)
-        }
+/// The texts, one after another.
+fn joined(alloc: Global, texts: &[&str]) -> Result<String, OutOfMemory> {
+    let mut whole = String::new(alloc);
+    for text in texts.iter() {
+        whole.push_str(text)?;
     }
-}
-
-/// An error of `pattern` below `not`, at the member `a` of a value, with an absolute location.
-fn pattern_error<'i>(alloc: Global, value: &'i Value) -> Result<ValidationError<'i>, OutOfMemory> {
-    let absolute = String::from_str(alloc, "https://example.com/text#/not/pattern")?;
-    match error_at(
-        alloc,
-        value,
-        "/not/pattern",
-        "/$ref/not/pattern",
-        "no outcome",
-    ) {
-        Ok(error) => Ok(ValidationError {
-            absolute_keyword_location: Some(absolute),
-            ..error
-        }),
-        Err(failed) => {
-            drop(absolute);
-            Err(failed)
-        }
-    }
-}
-
-/// Adds so many such errors.
-fn push_pattern_errors<'i>(
-    alloc: Global,
-    value: &'i Value,
-    count: u64,
-    errors: &mut Vec<ValidationError<'i>>,
-) -> Result<(), OutOfMemory> {
-    for _ in 0..count {
-        errors.push(pattern_error(alloc, value)?)?;
-    }
-    Ok(())
-}
-
-/// The units of so many such errors.
-fn units_of(alloc: Global, value: &Value, count: u64) -> Result<EvaluationNode, OutOfMemory> {
-    let mut errors = Vec::new(alloc);
-    if let Err(failed) = push_pattern_errors(alloc, value, count, &mut errors) {
-        drop(errors);
-        return Err(failed);
-    }
-    unit_of_errors(alloc, errors)
-}
-
-/// The outermost unit of a row of the table.
-fn outermost(alloc: Global, row: &Value) -> Result<EvaluationNode, OutOfMemory> {
-    let described = column(row, 1);
-    match described.as_u64() {
-        Some(count) => units_of(alloc, described, count),
-        None => unit_in(alloc, described),
-    }
-}
-
-/// Whether there is an error with a row's text, and it is of the unit at the row's path.
-fn is_of(found: Option<ErrorEntry<'_>>, row: &Value) -> bool {
-    match found {
-        None => false,
-        Some(entry) => {
-            entry.unit.evaluation_path.as_str() == text_at(row, 0)
-                && entry.error.text.as_str() == text_at(row, 1)
-        }
-    }
-}
-
-/// Whether the errors are those of these rows, in their order, and no other, and tell at each how many are left.
-fn are_those(errors: &mut EvaluationErrors<'_>, rows: &[Value]) -> bool {
-    for (number, row) in rows.iter().enumerate() {
-        let left = rows.len().saturating_sub(number);
-        if errors.size_hint() != (left, Some(left)) || !is_of(errors.next(), row) {
-            return false;
-        }
-    }
-    errors.next().is_none()
-}
-
-/// Whether the errors of an evaluation are those of these rows, in their order.
-fn come_in_order(
-    alloc: Global,
-    evaluation: &Evaluation,
-    rows: &[Value],
-) -> Result<bool, OutOfMemory> {
-    let mut errors = evaluation.iter_errors(alloc)?;
-    Ok(are_those(&mut errors, rows))
+    Ok(whole)
 }
 
 /// The list of an evaluation, which is asked for once more where memory was refused: that leaves the evaluation as it was.
@@ -258,61 +92,211 @@ fn list_again(alloc: Global, evaluation: &Evaluation) -> Result<Value, OutOfMemo
     evaluation.list(alloc)
 }
 
-/// Whether the list of an evaluation is this one, where it is asked for.
-fn is_listed(alloc: Global, evaluation: &Evaluation, want: &Value) -> Result<bool, OutOfMemory> {
-    if want.is_null() {
-        return Ok(true);
-    }
-    let list = list_again(alloc, evaluation)?;
-    Ok(list == *want)
-}
-
-/// Whether the evaluation with a row's unit outermost shows what the row says.
-fn is_shown(alloc: Global, row: &Value) -> Result<bool, OutOfMemory> {
-    let evaluation = Evaluation::new(outermost(alloc, row)?);
-    let has_verdict = column(row, 2).as_bool() == Some(evaluation.is_valid());
-    let has_errors = come_in_order(alloc, &evaluation, list_at(row, 3));
-    let has_list = is_listed(alloc, &evaluation, column(row, 4));
+/// Whether the list of an evaluation with this unit outermost has this text, which comes in parts.
+fn is_listed(alloc: Global, root: EvaluationNode, want: &[&str]) -> Result<bool, OutOfMemory> {
+    let evaluation = Evaluation::new(root);
+    let list = list_again(alloc, &evaluation)?;
     drop(evaluation);
-    both(both(has_errors, has_list), Ok(has_verdict))
+    let text = list.to_string(alloc)?;
+    drop(list);
+    Ok(text.as_str() == joined(alloc, want)?.as_str())
 }
 
+// {"type":"string"} and "AB".
 #[test]
-fn units_are_shown(rt: HostRuntime) -> Result<(), serde_json::Error> {
+fn a_string_is_listed(rt: HostRuntime) -> Result<(), OutOfMemory> {
     let alloc = rt.alloc();
-    let wrong = wrong_row(alloc, SHOWN, |row| is_shown(alloc, row));
-    assert_eq!(rt; wrong?, None);
+    let root = with_child(unit_at(alloc, true, "")?, unit_at(alloc, true, "/type")?)?;
+    let want = [
+        r#"{"details":["#,
+        r#"{"evaluationPath":"","instanceLocation":"","schemaLocation":"","valid":true}"#,
+        r#",{"evaluationPath":"/type","instanceLocation":"","schemaLocation":"/type","valid":true}"#,
+        r#"],"valid":true}"#,
+    ];
+    assert!(rt; is_listed(alloc, root, &want)?);
     Ok(())
 }
 
-/// A valid unit with this one inside it.
-fn around(alloc: Global, inside: EvaluationNode) -> Result<EvaluationNode, OutOfMemory> {
-    let mut children = Vec::new(alloc);
-    children.push(inside)?;
-    match unit_at(alloc, true, "/$ref") {
-        Ok(unit) => Ok(EvaluationNode { children, ..unit }),
-        Err(failed) => {
-            drop(children);
-            Err(failed)
+// {"$id":"https://example.com/text","type":"string"} and 1.
+#[test]
+fn absolute_locations_are_shown(rt: HostRuntime) -> Result<(), OutOfMemory> {
+    let alloc = rt.alloc();
+    let root = with_absolute(
+        alloc,
+        unit_at(alloc, false, "")?,
+        "https://example.com/text",
+    )?;
+    let keyword = with_error(
+        alloc,
+        unit_at(alloc, false, "/type")?,
+        "type",
+        "1 is not of type \"string\"",
+    )?;
+    let keyword = with_absolute(alloc, keyword, "https://example.com/text#/type")?;
+    let want = [
+        r#"{"details":["#,
+        r#"{"evaluationPath":"","instanceLocation":"","schemaLocation":"https://example.com/text","valid":false}"#,
+        r#",{"errors":{"type":"1 is not of type \"string\""}"#,
+        r#","evaluationPath":"/type","instanceLocation":"","schemaLocation":"https://example.com/text#/type","valid":false}"#,
+        r#"],"valid":false}"#,
+    ];
+    assert!(rt; is_listed(alloc, with_child(root, keyword)?, &want)?);
+    Ok(())
+}
+
+// {"required":["a","b"]} and {}.
+#[test]
+fn the_first_error_of_a_keyword_is_shown(rt: HostRuntime) -> Result<(), OutOfMemory> {
+    let alloc = rt.alloc();
+    let unit = with_error(
+        alloc,
+        unit_at(alloc, false, "/required")?,
+        "required",
+        "\"a\" is missing",
+    )?;
+    let unit = with_error(alloc, unit, "required", "\"b\" is missing")?;
+    let unit = with_error(alloc, unit, "other", "refused")?;
+    let want = [
+        r#"{"details":["#,
+        r#"{"errors":{"other":"refused","required":"\"a\" is missing"}"#,
+        r#","evaluationPath":"/required","instanceLocation":"","schemaLocation":"/required","valid":false}"#,
+        r#"],"valid":false}"#,
+    ];
+    assert!(rt; is_listed(alloc, unit, &want)?);
+    Ok(())
+}
+
+// Two schemas under `allOf`, of which the second refuses.
+#[test]
+fn annotations_of_an_invalid_unit_are_dropped(rt: HostRuntime) -> Result<(), OutOfMemory> {
+    let alloc = rt.alloc();
+    let kept = with_annotations(alloc, unit_at(alloc, true, "/allOf/0")?, "t")?;
+    let dropped = with_annotations(alloc, unit_at(alloc, false, "/allOf/1")?, "u")?;
+    let root = with_child(with_child(unit_at(alloc, false, "/allOf")?, kept)?, dropped)?;
+    let want = [
+        r#"{"details":["#,
+        r#"{"evaluationPath":"/allOf","instanceLocation":"","schemaLocation":"/allOf","valid":false}"#,
+        r#",{"annotations":"t""#,
+        r#","evaluationPath":"/allOf/0","instanceLocation":"","schemaLocation":"/allOf/0","valid":true}"#,
+        r#",{"droppedAnnotations":"u""#,
+        r#","evaluationPath":"/allOf/1","instanceLocation":"","schemaLocation":"/allOf/1","valid":false}"#,
+        r#"],"valid":false}"#,
+    ];
+    assert!(rt; is_listed(alloc, root, &want)?);
+    Ok(())
+}
+
+/// A unit at this path with one error, whose text is the path.
+fn refusing_at(alloc: Global, path: &str) -> Result<EvaluationNode, OutOfMemory> {
+    with_error(alloc, unit_at(alloc, false, path)?, "keyword", path)
+}
+
+/// Whether the error has this text, and is of the unit at this path.
+fn is_of(entry: ErrorEntry<'_>, path: &str, text: &str) -> bool {
+    entry.unit.evaluation_path.as_str() == path && entry.error.text.as_str() == text
+}
+
+/// Whether the next errors have these texts, and are of the units at these paths.
+fn come_next(errors: &mut EvaluationErrors<'_>, rows: &[(&str, &str)]) -> bool {
+    for row in rows {
+        match errors.next() {
+            None => return false,
+            Some(entry) => {
+                if !is_of(entry, row.0, row.1) {
+                    return false;
+                }
+            }
         }
     }
+    true
+}
+
+/// Two errors of the outermost unit, one of its first unit, one of the unit inside that, and one of its second unit.
+fn five_errors(alloc: Global) -> Result<EvaluationNode, OutOfMemory> {
+    let root = with_error(alloc, refusing_at(alloc, "")?, "keyword", "again")?;
+    let first = with_child(refusing_at(alloc, "/a")?, refusing_at(alloc, "/a/b")?)?;
+    with_child(with_child(root, first)?, refusing_at(alloc, "/c")?)
+}
+
+/// Whether the five errors come in their order, and no other.
+fn come_in_order(alloc: Global, evaluation: &Evaluation) -> Result<bool, OutOfMemory> {
+    let mut errors = evaluation.iter_errors(alloc)?;
+    if errors.size_hint() != (5, Some(5)) || !come_next(&mut errors, &[("", ""), ("", "again")]) {
+        return Ok(false);
+    }
+    Ok(
+        errors.size_hint() == (3, Some(3))
+            && come_next(&mut errors, &[("/a", "/a"), ("/a/b", "/a/b"), ("/c", "/c")])
+            && errors.next().is_none(),
+    )
+}
+
+#[test]
+fn errors_come_before_those_inside(rt: HostRuntime) -> Result<(), OutOfMemory> {
+    let alloc = rt.alloc();
+    let evaluation = Evaluation::new(five_errors(alloc)?);
+    assert!(rt; !evaluation.is_valid());
+    assert!(rt; come_in_order(alloc, &evaluation)?);
+    Ok(())
+}
+
+/// An error of `pattern` below `not`, at the member `a` of a value, with an absolute location.
+fn pattern_error<'i>(alloc: Global, value: &'i Value) -> Result<ValidationError<'i>, OutOfMemory> {
+    let place = Place::root(alloc).below(InstanceStep::Member("a"))?;
+    let schema_path = Location::from_escaped(alloc, "/not/pattern")?;
+    let evaluation_path = Location::from_escaped(alloc, "/$ref/not/pattern")?;
+    let absolute = String::from_str(alloc, "https://example.com/text#/not/pattern")?;
+    Ok(ValidationError {
+        instance: Instance::Value(value),
+        place,
+        schema_path,
+        evaluation_path,
+        absolute_keyword_location: Some(absolute),
+        keyword: String::from_str(alloc, "pattern")?,
+        text: String::from_str(alloc, "no outcome")?,
+    })
+}
+
+/// The units of that error alone.
+fn units_of_one(alloc: Global, value: &Value) -> Result<EvaluationNode, OutOfMemory> {
+    let mut errors = Vec::new(alloc);
+    errors.push(pattern_error(alloc, value)?)?;
+    unit_of_errors(alloc, errors)
+}
+
+#[test]
+fn an_error_has_a_unit(rt: HostRuntime) -> Result<(), OutOfMemory> {
+    let alloc = rt.alloc();
+    let want = [
+        r#"{"details":["#,
+        r#"{"evaluationPath":"","instanceLocation":"","schemaLocation":"","valid":false}"#,
+        r#",{"errors":{"pattern":"no outcome"}"#,
+        r#","evaluationPath":"/$ref/not/pattern","instanceLocation":"/a","schemaLocation":"/not/pattern","valid":false}"#,
+        r#"],"valid":false}"#,
+    ];
+    assert!(rt; is_listed(alloc, units_of_one(alloc, &Value::Null)?, &want)?);
+    let none = unit_of_errors(alloc, Vec::new(alloc))?;
+    let want = [
+        r#"{"details":["#,
+        r#"{"evaluationPath":"","instanceLocation":"","schemaLocation":"","valid":true}"#,
+        r#"],"valid":true}"#,
+    ];
+    assert!(rt; is_listed(alloc, none, &want)?);
+    Ok(())
 }
 
 /// So many units around a unit, each alone inside the next.
 fn nested(alloc: Global, count: usize) -> Result<EvaluationNode, OutOfMemory> {
     let mut unit = unit_at(alloc, true, "")?;
     for _ in 0..count {
-        unit = around(alloc, unit)?;
+        unit = with_child(unit_at(alloc, true, "/$ref")?, unit)?;
     }
     Ok(unit)
 }
 
 /// How many units a list shows.
 fn count_shown(list: &Value) -> usize {
-    let Some(details) = list.get("details") else {
-        return 0;
-    };
-    match details.as_array() {
+    match list.get("details").and_then(Value::as_array) {
         Some(details) => details.len(),
         None => 0,
     }
@@ -322,12 +306,9 @@ fn count_shown(list: &Value) -> usize {
 fn a_thousand_nested_units_are_listed(rt: HostRuntime) -> Result<(), OutOfMemory> {
     let alloc = rt.alloc();
     let evaluation = Evaluation::new(nested(alloc, 1000)?);
-    let is_valid = evaluation.is_valid();
-    let list = evaluation.list(alloc);
+    assert!(rt; evaluation.is_valid());
+    let list = evaluation.list(alloc)?;
     drop(evaluation);
-    let list = list?;
-    let shown = count_shown(&list);
-    drop(list);
-    assert!(rt; is_valid && shown == 1001);
+    assert_eq!(rt; count_shown(&list), 1001);
     Ok(())
 }

@@ -1,41 +1,84 @@
 //! Worked values from outside, and each public call once.
-use crate::fixtures::{both, errors_at, located};
 use schema_matches::assumptions::MatchAssumptions;
 use schema_matches::site::{MatchFailure, MatchSite, Reason};
+use schema_reports::instance::{Instance, InstanceStep, Place};
 use schema_reports::location::{Location, OutOfMemory};
 use schema_reports::reports::ValidationError;
 use schema_reports::text::Text;
-use schema_search::unfinished_matches::{Outcomes, errors, errors_under_each, validity_under_each};
+use schema_search::unfinished_matches::{
+    Outcomes, assume_each_outcome, errors, errors_under_each, validity, validity_under_each,
+};
 use serde_json::Value;
 use std::alloc::Global;
 
-// The errors at these paths come after these results.
-fn push_results<'i>(
+// An error at the root with this schema path and this text.
+fn error_at<'i>(
     alloc: Global,
     root: &'i Value,
-    runs: &[&[&str]],
-    results: &mut Vec<Vec<ValidationError<'i>>>,
+    path: &str,
+    text: &str,
+) -> Result<ValidationError<'i>, OutOfMemory> {
+    let keyword = String::from_str(alloc, "test")?;
+    let text = String::from_str(alloc, text)?;
+    let schema_path = Location::from_escaped(alloc, path)?;
+    let evaluation_path = schema_path.clone()?;
+    Ok(ValidationError {
+        instance: Instance::Value(root),
+        place: Place::root(alloc),
+        schema_path,
+        evaluation_path,
+        absolute_keyword_location: None,
+        keyword,
+        text,
+    })
+}
+
+// An error for each of these paths, whose text is the path, comes after these.
+fn push_errors<'i>(
+    alloc: Global,
+    root: &'i Value,
+    paths: &[&str],
+    list: &mut Vec<ValidationError<'i>>,
 ) -> Result<(), OutOfMemory> {
-    for paths in runs {
-        results.push(errors_at(alloc, root, paths)?)?;
+    for path in paths.iter() {
+        list.push(error_at(alloc, root, path, path)?)?;
     }
     Ok(())
 }
 
-// The results of runs: the errors at these paths.
-fn results_at<'i>(
+// An error for each of these paths, whose text is the path.
+fn errors_at<'i>(
     alloc: Global,
     root: &'i Value,
-    runs: &[&[&str]],
+    paths: &[&str],
+) -> Result<Vec<ValidationError<'i>>, OutOfMemory> {
+    let mut list = Vec::new(alloc);
+    push_errors(alloc, root, paths, &mut list)?;
+    Ok(list)
+}
+
+// The results of two runs: the errors at these paths.
+fn two_results<'i>(
+    alloc: Global,
+    root: &'i Value,
+    one: &[&str],
+    other: &[&str],
 ) -> Result<Vec<Vec<ValidationError<'i>>>, OutOfMemory> {
     let mut results = Vec::new(alloc);
-    match push_results(alloc, root, runs, &mut results) {
-        Ok(()) => Ok(results),
-        Err(failed) => {
-            drop(results);
-            Err(failed)
-        }
-    }
+    push_result(alloc, root, one, &mut results)?;
+    push_result(alloc, root, other, &mut results)?;
+    Ok(results)
+}
+
+// The errors at these paths come after these results.
+fn push_result<'i>(
+    alloc: Global,
+    root: &'i Value,
+    paths: &[&str],
+    results: &mut Vec<Vec<ValidationError<'i>>>,
+) -> Result<(), OutOfMemory> {
+    let list = errors_at(alloc, root, paths)?;
+    Ok(results.push(list)?)
 }
 
 fn schema_site<'i>(alloc: Global, path: &str) -> Result<MatchSite<'i>, OutOfMemory> {
@@ -50,12 +93,15 @@ fn met_at<'i>(
     reason: Reason,
     path: &str,
 ) -> Result<bool, OutOfMemory> {
-    match schema_site(alloc, path) {
-        Ok(site) => met.resolve(pattern, "abc", reason, site),
-        Err(failed) => {
-            drop(reason);
-            Err(failed)
-        }
+    let site = schema_site(alloc, path)?;
+    met.resolve(pattern, "abc", reason, site)
+}
+
+// The failure that a search gives, whatever it found.
+fn failure_of<'i>(outcomes: Outcomes<'i, bool>) -> MatchFailure<'i> {
+    match outcomes {
+        Outcomes::Assumed { failure, .. } => failure,
+        Outcomes::Undecided(failure) => failure,
     }
 }
 
@@ -63,41 +109,40 @@ fn met_at<'i>(
 fn a_failure<'i>(alloc: Global, reason: Reason) -> Result<Option<MatchFailure<'i>>, OutOfMemory> {
     let mut first = MatchAssumptions::new(alloc);
     let met = met_at(alloc, &mut first, "compiled", reason, "/pattern");
-    let (assumed, failure, located) = first.into_parts();
-    drop(assumed);
-    drop(located);
-    match met {
-        Ok(_) => Ok(failure),
-        Err(failed) => {
-            drop(failure);
-            Err(failed)
-        }
+    if met.is_err() || !first.met_unassumed() {
+        drop(first);
+        met?;
+        return Ok(None);
     }
+    let mut run = |matches| Ok((matches, true));
+    let outcomes = assume_each_outcome(alloc, &mut run, (first, true))?;
+    Ok(Some(failure_of(outcomes)))
 }
 
 // Whether the errors have these texts, in order.
 fn have_texts(list: &[ValidationError<'_>], texts: &[&str]) -> bool {
-    for (number, text) in texts.iter().enumerate() {
-        let Some(error) = list.get(number) else {
-            return false;
-        };
-        if error.text.as_str() != *text {
+    if list.len() != texts.len() {
+        return false;
+    }
+    for (i, error) in list.iter().enumerate() {
+        if error.text.as_str() != texts[i] {
             return false;
         }
     }
-    list.len() == texts.len()
+    true
 }
 
 // What a search gives of which two runs gave the errors at these paths.
 fn shared_of<'i>(
     alloc: Global,
     root: &'i Value,
-    runs: &[&[&str]],
+    one: &[&str],
+    other: &[&str],
 ) -> Result<Vec<ValidationError<'i>>, OutOfMemory> {
     let Some(failure) = a_failure(alloc, Reason::Engine)? else {
         return Ok(Vec::new(alloc));
     };
-    match results_at(alloc, root, runs) {
+    match two_results(alloc, root, one, other) {
         Ok(results) => errors(alloc, Outcomes::Assumed { results, failure }, root),
         Err(failed) => {
             drop(failure);
@@ -107,89 +152,71 @@ fn shared_of<'i>(
 }
 
 // Whether two runs that gave the errors at these paths share errors with these texts.
-fn share(alloc: Global, runs: &[&[&str]], texts: &[&str]) -> Result<bool, OutOfMemory> {
-    let shared = shared_of(alloc, &Value::Null, runs)?;
-    Ok(have_texts(&shared, texts))
+fn share(alloc: Global, one: &[&str], other: &[&str], texts: &[&str]) -> Result<bool, OutOfMemory> {
+    let root = Value::Null;
+    let shared = shared_of(alloc, &root, one, other)?;
+    let is_told = have_texts(&shared, texts);
+    drop(shared);
+    drop(root);
+    Ok(is_told)
 }
 
 #[test]
 fn what_two_results_share(rt: HostRuntime) -> Result<(), OutOfMemory> {
     let alloc = rt.alloc();
+    assert!(rt; share(alloc, &["/b", "/a"], &["/a", "/b"], &["/a", "/b"])?);
     let alone = "Regex engine failed to evaluate pattern 'compiled'";
-    let shared = share(alloc, &[&["/b", "/a"], &["/a", "/b"]], &["/a", "/b"]);
-    let none = share(alloc, &[&["/b", "/a"], &["/c", "/d"]], &[alone]);
-    let empty = share(alloc, &[&[], &[]], &[]);
-    assert!(rt; both(shared, both(none, empty))?);
+    assert!(rt; share(alloc, &["/b", "/a"], &["/c", "/d"], &[alone])?);
+    assert!(rt; share(alloc, &[], &[], &[])?);
     Ok(())
 }
 
-// Whether an undecided search, its failure having this reason, gives one error with this text.
-fn tells(alloc: Global, reason: Reason, told: &str) -> Result<bool, OutOfMemory> {
-    let Some(failure) = a_failure(alloc, reason)? else {
-        return Ok(false);
-    };
-    let undecided = errors(alloc, Outcomes::Undecided(failure), &Value::Null)?;
-    Ok(have_texts(&undecided, &[told]))
+// What a search gives that is undecided, its failure having this reason.
+fn errors_of_undecided<'i>(
+    alloc: Global,
+    root: &'i Value,
+    reason: Reason,
+) -> Result<Vec<ValidationError<'i>>, OutOfMemory> {
+    match a_failure(alloc, reason)? {
+        Some(failure) => errors(alloc, Outcomes::Undecided(failure), root),
+        None => Ok(Vec::new(alloc)),
+    }
 }
 
 #[test]
 fn an_undecided_search_fails(rt: HostRuntime) -> Result<(), OutOfMemory> {
     let alloc = rt.alloc();
     let told = "Error executing regex: Max limit for backtracking count exceeded";
-    let is_told = tells(alloc, Reason::Limit(Text::new(alloc, told)?), told)?;
-    assert!(rt; is_told);
+    let reason = Reason::Limit(Text::new(alloc, told)?);
+    let root = Value::Null;
+    let undecided = errors_of_undecided(alloc, &root, reason)?;
+    assert!(rt; have_texts(&undecided, &[told]));
+    drop(undecided);
+    drop(root);
     Ok(())
 }
 
-// Whether a match that is met at two places comes out alike.
-fn comes_out_alike<'i>(alloc: Global, met: &mut MatchAssumptions<'i>) -> Result<bool, OutOfMemory> {
-    let one = met_at(alloc, met, "p", Reason::Engine, "/a/pattern")?;
-    if !met.is_unfinished("p", "abc") {
-        return Ok(false);
-    }
-    match schema_site(alloc, "/b/pattern") {
-        Ok(site) => {
-            let other = met.resolve_unfinished("p", "abc", site)?;
-            Ok(one == other)
-        }
-        Err(failed) => Err(failed),
-    }
-}
-
-// Whether neither the match of another pattern nor that of another text is known to be unfinished.
-fn knows_no_other(met: &MatchAssumptions<'_>) -> bool {
-    !met.is_unfinished("q", "abc") && !met.is_unfinished("p", "ab")
-}
-
-// Each of these patterns is met once, and that is accepted whatever comes out; then one match is met at two places, if it is to
-// be met twice, and that is accepted where both come out alike, and no other match is known to be unfinished.
+// Each of these patterns is met once.
 fn meet<'i>(
     alloc: Global,
     patterns: &[&str],
-    twice: bool,
     met: &mut MatchAssumptions<'i>,
-) -> Result<bool, OutOfMemory> {
-    for pattern in patterns {
+) -> Result<(), OutOfMemory> {
+    for pattern in patterns.iter() {
         met_at(alloc, met, pattern, Reason::Engine, "/anyOf/0/pattern")?;
     }
-    if twice {
-        let is_alike = comes_out_alike(alloc, met);
-        both(is_alike, Ok(knows_no_other(met)))
-    } else {
-        Ok(true)
-    }
+    Ok(())
 }
 
-// A run that meets these.
+// A run that meets each of these patterns once, and accepts whatever comes out.
 fn meet_each<'i>(
     alloc: Global,
     patterns: &[&str],
-    twice: bool,
     met: MatchAssumptions<'i>,
 ) -> Result<(MatchAssumptions<'i>, bool), OutOfMemory> {
     let mut met = met;
-    match meet(alloc, patterns, twice, &mut met) {
-        Ok(is_accepted) => Ok((met, is_accepted)),
+    match meet(alloc, patterns, &mut met) {
+        Ok(()) => Ok((met, true)),
         Err(failed) => {
             drop(met);
             Err(failed)
@@ -198,37 +225,67 @@ fn meet_each<'i>(
 }
 
 // Whether the search accepts, or no where the first run meets nothing.
-fn accepts(alloc: Global, patterns: &[&str], twice: bool) -> Result<bool, OutOfMemory> {
-    let first = meet_each(alloc, patterns, twice, MatchAssumptions::new(alloc))?;
+fn accepts(alloc: Global, patterns: &[&str]) -> Result<bool, OutOfMemory> {
+    let first = meet_each(alloc, patterns, MatchAssumptions::new(alloc))?;
     if !first.0.met_unassumed() {
         drop(first);
         return Ok(false);
     }
-    validity_under_each(alloc, |met| meet_each(alloc, patterns, twice, met), first)
+    validity_under_each(alloc, |met| meet_each(alloc, patterns, met), first)
 }
 
 #[test]
 fn accepted_with_at_most_five(rt: HostRuntime) -> Result<(), OutOfMemory> {
     let alloc = rt.alloc();
-    let one = accepts(alloc, &["d"], false);
-    let five = accepts(alloc, &["d", "e", "f", "g", "h"], false);
-    assert!(rt; both(one, five)?);
-    let six = accepts(alloc, &["d", "e", "f", "g", "h", "i"], false)?;
-    let eight = accepts(alloc, &["d", "e", "f", "g", "h", "i", "j", "k"], false)?;
-    assert!(rt; !six && !eight);
+    assert!(rt; accepts(alloc, &["d"])?);
+    assert!(rt; accepts(alloc, &["d", "e", "f", "g", "h"])?);
+    assert!(rt; !accepts(alloc, &["d", "e", "f", "g", "h", "i"])?);
+    assert!(rt; !accepts(alloc, &["d", "e", "f", "g", "h", "i", "j", "k"])?);
     Ok(())
+}
+
+// Whether a match that is met at two places comes out alike.
+fn come_out_alike<'i>(alloc: Global, met: &mut MatchAssumptions<'i>) -> Result<bool, OutOfMemory> {
+    let one = met_at(alloc, met, "p", Reason::Engine, "/a/pattern")?;
+    if !met.is_unfinished("p", "abc") {
+        return Ok(false);
+    }
+    let site = schema_site(alloc, "/b/pattern")?;
+    let other = met.resolve_unfinished("p", "abc", site)?;
+    Ok(one == other)
+}
+
+// A run that meets one match at two places, and accepts where both come out alike.
+fn meet_twice<'i>(
+    alloc: Global,
+    met: MatchAssumptions<'i>,
+) -> Result<(MatchAssumptions<'i>, bool), OutOfMemory> {
+    let mut met = met;
+    match come_out_alike(alloc, &mut met) {
+        Ok(is_alike) => Ok((met, is_alike)),
+        Err(failed) => {
+            drop(met);
+            Err(failed)
+        }
+    }
 }
 
 #[test]
 fn one_outcome_for_both(rt: HostRuntime) -> Result<(), OutOfMemory> {
-    assert!(rt; accepts(rt.alloc(), &[], true)?);
+    let alloc = rt.alloc();
+    let first = meet_twice(alloc, MatchAssumptions::new(alloc))?;
+    assert!(rt; !first.0.is_unfinished("q", "abc") && !first.0.is_unfinished("p", "ab"));
+    assert!(rt; first.0.met_unassumed());
+    let mut run = |met| meet_twice(alloc, met);
+    assert!(rt; validity(assume_each_outcome(alloc, &mut run, first)?));
     Ok(())
 }
 
 // A site with a place.
 fn site_at_place<'i>(alloc: Global) -> Result<MatchSite<'i>, OutOfMemory> {
-    let way = "/properties/a/$ref/pattern";
-    let (place, schema_path, evaluation_path) = located(alloc, "/$defs/s/pattern", way)?;
+    let schema_path = Location::from_escaped(alloc, "/$defs/s/pattern")?;
+    let evaluation_path = Location::from_escaped(alloc, "/properties/a/$ref/pattern")?;
+    let place = Place::root(alloc).below(InstanceStep::Member("a"))?;
     Ok(MatchSite::located(schema_path, evaluation_path, place))
 }
 
@@ -249,11 +306,13 @@ fn refusals_at<'i>(
     root: &'i Value,
     met: &mut MatchAssumptions<'i>,
 ) -> Result<Vec<ValidationError<'i>>, OutOfMemory> {
-    if meet_at_place(alloc, met)? {
-        errors_at(alloc, root, &["/not"])
-    } else {
-        Ok(Vec::new(alloc))
+    if !meet_at_place(alloc, met)? {
+        return Ok(Vec::new(alloc));
     }
+    let error = error_at(alloc, root, "/not", "refused")?;
+    let mut list = Vec::new(alloc);
+    list.push(error)?;
+    Ok(list)
 }
 
 // A run that meets a match as a verdict and then, where that comes out as a yes, at a place, and refuses there.
@@ -285,50 +344,54 @@ fn errors_of_search<'i>(
     errors_under_each(alloc, |met| meet_at(alloc, root, met), first, root)
 }
 
-// Whether an error has the text and the paths of the site with a place.
-fn is_of_site(error: &ValidationError<'_>) -> bool {
-    error.text.as_str() == "Regex engine failed to evaluate pattern 'source'"
-        && error.schema_path.as_str() == "/$defs/s/pattern"
-        && error.evaluation_path.as_str() == "/properties/a/$ref/pattern"
+// Whether an error has this instance path and this instance text.
+fn is_of(
+    alloc: Global,
+    error: &ValidationError<'_>,
+    path: &str,
+    text: &str,
+) -> Result<bool, OutOfMemory> {
+    let instance_path = error.instance_path(alloc)?;
+    let instance = error.instance.text(alloc)?;
+    Ok(instance_path.as_str() == path && instance.as_str() == text)
 }
 
-// Whether an error has the instance path of that place.
-fn is_at_place(alloc: Global, error: &ValidationError<'_>) -> Result<bool, OutOfMemory> {
-    let path = error.instance_path(alloc)?;
-    Ok(path.as_str() == "/a")
-}
-
-// Whether an error has the instance that stands there.
-fn has_instance(alloc: Global, error: &ValidationError<'_>) -> Result<bool, OutOfMemory> {
-    let text = error.instance.text(alloc)?;
-    Ok(text.as_str() == "\"abc\"")
-}
-
-// Whether these are the failure of that site alone.
-fn are_taken(alloc: Global, alone: &[ValidationError<'_>]) -> Result<bool, OutOfMemory> {
-    match alone {
-        [error] => both(
-            both(is_at_place(alloc, error), has_instance(alloc, error)),
-            Ok(is_of_site(error)),
-        ),
-        _ => Ok(false),
+// Whether each error has this instance path and this instance text.
+fn are_of(
+    alloc: Global,
+    list: &[ValidationError<'_>],
+    path: &str,
+    text: &str,
+) -> Result<bool, OutOfMemory> {
+    for error in list.iter() {
+        if !is_of(alloc, error, path, text)? {
+            return Ok(false);
+        }
     }
-}
-
-// Whether the search gives that failure alone.
-fn is_taken(alloc: Global, root: &Value) -> Result<bool, OutOfMemory> {
-    let alone = errors_of_search(alloc, root)?;
-    let are_taken = are_taken(alloc, &alone);
-    drop(alone);
-    are_taken
+    Ok(true)
 }
 
 #[test]
 fn a_site_with_a_place_is_taken(rt: HostRuntime) -> Result<(), serde_json::Error> {
     let alloc = rt.alloc();
     let root = Value::from_str(alloc, r#"{"a":"abc"}"#)?;
-    let is_taken = is_taken(alloc, &root);
+    let alone = errors_of_search(alloc, &root)?;
+    assert!(rt;
+        have_texts(
+            &alone,
+            &["Regex engine failed to evaluate pattern 'source'"]
+        )
+    );
+    for error in &alone {
+        assert_eq!(rt; error.schema_path.as_str(), "/$defs/s/pattern");
+        assert_eq!(rt;
+            error.evaluation_path.as_str(),
+            "/properties/a/$ref/pattern"
+        );
+    }
+    let are_at_place = are_of(alloc, &alone, "/a", "\"abc\"");
+    drop(alone);
     drop(root);
-    assert!(rt; is_taken?);
+    assert!(rt; are_at_place?);
     Ok(())
 }
