@@ -2,3 +2,4 @@ mod ToldAlike
 pub mod PropertyCounts
 pub mod MissingNames
 pub mod NamesAsked
+pub mod AtOnce

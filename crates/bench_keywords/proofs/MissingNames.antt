@@ -11,7 +11,7 @@ use Rattle.keyword_ways.specs.Members.{has_member, is_object}
 use Rattle.keyword_ways.specs.Ways.{noted, noted_one, plain, refused, refused_mode}
 use Rattle.bench_keywords.specs.Words.{missing, required_text}
 
-missing_first : (k : Text) (ks : List Text) (s : Subject) → (is_object s && not (has_member k s)) ≡ true → missing (k ∷ ks) s ≡ k ∷ missing ks s
+pub missing_first : (k : Text) (ks : List Text) (s : Subject) → (is_object s && not (has_member k s)) ≡ true → missing (k ∷ ks) s ≡ k ∷ missing ks s
 missing_first k ks s h = rw h refl
 
 pub missing_later : (k : Text) (ks : List Text) (s : Subject) → (is_object s && not (has_member k s)) ≡ false → missing (k ∷ ks) s ≡ missing ks s

@@ -135,7 +135,7 @@ fn count_members(members: &Map<String, Value>) -> usize
 }
 
 /// Whether the instance's count is allowed.
-fn count_fits(kind: CountKind, limit: u64, instance: Instance<'_>) -> bool
+pub fn count_fits(kind: CountKind, limit: u64, instance: Instance<'_>) -> bool
     ensures fits { result ≡ count_fits kind limit (subject_of instance.entry) }
 {
     match kind.count_of(instance) {

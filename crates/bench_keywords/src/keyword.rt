@@ -14,7 +14,7 @@ ghost use Rattle.bench_keywords.specs.Words.{held_way, way};
 ghost use Rattle.bench_keywords.specs.Shapes.{shape_of};
 
 use crate::any_of::turn_any_of;
-use crate::counts::{CountKind, tell_count};
+use crate::counts::{CountKind, count_fits, tell_count};
 use crate::each::{turn_all_of, turn_items, turn_prefix_items};
 use crate::names::{Names, NamesRun};
 use crate::not::turn_not;
@@ -22,9 +22,9 @@ use crate::one_of::turn_one_of;
 use crate::pattern::turn_pattern;
 use crate::properties::turn_properties;
 use crate::property_names::turn_property_names;
-use crate::required::tell_required;
+use crate::required::{lacks_one, tell_required};
 use crate::type_names::TypeName;
-use crate::types::{tell_type, tell_types};
+use crate::types::{fits_one, tell_type, tell_types};
 use keyword_ways::branching::branch_on;
 use keyword_ways::run::Progress;
 use keyword_ways::telling::tell_on;
@@ -253,6 +253,16 @@ impl Validate for BenchKeyword {
             reply,
             answer,
         )
+    }
+
+    fn is_valid_at_once(&self, instance: Instance<'_>) -> Option<bool> {
+        match self {
+            BenchKeyword::Type(name) => Some(name.fits(instance)),
+            BenchKeyword::Types(names) => Some(fits_one(names.as_slice(), instance)),
+            BenchKeyword::Required(names) => Some(!lacks_one(names.as_slice(), instance)),
+            BenchKeyword::Count(kind, limit) => Some(count_fits(*kind, *limit, instance)),
+            _ => None,
+        }
     }
 
     ghost speaks = { λ texts. refl };

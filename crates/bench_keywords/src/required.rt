@@ -47,7 +47,7 @@ pub fn tell_required<'i>(
 }
 
 /// Whether the instance is an object that lacks one of these members.
-fn lacks_one(names: &[String], instance: Instance<'_>) -> bool
+pub fn lacks_one(names: &[String], instance: Instance<'_>) -> bool
     ensures lacks { result ≡ list_any
         (λ k. is_object (subject_of instance.entry) && not (has_member (string_bytes k) (subject_of instance.entry)))
         names.now }

@@ -82,7 +82,7 @@ pub fn tell_types<'i>(
 }
 
 /// Whether the instance is of one of the types.
-fn fits_one(names: &[TypeName], instance: Instance<'_>) -> bool
+pub fn fits_one(names: &[TypeName], instance: Instance<'_>) -> bool
     ensures fits { result ≡ list_any (λ t. fits t (subject_of instance.entry)) names.now }
 {
     names.iter().any(|name| name.fits(instance))

@@ -1,6 +1,7 @@
 //! Subschemas of schemas.
 ghost use Rattle.std.specs.Prelude.{◌≡◌, ◌++◌, ◌∷◌, [], flat_map, map, IfOk};
 ghost use Rattle.serde_json.specs.Find.{get};
+ghost use Rattle.serde_json.specs.Data.{object};
 ghost use Rattle.serde_json.specs.View.{items_view, members_view, view};
 ghost use Rattle.schema_definitions.specs.Instance.{to_item, to_member};
 ghost use Rattle.schema_definitions.specs.Drafts.{at_path};
@@ -106,16 +107,16 @@ fn push_items(
 fn push_object(
     alloc: Global,
     place: &SchemaPlace,
-    schema: &Value,
+    members: &Map<String, Value>,
     keyword: &str,
     places: &mut Vec<SchemaPlace>,
 ) -> Result<(), OutOfMemory>
     ensures pushed { IfOk result (λ _. map place_of places.new.items ≡ map place_of places.old.items
-        ++ map (at_path (place_of place.now)) (below_object keyword.now (get keyword.now (view schema.now)))) }
+        ++ map (at_path (place_of place.now)) (below_object keyword.now (get keyword.now (object (members_view members.now.entries))))) }
 {
-    if let Some(value) = schema.get(keyword) {
-        if let Some(members) = value.as_object() {
-            push_members(alloc, place, keyword, members, places)?;
+    if let Some(value) = members.get(keyword) {
+        if let Some(inner) = value.as_object() {
+            push_members(alloc, place, keyword, inner, places)?;
         }
     }
     Ok(())
@@ -125,14 +126,14 @@ fn push_object(
 fn push_list(
     alloc: Global,
     place: &SchemaPlace,
-    schema: &Value,
+    members: &Map<String, Value>,
     keyword: &str,
     places: &mut Vec<SchemaPlace>,
 ) -> Result<(), OutOfMemory>
     ensures pushed { IfOk result (λ _. map place_of places.new.items ≡ map place_of places.old.items
-        ++ map (at_path (place_of place.now)) (below_list keyword.now (get keyword.now (view schema.now)))) }
+        ++ map (at_path (place_of place.now)) (below_list keyword.now (get keyword.now (object (members_view members.now.entries))))) }
 {
-    if let Some(value) = schema.get(keyword) {
+    if let Some(value) = members.get(keyword) {
         if let Some(items) = value.as_array() {
             push_items(alloc, place, keyword, items.as_slice(), places)?;
         }
@@ -144,14 +145,14 @@ fn push_list(
 fn push_value(
     alloc: Global,
     place: &SchemaPlace,
-    schema: &Value,
+    members: &Map<String, Value>,
     keyword: &str,
     places: &mut Vec<SchemaPlace>,
 ) -> Result<(), OutOfMemory>
     ensures pushed { IfOk result (λ _. map place_of places.new.items ≡ map place_of places.old.items
-        ++ map (at_path (place_of place.now)) (below_value keyword.now (get keyword.now (view schema.now)))) }
+        ++ map (at_path (place_of place.now)) (below_value keyword.now (get keyword.now (object (members_view members.now.entries))))) }
 {
-    if let Some(value) = schema.get(keyword) {
+    if let Some(value) = members.get(keyword) {
         if is_schema(value) {
             places.push(value_place(alloc, place, keyword)?)?;
         }
@@ -164,15 +165,15 @@ fn push_value(
 fn push_objects(
     alloc: Global,
     place: &SchemaPlace,
-    schema: &Value,
+    members: &Map<String, Value>,
     places: &mut Vec<SchemaPlace>,
 ) -> Result<(), OutOfMemory>
     ensures pushed { IfOk result (λ _. map place_of places.new.items ≡ map place_of places.old.items
-        ++ map (at_path (place_of place.now)) (flat_map (λ k. below_object k (get k (view schema.now))) names_of_objects)) }
+        ++ map (at_path (place_of place.now)) (flat_map (λ k. below_object k (get k (object (members_view members.now.entries)))) names_of_objects)) }
 {
-    push_object(alloc, place, schema, "$defs", places)?;
-    push_object(alloc, place, schema, "definitions", places)?;
-    push_object(alloc, place, schema, "properties", places)
+    push_object(alloc, place, members, "$defs", places)?;
+    push_object(alloc, place, members, "definitions", places)?;
+    push_object(alloc, place, members, "properties", places)
 }
 
 /// Adds the places of the schemas in lists.
@@ -180,16 +181,16 @@ fn push_objects(
 fn push_lists(
     alloc: Global,
     place: &SchemaPlace,
-    schema: &Value,
+    members: &Map<String, Value>,
     places: &mut Vec<SchemaPlace>,
 ) -> Result<(), OutOfMemory>
     ensures pushed { IfOk result (λ _. map place_of places.new.items ≡ map place_of places.old.items
-        ++ map (at_path (place_of place.now)) (flat_map (λ k. below_list k (get k (view schema.now))) names_of_lists)) }
+        ++ map (at_path (place_of place.now)) (flat_map (λ k. below_list k (get k (object (members_view members.now.entries)))) names_of_lists)) }
 {
-    push_list(alloc, place, schema, "allOf", places)?;
-    push_list(alloc, place, schema, "anyOf", places)?;
-    push_list(alloc, place, schema, "oneOf", places)?;
-    push_list(alloc, place, schema, "prefixItems", places)
+    push_list(alloc, place, members, "allOf", places)?;
+    push_list(alloc, place, members, "anyOf", places)?;
+    push_list(alloc, place, members, "oneOf", places)?;
+    push_list(alloc, place, members, "prefixItems", places)
 }
 
 /// Adds the places of the other schemas.
@@ -197,22 +198,38 @@ fn push_lists(
 fn push_values(
     alloc: Global,
     place: &SchemaPlace,
-    schema: &Value,
+    members: &Map<String, Value>,
     places: &mut Vec<SchemaPlace>,
 ) -> Result<(), OutOfMemory>
     ensures pushed { IfOk result (λ _. map place_of places.new.items ≡ map place_of places.old.items
-        ++ map (at_path (place_of place.now)) (flat_map (λ k. below_value k (get k (view schema.now))) names_of_values)) }
+        ++ map (at_path (place_of place.now)) (flat_map (λ k. below_value k (get k (object (members_view members.now.entries)))) names_of_values)) }
 {
-    push_value(alloc, place, schema, "not", places)?;
-    push_value(alloc, place, schema, "if", places)?;
-    push_value(alloc, place, schema, "then", places)?;
-    push_value(alloc, place, schema, "else", places)?;
-    push_value(alloc, place, schema, "items", places)?;
-    push_value(alloc, place, schema, "propertyNames", places)
+    push_value(alloc, place, members, "not", places)?;
+    push_value(alloc, place, members, "if", places)?;
+    push_value(alloc, place, members, "then", places)?;
+    push_value(alloc, place, members, "else", places)?;
+    push_value(alloc, place, members, "items", places)?;
+    push_value(alloc, place, members, "propertyNames", places)
+}
+
+/// The places of the subschemas of an object with these members, in order.
+#[tactic(auto, using(crate::proofs::PlaceLists::parts))]
+fn subschemas_in(
+    alloc: Global,
+    place: &SchemaPlace,
+    members: &Map<String, Value>,
+) -> Result<Vec<SchemaPlace>, OutOfMemory>
+    ensures places { IfOk result (λ places. map place_of places.items
+        ≡ map (at_path (place_of place.now)) (subschemas (object (members_view members.now.entries)))) }
+{
+    let mut places = Vec::new(alloc);
+    push_objects(alloc, place, members, &mut places)?;
+    push_lists(alloc, place, members, &mut places)?;
+    push_values(alloc, place, members, &mut places)?;
+    Ok(places)
 }
 
 /// The places of the subschemas of a schema, in order.
-#[tactic(auto, using(crate::proofs::PlaceLists::parts))]
 pub fn subschemas(
     alloc: Global,
     place: &SchemaPlace,
@@ -220,9 +237,12 @@ pub fn subschemas(
 ) -> Result<Vec<SchemaPlace>, OutOfMemory>
     ensures places { IfOk result (λ places. map place_of places.items ≡ map (at_path (place_of place.now)) (subschemas (view schema.now))) }
 {
-    let mut places = Vec::new(alloc);
-    push_objects(alloc, place, schema, &mut places)?;
-    push_lists(alloc, place, schema, &mut places)?;
-    push_values(alloc, place, schema, &mut places)?;
-    Ok(places)
+    match schema {
+        Value::Object(members) => subschemas_in(alloc, place, members),
+        Value::Null => Ok(Vec::new(alloc)),
+        Value::Bool(_) => Ok(Vec::new(alloc)),
+        Value::Number(_) => Ok(Vec::new(alloc)),
+        Value::String(_) => Ok(Vec::new(alloc)),
+        Value::Array(_) => Ok(Vec::new(alloc)),
+    }
 }

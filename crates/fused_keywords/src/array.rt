@@ -1,5 +1,5 @@
 //! `minItems`, and `items` that absorbs it and `type`.
-ghost use Rattle.std.specs.Prelude.{All, ◌≡◌, ◌+◌, ◌^◌, ◌<◌, Bool, IfOk, map, option_map, true};
+ghost use Rattle.std.specs.Prelude.{All, ◌≡◌, ◌+◌, ◌^◌, ◌<◌, Bool, IfOk, IfSome, map, option_map, true};
 ghost use Rattle.serde_json.specs.Data.{Data};
 ghost use Rattle.schema_reports.specs.InstanceViews.{subject_of};
 ghost use Rattle.schema_definitions.specs.Keywords.{for_first};
@@ -15,7 +15,7 @@ use crate::checks::Check;
 use keyword_ways::items::item_count;
 use keyword_ways::passing::next_number;
 use keyword_ways::run::{Progress, Stage};
-use schema_parts::keyword::{Answer, Below, Fault, Mode, Reply, Step};
+use schema_parts::keyword::{Answer, Below, Fault, Found, Mode, Reply, Step};
 use schema_reports::evaluation_result::EvaluationResult;
 use schema_reports::instance::Instance;
 use schema_reports::location::OutOfMemory;
@@ -94,6 +94,17 @@ impl ArrayKeyword {
         }
     }
 
+    /// Whether the keyword holds of the instance, where a run for the verdict asks at no item: its checks alone decide then.
+    pub fn holds_at_once(self, instance: Instance<'_>) -> Option<bool>
+        ensures asks_none { IfSome result (λ _. asked_count Mode.Verdict self (subject_of instance.entry) ≡ 0) }
+        ensures holds { IfSome result (λ valid. checks_hold self (subject_of instance.entry) ≡ valid) }
+    {
+        if self.asked_count(Mode::Verdict, instance) > 0 {
+            return None;
+        }
+        Some(self.checks_hold(instance))
+    }
+
     /// The errors of its checks.
     fn errors<'i>(
         self,
@@ -132,13 +143,15 @@ impl ArrayKeyword {
         match self {
             ArrayKeyword::MinItems(least) => {
                 let own = Check::HasLeast(least).result(alloc, instance)?;
-                Ok(Answer::Evaluation(own, absorbed))
+                let found = Box::new(alloc, Found { own, absorbed })?;
+                Ok(Answer::Evaluation(found))
             }
             ArrayKeyword::ArrayShape(_, least) => {
                 absorbed.push(Check::IsArray.absorbed_result(alloc, instance)?)?;
                 absorbed.push(Check::HasLeast(least).absorbed_result(alloc, instance)?)?;
                 let own = EvaluationResult::valid_empty(alloc);
-                Ok(Answer::Evaluation(own, absorbed))
+                let found = Box::new(alloc, Found { own, absorbed })?;
+                Ok(Answer::Evaluation(found))
             }
         }
     }

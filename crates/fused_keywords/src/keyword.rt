@@ -88,6 +88,13 @@ impl Validate for FusedKeyword {
         }
     }
 
+    fn is_valid_at_once(&self, instance: Instance<'_>) -> Option<bool> {
+        match self {
+            FusedKeyword::Bench(keyword) => keyword.is_valid_at_once(instance),
+            FusedKeyword::Array(keyword) => keyword.holds_at_once(instance),
+        }
+    }
+
     ghost speaks = { λ texts. refl };
 
     ghost answers = { λ texts run a. refl };

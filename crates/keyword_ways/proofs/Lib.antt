@@ -3,3 +3,4 @@ pub mod EachQuestion
 pub mod BorrowedFaults
 pub mod MemberNames
 pub mod MemberCounts
+pub mod AtOnce

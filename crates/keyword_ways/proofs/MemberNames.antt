@@ -1,12 +1,12 @@
 -- The member of a name, as `serde_json` finds it.
-use Rattle.std.proofs.Common.{◌≡◌, ◌∙◌, Option, Some, None, is_some, option_and_then, option_map, ap, sym, refl, cond}
+use Rattle.std.proofs.Common.{false, ◌≡◌, ◌∙◌, Option, Some, None, is_some, option_and_then, option_map, ap, sym, refl, cond}
 use Rattle.std.specs.Ordering.{nat_cmp, is_eq, match_ordering}
 use Rattle.std.specs.declared.cmp.Ordering.{Ordering}
 use Rattle.std.specs.declared.cmp.Ordering.TheVariants.{Less, Equal, Greater}
 use Rattle.std.specs.Cmp.Lexicographic.{slice_cmp}
 use Rattle.std.proofs.lemmas.Map.Text.{is_eq-slice_cmp}
 use Rattle.serde_json.specs.Data.{Data, null, boolean, number, string, array, object, Members, no_members, member}
-use Rattle.serde_json.specs.Find.{get, get_member}
+use Rattle.serde_json.specs.Find.{as_object, get_member}
 use Rattle.schema_definitions.specs.Instance.{Text, member_of, after_step, to_member, a_value}
 
 chosen : (o : Ordering) (d : Data) (rest : Option Data) → cond (is_eq o) (Some d) rest ≡ match_ordering o rest (Some d) rest
@@ -23,31 +23,24 @@ leads : (o : Option Data) → is_some (option_and_then (λ d. Some (a_value d)) 
 leads None = refl
 leads (Some d) = refl
 
-pub has_member-get : (k : Text) (d : Data) → is_some (after_step (to_member k) (a_value d)) ≡ is_some (get k d)
-has_member-get k null = refl
-has_member-get k (boolean b) = refl
-has_member-get k (number n) = refl
-has_member-get k (string s) = refl
-has_member-get k (array ds) = refl
-has_member-get k (object ms) = leads (member_of k ms) ∙ ap is_some (member_of-get k ms)
+-- a member of an object
+pub has_member-object : (k : Text) (d : Data) (ms : Members) → as_object d ≡ Some ms → is_some (after_step (to_member k) (a_value d)) ≡ is_some (get_member k ms)
+has_member-object k null ms h = absurd (let q : ⊥ = cc in q)
+has_member-object k (boolean b) ms h = absurd (let q : ⊥ = cc in q)
+has_member-object k (number n) ms h = absurd (let q : ⊥ = cc in q)
+has_member-object k (string s) ms h = absurd (let q : ⊥ = cc in q)
+has_member-object k (array ds) ms h = absurd (let q : ⊥ = cc in q)
+has_member-object k (object es) ms h = leads (member_of k es) ∙ (ap is_some (member_of-get k es) ∙ ap (λ o. is_some (option_and_then (get_member k) o)) h)
+
+-- no other value has members
+pub has_member-none : (k : Text) (d : Data) → as_object d ≡ None → is_some (after_step (to_member k) (a_value d)) ≡ false
+has_member-none k null h = refl
+has_member-none k (boolean b) h = refl
+has_member-none k (number n) h = refl
+has_member-none k (string s) h = refl
+has_member-none k (array ds) h = refl
+has_member-none k (object ms) h = absurd (let q : ⊥ = cc in q)
 
 pub is_some-map : {A B : Type 0} (f : A → B) (o : Option A) → is_some (option_map f o) ≡ is_some o
 is_some-map f None = refl
 is_some-map f (Some a) = refl
-
-stands : (o : Option Data) → option_and_then (λ d. Some (a_value d)) o ≡ option_map a_value o
-stands None = refl
-stands (Some d) = refl
-
--- what a member's step leads to
-pub member-value : (k : Text) (d : Data) → after_step (to_member k) (a_value d) ≡ option_map a_value (get k d)
-member-value k null = refl
-member-value k (boolean b) = refl
-member-value k (number n) = refl
-member-value k (string s) = refl
-member-value k (array ds) = refl
-member-value k (object ms) = stands (member_of k ms) ∙ ap (option_map a_value) (member_of-get k ms)
-
-pub option_map-then : {A B C : Type 0} (f : A → B) (g : B → C) (o : Option A) → option_map (λ a. g (f a)) o ≡ option_map g (option_map f o)
-option_map-then f g None = refl
-option_map-then f g (Some a) = refl

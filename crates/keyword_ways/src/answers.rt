@@ -10,7 +10,7 @@ ghost use Rattle.keyword_ways.specs.FaultLists.{first_kept};
 ghost use Rattle.keyword_ways.specs.Tallies.{says_yes};
 ghost use Rattle.keyword_ways.specs.Ways.{evaluated, goes_on, noted_one, plain, refused, taken, with_first};
 
-use crate::units::{invalidated, with_unit};
+use crate::units::{invalidate, with_unit};
 use schema_parts::keyword::{Answer, Fault, Mode, OwnError, Reply};
 use schema_reports::evaluation::ErrorDescription;
 use schema_reports::location::OutOfMemory;
@@ -37,8 +37,9 @@ fn refused<'i>(alloc: Global, answer: Answer<'i>) -> Answer<'i>
                 Answer::All(faults)
             }
         }
-        Answer::Evaluation(own, absorbed) => {
-            Answer::Evaluation(invalidated(alloc, own), absorbed)
+        Answer::Evaluation(mut found) => {
+            invalidate(alloc, &mut found.own);
+            Answer::Evaluation(found)
         }
     }
 }
@@ -67,9 +68,8 @@ fn with_first<'i>(answer: Answer<'i>, fault: Box<Fault<'i>>) -> Answer<'i>
                 Answer::All(faults)
             }
         }
-        Answer::Evaluation(own, absorbed) => {
-            drop(own);
-            drop(absorbed);
+        Answer::Evaluation(found) => {
+            drop(found);
             Answer::First(Some(fault))
         }
     }
@@ -90,9 +90,8 @@ fn faults_of<'i>(alloc: Global, answer: Answer<'i>) -> Result<Vec<Fault<'i>>, Ou
             Ok(faults)
         }
         Answer::All(faults) => Ok(faults),
-        Answer::Evaluation(own, absorbed) => {
-            drop(own);
-            drop(absorbed);
+        Answer::Evaluation(found) => {
+            drop(found);
             Ok(Vec::new(alloc))
         }
     }
@@ -109,10 +108,12 @@ fn evaluated<'i>(
         ≡ evaluated (answer_of texts before.entry) (own (plain keyword.now (spoken texts (string_bytes text))))) }
     ensures faults { IfOk result (λ after. faults_in after ≡ []) }
 {
-    let (mut own, absorbed) = before.into_evaluation(alloc);
+    let mut found = before.into_evaluation(alloc)?;
     let keyword = String::from_str(alloc, keyword)?;
-    own.mark_errored(alloc, ErrorDescription { keyword, text })?;
-    Ok(Answer::Evaluation(own, absorbed))
+    found
+        .own
+        .mark_errored(alloc, ErrorDescription { keyword, text })?;
+    Ok(Answer::Evaluation(found))
 }
 
 /// Makes the answer say no, with no error. Where a verdict alone is wanted, this is what a keyword does that refuses. Nothing is

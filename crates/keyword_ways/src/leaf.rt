@@ -150,6 +150,11 @@ impl<L: LeafKeyword> Validate for Leaf<L> {
         turn_leaf(&self.leaf, alloc, run, instance, reply, answer)
     }
 
+    #[tactic(auto, using(crate::proofs::AtOnce::leaf_ends))]
+    fn is_valid_at_once(&self, instance: Instance<'_>) -> Option<bool> {
+        Some(self.leaf.holds(instance))
+    }
+
     ghost speaks = { λ texts. refl };
 
     ghost answers = { λ texts run a. refl };

@@ -291,6 +291,15 @@ impl<P: PlannedKeyword> Validate for Planned<P> {
         }
     }
 
+    #[tactic(auto, using(crate::proofs::AtOnce::plan_ends))]
+    fn is_valid_at_once(&self, instance: Instance<'_>) -> Option<bool> {
+        match self.keyword.plan(instance) {
+            Plan::Tells(holds) => Some(holds),
+            Plan::PassesOn(_) => None,
+            Plan::AtLeast(_, _) => None,
+        }
+    }
+
     ghost speaks = { λ texts. refl };
 
     ghost answers = { λ texts run a. refl };

@@ -11,23 +11,23 @@ ghost use Rattle.keyword_ways.specs.Ways.{with_unit};
 
 use crate::run::Stage;
 use schema_parts::keyword::{Answer, Reply};
-use schema_reports::evaluation::EvaluationNode;
+use schema_reports::evaluation::{ChildList, EvaluationNode};
 use schema_reports::evaluation_result::EvaluationResult;
 use schema_reports::location::OutOfMemory;
 use std::alloc::Global;
 use std::mem;
 
 /// Makes what an evaluation gives invalid. Its annotations, units and errors stay.
-pub fn invalidated(alloc: Global, own: EvaluationResult) -> EvaluationResult
-    ensures invalid { (texts : Bool) → gives_of texts result ≡ record (gives_of texts own) { valid = false } }
+pub fn invalidate(alloc: Global, own: &mut EvaluationResult)
+    ensures invalid { (texts : Bool) → gives_of texts own.new ≡ record (gives_of texts own.old) { valid = false } }
 {
     match own {
         EvaluationResult::Valid(annotations, children) => {
-            EvaluationResult::Invalid(Vec::new(alloc), annotations, children)
+            let kept = annotations.take();
+            let inside = mem::replace(children, ChildList::new(alloc));
+            *own = EvaluationResult::Invalid(Vec::new(alloc), kept, inside);
         }
-        EvaluationResult::Invalid(errors, annotations, children) => {
-            EvaluationResult::Invalid(errors, annotations, children)
-        }
+        EvaluationResult::Invalid(_, _, _) => {}
     }
 }
 
@@ -53,13 +53,12 @@ pub fn with_unit<'i>(
     ensures faults { IfOk result (λ after. faults_in after ≡ []) }
 {
     let accepts = node.report.valid;
-    let (mut own, absorbed) = before.into_evaluation(alloc);
-    push_unit(&mut own, node)?;
-    if accepts {
-        Ok(Answer::Evaluation(own, absorbed))
-    } else {
-        Ok(Answer::Evaluation(invalidated(alloc, own), absorbed))
+    let mut found = before.into_evaluation(alloc)?;
+    push_unit(&mut found.own, node)?;
+    if !accepts {
+        invalidate(alloc, &mut found.own);
     }
+    Ok(Answer::Evaluation(found))
 }
 
 /// The answer with a child's unit, whatever that says.
@@ -73,9 +72,9 @@ fn with_kept<'i>(
         (with_inside (answer_of texts before.entry).gives (unit_of texts node))) }
     ensures faults { IfOk result (λ after. faults_in after ≡ []) }
 {
-    let (mut own, absorbed) = before.into_evaluation(alloc);
-    push_unit(&mut own, node)?;
-    Ok(Answer::Evaluation(own, absorbed))
+    let mut found = before.into_evaluation(alloc)?;
+    push_unit(&mut found.own, node)?;
+    Ok(Answer::Evaluation(found))
 }
 
 /// Puts the unit that a child gave into the answer, where a run counts its children. Its room on the stack is its own, so that a

@@ -5,7 +5,7 @@ ghost use Rattle.schema_parts.specs.FaultViews.{faults_in, PassesBorrowed};
 ghost use Rattle.schema_parts.specs.KeywordViews.{answer_of, fault_of};
 ghost use Rattle.law_tests.specs.Refusals.{refusal, refused_in, told};
 
-use schema_node::context::keyword::{Answer, Fault, OwnError};
+use schema_node::context::keyword::{Answer, Fault, Found, OwnError};
 use schema_reports::evaluation::ErrorDescription;
 use schema_reports::evaluation_result::EvaluationResult;
 use schema_reports::location::OutOfMemory;
@@ -45,16 +45,17 @@ fn refused<'i>(alloc: Global, before: Answer<'i>) -> Result<Answer<'i>, OutOfMem
             faults.push(refusal(alloc)?)?;
             Ok(Answer::All(faults))
         }
-        Answer::Evaluation(own, absorbed) => {
-            drop(own);
-            drop(absorbed);
+        Answer::Evaluation(found) => {
+            drop(found);
             let mut errors = Vec::new(alloc);
             errors.push(ErrorDescription {
                 keyword: String::from_str(alloc, "refusal")?,
                 text: String::from_str(alloc, "is refused")?,
             })?;
             let own = EvaluationResult::invalid_empty(alloc, errors);
-            Ok(Answer::Evaluation(own, Vec::new(alloc)))
+            let absorbed = Vec::new(alloc);
+            let found = Box::new(alloc, Found { own, absorbed })?;
+            Ok(Answer::Evaluation(found))
         }
     }
 }

@@ -3,7 +3,7 @@ use crate::words::{Rows, draft_named, push_all, push_path, wrong};
 use bench_keywords::keyword::BenchKeyword;
 use bench_parts::table::BenchTable;
 use schema_keywords::keywords::{Draft, VocabularySet};
-use schema_parts::keyword::{Answer, Fault, MatchPoint, Mode, Reply, Step, Validate};
+use schema_parts::keyword::{Answer, Fault, Found, MatchPoint, Mode, Reply, Step, Validate};
 use schema_parts::table::{KeywordOrigin, KeywordTable, MakerReply, MakerStep};
 use schema_reports::evaluation::{ErrorDescription, EvaluationNode, UnitReport};
 use schema_reports::evaluation_result::EvaluationResult;
@@ -210,12 +210,15 @@ fn tell_turns<'i, K: Validate>(
 }
 
 /// An answer with nothing found yet: an evaluation for that mode, else all errors.
-fn answer_in<'i>(alloc: Global, mode: Mode) -> Answer<'i> {
+fn answer_in<'i>(alloc: Global, mode: Mode) -> Result<Answer<'i>, OutOfMemory> {
     match mode {
         Mode::Evaluate => {
-            Answer::Evaluation(EvaluationResult::valid_empty(alloc), Vec::new(alloc))
+            let own = EvaluationResult::valid_empty(alloc);
+            let absorbed = Vec::new(alloc);
+            let found = Box::new(alloc, Found { own, absorbed })?;
+            Ok(Answer::Evaluation(found))
         }
-        _ => Answer::All(Vec::new(alloc)),
+        _ => Ok(Answer::All(Vec::new(alloc))),
     }
 }
 
@@ -230,7 +233,7 @@ fn told<K: Validate>(
 ) -> Result<(), OutOfMemory> {
     let instance = Instance::Value(value);
     let mut run = keyword.begin(alloc, instance, mode)?;
-    let mut answer = answer_in(alloc, mode);
+    let mut answer = answer_in(alloc, mode)?;
     let asked = tell_turns(
         alloc,
         keyword,
@@ -250,9 +253,9 @@ fn told<K: Validate>(
 fn push_answer(answer: Answer<'_>, log: &mut String) -> Result<(), OutOfMemory> {
     match answer {
         Answer::All(faults) => push_texts(faults.as_slice(), log),
-        Answer::Evaluation(own, _) => {
+        Answer::Evaluation(found) => {
             log.clear();
-            push_evaluation(own, log)
+            push_evaluation(Box::into_inner(found).own, log)
         }
         _ => Ok(()),
     }

@@ -1,8 +1,9 @@
 //! Each public call that needs no keyword type once, with values of the standard.
-ghost use Rattle.std.specs.Prelude.{◌≡◌, []};
+ghost use Rattle.std.specs.Prelude.{◌≡◌, ◌<◌, [], length};
 
 use crate::words::{all_hold, push_path};
 use schema_nodes::node::{Entry, EntryForm, NodeForm, Nodes};
+use schema_parts::numbers::SchemaNode;
 use schema_parts::schema_place::{SchemaPath, SchemaPlace, SchemaStep};
 use schema_reports::location::{Location, LocationSegment, OutOfMemory};
 use std::alloc::Global;
@@ -130,6 +131,15 @@ fn member_of_root(alloc: Global) -> Result<Location, OutOfMemory> {
     here.join(LocationSegment::Property("a"))
 }
 
+/// Whether a node is filled or not, has so many validators, and no single one.
+fn shows(nodes: &Nodes<usize>, node: SchemaNode, is_filled: bool, validators: usize) -> bool
+    requires known { node.0 < length nodes.now }
+{
+    nodes.is_filled(node) == is_filled
+        && nodes.validators(node).len() == validators
+        && nodes.single_validator(node).is_none()
+}
+
 /// Whether two nodes show, at each step from none to both filled, what they are.
 fn nodes_show(
     nodes: &mut Nodes<usize>,
@@ -140,20 +150,11 @@ fn nodes_show(
 {
     let root = nodes.reserve(here, None, 0, 0)?;
     let never = nodes.reserve(below, None, 0, 0)?;
-    let reserved = nodes.len() == 2 && !nodes.is_filled(root);
-    let without = nodes.validators(root).len() == 0;
+    let reserved = nodes.len() == 2 && shows(nodes, root, false, 0);
     nodes.fill(never, NodeForm::Never, None, false);
-    let filled = nodes.is_filled(never);
-    let one = nodes.validators(never).len() == 1;
-    let none_single = nodes.single_validator(never).is_none();
+    let of_never = shows(nodes, never, true, 1) && nodes.location(never).as_str() == "/a";
     nodes.fill(root, NodeForm::Always, None, false);
-    let both_filled = nodes.is_filled(root);
-    let root_without = nodes.validators(root).len() == 0;
-    let root_single = nodes.single_validator(root).is_none();
-    let located = nodes.location(never).as_str() == "/a";
-    let of_never = filled && one && none_single;
-    let of_root = both_filled && root_without && root_single;
-    Ok(reserved && without && of_never && of_root && located)
+    Ok(reserved && of_never && shows(nodes, root, true, 0))
 }
 
 /// Whether a node that accepts, or one that refuses, has so many validators.

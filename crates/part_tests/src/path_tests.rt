@@ -1,10 +1,13 @@
 //! Evaluation paths under a reference: each call gives the right one, and from the 4,096th call on they are kept.
 
+use crate::words::{Rows, wrong};
 use schema_contexts::evaluation_path::EvaluationPath;
 use schema_contexts::kept_paths::KeptPaths;
 use schema_contexts::validation::ValidationContext;
 use schema_reports::location::{Location, OutOfMemory};
+use serde_json::Value;
 use std::alloc::Global;
+use test_rows::{column, list_at, text_at};
 
 /// What two edges add to a path, the first of them of a reference.
 #[derive(Drop)]
@@ -26,85 +29,88 @@ fn some_edges(alloc: Global) -> Result<Edges, OutOfMemory> {
     })
 }
 
-/// Whether so many calls for the path of a keyword, and of `/0` after it, each give this text.
+/// The number that a column is, or 0.
+fn number_at(row: &Value, number: usize) -> u64 {
+    column(row, number).as_u64().unwrap_or(0)
+}
+
+/// Whether a column is true.
+fn is_true(row: &Value, number: usize) -> bool {
+    column(row, number).as_bool().unwrap_or(false)
+}
+
+/// Whether the calls of a turn for this path, each of the turn's keyword and of `/0` after it, give what is wanted.
 fn all_give(
     alloc: Global,
     kept: &mut KeptPaths,
     path: &EvaluationPath<'_>,
-    name: &str,
-    times: u32,
-    want: &str,
+    turn: &Value,
 ) -> Result<bool, OutOfMemory> {
     let mut right = true;
-    for _ in 0..times {
-        let found = kept.evaluation_path(alloc, path, name, "/0")?;
-        if found.as_str() != want {
+    for _ in 0..number_at(turn, 3) {
+        let found = kept.evaluation_path(alloc, path, text_at(turn, 2), "/0")?;
+        if found.as_str() != text_at(turn, 4) {
             right = false;
         }
     }
     Ok(right)
 }
 
-/// Some calls for the path of a keyword: whether the path is under a reference, whether it goes over the second edge too, the
-/// keyword's name, how many calls there are, the path that each gives, and how many paths are kept after them.
-type Turn<'t> = (bool, bool, &'t str, u32, &'t str, usize);
-
-/// Whether the calls of a turn that goes on from this path give their path.
+/// The same of the path of a turn that goes on from this one.
 fn goes_on(
     alloc: Global,
     kept: &mut KeptPaths,
     edges: &Edges,
     start: &EvaluationPath<'_>,
-    turn: &Turn<'_>,
+    turn: &Value,
 ) -> Result<bool, OutOfMemory> {
-    let (_, is_long, name, times, want, _) = *turn;
     let first = start.across(&edges.first);
-    if is_long {
+    if is_true(turn, 1) {
         let second = first.across(&edges.second);
-        all_give(alloc, kept, &second, name, times, want)
+        all_give(alloc, kept, &second, turn)
     } else {
-        all_give(alloc, kept, &first, name, times, want)
+        all_give(alloc, kept, &first, turn)
     }
 }
 
-/// Whether the calls of a turn give their path, and so many paths are then kept.
-fn is_right(
+/// The same of a turn's path.
+fn gives(
     alloc: Global,
     kept: &mut KeptPaths,
     edges: &Edges,
-    turn: &Turn<'_>,
+    turn: &Value,
 ) -> Result<bool, OutOfMemory> {
-    let (is_under, _, _, _, _, count) = *turn;
     let given = EvaluationPath::given(&edges.given);
-    let gives = if is_under {
+    if is_true(turn, 0) {
         let under = given.under_reference();
         goes_on(alloc, kept, edges, &under, turn)
     } else {
         goes_on(alloc, kept, edges, &given, turn)
-    };
-    Ok(gives? && kept.len() == count)
+    }
 }
 
-/// Whether each of some turns is right, one after the other.
-fn turns_are_right(
+/// Whether each of some turns gives what is wanted, one after the other, and so many paths are then kept.
+fn all_turns_give(
     alloc: Global,
     kept: &mut KeptPaths,
     edges: &Edges,
-    turns: &[Turn<'_>],
+    turns: &[Value],
 ) -> Result<bool, OutOfMemory> {
     let mut right = true;
     for turn in turns {
-        let is_right = is_right(alloc, kept, edges, turn)?;
-        right = right && is_right;
+        let gives = gives(alloc, kept, edges, turn)?;
+        right = right && gives && u64::try_from(kept.len()) == Ok(number_at(turn, 5));
     }
     Ok(right)
 }
 
-/// Whether some turns from the beginning on are right.
-fn all_right(alloc: Global, turns: &[Turn<'_>]) -> Result<bool, OutOfMemory> {
+/// Whether a row of turns is right from the beginning on. A turn is whether its path is under a reference, whether it goes over
+/// the second edge too, the keyword's name, how many calls there are, the path that each gives, and how many paths are kept
+/// after them.
+pub(crate) fn are_kept(alloc: Global, row: &Value) -> Result<bool, OutOfMemory> {
     let edges = some_edges(alloc)?;
     let mut kept = KeptPaths::new(alloc);
-    let right = turns_are_right(alloc, &mut kept, &edges, turns);
+    let right = all_turns_give(alloc, &mut kept, &edges, list_at(row, 0));
     drop(kept);
     drop(edges);
     right
@@ -141,39 +147,30 @@ fn new_context_gives(alloc: Global) -> Result<bool, OutOfMemory> {
 }
 
 #[test]
-fn paths_under_references(rt: HostRuntime) -> Result<(), OutOfMemory> {
+fn paths_under_references(rt: HostRuntime) -> Result<(), serde_json::Error> {
     let alloc = rt.alloc();
-    let long = "/allOf/0/$ref/properties/a~1b/x~0y/0";
-    // calls 1, 2 to 4,095, 4,096, and 4,097 to 5,000: one path is kept from the threshold on
-    let threshold = [
-        (true, true, "x~y", 1, long, 0),
-        (true, true, "x~y", 4094, long, 0),
-        (true, true, "x~y", 1, long, 1),
-        (true, true, "x~y", 904, long, 1),
-    ];
-    assert!(rt; all_right(alloc, &threshold)?);
-    // paths under no reference are not counted
-    let others = [
-        (false, true, "x~y", 5000, long, 0),
-        (true, true, "x~y", 4095, long, 0),
-        (false, true, "x~y", 10, long, 0),
-        (true, true, "x~y", 1, long, 1),
-        (false, true, "x~y", 10, long, 1),
-    ];
-    assert!(rt; all_right(alloc, &others)?);
-    // past the threshold, other paths and other keywords each give their own path, twice
-    let (by_type, by_enum) = ("/allOf/0/$ref/type/0", "/allOf/0/$ref/enum/0");
-    let by_path = "/allOf/0/$ref/properties/a~1b/type/0";
-    let each = [
-        (true, false, "type", 5000, by_type, 1),
-        (true, false, "type", 1, by_type, 1),
-        (true, false, "enum", 1, by_enum, 2),
-        (true, true, "type", 1, by_path, 3),
-        (true, false, "type", 1, by_type, 3),
-        (true, false, "enum", 1, by_enum, 3),
-        (true, true, "type", 1, by_path, 3),
-    ];
-    assert!(rt; all_right(alloc, &each)?);
+    assert_eq!(rt; wrong(alloc, TURNS, Rows::Paths)?, None);
     assert!(rt; new_context_gives(alloc)?);
     Ok(())
 }
+
+// Calls 1, 2 to 4,095, 4,096, and 4,097 to 5,000: one path is kept from the threshold on. Paths under no reference are not
+// counted. Past the threshold, other paths and other keywords each give their own path, twice.
+const TURNS: &str = r##"[
+[[[true, true, "x~y", 1, "/allOf/0/$ref/properties/a~1b/x~0y/0", 0],
+  [true, true, "x~y", 4094, "/allOf/0/$ref/properties/a~1b/x~0y/0", 0],
+  [true, true, "x~y", 1, "/allOf/0/$ref/properties/a~1b/x~0y/0", 1],
+  [true, true, "x~y", 904, "/allOf/0/$ref/properties/a~1b/x~0y/0", 1]]],
+[[[false, true, "x~y", 5000, "/allOf/0/$ref/properties/a~1b/x~0y/0", 0],
+  [true, true, "x~y", 4095, "/allOf/0/$ref/properties/a~1b/x~0y/0", 0],
+  [false, true, "x~y", 10, "/allOf/0/$ref/properties/a~1b/x~0y/0", 0],
+  [true, true, "x~y", 1, "/allOf/0/$ref/properties/a~1b/x~0y/0", 1],
+  [false, true, "x~y", 10, "/allOf/0/$ref/properties/a~1b/x~0y/0", 1]]],
+[[[true, false, "type", 5000, "/allOf/0/$ref/type/0", 1],
+  [true, false, "type", 1, "/allOf/0/$ref/type/0", 1],
+  [true, false, "enum", 1, "/allOf/0/$ref/enum/0", 2],
+  [true, true, "type", 1, "/allOf/0/$ref/properties/a~1b/type/0", 3],
+  [true, false, "type", 1, "/allOf/0/$ref/type/0", 3],
+  [true, false, "enum", 1, "/allOf/0/$ref/enum/0", 3],
+  [true, true, "type", 1, "/allOf/0/$ref/properties/a~1b/type/0", 3]]]
+]"##;

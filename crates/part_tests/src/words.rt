@@ -2,6 +2,7 @@
 //! walk over a table of rows.
 use crate::keyword_tests::logs;
 use crate::meta_tests::tells;
+use crate::path_tests::are_kept;
 use crate::resolver_tests::is_answered;
 use schema_keywords::keywords::Draft;
 use schema_parts::schema_place::SchemaPath;
@@ -14,6 +15,7 @@ use test_rows::wrong_row;
 #[derive(Clone, Copy)]
 pub(crate) enum Rows {
     Keywords,
+    Paths,
     Refusals,
     Resolvers,
 }
@@ -22,6 +24,7 @@ pub(crate) enum Rows {
 fn is_right(alloc: Global, rows: Rows, row: &Value) -> Result<bool, OutOfMemory> {
     match rows {
         Rows::Keywords => logs(alloc, row),
+        Rows::Paths => are_kept(alloc, row),
         Rows::Refusals => tells(alloc, row),
         Rows::Resolvers => is_answered(alloc, row),
     }

@@ -15,18 +15,31 @@ pub enum EvaluationPath<'p> {
     UnderReference(&'p EvaluationPath<'p>),
 }
 
-// Writes the path at the end of a text.
-fn push_path(text: &mut String, path: &EvaluationPath<'_>) -> Result<(), OutOfMemory>
-    ensures pushed { IfOk result (λ _. string_bytes text.new ≡ string_bytes text.old ++ path_of path.now) }
+// Writes the path at the end of another one.
+fn push_path(whole: &mut Location, path: &EvaluationPath<'_>) -> Result<(), OutOfMemory>
+    ensures pushed { IfOk result (λ _. whole.new ≡ whole.old ++ path_of path.now) }
 {
     match path {
-        EvaluationPath::Given(whole) => Ok(text.push_str(whole.as_str())?),
+        EvaluationPath::Given(first) => whole.push_escaped(first.as_str()),
         EvaluationPath::Across(before, added) => {
-            push_path(text, before)?;
-            Ok(text.push_str(added.as_str())?)
+            push_path(whole, before)?;
+            whole.push_escaped(added.as_str())
         }
-        EvaluationPath::UnderReference(before) => push_path(text, before),
+        EvaluationPath::UnderReference(before) => push_path(whole, before),
     }
+}
+
+// How many bytes a keyword's name and what follows take at least, with the `/` before them.
+fn room_for(name: &str, rest: &str) -> usize {
+    name.len().saturating_add(rest.len()).saturating_add(1)
+}
+
+// Writes a keyword's name and what follows at the end of a path.
+fn push_keyword(whole: &mut Location, name: &str, rest: &str) -> Result<(), OutOfMemory>
+    ensures pushed { IfOk result (λ _. whole.new ≡ joined whole.old name.now ++ rest.now) }
+{
+    whole.push(LocationSegment::Property(name))?;
+    whole.push_escaped(rest)
 }
 
 impl<'p> EvaluationPath<'p> {
@@ -64,21 +77,40 @@ impl<'p> EvaluationPath<'p> {
         }
     }
 
+    // How many bytes the path takes.
+    fn len(&self) -> usize {
+        match self {
+            EvaluationPath::Given(whole) => whole.as_str().len(),
+            EvaluationPath::Across(before, added) => {
+                before.len().saturating_add(added.as_str().len())
+            }
+            EvaluationPath::UnderReference(before) => before.len(),
+        }
+    }
+
+    // The path, with room for so many bytes more.
+    fn with_room(&self, alloc: Global, more: usize) -> Result<Location, OutOfMemory>
+        ensures same { IfOk result (λ l. l ≡ path_of self.now) }
+    {
+        let mut whole = Location::with_capacity(alloc, self.len().saturating_add(more))?;
+        push_path(&mut whole, self)?;
+        Ok(whole)
+    }
+
     /// Returns the path as an owned location. Fails only if memory cannot be allocated.
     pub fn made(&self, alloc: Global) -> Result<Location, OutOfMemory>
         ensures same { IfOk result (λ l. l ≡ path_of self.now) }
     {
-        let mut text = String::new(alloc);
-        push_path(&mut text, self)?;
-        Location::from_escaped(alloc, text.as_str())
+        self.with_room(alloc, 0)
     }
 
     /// Returns the path of a keyword of this name after the path, and of what follows. Fails only if memory cannot be allocated.
     pub fn of_keyword(&self, alloc: Global, name: &str, rest: &str) -> Result<Location, OutOfMemory>
         ensures path { IfOk result (λ l. l ≡ joined (path_of self.now) name.now ++ rest.now) }
     {
-        let before = self.made(alloc)?;
-        path_from(alloc, &before, name, rest)
+        let mut whole = self.with_room(alloc, room_for(name, rest))?;
+        push_keyword(&mut whole, name, rest)?;
+        Ok(whole)
     }
 }
 
@@ -91,10 +123,5 @@ pub fn path_from(
 ) -> Result<Location, OutOfMemory>
     ensures path { IfOk result (λ l. l ≡ joined location.now name.now ++ rest.now) }
 {
-    let path = location.join(LocationSegment::Property(name))?;
-    if rest.is_empty() {
-        return Ok(path);
-    }
-    let rest = Location::from_escaped(alloc, rest)?;
-    path.append(&rest)
+    EvaluationPath::Given(location).of_keyword(alloc, name, rest)
 }

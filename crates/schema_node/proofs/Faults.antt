@@ -16,7 +16,7 @@ errors_of_faults texts (answer.Verdict b) = refl
 errors_of_faults texts (answer.First None) = refl
 errors_of_faults texts (answer.First (Some f)) = refl
 errors_of_faults texts (answer.All fs) = refl
-errors_of_faults texts (answer.Evaluation r absorbed) = refl
+errors_of_faults texts (answer.Evaluation b) = refl
 
 first_of : {A : Type 0} (F : A → Error) (fs : List A) (f : A) → Some f ≡ slice_get fs 0 → first_error (map F fs) ≡ Some (F f)
 first_of F [] f h = absurd (let q : ⊥ = cc in q)

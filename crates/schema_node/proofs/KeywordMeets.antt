@@ -3,10 +3,11 @@ use Rattle.std.proofs.Common.{◌≡◌, ◌∙◌, ℕ, zero, suc, ◌<◌, Boo
 use Rattle.std.specs.List.{list_any}
 use Rattle.schema_definitions.specs.Instance.{Subject, Text}
 use Rattle.schema_definitions.specs.Matching.{Assumptions, Match, Matcher, Pair, completed, completion_of, finished, settled, unfinished}
-use Rattle.schema_definitions.specs.Keywords.{Keywords, Marked, MatchPoint, Mode, Question, Reply, Turn, ask, done, ecma, mark, match_text, no_reply, truth, unmark}
+use Rattle.schema_definitions.specs.Keywords.{Keywords, Marked, MatchPoint, Mode, Question, Reply, Turn, ask, done, ecma, for_verdict, mark, match_text, no_reply, truth, unmark}
 use Rattle.schema_definitions.specs.Meaning.{Where}
 use Rattle.schema_definitions.specs.Runs.{Met, Run, keyword_met, reply_in, site_at, turns, with_mark, without_last}
 use Rattle.schema_definitions.specs.Unfinished.{Remembered}
+use Rattle.schema_parts.specs.AtOnce.{EndsAtOnce}
 use Rattle.schema_contexts.specs.Matches.{MeetsEach, after_match}
 use Rattle.schema_contexts.proofs.Matches.{meets_append}
 
@@ -93,3 +94,9 @@ module _ {K R : Type 0} (keywords : Keywords K R) (matcher : Matcher) (as' : Ass
   pub meets_begun : (mode : Mode) (marks : List Marked) (r : R) → marks ≡ [] → keywords.begin m s mode ≡ r → remaining (keywords.begin m s mode) < keywords.most_turns m s
       → MeetsSoFar keywords matcher as' x s run_of same name m remaining old (keyword_met keywords matcher as' x s run_of same name m mode) old marks r no_reply
   meets_begun mode marks r none e l = (keywords.most_turns m s, subst (λ u. remaining u < keywords.most_turns m s) e l, [], refl, ap (λ l. turns keywords matcher as' x s run_of same name m (keywords.most_turns m s) l r no_reply) none ∙ ap (λ u. turns keywords matcher as' x s run_of same name m (keywords.most_turns m s) [] u no_reply) (sym e))
+
+  -- a run that is done at its first turn meets none
+  pub meets_at_once : (valid : Bool) → EndsAtOnce keywords m s valid → remaining (keywords.begin m s for_verdict) < keywords.most_turns m s → MeetsEach matcher old (keyword_met keywords matcher as' x s run_of same name m for_verdict) old
+  meets_at_once valid ends l =
+      let r = keywords.begin m s for_verdict in
+      meets_all keywords matcher as' x s run_of same name m remaining old (keyword_met keywords matcher as' x s run_of same name m for_verdict) old [] r no_reply ends.asks_nothing (meets_begun for_verdict [] r refl refl l)

@@ -16,13 +16,13 @@ use Rattle.schema_definitions.specs.Meaning.{Where, fault_error, keyword_outcome
 use Rattle.schema_definitions.specs.Runs.{first_error, with_mark, without_last}
 use Rattle.schema_definitions.specs.Laws.{Agrees, AnsweredAlike, AsksRightly, IsPresent, IsRight, SpotInside, StandsInside, answer_in, first_fault, steps_below}
 use Rattle.schema_definitions.specs.Turns.{Standing, TurnLaws, marks_after, next, reply_to}
+use Rattle.schema_parts.specs.AtOnce.{EndsAtOnce}
 use Rattle.schema_parts.specs.KeywordViews.{Tells, answer_of, fault_of}
 use Rattle.schema_parts.specs.FaultViews.{FaultsLieInside, LiesInside, PassesBorrowed, answer_reply, faults_in}
 use Rattle.schema_contexts.specs.Matches.{Settling}
 use Rattle.schema_contexts.proofs.Matches.{decides, deciding}
 use Rattle.schema_node.specs.NodeRuns.{Reading, Reads, entry_where, reply_by}
-use Rattle.schema_node.specs.Turning.{EvaluatesOn, OnItsWay, StaysWithoutUnits, stands_at, unit_with}
-use Rattle.schema_parts.specs.UnitQuestions.{AlwaysAsksForLess, AsksForLess}
+use Rattle.schema_node.specs.Turning.{EvaluatesOn, stands_at, unit_with}
 use Rattle.schema_parts.specs.declared.keyword.Fault as code
 use Rattle.schema_parts.specs.declared.keyword.Fault.TheVariants as fault
 use Rattle.schema_parts.specs.declared.keyword.Answer as code_answer
@@ -80,61 +80,19 @@ module _ {K R : Type 0} (keywords : Keywords K R) (m : K) (absorbed : List Text)
         let k = laws.stands (stands_at s x answers units same marks r reply) way.fits e in
         subst (IsRight keywords m s (matching x.matcher x.completion) answers units same mode) (sym k ∙ ap keywords.answer t ∙ is) way.right
 
-  -- ---- in a reading, of a run that asks for no units
+  -- ---- a run that is done at its first turn says what is right
 
-  module _ (s : Subject) (x : Reading) (mode : Mode) (answers : Answers) (same : Marked → Marked → Bool) where
-    abbrev bare : Question → Unit_
-    bare q = unit_with (answers q)
-
-    abbrev OnBareWay : List Marked → R → Reply → Type 0
-    OnBareWay = OnItsWay keywords m can_be end_of Fits s x mode answers same
-
-    pub begins : (marks : List Marked) (r : R) → marks ≡ [] → ((q : Question) → Agrees (answers q)) → AnsweredAlike same answers → keywords.begin m s mode ≡ r → OnBareWay marks r no_reply
-    begins marks r none agree alike e = begins_on s x mode answers bare same marks r none agree (λ q. refl) alike e
-
-    -- a reply in a mode is the true one
-    true_reply : (q : Question) (w : Mode) → ¬ (w ≡ for_units) → reply_by w (answers q) ≡ answer_in keywords m s (matching x.matcher x.completion) answers bare same w q
-    true_reply q for_verdict h = refl
-    true_reply q for_first h = refl
-    true_reply q for_all h = refl
-    true_reply q for_units h = absurd (h refl)
-
-    pub asked : (marks marks' : List Marked) (r r' : R) (reply reply' : Reply) (q : Question) (w : Mode) → marks' ≡ marks → ¬ (w ≡ for_units) → OnBareWay marks r reply → keywords.turn m s r reply ≡ r' → keywords.step m s r reply ≡ ask q w → reply' ≡ reply_by w (answers q) → OnBareWay marks' r' reply'
-    asked marks marks' r r' reply reply' q w kept less way t e a = asked_on s x mode answers bare same marks marks' r r' reply reply' q w kept way t e (a ∙ true_reply q w less)
-
-    pub matched : (marks marks' : List Marked) (r r' : R) (reply reply' : Reply) (a : Pair) (point : MatchPoint) → marks' ≡ marks → OnBareWay marks r reply → keywords.turn m s r reply ≡ r' → keywords.step m s r reply ≡ match_text a point
-        → reply' ≡ truth (settled (completed x.completion a) (x.matcher.is_match a.pattern a.subject)) → OnBareWay marks' r' reply'
-    matched = matched_on s x mode answers bare same
-
-    pub told_pattern : (marks marks' : List Marked) (r r' : R) (reply reply' : Reply) (text : Text) → marks' ≡ marks → OnBareWay marks r reply → keywords.turn m s r reply ≡ r' → keywords.step m s r reply ≡ ecma text → reply' ≡ truth (x.matcher.is_ecma text) → OnBareWay marks' r' reply'
-    told_pattern = told_pattern_on s x mode answers bare same
-
-    pub marked : (marks marks' : List Marked) (r r' : R) (reply reply' : Reply) (i : Marked) → marks' ≡ with_mark same i marks → OnBareWay marks r reply → keywords.turn m s r reply ≡ r' → keywords.step m s r reply ≡ mark i → reply' ≡ truth (list_any (same i) marks) → OnBareWay marks' r' reply'
-    marked = marked_on s x mode answers bare same
-
-    pub mark_taken : (marks marks' : List Marked) (r r' : R) (reply reply' : Reply) → marks' ≡ without_last marks → OnBareWay marks r reply → keywords.turn m s r reply ≡ r' → keywords.step m s r reply ≡ unmark → reply' ≡ no_reply → OnBareWay marks' r' reply'
-    mark_taken = mark_taken_on s x mode answers bare same
-
-    pub ended_right : (marks : List Marked) (r r' : R) (reply : Reply) (a : Answer) → OnBareWay marks r reply → keywords.turn m s r reply ≡ r' → keywords.answer r' ≡ a → keywords.step m s r reply ≡ done
-        → IsRight keywords m s (matching x.matcher x.completion) answers bare same mode a
-    ended_right = ended_on s x mode answers bare same
+  module _ (s : Subject) (x : Reading) (answers : Answers) (same : Marked → Marked → Bool) where
+    pub right_at_once : (valid : Bool) → ((q : Question) → Agrees (answers q)) → AnsweredAlike same answers → EndsAtOnce keywords m s valid → valid ≡ keywords.holds m s (matching x.matcher x.completion) (λ q. (answers q).verdict)
+    right_at_once valid agree alike ends =
+        let r = keywords.begin m s for_verdict in
+        let units = λ (q : Question). unit_with (answers q) in
+        let way = begins_on s x for_verdict answers units same [] r refl agree (λ q. refl) alike refl in
+        sym ends.says ∙ ended_on s x for_verdict answers units same [] r (keywords.turn m s r no_reply) no_reply (keywords.answer (keywords.turn m s r no_reply)) way refl refl ends.asks_nothing
 
   -- ---- whatever is replied
 
   module _ (s : Subject) where
-    abbrev ForLess : R → Reply → Type 0
-    ForLess = StaysWithoutUnits keywords m s (remaining s) (can_be s)
-
-    pub less_first : (mode : Mode) (r : R) → AlwaysAsksForLess keywords m s (keywords.most_turns m s) (keywords.begin m s mode) no_reply → keywords.begin m s mode ≡ r → ForLess r no_reply
-    less_first mode r h e = (keywords.most_turns m s, subst (λ u. remaining s u < keywords.most_turns m s) e (laws.bounded s mode), subst (λ u. AlwaysAsksForLess keywords m s (keywords.most_turns m s) u no_reply) e h, subst (can_be s) e (laws.starts s mode))
-
-    pub is_for_less : (r : R) (reply : Reply) → ForLess r reply → AsksForLess (keywords.step m s r reply)
-    is_for_less r reply (zero, l, h, can) = absurd (omega arith)
-    is_for_less r reply (suc n, l, h, can) = h.0
-
-    pub can_be_in : (r : R) (reply : Reply) → ForLess r reply → can_be s r
-    can_be_in r reply (n, l, h, can) = can
-
     pub falls_turned : (r r' : R) (reply : Reply) (t : Turn) → can_be s r → keywords.turn m s r reply ≡ r' → keywords.step m s r reply ≡ t → ¬ (t ≡ done) → remaining s r' < remaining s r
     falls_turned r r' reply t can is e more = go (laws.falls s r reply can)
       where
@@ -152,31 +110,14 @@ module _ {K R : Type 0} (keywords : Keywords K R) (m : K) (absorbed : List Text)
     pub matches_there : (r : R) (reply : Reply) (a : Pair) (point : MatchPoint) → can_be s r → keywords.step m s r reply ≡ match_text a point → IsPresent s point.spot.below
     matches_there r reply a point can e = let inside : SpotInside s absorbed point.spot = subst (AsksRightly keywords m s absorbed) e (laws.asks s r reply can) in inside.0
 
-    pub less_after : (r r' : R) (reply reply' : Reply) (t : Turn) → ForLess r reply → keywords.turn m s r reply ≡ r' → keywords.step m s r reply ≡ t → ¬ (t ≡ done) → ForLess r' reply'
-    less_after r r' reply reply' t (zero, l, h, can) is e more = absurd (omega arith)
-    less_after r r' reply reply' t (suc n, l, h, can) is e more =
-        let f = falls_turned r r' reply t can is e more in
-        (n, omega arith, subst (λ u. AlwaysAsksForLess keywords m s n u reply') is (h.1 reply'), subst (can_be s) is (laws.goes_on s r reply can))
-
-    -- a question is asked of what is there, and of less than units
-    pub asks_less : (r : R) (reply : Reply) (q : Question) (w : Mode) → ForLess r reply → keywords.step m s r reply ≡ ask q w → ¬ (w ≡ for_units)
-    asks_less r reply q w h e = subst AsksForLess e (is_for_less r reply h)
-
-    pub asks_present : (r : R) (reply : Reply) (q : Question) (w : Mode) → ForLess r reply → All (λ q. IsPresent s (steps_below q.below)) (keywords.may_ask m s) → keywords.step m s r reply ≡ ask q w → IsPresent s (steps_below q.below)
-    asks_present r reply q w on h e = asks_there r reply q w (can_be_in r reply on) h e
-
-    -- and a match is asked for inside the instance
-    pub matches_present : (r : R) (reply : Reply) (a : Pair) (point : MatchPoint) → ForLess r reply → keywords.step m s r reply ≡ match_text a point → IsPresent s point.spot.below
-    matches_present r reply a point on e = matches_there r reply a point (can_be_in r reply on) e
-
 -- ---- what the answer says at the end
 
-module _ {K R : Type 0} (keywords : Keywords K R) (m : K) (s : Subject) (x : Reading) (answers : Answers) (same : Marked → Marked → Bool) (w : Where) (name : Text) where
+module _ {K R : Type 0} (keywords : Keywords K R) (m : K) (s : Subject) (x : Reading) (answers : Answers) (units : Question → Unit_) (same : Marked → Marked → Bool) (w : Where) (name : Text) where
   first_mapped : (f : Fault → Error) (fs : List Fault) → first_error (map f (first_fault fs)) ≡ first_error (map f fs)
   first_mapped f [] = refl
   first_mapped f (y ∷ ys) = refl
 
-  pub right_reply : (mode : Mode) (a : Answer) → ¬ (mode ≡ for_units) → IsRight keywords m s (matching x.matcher x.completion) answers (λ q. unit_with (answers q)) same mode a
+  pub right_reply : (mode : Mode) (a : Answer) → ¬ (mode ≡ for_units) → IsRight keywords m s (matching x.matcher x.completion) answers units same mode a
       → answer_reply mode w name a ≡ reply_by mode (keyword_outcome keywords w name m s (matching x.matcher x.completion) answers)
   right_reply for_verdict a h r = ap truth r
   right_reply for_first a h r = ap first_of_it (ap (λ fs. first_error (map (fault_error w name) fs)) r ∙ first_mapped (fault_error w name) _)
@@ -199,14 +140,14 @@ module _ (texts : Bool) (root : Data) (s : Subject) (absorbed : List Text) where
   first_stand (f ∷ fs) h zero d l = h 0 f (omega arith)
   first_stand (f ∷ fs) h (suc i) d l = absurd (omega arith)
 
-  pub faults_lie : {K R : Type 0} (keywords : Keywords K R) (m : K) (x : Reading) (answers : Answers) (same : Marked → Marked → Bool) (mode : Mode) (a : code_answer.Answer)
+  pub faults_lie : {K R : Type 0} (keywords : Keywords K R) (m : K) (x : Reading) (answers : Answers) (units : Question → Unit_) (same : Marked → Marked → Bool) (mode : Mode) (a : code_answer.Answer)
       → All (StandsInside s absorbed) (keywords.faults m s (matching x.matcher x.completion) answers)
-      → IsRight keywords m s (matching x.matcher x.completion) answers (λ q. unit_with (answers q)) same mode (answer_of texts a)
+      → IsRight keywords m s (matching x.matcher x.completion) answers units same mode (answer_of texts a)
       → All (PassesBorrowed root) (faults_in a) → FaultsLieInside mode root s a
-  faults_lie keywords m x answers same for_verdict a h r k = tt
-  faults_lie keywords m x answers same for_units a h r k = tt
-  faults_lie keywords m x answers same for_first a h r k = each_lies (faults_in a) (subst (All (StandsInside s absorbed)) (sym r ∙ errors_of_faults texts a) (first_stand _ h)) k
-  faults_lie keywords m x answers same for_all a h r k = each_lies (faults_in a) (subst (All (StandsInside s absorbed)) (sym r ∙ errors_of_faults texts a) h) k
+  faults_lie keywords m x answers units same for_verdict a h r k = tt
+  faults_lie keywords m x answers units same for_units a h r k = tt
+  faults_lie keywords m x answers units same for_first a h r k = each_lies (faults_in a) (subst (All (StandsInside s absorbed)) (sym r ∙ errors_of_faults texts a) (first_stand _ h)) k
+  faults_lie keywords m x answers units same for_all a h r k = each_lies (faults_in a) (subst (All (StandsInside s absorbed)) (sym r ∙ errors_of_faults texts a) h) k
 
 -- ---- readings in which no text is spoken of
 

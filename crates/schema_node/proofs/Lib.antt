@@ -1,3 +1,4 @@
+pub mod PointerSteps
 pub mod NodeMeets
 pub mod KeywordMeets
 pub mod Faults

@@ -4,12 +4,13 @@ use Rattle.std.specs.Prelude.{Option, Some, None, option_and_then}
 use Rattle.std.specs.List.{list_all, list_any}
 use Rattle.serde_json.specs.Data.{Data}
 use Rattle.schema_definitions.specs.Instance.{Place, Step, Subject, Text, a_value, after_step, subject_at}
-use Rattle.schema_definitions.specs.Keywords.{Question, down, here}
+use Rattle.schema_definitions.specs.Keywords.{Question, down, for_units, here}
+use Rattle.schema_definitions.specs.Laws.{IsRight}
 use Rattle.schema_definitions.specs.Matching.{Assumptions, matching}
 use Rattle.schema_definitions.specs.Meaning.{Where}
 use Rattle.schema_meaning.specs.Numbered.{left, subject_in}
 use Rattle.schema_definitions.specs.Reports.{Unit_, report_of}
-use Rattle.schema_definitions.specs.Guarded.{Children, NodeEdge, NodeForm, NodePart, NodePlan, node_always, node_at, node_child, node_keyword, node_never, node_reference, node_these, yes_unit}
+use Rattle.schema_definitions.specs.Guarded.{Children, NodeEdge, NodeForm, NodePart, NodePlan, node_always, node_at, node_child, node_keyword, node_never, node_reference, node_these, same_edge, yes_unit}
 use Rattle.schema_definitions.specs.Units.{Entry, entry_units, false_unit, given_units, no_unit, plan_unit, reference_units, schema_unit, true_unit}
 use Rattle.schema_definitions.specs.UnitOrder.{Placed, all_placed, each_placed, nothing_placed, placed}
 use Rattle.schema_meaning.specs.UnitsOrdered.{placed_in_order}
@@ -22,10 +23,10 @@ use Rattle.schema_meaning.proofs.Falls.{from_below}
 use Rattle.schema_parts.specs.KeywordViews.{answer_of}
 use Rattle.schema_contexts.specs.Matches.{settling}
 use Rattle.schema_node.specs.NodeMeets.{NodeMeets}
-use Rattle.schema_node.specs.NodeRuns.{Reading, Reads, edge_needs}
+use Rattle.schema_node.specs.NodeRuns.{Reading, Reads, child_says, edge_needs}
 use Rattle.schema_contexts.specs.Progress.{Context, Pairs}
 use Rattle.schema_node.specs.RunStates.{Asking, MeetsEdge, MeetsNode, Setting, busy, settled_by}
-use Rattle.schema_node.specs.UnitStates.{ChildGives, ChildTells, EdgeGives, FindsUnits, FormGives, NodeGives, PartsGive, child_unit, deep_unit, edge_unit, parts_units}
+use Rattle.schema_node.specs.UnitStates.{ChildGives, ChildTells, EdgeGives, FindsRightly, FindsUnits, FormGives, NodeGives, PartsGive, child_unit, deep_unit, edge_unit, parts_units}
 use Rattle.schema_parts.specs.declared.keyword.Answer as code_answer
 use Rattle.schema_parts.specs.declared.keyword.Reply as code_reply
 use Rattle.schema_contexts.proofs.Matches.{moved}
@@ -94,6 +95,12 @@ module _ {K R : Type 0} (g : Setting K R) (q : Asking) (c : Context) where
         let child = some_case (node_child es asked.child) e no_unit (λ e. edge_unit g.words g.nodes x q.path q.place (busy g q c) e asked.below) found in
         let at_place = ap (edge_unit g.words g.nodes x q.path q.place (busy g q c) e) b in
         answer ∙ moved ∙ sym (child ∙ at_place)
+
+  -- ---- what is right where units are wanted
+
+  pub finds_units : (i : ℕ) (es : Children) (m : K) (a : code_answer.Answer) → q.mode ≡ for_units → FindsRightly g q c i es m a → FindsUnits g q c i es m a
+  finds_units i es m a wanted right x reads l =
+      (subst (λ mode. IsRight (g.words x.texts) m q.subject (matching x.matcher x.completion) (child_says g.words g.nodes x q.path q.place (busy g q c) es) (child_unit g.words g.nodes x q.path q.place (busy g q c) es) (same_edge es) mode (answer_of x.texts a)) wanted (right x reads l)).0
 
   -- ---- references
 
@@ -172,5 +179,5 @@ module _ {K R : Type 0} (g : Setting K R) (q : Asking) (old now : Context) (kept
   pub form_moved : (i : ℕ) (name : Text) (form : NodeForm K) (units : EntryUnits) → FormGives g q now i name form units → FormGives g q old i name form units
   form_moved i name form units h = moved (λ pairs assumed. FormGives g q (with_these pairs assumed) i name form units) kept assumes h
 
-  pub finds_moved : (i : ℕ) (es : Children) (m : K) (a : code_answer.Answer) → FindsUnits g q now i es m a → FindsUnits g q old i es m a
-  finds_moved i es m a h = moved (λ pairs assumed. FindsUnits g q (with_these pairs assumed) i es m a) kept assumes h
+  pub finds_moved : (i : ℕ) (es : Children) (m : K) (a : code_answer.Answer) → FindsRightly g q now i es m a → FindsRightly g q old i es m a
+  finds_moved i es m a h = moved (λ pairs assumed. FindsRightly g q (with_these pairs assumed) i es m a) kept assumes h

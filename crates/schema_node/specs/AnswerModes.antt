@@ -7,4 +7,4 @@ abbrev pub mode_in : Answer → Mode
 mode_in (answer.Verdict b) = for_verdict
 mode_in (answer.First f) = for_first
 mode_in (answer.All fs) = for_all
-mode_in (answer.Evaluation r absorbed) = for_units
+mode_in (answer.Evaluation b) = for_units

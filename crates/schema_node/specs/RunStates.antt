@@ -5,13 +5,12 @@ use Rattle.serde_json.specs.Data.{Data}
 use Rattle.schema_definitions.specs.Instance.{Place, Subject, Text, subject_at}
 use Rattle.schema_reports.specs.InstanceViews.{subject_of}
 use Rattle.schema_definitions.specs.Keywords.{Answer, Keywords, Mode, Question as ChildQuestion, for_units, for_verdict, truth}
-use Rattle.schema_definitions.specs.Laws.{IsRight}
 use Rattle.schema_definitions.specs.Meaning.{Where}
-use Rattle.schema_definitions.specs.Matching.{Extends, Matcher, completion_of, matching}
+use Rattle.schema_definitions.specs.Matching.{Extends, Matcher, completion_of}
 use Rattle.schema_definitions.specs.Reports.{Outcome}
 use Rattle.schema_reports.specs.ReportViews.{BorrowsItsPlace}
 use Rattle.schema_definitions.specs.Runs.{Run, reply_in}
-use Rattle.schema_definitions.specs.Guarded.{Children, NodeEdge, NodeForm, NodePart, Nodes, guarded_node, guarded_within, node_keyword, node_reference, node_these, same_edge, yes_run}
+use Rattle.schema_definitions.specs.Guarded.{Children, NodeEdge, NodeForm, NodePart, Nodes, guarded_node, guarded_within, node_keyword, node_reference, node_these, yes_run}
 use Rattle.schema_meaning.specs.Numbered.{Ranked, left, subject_in}
 use Rattle.schema_contexts.specs.EvaluationPaths.{path_of}
 use Rattle.schema_node.specs.EvaluationPlaces.{steps_to}
@@ -19,12 +18,11 @@ use Rattle.schema_parts.specs.FaultViews.{PassesBorrowed, errors_in, faults_in}
 use Rattle.schema_parts.specs.KeywordViews.{answer_of, mode_of, reply_of}
 use Rattle.schema_contexts.specs.Matches.{MeetsEach, Settling, settling}
 use Rattle.schema_node.specs.NodeMeets.{ChildMeets, EdgeMeets, EntryMeets, FormMeets, NodeMeets, PartsMeet}
-use Rattle.schema_node.specs.NodeRuns.{ChildReplies, EdgeReplies, FormReplies, NodeReplies, PartsReply, Reading, Reads, TellsAll, child_says, entry_where, reply_by}
+use Rattle.schema_node.specs.NodeRuns.{ChildReplies, EdgeReplies, FormReplies, NodeReplies, PartsReply, TellsAll, entry_where, reply_by}
 use Rattle.schema_nodes.specs.NodeTable.{NodeEntry, numbered}
 use Rattle.schema_parts.specs.EdgeViews.{edge_of}
 use Rattle.schema_contexts.specs.Progress.{Context, NoDeeper, busy_at}
 use Rattle.schema_node.specs.RightVerdicts.{AreRight, LaysOut, Layout}
-use Rattle.schema_node.specs.Turning.{unit_with}
 use Rattle.schema_contexts.specs.Verdicts.{MayKeep, one_more, read_verdict, verdict_of}
 use Rattle.schema_parts.specs.declared.keyword.Answer as code_answer
 use Rattle.schema_parts.specs.declared.keyword.Reply as code
@@ -130,13 +128,6 @@ module _ {K R : Type 0} (g : Setting K R) (q : Asking) (c : Context) where
 
   abbrev pub EdgeSays : NodeEdge → code.Reply → Type 0
   EdgeSays = EdgeReplies g.words g.is_whole g.nodes g.count settled_by q.mode q.path q.place busy q.subject
-
-  -- ---- what a keyword has found at the end: what is right, in every reading
-
-  abbrev pub FindsRightly : ℕ → Children → K → code_answer.Answer → Type 0
-  FindsRightly i es m a = (x : Reading) → Reads g.is_whole g.nodes g.count settled_by q.place q.subject x → left g.nodes g.count i q.subject busy ≤ x.depth
-      → (let answers = child_says g.words g.nodes x q.path q.place busy es in
-      IsRight (g.words x.texts) m q.subject (matching x.matcher x.completion) answers (λ asked. unit_with (answers asked)) (same_edge es) q.mode (answer_of x.texts a))
 
   -- ---- what a whole run of a node says and meets
 

@@ -1,12 +1,11 @@
 -- How a keyword's run stands between two turns.
-use Rattle.std.specs.Prelude.{◌<◌, ℕ, Bool, List, [], None}
+use Rattle.std.specs.Prelude.{Bool, List, [], None}
 use Rattle.schema_definitions.specs.Instance.{Subject}
 use Rattle.schema_definitions.specs.Reports.{Outcome, Unit_, no_units, unit}
 use Rattle.schema_definitions.specs.Matching.{matching}
 use Rattle.schema_definitions.specs.Keywords.{Answer, Answers, Keywords, Marked, Mode, Question, Reply}
 use Rattle.schema_definitions.specs.Laws.{IsRight}
 use Rattle.schema_definitions.specs.Turns.{Standing}
-use Rattle.schema_parts.specs.UnitQuestions.{AlwaysAsksForLess}
 use Rattle.schema_node.specs.NodeRuns.{Reading}
 
 -- a unit that has the verdict of an outcome
@@ -31,11 +30,3 @@ pub record EvaluatesOn {K R : Type 0} (keywords : Keywords K R) (m : K) (can_be 
   pub can : can_be s r
   pub fits : Fits (stands_at s x answers units same marks r reply)
   pub right : IsRight keywords m s (matching x.matcher x.completion) answers units same mode (end_of (stands_at s x answers units same marks r reply))
-
--- so does a run that asks for no units, whatever those are
-abbrev pub OnItsWay : {K R : Type 0} → Keywords K R → K → (Subject → R → Type 0) → (Standing R → Answer) → (Standing R → Type 0) → Subject → Reading → Mode → Answers → (Marked → Marked → Bool) → List Marked → R → Reply → Type 0
-OnItsWay keywords m can_be end_of Fits s x mode answers same marks r reply = EvaluatesOn keywords m can_be end_of Fits s x mode answers (λ q. unit_with (answers q)) same marks r reply
-
--- for more turns than are left it asks no child for its units, from a state that a run can be in
-abbrev pub StaysWithoutUnits : {K R : Type 0} → Keywords K R → K → Subject → (R → ℕ) → (R → Type 0) → R → Reply → Type 0
-StaysWithoutUnits keywords m s remaining can_be r reply = (n : ℕ) × (remaining r < n) × AlwaysAsksForLess keywords m s n r reply × can_be r

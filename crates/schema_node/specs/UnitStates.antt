@@ -2,6 +2,7 @@
 use Rattle.std.specs.Prelude.{◌≡◌, ◌<◌, ◌≤◌, ℕ, Bool, List, map}
 use Rattle.schema_definitions.specs.Instance.{Place, Subject, Text}
 use Rattle.schema_definitions.specs.Keywords.{Below, Keywords, Mode, Question, Reply, all_of_it, first_of_it, for_all, for_first, for_units, for_verdict, here, truth, unit_of_it}
+use Rattle.schema_definitions.specs.Laws.{IsRight}
 use Rattle.schema_definitions.specs.Matching.{matching}
 use Rattle.schema_meaning.specs.Numbered.{Ranked, left, subject_in}
 use Rattle.schema_definitions.specs.Reports.{Outcome, Unit_}
@@ -9,7 +10,7 @@ use Rattle.schema_definitions.specs.Runs.{first_error}
 use Rattle.schema_definitions.specs.Units.{Entry, PartUnits, entry_units, no_unit}
 use Rattle.schema_reports.specs.UnitViews.{unit_of}
 use Rattle.schema_reports.specs.EntryUnits.{entry_units_of}
-use Rattle.schema_definitions.specs.Guarded.{Children, NodeEdge, NodeForm, NodePart, Nodes, across, guarded_within, node_asked, node_entries_of, node_part_units, node_unit, yes_unit}
+use Rattle.schema_definitions.specs.Guarded.{Children, NodeEdge, NodeForm, NodePart, Nodes, across, guarded_within, node_asked, node_entries_of, node_part_units, node_unit, same_edge, yes_unit}
 use Rattle.schema_reports.specs.declared.evaluation.EvaluationNode.{EvaluationNode}
 use Rattle.schema_reports.specs.declared.evaluation_order.EntryUnits.{EntryUnits}
 use Rattle.schema_parts.specs.KeywordViews.{answer_of, reply_of}
@@ -88,7 +89,11 @@ module _ {K R : Type 0} (g : Setting K R) (q : Asking) (c : Context) where
   abbrev pub PartsGive : ℕ → List (NodePart K) → List EvaluationNode → Type 0
   PartsGive i xs us = InReadings i (λ x. map (unit_of x.texts) us ≡ entry_units (parts_units g.words g.nodes x i q.path q.place (busy g q c) xs))
 
-  -- what a keyword has found at the end is what it gives
+  -- what a keyword has found at the end is what is right in its mode
+  abbrev pub FindsRightly : ℕ → Children → K → code_answer.Answer → Type 0
+  FindsRightly i es m a = InReadings i (λ x. IsRight (g.words x.texts) m q.subject (matching x.matcher x.completion) (child_says g.words g.nodes x q.path q.place (busy g q c) es) (child_unit g.words g.nodes x q.path q.place (busy g q c) es) (same_edge es) q.mode (answer_of x.texts a))
+
+  -- where units are wanted it is what it gives
   abbrev pub FindsUnits : ℕ → Children → K → code_answer.Answer → Type 0
   FindsUnits i es m a = InReadings i (λ x. (answer_of x.texts a).gives ≡ (g.words x.texts).units m q.subject (matching x.matcher x.completion) (child_unit g.words g.nodes x q.path q.place (busy g q c) es))
 

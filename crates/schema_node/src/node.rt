@@ -11,6 +11,7 @@ mod run;
 pub mod runs;
 mod sites;
 mod spots;
+mod turns;
 mod units;
 
 pub use crate::node::runs::RunNodes;

@@ -38,7 +38,7 @@ faults_in (answer.Verdict b) = []
 faults_in (answer.First None) = []
 faults_in (answer.First (Some f)) = f.value ∷ []
 faults_in (answer.All fs) = fs.items
-faults_in (answer.Evaluation r absorbed) = []
+faults_in (answer.Evaluation b) = []
 
 -- an error that is passed on borrows its place
 abbrev pub PassesBorrowed : Data → Fault → Type 0

@@ -108,7 +108,7 @@ abbrev pub answer_of : Bool → Answer → spec.Answer
 answer_of texts (answer.Verdict b) = record { mode = spec.for_verdict; verdict = b; errors = []; gives = record no_gives { valid = b } }
 answer_of texts (answer.First f) = with_errors spec.for_first (option_list (option_map (λ b. fault_of texts b.value) f))
 answer_of texts (answer.All fs) = with_errors spec.for_all (map (fault_of texts) fs.items)
-answer_of texts (answer.Evaluation r absorbed) = with_gives (gives_with texts r absorbed.items)
+answer_of texts (answer.Evaluation b) = with_gives (gives_with texts b.value.own b.value.absorbed.items)
 
 -- how an answer of a mode begins
 abbrev pub fresh : spec.Mode → spec.Answer

@@ -1,3 +1,4 @@
+pub mod AtOnce
 pub mod SchemaViews
 pub mod ResolverViews
 pub mod KeywordViews

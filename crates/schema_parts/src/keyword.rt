@@ -1,5 +1,5 @@
 //! The keyword type, which puts questions to the engine by turns.
-ghost use Rattle.std.specs.Prelude.{◌≡◌, ℕ, All, Bool, List, IfOk};
+ghost use Rattle.std.specs.Prelude.{◌≡◌, ℕ, All, Bool, List, IfOk, IfSome};
 ghost use Rattle.serde_json.specs.Data.{Data};
 ghost use Rattle.schema_definitions.specs.Instance.{Text, Subject};
 ghost use Rattle.schema_reports.specs.InstanceViews.{subject_of};
@@ -8,6 +8,7 @@ ghost use Rattle.schema_definitions.specs.Turns.{Standing, TurnLaws, FunctionLaw
 ghost use Rattle.schema_reports.specs.ReportViews.{BorrowsItsPlace};
 ghost use Rattle.schema_reports.specs.EvaluationResults.{gives_with};
 ghost use Rattle.schema_definitions.specs.Remembering.{EachAsksVerdicts};
+ghost use Rattle.schema_parts.specs.AtOnce.{EndsAtOnce};
 ghost use Rattle.schema_parts.specs.FaultViews.{errors_in, faults_in, PassesBorrowed};
 ghost use Rattle.schema_parts.specs.KeywordViews.{mode_of, reply_of, answer_of, fresh, turn_of, Tells};
 ghost use Rattle.schema_parts.specs.UnitQuestions.{AsksNoUnits};
@@ -102,36 +103,44 @@ pub enum Fault<'i> {
     Passed(ValidationError<'i>),
 }
 
-/// What a run has found so far, by its mode. In an evaluation that is what the keyword's own unit has, and what those have of the
-/// keywords that it absorbs, in their order.
+/// What an evaluation has found so far: what the keyword's own unit has, and what those have of the keywords that it absorbs, in
+/// their order.
+#[derive(Drop)]
+pub struct Found {
+    pub own: EvaluationResult,
+    pub absorbed: Vec<AbsorbedResult>,
+}
+
+/// What a run has found so far, by its mode. An error or an evaluation alone is in a box, so that an answer is a few words long
+/// whatever its mode.
 #[derive(Drop)]
 pub enum Answer<'i> {
     Verdict(bool),
     First(Option<Box<Fault<'i>>>),
     All(Vec<Fault<'i>>),
-    Evaluation(EvaluationResult, Vec<AbsorbedResult>),
+    Evaluation(Box<Found>),
 }
 
 impl<'i> Answer<'i> {
     /// Returns what the keyword's own unit has by this answer, and what those have of the keywords that it absorbs. An answer of
-    /// another mode has its verdict alone.
-    pub fn into_evaluation(self, alloc: Global) -> (EvaluationResult, Vec<AbsorbedResult>)
-        ensures gives { (texts : Bool) → gives_with texts result.0 result.1.items ≡ (answer_of texts self.entry).gives }
+    /// another mode has its verdict alone. Fails only if memory cannot be allocated, which an evaluation asks for none of.
+    pub fn into_evaluation(self, alloc: Global) -> Result<Box<Found>, OutOfMemory>
+        ensures gives { IfOk result (λ found. (texts : Bool)
+            → gives_with texts found.value.own found.value.absorbed.items ≡ (answer_of texts self.entry).gives) }
     {
         let accepting = match self {
             Answer::Verdict(valid) => valid,
             Answer::First(first) => first.is_none(),
             Answer::All(faults) => faults.is_empty(),
-            Answer::Evaluation(own, absorbed) => return (own, absorbed),
+            Answer::Evaluation(found) => return Ok(found),
         };
-        if accepting {
-            (EvaluationResult::valid_empty(alloc), Vec::new(alloc))
+        let own = if accepting {
+            EvaluationResult::valid_empty(alloc)
         } else {
-            (
-                EvaluationResult::invalid_empty(alloc, Vec::new(alloc)),
-                Vec::new(alloc),
-            )
-        }
+            EvaluationResult::invalid_empty(alloc, Vec::new(alloc))
+        };
+        let absorbed = Vec::new(alloc);
+        Ok(Box::new(alloc, Found { own, absorbed })?)
     }
 }
 
@@ -181,6 +190,16 @@ pub trait Validate: Drop {
             (reply_of texts reply.entry) ≡ turn_of step) }
         ensures borrows { IfOk result (λ _. (root : Data) → All (BorrowsItsPlace root) (errors_in reply.entry)
             → All (PassesBorrowed root) (faults_in answer.old) → All (PassesBorrowed root) (faults_in answer.new)) };
+
+    /// Returns whether the keyword holds of the instance, where its run for the verdict asks nothing. `None` leaves it to a run, and is
+    /// always right. It allocates nothing.
+    fn is_valid_at_once(&self, instance: Instance<'_>) -> Option<bool>
+        ensures at_once { IfSome result (λ valid. (texts : Bool) → Tells texts (is_whole (shape self.now)) (subject_of instance.entry)
+            → EndsAtOnce (words texts) (shape self.now) (subject_of instance.entry) valid) }
+    {
+        let _ = instance;
+        None
+    }
 
     ghost speaks: { (texts : Bool) → (words texts).texts ≡ texts };
 

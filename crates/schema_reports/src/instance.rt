@@ -1,5 +1,5 @@
 //! Instances and their places.
-ghost use Rattle.std.specs.Prelude.{◌≡◌, List, [], ◌∷◌, ◌++◌, IfOk, option_map, Option, Some, None, map, IfSome, false};
+ghost use Rattle.std.specs.Prelude.{◌≡◌, List, [], ◌∷◌, ◌++◌, IfOk, option_map, Option, Some, None, map, IfSome, OnErr, false};
 ghost use Rattle.std.specs.Prelude.{fold, length, string_bytes};
 ghost use Rattle.schema_definitions.specs.Instance.{same_place, same_step, after_step, to_member, to_item, to_name};
 ghost use Rattle.std.specs.Cmp.{partial_equiv_from_equiv};
@@ -177,8 +177,8 @@ fn same_steps(a: &[InstanceStep<'_>], b: &[InstanceStep<'_>]) -> bool
     true
 }
 
-// Adds one step to a pointer.
-fn push_step(pointer: &mut Location, step: InstanceStep<'_>) -> Result<(), OutOfMemory>
+/// Adds one step to a pointer. A step to a name adds nothing. Fails only if memory cannot be allocated.
+pub fn push_step(pointer: &mut Location, step: InstanceStep<'_>) -> Result<(), OutOfMemory>
     ensures pushed { IfOk result (λ _. pointer.new ≡ pointer.old ++ step_text (step_of step.entry)) }
 {
     match step {
@@ -220,10 +220,28 @@ impl<'i> Place<'i> {
     pub fn below(&self, step: InstanceStep<'i>) -> Result<Place<'i>, OutOfMemory>
         ensures below { IfOk result (λ p. p ≡ self.now ++ step_of step.entry ∷ []) }
     {
-        let mut steps = Vec::with_capacity(*self.steps.allocator(), self.steps.len() + 1)?;
+        let mut place = self.with_room(1)?;
+        place.push(step)?;
+        Ok(place)
+    }
+
+    /// Returns the same place, with room for so many steps more. Fails only if memory cannot be allocated.
+    pub fn with_room(&self, more: usize) -> Result<Place<'i>, OutOfMemory>
+        ensures same { IfOk result (λ p. p ≡ self.now) }
+    {
+        let count = self.steps.len().saturating_add(more);
+        let mut steps = Vec::with_capacity(*self.steps.allocator(), count)?;
         steps.extend_from_slice(self.steps.as_slice())?;
-        steps.push(step)?;
         Ok(Place { steps })
+    }
+
+    /// Goes one step further down. Fails only if memory cannot be allocated, and then the place is as it was.
+    pub fn push(&mut self, step: InstanceStep<'i>) -> Result<(), OutOfMemory>
+        ensures pushed { IfOk result (λ _. self.new ≡ self.old ++ step_of step.entry ∷ []) }
+        ensures unchanged { OnErr result (self.new ≡ self.old) }
+    {
+        self.steps.push(step)?;
+        Ok(())
     }
 
     /// Returns the JSON Pointer of the place. The place of a name has the pointer of its object. Fails only if memory cannot be
@@ -232,10 +250,18 @@ impl<'i> Place<'i> {
         ensures pointer { IfOk result (λ l. l ≡ pointer_to self.now) }
     {
         let mut location = Location::new(alloc);
-        for step in self.steps.iter() {
-            push_step(&mut location, *step)?;
-        }
+        self.push_pointer(&mut location)?;
         Ok(location)
+    }
+
+    /// Appends the JSON Pointer of the place to a pointer. Fails only if memory cannot be allocated.
+    pub fn push_pointer(&self, pointer: &mut Location) -> Result<(), OutOfMemory>
+        ensures pushed { IfOk result (λ _. pointer.new ≡ pointer.old ++ pointer_to self.now) }
+    {
+        for step in self.steps.iter() {
+            push_step(pointer, *step)?;
+        }
+        Ok(())
     }
 }
 

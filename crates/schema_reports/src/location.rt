@@ -63,6 +63,14 @@ fn push_decimal(text: &mut String, index: usize) -> Result<(), OutOfMemory>
     write!(text, "{index}")
 }
 
+// How many bytes a segment takes at least, with the `/` before it; an index takes no more than so many.
+fn room_for(segment: LocationSegment<'_>) -> usize {
+    match segment {
+        LocationSegment::Property(name) => name.len().saturating_add(1),
+        LocationSegment::Index(_) => 21,
+    }
+}
+
 impl Location {
     /// Returns the pointer of the root, which is empty. It allocates nothing.
     pub fn new(alloc: Global) -> Location
@@ -83,6 +91,15 @@ impl Location {
         })
     }
 
+    /// Returns the pointer of the root, with room for a text of so many bytes. Fails only if memory cannot be allocated.
+    pub fn with_capacity(alloc: Global, bytes: usize) -> Result<Location, OutOfMemory>
+        ensures empty { IfOk result (λ l. l ≡ []) }
+    {
+        Ok(Location {
+            text: String::with_capacity(alloc, bytes)?,
+        })
+    }
+
     /// Returns the pointer as a string slice.
     pub fn as_str(&self) -> &str
         ensures text { result.now ≡ self.now }
@@ -95,13 +112,23 @@ impl Location {
     pub fn join(&self, segment: LocationSegment<'_>) -> Result<Location, OutOfMemory>
         ensures joined { IfOk result (λ l. l ≡ self.now ++ segment_text (segment_of segment.entry)) }
     {
-        let mut location = self.clone()?;
+        let mut location = self.with_room(room_for(segment))?;
         location.push(segment)?;
         Ok(location)
     }
 
+    // A copy with room for so many bytes more.
+    fn with_room(&self, more: usize) -> Result<Location, OutOfMemory>
+        ensures same { IfOk result (λ l. l ≡ self.now) }
+    {
+        let bytes = self.text.len().saturating_add(more);
+        let mut text = String::with_capacity(*self.text.allocator(), bytes)?;
+        text.push_str(self.text.as_str())?;
+        Ok(Location { text })
+    }
+
     /// Appends one segment in place, as `join` writes it. On `Err` a part of the segment may have been written.
-    pub(crate) fn push(&mut self, segment: LocationSegment<'_>) -> Result<(), OutOfMemory>
+    pub fn push(&mut self, segment: LocationSegment<'_>) -> Result<(), OutOfMemory>
         ensures pushed { IfOk result (λ _. self.new ≡ self.old ++ segment_text (segment_of segment.entry)) }
     {
         self.text.push('/')?;
@@ -111,13 +138,20 @@ impl Location {
         }
     }
 
+    /// Appends a text in place, which must already be escaped: it is taken as it is. Fails only if memory cannot be allocated.
+    pub fn push_escaped(&mut self, text: &str) -> Result<(), OutOfMemory>
+        ensures pushed { IfOk result (λ _. self.new ≡ self.old ++ text.now) }
+    {
+        self.text.push_str(text)
+    }
+
     /// Returns the pointer followed by another one. Fails only if memory cannot be allocated.
     pub fn append(&self, rest: &Location) -> Result<Location, OutOfMemory>
         ensures appended { IfOk result (λ l. l ≡ self.now ++ rest.now) }
     {
-        let mut text = self.text.clone()?;
-        text.push_str(rest.text.as_str())?;
-        Ok(Location { text })
+        let mut whole = self.with_room(rest.text.len())?;
+        whole.push_escaped(rest.text.as_str())?;
+        Ok(whole)
     }
 }
 

@@ -1,52 +1,36 @@
-//! Evaluations of nodes over instances. What a keyword asks for beside units is asked of the runs.
-ghost use Rattle.std.specs.Prelude.{◌≡◌, ◌<◌, [], IfOk, map, option_map, string_bytes, true, false};
+//! Evaluations of nodes over instances.
+ghost use Rattle.std.specs.Prelude.{◌≤◌, IfOk, map, option_map, string_bytes};
 ghost use Rattle.schema_reports.specs.InstanceViews.{subject_of};
-ghost use Rattle.schema_definitions.specs.Keywords.{for_units};
 ghost use Rattle.schema_definitions.specs.Laws.{IsPresent, steps_below};
-ghost use Rattle.schema_parts.specs.KeywordViews.{below_of, mode_of};
+ghost use Rattle.schema_parts.specs.KeywordViews.{below_of};
 ghost use Rattle.schema_nodes.specs.NodeTable.{numbered, shaped_form, shaped_part};
 ghost use Rattle.schema_parts.specs.EdgeViews.{edge_of};
 ghost use Rattle.schema_nodes.specs.NodeViews.{entry_of, form_of};
 ghost use Rattle.schema_node.specs.NodeRuns.{HasForm, HasParts, HasChildren};
 ghost use Rattle.schema_node.specs.RunStates.{asking, form_at_work, setting};
-ghost use Rattle.schema_node.specs.RunStates.{HasBegun, Keeps, RunBorrows, StaysRight};
+ghost use Rattle.schema_node.specs.RunStates.{Keeps, StaysRight};
 ghost use Rattle.schema_node.specs.RunStates.{MeetsChild, MeetsEdge, MeetsForm, MeetsNode, MeetsParts};
-ghost use Rattle.schema_node.specs.UnitStates.{MayAsk, MayEvaluate};
-ghost use Rattle.schema_node.specs.UnitStates.{ChildGives, ChildTells, EdgeGives, FindsUnits, FormGives, NodeGives, PartsGive};
+ghost use Rattle.schema_node.specs.UnitStates.{ChildGives, EdgeGives, FormGives, MayEvaluate, NodeGives, PartsGive};
 
 use crate::node::evaluation_place::EvaluationPlace;
-use crate::node::faults::begun;
-use crate::node::matches::asked_match;
 use crate::node::question::{Engine, NamedKeyword, Question};
-use crate::node::run::{one_below, run_child};
+use crate::node::run::one_below;
+use crate::node::turns::keyword_answer;
 use crate::node::units::{
     accepting_unit, entries_unit, refusing_unit, unasked_unit, units_of_keyword, units_of_reference,
 };
 use schema_contexts::marks::child_edge;
 use schema_contexts::validation::ValidationContext;
 use schema_nodes::node::{Entry, EntryForm, NodeForm};
-use schema_parts::keyword::{Answer, Below, Mode, Reply, Step, Validate};
+use schema_parts::keyword::{Below, Validate};
 use schema_parts::matcher::Matcher;
 use schema_parts::numbers::{Edge, SchemaNode};
 use schema_reports::evaluation::{ChildList, EvaluationNode};
 use schema_reports::evaluation_order::{EntryUnits, UnitsInOrder};
 use schema_reports::location::OutOfMemory;
 
-// Whether units are wanted.
-fn wants_units(mode: Mode) -> bool
-    ensures units { result ≡ true → mode_of mode ≡ for_units }
-    ensures less { result ≡ false → ¬ (mode_of mode ≡ for_units) }
-{
-    match mode {
-        Mode::Verdict => false,
-        Mode::First => false,
-        Mode::All => false,
-        Mode::Evaluate => true,
-    }
-}
-
 // The unit of a node at a place.
-#[cycle(evaluate)]
+#[cycle(run)]
 pub(crate) fn evaluate_node<'i, K: Validate, M: Matcher>(
     engine: &Engine<'_, K, M>,
     node: SchemaNode,
@@ -56,6 +40,7 @@ pub(crate) fn evaluate_node<'i, K: Validate, M: Matcher>(
     requires may { MayEvaluate (setting K.words K.is_whole K.shape M.matching engine.now) (asking question.now)
         context.old node.0 }
     ensures keeps { IfOk result (λ _. Keeps context.old context.new) }
+    ensures counts { IfOk result (λ _. context.old.visits ≤ context.new.visits) }
     ensures gives { IfOk result (λ u. NodeGives (setting K.words K.is_whole K.shape M.matching engine.now) (asking question.now)
         context.old node.0 u) }
     ensures meets { IfOk result (λ _. MeetsNode (setting K.words K.is_whole K.shape M.matching engine.now) (asking question.now)
@@ -84,7 +69,7 @@ pub(crate) fn evaluate_node<'i, K: Validate, M: Matcher>(
 }
 
 // The units of the entries, in their order. Each entry is asked, and none for its verdict first.
-#[cycle(evaluate)]
+#[cycle(run)]
 fn evaluate_entries<'i, K: Validate, M: Matcher>(
     engine: &Engine<'_, K, M>,
     node: SchemaNode,
@@ -96,6 +81,7 @@ fn evaluate_entries<'i, K: Validate, M: Matcher>(
         context.old node.0 }
     requires parts { HasParts (numbered K.shape engine.now.nodes.now) node.0 (map (shaped_part K.shape) (map entry_of entries.now)) }
     ensures keeps { IfOk result (λ _. Keeps context.old context.new) }
+    ensures counts { IfOk result (λ _. context.old.visits ≤ context.new.visits) }
     ensures gives { IfOk result (λ u. PartsGive (setting K.words K.is_whole K.shape M.matching engine.now) (asking question.now)
         context.old node.0 (map (shaped_part K.shape) (map entry_of entries.now)) u) }
     ensures meets { IfOk result (λ _. MeetsParts (setting K.words K.is_whole K.shape M.matching engine.now) (asking question.now)
@@ -112,7 +98,7 @@ fn evaluate_entries<'i, K: Validate, M: Matcher>(
 }
 
 // The units of an entry: those of its keyword, or of the node that its reference leads to.
-#[cycle(evaluate)]
+#[cycle(run)]
 fn evaluate_entry<'i, K: Validate, M: Matcher>(
     engine: &Engine<'_, K, M>,
     node: SchemaNode,
@@ -124,6 +110,7 @@ fn evaluate_entry<'i, K: Validate, M: Matcher>(
         context.old node.0 }
     requires form { HasForm (numbered K.shape engine.now.nodes.now) node.0 (shaped_form K.shape (form_of entry.now.form)) }
     ensures keeps { IfOk result (λ _. Keeps context.old context.new) }
+    ensures counts { IfOk result (λ _. context.old.visits ≤ context.new.visits) }
     ensures gives { IfOk result (λ u. FormGives (setting K.words K.is_whole K.shape M.matching engine.now) (asking question.now)
         context.old node.0 (string_bytes entry.now.name) (shaped_form K.shape (form_of entry.now.form)) u) }
     ensures meets { IfOk result (λ _. MeetsForm (setting K.words K.is_whole K.shape M.matching engine.now) (asking question.now)
@@ -154,8 +141,8 @@ fn evaluate_entry<'i, K: Validate, M: Matcher>(
     }
 }
 
-// The units of a keyword. Its run begins with no marks; those of the run that asks are set aside until it has ended.
-#[cycle(evaluate)]
+// The units of a keyword, by its answer.
+#[cycle(run)]
 fn evaluate_keyword<'i, K: Validate, M: Matcher>(
     engine: &Engine<'_, K, M>,
     node: SchemaNode,
@@ -167,6 +154,7 @@ fn evaluate_keyword<'i, K: Validate, M: Matcher>(
         context.old node.0 }
     requires form { HasForm (numbered K.shape engine.now.nodes.now) node.0 (form_at_work K.shape keyword.now) }
     ensures keeps { IfOk result (λ _. Keeps context.old context.new) }
+    ensures counts { IfOk result (λ _. context.old.visits ≤ context.new.visits) }
     ensures gives { IfOk result (λ u. FormGives (setting K.words K.is_whole K.shape M.matching engine.now) (asking question.now)
         context.old node.0 (string_bytes keyword.now.name.now) (form_at_work K.shape keyword.now) u) }
     ensures meets { IfOk result (λ _. MeetsForm (setting K.words K.is_whole K.shape M.matching engine.now) (asking question.now)
@@ -174,21 +162,7 @@ fn evaluate_keyword<'i, K: Validate, M: Matcher>(
     ensures stays { IfOk result (λ _. StaysRight (setting K.words K.is_whole K.shape M.matching engine.now) (asking question.now)
         context.old context.new) }
 {
-    let mut run = keyword
-        .keyword
-        .begin(engine.alloc, question.instance, question.mode)?;
-    let mut answer = begun(engine.alloc, question.mode);
-    let aside = context.set_aside(engine.alloc);
-    evaluate_turns(
-        engine,
-        node,
-        keyword,
-        question,
-        &mut run,
-        &mut answer,
-        context,
-    )?;
-    context.put_back(aside);
+    let answer = keyword_answer(engine, node, keyword, question, context)?;
     units_of_keyword(
         engine.alloc,
         engine.nodes.node(node),
@@ -199,112 +173,9 @@ fn evaluate_keyword<'i, K: Validate, M: Matcher>(
     )
 }
 
-// The turns of a keyword's run that has begun, and its answer once they are done.
-#[cycle(evaluate)]
-fn evaluate_turns<'i, K: Validate, M: Matcher>(
-    engine: &Engine<'_, K, M>,
-    node: SchemaNode,
-    keyword: &NamedKeyword<'_, K>,
-    question: &Question<'_, 'i>,
-    run: &mut K::Run,
-    answer: &mut Answer<'i>,
-    context: &mut ValidationContext<'i>,
-) -> Result<(), OutOfMemory>
-    requires may { MayEvaluate (setting K.words K.is_whole K.shape M.matching engine.now) (asking question.now)
-        context.old node.0 }
-    requires form { HasForm (numbered K.shape engine.now.nodes.now) node.0 (form_at_work K.shape keyword.now) }
-    requires begun { HasBegun (setting K.words K.is_whole K.shape M.matching engine.now) (asking question.now)
-        (K.shape keyword.now.keyword.now) run.old answer.old }
-    requires no_marks { context.old.marking ≡ [] }
-    ensures kept { IfOk result (λ _. context.new.in_progress ≡ context.old.in_progress) }
-    ensures assumes { IfOk result (λ _. context.new.remembered.assumptions ≡ context.old.remembered.assumptions) }
-    ensures finds { IfOk result (λ _. FindsUnits (setting K.words K.is_whole K.shape M.matching engine.now) (asking question.now)
-        context.old node.0 (map (option_map edge_of) keyword.now.children.now) (K.shape keyword.now.keyword.now) answer.new) }
-    ensures meets { IfOk result (λ _. MeetsForm (setting K.words K.is_whole K.shape M.matching engine.now) (asking question.now)
-        context.old context.new node.0 (string_bytes keyword.now.name.now) (form_at_work K.shape keyword.now)) }
-    ensures stays { IfOk result (λ _. StaysRight (setting K.words K.is_whole K.shape M.matching engine.now) (asking question.now)
-        context.old context.new) }
-{
-    let children = keyword.children;
-    let mut reply = Reply::Nothing;
-    'turns: loop {
-        match keyword
-            .keyword
-            .turn(engine.alloc, run, question.instance, reply, answer)?
-        {
-            Step::Ask(child, below, wanted) => {
-                let asked = Question {
-                    instance: question.instance,
-                    place: question.place,
-                    path: question.path,
-                    mode: wanted,
-                };
-                reply = ask_child(engine, node, children, child, below, &asked, context)?;
-            }
-            Step::Done => return Ok(()),
-            Step::Match(pattern, subject, point) => {
-                let matches = asked_match(
-                    engine,
-                    engine.nodes.node(node),
-                    keyword.name,
-                    question,
-                    pattern,
-                    subject,
-                    point,
-                    context,
-                )?;
-                reply = Reply::Truth(matches);
-            }
-            Step::Ecma(text) => {
-                let valid = context.is_valid_ecma_regex(engine.alloc, engine.matcher, text)?;
-                reply = Reply::Truth(valid);
-            }
-            Step::Mark(marked) => {
-                let held = context.enter_marking(children, marked)?;
-                reply = Reply::Truth(held);
-            }
-            Step::Unmark => {
-                context.exit_marking();
-                reply = Reply::Nothing;
-            }
-        }
-    }
-}
-
-// The reply of a keyword's child in the mode that it is asked in: its unit, or what a run says.
-#[cycle(evaluate)]
-fn ask_child<'i, K: Validate, M: Matcher>(
-    engine: &Engine<'_, K, M>,
-    node: SchemaNode,
-    children: &[Option<Edge>],
-    child: usize,
-    below: Below<'_>,
-    question: &Question<'_, 'i>,
-    context: &mut ValidationContext<'i>,
-) -> Result<Reply<'i>, OutOfMemory>
-    requires may { MayAsk (setting K.words K.is_whole K.shape M.matching engine.now) (asking question.now)
-        context.old node.0 }
-    requires children { HasChildren (numbered K.shape engine.now.nodes.now) node.0 (map (option_map edge_of) children.now) }
-    requires present { IsPresent (subject_of question.now.instance) (steps_below (below_of below)) }
-    ensures keeps { IfOk result (λ _. Keeps context.old context.new) }
-    ensures gives { IfOk result (λ u. ChildTells (setting K.words K.is_whole K.shape M.matching engine.now) (asking question.now)
-        context.old node.0 (map (option_map edge_of) children.now) (record { child = child; below = below_of below.entry }) u) }
-    ensures meets { IfOk result (λ _. MeetsChild (setting K.words K.is_whole K.shape M.matching engine.now) (asking question.now)
-        context.old context.new node.0 (map (option_map edge_of) children.now) (record { child = child; below = below_of below.entry })) }
-    ensures stays { IfOk result (λ _. StaysRight (setting K.words K.is_whole K.shape M.matching engine.now) (asking question.now)
-        context.old context.new) }
-    ensures borrows { IfOk result (λ r. RunBorrows (asking question.now) r) }
-{
-    if wants_units(question.mode) {
-        let unit = evaluate_child(engine, node, children, child, below, question, context)?;
-        return Ok(Reply::Unit(Box::new(engine.alloc, unit)?));
-    }
-    run_child(engine, node, children, child, below, question, context)
-}
-
 // The unit of a keyword's child, here or one step below; an empty one where its request got none.
-#[cycle(evaluate)]
-fn evaluate_child<'i, K: Validate, M: Matcher>(
+#[cycle(run)]
+pub(crate) fn evaluate_child<'i, K: Validate, M: Matcher>(
     engine: &Engine<'_, K, M>,
     node: SchemaNode,
     children: &[Option<Edge>],
@@ -318,6 +189,7 @@ fn evaluate_child<'i, K: Validate, M: Matcher>(
     requires children { HasChildren (numbered K.shape engine.now.nodes.now) node.0 (map (option_map edge_of) children.now) }
     requires present { IsPresent (subject_of question.now.instance) (steps_below (below_of below)) }
     ensures keeps { IfOk result (λ _. Keeps context.old context.new) }
+    ensures counts { IfOk result (λ _. context.old.visits ≤ context.new.visits) }
     ensures gives { IfOk result (λ u. ChildGives (setting K.words K.is_whole K.shape M.matching engine.now) (asking question.now)
         context.old node.0 (map (option_map edge_of) children.now) (record { child = child; below = below_of below.entry }) u) }
     ensures meets { IfOk result (λ _. MeetsChild (setting K.words K.is_whole K.shape M.matching engine.now) (asking question.now)
@@ -344,7 +216,7 @@ fn evaluate_child<'i, K: Validate, M: Matcher>(
 }
 
 // The unit of the node that an edge leads to; an empty one where the edge is guarded and the pair is in progress.
-#[cycle(evaluate)]
+#[cycle(run)]
 fn evaluate_edge<'i, K: Validate, M: Matcher>(
     engine: &Engine<'_, K, M>,
     edge: &Edge,
@@ -354,6 +226,7 @@ fn evaluate_edge<'i, K: Validate, M: Matcher>(
     requires may { MayEvaluate (setting K.words K.is_whole K.shape M.matching engine.now) (asking question.now)
         context.old edge.now.node.0 }
     ensures keeps { IfOk result (λ _. Keeps context.old context.new) }
+    ensures counts { IfOk result (λ _. context.old.visits ≤ context.new.visits) }
     ensures gives { IfOk result (λ u. EdgeGives (setting K.words K.is_whole K.shape M.matching engine.now) (asking question.now)
         context.old (edge_of edge.now) u) }
     ensures meets { IfOk result (λ _. MeetsEdge (setting K.words K.is_whole K.shape M.matching engine.now) (asking question.now)

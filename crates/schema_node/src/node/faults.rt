@@ -23,25 +23,28 @@ use crate::node::spots::{after, place_below};
 use schema_contexts::evaluation_path::path_from;
 use schema_contexts::validation::ValidationContext;
 use schema_nodes::node::Node;
-use schema_parts::keyword::{Answer, Fault, Mode, OwnError, Reply};
+use schema_parts::keyword::{Answer, Fault, Found, Mode, OwnError, Reply};
 use schema_reports::evaluation_result::{EvaluationResult, accepts};
 use schema_reports::instance::{Instance, InstanceStep, Place};
 use schema_reports::location::{Location, OutOfMemory};
 use schema_reports::reports::ValidationError;
 use std::alloc::Global;
 
-/// An answer that has found nothing yet.
-pub fn begun<'i>(alloc: Global, mode: Mode) -> Answer<'i>
-    ensures fresh { (texts : Bool) → answer_of texts result ≡ fresh (mode_of mode) }
-    ensures no_faults { faults_in result ≡ [] }
-    ensures form { mode_in result ≡ mode_of mode }
+/// An answer that has found nothing yet. Only an evaluation's takes memory.
+pub fn begun<'i>(alloc: Global, mode: Mode) -> Result<Answer<'i>, OutOfMemory>
+    ensures fresh { IfOk result (λ a. (texts : Bool) → answer_of texts a ≡ fresh (mode_of mode)) }
+    ensures no_faults { IfOk result (λ a. faults_in a ≡ []) }
+    ensures form { IfOk result (λ a. mode_in a ≡ mode_of mode) }
 {
     match mode {
-        Mode::Verdict => Answer::Verdict(true),
-        Mode::First => Answer::First(None),
-        Mode::All => Answer::All(Vec::new(alloc)),
+        Mode::Verdict => Ok(Answer::Verdict(true)),
+        Mode::First => Ok(Answer::First(None)),
+        Mode::All => Ok(Answer::All(Vec::new(alloc))),
         Mode::Evaluate => {
-            Answer::Evaluation(EvaluationResult::valid_empty(alloc), Vec::new(alloc))
+            let own = EvaluationResult::valid_empty(alloc);
+            let absorbed = Vec::new(alloc);
+            let found = Box::new(alloc, Found { own, absorbed })?;
+            Ok(Answer::Evaluation(found))
         }
     }
 }
@@ -196,7 +199,7 @@ fn is_accepting(answer: Answer<'_>) -> bool
         Answer::Verdict(yes) => yes,
         Answer::First(found) => found.is_none(),
         Answer::All(faults) => faults.is_empty(),
-        Answer::Evaluation(own, absorbed) => accepts(&own, absorbed.as_slice()),
+        Answer::Evaluation(found) => accepts(&found.own, found.absorbed.as_slice()),
     }
 }
 
@@ -215,7 +218,7 @@ fn all_faults<'i>(alloc: Global, answer: Answer<'i>) -> Result<Vec<Fault<'i>>, O
             Ok(faults)
         }
         Answer::All(faults) => Ok(faults),
-        Answer::Evaluation(_, _) => Ok(Vec::new(alloc)),
+        Answer::Evaluation(_) => Ok(Vec::new(alloc)),
     }
 }
 
@@ -236,7 +239,7 @@ fn first_fault<'i>(answer: Answer<'i>) -> Option<Fault<'i>>
                 Some(faults.remove(0))
             }
         }
-        Answer::Evaluation(_, _) => None,
+        Answer::Evaluation(_) => None,
     }
 }
 

@@ -1,33 +1,33 @@
 //! Runs of nodes over instances.
-ghost use Rattle.std.specs.Prelude.{◌≡◌, ◌<◌, ◌≤◌, [], IfOk, true, false, Some, MatchOption};
+ghost use Rattle.std.specs.Prelude.{◌≡◌, ◌<◌, ◌≤◌, Bool, IfOk, IfSome, true, false, Some, MatchOption};
 ghost use Rattle.std.specs.Prelude.{map, option_map, string_bytes};
 ghost use Rattle.schema_definitions.specs.Instance.{after_step};
 ghost use Rattle.schema_reports.specs.InstanceViews.{subject_of, step_of};
 ghost use Rattle.schema_definitions.specs.Keywords.{down, here, for_units, for_verdict};
 ghost use Rattle.schema_definitions.specs.Laws.{IsPresent, steps_below};
-ghost use Rattle.schema_parts.specs.FaultViews.{faults_in};
-ghost use Rattle.schema_parts.specs.KeywordViews.{below_of, mode_of};
+ghost use Rattle.schema_parts.specs.AtOnce.{EndsAtOnce};
+ghost use Rattle.schema_parts.specs.KeywordViews.{below_of, mode_of, Tells};
 ghost use Rattle.schema_nodes.specs.NodeTable.{numbered, shaped_form, shaped_part};
 ghost use Rattle.schema_parts.specs.EdgeViews.{edge_of};
 ghost use Rattle.schema_nodes.specs.NodeViews.{entry_of, form_of};
 ghost use Rattle.schema_node.specs.NodeRuns.{HasForm, HasParts, HasChildren};
 ghost use Rattle.schema_node.specs.RunStates.{asking, form_at_work, setting};
-ghost use Rattle.schema_node.specs.RunStates.{FindsRightly, HasBegun, Keeps, MayRun, PassesItsOwn};
+ghost use Rattle.schema_node.specs.RunStates.{Keeps, MayRun};
 ghost use Rattle.schema_node.specs.RunStates.{ChildSays, EdgeSays, FormSays, NodeSays, PartsSay};
 ghost use Rattle.schema_node.specs.RunStates.{MeetsChild, MeetsEdge, MeetsEntry, MeetsForm, MeetsNode, MeetsParts};
 ghost use Rattle.schema_node.specs.RunStates.{EdgeRemembers, FormRemembers, NodeRemembers, PartsRemember, StaysRight};
 
 use crate::node::evaluation_place::EvaluationPlace;
-use crate::node::faults::{begun, finished};
-use crate::node::matches::asked_match;
+use crate::node::faults::finished;
 use crate::node::question::{Engine, NamedKeyword, Question};
 use crate::node::remembered::{begin_visit, kept_reply, remembered_verdict};
 use crate::node::replies::{accepted, is_settled, is_yes, joined, refused, stamped_reply};
 use crate::node::spots::after;
+use crate::node::turns::keyword_answer;
 use schema_contexts::marks::child_edge;
 use schema_contexts::validation::ValidationContext;
 use schema_nodes::node::{Entry, EntryForm, NodeForm};
-use schema_parts::keyword::{Answer, Below, Mode, Reply, Step, Validate};
+use schema_parts::keyword::{Below, Mode, Reply, Validate};
 use schema_parts::matcher::Matcher;
 use schema_parts::numbers::{Edge, SchemaNode};
 use schema_reports::instance::{Instance, InstanceStep};
@@ -236,7 +236,25 @@ fn run_form<'i, K: Validate, M: Matcher>(
     }
 }
 
-// The reply of a keyword. Its run begins with no marks; those of the run that asks are set aside until it has ended.
+// What a keyword tells at once of the instance, where the verdict is wanted.
+fn verdict_at_once<K: Validate>(
+    keyword: &NamedKeyword<'_, K>,
+    question: &Question<'_, '_>,
+) -> Option<bool>
+    ensures verdict { IfSome result (λ _. mode_of question.now.mode ≡ for_verdict) }
+    ensures at_once { IfSome result (λ valid. (texts : Bool)
+        → Tells texts (K.is_whole (K.shape keyword.now.keyword.now)) (subject_of question.now.instance)
+        → EndsAtOnce (K.words texts) (K.shape keyword.now.keyword.now) (subject_of question.now.instance) valid) }
+{
+    match question.mode {
+        Mode::Verdict => keyword.keyword.is_valid_at_once(question.instance),
+        Mode::First => None,
+        Mode::All => None,
+        Mode::Evaluate => None,
+    }
+}
+
+// The reply of a keyword, by its answer. One that tells its verdict at once takes no run.
 #[cycle(run)]
 fn run_keyword<'i, K: Validate, M: Matcher>(
     engine: &Engine<'_, K, M>,
@@ -259,21 +277,10 @@ fn run_keyword<'i, K: Validate, M: Matcher>(
     ensures stays { IfOk result (λ _. StaysRight
         (setting K.words K.is_whole K.shape M.matching engine.now) (asking question.now) context.old context.new) }
 {
-    let mut run = keyword
-        .keyword
-        .begin(engine.alloc, question.instance, question.mode)?;
-    let mut answer = begun(engine.alloc, question.mode);
-    let aside = context.set_aside(engine.alloc);
-    run_turns(
-        engine,
-        node,
-        keyword,
-        question,
-        &mut run,
-        &mut answer,
-        context,
-    )?;
-    context.put_back(aside);
+    if let Some(valid) = verdict_at_once(keyword, question) {
+        return Ok(Reply::Truth(valid));
+    }
+    let answer = keyword_answer(engine, node, keyword, question, context)?;
     finished(
         engine.alloc,
         engine.nodes.node(node),
@@ -282,83 +289,6 @@ fn run_keyword<'i, K: Validate, M: Matcher>(
         answer,
         context,
     )
-}
-
-// The turns of a keyword's run that has begun, and its answer once they are done.
-#[cycle(run)]
-fn run_turns<'i, K: Validate, M: Matcher>(
-    engine: &Engine<'_, K, M>,
-    node: SchemaNode,
-    keyword: &NamedKeyword<'_, K>,
-    question: &Question<'_, 'i>,
-    run: &mut K::Run,
-    answer: &mut Answer<'i>,
-    context: &mut ValidationContext<'i>,
-) -> Result<(), OutOfMemory>
-    requires may { MayRun (setting K.words K.is_whole K.shape M.matching engine.now) (asking question.now)
-        context.old node.0 }
-    requires form { HasForm (numbered K.shape engine.now.nodes.now) node.0 (form_at_work K.shape keyword.now) }
-    requires begun { HasBegun (setting K.words K.is_whole K.shape M.matching engine.now) (asking question.now)
-        (K.shape keyword.now.keyword.now) run.old answer.old }
-    requires no_faults { faults_in answer.old ≡ [] }
-    requires no_marks { context.old.marking ≡ [] }
-    ensures kept { IfOk result (λ _. context.new.in_progress ≡ context.old.in_progress) }
-    ensures assumes { IfOk result (λ _. context.new.remembered.assumptions ≡ context.old.remembered.assumptions) }
-    ensures counts { IfOk result (λ _. context.old.visits ≤ context.new.visits) }
-    ensures right { IfOk result (λ _. FindsRightly
-        (setting K.words K.is_whole K.shape M.matching engine.now) (asking question.now)
-        context.old node.0 (map (option_map edge_of) keyword.now.children.now) (K.shape keyword.now.keyword.now) answer.new) }
-    ensures passes { IfOk result (λ _. PassesItsOwn (asking question.now) answer.new) }
-    ensures meets { IfOk result (λ _. MeetsForm
-        (setting K.words K.is_whole K.shape M.matching engine.now) (asking question.now)
-        context.old context.new node.0 (string_bytes keyword.now.name.now) (form_at_work K.shape keyword.now)) }
-    ensures stays { IfOk result (λ _. StaysRight
-        (setting K.words K.is_whole K.shape M.matching engine.now) (asking question.now) context.old context.new) }
-{
-    let children = keyword.children;
-    let mut reply = Reply::Nothing;
-    'turns: loop {
-        match keyword
-            .keyword
-            .turn(engine.alloc, run, question.instance, reply, answer)?
-        {
-            Step::Ask(child, below, wanted) => {
-                let asked = Question {
-                    instance: question.instance,
-                    place: question.place,
-                    path: question.path,
-                    mode: wanted,
-                };
-                reply = run_child(engine, node, children, child, below, &asked, context)?;
-            }
-            Step::Done => return Ok(()),
-            Step::Match(pattern, subject, point) => {
-                let matches = asked_match(
-                    engine,
-                    engine.nodes.node(node),
-                    keyword.name,
-                    question,
-                    pattern,
-                    subject,
-                    point,
-                    context,
-                )?;
-                reply = Reply::Truth(matches);
-            }
-            Step::Ecma(text) => {
-                let valid = context.is_valid_ecma_regex(engine.alloc, engine.matcher, text)?;
-                reply = Reply::Truth(valid);
-            }
-            Step::Mark(marked) => {
-                let held = context.enter_marking(children, marked)?;
-                reply = Reply::Truth(held);
-            }
-            Step::Unmark => {
-                context.exit_marking();
-                reply = Reply::Nothing;
-            }
-        }
-    }
 }
 
 // The reply of a keyword's child, here or one step below; yes where its request got none.

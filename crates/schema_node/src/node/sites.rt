@@ -1,9 +1,12 @@
 //! Where a match is asked for.
-ghost use Rattle.std.specs.Prelude.{◌≡◌, IfOk, None, map, option_map, string_bytes};
+ghost use Rattle.std.specs.Prelude.{◌≡◌, ◌++◌, IfOk, None, map, option_map, string_bytes};
 ghost use Rattle.schema_reports.specs.InstanceViews.{step_of, subject_of};
 ghost use Rattle.schema_definitions.specs.Laws.{IsPresent};
+ghost use Rattle.schema_definitions.specs.Pointer.{joined};
 ghost use Rattle.schema_definitions.specs.Runs.{site_at};
 ghost use Rattle.schema_parts.specs.KeywordViews.{point_of, spot_of};
+ghost use Rattle.schema_contexts.specs.EvaluationPaths.{path_of};
+ghost use Rattle.schema_node.specs.EvaluationPlaces.{steps_to};
 ghost use Rattle.schema_node.specs.RunStates.{asking, where_asked};
 ghost use Rattle.schema_nodes.specs.NodeViews.{node_of};
 
@@ -13,9 +16,38 @@ use schema_contexts::evaluation_path::path_from;
 use schema_matches::site::MatchSite;
 use schema_nodes::node::Node;
 use schema_parts::keyword::{MatchPoint, Spot};
-use schema_reports::instance::InstanceStep;
-use schema_reports::location::OutOfMemory;
+use schema_reports::instance::{InstanceStep, Place};
+use schema_reports::location::{Location, OutOfMemory};
 use std::alloc::Global;
+
+// The evaluation path from a keyword of this name on, and the place some steps below its own.
+fn spot_place<'i>(
+    alloc: Global,
+    question: &Question<'_, 'i>,
+    name: &str,
+    path: &str,
+    below: &[InstanceStep<'_>],
+) -> Result<(Location, Place<'i>), OutOfMemory>
+    requires present { IsPresent (subject_of question.now.instance) (map step_of below.now) }
+    ensures path { IfOk result (λ r. r.0 ≡ joined (path_of question.now.path.now) name.now ++ path.now) }
+    ensures place { IfOk result (λ r. r.1 ≡ steps_to question.now.place.now ++ map step_of below.now) }
+{
+    let place = place_inside(alloc, question, below)?;
+    Ok((question.path.of_keyword(alloc, name, path)?, place))
+}
+
+// The place some steps below the question's own, by the instance's own names.
+fn place_inside<'i>(
+    alloc: Global,
+    question: &Question<'_, 'i>,
+    below: &[InstanceStep<'_>],
+) -> Result<Place<'i>, OutOfMemory>
+    requires present { IsPresent (subject_of question.now.instance) (map step_of below.now) }
+    ensures place { IfOk result (λ p. p ≡ steps_to question.now.place.now ++ map step_of below.now) }
+{
+    let own = own_steps(alloc, question.instance, below)?;
+    place_below(question.place, own.as_slice())
+}
 
 // The site at a path from a keyword of this name on and steps below its place, without a pattern.
 fn bare_site<'i, K>(
@@ -36,13 +68,11 @@ fn bare_site<'i, K>(
         })) }
 {
     let schema_path = path_from(alloc, &node.location, name, path)?;
-    if located {
-        let evaluation_path = path_from(alloc, &question.path.made(alloc)?, name, path)?;
-        let own = own_steps(alloc, question.instance, below)?;
-        let place = place_below(question.place, own.as_slice())?;
-        return Ok(MatchSite::located(schema_path, evaluation_path, place));
+    if !located {
+        return Ok(MatchSite::schema(schema_path));
     }
-    Ok(MatchSite::schema(schema_path))
+    let (evaluation_path, place) = spot_place(alloc, question, name, path, below)?;
+    Ok(MatchSite::located(schema_path, evaluation_path, place))
 }
 
 // The site of a match that is asked for at a spot.

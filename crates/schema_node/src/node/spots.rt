@@ -63,9 +63,9 @@ pub fn place_below<'i>(
 ) -> Result<Place<'i>, OutOfMemory>
     ensures below { IfOk result (λ p. p ≡ steps_to place.now ++ map step_of steps.now) }
 {
-    let mut lower = place.made()?;
+    let mut lower = place.with_room(steps.len())?;
     for step in steps {
-        lower = lower.below(*step)?;
+        lower.push(*step)?;
     }
     Ok(lower)
 }

@@ -4,7 +4,8 @@ ghost use Rattle.serde_json.specs.View.{view};
 ghost use Rattle.schema_reports.specs.InstanceTexts.{subject_has_float};
 ghost use Rattle.schema_reports.specs.InstanceViews.{subject_of};
 ghost use Rattle.schema_definitions.specs.Meaning.{Where};
-ghost use Rattle.schema_definitions.specs.Reports.{report_of};
+ghost use Rattle.schema_definitions.specs.Pointer.{joined, pointer_to};
+ghost use Rattle.schema_definitions.specs.Reports.{report_of, unit, units_of};
 ghost use Rattle.schema_reports.specs.EntryUnits.{absorbed_of, entry_units_of};
 ghost use Rattle.schema_reports.specs.EvaluationResults.{gives_of, named_of};
 ghost use Rattle.schema_definitions.specs.Units.{false_unit, given_units, keyword_unit, no_unit, reference_units, schema_unit, true_unit};
@@ -12,7 +13,9 @@ ghost use Rattle.schema_reports.specs.UnitViews.{described_of, unit_of};
 ghost use Rattle.std.specs.List.{list_all};
 ghost use Rattle.schema_contexts.specs.EvaluationPaths.{path_of};
 ghost use Rattle.schema_parts.specs.KeywordViews.{answer_of};
+ghost use Rattle.schema_nodes.specs.NodeTable.{absolute_in};
 ghost use Rattle.schema_nodes.specs.NodeViews.{node_of};
+ghost use Rattle.schema_node.specs.EvaluationPlaces.{steps_to};
 ghost use Rattle.schema_node.specs.NodeUnits.{named_gives};
 ghost use Rattle.schema_node.specs.RunStates.{asking, where_asked};
 
@@ -21,7 +24,7 @@ use crate::node::replies::false_error;
 use schema_contexts::validation::ValidationContext;
 use schema_nodes::node::Node;
 use schema_nodes::node::absolute::absolute_location;
-use schema_parts::keyword::Answer;
+use schema_parts::keyword::{Answer, Found};
 use schema_reports::evaluation::{
     Annotations, ChildList, ErrorDescription, EvaluationNode, UnitReport,
 };
@@ -29,6 +32,69 @@ use schema_reports::evaluation_order::{AbsorbedUnit, EntryUnits};
 use schema_reports::evaluation_result::{AbsorbedResult, EvaluationResult};
 use schema_reports::location::{Location, LocationSegment, OutOfMemory};
 use std::alloc::Global;
+
+// Where a unit stands: the way that led to it, its URI, its place in the schema, and the instance's place.
+#[derive(Drop)]
+struct UnitPlaces {
+    evaluation_path: Location,
+    absolute_keyword_location: Option<String>,
+    schema_location: Location,
+    instance_location: Location,
+}
+
+impl UnitPlaces {
+    // The unit that stands there and says this.
+    fn unit(
+        self,
+        valid: bool,
+        annotations: Option<Annotations>,
+        errors: Vec<ErrorDescription>,
+        children: ChildList,
+    ) -> EvaluationNode
+        ensures unit { (texts : Bool) → unit_of texts result ≡ unit (record {
+          valid = valid;
+          instance_location = self.instance_location;
+          evaluation_path = self.evaluation_path;
+          schema_path = self.schema_location;
+          absolute = option_map string_bytes self.absolute_keyword_location;
+          annotations = option_map view annotations;
+          errors = map (described_of texts) errors.items;
+        }) (units_of (map (unit_of texts) children)) }
+    {
+        EvaluationNode {
+            report: UnitReport {
+                valid,
+                evaluation_path: self.evaluation_path,
+                absolute_keyword_location: self.absolute_keyword_location,
+                schema_location: self.schema_location,
+                instance_location: self.instance_location,
+                annotations,
+                errors,
+            },
+            children: children.into_nodes(),
+        }
+    }
+}
+
+// Where the unit of the node itself stands.
+fn node_places<K>(
+    alloc: Global,
+    node: &Node<K>,
+    question: &Question<'_, '_>,
+) -> Result<UnitPlaces, OutOfMemory>
+    ensures instance { IfOk result (λ p. p.instance_location ≡ pointer_to (steps_to question.now.place.now)) }
+    ensures path { IfOk result (λ p. p.evaluation_path ≡ path_of question.now.path.now) }
+    ensures schema { IfOk result (λ p. p.schema_location ≡ (node_of node.now).location) }
+    ensures absolute { IfOk result (λ p. option_map string_bytes p.absolute_keyword_location
+        ≡ absolute_in (node_of node.now) (node_of node.now).location) }
+{
+    Ok(UnitPlaces {
+        evaluation_path: question.path.made(alloc)?,
+        absolute_keyword_location: absolute_location(alloc, node, &node.location)?,
+        schema_location: node.location.clone()?,
+        instance_location: question.place.pointer(alloc)?,
+    })
+}
 
 // The unit of the node itself.
 fn own_unit<K>(
@@ -44,18 +110,8 @@ fn own_unit<K>(
         ≡ schema_unit (where_asked (node_of node.now) (asking question.now)) valid
         (option_map view annotations) (map (described_of texts) errors.items) (map (unit_of texts) children)) }
 {
-    Ok(EvaluationNode {
-        report: UnitReport {
-            valid,
-            evaluation_path: question.path.made(alloc)?,
-            absolute_keyword_location: absolute_location(alloc, node, &node.location)?,
-            schema_location: node.location.clone()?,
-            instance_location: question.place.made()?.pointer(alloc)?,
-            annotations,
-            errors,
-        },
-        children: children.into_nodes(),
-    })
+    let places = node_places(alloc, node, question)?;
+    Ok(places.unit(valid, annotations, errors, children))
 }
 
 /// The unit of a node that accepts every instance: valid, with nothing in it.
@@ -148,6 +204,31 @@ pub fn entries_unit<K>(
     )
 }
 
+// Where the unit of a keyword of this name stands.
+fn keyword_places<K>(
+    alloc: Global,
+    node: &Node<K>,
+    name: &str,
+    question: &Question<'_, '_>,
+    context: &mut ValidationContext<'_>,
+) -> Result<UnitPlaces, OutOfMemory>
+    ensures instance { IfOk result (λ p. p.instance_location ≡ pointer_to (steps_to question.now.place.now)) }
+    ensures path { IfOk result (λ p. p.evaluation_path ≡ joined (path_of question.now.path.now) name.now) }
+    ensures schema { IfOk result (λ p. p.schema_location ≡ joined (node_of node.now).location name.now) }
+    ensures absolute { IfOk result (λ p. option_map string_bytes p.absolute_keyword_location
+        ≡ absolute_in (node_of node.now) (joined (node_of node.now).location name.now)) }
+    ensures stays { context.new ≡ context.old }
+{
+    let evaluation_path = context.evaluation_path(alloc, question.path, name, "")?;
+    let schema_location = node.location.join(LocationSegment::Property(name))?;
+    Ok(UnitPlaces {
+        evaluation_path,
+        absolute_keyword_location: absolute_location(alloc, node, &schema_location)?,
+        schema_location,
+        instance_location: question.place.pointer(alloc)?,
+    })
+}
+
 // The unit of a keyword of this name, which gives this.
 fn unit_of_keyword<K>(
     alloc: Global,
@@ -161,30 +242,15 @@ fn unit_of_keyword<K>(
         ≡ keyword_unit (where_asked (node_of node.now) (asking question.now)) (named_gives name.now (gives_of texts given))) }
     ensures stays { context.new ≡ context.old }
 {
-    let evaluation_path = context.evaluation_path(alloc, question.path, name, "")?;
-    let schema_location = node.location.join(LocationSegment::Property(name))?;
-    let absolute_keyword_location = absolute_location(alloc, node, &schema_location)?;
-    let instance_location = question.place.made()?.pointer(alloc)?;
-    let (valid, annotations, errors, children) = match given {
+    let places = keyword_places(alloc, node, name, question, context)?;
+    match given {
         EvaluationResult::Valid(annotations, children) => {
-            (true, annotations, Vec::new(alloc), children)
+            Ok(places.unit(true, annotations, Vec::new(alloc), children))
         }
         EvaluationResult::Invalid(errors, annotations, children) => {
-            (false, annotations, errors, children)
+            Ok(places.unit(false, annotations, errors, children))
         }
-    };
-    Ok(EvaluationNode {
-        report: UnitReport {
-            valid,
-            evaluation_path,
-            absolute_keyword_location,
-            schema_location,
-            instance_location,
-            annotations,
-            errors,
-        },
-        children: children.into_nodes(),
-    })
+    }
 }
 
 // The units of absorbed keywords, in their order.
@@ -223,8 +289,8 @@ pub fn units_of_keyword<K>(
         (answer_of texts answer.entry).gives) }
     ensures stays { context.new ≡ context.old }
 {
-    let (given, absorbed) = answer.into_evaluation(alloc);
-    let own = unit_of_keyword(alloc, node, name.as_str(), question, given, context)?;
+    let Found { own, absorbed } = Box::into_inner(answer.into_evaluation(alloc)?);
+    let own = unit_of_keyword(alloc, node, name.as_str(), question, own, context)?;
     let absorbed = absorbed_units(alloc, node, question, absorbed, context)?;
     Ok(EntryUnits { own, absorbed })
 }

@@ -1,0 +1,1503 @@
+use Rattle.std.proofs.lemmas.List.Elements.{All-nil}
+use Rattle.std.specs.Prelude.{All, option_and_then}
+use Rattle.schema_reports.specs.ReportViews.{BorrowsItsPlace}
+use Rattle.schema_parts.specs.FaultViews.{PassesBorrowed}
+use Rattle.std.proofs.Common.{◌≡◌, ◌∙◌, ◌+◌, ◌*◌, ◌<◌, ◌≤◌, ℕ, Bool, suc, arith, sym, refl, ap, subst, map, option_map, string_bytes, length, Some, false, true≢false, List, [], ◌∷◌, ◌++◌, drop}
+use Rattle.schema_reports.specs.InstanceViews.{subject_of, step_of}
+use Rattle.schema_definitions.specs.Instance.{Text}
+use Rattle.schema_definitions.specs.Keywords.{Marked, MatchPoint, Mode, Question, ask, done, ecma, for_verdict, mark, match_text, no_reply, truth, unmark}
+use Rattle.schema_node.specs.EvaluationPlaces.{steps_to}
+use Rattle.schema_contexts.specs.EvaluationPaths.{path_of}
+use Rattle.schema_definitions.specs.Meaning.{Where}
+use Rattle.schema_meaning.specs.Numbered.{left, subject_in}
+use Rattle.schema_definitions.specs.Runs.{keyword_met, plan_met, site_at}
+use Rattle.schema_definitions.specs.Unfinished.{Remembered}
+use Rattle.schema_definitions.specs.Matching.{Matcher, Pair, completed, matching, settled}
+use Rattle.schema_definitions.specs.Guarded.{node_at, node_keyword, node_never, same_edge, node_always, node_reference}
+use Rattle.schema_parts.specs.KeywordViews.{below_of, marked_of, mode_of, reply_of, answer_of, point_of}
+use Rattle.schema_contexts.specs.Matches.{after_match, settling}
+use Rattle.schema_node.specs.NodeMeets.{ChildMeets, EdgeMeets, EntryMeets, FormMeets, child_run, part_looked, parts_looked, reading}
+use Rattle.schema_nodes.specs.NodeTable.{numbered, shaped_form, shaped_part}
+use Rattle.schema_parts.specs.EdgeViews.{edge_of}
+use Rattle.schema_nodes.specs.NodeViews.{entry_of, form_of, node_of, plan_of}
+use Rattle.schema_node.specs.NodeRuns.{EdgeReplies, child_says, edge_needs, entry_where, form_says, parts_say, refuses, reply_by}
+use Rattle.schema_contexts.specs.Progress.{Context, NoDeeper, busy_at}
+use Rattle.schema_node.specs.RightVerdicts.{LaysOut}
+use Rattle.schema_node.specs.RunStates.{EdgeRemembers, MeetsNode, NodeSays, RemembersRightly, StaysRight, asking, setting, Asking}
+use Rattle.schema_contexts.specs.Verdicts.{visited_in_mode}
+use Rattle.schema_parts.specs.declared.keyword.Reply.TheVariants as told
+use Rattle.schema_node.proofs.GoesOn.{alone_remembers, asked_across, computed_meets, computed_remembers, computed_says, computed_stays, ended_remembers, pairs_back, planned_remembers, read_meets_edge, read_remembers, read_says, right_matched, right_same, stamped_remembers}
+use Rattle.schema_node.proofs.RightVerdicts.{laid_below}
+use Rattle.schema_contexts.proofs.Pairs.{busy-below, busy-pushed, deeper-below, deeper-pushed, entered_new, entered_old}
+use Rattle.schema_node.proofs.KeywordTurns.{falls_turned, faults_lie, keyword_says, right_at_once, right_reply, silent, silent_reads, tells_nothing, asked_on, asks_there, begins_on, can_after, ended_on, mark_taken_on, marked_on, matched_on, matches_there, told_pattern_on}
+use Rattle.schema_meaning.proofs.Alike.{asked_alike}
+use Rattle.schema_parts.proofs.Replies.{if_ok_always, if_ok_both, if_ok_mono}
+use Rattle.schema_node.proofs.NodeRuns.{agrees_answers, agrees_says, child_below, child_here, edge_busy, falls_below, falls_here, form_reference, leaf_accepts, needs_of_entered, node_by_plan, one_entry, settled_entries, stands_in, start_entries, where_is}
+use Rattle.schema_contexts.proofs.Matches.{after_assumes, moved, meets_append, meets_same}
+use Rattle.schema_node.proofs.KeywordMeets.{meets_all, meets_asked, meets_at_once, meets_begun, meets_mark_taken, meets_marked, meets_matched, meets_nothing}
+use Rattle.schema_node.proofs.NodeMeets.{end_met, last_met, leaf_holds, leaf_no, leaf_yes, meets_below, meets_busy, meets_here, meets_never, meets_reference, meets_these, next_met, nothing_refused, other_entry, stops_at, meets_by_plan, stops}
+use Rattle.schema_parts.proofs.Drops.{drop_at, drop_past}
+use Rattle.schema_node.proofs.NodeParts.{absolute_is, keyword_children, part_at, plain_there, plan_is, reference_edge, replies_refused, tells_keyword, plan_none}
+use Rattle.schema_nodes.specs.declared.node.Entry.{Entry}
+use Rattle.schema_reports.specs.EntryUnits.{entry_units_of, placed_of}
+use Rattle.schema_definitions.specs.UnitOrder.{each_placed}
+use Rattle.schema_definitions.specs.Units.{true_unit}
+use Rattle.serde_json.specs.View.{view}
+use Rattle.schema_meaning.proofs.TurnsGiveRuns.{keeps_of_turns}
+use Rattle.schema_node.specs.UnitStates.{child_unit, parts_units}
+use Rattle.schema_node.proofs.NodeUnits.{entered_meets, finds_moved, finds_units, form_moved, gives_always, gives_below, gives_busy, gives_entered, gives_here, gives_keyword, gives_never, gives_reference, gives_these, placed_last, placed_next, tells_moved}
+use Rattle.schema_node.proofs.UnitsAsked.{answer_is, child_valid, told_is}
+use Rattle.schema_node.proofs.node.+run.Goals as goal
+
+-- ---- a call's measure falls
+
+lower_same : (a b t i d : ℕ) → a ≡ b → 10 * b + (i + suc d) ≡ t → 10 * a + i < t
+lower_same a b t i d l e = omega (arith, l, e)
+
+lower_edge : (a b c t d : ℕ) → a ≡ b → b ≤ c → 10 * c + suc d ≡ t → 10 * a < t
+lower_edge a b c t d n l e = omega (arith, n, l, e)
+
+lower_entered : (a b c t : ℕ) → a ≡ b → c ≡ suc b → 10 * c ≡ t → 10 * a + 9 < t
+lower_entered a b c t l n e = omega (arith, l, n, e)
+
+no_deeper : (depth : ℕ) → depth ≤ depth
+no_deeper depth = omega arith
+
+-- ---- visits never become fewer
+
+as_many : (a b : ℕ) → b ≡ a → a ≤ b
+as_many a b e = omega (arith, e)
+
+no_fewer : (a b c : ℕ) → a ≤ b → b ≤ c → a ≤ c
+no_fewer a b c h k = omega (arith, h, k)
+
+-- a context of the same fields is the same
+same_context : (c c' : Context) → c'.in_progress ≡ c.in_progress → c'.remembered ≡ c.remembered → c'.marking ≡ c.marking → c'.verdicts ≡ c.verdicts → c'.visits ≡ c.visits → c' ≡ c
+same_context c c' e f h k l = λ i. record { in_progress = e i; remembered = f i; marking = h i; verdicts = k i; visits = l i }
+
+-- ---- a turn that asks for something is not the last
+
+ask_goes_on : (q : Question) (wanted : Mode) → ¬ (ask q wanted ≡ done)
+ask_goes_on q wanted e = cc
+
+match_goes_on : (a : Pair) (point : MatchPoint) → ¬ (match_text a point ≡ done)
+match_goes_on a point e = cc
+
+ecma_goes_on : (text : Text) → ¬ (ecma text ≡ done)
+ecma_goes_on text e = cc
+
+mark_goes_on : (i : Marked) → ¬ (mark i ≡ done)
+mark_goes_on i e = cc
+
+unmark_goes_on : ¬ (unmark ≡ done)
+unmark_goes_on e = cc
+
+pub run::run_child-run_edge-requires : goal.run::run_child-run_edge-requires
+run::run_child-run_edge-requires g t c =
+    let ns = numbered g.K.Validate.shape c.args.engine.now.nodes.now in
+    let e = edge_of c.in-Some.edge.now in
+    let k = c.requires.children c.args.child e (sym c.in-Some.ensures.edge) in
+    let l = falls_here g.K.Validate.words g.K.Validate.is_whole ns (length c.args.engine.now.nodes.now) (settling (g.M.Matcher.matching c.args.engine.now.matcher.now) c.args.context.now.remembered.assumptions) c.requires.may.ranked c.args.node.0 (subject_of c.args.question.now.instance) (busy_at (steps_to c.args.question.now.place.now) c.args.context.now.in_progress) e c.requires.may.known k in
+    λ κs h. (lower_edge _ _ _ t 0 refl l c.decreases, (h.0, (h.1.0, (h.1.1.0, (h.1.1.1, record { known = (c.requires.may.ranked c.args.node.0 c.requires.may.known e k).0; ranked = c.requires.may.ranked; above = c.requires.may.above; wanted = c.requires.may.wanted; goes_on = c.requires.may.goes_on })))))
+
+pub run::run_child-run_edge-requires-in-Some-one_below : goal.run::run_child-run_edge-requires-in-Some-one_below
+run::run_child-run_edge-requires-in-Some-one_below g t c =
+    let ns = numbered g.K.Validate.shape c.args.engine.now.nodes.now in
+    let e = edge_of c.in-Some.edge.now in
+    let k = c.requires.children c.args.child e (sym c.in-Some.ensures.edge) in
+    let p = steps_to c.args.question.now.place.now in
+    let step = step_of c.in-Some-one_below.step in
+    let es = c.args.context.now.in_progress in
+    let none : busy_at (steps_to c.below-lower.result) es ≡ [] = ap (λ q. busy_at q es) c.below-lower.ensures.below ∙ busy-below p step es c.requires.may.above in
+    let deeper = subst (λ q. NoDeeper q es) (sym c.below-lower.ensures.below) (deeper-below p step es c.requires.may.above) in
+    let l = falls_below g.K.Validate.words g.K.Validate.is_whole ns (length c.args.engine.now.nodes.now) (settling (g.M.Matcher.matching c.args.engine.now.matcher.now) c.args.context.now.remembered.assumptions) c.requires.may.ranked c.args.node.0 (subject_of c.args.question.now.instance) (subject_of c.in-Some-one_below.inner) step (busy_at p es) e c.requires.may.known k c.in-Some-one_below.ensures.below.1 in
+    let n = ap (edge_needs ns (length c.args.engine.now.nodes.now) e (subject_of c.in-Some-one_below.inner)) none in
+    let (layout, laid, right) = c.requires.may.goes_on in
+    let below = laid_below layout p (subject_of c.args.question.now.instance) (subject_of c.in-Some-one_below.inner) step (steps_to c.below-lower.result) laid c.below-lower.ensures.below c.in-Some-one_below.ensures.below.1 in
+    λ κs h. (lower_edge _ _ _ t 0 n l c.decreases, (h.0, (h.1.0, (h.1.1.0, (h.1.1.1, record { known = (c.requires.may.ranked c.args.node.0 c.requires.may.known e k).0; ranked = c.requires.may.ranked; above = deeper; wanted = c.requires.may.wanted; goes_on = (layout, below, right) })))))
+
+pub run::run_child-returns-in-None-one_below-clause-says : goal.run::run_child-returns-in-None-one_below-clause-says
+run::run_child-returns-in-None-one_below-clause-says g t c =
+    let ns = numbered g.K.Validate.shape c.args.engine.now.nodes.now in
+    let e = edge_of c.in-Some.edge.now in
+    let k = c.requires.children c.args.child e (sym c.in-Some.ensures.edge) in
+    let l = falls_here g.K.Validate.words g.K.Validate.is_whole ns (length c.args.engine.now.nodes.now) (settling (g.M.Matcher.matching c.args.engine.now.matcher.now) c.args.context.now.remembered.assumptions) c.requires.may.ranked c.args.node.0 (subject_of c.args.question.now.instance) (busy_at (steps_to c.args.question.now.place.now) c.args.context.now.in_progress) e c.requires.may.known k in
+    if_ok_mono c.run_edge.result _ _ (λ r says. child_here g.K.Validate.words g.K.Validate.is_whole ns (length c.args.engine.now.nodes.now) (settling (g.M.Matcher.matching c.args.engine.now.matcher.now) c.args.context.now.remembered.assumptions) (mode_of c.args.question.now.mode) (path_of c.args.question.now.path.now) (steps_to c.args.question.now.place.now) (busy_at (steps_to c.args.question.now.place.now) c.args.context.now.in_progress) (subject_of c.args.question.now.instance) c.args.node.0 _
+    (record { child = c.args.child; below = below_of c.args.below }) r e (sym c.in-Some.ensures.edge) c.in-None-one_below.ensures.below l says) c.run_edge.ensures.says
+
+pub run::run_child-returns-in-Some-one_below-clause-says : goal.run::run_child-returns-in-Some-one_below-clause-says
+run::run_child-returns-in-Some-one_below-clause-says g t c =
+    let ns = numbered g.K.Validate.shape c.args.engine.now.nodes.now in
+    let e = edge_of c.in-Some.edge.now in
+    let k = c.requires.children c.args.child e (sym c.in-Some.ensures.edge) in
+    let p = steps_to c.args.question.now.place.now in
+    let step = step_of c.in-Some-one_below.step in
+    let es = c.args.context.now.in_progress in
+    let s = subject_of c.args.question.now.instance in
+    let inner = subject_of c.in-Some-one_below.inner in
+    let none : busy_at (steps_to c.below-lower.result) es ≡ [] = ap (λ q. busy_at q es) c.below-lower.ensures.below ∙ busy-below p step es c.requires.may.above in
+    let l = falls_below g.K.Validate.words g.K.Validate.is_whole ns (length c.args.engine.now.nodes.now) (settling (g.M.Matcher.matching c.args.engine.now.matcher.now) c.args.context.now.remembered.assumptions) c.requires.may.ranked c.args.node.0 s inner step (busy_at p es) e c.requires.may.known k c.in-Some-one_below.ensures.below.1 in
+    if_ok_mono c.run_edge-in-Some-one_below.result _ _ (λ r says.
+    let answer = subst (λ busy. EdgeReplies g.K.Validate.words g.K.Validate.is_whole ns (length c.args.engine.now.nodes.now) (settling (g.M.Matcher.matching c.args.engine.now.matcher.now) c.args.context.now.remembered.assumptions) (mode_of c.args.question.now.mode) (path_of c.args.question.now.path.now) (steps_to c.below-lower.result) busy inner e r) none says in
+    child_below g.K.Validate.words g.K.Validate.is_whole ns (length c.args.engine.now.nodes.now) (settling (g.M.Matcher.matching c.args.engine.now.matcher.now) c.args.context.now.remembered.assumptions) (mode_of c.args.question.now.mode) (path_of c.args.question.now.path.now) p (busy_at p es) s c.args.node.0 _
+    (record { child = c.args.child; below = below_of c.args.below }) r e step (steps_to c.below-lower.result) inner (sym c.in-Some.ensures.edge) c.in-Some-one_below.ensures.below.0
+    c.below-lower.ensures.below c.in-Some-one_below.ensures.below.1 l answer) c.run_edge-in-Some-one_below.ensures.says
+
+pub run::run_edge-returns-then-branch-clause-says : goal.run::run_edge-returns-then-branch-clause-says
+run::run_edge-returns-then-branch-clause-says g t c =
+    let p = steps_to c.args.question.now.place.now in
+    let e = edge_of c.args.edge.now in
+    let old = entered_old e.node p c.args.context.now.in_progress c.in_ok-enter.field-0 c.enter.new.self.in_progress (rw c.in_ok-here.ensures.same at c.in_ok-enter.ensures.enters) c.if-branch.true in
+    edge_busy g.K.Validate.words g.K.Validate.is_whole (numbered g.K.Validate.shape c.args.engine.now.nodes.now) (length c.args.engine.now.nodes.now) (settling (g.M.Matcher.matching c.args.engine.now.matcher.now) c.args.context.now.remembered.assumptions) (subject_of c.args.question.now.instance) (busy_at p c.args.context.now.in_progress) e (mode_of c.args.question.now.mode) (path_of c.args.question.now.path.now) p c.accepted.result
+    c.if-not-edge.false old.0 c.accepted.ensures.accepts c.accepted.ensures.no_errors
+
+pub run::run_edge-run_node-requires-2 : goal.run::run_edge-run_node-requires-2
+run::run_edge-run_node-requires-2 g t c =
+    let ns = numbered g.K.Validate.shape c.args.engine.now.nodes.now in
+    let p = steps_to c.args.question.now.place.now in
+    let e = edge_of c.args.edge.now in
+    let s = subject_of c.args.question.now.instance in
+    let entered = entered_new e.node p c.args.context.now.in_progress c.in_ok-enter.field-0 c.enter.new.self.in_progress (rw c.in_ok-here.ensures.same at c.in_ok-enter.ensures.enters) c.if-branch.false in
+    let pairs = ap (λ (z : Context). z.in_progress) c.begin_visit-mark.ensures.counted in
+    let new : c.begin_visit-mark.new.context.in_progress ≡ c.args.context.now.in_progress ++ (e.node, p) ∷ [] = pairs ∙ entered.1 in
+    let busy : busy_at p c.begin_visit-mark.new.context.in_progress ≡ e.node ∷ busy_at p c.args.context.now.in_progress = ap (busy_at p) new ∙ busy-pushed p e.node c.args.context.now.in_progress in
+    let needs = needs_of_entered g.K.Validate.words g.K.Validate.is_whole ns (length c.args.engine.now.nodes.now) (settling (g.M.Matcher.matching c.args.engine.now.matcher.now) c.args.context.now.remembered.assumptions) s (busy_at p c.args.context.now.in_progress) e c.if-not-edge.false entered.0 in
+    let there : steps_to c.given-place.result ≡ p = c.given-place.ensures.same ∙ c.in_ok-here.ensures.same in
+    let l = ap (λ q. left ns (length c.args.engine.now.nodes.now) e.node s (busy_at q c.begin_visit-mark.new.context.in_progress)) there ∙ ap (left ns (length c.args.engine.now.nodes.now) e.node s) busy in
+    let deeper = subst (λ q. NoDeeper q c.begin_visit-mark.new.context.in_progress) (sym there) (subst (NoDeeper p) (sym new) (deeper-pushed p e.node c.args.context.now.in_progress c.requires.may.above)) in
+    let (layout, laid, right) = c.requires.may.goes_on in
+    let set = setting g.K.Validate.words g.K.Validate.is_whole g.K.Validate.shape g.M.Matcher.matching c.args.engine.now in
+    let met = ap (λ (z : Context). z.remembered) c.begin_visit-mark.ensures.counted ∙ c.enter.ensures.remembered in
+    let read = ap (λ (z : Context). z.verdicts) c.begin_visit-mark.ensures.counted ∙ c.enter.ensures.verdicts in
+    let laid' = subst (λ q. LaysOut layout q s) (sym there) laid in
+    let right' = right_same set layout c.args.context.now c.begin_visit-mark.new.context met read right in
+    λ κs h. (lower_entered _ _ _ t l needs c.decreases, (h.0, (h.1.0, (h.1.1.0, (h.1.1.1, record { known = c.requires.may.known; ranked = c.requires.may.ranked; above = deeper; wanted = c.requires.may.wanted; goes_on = (layout, laid', right') })))))
+
+pub run::run_form-run_edge-requires : goal.run::run_form-run_edge-requires
+run::run_form-run_edge-requires g t c =
+    let ns = numbered g.K.Validate.shape c.args.engine.now.nodes.now in
+    let e = edge_of c.in-Reference.edge in
+    let k = reference_edge ns c.args.node.0 e (rw c.in-Reference.is at c.requires.form) in
+    let l = falls_here g.K.Validate.words g.K.Validate.is_whole ns (length c.args.engine.now.nodes.now) (settling (g.M.Matcher.matching c.args.engine.now.matcher.now) c.args.context.now.remembered.assumptions) c.requires.may.ranked c.args.node.0 (subject_of c.args.question.now.instance) (busy_at (steps_to c.args.question.now.place.now) c.args.context.now.in_progress) e c.requires.may.known k in
+    λ κs h. (lower_edge _ _ _ t 5 refl l c.decreases, (h.0, (h.1.0, (h.1.1.0, (h.1.1.1, record { known = (c.requires.may.ranked c.args.node.0 c.requires.may.known e k).0; ranked = c.requires.may.ranked; above = c.requires.may.above; wanted = c.requires.may.wanted; goes_on = c.requires.may.goes_on })))))
+
+pub run::run_form-returns-in-Keyword-clause-says : goal.run::run_form-returns-in-Keyword-clause-says
+run::run_form-returns-in-Keyword-clause-says g t c = rw (c.in-Keyword.is, ← c.as_slice.ensures.value) c.run_keyword.ensures.says
+
+pub run::run_form-returns-in_ok-reply-in-Reference-clause-says : goal.run::run_form-returns-in_ok-reply-in-Reference-clause-says
+run::run_form-returns-in_ok-reply-in-Reference-clause-says g t c =
+    let ns = numbered g.K.Validate.shape c.args.engine.now.nodes.now in
+    let e = edge_of c.in-Reference.edge in
+    let k = reference_edge ns c.args.node.0 e (rw c.in-Reference.is at c.requires.form) in
+    let l = falls_here g.K.Validate.words g.K.Validate.is_whole ns (length c.args.engine.now.nodes.now) (settling (g.M.Matcher.matching c.args.engine.now.matcher.now) c.args.context.now.remembered.assumptions) c.requires.may.ranked c.args.node.0 (subject_of c.args.question.now.instance) (busy_at (steps_to c.args.question.now.place.now) c.args.context.now.in_progress) e c.requires.may.known k in
+    let at_node = absolute_is g.K.Validate.shape c.args.engine.now.nodes.now c.args.node.0 (node_of c.node.result.now) (string_bytes c.args.entry.now.name) c.node.ensures.found in
+    rw c.in-Reference.is (if_ok_both c.stamped_reply.result _ _ _ (λ r stamped borrows. form_reference g.K.Validate.words g.K.Validate.is_whole ns (length c.args.engine.now.nodes.now) (settling (g.M.Matcher.matching c.args.engine.now.matcher.now) c.args.context.now.remembered.assumptions) (mode_of c.args.question.now.mode) (path_of c.args.question.now.path.now) (steps_to c.args.question.now.place.now) (busy_at (steps_to c.args.question.now.place.now) c.args.context.now.in_progress) (subject_of c.args.question.now.instance) c.args.node.0 (string_bytes c.args.entry.now.name) e
+    c.in_ok-reply-in-Reference.reply r _ at_node l stamped borrows (subst (λ path. EdgeReplies g.K.Validate.words g.K.Validate.is_whole ns (length c.args.engine.now.nodes.now) (settling (g.M.Matcher.matching c.args.engine.now.matcher.now) c.args.context.now.remembered.assumptions) (mode_of c.args.question.now.mode) path (steps_to c.args.question.now.place.now) (busy_at (steps_to c.args.question.now.place.now) c.args.context.now.in_progress) (subject_of c.args.question.now.instance) e c.in_ok-reply-in-Reference.reply) c.under_reference-path.ensures.same c.in_ok-reply-in-Reference.ensures.says)) c.stamped_reply.ensures.stamped c.stamped_reply.ensures.borrows)
+
+pub run::run_node-run_entries-requires : goal.run::run_node-run_entries-requires
+run::run_node-run_entries-requires g t c =
+    let plan = plan_is g.K.Validate.shape c.args.engine.now.nodes.now c.args.node.0 (node_of c.node-found.result.now) _ c.node-found.ensures.found (ap (option_map plan_of) c.in-Some.is ∙ ap (λ f. Some (plan_of f)) c.in-Keywords.is) in
+    λ κs h. (lower_same _ _ t 8 0 refl c.decreases, (h.0, (h.1.0, (h.1.1.0, (h.1.1.1, (c.requires.may, rw c.as_slice.ensures.value (_, plan, λ y k. k)))))))
+
+pub run::run_node-returns-in-Never-clause-says : goal.run::run_node-returns-in-Never-clause-says
+run::run_node-returns-in-Never-clause-says g t c =
+    let ns = numbered g.K.Validate.shape c.args.engine.now.nodes.now in
+    let n = node_of c.node-found.result.now in
+    let p = steps_to c.args.question.now.place.now in
+    let s = subject_of c.args.question.now.instance in
+    let plan = plan_is g.K.Validate.shape c.args.engine.now.nodes.now c.args.node.0 n _ c.node-found.ensures.found (ap (option_map plan_of) c.in-Some.is ∙ ap (λ f. Some (plan_of f)) c.in-Never.is) in
+    if_ok_both c.refused.result _ _ _ (λ r refuses borrows. node_by_plan g.K.Validate.words g.K.Validate.is_whole ns (length c.args.engine.now.nodes.now) (settling (g.M.Matcher.matching c.args.engine.now.matcher.now) c.args.context.now.remembered.assumptions) (mode_of c.args.question.now.mode) (path_of c.args.question.now.path.now) p (busy_at p c.args.context.now.in_progress) s c.args.node.0 r node_never plan
+    (λ x reads l. replies_refused g.K.Validate.shape c.args.engine.now.nodes.now g.K.Validate.words x (mode_of c.args.question.now.mode) (path_of c.args.question.now.path.now) p s c.args.node.0 n r c.node-found.ensures.found (g.met.K.Validate.speaks x.texts) reads.stands
+    (refuses x.texts (plain_there g.K.Validate.is_whole ns (length c.args.engine.now.nodes.now) (settling (g.M.Matcher.matching c.args.engine.now.matcher.now) c.args.context.now.remembered.assumptions) p s x reads)) (borrows x.root reads.stands))) c.refused.ensures.refuses c.refused.ensures.borrows
+
+pub run::run_node-returns-in-Keywords-clause-says : goal.run::run_node-returns-in-Keywords-clause-says
+run::run_node-returns-in-Keywords-clause-says g t c =
+    let ns = numbered g.K.Validate.shape c.args.engine.now.nodes.now in
+    let p = steps_to c.args.question.now.place.now in
+    let plan = plan_is g.K.Validate.shape c.args.engine.now.nodes.now c.args.node.0 (node_of c.node-found.result.now) _ c.node-found.ensures.found (ap (option_map plan_of) c.in-Some.is ∙ ap (λ f. Some (plan_of f)) c.in-Keywords.is) in
+    if_ok_mono c.run_entries.result _ _ (λ r says. node_by_plan g.K.Validate.words g.K.Validate.is_whole ns (length c.args.engine.now.nodes.now) (settling (g.M.Matcher.matching c.args.engine.now.matcher.now) c.args.context.now.remembered.assumptions) (mode_of c.args.question.now.mode) (path_of c.args.question.now.path.now) p (busy_at p c.args.context.now.in_progress) (subject_of c.args.question.now.instance) c.args.node.0 r _ plan says)
+    (rw c.as_slice.ensures.value at c.run_entries.ensures.says)
+
+pub run::run_entries-loop-entry-init : goal.run::run_entries-loop-entry-init
+run::run_entries-loop-entry-init g t c = record {
+  stays = λ layout laid right. right;
+  first = λ e. (refl, c.accepted-found.ensures.accepts);
+  remembers = λ l. absurd (omega (arith, l));
+  marking = refl;
+  kept = refl;
+  assumes = refl;
+  unsettled = λ texts. ap refuses (c.accepted-found.ensures.accepts texts) ∙ nothing_refused (mode_of c.args.question.now.mode);
+  met = λ texts root depth reads l. ([], refl, refl);
+  so_far = λ x reads l. start_entries g.K.Validate.words g.K.Validate.is_whole (numbered g.K.Validate.shape c.args.engine.now.nodes.now) (length c.args.engine.now.nodes.now) (settling (g.M.Matcher.matching c.args.engine.now.matcher.now) c.args.context.now.remembered.assumptions) (mode_of c.args.question.now.mode) x c.accepted-found.result _ c.accepted-found.ensures.accepts c.accepted-found.ensures.no_errors;
+  counted = as_many c.args.context.now.visits c.args.context.now.visits refl;
+}
+
+pub run::run_entries-run_entry-requires : goal.run::run_entries-run_entry-requires
+run::run_entries-run_entry-requires g t c =
+    let ns = numbered g.K.Validate.shape c.args.engine.now.nodes.now in
+    let p = steps_to c.args.question.now.place.now in
+    let kept = c.loop-entry.invariant.kept in
+    let l = ap (λ es. left ns (length c.args.engine.now.nodes.now) c.args.node.0 (subject_of c.args.question.now.instance) (busy_at p es)) kept in
+    let here = part_at entry_of (shaped_part g.K.Validate.shape) c.args.entries.now c.loop-entry.entry-index c.entry-item.result c.loop-entry-test.true c.entry-item.is in
+    λ κs h. (lower_same _ _ t 7 0 l c.decreases, (h.0, (h.1.0, (h.1.1.0, (h.1.1.1, (record { known = c.requires.may.known; ranked = c.requires.may.ranked; above = subst (NoDeeper p) (sym kept) c.requires.may.above; wanted = c.requires.may.wanted; goes_on = (c.requires.may.goes_on.0, c.requires.may.goes_on.1, c.loop-entry.invariant.stays c.requires.may.goes_on.0 c.requires.may.goes_on.1 c.requires.may.goes_on.2) }, (c.requires.parts.0, c.requires.parts.1, shaped_part g.K.Validate.shape (entry_of c.entry-item.result), c.requires.parts.2 _ here, refl)))))))
+
+pub run::run_entries-loop-entry-preserved : goal.run::run_entries-loop-entry-preserved
+run::run_entries-loop-entry-preserved g t c = record {
+  stays = λ layout laid right. c.in_ok-more.ensures.stays layout laid (c.loop-entry.invariant.stays layout laid right);
+  first = λ e. absurd (omega (arith, e));
+  remembers = λ l. alone_remembers (asking c.args.question.now) entry_of (shaped_part g.K.Validate.shape) c.args.entries.now c.loop-entry.entry-index c.entry-item.result c.loop-entry-test.true c.entry-item.is c.args.context.now c.loop-entry.context c.run_entry.new.context c.loop-entry.found c.in_ok-more.more c.in_ok-found.found c.loop-entry.invariant.first c.in_ok-found.ensures.both c.in_ok-more.ensures.remembers;
+  kept = c.in_ok-more.ensures.keeps.in_progress ∙ c.loop-entry.invariant.kept;
+  assumes = c.in_ok-more.ensures.keeps.assumptions ∙ c.loop-entry.invariant.assumes;
+  marking = c.in_ok-more.ensures.keeps.marking ∙ c.loop-entry.invariant.marking;
+  counted = no_fewer c.args.context.now.visits c.loop-entry.context.visits c.run_entry.new.context.visits c.loop-entry.invariant.counted c.in_ok-more.ensures.counts;
+  unsettled = λ texts. sym (c.is_settled.ensures.settled texts) ∙ c.if-is_settled.false;
+  met = λ texts root depth reads l.
+      let ns = numbered g.K.Validate.shape c.args.engine.now.nodes.now in
+      let w = settling (g.M.Matcher.matching c.args.engine.now.matcher.now) c.args.context.now.remembered.assumptions in
+      let p = steps_to c.args.question.now.place.now in
+      let busy = busy_at p c.args.context.now.in_progress in
+      let mode = mode_of c.args.question.now.mode in
+      let part = shaped_part g.K.Validate.shape (entry_of c.entry-item.result) in
+      let looked = λ (es : List (Entry g.row.K.Denot)). parts_looked g.K.Validate.words ns w texts root depth c.args.node.0 (path_of c.args.question.now.path.now) p busy (map (shaped_part g.K.Validate.shape) (map entry_of es)) in
+      let here = moved (λ es as'. EntryMeets g.K.Validate.words g.K.Validate.is_whole ns (length c.args.engine.now.nodes.now) (settling (g.M.Matcher.matching c.args.engine.now.matcher.now) as') mode (path_of c.args.question.now.path.now) p (busy_at p es) (subject_of c.args.question.now.instance) c.loop-entry.context.remembered c.run_entry.new.context.remembered c.args.node.0 part) c.loop-entry.invariant.kept c.loop-entry.invariant.assumes c.in_ok-more.ensures.meets texts root depth reads l in
+      let says = (rw (c.loop-entry.invariant.kept, c.loop-entry.invariant.assumes) at c.in_ok-more.ensures.says) (reading w texts root depth) reads l in
+      let so_far = c.loop-entry.invariant.so_far (reading w texts root depth) reads l in
+      let met = c.loop-entry.invariant.met texts root depth reads l in
+      let split = ap (λ es. plan_met mode (looked es)) (drop_at c.args.entries.now c.loop-entry.entry-index c.entry-item.result c.loop-entry-test.true c.entry-item.is) in
+      let agrees = agrees_says g.K.Validate.words ns (λ texts m s completion matcher a h. (g.met.K.Validate.function_laws texts m).agree s (matching matcher completion) a h) (reading w texts root depth) c.args.node.0 (path_of c.args.question.now.path.now) p busy part.name part.form in
+      let last = stops_at g.K.Validate.words ns w texts root depth mode c.args.node.0 (path_of c.args.question.now.path.now) p busy part c.loop-entry.found c.in_ok-more.more c.in_ok-found.found so_far.0 _ agrees so_far.1 says c.in_ok-found.ensures.both (c.loop-entry.invariant.unsettled texts) (sym (c.is_settled.ensures.settled texts) ∙ c.if-is_settled.false) in
+      next_met w.matcher mode (part_looked g.K.Validate.words ns w texts root depth c.args.node.0 (path_of c.args.question.now.path.now) p busy part) (looked (drop (c.loop-entry.entry-index + 1) c.args.entries.now)) _ _ met.0 _ _ _ met.1 here met.2 split last;
+  so_far = λ x reads l.
+      let ns = numbered g.K.Validate.shape c.args.engine.now.nodes.now in
+      let p = steps_to c.args.question.now.place.now in
+      let parts = λ (es : List (Entry g.row.K.Denot)). parts_say g.K.Validate.words ns x c.args.node.0 (path_of c.args.question.now.path.now) p (busy_at p c.args.context.now.in_progress) (map (shaped_part g.K.Validate.shape) (map entry_of es)) in
+      let says = (rw (c.loop-entry.invariant.kept, c.loop-entry.invariant.assumes) at c.in_ok-more.ensures.says) x reads l in
+      let split = ap parts (drop_at c.args.entries.now c.loop-entry.entry-index c.entry-item.result c.loop-entry-test.true c.entry-item.is) in
+      one_entry g.K.Validate.words g.K.Validate.is_whole ns (length c.args.engine.now.nodes.now) (settling (g.M.Matcher.matching c.args.engine.now.matcher.now) c.args.context.now.remembered.assumptions) (mode_of c.args.question.now.mode) x c.loop-entry.found c.in_ok-more.more c.in_ok-found.found _ _ (parts (drop (c.loop-entry.entry-index + 1) c.args.entries.now)) _ split
+      c.in_ok-found.ensures.both c.in_ok-found.ensures.borrows says (c.loop-entry.invariant.so_far x reads l);
+}
+
+pub run::run_entries-returns-then-is_settled-clause-says : goal.run::run_entries-returns-then-is_settled-clause-says
+run::run_entries-returns-then-is_settled-clause-says g t c = λ x reads l.
+    let ns = numbered g.K.Validate.shape c.args.engine.now.nodes.now in
+    let p = steps_to c.args.question.now.place.now in
+    let parts = λ (es : List (Entry g.row.K.Denot)). parts_say g.K.Validate.words ns x c.args.node.0 (path_of c.args.question.now.path.now) p (busy_at p c.args.context.now.in_progress) (map (shaped_part g.K.Validate.shape) (map entry_of es)) in
+    let says = (rw (c.loop-entry.invariant.kept, c.loop-entry.invariant.assumes) at c.in_ok-more.ensures.says) x reads l in
+    let split = ap parts (drop_at c.args.entries.now c.loop-entry.entry-index c.entry-item.result c.loop-entry-test.true c.entry-item.is) in
+    let next = one_entry g.K.Validate.words g.K.Validate.is_whole ns (length c.args.engine.now.nodes.now) (settling (g.M.Matcher.matching c.args.engine.now.matcher.now) c.args.context.now.remembered.assumptions) (mode_of c.args.question.now.mode) x c.loop-entry.found c.in_ok-more.more c.in_ok-found.found _ _ (parts (drop (c.loop-entry.entry-index + 1) c.args.entries.now)) _ split
+    c.in_ok-found.ensures.both c.in_ok-found.ensures.borrows says (c.loop-entry.invariant.so_far x reads l) in
+    settled_entries g.K.Validate.words g.K.Validate.is_whole ns (length c.args.engine.now.nodes.now) (settling (g.M.Matcher.matching c.args.engine.now.matcher.now) c.args.context.now.remembered.assumptions) (mode_of c.args.question.now.mode) x c.in_ok-found.found _ _ (sym (c.is_settled.ensures.settled x.texts) ∙ c.if-is_settled.true) next
+
+pub run::run_entry-returns-then-is_yes-clause-says : goal.run::run_entry-returns-then-is_yes-clause-says
+run::run_entry-returns-then-is_yes-clause-says g t c = λ x reads l.
+    leaf_accepts g.K.Validate.words (numbered g.K.Validate.shape c.args.engine.now.nodes.now) (λ texts m s completion matcher a h. (g.met.K.Validate.function_laws texts m).agree s (matching matcher completion) a h) x (mode_of c.args.question.now.mode) c.args.node.0 (path_of c.args.question.now.path.now) (steps_to c.args.question.now.place.now)
+    (busy_at (steps_to c.args.question.now.place.now) c.args.context.now.in_progress) (string_bytes c.args.entry.now.name) _ c.in_ok-verdict.verdict c.accepted.result (sym (c.is_yes.ensures.yes x.texts) ∙ c.if-is_yes.true) (c.in_ok-verdict.ensures.says x reads l) c.accepted.ensures.accepts c.accepted.ensures.no_errors
+
+pub run::run_entry-returns-then-asks_verdict_first-clause-says : goal.run::run_entry-returns-then-asks_verdict_first-clause-says
+run::run_entry-returns-then-asks_verdict_first-clause-says g t c = rw (c.in_ok-verdict.ensures.keeps.in_progress, c.in_ok-verdict.ensures.keeps.assumptions) at c.run_form-then-asks_verdict_first.ensures.says
+
+pub run::run_keyword-keyword_answer-requires : goal.run::run_keyword-keyword_answer-requires
+run::run_keyword-keyword_answer-requires g t c =
+    λ κs h. (lower_same _ _ t 4 0 refl c.decreases, (h.0, (h.1.0, (h.1.1.0, (h.1.1.1, (record { known = c.requires.may.known; ranked = c.requires.may.ranked; above = c.requires.may.above; goes_on = c.requires.may.goes_on }, c.requires.form))))))
+
+pub turns::keyword_answer-run_turns-requires : goal.turns::keyword_answer-run_turns-requires
+turns::keyword_answer-run_turns-requires g t c =
+    let begun = λ (texts : Bool). c.in_ok-run.ensures.begins texts ∙ ap (λ a. (c.in_ok-run.run', a)) (sym (c.in_ok-answer.ensures.fresh texts)) in
+    let ns = numbered g.K.Validate.shape c.args.engine.now.nodes.now in
+    let p = steps_to c.args.question.now.place.now in
+    let s = subject_of c.args.question.now.instance in
+    let kept = c.set_aside-aside.ensures.in_progress in
+    let l = ap (λ es. left ns (length c.args.engine.now.nodes.now) c.args.node.0 s (busy_at p es)) kept in
+    λ κs h. (lower_same _ _ t 3 0 l c.decreases, (h.0, (h.1.0, (h.1.1.0, (h.1.1.1, (record { known = c.requires.may.known; ranked = c.requires.may.ranked; above = subst (NoDeeper p) (sym kept) c.requires.may.above; goes_on = (c.requires.may.goes_on.0, c.requires.may.goes_on.1, right_same (setting g.K.Validate.words g.K.Validate.is_whole g.K.Validate.shape g.M.Matcher.matching c.args.engine.now) c.requires.may.goes_on.0 c.args.context.now c.set_aside-aside.new.self c.set_aside-aside.ensures.remembered c.set_aside-aside.ensures.verdicts c.requires.may.goes_on.2) }, (c.requires.form, (begun, (c.in_ok-answer.ensures.no_faults, c.set_aside-aside.ensures.none)))))))))
+
+pub turns::keyword_answer-returns-clause-right : goal.turns::keyword_answer-returns-clause-right
+turns::keyword_answer-returns-clause-right g t c =
+    let set = setting g.K.Validate.words g.K.Validate.is_whole g.K.Validate.shape g.M.Matcher.matching c.args.engine.now in
+    let m = g.K.Validate.shape c.args.keyword.now.keyword.now in
+    let es = map (option_map edge_of) c.args.keyword.now.children.now in
+    finds_moved set (asking c.args.question.now) c.args.context.now c.set_aside-aside.new.self c.set_aside-aside.ensures.in_progress (ap (λ (r : Remembered). r.assumptions) c.set_aside-aside.ensures.remembered) c.args.node.0 es m c.run_turns.new.answer c.in_ok-run_turns.ensures.right
+
+pub turns::keyword_answer-returns-clause-meets : goal.turns::keyword_answer-returns-clause-meets
+turns::keyword_answer-returns-clause-meets g t c = rw (c.set_aside-aside.ensures.in_progress, c.set_aside-aside.ensures.remembered, ← c.put_back.ensures.remembered) at c.in_ok-run_turns.ensures.meets
+
+pub turns::keyword_answer-returns-clause-stays : goal.turns::keyword_answer-returns-clause-stays
+turns::keyword_answer-returns-clause-stays g t c = λ layout laid right.
+    let set = setting g.K.Validate.words g.K.Validate.is_whole g.K.Validate.shape g.M.Matcher.matching c.args.engine.now in
+    let right1 = right_same set layout c.args.context.now c.set_aside-aside.new.self c.set_aside-aside.ensures.remembered c.set_aside-aside.ensures.verdicts right in
+    right_same set layout c.run_turns.new.context c.put_back.new.self c.put_back.ensures.remembered c.put_back.ensures.verdicts (c.in_ok-run_turns.ensures.stays layout laid right1)
+
+pub turns::keyword_answer-returns-clause-counts : goal.turns::keyword_answer-returns-clause-counts
+turns::keyword_answer-returns-clause-counts g t c = rw (c.set_aside-aside.ensures.visits, ← c.put_back.ensures.visits) at c.in_ok-run_turns.ensures.counts
+
+pub run::run_keyword-returns-in-Some-clause-says : goal.run::run_keyword-returns-in-Some-clause-says
+run::run_keyword-returns-in-Some-clause-says g t c = λ x reads l.
+    let ns = numbered g.K.Validate.shape c.args.engine.now.nodes.now in
+    let w = settling (g.M.Matcher.matching c.args.engine.now.matcher.now) c.args.context.now.remembered.assumptions in
+    let p = steps_to c.args.question.now.place.now in
+    let s = subject_of c.args.question.now.instance in
+    let m = g.K.Validate.shape c.args.keyword.now.keyword.now in
+    let es = map (option_map edge_of) c.args.keyword.now.children.now in
+    let busy = busy_at p c.args.context.now.in_progress in
+    let path = path_of c.args.question.now.path.now in
+    let name = string_bytes c.args.keyword.now.name.now in
+    let tells = tells_keyword g.K.Validate.is_whole ns (length c.args.engine.now.nodes.now) w p s x c.args.node.0 m es c.requires.may.known reads c.requires.form in
+    let answers = child_says g.K.Validate.words ns x path p busy es in
+    let right = right_at_once (g.K.Validate.words x.texts) m (g.K.Validate.absorbed m) (g.K.Validate.remaining m) (g.K.Validate.can_be x.texts m) (g.K.Validate.ends x.texts m) (g.K.Validate.fits x.texts m) (g.met.K.Validate.turn_laws x.texts m) s x answers (same_edge es) c.in-Some.valid
+    (agrees_answers g.K.Validate.words ns (λ texts m s completion matcher a h. (g.met.K.Validate.function_laws texts m).agree s (matching matcher completion) a h) x path p busy es)
+    (asked_alike (g.K.Validate.words x.texts) x.matcher ns (subject_in x.root) x.completion x.depth path p busy es)
+    (c.in-Some.ensures.at_once x.texts tells) in
+    let there = right ∙ ap (λ v. (g.K.Validate.words x.texts).holds m v (matching x.matcher x.completion) (λ q. (answers q).verdict)) (sym (stands_in x.root p s reads.stands)) in
+    record { same = subst (λ mode. truth c.in-Some.valid ≡ reply_by mode (form_says g.K.Validate.words ns x c.args.node.0 path p busy name (node_keyword m es))) (sym c.in-Some.ensures.verdict) (ap truth there); borrows = All-nil (BorrowsItsPlace x.root) }
+
+pub run::run_keyword-returns-in-Some-clause-meets : goal.run::run_keyword-returns-in-Some-clause-meets
+run::run_keyword-returns-in-Some-clause-meets g t c = λ texts root depth reads l.
+    let ns = numbered g.K.Validate.shape c.args.engine.now.nodes.now in
+    let w = settling (g.M.Matcher.matching c.args.engine.now.matcher.now) c.args.context.now.remembered.assumptions in
+    let p = steps_to c.args.question.now.place.now in
+    let s = subject_of c.args.question.now.instance in
+    let m = g.K.Validate.shape c.args.keyword.now.keyword.now in
+    let es = map (option_map edge_of) c.args.keyword.now.children.now in
+    let busy = busy_at p c.args.context.now.in_progress in
+    let path = path_of c.args.question.now.path.now in
+    let name = string_bytes c.args.keyword.now.name.now in
+    let at_node = node_at (g.K.Validate.words texts) w.matcher ns (subject_in root) c.args.node.0 path p in
+    let runs = child_run g.K.Validate.words ns w texts root depth path p busy es in
+    let tells = tells_keyword g.K.Validate.is_whole ns (length c.args.engine.now.nodes.now) w p s (reading w texts root depth) c.args.node.0 m es c.requires.may.known reads c.requires.form in
+    let all = meets_at_once (g.K.Validate.words texts) w.matcher w.assumptions at_node s runs (same_edge es) name m (g.K.Validate.remaining m s) c.args.context.now.remembered c.in-Some.valid (c.in-Some.ensures.at_once texts tells) ((g.met.K.Validate.turn_laws texts m).bounded s for_verdict) in
+    meets_same w.matcher _ _ _ _ (ap (keyword_met (g.K.Validate.words texts) w.matcher w.assumptions at_node s runs (same_edge es) name m) (sym c.in-Some.ensures.verdict)
+    ∙ ap (λ v. keyword_met (g.K.Validate.words texts) w.matcher w.assumptions at_node v runs (same_edge es) name m (mode_of c.args.question.now.mode)) (sym (stands_in root p s reads.stands))) all
+
+pub run::run_keyword-returns-clause-says : goal.run::run_keyword-returns-clause-says
+run::run_keyword-returns-clause-says g t c =
+    let ns = numbered g.K.Validate.shape c.args.engine.now.nodes.now in
+    let p = steps_to c.args.question.now.place.now in
+    let s = subject_of c.args.question.now.instance in
+    let m = g.K.Validate.shape c.args.keyword.now.keyword.now in
+    let es = map (option_map edge_of) c.args.keyword.now.children.now in
+    let busy = busy_at p c.args.context.now.in_progress in
+    let n = node_of c.node.result.now in
+    let name = string_bytes c.args.keyword.now.name.now in
+    let path = path_of c.args.question.now.path.now in
+    if_ok_both c.finished.result _ _ _ (λ r reply borrows x reads l.
+    let units = child_unit g.K.Validate.words ns x (path_of c.args.question.now.path.now) p busy es in
+    let answers = child_says g.K.Validate.words ns x (path_of c.args.question.now.path.now) p busy es in
+    let right = c.in_ok-answer.ensures.right x reads l in
+    let says = right_reply (g.K.Validate.words x.texts) m s x answers units (same_edge es) (entry_where n (path_of c.args.question.now.path.now) p) name (mode_of c.args.question.now.mode) (answer_of x.texts c.in_ok-answer.answer) c.requires.may.wanted right in
+    let whole = keyword_says g.K.Validate.shape c.args.engine.now.nodes.now g.K.Validate.words x (path_of c.args.question.now.path.now) p s c.args.node.0 n name m answers c.node.ensures.found reads.stands in
+    let lie = faults_lie x.texts x.root s (g.K.Validate.absorbed m) (g.K.Validate.words x.texts) m x answers units (same_edge es) (mode_of c.args.question.now.mode) c.in_ok-answer.answer ((g.met.K.Validate.function_laws x.texts m).stands s (matching x.matcher x.completion) answers) right
+    (c.in_ok-answer.ensures.passes x.root reads.stands) in
+    record { same = reply x.texts ∙ says ∙ ap (reply_by (mode_of c.args.question.now.mode)) whole; borrows = borrows x.root reads.stands lie })
+    c.finished.ensures.reply c.finished.ensures.borrows
+
+pub run::run_keyword-returns-clause-meets : goal.run::run_keyword-returns-clause-meets
+run::run_keyword-returns-clause-meets g t c = if_ok_always c.finished.result _ (rw (← c.finished.ensures.stays) at c.in_ok-answer.ensures.meets)
+
+pub run::run_edge-returns-then-branch-clause-meets : goal.run::run_edge-returns-then-branch-clause-meets
+run::run_edge-returns-then-branch-clause-meets g t c =
+    let ns = numbered g.K.Validate.shape c.args.engine.now.nodes.now in
+    let w = settling (g.M.Matcher.matching c.args.engine.now.matcher.now) c.args.context.now.remembered.assumptions in
+    let p = steps_to c.args.question.now.place.now in
+    let s = subject_of c.args.question.now.instance in
+    let busy = busy_at p c.args.context.now.in_progress in
+    let e = edge_of c.args.edge.now in
+    let old = entered_old e.node p c.args.context.now.in_progress c.in_ok-enter.field-0 c.enter.new.self.in_progress (rw c.in_ok-here.ensures.same at c.in_ok-enter.ensures.enters) c.if-branch.true in
+    meets_busy g.K.Validate.words g.K.Validate.is_whole ns (length c.args.engine.now.nodes.now) w s busy e (mode_of c.args.question.now.mode) (path_of c.args.question.now.path.now) p _ _ c.if-not-edge.false old.0 (sym c.enter.ensures.remembered)
+
+pub run::run_entries-returns-then-is_settled-clause-meets : goal.run::run_entries-returns-then-is_settled-clause-meets
+run::run_entries-returns-then-is_settled-clause-meets g t c = λ texts root depth reads l.
+    let ns = numbered g.K.Validate.shape c.args.engine.now.nodes.now in
+    let w = settling (g.M.Matcher.matching c.args.engine.now.matcher.now) c.args.context.now.remembered.assumptions in
+    let p = steps_to c.args.question.now.place.now in
+    let busy = busy_at p c.args.context.now.in_progress in
+    let mode = mode_of c.args.question.now.mode in
+    let part = shaped_part g.K.Validate.shape (entry_of c.entry-item.result) in
+    let looked = λ (es : List (Entry g.row.K.Denot)). parts_looked g.K.Validate.words ns w texts root depth c.args.node.0 (path_of c.args.question.now.path.now) p busy (map (shaped_part g.K.Validate.shape) (map entry_of es)) in
+    let here = moved (λ es as'. EntryMeets g.K.Validate.words g.K.Validate.is_whole ns (length c.args.engine.now.nodes.now) (settling (g.M.Matcher.matching c.args.engine.now.matcher.now) as') mode (path_of c.args.question.now.path.now) p (busy_at p es) (subject_of c.args.question.now.instance) c.loop-entry.context.remembered c.run_entry.new.context.remembered c.args.node.0 part) c.loop-entry.invariant.kept c.loop-entry.invariant.assumes c.in_ok-more.ensures.meets texts root depth reads l in
+    let says = (rw (c.loop-entry.invariant.kept, c.loop-entry.invariant.assumes) at c.in_ok-more.ensures.says) (reading w texts root depth) reads l in
+    let so_far = c.loop-entry.invariant.so_far (reading w texts root depth) reads l in
+    let met = c.loop-entry.invariant.met texts root depth reads l in
+    let split = ap (λ es. plan_met mode (looked es)) (drop_at c.args.entries.now c.loop-entry.entry-index c.entry-item.result c.loop-entry-test.true c.entry-item.is) in
+    let agrees = agrees_says g.K.Validate.words ns (λ texts m s completion matcher a h. (g.met.K.Validate.function_laws texts m).agree s (matching matcher completion) a h) (reading w texts root depth) c.args.node.0 (path_of c.args.question.now.path.now) p busy part.name part.form in
+    let last = stops_at g.K.Validate.words ns w texts root depth mode c.args.node.0 (path_of c.args.question.now.path.now) p busy part c.loop-entry.found c.in_ok-more.more c.in_ok-found.found so_far.0 _ agrees so_far.1 says c.in_ok-found.ensures.both (c.loop-entry.invariant.unsettled texts) (sym (c.is_settled.ensures.settled texts) ∙ c.if-is_settled.true) in
+    last_met w.matcher mode (part_looked g.K.Validate.words ns w texts root depth c.args.node.0 (path_of c.args.question.now.path.now) p busy part) (looked (drop (c.loop-entry.entry-index + 1) c.args.entries.now)) _ _ met.0 _ _ _ met.1 here met.2 split last
+
+pub run::run_entry-returns-then-is_yes-clause-meets : goal.run::run_entry-returns-then-is_yes-clause-meets
+run::run_entry-returns-then-is_yes-clause-meets g t c = λ texts root depth reads l.
+    let ns = numbered g.K.Validate.shape c.args.engine.now.nodes.now in
+    let w = settling (g.M.Matcher.matching c.args.engine.now.matcher.now) c.args.context.now.remembered.assumptions in
+    let p = steps_to c.args.question.now.place.now in
+    let s = subject_of c.args.question.now.instance in
+    let busy = busy_at p c.args.context.now.in_progress in
+    let part = shaped_part g.K.Validate.shape (entry_of c.args.entry.now) in
+    let looked = part_looked g.K.Validate.words ns w texts root depth c.args.node.0 (path_of c.args.question.now.path.now) p busy part in
+    let holds = leaf_holds g.K.Validate.words ns w texts root depth c.args.node.0 (path_of c.args.question.now.path.now) p busy part c.in_ok-verdict.verdict _ (c.in_ok-verdict.ensures.says (reading w texts root depth) reads l) (sym (c.is_yes.ensures.yes texts) ∙ c.if-is_yes.true) in
+    meets_same w.matcher _ _ _ _ (leaf_yes (mode_of c.args.question.now.mode) looked (c.asks_verdict_first.ensures.leaf c.if-asks_verdict_first.true) (c.asks_verdict_first.ensures.wants_more c.if-asks_verdict_first.true) (c.asks_verdict_first.ensures.wants_errors c.if-asks_verdict_first.true) holds) (c.in_ok-verdict.ensures.meets texts root depth reads l)
+
+pub run::run_entry-returns-then-asks_verdict_first-clause-meets : goal.run::run_entry-returns-then-asks_verdict_first-clause-meets
+run::run_entry-returns-then-asks_verdict_first-clause-meets g t c = if_ok_mono c.run_form-then-asks_verdict_first.result _ _ (λ r met texts root depth reads l.
+    let ns = numbered g.K.Validate.shape c.args.engine.now.nodes.now in
+    let w = settling (g.M.Matcher.matching c.args.engine.now.matcher.now) c.args.context.now.remembered.assumptions in
+    let p = steps_to c.args.question.now.place.now in
+    let s = subject_of c.args.question.now.instance in
+    let busy = busy_at p c.args.context.now.in_progress in
+    let part = shaped_part g.K.Validate.shape (entry_of c.args.entry.now) in
+    let looked = part_looked g.K.Validate.words ns w texts root depth c.args.node.0 (path_of c.args.question.now.path.now) p busy part in
+    let holds = leaf_holds g.K.Validate.words ns w texts root depth c.args.node.0 (path_of c.args.question.now.path.now) p busy part c.in_ok-verdict.verdict _ (c.in_ok-verdict.ensures.says (reading w texts root depth) reads l) (sym (c.is_yes.ensures.yes texts) ∙ c.if-is_yes.false) in
+    let more = moved (λ es as'. FormMeets g.K.Validate.words g.K.Validate.is_whole ns (length c.args.engine.now.nodes.now) (settling (g.M.Matcher.matching c.args.engine.now.matcher.now) as') (mode_of c.args.question.now.mode) (path_of c.args.question.now.path.now) p (busy_at p es) s c.run_form.new.context.remembered c.run_form-then-asks_verdict_first.new.context.remembered c.args.node.0 part.name part.form) c.in_ok-verdict.ensures.keeps.in_progress c.in_ok-verdict.ensures.keeps.assumptions met texts root depth reads l in
+    meets_same w.matcher _ _ _ _ (leaf_no (mode_of c.args.question.now.mode) looked (c.asks_verdict_first.ensures.leaf c.if-asks_verdict_first.true) (c.asks_verdict_first.ensures.wants_more c.if-asks_verdict_first.true) (c.asks_verdict_first.ensures.wants_errors c.if-asks_verdict_first.true) holds) (meets_append w.matcher _ _ _ _ _ (c.in_ok-verdict.ensures.meets texts root depth reads l) more)) c.run_form-then-asks_verdict_first.ensures.meets
+
+pub run::run_child-returns-in-None-one_below-clause-meets : goal.run::run_child-returns-in-None-one_below-clause-meets
+run::run_child-returns-in-None-one_below-clause-meets g t c =
+    let ns = numbered g.K.Validate.shape c.args.engine.now.nodes.now in
+    let w = settling (g.M.Matcher.matching c.args.engine.now.matcher.now) c.args.context.now.remembered.assumptions in
+    let p = steps_to c.args.question.now.place.now in
+    let s = subject_of c.args.question.now.instance in
+    let busy = busy_at p c.args.context.now.in_progress in
+    let e = edge_of c.in-Some.edge.now in
+    let k = c.requires.children c.args.child e (sym c.in-Some.ensures.edge) in
+    let l = falls_here g.K.Validate.words g.K.Validate.is_whole ns (length c.args.engine.now.nodes.now) w c.requires.may.ranked c.args.node.0 s busy e c.requires.may.known k in
+    if_ok_mono c.run_edge.result _ _ (λ r met. meets_here g.K.Validate.words g.K.Validate.is_whole ns (length c.args.engine.now.nodes.now) w (mode_of c.args.question.now.mode) (path_of c.args.question.now.path.now) p busy s c.args.node.0 _ (record { child = c.args.child; below = below_of c.args.below }) _ _ e (sym c.in-Some.ensures.edge) c.in-None-one_below.ensures.below l met) c.run_edge.ensures.meets
+
+pub run::run_child-returns-in-Some-one_below-clause-meets : goal.run::run_child-returns-in-Some-one_below-clause-meets
+run::run_child-returns-in-Some-one_below-clause-meets g t c =
+    let ns = numbered g.K.Validate.shape c.args.engine.now.nodes.now in
+    let w = settling (g.M.Matcher.matching c.args.engine.now.matcher.now) c.args.context.now.remembered.assumptions in
+    let p = steps_to c.args.question.now.place.now in
+    let s = subject_of c.args.question.now.instance in
+    let busy = busy_at p c.args.context.now.in_progress in
+    let e = edge_of c.in-Some.edge.now in
+    let k = c.requires.children c.args.child e (sym c.in-Some.ensures.edge) in
+    let step = step_of c.in-Some-one_below.step in
+    let es = c.args.context.now.in_progress in
+    let inner = subject_of c.in-Some-one_below.inner in
+    let none : busy_at (steps_to c.below-lower.result) es ≡ [] = ap (λ q. busy_at q es) c.below-lower.ensures.below ∙ busy-below p step es c.requires.may.above in
+    let l = falls_below g.K.Validate.words g.K.Validate.is_whole ns (length c.args.engine.now.nodes.now) w c.requires.may.ranked c.args.node.0 s inner step busy e c.requires.may.known k c.in-Some-one_below.ensures.below.1 in
+    if_ok_mono c.run_edge-in-Some-one_below.result _ _ (λ r says.
+    let met = subst (λ busy'. EdgeMeets g.K.Validate.words g.K.Validate.is_whole ns (length c.args.engine.now.nodes.now) w (mode_of c.args.question.now.mode) (path_of c.args.question.now.path.now) (steps_to c.below-lower.result) busy' inner c.args.context.now.remembered c.run_edge-in-Some-one_below.new.context.remembered e) none says in
+    meets_below g.K.Validate.words g.K.Validate.is_whole ns (length c.args.engine.now.nodes.now) w (mode_of c.args.question.now.mode) (path_of c.args.question.now.path.now) p busy s c.args.node.0 _ (record { child = c.args.child; below = below_of c.args.below }) _ _ e step (steps_to c.below-lower.result) inner (sym c.in-Some.ensures.edge) c.in-Some-one_below.ensures.below.0
+    c.below-lower.ensures.below c.in-Some-one_below.ensures.below.1 l met) c.run_edge-in-Some-one_below.ensures.meets
+
+pub run::run_form-returns-in-Keyword-clause-meets : goal.run::run_form-returns-in-Keyword-clause-meets
+run::run_form-returns-in-Keyword-clause-meets g t c = rw (c.in-Keyword.is, ← c.as_slice.ensures.value) c.run_keyword.ensures.meets
+
+pub run::run_form-returns-in_ok-reply-in-Reference-clause-meets : goal.run::run_form-returns-in_ok-reply-in-Reference-clause-meets
+run::run_form-returns-in_ok-reply-in-Reference-clause-meets g t c =
+    let ns = numbered g.K.Validate.shape c.args.engine.now.nodes.now in
+    let w = settling (g.M.Matcher.matching c.args.engine.now.matcher.now) c.args.context.now.remembered.assumptions in
+    let p = steps_to c.args.question.now.place.now in
+    let s = subject_of c.args.question.now.instance in
+    let busy = busy_at p c.args.context.now.in_progress in
+    let e = edge_of c.in-Reference.edge in
+    let k = reference_edge ns c.args.node.0 e (rw c.in-Reference.is at c.requires.form) in
+    let l = falls_here g.K.Validate.words g.K.Validate.is_whole ns (length c.args.engine.now.nodes.now) w c.requires.may.ranked c.args.node.0 s busy e c.requires.may.known k in
+    let met = subst (λ path. EdgeMeets g.K.Validate.words g.K.Validate.is_whole ns (length c.args.engine.now.nodes.now) w (mode_of c.args.question.now.mode) path p busy s c.args.context.now.remembered c.run_edge.new.context.remembered e) c.under_reference-path.ensures.same c.in_ok-reply-in-Reference.ensures.meets in
+    rw c.in-Reference.is (if_ok_always c.stamped_reply.result _ (meets_reference g.K.Validate.words g.K.Validate.is_whole ns (length c.args.engine.now.nodes.now) w (mode_of c.args.question.now.mode) (path_of c.args.question.now.path.now) p busy s c.args.node.0 (string_bytes c.args.entry.now.name) e _ _ l met))
+
+pub run::run_node-returns-in-Never-clause-meets : goal.run::run_node-returns-in-Never-clause-meets
+run::run_node-returns-in-Never-clause-meets g t c =
+    let ns = numbered g.K.Validate.shape c.args.engine.now.nodes.now in
+    let w = settling (g.M.Matcher.matching c.args.engine.now.matcher.now) c.args.context.now.remembered.assumptions in
+    let p = steps_to c.args.question.now.place.now in
+    let s = subject_of c.args.question.now.instance in
+    let busy = busy_at p c.args.context.now.in_progress in
+    let plan = plan_is g.K.Validate.shape c.args.engine.now.nodes.now c.args.node.0 (node_of c.node-found.result.now) _ c.node-found.ensures.found (ap (option_map plan_of) c.in-Some.is ∙ ap (λ f. Some (plan_of f)) c.in-Never.is) in
+    if_ok_always c.refused.result _ (meets_never g.K.Validate.words g.K.Validate.is_whole ns (length c.args.engine.now.nodes.now) w (mode_of c.args.question.now.mode) (path_of c.args.question.now.path.now) p busy s c.args.node.0 _ _ plan refl)
+
+pub run::run_node-returns-in-Keywords-clause-meets : goal.run::run_node-returns-in-Keywords-clause-meets
+run::run_node-returns-in-Keywords-clause-meets g t c =
+    let ns = numbered g.K.Validate.shape c.args.engine.now.nodes.now in
+    let w = settling (g.M.Matcher.matching c.args.engine.now.matcher.now) c.args.context.now.remembered.assumptions in
+    let p = steps_to c.args.question.now.place.now in
+    let s = subject_of c.args.question.now.instance in
+    let busy = busy_at p c.args.context.now.in_progress in
+    let plan = plan_is g.K.Validate.shape c.args.engine.now.nodes.now c.args.node.0 (node_of c.node-found.result.now) _ c.node-found.ensures.found (ap (option_map plan_of) c.in-Some.is ∙ ap (λ f. Some (plan_of f)) c.in-Keywords.is) in
+    if_ok_mono c.run_entries.result _ _ (λ r met. meets_these g.K.Validate.words g.K.Validate.is_whole ns (length c.args.engine.now.nodes.now) w (mode_of c.args.question.now.mode) (path_of c.args.question.now.path.now) p busy s c.args.node.0 _ _ _ plan met) (rw c.as_slice.ensures.value at c.run_entries.ensures.meets)
+
+pub run::run_entry-returns-clause-meets : goal.run::run_entry-returns-clause-meets
+run::run_entry-returns-clause-meets g t c = if_ok_mono c.run_form-2.result _ _ (λ r met texts root depth reads l.
+    let ns = numbered g.K.Validate.shape c.args.engine.now.nodes.now in
+    let w = settling (g.M.Matcher.matching c.args.engine.now.matcher.now) c.args.context.now.remembered.assumptions in
+    let p = steps_to c.args.question.now.place.now in
+    let busy = busy_at p c.args.context.now.in_progress in
+    let looked = part_looked g.K.Validate.words ns w texts root depth c.args.node.0 (path_of c.args.question.now.path.now) p busy (shaped_part g.K.Validate.shape (entry_of c.args.entry.now)) in
+    meets_same w.matcher _ _ _ _ (other_entry (mode_of c.args.question.now.mode) looked (c.asks_verdict_first.ensures.other c.if-asks_verdict_first.false)) (met texts root depth reads l)) c.run_form-2.ensures.meets
+
+pub run::run_entries-returns-clause-meets : goal.run::run_entries-returns-clause-meets
+run::run_entries-returns-clause-meets g t c = λ texts root depth reads l.
+    let ns = numbered g.K.Validate.shape c.args.engine.now.nodes.now in
+    let w = settling (g.M.Matcher.matching c.args.engine.now.matcher.now) c.args.context.now.remembered.assumptions in
+    let p = steps_to c.args.question.now.place.now in
+    let looked = λ (es : List (Entry g.row.K.Denot)). parts_looked g.K.Validate.words ns w texts root depth c.args.node.0 (path_of c.args.question.now.path.now) p (busy_at p c.args.context.now.in_progress) (map (shaped_part g.K.Validate.shape) (map entry_of es)) in
+    end_met w.matcher (mode_of c.args.question.now.mode) (looked (drop c.loop-entry.entry-index c.args.entries.now)) (plan_met (mode_of c.args.question.now.mode) (looked c.args.entries.now)) c.args.context.now.remembered c.loop-entry.context.remembered
+    (ap looked (drop_past c.args.entries.now c.loop-entry.entry-index c.loop-entry-test.false)) (c.loop-entry.invariant.met texts root depth reads l)
+
+pub run::run_edge-returns-then-branch-clause-remembers : goal.run::run_edge-returns-then-branch-clause-remembers
+run::run_edge-returns-then-branch-clause-remembers g t c = λ mode guarded free.
+    let p = steps_to c.args.question.now.place.now in
+    let e = edge_of c.args.edge.now in
+    let old = entered_old e.node p c.args.context.now.in_progress c.in_ok-enter.field-0 c.enter.new.self.in_progress (rw c.in_ok-here.ensures.same at c.in_ok-enter.ensures.enters) c.if-branch.true in
+    absurd (true≢false (sym old.0 ∙ free))
+
+pub run::run_edge-returns-in-Some-clause-says : goal.run::run_edge-returns-in-Some-clause-says
+run::run_edge-returns-in-Some-clause-says g t c =
+    let set = setting g.K.Validate.words g.K.Validate.is_whole g.K.Validate.shape g.M.Matcher.matching c.args.engine.now in
+    let q = asking c.args.question.now in
+    let p = steps_to c.args.question.now.place.now in
+    let e = edge_of c.args.edge.now in
+    let entered = entered_new e.node p c.args.context.now.in_progress c.in_ok-enter.field-0 c.enter.new.self.in_progress (rw c.in_ok-here.ensures.same at c.in_ok-enter.ensures.enters) c.if-branch.false in
+    let found = sym (rw c.in_ok-here.ensures.same at c.in-Some.ensures.read) in
+    read_says set q e c.args.context.now c.if-not-edge.false entered.0 c.enter.new.self c.exit.new.self c.in-Some.valid (told.Truth c.in-Some.valid) entered.1 c.enter.ensures.verdicts found (λ texts. refl) c.requires.may.goes_on refl
+
+pub run::run_edge-returns-in-Some-clause-meets : goal.run::run_edge-returns-in-Some-clause-meets
+run::run_edge-returns-in-Some-clause-meets g t c =
+    let set = setting g.K.Validate.words g.K.Validate.is_whole g.K.Validate.shape g.M.Matcher.matching c.args.engine.now in
+    let q = asking c.args.question.now in
+    let p = steps_to c.args.question.now.place.now in
+    let e = edge_of c.args.edge.now in
+    let entered = entered_new e.node p c.args.context.now.in_progress c.in_ok-enter.field-0 c.enter.new.self.in_progress (rw c.in_ok-here.ensures.same at c.in_ok-enter.ensures.enters) c.if-branch.false in
+    let found = sym (rw c.in_ok-here.ensures.same at c.in-Some.ensures.read) in
+    read_meets_edge set q e c.args.context.now c.if-not-edge.false entered.0 c.enter.new.self c.exit.new.self c.in-Some.valid (told.Truth c.in-Some.valid) entered.1 c.enter.ensures.verdicts found (λ texts. refl) c.requires.may.goes_on (c.exit.ensures.remembered ∙ c.enter.ensures.remembered)
+
+pub run::run_edge-returns-clause-says : goal.run::run_edge-returns-clause-says
+run::run_edge-returns-clause-says g t c =
+    let set = setting g.K.Validate.words g.K.Validate.is_whole g.K.Validate.shape g.M.Matcher.matching c.args.engine.now in
+    let q = asking c.args.question.now in
+    let p = steps_to c.args.question.now.place.now in
+    let e = edge_of c.args.edge.now in
+    let entered = entered_new e.node p c.args.context.now.in_progress c.in_ok-enter.field-0 c.enter.new.self.in_progress (rw c.in_ok-here.ensures.same at c.in_ok-enter.ensures.enters) c.if-branch.false in
+    let c2 = c.begin_visit-mark.new.context in
+    let c3 = c.run_node-2.new.context in
+    let pairs : c2.in_progress ≡ c.args.context.now.in_progress ++ (e.node, p) ∷ [] = ap (λ (z : Context). z.in_progress) c.begin_visit-mark.ensures.counted ∙ entered.1 in
+    let met : c2.remembered ≡ c.args.context.now.remembered = ap (λ (z : Context). z.remembered) c.begin_visit-mark.ensures.counted ∙ c.enter.ensures.remembered in
+    let there : steps_to c.given-place.result ≡ p = c.given-place.ensures.same ∙ c.in_ok-here.ensures.same in
+    let at_asked : (record { subject = q.subject; place = steps_to c.given-place.result; path = path_of c.across-whole.result; mode = q.mode }) ≡ asked_across set q e c.args.context.now c.if-not-edge.false entered.0
+    = λ i. record { subject = q.subject; place = there i; path = c.across-whole.ensures.appended i; mode = q.mode } in
+    let says = subst (λ z. NodeSays set z c2 e.node c.in_ok-computed.computed) at_asked c.in_ok-computed.ensures.says in
+    let meets = subst (λ z. MeetsNode set z c2 c3 e.node) at_asked c.in_ok-computed.ensures.meets in
+    let keeps = c.in_ok-computed.ensures.keeps in
+    computed_says set q e c.args.context.now c.if-not-edge.false entered.0 c.enter.new.self c2 c3 c.kept_reply.new.context c.exit-2.new.self c.begin_visit-mark.result c.in_ok-computed.computed c.in_ok-reply.reply pairs met says meets keeps c.in_ok-reply.ensures.same
+
+pub run::run_edge-returns-clause-meets : goal.run::run_edge-returns-clause-meets
+run::run_edge-returns-clause-meets g t c =
+    let set = setting g.K.Validate.words g.K.Validate.is_whole g.K.Validate.shape g.M.Matcher.matching c.args.engine.now in
+    let q = asking c.args.question.now in
+    let p = steps_to c.args.question.now.place.now in
+    let e = edge_of c.args.edge.now in
+    let entered = entered_new e.node p c.args.context.now.in_progress c.in_ok-enter.field-0 c.enter.new.self.in_progress (rw c.in_ok-here.ensures.same at c.in_ok-enter.ensures.enters) c.if-branch.false in
+    let c2 = c.begin_visit-mark.new.context in
+    let c3 = c.run_node-2.new.context in
+    let pairs : c2.in_progress ≡ c.args.context.now.in_progress ++ (e.node, p) ∷ [] = ap (λ (z : Context). z.in_progress) c.begin_visit-mark.ensures.counted ∙ entered.1 in
+    let met : c2.remembered ≡ c.args.context.now.remembered = ap (λ (z : Context). z.remembered) c.begin_visit-mark.ensures.counted ∙ c.enter.ensures.remembered in
+    let there : steps_to c.given-place.result ≡ p = c.given-place.ensures.same ∙ c.in_ok-here.ensures.same in
+    let at_asked : (record { subject = q.subject; place = steps_to c.given-place.result; path = path_of c.across-whole.result; mode = q.mode }) ≡ asked_across set q e c.args.context.now c.if-not-edge.false entered.0
+    = λ i. record { subject = q.subject; place = there i; path = c.across-whole.ensures.appended i; mode = q.mode } in
+    let says = subst (λ z. NodeSays set z c2 e.node c.in_ok-computed.computed) at_asked c.in_ok-computed.ensures.says in
+    let meets = subst (λ z. MeetsNode set z c2 c3 e.node) at_asked c.in_ok-computed.ensures.meets in
+    let keeps = c.in_ok-computed.ensures.keeps in
+    let met5 = c.exit-2.ensures.remembered ∙ ap (λ (z : Context). z.remembered) c.kept_reply.ensures.frame in
+    computed_meets set q e c.args.context.now c.if-not-edge.false entered.0 c.enter.new.self c2 c3 c.kept_reply.new.context c.exit-2.new.self c.begin_visit-mark.result c.in_ok-computed.computed c.in_ok-reply.reply pairs met says meets keeps c.in_ok-reply.ensures.same met5
+
+pub run::run_edge-returns-clause-stays : goal.run::run_edge-returns-clause-stays
+run::run_edge-returns-clause-stays g t c =
+    let set = setting g.K.Validate.words g.K.Validate.is_whole g.K.Validate.shape g.M.Matcher.matching c.args.engine.now in
+    let q = asking c.args.question.now in
+    let p = steps_to c.args.question.now.place.now in
+    let e = edge_of c.args.edge.now in
+    let entered = entered_new e.node p c.args.context.now.in_progress c.in_ok-enter.field-0 c.enter.new.self.in_progress (rw c.in_ok-here.ensures.same at c.in_ok-enter.ensures.enters) c.if-branch.false in
+    let c2 = c.begin_visit-mark.new.context in
+    let c3 = c.run_node-2.new.context in
+    let pairs : c2.in_progress ≡ c.args.context.now.in_progress ++ (e.node, p) ∷ [] = ap (λ (z : Context). z.in_progress) c.begin_visit-mark.ensures.counted ∙ entered.1 in
+    let met : c2.remembered ≡ c.args.context.now.remembered = ap (λ (z : Context). z.remembered) c.begin_visit-mark.ensures.counted ∙ c.enter.ensures.remembered in
+    let there : steps_to c.given-place.result ≡ p = c.given-place.ensures.same ∙ c.in_ok-here.ensures.same in
+    let at_asked : (record { subject = q.subject; place = steps_to c.given-place.result; path = path_of c.across-whole.result; mode = q.mode }) ≡ asked_across set q e c.args.context.now c.if-not-edge.false entered.0
+    = λ i. record { subject = q.subject; place = there i; path = c.across-whole.ensures.appended i; mode = q.mode } in
+    let says = subst (λ z. NodeSays set z c2 e.node c.in_ok-computed.computed) at_asked c.in_ok-computed.ensures.says in
+    let meets = subst (λ z. MeetsNode set z c2 c3 e.node) at_asked c.in_ok-computed.ensures.meets in
+    let keeps = c.in_ok-computed.ensures.keeps in
+    let read = ap (λ (z : Context). z.verdicts) c.begin_visit-mark.ensures.counted ∙ c.enter.ensures.verdicts in
+    let stays = subst (λ z. StaysRight set z c2 c3) at_asked c.in_ok-computed.ensures.stays in
+    let kept = rw c.in_ok-here.ensures.same at c.in_ok-reply.ensures.kept in
+    let few = rw c.in_ok-here.ensures.same at c.in_ok-reply.ensures.few in
+    computed_stays set q e c.args.context.now c.if-not-edge.false entered.0 c.enter.new.self c2 c3 c.kept_reply.new.context c.exit-2.new.self c.begin_visit-mark.result c.in_ok-computed.computed c.in_ok-reply.reply pairs met says meets keeps c.in_ok-reply.ensures.same
+    g.met.K.Validate.asks_verdicts kept read stays few c.kept_reply.ensures.other_modes (ap (λ (z : Context). z.remembered) c.kept_reply.ensures.frame) c.exit-2.ensures.remembered c.exit-2.ensures.verdicts
+
+pub run::run_edge-returns-clause-remembers : goal.run::run_edge-returns-clause-remembers
+run::run_edge-returns-clause-remembers g t c =
+    let set = setting g.K.Validate.words g.K.Validate.is_whole g.K.Validate.shape g.M.Matcher.matching c.args.engine.now in
+    let q = asking c.args.question.now in
+    let p = steps_to c.args.question.now.place.now in
+    let e = edge_of c.args.edge.now in
+    let entered = entered_new e.node p c.args.context.now.in_progress c.in_ok-enter.field-0 c.enter.new.self.in_progress (rw c.in_ok-here.ensures.same at c.in_ok-enter.ensures.enters) c.if-branch.false in
+    let c2 = c.begin_visit-mark.new.context in
+    let c3 = c.run_node-2.new.context in
+    let pairs : c2.in_progress ≡ c.args.context.now.in_progress ++ (e.node, p) ∷ [] = ap (λ (z : Context). z.in_progress) c.begin_visit-mark.ensures.counted ∙ entered.1 in
+    let met : c2.remembered ≡ c.args.context.now.remembered = ap (λ (z : Context). z.remembered) c.begin_visit-mark.ensures.counted ∙ c.enter.ensures.remembered in
+    let there : steps_to c.given-place.result ≡ p = c.given-place.ensures.same ∙ c.in_ok-here.ensures.same in
+    let at_asked : (record { subject = q.subject; place = steps_to c.given-place.result; path = path_of c.across-whole.result; mode = q.mode }) ≡ asked_across set q e c.args.context.now c.if-not-edge.false entered.0
+    = λ i. record { subject = q.subject; place = there i; path = c.across-whole.ensures.appended i; mode = q.mode } in
+    let says = subst (λ z. NodeSays set z c2 e.node c.in_ok-computed.computed) at_asked c.in_ok-computed.ensures.says in
+    let meets = subst (λ z. MeetsNode set z c2 c3 e.node) at_asked c.in_ok-computed.ensures.meets in
+    let keeps = c.in_ok-computed.ensures.keeps in
+    let kept = rw c.in_ok-here.ensures.same at c.in_ok-reply.ensures.kept in
+    let none = sym (rw c.in_ok-here.ensures.same at c.in_default.ensures.read) in
+    let left = ap (λ (z : Context). z.in_progress) c.kept_reply.ensures.frame ∙ keeps.in_progress in
+    let back = pairs_back set q e c.args.context.now c.if-not-edge.false entered.0 c2 c.exit-2.new.self pairs (sym left ∙ rw c.in_ok-here.ensures.same at c.exit-2.ensures.left) in
+    let visits = c.exit-2.ensures.visits ∙ ap (λ (z : Context). z.visits) c.kept_reply.ensures.frame in
+    let counted = ap (λ (z : Context). z.visits) c.begin_visit-mark.ensures.counted ∙ ap (visited_in_mode q.mode) c.enter.ensures.visits in
+    let more = subst (λ z. z ≤ c3.visits) counted c.in_ok-computed.ensures.counts in
+    computed_remembers set q e c.args.context.now c.if-not-edge.false entered.0 c.enter.new.self c2 c3 c.kept_reply.new.context c.exit-2.new.self c.begin_visit-mark.result c.in_ok-computed.computed c.in_ok-reply.reply pairs met says meets keeps c.in_ok-reply.ensures.same
+    g.met.K.Validate.asks_verdicts kept entered.1 c.enter.ensures.verdicts none (c.begin_visit-mark.ensures.mark ∙ c.enter.ensures.visits) back visits more c.exit-2.ensures.verdicts
+
+pub run::run_edge-returns-clause-counts : goal.run::run_edge-returns-clause-counts
+run::run_edge-returns-clause-counts g t c =
+    let visits = c.exit-2.ensures.visits ∙ ap (λ (z : Context). z.visits) c.kept_reply.ensures.frame in
+    let before = subst (λ z. z ≤ c.begin_visit-mark.new.context.visits) c.enter.ensures.visits c.begin_visit-mark.ensures.more in
+    let after = subst (λ z. c.begin_visit-mark.new.context.visits ≤ z) (sym visits) c.in_ok-computed.ensures.counts in
+    no_fewer c.args.context.now.visits c.begin_visit-mark.new.context.visits c.exit-2.new.self.visits before after
+
+pub run::run_edge-returns-in-Some-clause-remembers : goal.run::run_edge-returns-in-Some-clause-remembers
+run::run_edge-returns-in-Some-clause-remembers g t c =
+    let set = setting g.K.Validate.words g.K.Validate.is_whole g.K.Validate.shape g.M.Matcher.matching c.args.engine.now in
+    let q = asking c.args.question.now in
+    let p = steps_to c.args.question.now.place.now in
+    let e = edge_of c.args.edge.now in
+    let c1 = c.enter.new.self in
+    let c5 = c.exit.new.self in
+    let entered = entered_new e.node p c.args.context.now.in_progress c.in_ok-enter.field-0 c1.in_progress (rw c.in_ok-here.ensures.same at c.in_ok-enter.ensures.enters) c.if-branch.false in
+    let found = sym (rw c.in_ok-here.ensures.same at c.in-Some.ensures.read) in
+    let back = pairs_back set q e c.args.context.now c.if-not-edge.false entered.0 c1 c5 entered.1 (rw c.in_ok-here.ensures.same at c.exit.ensures.left) in
+    let same = same_context c.args.context.now c5 back (c.exit.ensures.remembered ∙ c.enter.ensures.remembered) (c.exit.ensures.marking ∙ c.enter.ensures.marking) (c.exit.ensures.verdicts ∙ c.enter.ensures.verdicts) (c.exit.ensures.visits ∙ c.enter.ensures.visits) in
+    read_remembers set q e c.args.context.now c.if-not-edge.false entered.0 c1 c5 c.in-Some.valid (told.Truth c.in-Some.valid) entered.1 c.enter.ensures.verdicts found (λ texts. refl) same
+
+pub run::run_entries-returns-then-is_settled-clause-counts : goal.run::run_entries-returns-then-is_settled-clause-counts
+run::run_entries-returns-then-is_settled-clause-counts g t c = no_fewer c.args.context.now.visits c.loop-entry.context.visits c.run_entry.new.context.visits c.loop-entry.invariant.counted c.in_ok-more.ensures.counts
+
+pub run::run_entries-returns-then-is_settled-clause-stays : goal.run::run_entries-returns-then-is_settled-clause-stays
+run::run_entries-returns-then-is_settled-clause-stays g t c = λ layout laid right. c.in_ok-more.ensures.stays layout laid (c.loop-entry.invariant.stays layout laid right)
+
+pub run::run_entries-returns-then-is_settled-clause-remembers : goal.run::run_entries-returns-then-is_settled-clause-remembers
+run::run_entries-returns-then-is_settled-clause-remembers g t c =
+    alone_remembers (asking c.args.question.now) entry_of (shaped_part g.K.Validate.shape) c.args.entries.now c.loop-entry.entry-index c.entry-item.result c.loop-entry-test.true c.entry-item.is c.args.context.now c.loop-entry.context c.run_entry.new.context c.loop-entry.found c.in_ok-more.more c.in_ok-found.found c.loop-entry.invariant.first c.in_ok-found.ensures.both c.in_ok-more.ensures.remembers
+
+pub run::run_entries-returns-clause-remembers : goal.run::run_entries-returns-clause-remembers
+run::run_entries-returns-clause-remembers g t c =
+    ended_remembers (asking c.args.question.now) entry_of (shaped_part g.K.Validate.shape) c.args.entries.now c.loop-entry.entry-index c.loop-entry-test.false c.args.context.now c.loop-entry.context c.loop-entry.found c.loop-entry.invariant.remembers
+
+pub run::run_entry-returns-then-asks_verdict_first-clause-stays : goal.run::run_entry-returns-then-asks_verdict_first-clause-stays
+run::run_entry-returns-then-asks_verdict_first-clause-stays g t c = if_ok_mono c.run_form-then-asks_verdict_first.result _ _ (λ r stays layout laid right. stays layout laid (c.in_ok-verdict.ensures.stays layout laid right)) c.run_form-then-asks_verdict_first.ensures.stays
+
+pub run::run_entry-returns-then-asks_verdict_first-clause-counts : goal.run::run_entry-returns-then-asks_verdict_first-clause-counts
+run::run_entry-returns-then-asks_verdict_first-clause-counts g t c = if_ok_mono c.run_form-then-asks_verdict_first.result _ _ (λ r more. no_fewer c.args.context.now.visits c.run_form.new.context.visits c.run_form-then-asks_verdict_first.new.context.visits c.in_ok-verdict.ensures.counts more) c.run_form-then-asks_verdict_first.ensures.counts
+
+pub run::run_form-returns-in_ok-reply-in-Reference-clause-remembers : goal.run::run_form-returns-in_ok-reply-in-Reference-clause-remembers
+run::run_form-returns-in_ok-reply-in-Reference-clause-remembers g t c =
+    let q = asking c.args.question.now in
+    let e = edge_of c.in-Reference.edge in
+    let remembers = subst (λ path. EdgeRemembers (record { subject = q.subject; place = q.place; path = path; mode = q.mode }) c.args.context.now c.run_edge.new.context e c.in_ok-reply-in-Reference.reply) c.under_reference-path.ensures.same c.in_ok-reply-in-Reference.ensures.remembers in
+    if_ok_mono c.stamped_reply.result _ _ (λ r stamps. stamped_remembers q c.args.context.now c.run_edge.new.context e _ c.in_ok-reply-in-Reference.reply r _ (ap (λ z. shaped_form g.K.Validate.shape (form_of z)) c.in-Reference.is) stamps remembers) c.stamped_reply.ensures.stamped
+
+pub run::run_keyword-returns-clause-stays : goal.run::run_keyword-returns-clause-stays
+run::run_keyword-returns-clause-stays g t c = if_ok_always c.finished.result _ (λ layout laid right.
+    let set = setting g.K.Validate.words g.K.Validate.is_whole g.K.Validate.shape g.M.Matcher.matching c.args.engine.now in
+    subst (RemembersRightly set layout) (sym c.finished.ensures.stays) (c.in_ok-answer.ensures.stays layout laid right))
+
+pub run::run_keyword-returns-clause-counts : goal.run::run_keyword-returns-clause-counts
+run::run_keyword-returns-clause-counts g t c = if_ok_always c.finished.result _ (rw (← c.finished.ensures.stays) at c.in_ok-answer.ensures.counts)
+
+pub run::run_node-returns-in-Keywords-clause-remembers : goal.run::run_node-returns-in-Keywords-clause-remembers
+run::run_node-returns-in-Keywords-clause-remembers g t c =
+    let plan = plan_is g.K.Validate.shape c.args.engine.now.nodes.now c.args.node.0 (node_of c.node-found.result.now) _ c.node-found.ensures.found (ap (option_map plan_of) c.in-Some.is ∙ ap (λ f. Some (plan_of f)) c.in-Keywords.is) in
+    if_ok_mono c.run_entries.result _ _ (λ r remembers. planned_remembers (asking c.args.question.now) c.args.context.now c.run_entries.new.context (numbered g.K.Validate.shape c.args.engine.now.nodes.now) c.args.node.0 _ r plan remembers) (rw c.as_slice.ensures.value at c.run_entries.ensures.remembers)
+
+pub turns::run_turns-turns-init : goal.turns::run_turns-turns-init
+turns::run_turns-turns-init g t c =
+    let w = settling (g.M.Matcher.matching c.args.engine.now.matcher.now) c.args.context.now.remembered.assumptions in
+    let name = string_bytes c.args.keyword.now.name.now in
+    let ns = numbered g.K.Validate.shape c.args.engine.now.nodes.now in
+    let p = steps_to c.args.question.now.place.now in
+    let s = subject_of c.args.question.now.instance in
+    let m = g.K.Validate.shape c.args.keyword.now.keyword.now in
+    let es = map (option_map edge_of) c.args.keyword.now.children.now in
+    let busy = busy_at p c.args.context.now.in_progress in
+    record {
+      kept = refl;
+      assumes = refl;
+      stays = λ layout laid right. right;
+      can = subst (g.K.Validate.can_be false m s) (c.requires.begun false) ((g.met.K.Validate.turn_laws false m).starts s (mode_of c.args.question.now.mode));
+      counted = as_many c.args.context.now.visits c.args.context.now.visits refl;
+      borrows = λ root at_place. (All-nil (BorrowsItsPlace root), subst (All (PassesBorrowed root)) (sym c.requires.no_faults) (All-nil (PassesBorrowed root)));
+      leads = λ x reads l. begins_on (g.K.Validate.words x.texts) m (g.K.Validate.absorbed m) (g.K.Validate.remaining m) (g.K.Validate.can_be x.texts m) (g.K.Validate.ends x.texts m) (g.K.Validate.fits x.texts m) (g.met.K.Validate.turn_laws x.texts m) s x (mode_of c.args.question.now.mode) (child_says g.K.Validate.words ns x (path_of c.args.question.now.path.now) p busy es) (child_unit g.K.Validate.words ns x (path_of c.args.question.now.path.now) p busy es) (same_edge es) c.args.context.now.marking (c.args.run.now, answer_of x.texts c.args.answer.now) c.requires.no_marks
+          (agrees_answers g.K.Validate.words ns (λ texts m s completion matcher a h. (g.met.K.Validate.function_laws texts m).agree s (matching matcher completion) a h) x (path_of c.args.question.now.path.now) p busy es)
+          (child_valid g.K.Validate.words g.K.Validate.absorbed (λ texts m. keeps_of_turns (g.K.Validate.words texts) m (g.K.Validate.absorbed m) (g.K.Validate.remaining m) (g.K.Validate.can_be texts m) (g.K.Validate.ends texts m) (g.K.Validate.fits texts m) (g.met.K.Validate.turn_laws texts m) (g.met.K.Validate.function_laws texts m)) ns x (path_of c.args.question.now.path.now) p busy es)
+          (asked_alike (g.K.Validate.words x.texts) x.matcher ns (subject_in x.root) x.completion x.depth (path_of c.args.question.now.path.now) p busy es)
+          (c.requires.begun x.texts);
+      met = λ texts root depth reads l. meets_begun (g.K.Validate.words texts) w.matcher w.assumptions (node_at (g.K.Validate.words texts) w.matcher ns (subject_in root) c.args.node.0 (path_of c.args.question.now.path.now) p) s (child_run g.K.Validate.words ns w texts root depth (path_of c.args.question.now.path.now) p busy es) (same_edge es) name m (g.K.Validate.remaining m s) _ (mode_of c.args.question.now.mode) c.args.context.now.marking (c.args.run.now, answer_of texts c.args.answer.now) c.requires.no_marks (c.requires.begun texts) ((g.met.K.Validate.turn_laws texts m).bounded s (mode_of c.args.question.now.mode));
+    }
+
+pub turns::run_turns-ask_child-requires : goal.turns::run_turns-ask_child-requires
+turns::run_turns-ask_child-requires g t c =
+    let ns = numbered g.K.Validate.shape c.args.engine.now.nodes.now in
+    let p = steps_to c.args.question.now.place.now in
+    let s = subject_of c.args.question.now.instance in
+    let m = g.K.Validate.shape c.args.keyword.now.keyword.now in
+    let es = map (option_map edge_of) c.args.keyword.now.children.now in
+    let busy = busy_at p c.args.context.now.in_progress in
+    let told = reply_of false c.turns.reply in
+    let turn = c.in_ok-child.ensures.turns false (tells_nothing (g.K.Validate.is_whole m) s) in
+    let step = rw c.in-Ask.is at (c.in_ok-child.ensures.steps false (tells_nothing (g.K.Validate.is_whole m) s)) in
+    let kept = c.turns.invariant.kept in
+    let l = ap (λ es. left ns (length c.args.engine.now.nodes.now) c.args.node.0 s (busy_at p es)) kept in
+    let q : Question = record { child = c.in-Ask.child; below = below_of c.in-Ask.below } in
+    let there = asks_there (g.K.Validate.words false) m (g.K.Validate.absorbed m) (g.K.Validate.remaining m) (g.K.Validate.can_be false m) (g.K.Validate.ends false m) (g.K.Validate.fits false m) (g.met.K.Validate.turn_laws false m) s (c.turns.run, answer_of false c.turns.answer) told q (mode_of c.in-Ask.wanted) c.turns.invariant.can ((g.met.K.Validate.function_laws false m).present s) step in
+    λ κs h. (lower_same _ _ t 2 0 l c.decreases, (h.0, (h.1.0, (h.1.1.0, (h.1.1.1, (record { known = c.requires.may.known; ranked = c.requires.may.ranked; above = subst (NoDeeper p) (sym kept) c.requires.may.above; goes_on = (c.requires.may.goes_on.0, c.requires.may.goes_on.1, c.turns.invariant.stays c.requires.may.goes_on.0 c.requires.may.goes_on.1 c.requires.may.goes_on.2) }, (keyword_children ns c.args.node.0 m es c.requires.form, there)))))))
+
+pub turns::run_turns-returns-in-Done-clause-right : goal.turns::run_turns-returns-in-Done-clause-right
+turns::run_turns-returns-in-Done-clause-right g t c = λ x reads l.
+    let ns = numbered g.K.Validate.shape c.args.engine.now.nodes.now in
+    let p = steps_to c.args.question.now.place.now in
+    let s = subject_of c.args.question.now.instance in
+    let m = g.K.Validate.shape c.args.keyword.now.keyword.now in
+    let es = map (option_map edge_of) c.args.keyword.now.children.now in
+    let busy = busy_at p c.args.context.now.in_progress in
+    let tells = tells_keyword g.K.Validate.is_whole ns (length c.args.engine.now.nodes.now) (settling (g.M.Matcher.matching c.args.engine.now.matcher.now) c.args.context.now.remembered.assumptions) p s x c.args.node.0 m es c.requires.may.known reads c.requires.form in
+    let answers = child_says g.K.Validate.words ns x (path_of c.args.question.now.path.now) p busy es in
+    let units = child_unit g.K.Validate.words ns x (path_of c.args.question.now.path.now) p busy es in
+    ended_on (g.K.Validate.words x.texts) m (g.K.Validate.absorbed m) (g.K.Validate.remaining m) (g.K.Validate.can_be x.texts m) (g.K.Validate.ends x.texts m) (g.K.Validate.fits x.texts m) (g.met.K.Validate.turn_laws x.texts m) s x (mode_of c.args.question.now.mode) answers units (same_edge es) c.turns.context.marking (c.turns.run, answer_of x.texts c.turns.answer) (c.turn.new.run, answer_of x.texts c.turn.new.answer) (reply_of x.texts c.turns.reply) (answer_of x.texts c.turn.new.answer) (c.turns.invariant.leads x reads l) (c.in_ok-child.ensures.turns x.texts tells) (g.met.K.Validate.answers x.texts c.turn.new.run (answer_of x.texts c.turn.new.answer)) (rw c.in-Done.is at (c.in_ok-child.ensures.steps x.texts tells))
+
+pub turns::run_turns-returns-in-Done-clause-passes : goal.turns::run_turns-returns-in-Done-clause-passes
+turns::run_turns-returns-in-Done-clause-passes g t c = λ root at_place.
+    let i = c.turns.invariant.borrows root at_place in
+    c.in_ok-child.ensures.borrows root i.0 i.1
+
+pub turns::run_turns-turns-smaller-in-Ask : goal.turns::run_turns-turns-smaller-in-Ask
+turns::run_turns-turns-smaller-in-Ask g t c =
+    let ns = numbered g.K.Validate.shape c.args.engine.now.nodes.now in
+    let p = steps_to c.args.question.now.place.now in
+    let s = subject_of c.args.question.now.instance in
+    let m = g.K.Validate.shape c.args.keyword.now.keyword.now in
+    let es = map (option_map edge_of) c.args.keyword.now.children.now in
+    let busy = busy_at p c.args.context.now.in_progress in
+    let told = reply_of false c.turns.reply in
+    let turn = c.in_ok-child.ensures.turns false (tells_nothing (g.K.Validate.is_whole m) s) in
+    let step = rw c.in-Ask.is at (c.in_ok-child.ensures.steps false (tells_nothing (g.K.Validate.is_whole m) s)) in
+    let q : Question = record { child = c.in-Ask.child; below = below_of c.in-Ask.below } in
+    falls_turned (g.K.Validate.words false) m (g.K.Validate.absorbed m) (g.K.Validate.remaining m) (g.K.Validate.can_be false m) (g.K.Validate.ends false m) (g.K.Validate.fits false m) (g.met.K.Validate.turn_laws false m) s (c.turns.run, answer_of false c.turns.answer) (c.turn.new.run, answer_of false c.turn.new.answer) told (ask q (mode_of c.in-Ask.wanted)) c.turns.invariant.can turn step (ask_goes_on q (mode_of c.in-Ask.wanted))
+
+pub turns::run_turns-turns-preserved-in-Ask : goal.turns::run_turns-turns-preserved-in-Ask
+turns::run_turns-turns-preserved-in-Ask g t c =
+    let w = settling (g.M.Matcher.matching c.args.engine.now.matcher.now) c.args.context.now.remembered.assumptions in
+    let name = string_bytes c.args.keyword.now.name.now in
+    let ns = numbered g.K.Validate.shape c.args.engine.now.nodes.now in
+    let p = steps_to c.args.question.now.place.now in
+    let s = subject_of c.args.question.now.instance in
+    let m = g.K.Validate.shape c.args.keyword.now.keyword.now in
+    let es = map (option_map edge_of) c.args.keyword.now.children.now in
+    let busy = busy_at p c.args.context.now.in_progress in
+    let told = reply_of false c.turns.reply in
+    let turn = c.in_ok-child.ensures.turns false (tells_nothing (g.K.Validate.is_whole m) s) in
+    let step = rw c.in-Ask.is at (c.in_ok-child.ensures.steps false (tells_nothing (g.K.Validate.is_whole m) s)) in
+    let q : Question = record { child = c.in-Ask.child; below = below_of c.in-Ask.below } in
+    let says = tells_moved (setting g.K.Validate.words g.K.Validate.is_whole g.K.Validate.shape g.M.Matcher.matching c.args.engine.now) (record { subject = s; place = p; path = path_of c.args.question.now.path.now; mode = mode_of c.in-Ask.wanted }) c.args.context.now c.turns.context c.turns.invariant.kept c.turns.invariant.assumes c.args.node.0 es q c.in_ok-reply-in-Ask.reply c.in_ok-reply-in-Ask.ensures.gives in
+    record {
+      kept = c.in_ok-reply-in-Ask.ensures.keeps.in_progress ∙ c.turns.invariant.kept;
+      assumes = c.in_ok-reply-in-Ask.ensures.keeps.assumptions ∙ c.turns.invariant.assumes;
+      stays = λ layout laid right. c.in_ok-reply-in-Ask.ensures.stays layout laid (c.turns.invariant.stays layout laid right);
+      can = can_after (g.K.Validate.words false) m (g.K.Validate.absorbed m) (g.K.Validate.remaining m) (g.K.Validate.can_be false m) (g.K.Validate.ends false m) (g.K.Validate.fits false m) (g.met.K.Validate.turn_laws false m) s (c.turns.run, answer_of false c.turns.answer) (c.turn.new.run, answer_of false c.turn.new.answer) told c.turns.invariant.can turn;
+      counted = no_fewer c.args.context.now.visits c.turns.context.visits c.ask_child.new.context.visits c.turns.invariant.counted c.in_ok-reply-in-Ask.ensures.counts;
+      borrows = λ root at_place.
+          let i = c.turns.invariant.borrows root at_place in
+          (c.in_ok-reply-in-Ask.ensures.borrows root at_place, c.in_ok-child.ensures.borrows root i.0 i.1);
+      leads = λ x reads l.
+          let tells = tells_keyword g.K.Validate.is_whole ns (length c.args.engine.now.nodes.now) (settling (g.M.Matcher.matching c.args.engine.now.matcher.now) c.args.context.now.remembered.assumptions) p s x c.args.node.0 m es c.requires.may.known reads c.requires.form in
+          asked_on (g.K.Validate.words x.texts) m (g.K.Validate.absorbed m) (g.K.Validate.remaining m) (g.K.Validate.can_be x.texts m) (g.K.Validate.ends x.texts m) (g.K.Validate.fits x.texts m) (g.met.K.Validate.turn_laws x.texts m) s x (mode_of c.args.question.now.mode) (child_says g.K.Validate.words ns x (path_of c.args.question.now.path.now) p busy es) (child_unit g.K.Validate.words ns x (path_of c.args.question.now.path.now) p busy es) (same_edge es) c.turns.context.marking c.ask_child.new.context.marking (c.turns.run, answer_of x.texts c.turns.answer) (c.turn.new.run, answer_of x.texts c.turn.new.answer)
+          (reply_of x.texts c.turns.reply) (reply_of x.texts c.in_ok-reply-in-Ask.reply) q (mode_of c.in-Ask.wanted) c.in_ok-reply-in-Ask.ensures.keeps.marking (c.turns.invariant.leads x reads l) (c.in_ok-child.ensures.turns x.texts tells) (rw c.in-Ask.is at (c.in_ok-child.ensures.steps x.texts tells)) (says x reads l ∙ answer_is (g.K.Validate.words x.texts) m s (matching x.matcher x.completion) (child_says g.K.Validate.words ns x (path_of c.args.question.now.path.now) p busy es) (child_unit g.K.Validate.words ns x (path_of c.args.question.now.path.now) p busy es) (same_edge es) (mode_of c.in-Ask.wanted) q);
+      met = λ texts root depth reads l.
+          let tells = tells_keyword g.K.Validate.is_whole ns (length c.args.engine.now.nodes.now) w p s (reading w texts root depth) c.args.node.0 m es c.requires.may.known reads c.requires.form in
+          let step' = rw c.in-Ask.is at (c.in_ok-child.ensures.steps texts tells) in
+          let turn' = c.in_ok-child.ensures.turns texts tells in
+          let falls = falls_turned (g.K.Validate.words texts) m (g.K.Validate.absorbed m) (g.K.Validate.remaining m) (g.K.Validate.can_be texts m) (g.K.Validate.ends texts m) (g.K.Validate.fits texts m) (g.met.K.Validate.turn_laws texts m) s (c.turns.run, answer_of texts c.turns.answer) (c.turn.new.run, answer_of texts c.turn.new.answer) (reply_of texts c.turns.reply) (ask q (mode_of c.in-Ask.wanted)) (c.turns.invariant.leads (reading w texts root depth) reads l).can turn' step' (ask_goes_on q (mode_of c.in-Ask.wanted)) in
+          let replied = says (reading w texts root depth) reads l ∙ told_is g.K.Validate.words ns w texts root depth (mode_of c.in-Ask.wanted) (path_of c.args.question.now.path.now) p busy es q in
+          let met = moved (λ es' as'. ChildMeets g.K.Validate.words g.K.Validate.is_whole ns (length c.args.engine.now.nodes.now) (settling (g.M.Matcher.matching c.args.engine.now.matcher.now) as') (mode_of c.in-Ask.wanted) (path_of c.args.question.now.path.now) p (busy_at p es') s c.turns.context.remembered c.ask_child.new.context.remembered c.args.node.0 es q) c.turns.invariant.kept c.turns.invariant.assumes c.in_ok-reply-in-Ask.ensures.meets texts root depth reads l in
+          meets_asked (g.K.Validate.words texts) w.matcher w.assumptions (node_at (g.K.Validate.words texts) w.matcher ns (subject_in root) c.args.node.0 (path_of c.args.question.now.path.now) p) s (child_run g.K.Validate.words ns w texts root depth (path_of c.args.question.now.path.now) p busy es) (same_edge es) name m (g.K.Validate.remaining m s) _ _ _ _ _ _ _ _ _ _ q (mode_of c.in-Ask.wanted) c.in_ok-reply-in-Ask.ensures.keeps.marking turn' step' falls replied met (c.turns.invariant.met texts root depth reads l);
+    }
+
+pub turns::run_turns-turns-smaller-in-Match : goal.turns::run_turns-turns-smaller-in-Match
+turns::run_turns-turns-smaller-in-Match g t c =
+    let ns = numbered g.K.Validate.shape c.args.engine.now.nodes.now in
+    let w = settling (g.M.Matcher.matching c.args.engine.now.matcher.now) c.args.context.now.remembered.assumptions in
+    let p = steps_to c.args.question.now.place.now in
+    let s = subject_of c.args.question.now.instance in
+    let m = g.K.Validate.shape c.args.keyword.now.keyword.now in
+    let es = map (option_map edge_of) c.args.keyword.now.children.now in
+    let busy = busy_at p c.args.context.now.in_progress in
+    let name = string_bytes c.args.keyword.now.name.now in
+    let told = reply_of false c.turns.reply in
+    let turn = c.in_ok-child.ensures.turns false (tells_nothing (g.K.Validate.is_whole m) s) in
+    let a : Pair = record { pattern = c.in-Match.pattern.now; subject = c.in-Match.subject.now } in
+    let point = point_of c.in-Match.pattern.now c.in-Match.point in
+    let step = rw c.in-Match.is at (c.in_ok-child.ensures.steps false (tells_nothing (g.K.Validate.is_whole m) s)) in
+    falls_turned (g.K.Validate.words false) m (g.K.Validate.absorbed m) (g.K.Validate.remaining m) (g.K.Validate.can_be false m) (g.K.Validate.ends false m) (g.K.Validate.fits false m) (g.met.K.Validate.turn_laws false m) s (c.turns.run, answer_of false c.turns.answer) (c.turn.new.run, answer_of false c.turn.new.answer) told (match_text a point) c.turns.invariant.can turn step (match_goes_on a point)
+
+pub turns::run_turns-turns-smaller-in-Ecma : goal.turns::run_turns-turns-smaller-in-Ecma
+turns::run_turns-turns-smaller-in-Ecma g t c =
+    let ns = numbered g.K.Validate.shape c.args.engine.now.nodes.now in
+    let w = settling (g.M.Matcher.matching c.args.engine.now.matcher.now) c.args.context.now.remembered.assumptions in
+    let p = steps_to c.args.question.now.place.now in
+    let s = subject_of c.args.question.now.instance in
+    let m = g.K.Validate.shape c.args.keyword.now.keyword.now in
+    let es = map (option_map edge_of) c.args.keyword.now.children.now in
+    let busy = busy_at p c.args.context.now.in_progress in
+    let name = string_bytes c.args.keyword.now.name.now in
+    let told = reply_of false c.turns.reply in
+    let turn = c.in_ok-child.ensures.turns false (tells_nothing (g.K.Validate.is_whole m) s) in
+    let step = rw c.in-Ecma.is at (c.in_ok-child.ensures.steps false (tells_nothing (g.K.Validate.is_whole m) s)) in
+    falls_turned (g.K.Validate.words false) m (g.K.Validate.absorbed m) (g.K.Validate.remaining m) (g.K.Validate.can_be false m) (g.K.Validate.ends false m) (g.K.Validate.fits false m) (g.met.K.Validate.turn_laws false m) s (c.turns.run, answer_of false c.turns.answer) (c.turn.new.run, answer_of false c.turn.new.answer) told (ecma c.in-Ecma.text.now) c.turns.invariant.can turn step (ecma_goes_on c.in-Ecma.text.now)
+
+pub turns::run_turns-asked_match-requires : goal.turns::run_turns-asked_match-requires
+turns::run_turns-asked_match-requires g t c =
+    let ns = numbered g.K.Validate.shape c.args.engine.now.nodes.now in
+    let w = settling (g.M.Matcher.matching c.args.engine.now.matcher.now) c.args.context.now.remembered.assumptions in
+    let p = steps_to c.args.question.now.place.now in
+    let s = subject_of c.args.question.now.instance in
+    let m = g.K.Validate.shape c.args.keyword.now.keyword.now in
+    let es = map (option_map edge_of) c.args.keyword.now.children.now in
+    let busy = busy_at p c.args.context.now.in_progress in
+    let name = string_bytes c.args.keyword.now.name.now in
+    let told = reply_of false c.turns.reply in
+    let turn = c.in_ok-child.ensures.turns false (tells_nothing (g.K.Validate.is_whole m) s) in
+    let a : Pair = record { pattern = c.in-Match.pattern.now; subject = c.in-Match.subject.now } in
+    let point = point_of c.in-Match.pattern.now c.in-Match.point in
+    let step = rw c.in-Match.is at (c.in_ok-child.ensures.steps false (tells_nothing (g.K.Validate.is_whole m) s)) in
+    record { present = matches_there (g.K.Validate.words false) m (g.K.Validate.absorbed m) (g.K.Validate.remaining m) (g.K.Validate.can_be false m) (g.K.Validate.ends false m) (g.K.Validate.fits false m) (g.met.K.Validate.turn_laws false m) s (c.turns.run, answer_of false c.turns.answer) told a point c.turns.invariant.can step }
+
+pub turns::run_turns-turns-preserved-in-Match : goal.turns::run_turns-turns-preserved-in-Match
+turns::run_turns-turns-preserved-in-Match g t c =
+    let ns = numbered g.K.Validate.shape c.args.engine.now.nodes.now in
+    let w = settling (g.M.Matcher.matching c.args.engine.now.matcher.now) c.args.context.now.remembered.assumptions in
+    let p = steps_to c.args.question.now.place.now in
+    let s = subject_of c.args.question.now.instance in
+    let m = g.K.Validate.shape c.args.keyword.now.keyword.now in
+    let es = map (option_map edge_of) c.args.keyword.now.children.now in
+    let busy = busy_at p c.args.context.now.in_progress in
+    let name = string_bytes c.args.keyword.now.name.now in
+    let told = reply_of false c.turns.reply in
+    let turn = c.in_ok-child.ensures.turns false (tells_nothing (g.K.Validate.is_whole m) s) in
+    let a : Pair = record { pattern = c.in-Match.pattern.now; subject = c.in-Match.subject.now } in
+    let point = point_of c.in-Match.pattern.now c.in-Match.point in
+    let n = node_of c.node.result.now in
+    let answer = (w.matcher).is_match a.pattern a.subject in
+    let step = rw c.in-Match.is at (c.in_ok-child.ensures.steps false (tells_nothing (g.K.Validate.is_whole m) s)) in
+    let out = rw c.turns.invariant.assumes at c.in_ok-matches-in-Match.ensures.answer in
+    record {
+      kept = c.asked_match.ensures.in_progress ∙ c.turns.invariant.kept;
+      assumes = ap (λ (r : Remembered). r.assumptions) c.in_ok-matches-in-Match.ensures.met ∙ after_assumes _ _ answer ∙ c.turns.invariant.assumes;
+      stays = λ layout laid right. right_matched (setting g.K.Validate.words g.K.Validate.is_whole g.K.Validate.shape g.M.Matcher.matching c.args.engine.now) layout c.turns.context c.asked_match.new.context _ answer refl c.asked_match.ensures.verdicts c.in_ok-matches-in-Match.ensures.met (c.turns.invariant.stays layout laid right);
+      can = can_after (g.K.Validate.words false) m (g.K.Validate.absorbed m) (g.K.Validate.remaining m) (g.K.Validate.can_be false m) (g.K.Validate.ends false m) (g.K.Validate.fits false m) (g.met.K.Validate.turn_laws false m) s (c.turns.run, answer_of false c.turns.answer) (c.turn.new.run, answer_of false c.turn.new.answer) told c.turns.invariant.can turn;
+      counted = no_fewer c.args.context.now.visits c.turns.context.visits c.asked_match.new.context.visits c.turns.invariant.counted (as_many _ _ c.asked_match.ensures.visits);
+      borrows = λ root at_place.
+          let i = c.turns.invariant.borrows root at_place in
+          (All-nil (BorrowsItsPlace root), c.in_ok-child.ensures.borrows root i.0 i.1);
+      leads = λ x reads l.
+          let tells = tells_keyword g.K.Validate.is_whole ns (length c.args.engine.now.nodes.now) w p s x c.args.node.0 m es c.requires.may.known reads c.requires.form in
+          let is = ap truth (out ∙ ap (λ b. settled b answer) (sym (reads.completes a)) ∙ ap (λ (o : Matcher). settled (completed x.completion a) (o.is_match a.pattern a.subject)) (sym reads.matcher)) in
+          matched_on (g.K.Validate.words x.texts) m (g.K.Validate.absorbed m) (g.K.Validate.remaining m) (g.K.Validate.can_be x.texts m) (g.K.Validate.ends x.texts m) (g.K.Validate.fits x.texts m) (g.met.K.Validate.turn_laws x.texts m) s x (mode_of c.args.question.now.mode) (child_says g.K.Validate.words ns x (path_of c.args.question.now.path.now) p busy es) (child_unit g.K.Validate.words ns x (path_of c.args.question.now.path.now) p busy es) (same_edge es) c.turns.context.marking c.asked_match.new.context.marking (c.turns.run, answer_of x.texts c.turns.answer) (c.turn.new.run, answer_of x.texts c.turn.new.answer)
+          (reply_of x.texts c.turns.reply) (truth c.in_ok-matches-in-Match.matches) a point c.asked_match.ensures.marking (c.turns.invariant.leads x reads l) (c.in_ok-child.ensures.turns x.texts tells) (rw c.in-Match.is at (c.in_ok-child.ensures.steps x.texts tells)) is;
+      met = λ texts root depth reads l.
+          let tells = tells_keyword g.K.Validate.is_whole ns (length c.args.engine.now.nodes.now) w p s (reading w texts root depth) c.args.node.0 m es c.requires.may.known reads c.requires.form in
+          let step' = rw c.in-Match.is at (c.in_ok-child.ensures.steps texts tells) in
+          let turn' = c.in_ok-child.ensures.turns texts tells in
+          let falls = falls_turned (g.K.Validate.words texts) m (g.K.Validate.absorbed m) (g.K.Validate.remaining m) (g.K.Validate.can_be texts m) (g.K.Validate.ends texts m) (g.K.Validate.fits texts m) (g.met.K.Validate.turn_laws texts m) s (c.turns.run, answer_of texts c.turns.answer) (c.turn.new.run, answer_of texts c.turn.new.answer) (reply_of texts c.turns.reply) (match_text a point) (c.turns.invariant.leads (reading w texts root depth) reads l).can turn' step' (match_goes_on a point) in
+          let is = ap truth (out ∙ ap (λ b. settled b answer) (sym (reads.completes a))) in
+          let there = where_is g.K.Validate.shape c.args.engine.now.nodes.now (g.K.Validate.words texts) w.matcher (subject_in root) c.args.node.0 n (path_of c.args.question.now.path.now) p c.node.ensures.found in
+          let new = c.in_ok-matches-in-Match.ensures.met ∙ ap (λ (v : Where). after_match c.turns.context.remembered (record { pair = a; site = site_at v name point }) answer) (sym there) in
+          meets_matched (g.K.Validate.words texts) w.matcher w.assumptions (node_at (g.K.Validate.words texts) w.matcher ns (subject_in root) c.args.node.0 (path_of c.args.question.now.path.now) p) s (child_run g.K.Validate.words ns w texts root depth (path_of c.args.question.now.path.now) p busy es) (same_edge es) name m (g.K.Validate.remaining m s) _ _ _ _ _ _ _ _ _ _ a point c.asked_match.ensures.marking turn' step' falls is new (c.turns.invariant.met texts root depth reads l);
+    }
+
+pub turns::run_turns-turns-preserved-in-Ecma : goal.turns::run_turns-turns-preserved-in-Ecma
+turns::run_turns-turns-preserved-in-Ecma g t c =
+    let ns = numbered g.K.Validate.shape c.args.engine.now.nodes.now in
+    let w = settling (g.M.Matcher.matching c.args.engine.now.matcher.now) c.args.context.now.remembered.assumptions in
+    let p = steps_to c.args.question.now.place.now in
+    let s = subject_of c.args.question.now.instance in
+    let m = g.K.Validate.shape c.args.keyword.now.keyword.now in
+    let es = map (option_map edge_of) c.args.keyword.now.children.now in
+    let busy = busy_at p c.args.context.now.in_progress in
+    let name = string_bytes c.args.keyword.now.name.now in
+    let told = reply_of false c.turns.reply in
+    let turn = c.in_ok-child.ensures.turns false (tells_nothing (g.K.Validate.is_whole m) s) in
+    let text = c.in-Ecma.text.now in
+    let step = rw c.in-Ecma.is at (c.in_ok-child.ensures.steps false (tells_nothing (g.K.Validate.is_whole m) s)) in
+    record {
+      kept = c.turns.invariant.kept;
+      assumes = c.turns.invariant.assumes;
+      stays = c.turns.invariant.stays;
+      can = can_after (g.K.Validate.words false) m (g.K.Validate.absorbed m) (g.K.Validate.remaining m) (g.K.Validate.can_be false m) (g.K.Validate.ends false m) (g.K.Validate.fits false m) (g.met.K.Validate.turn_laws false m) s (c.turns.run, answer_of false c.turns.answer) (c.turn.new.run, answer_of false c.turn.new.answer) told c.turns.invariant.can turn;
+      counted = c.turns.invariant.counted;
+      borrows = λ root at_place.
+          let i = c.turns.invariant.borrows root at_place in
+          (All-nil (BorrowsItsPlace root), c.in_ok-child.ensures.borrows root i.0 i.1);
+      leads = λ x reads l.
+          let tells = tells_keyword g.K.Validate.is_whole ns (length c.args.engine.now.nodes.now) w p s x c.args.node.0 m es c.requires.may.known reads c.requires.form in
+          let is = ap truth (c.in_ok-valid-in-Ecma.ensures.valid ∙ ap (λ (o : Matcher). o.is_ecma text) (sym reads.matcher)) in
+          told_pattern_on (g.K.Validate.words x.texts) m (g.K.Validate.absorbed m) (g.K.Validate.remaining m) (g.K.Validate.can_be x.texts m) (g.K.Validate.ends x.texts m) (g.K.Validate.fits x.texts m) (g.met.K.Validate.turn_laws x.texts m) s x (mode_of c.args.question.now.mode) (child_says g.K.Validate.words ns x (path_of c.args.question.now.path.now) p busy es) (child_unit g.K.Validate.words ns x (path_of c.args.question.now.path.now) p busy es) (same_edge es) c.turns.context.marking c.turns.context.marking (c.turns.run, answer_of x.texts c.turns.answer) (c.turn.new.run, answer_of x.texts c.turn.new.answer)
+          (reply_of x.texts c.turns.reply) (truth c.in_ok-valid-in-Ecma.valid) text refl (c.turns.invariant.leads x reads l) (c.in_ok-child.ensures.turns x.texts tells) (rw c.in-Ecma.is at (c.in_ok-child.ensures.steps x.texts tells)) is;
+      met = λ texts root depth reads l.
+          let tells = tells_keyword g.K.Validate.is_whole ns (length c.args.engine.now.nodes.now) w p s (reading w texts root depth) c.args.node.0 m es c.requires.may.known reads c.requires.form in
+          let step' = rw c.in-Ecma.is at (c.in_ok-child.ensures.steps texts tells) in
+          let turn' = c.in_ok-child.ensures.turns texts tells in
+          let falls = falls_turned (g.K.Validate.words texts) m (g.K.Validate.absorbed m) (g.K.Validate.remaining m) (g.K.Validate.can_be texts m) (g.K.Validate.ends texts m) (g.K.Validate.fits texts m) (g.met.K.Validate.turn_laws texts m) s (c.turns.run, answer_of texts c.turns.answer) (c.turn.new.run, answer_of texts c.turn.new.answer) (reply_of texts c.turns.reply) (ecma text) (c.turns.invariant.leads (reading w texts root depth) reads l).can turn' step' (ecma_goes_on text) in
+          meets_nothing (g.K.Validate.words texts) w.matcher w.assumptions (node_at (g.K.Validate.words texts) w.matcher ns (subject_in root) c.args.node.0 (path_of c.args.question.now.path.now) p) s (child_run g.K.Validate.words ns w texts root depth (path_of c.args.question.now.path.now) p busy es) (same_edge es) name m (g.K.Validate.remaining m s) _ _ _ _ _ _ _ _ _ _ text refl turn' step' falls (ap truth c.in_ok-valid-in-Ecma.ensures.valid) refl (c.turns.invariant.met texts root depth reads l);
+    }
+
+pub turns::run_turns-returns-in-Done-clause-meets : goal.turns::run_turns-returns-in-Done-clause-meets
+turns::run_turns-returns-in-Done-clause-meets g t c = λ texts root depth reads l.
+    let ns = numbered g.K.Validate.shape c.args.engine.now.nodes.now in
+    let w = settling (g.M.Matcher.matching c.args.engine.now.matcher.now) c.args.context.now.remembered.assumptions in
+    let p = steps_to c.args.question.now.place.now in
+    let s = subject_of c.args.question.now.instance in
+    let m = g.K.Validate.shape c.args.keyword.now.keyword.now in
+    let es = map (option_map edge_of) c.args.keyword.now.children.now in
+    let busy = busy_at p c.args.context.now.in_progress in
+    let name = string_bytes c.args.keyword.now.name.now in
+    let told = reply_of false c.turns.reply in
+    let turn = c.in_ok-child.ensures.turns false (tells_nothing (g.K.Validate.is_whole m) s) in
+    let tells = tells_keyword g.K.Validate.is_whole ns (length c.args.engine.now.nodes.now) w p s (reading w texts root depth) c.args.node.0 m es c.requires.may.known reads c.requires.form in
+    let all = meets_all (g.K.Validate.words texts) w.matcher w.assumptions (node_at (g.K.Validate.words texts) w.matcher ns (subject_in root) c.args.node.0 (path_of c.args.question.now.path.now) p) s (child_run g.K.Validate.words ns w texts root depth (path_of c.args.question.now.path.now) p busy es) (same_edge es) name m (g.K.Validate.remaining m s) _ _ c.turns.context.remembered c.turns.context.marking (c.turns.run, answer_of texts c.turns.answer) (reply_of texts c.turns.reply) (rw c.in-Done.is at (c.in_ok-child.ensures.steps texts tells)) (c.turns.invariant.met texts root depth reads l) in
+    meets_same w.matcher _ _ _ _ (ap (λ v. keyword_met (g.K.Validate.words texts) w.matcher w.assumptions (node_at (g.K.Validate.words texts) w.matcher ns (subject_in root) c.args.node.0 (path_of c.args.question.now.path.now) p) v (child_run g.K.Validate.words ns w texts root depth (path_of c.args.question.now.path.now) p busy es) (same_edge es) name m (mode_of c.args.question.now.mode)) (sym (stands_in root p s reads.stands))) all
+
+pub turns::run_turns-turns-smaller-in-Mark : goal.turns::run_turns-turns-smaller-in-Mark
+turns::run_turns-turns-smaller-in-Mark g t c =
+    let s = subject_of c.args.question.now.instance in
+    let m = g.K.Validate.shape c.args.keyword.now.keyword.now in
+    let told = reply_of false c.turns.reply in
+    let turn = c.in_ok-child.ensures.turns false (tells_nothing (g.K.Validate.is_whole m) s) in
+    let step = rw c.in-Mark.is at (c.in_ok-child.ensures.steps false (tells_nothing (g.K.Validate.is_whole m) s)) in
+    falls_turned (g.K.Validate.words false) m (g.K.Validate.absorbed m) (g.K.Validate.remaining m) (g.K.Validate.can_be false m) (g.K.Validate.ends false m) (g.K.Validate.fits false m) (g.met.K.Validate.turn_laws false m) s (c.turns.run, answer_of false c.turns.answer) (c.turn.new.run, answer_of false c.turn.new.answer) told (mark (marked_of c.in-Mark.marked)) c.turns.invariant.can turn step (mark_goes_on (marked_of c.in-Mark.marked))
+
+pub turns::run_turns-turns-preserved-in-Mark : goal.turns::run_turns-turns-preserved-in-Mark
+turns::run_turns-turns-preserved-in-Mark g t c =
+    let ns = numbered g.K.Validate.shape c.args.engine.now.nodes.now in
+    let w = settling (g.M.Matcher.matching c.args.engine.now.matcher.now) c.args.context.now.remembered.assumptions in
+    let p = steps_to c.args.question.now.place.now in
+    let s = subject_of c.args.question.now.instance in
+    let m = g.K.Validate.shape c.args.keyword.now.keyword.now in
+    let es = map (option_map edge_of) c.args.keyword.now.children.now in
+    let busy = busy_at p c.args.context.now.in_progress in
+    let name = string_bytes c.args.keyword.now.name.now in
+    let told = reply_of false c.turns.reply in
+    let turn = c.in_ok-child.ensures.turns false (tells_nothing (g.K.Validate.is_whole m) s) in
+    let step = rw c.in-Mark.is at (c.in_ok-child.ensures.steps false (tells_nothing (g.K.Validate.is_whole m) s)) in
+    record {
+      kept = c.enter_marking.ensures.in_progress ∙ c.turns.invariant.kept;
+      assumes = ap (λ (r : Remembered). r.assumptions) c.enter_marking.ensures.remembered ∙ c.turns.invariant.assumes;
+      stays = λ layout laid right. right_same (setting g.K.Validate.words g.K.Validate.is_whole g.K.Validate.shape g.M.Matcher.matching c.args.engine.now) layout c.turns.context c.enter_marking.new.self c.enter_marking.ensures.remembered c.enter_marking.ensures.verdicts (c.turns.invariant.stays layout laid right);
+      can = can_after (g.K.Validate.words false) m (g.K.Validate.absorbed m) (g.K.Validate.remaining m) (g.K.Validate.can_be false m) (g.K.Validate.ends false m) (g.K.Validate.fits false m) (g.met.K.Validate.turn_laws false m) s (c.turns.run, answer_of false c.turns.answer) (c.turn.new.run, answer_of false c.turn.new.answer) told c.turns.invariant.can turn;
+      counted = no_fewer c.args.context.now.visits c.turns.context.visits c.enter_marking.new.self.visits c.turns.invariant.counted (as_many _ _ c.enter_marking.ensures.visits);
+      borrows = λ root at_place.
+          let i = c.turns.invariant.borrows root at_place in
+          (All-nil (BorrowsItsPlace root), c.in_ok-child.ensures.borrows root i.0 i.1);
+      leads = λ x reads l.
+          let tells = tells_keyword g.K.Validate.is_whole ns (length c.args.engine.now.nodes.now) w p s x c.args.node.0 m es c.requires.may.known reads c.requires.form in
+          marked_on (g.K.Validate.words x.texts) m (g.K.Validate.absorbed m) (g.K.Validate.remaining m) (g.K.Validate.can_be x.texts m) (g.K.Validate.ends x.texts m) (g.K.Validate.fits x.texts m) (g.met.K.Validate.turn_laws x.texts m) s x (mode_of c.args.question.now.mode) (child_says g.K.Validate.words ns x (path_of c.args.question.now.path.now) p busy es) (child_unit g.K.Validate.words ns x (path_of c.args.question.now.path.now) p busy es) (same_edge es) c.turns.context.marking c.enter_marking.new.self.marking (c.turns.run, answer_of x.texts c.turns.answer) (c.turn.new.run, answer_of x.texts c.turn.new.answer)
+          (reply_of x.texts c.turns.reply) (truth c.in_ok-held-in-Mark.held) (marked_of c.in-Mark.marked) c.in_ok-held-in-Mark.ensures.marks (c.turns.invariant.leads x reads l) (c.in_ok-child.ensures.turns x.texts tells) (rw c.in-Mark.is at (c.in_ok-child.ensures.steps x.texts tells)) (ap truth c.in_ok-held-in-Mark.ensures.held);
+      met = λ texts root depth reads l.
+          let tells = tells_keyword g.K.Validate.is_whole ns (length c.args.engine.now.nodes.now) w p s (reading w texts root depth) c.args.node.0 m es c.requires.may.known reads c.requires.form in
+          let step' = rw c.in-Mark.is at (c.in_ok-child.ensures.steps texts tells) in
+          let turn' = c.in_ok-child.ensures.turns texts tells in
+          let falls = falls_turned (g.K.Validate.words texts) m (g.K.Validate.absorbed m) (g.K.Validate.remaining m) (g.K.Validate.can_be texts m) (g.K.Validate.ends texts m) (g.K.Validate.fits texts m) (g.met.K.Validate.turn_laws texts m) s (c.turns.run, answer_of texts c.turns.answer) (c.turn.new.run, answer_of texts c.turn.new.answer) (reply_of texts c.turns.reply) (mark (marked_of c.in-Mark.marked)) (c.turns.invariant.leads (reading w texts root depth) reads l).can turn' step' (mark_goes_on (marked_of c.in-Mark.marked)) in
+          meets_marked (g.K.Validate.words texts) w.matcher w.assumptions (node_at (g.K.Validate.words texts) w.matcher ns (subject_in root) c.args.node.0 (path_of c.args.question.now.path.now) p) s (child_run g.K.Validate.words ns w texts root depth (path_of c.args.question.now.path.now) p busy es) (same_edge es) name m (g.K.Validate.remaining m s) _ _ _ _ _ _ _ _ _ _ (marked_of c.in-Mark.marked) c.in_ok-held-in-Mark.ensures.marks turn' step' falls (ap truth c.in_ok-held-in-Mark.ensures.held) c.enter_marking.ensures.remembered (c.turns.invariant.met texts root depth reads l);
+    }
+
+pub turns::run_turns-turns-smaller : goal.turns::run_turns-turns-smaller
+turns::run_turns-turns-smaller g t c =
+    let s = subject_of c.args.question.now.instance in
+    let m = g.K.Validate.shape c.args.keyword.now.keyword.now in
+    let told = reply_of false c.turns.reply in
+    let turn = c.in_ok-child.ensures.turns false (tells_nothing (g.K.Validate.is_whole m) s) in
+    let step = rw c.in-Unmark.is at (c.in_ok-child.ensures.steps false (tells_nothing (g.K.Validate.is_whole m) s)) in
+    falls_turned (g.K.Validate.words false) m (g.K.Validate.absorbed m) (g.K.Validate.remaining m) (g.K.Validate.can_be false m) (g.K.Validate.ends false m) (g.K.Validate.fits false m) (g.met.K.Validate.turn_laws false m) s (c.turns.run, answer_of false c.turns.answer) (c.turn.new.run, answer_of false c.turn.new.answer) told unmark c.turns.invariant.can turn step unmark_goes_on
+
+pub turns::run_turns-turns-preserved : goal.turns::run_turns-turns-preserved
+turns::run_turns-turns-preserved g t c =
+    let ns = numbered g.K.Validate.shape c.args.engine.now.nodes.now in
+    let w = settling (g.M.Matcher.matching c.args.engine.now.matcher.now) c.args.context.now.remembered.assumptions in
+    let p = steps_to c.args.question.now.place.now in
+    let s = subject_of c.args.question.now.instance in
+    let m = g.K.Validate.shape c.args.keyword.now.keyword.now in
+    let es = map (option_map edge_of) c.args.keyword.now.children.now in
+    let busy = busy_at p c.args.context.now.in_progress in
+    let name = string_bytes c.args.keyword.now.name.now in
+    let told = reply_of false c.turns.reply in
+    let turn = c.in_ok-child.ensures.turns false (tells_nothing (g.K.Validate.is_whole m) s) in
+    let step = rw c.in-Unmark.is at (c.in_ok-child.ensures.steps false (tells_nothing (g.K.Validate.is_whole m) s)) in
+    record {
+      kept = c.exit_marking.ensures.in_progress ∙ c.turns.invariant.kept;
+      assumes = ap (λ (r : Remembered). r.assumptions) c.exit_marking.ensures.remembered ∙ c.turns.invariant.assumes;
+      stays = λ layout laid right. right_same (setting g.K.Validate.words g.K.Validate.is_whole g.K.Validate.shape g.M.Matcher.matching c.args.engine.now) layout c.turns.context c.exit_marking.new.self c.exit_marking.ensures.remembered c.exit_marking.ensures.verdicts (c.turns.invariant.stays layout laid right);
+      can = can_after (g.K.Validate.words false) m (g.K.Validate.absorbed m) (g.K.Validate.remaining m) (g.K.Validate.can_be false m) (g.K.Validate.ends false m) (g.K.Validate.fits false m) (g.met.K.Validate.turn_laws false m) s (c.turns.run, answer_of false c.turns.answer) (c.turn.new.run, answer_of false c.turn.new.answer) told c.turns.invariant.can turn;
+      counted = no_fewer c.args.context.now.visits c.turns.context.visits c.exit_marking.new.self.visits c.turns.invariant.counted (as_many _ _ c.exit_marking.ensures.visits);
+      borrows = λ root at_place.
+          let i = c.turns.invariant.borrows root at_place in
+          (All-nil (BorrowsItsPlace root), c.in_ok-child.ensures.borrows root i.0 i.1);
+      leads = λ x reads l.
+          let tells = tells_keyword g.K.Validate.is_whole ns (length c.args.engine.now.nodes.now) w p s x c.args.node.0 m es c.requires.may.known reads c.requires.form in
+          mark_taken_on (g.K.Validate.words x.texts) m (g.K.Validate.absorbed m) (g.K.Validate.remaining m) (g.K.Validate.can_be x.texts m) (g.K.Validate.ends x.texts m) (g.K.Validate.fits x.texts m) (g.met.K.Validate.turn_laws x.texts m) s x (mode_of c.args.question.now.mode) (child_says g.K.Validate.words ns x (path_of c.args.question.now.path.now) p busy es) (child_unit g.K.Validate.words ns x (path_of c.args.question.now.path.now) p busy es) (same_edge es) c.turns.context.marking c.exit_marking.new.self.marking (c.turns.run, answer_of x.texts c.turns.answer) (c.turn.new.run, answer_of x.texts c.turn.new.answer)
+          (reply_of x.texts c.turns.reply) no_reply c.exit_marking.ensures.left (c.turns.invariant.leads x reads l) (c.in_ok-child.ensures.turns x.texts tells) (rw c.in-Unmark.is at (c.in_ok-child.ensures.steps x.texts tells)) refl;
+      met = λ texts root depth reads l.
+          let tells = tells_keyword g.K.Validate.is_whole ns (length c.args.engine.now.nodes.now) w p s (reading w texts root depth) c.args.node.0 m es c.requires.may.known reads c.requires.form in
+          let step' = rw c.in-Unmark.is at (c.in_ok-child.ensures.steps texts tells) in
+          let turn' = c.in_ok-child.ensures.turns texts tells in
+          let falls = falls_turned (g.K.Validate.words texts) m (g.K.Validate.absorbed m) (g.K.Validate.remaining m) (g.K.Validate.can_be texts m) (g.K.Validate.ends texts m) (g.K.Validate.fits texts m) (g.met.K.Validate.turn_laws texts m) s (c.turns.run, answer_of texts c.turns.answer) (c.turn.new.run, answer_of texts c.turn.new.answer) (reply_of texts c.turns.reply) unmark (c.turns.invariant.leads (reading w texts root depth) reads l).can turn' step' unmark_goes_on in
+          meets_mark_taken (g.K.Validate.words texts) w.matcher w.assumptions (node_at (g.K.Validate.words texts) w.matcher ns (subject_in root) c.args.node.0 (path_of c.args.question.now.path.now) p) s (child_run g.K.Validate.words ns w texts root depth (path_of c.args.question.now.path.now) p busy es) (same_edge es) name m (g.K.Validate.remaining m s) _ _ _ _ _ _ _ _ _ _ c.exit_marking.ensures.left turn' step' falls refl c.exit_marking.ensures.remembered (c.turns.invariant.met texts root depth reads l);
+    }
+
+pub turns::ask_child-returns-clause-borrows : goal.turns::ask_child-returns-clause-borrows
+turns::ask_child-returns-clause-borrows g t c =
+    let ns = numbered g.K.Validate.shape c.args.engine.now.nodes.now in
+    let w = settling (g.M.Matcher.matching c.args.engine.now.matcher.now) c.args.context.now.remembered.assumptions in
+    let p = steps_to c.args.question.now.place.now in
+    let s = subject_of c.args.question.now.instance in
+    let busy = busy_at p c.args.context.now.in_progress in
+    let d = left ns (length c.args.engine.now.nodes.now) c.args.node.0 s busy in
+    if_ok_mono c.run_child.result _ _ (λ r says root at_place. (says (silent w root d) (silent_reads g.K.Validate.is_whole ns (length c.args.engine.now.nodes.now) w p s root d at_place) (no_deeper d)).borrows) c.run_child.ensures.says
+
+pub evaluate::evaluate_child-evaluate_edge-requires : goal.evaluate::evaluate_child-evaluate_edge-requires
+evaluate::evaluate_child-evaluate_edge-requires g t c =
+    let ns = numbered g.K.Validate.shape c.args.engine.now.nodes.now in
+    let w = settling (g.M.Matcher.matching c.args.engine.now.matcher.now) c.args.context.now.remembered.assumptions in
+    let p = steps_to c.args.question.now.place.now in
+    let s = subject_of c.args.question.now.instance in
+    let busy = busy_at p c.args.context.now.in_progress in
+    let e = edge_of c.in-Some.edge.now in
+    let k = c.requires.children c.args.child e (sym c.in-Some.ensures.edge) in
+    let l = falls_here g.K.Validate.words g.K.Validate.is_whole ns (length c.args.engine.now.nodes.now) w c.requires.may.ranked c.args.node.0 s busy e c.requires.may.known k in
+    λ κs h. (lower_edge _ _ _ t 0 refl l c.decreases, (h.0, (h.1.0, (h.1.1.0, (h.1.1.1, record { known = (c.requires.may.ranked c.args.node.0 c.requires.may.known e k).0; ranked = c.requires.may.ranked; above = c.requires.may.above; wanted = c.requires.may.wanted; goes_on = c.requires.may.goes_on })))))
+
+pub evaluate::evaluate_child-evaluate_edge-requires-in-Some-one_below : goal.evaluate::evaluate_child-evaluate_edge-requires-in-Some-one_below
+evaluate::evaluate_child-evaluate_edge-requires-in-Some-one_below g t c =
+    let ns = numbered g.K.Validate.shape c.args.engine.now.nodes.now in
+    let w = settling (g.M.Matcher.matching c.args.engine.now.matcher.now) c.args.context.now.remembered.assumptions in
+    let p = steps_to c.args.question.now.place.now in
+    let s = subject_of c.args.question.now.instance in
+    let busy = busy_at p c.args.context.now.in_progress in
+    let e = edge_of c.in-Some.edge.now in
+    let k = c.requires.children c.args.child e (sym c.in-Some.ensures.edge) in
+    let step = step_of c.in-Some-one_below.step in
+    let es = c.args.context.now.in_progress in
+    let inner = subject_of c.in-Some-one_below.inner in
+    let none : busy_at (steps_to c.below-lower.result) es ≡ [] = ap (λ q. busy_at q es) c.below-lower.ensures.below ∙ busy-below p step es c.requires.may.above in
+    let l = falls_below g.K.Validate.words g.K.Validate.is_whole ns (length c.args.engine.now.nodes.now) w c.requires.may.ranked c.args.node.0 s inner step busy e c.requires.may.known k c.in-Some-one_below.ensures.below.1 in
+    let deeper = subst (λ q. NoDeeper q es) (sym c.below-lower.ensures.below) (deeper-below p step es c.requires.may.above) in
+    let n = ap (edge_needs ns (length c.args.engine.now.nodes.now) e inner) none in
+    let (layout, laid, right) = c.requires.may.goes_on in
+    let below = laid_below layout p s inner step (steps_to c.below-lower.result) laid c.below-lower.ensures.below c.in-Some-one_below.ensures.below.1 in
+    λ κs h. (lower_edge _ _ _ t 0 n l c.decreases, (h.0, (h.1.0, (h.1.1.0, (h.1.1.1, record { known = (c.requires.may.ranked c.args.node.0 c.requires.may.known e k).0; ranked = c.requires.may.ranked; above = deeper; wanted = c.requires.may.wanted; goes_on = (layout, below, right) })))))
+
+pub evaluate::evaluate_child-returns-in-None-one_below-clause-gives : goal.evaluate::evaluate_child-returns-in-None-one_below-clause-gives
+evaluate::evaluate_child-returns-in-None-one_below-clause-gives g t c =
+    let ns = numbered g.K.Validate.shape c.args.engine.now.nodes.now in
+    let set = setting g.K.Validate.words g.K.Validate.is_whole g.K.Validate.shape g.M.Matcher.matching c.args.engine.now in
+    let w = settling (g.M.Matcher.matching c.args.engine.now.matcher.now) c.args.context.now.remembered.assumptions in
+    let q = asking c.args.question.now in
+    let p = steps_to c.args.question.now.place.now in
+    let s = subject_of c.args.question.now.instance in
+    let busy = busy_at p c.args.context.now.in_progress in
+    let e = edge_of c.in-Some.edge.now in
+    let k = c.requires.children c.args.child e (sym c.in-Some.ensures.edge) in
+    let l = falls_here g.K.Validate.words g.K.Validate.is_whole ns (length c.args.engine.now.nodes.now) w c.requires.may.ranked c.args.node.0 s busy e c.requires.may.known k in
+    let asked : Question = record { child = c.args.child; below = below_of c.args.below } in
+    if_ok_mono c.evaluate_edge.result _ _ (λ u gives. gives_here set q c.args.context.now c.args.node.0 (map (option_map edge_of) c.args.children.now) asked u e (sym c.in-Some.ensures.edge) c.in-None-one_below.ensures.below l gives) c.evaluate_edge.ensures.gives
+
+pub evaluate::evaluate_child-returns-in-Some-one_below-clause-gives : goal.evaluate::evaluate_child-returns-in-Some-one_below-clause-gives
+evaluate::evaluate_child-returns-in-Some-one_below-clause-gives g t c =
+    let ns = numbered g.K.Validate.shape c.args.engine.now.nodes.now in
+    let set = setting g.K.Validate.words g.K.Validate.is_whole g.K.Validate.shape g.M.Matcher.matching c.args.engine.now in
+    let w = settling (g.M.Matcher.matching c.args.engine.now.matcher.now) c.args.context.now.remembered.assumptions in
+    let q = asking c.args.question.now in
+    let p = steps_to c.args.question.now.place.now in
+    let s = subject_of c.args.question.now.instance in
+    let busy = busy_at p c.args.context.now.in_progress in
+    let e = edge_of c.in-Some.edge.now in
+    let k = c.requires.children c.args.child e (sym c.in-Some.ensures.edge) in
+    let step = step_of c.in-Some-one_below.step in
+    let es = c.args.context.now.in_progress in
+    let inner = subject_of c.in-Some-one_below.inner in
+    let none : busy_at (steps_to c.below-lower.result) es ≡ [] = ap (λ q. busy_at q es) c.below-lower.ensures.below ∙ busy-below p step es c.requires.may.above in
+    let l = falls_below g.K.Validate.words g.K.Validate.is_whole ns (length c.args.engine.now.nodes.now) w c.requires.may.ranked c.args.node.0 s inner step busy e c.requires.may.known k c.in-Some-one_below.ensures.below.1 in
+    let asked : Question = record { child = c.args.child; below = below_of c.args.below } in
+    let lower : Asking = record { subject = inner; place = steps_to c.below-lower.result; path = path_of c.args.question.now.path.now; mode = mode_of c.args.question.now.mode } in
+    if_ok_mono c.evaluate_edge-in-Some-one_below.result _ _ (λ u gives. gives_below set q c.args.context.now c.args.node.0 (map (option_map edge_of) c.args.children.now) asked u e step lower (sym c.in-Some.ensures.edge) c.in-Some-one_below.ensures.below.0 c.below-lower.ensures.below refl c.in-Some-one_below.ensures.below.1 none l gives) c.evaluate_edge-in-Some-one_below.ensures.gives
+
+pub evaluate::evaluate_child-returns-in-None-one_below-clause-meets : goal.evaluate::evaluate_child-returns-in-None-one_below-clause-meets
+evaluate::evaluate_child-returns-in-None-one_below-clause-meets g t c =
+    let ns = numbered g.K.Validate.shape c.args.engine.now.nodes.now in
+    let w = settling (g.M.Matcher.matching c.args.engine.now.matcher.now) c.args.context.now.remembered.assumptions in
+    let p = steps_to c.args.question.now.place.now in
+    let s = subject_of c.args.question.now.instance in
+    let busy = busy_at p c.args.context.now.in_progress in
+    let e = edge_of c.in-Some.edge.now in
+    let k = c.requires.children c.args.child e (sym c.in-Some.ensures.edge) in
+    let l = falls_here g.K.Validate.words g.K.Validate.is_whole ns (length c.args.engine.now.nodes.now) w c.requires.may.ranked c.args.node.0 s busy e c.requires.may.known k in
+    let asked : Question = record { child = c.args.child; below = below_of c.args.below } in
+    if_ok_mono c.evaluate_edge.result _ _ (λ r met. meets_here g.K.Validate.words g.K.Validate.is_whole ns (length c.args.engine.now.nodes.now) w (mode_of c.args.question.now.mode) (path_of c.args.question.now.path.now) p busy s c.args.node.0 _ asked _ _ e (sym c.in-Some.ensures.edge) c.in-None-one_below.ensures.below l met) c.evaluate_edge.ensures.meets
+
+pub evaluate::evaluate_child-returns-in-Some-one_below-clause-meets : goal.evaluate::evaluate_child-returns-in-Some-one_below-clause-meets
+evaluate::evaluate_child-returns-in-Some-one_below-clause-meets g t c =
+    let ns = numbered g.K.Validate.shape c.args.engine.now.nodes.now in
+    let w = settling (g.M.Matcher.matching c.args.engine.now.matcher.now) c.args.context.now.remembered.assumptions in
+    let p = steps_to c.args.question.now.place.now in
+    let s = subject_of c.args.question.now.instance in
+    let busy = busy_at p c.args.context.now.in_progress in
+    let e = edge_of c.in-Some.edge.now in
+    let k = c.requires.children c.args.child e (sym c.in-Some.ensures.edge) in
+    let step = step_of c.in-Some-one_below.step in
+    let es = c.args.context.now.in_progress in
+    let inner = subject_of c.in-Some-one_below.inner in
+    let none : busy_at (steps_to c.below-lower.result) es ≡ [] = ap (λ q. busy_at q es) c.below-lower.ensures.below ∙ busy-below p step es c.requires.may.above in
+    let l = falls_below g.K.Validate.words g.K.Validate.is_whole ns (length c.args.engine.now.nodes.now) w c.requires.may.ranked c.args.node.0 s inner step busy e c.requires.may.known k c.in-Some-one_below.ensures.below.1 in
+    let asked : Question = record { child = c.args.child; below = below_of c.args.below } in
+    if_ok_mono c.evaluate_edge-in-Some-one_below.result _ _ (λ r meets.
+    let met = subst (λ busy'. EdgeMeets g.K.Validate.words g.K.Validate.is_whole ns (length c.args.engine.now.nodes.now) w (mode_of c.args.question.now.mode) (path_of c.args.question.now.path.now) (steps_to c.below-lower.result) busy' inner c.args.context.now.remembered c.evaluate_edge-in-Some-one_below.new.context.remembered e) none meets in
+    meets_below g.K.Validate.words g.K.Validate.is_whole ns (length c.args.engine.now.nodes.now) w (mode_of c.args.question.now.mode) (path_of c.args.question.now.path.now) p busy s c.args.node.0 _ asked _ _ e step (steps_to c.below-lower.result) inner (sym c.in-Some.ensures.edge) c.in-Some-one_below.ensures.below.0 c.below-lower.ensures.below c.in-Some-one_below.ensures.below.1 l met) c.evaluate_edge-in-Some-one_below.ensures.meets
+
+pub evaluate::evaluate_edge-returns-then-branch-clause-gives : goal.evaluate::evaluate_edge-returns-then-branch-clause-gives
+evaluate::evaluate_edge-returns-then-branch-clause-gives g t c =
+    let set = setting g.K.Validate.words g.K.Validate.is_whole g.K.Validate.shape g.M.Matcher.matching c.args.engine.now in
+    let q = asking c.args.question.now in
+    let p = steps_to c.args.question.now.place.now in
+    let s = subject_of c.args.question.now.instance in
+    let e = edge_of c.args.edge.now in
+    let old = entered_old e.node p c.args.context.now.in_progress c.in_ok-enter.field-0 c.enter.new.self.in_progress (rw c.in_ok-here.ensures.same at c.in_ok-enter.ensures.enters) c.if-branch.true in
+    let there : steps_to c.given-place.result ≡ p = c.given-place.ensures.same ∙ c.in_ok-here.ensures.same in
+    let n = node_of c.node.result.now in
+    let at_node = where_is g.K.Validate.shape c.args.engine.now.nodes.now (g.K.Validate.words false) (g.M.Matcher.matching c.args.engine.now.matcher.now) (λ place. s) e.node n (path_of c.args.question.now.path.now ++ e.path) p c.node.ensures.found in
+    if_ok_mono c.accepting_unit.result _ _ (λ u is. gives_busy set q c.args.context.now e u c.if-not-edge.false old.0 (λ texts. is texts
+    ∙ ap (λ path. true_unit (entry_where n path (steps_to c.given-place.result))) c.across-whole.ensures.appended
+    ∙ ap (λ place. true_unit (entry_where n (path_of c.args.question.now.path.now ++ e.path) place)) there
+    ∙ ap true_unit (sym at_node))) c.accepting_unit.ensures.unit
+
+pub evaluate::evaluate_edge-returns-then-branch-clause-meets : goal.evaluate::evaluate_edge-returns-then-branch-clause-meets
+evaluate::evaluate_edge-returns-then-branch-clause-meets g t c =
+    let ns = numbered g.K.Validate.shape c.args.engine.now.nodes.now in
+    let w = settling (g.M.Matcher.matching c.args.engine.now.matcher.now) c.args.context.now.remembered.assumptions in
+    let p = steps_to c.args.question.now.place.now in
+    let s = subject_of c.args.question.now.instance in
+    let busy = busy_at p c.args.context.now.in_progress in
+    let e = edge_of c.args.edge.now in
+    let old = entered_old e.node p c.args.context.now.in_progress c.in_ok-enter.field-0 c.enter.new.self.in_progress (rw c.in_ok-here.ensures.same at c.in_ok-enter.ensures.enters) c.if-branch.true in
+    if_ok_always c.accepting_unit.result _ (meets_busy g.K.Validate.words g.K.Validate.is_whole ns (length c.args.engine.now.nodes.now) w s busy e (mode_of c.args.question.now.mode) (path_of c.args.question.now.path.now) p _ _ c.if-not-edge.false old.0 (sym c.enter.ensures.remembered))
+
+pub evaluate::evaluate_edge-evaluate_node-requires-2 : goal.evaluate::evaluate_edge-evaluate_node-requires-2
+evaluate::evaluate_edge-evaluate_node-requires-2 g t c =
+    let ns = numbered g.K.Validate.shape c.args.engine.now.nodes.now in
+    let set = setting g.K.Validate.words g.K.Validate.is_whole g.K.Validate.shape g.M.Matcher.matching c.args.engine.now in
+    let w = settling (g.M.Matcher.matching c.args.engine.now.matcher.now) c.args.context.now.remembered.assumptions in
+    let p = steps_to c.args.question.now.place.now in
+    let s = subject_of c.args.question.now.instance in
+    let e = edge_of c.args.edge.now in
+    let entered = entered_new e.node p c.args.context.now.in_progress c.in_ok-enter.field-0 c.enter.new.self.in_progress (rw c.in_ok-here.ensures.same at c.in_ok-enter.ensures.enters) c.if-branch.false in
+    let pushed : busy_at p c.enter.new.self.in_progress ≡ e.node ∷ busy_at p c.args.context.now.in_progress = ap (busy_at p) entered.1 ∙ busy-pushed p e.node c.args.context.now.in_progress in
+    let there : steps_to c.given-place.result ≡ p = c.given-place.ensures.same ∙ c.in_ok-here.ensures.same in
+    let needs = needs_of_entered g.K.Validate.words g.K.Validate.is_whole ns (length c.args.engine.now.nodes.now) w s (busy_at p c.args.context.now.in_progress) e c.if-not-edge.false entered.0 in
+    let l = ap (λ q. left ns (length c.args.engine.now.nodes.now) e.node s (busy_at q c.enter.new.self.in_progress)) there ∙ ap (left ns (length c.args.engine.now.nodes.now) e.node s) pushed in
+    let deeper = subst (λ q. NoDeeper q c.enter.new.self.in_progress) (sym there) (subst (NoDeeper p) (sym entered.1) (deeper-pushed p e.node c.args.context.now.in_progress c.requires.may.above)) in
+    let (layout, laid, right) = c.requires.may.goes_on in
+    let laid' = subst (λ q. LaysOut layout q s) (sym there) laid in
+    let right' = right_same set layout c.args.context.now c.enter.new.self c.enter.ensures.remembered c.enter.ensures.verdicts right in
+    λ κs h. (lower_entered _ _ _ t l needs c.decreases, (h.0, (h.1.0, (h.1.1.0, (h.1.1.1, record { known = c.requires.may.known; ranked = c.requires.may.ranked; above = deeper; wanted = c.requires.may.wanted; goes_on = (layout, laid', right') })))))
+
+pub evaluate::evaluate_edge-returns-clause-gives : goal.evaluate::evaluate_edge-returns-clause-gives
+evaluate::evaluate_edge-returns-clause-gives g t c =
+    let set = setting g.K.Validate.words g.K.Validate.is_whole g.K.Validate.shape g.M.Matcher.matching c.args.engine.now in
+    let q = asking c.args.question.now in
+    let p = steps_to c.args.question.now.place.now in
+    let e = edge_of c.args.edge.now in
+    let entered = entered_new e.node p c.args.context.now.in_progress c.in_ok-enter.field-0 c.enter.new.self.in_progress (rw c.in_ok-here.ensures.same at c.in_ok-enter.ensures.enters) c.if-branch.false in
+    let pushed : busy_at p c.enter.new.self.in_progress ≡ e.node ∷ busy_at p c.args.context.now.in_progress = ap (busy_at p) entered.1 ∙ busy-pushed p e.node c.args.context.now.in_progress in
+    let there : steps_to c.given-place.result ≡ p = c.given-place.ensures.same ∙ c.in_ok-here.ensures.same in
+    let asked : Asking = record { subject = q.subject; place = steps_to c.given-place.result; path = path_of c.across-whole.result; mode = q.mode } in
+    let is : asked ≡ record q { path = q.path ++ e.path } = λ i. record { subject = q.subject; place = there i; path = c.across-whole.ensures.appended i; mode = q.mode } in
+    gives_entered set q c.args.context.now e c.in_ok-unit.unit c.if-not-edge.false entered.0 asked c.enter.new.self is pushed c.enter.ensures.remembered c.in_ok-unit.ensures.gives
+
+pub evaluate::evaluate_edge-returns-clause-meets : goal.evaluate::evaluate_edge-returns-clause-meets
+evaluate::evaluate_edge-returns-clause-meets g t c =
+    let ns = numbered g.K.Validate.shape c.args.engine.now.nodes.now in
+    let set = setting g.K.Validate.words g.K.Validate.is_whole g.K.Validate.shape g.M.Matcher.matching c.args.engine.now in
+    let w = settling (g.M.Matcher.matching c.args.engine.now.matcher.now) c.args.context.now.remembered.assumptions in
+    let q = asking c.args.question.now in
+    let p = steps_to c.args.question.now.place.now in
+    let s = subject_of c.args.question.now.instance in
+    let busy = busy_at p c.args.context.now.in_progress in
+    let e = edge_of c.args.edge.now in
+    let entered = entered_new e.node p c.args.context.now.in_progress c.in_ok-enter.field-0 c.enter.new.self.in_progress (rw c.in_ok-here.ensures.same at c.in_ok-enter.ensures.enters) c.if-branch.false in
+    let pushed : busy_at p c.enter.new.self.in_progress ≡ e.node ∷ busy_at p c.args.context.now.in_progress = ap (busy_at p) entered.1 ∙ busy-pushed p e.node c.args.context.now.in_progress in
+    let there : steps_to c.given-place.result ≡ p = c.given-place.ensures.same ∙ c.in_ok-here.ensures.same in
+    let asked : Asking = record { subject = q.subject; place = steps_to c.given-place.result; path = path_of c.across-whole.result; mode = q.mode } in
+    let is : asked ≡ record q { path = q.path ++ e.path } = λ i. record { subject = q.subject; place = there i; path = c.across-whole.ensures.appended i; mode = q.mode } in
+    let met = entered_meets set q c.args.context.now e c.in_ok-unit.unit c.if-not-edge.false entered.0 asked c.enter.new.self c.evaluate_node-2.new.context is pushed c.enter.ensures.remembered c.in_ok-unit.ensures.meets in
+    subst (λ r. EdgeMeets g.K.Validate.words g.K.Validate.is_whole ns (length c.args.engine.now.nodes.now) w (mode_of c.args.question.now.mode) (path_of c.args.question.now.path.now) p busy s c.args.context.now.remembered r e) (sym c.exit.ensures.remembered) met
+
+pub evaluate::evaluate_edge-returns-clause-stays : goal.evaluate::evaluate_edge-returns-clause-stays
+evaluate::evaluate_edge-returns-clause-stays g t c =
+    let set = setting g.K.Validate.words g.K.Validate.is_whole g.K.Validate.shape g.M.Matcher.matching c.args.engine.now in
+    let p = steps_to c.args.question.now.place.now in
+    let s = subject_of c.args.question.now.instance in
+    let there : steps_to c.given-place.result ≡ p = c.given-place.ensures.same ∙ c.in_ok-here.ensures.same in
+    λ layout laid right.
+    let right1 = right_same set layout c.args.context.now c.enter.new.self c.enter.ensures.remembered c.enter.ensures.verdicts right in
+    let laid' = subst (λ q. LaysOut layout q s) (sym there) laid in
+    right_same set layout c.evaluate_node-2.new.context c.exit.new.self c.exit.ensures.remembered c.exit.ensures.verdicts (c.in_ok-unit.ensures.stays layout laid' right1)
+
+pub evaluate::evaluate_entries-loop-entry-init : goal.evaluate::evaluate_entries-loop-entry-init
+evaluate::evaluate_entries-loop-entry-init g t c =
+    record {
+      kept = refl;
+      assumes = refl;
+      marking = refl;
+      counted = as_many c.args.context.now.visits c.args.context.now.visits refl;
+      stays = λ layout laid right. right;
+      met = λ texts root depth reads l. ([], refl, refl);
+      so_far = λ x reads l. ap (λ placed. each_placed placed (parts_units g.K.Validate.words (numbered g.K.Validate.shape c.args.engine.now.nodes.now) x c.args.node.0 (path_of c.args.question.now.path.now) (steps_to c.args.question.now.place.now) (busy_at (steps_to c.args.question.now.place.now) c.args.context.now.in_progress) (map (shaped_part g.K.Validate.shape) (map entry_of c.args.entries.now)))) (c.new-units.ensures.empty x.texts);
+    }
+
+pub evaluate::evaluate_entries-evaluate_entry-requires : goal.evaluate::evaluate_entries-evaluate_entry-requires
+evaluate::evaluate_entries-evaluate_entry-requires g t c =
+    let ns = numbered g.K.Validate.shape c.args.engine.now.nodes.now in
+    let p = steps_to c.args.question.now.place.now in
+    let kept = c.loop-entry.invariant.kept in
+    let l = ap (λ es. left ns (length c.args.engine.now.nodes.now) c.args.node.0 (subject_of c.args.question.now.instance) (busy_at p es)) kept in
+    let here = part_at entry_of (shaped_part g.K.Validate.shape) c.args.entries.now c.loop-entry.entry-index c.entry-item.result c.loop-entry-test.true c.entry-item.is in
+    λ κs h. (lower_same _ _ t 7 0 l c.decreases, (h.0, (h.1.0, (h.1.1.0, (h.1.1.1, (record { known = c.requires.may.known; ranked = c.requires.may.ranked; above = subst (NoDeeper p) (sym kept) c.requires.may.above; wanted = c.requires.may.wanted; goes_on = (c.requires.may.goes_on.0, c.requires.may.goes_on.1, c.loop-entry.invariant.stays c.requires.may.goes_on.0 c.requires.may.goes_on.1 c.requires.may.goes_on.2) }, (c.requires.parts.0, c.requires.parts.1, shaped_part g.K.Validate.shape (entry_of c.entry-item.result), c.requires.parts.2 _ here, refl)))))))
+
+pub evaluate::evaluate_entries-loop-entry-preserved : goal.evaluate::evaluate_entries-loop-entry-preserved
+evaluate::evaluate_entries-loop-entry-preserved g t c =
+    let ns = numbered g.K.Validate.shape c.args.engine.now.nodes.now in
+    let set = setting g.K.Validate.words g.K.Validate.is_whole g.K.Validate.shape g.M.Matcher.matching c.args.engine.now in
+    let w = settling (g.M.Matcher.matching c.args.engine.now.matcher.now) c.args.context.now.remembered.assumptions in
+    let q = asking c.args.question.now in
+    let p = steps_to c.args.question.now.place.now in
+    let s = subject_of c.args.question.now.instance in
+    let busy = busy_at p c.args.context.now.in_progress in
+    let part = shaped_part g.K.Validate.shape (entry_of c.entry-item.result) in
+    let rest = drop (c.loop-entry.entry-index + 1) c.args.entries.now in
+    let there = drop_at c.args.entries.now c.loop-entry.entry-index c.entry-item.result c.loop-entry-test.true c.entry-item.is in
+    let mode = mode_of c.args.question.now.mode in
+    record {
+      stays = λ layout laid right. c.in_ok-given.ensures.stays layout laid (c.loop-entry.invariant.stays layout laid right);
+      kept = c.in_ok-given.ensures.keeps.in_progress ∙ c.loop-entry.invariant.kept;
+      assumes = c.in_ok-given.ensures.keeps.assumptions ∙ c.loop-entry.invariant.assumes;
+      marking = c.in_ok-given.ensures.keeps.marking ∙ c.loop-entry.invariant.marking;
+      counted = no_fewer c.args.context.now.visits c.loop-entry.context.visits c.evaluate_entry.new.context.visits c.loop-entry.invariant.counted c.in_ok-given.ensures.counts;
+      so_far = λ x reads l.
+          let parts = λ (es : List (Entry g.row.K.Denot)). parts_units g.K.Validate.words ns x c.args.node.0 (path_of c.args.question.now.path.now) p busy (map (shaped_part g.K.Validate.shape) (map entry_of es)) in
+          let gives = form_moved set q c.args.context.now c.loop-entry.context c.loop-entry.invariant.kept c.loop-entry.invariant.assumes c.args.node.0 part.name part.form c.in_ok-given.given c.in_ok-given.ensures.gives x reads l in
+          placed_next (placed_of x.texts c.loop-entry.units) (placed_of x.texts c.place.new.self) _ (record { priority = part.priority; units = entry_units_of x.texts c.in_ok-given.given }) (parts rest) _ _ (ap parts there) (c.in_ok-place.ensures.placed x.texts) (ap (λ units. record { priority = part.priority; units = units }) gives) (c.loop-entry.invariant.so_far x reads l);
+      met = λ texts root depth reads l.
+          let looked = λ (es : List (Entry g.row.K.Denot)). parts_looked g.K.Validate.words ns w texts root depth c.args.node.0 (path_of c.args.question.now.path.now) p busy (map (shaped_part g.K.Validate.shape) (map entry_of es)) in
+          let one = part_looked g.K.Validate.words ns w texts root depth c.args.node.0 (path_of c.args.question.now.path.now) p busy part in
+          let form = moved (λ es as'. FormMeets g.K.Validate.words g.K.Validate.is_whole ns (length c.args.engine.now.nodes.now) (settling (g.M.Matcher.matching c.args.engine.now.matcher.now) as') mode (path_of c.args.question.now.path.now) p (busy_at p es) s c.loop-entry.context.remembered c.evaluate_entry.new.context.remembered c.args.node.0 part.name part.form) c.loop-entry.invariant.kept c.loop-entry.invariant.assumes c.in_ok-given.ensures.meets texts root depth reads l in
+          let here = meets_same w.matcher _ _ _ _ (other_entry mode one (λ verdict less. absurd (less c.requires.may.wanted))) form in
+          let met = c.loop-entry.invariant.met texts root depth reads l in
+          let goes = subst (λ m. stops m one.holds ≡ false) (sym c.requires.may.wanted) refl in
+          next_met w.matcher mode one (looked rest) _ _ met.0 _ _ _ met.1 here met.2 (ap (λ es. plan_met mode (looked es)) there) goes;
+    }
+
+pub evaluate::evaluate_entries-returns-clause-gives : goal.evaluate::evaluate_entries-returns-clause-gives
+evaluate::evaluate_entries-returns-clause-gives g t c =
+    let ns = numbered g.K.Validate.shape c.args.engine.now.nodes.now in
+    let p = steps_to c.args.question.now.place.now in
+    let busy = busy_at p c.args.context.now.in_progress in
+    if_ok_mono c.into_children.result _ _ (λ children is x reads l.
+    let parts = λ (es : List (Entry g.row.K.Denot)). parts_units g.K.Validate.words ns x c.args.node.0 (path_of c.args.question.now.path.now) p busy (map (shaped_part g.K.Validate.shape) (map entry_of es)) in
+    placed_last (placed_of x.texts c.loop-entry.units) (parts (drop c.loop-entry.entry-index c.args.entries.now)) (parts c.args.entries.now) _ (ap parts (drop_past c.args.entries.now c.loop-entry.entry-index c.loop-entry-test.false)) (is x.texts) (c.loop-entry.invariant.so_far x reads l)) c.into_children.ensures.children
+
+pub evaluate::evaluate_entries-returns-clause-meets : goal.evaluate::evaluate_entries-returns-clause-meets
+evaluate::evaluate_entries-returns-clause-meets g t c =
+    let ns = numbered g.K.Validate.shape c.args.engine.now.nodes.now in
+    let w = settling (g.M.Matcher.matching c.args.engine.now.matcher.now) c.args.context.now.remembered.assumptions in
+    let p = steps_to c.args.question.now.place.now in
+    let busy = busy_at p c.args.context.now.in_progress in
+    if_ok_always c.into_children.result _ (λ texts root depth reads l.
+    let looked = λ (es : List (Entry g.row.K.Denot)). parts_looked g.K.Validate.words ns w texts root depth c.args.node.0 (path_of c.args.question.now.path.now) p busy (map (shaped_part g.K.Validate.shape) (map entry_of es)) in
+    end_met w.matcher (mode_of c.args.question.now.mode) (looked (drop c.loop-entry.entry-index c.args.entries.now)) (plan_met (mode_of c.args.question.now.mode) (looked c.args.entries.now)) c.args.context.now.remembered c.loop-entry.context.remembered
+    (ap looked (drop_past c.args.entries.now c.loop-entry.entry-index c.loop-entry-test.false)) (c.loop-entry.invariant.met texts root depth reads l))
+
+pub evaluate::evaluate_entry-evaluate_edge-requires : goal.evaluate::evaluate_entry-evaluate_edge-requires
+evaluate::evaluate_entry-evaluate_edge-requires g t c =
+    let ns = numbered g.K.Validate.shape c.args.engine.now.nodes.now in
+    let w = settling (g.M.Matcher.matching c.args.engine.now.matcher.now) c.args.context.now.remembered.assumptions in
+    let p = steps_to c.args.question.now.place.now in
+    let s = subject_of c.args.question.now.instance in
+    let busy = busy_at p c.args.context.now.in_progress in
+    let e = edge_of c.in-Reference.edge in
+    let k = reference_edge ns c.args.node.0 e (rw c.in-Reference.is at c.requires.form) in
+    let l = falls_here g.K.Validate.words g.K.Validate.is_whole ns (length c.args.engine.now.nodes.now) w c.requires.may.ranked c.args.node.0 s busy e c.requires.may.known k in
+    λ κs h. (lower_edge _ _ _ t 6 refl l c.decreases, (h.0, (h.1.0, (h.1.1.0, (h.1.1.1, record { known = (c.requires.may.ranked c.args.node.0 c.requires.may.known e k).0; ranked = c.requires.may.ranked; above = c.requires.may.above; wanted = c.requires.may.wanted; goes_on = c.requires.may.goes_on })))))
+
+pub evaluate::evaluate_entry-returns-in-Keyword-clause-meets : goal.evaluate::evaluate_entry-returns-in-Keyword-clause-meets
+evaluate::evaluate_entry-returns-in-Keyword-clause-meets g t c =
+    rw (c.in-Keyword.is, ← c.as_slice.ensures.value) c.evaluate_keyword.ensures.meets
+
+pub evaluate::evaluate_entry-returns-in_ok-unit-in-Reference-clause-gives : goal.evaluate::evaluate_entry-returns-in_ok-unit-in-Reference-clause-gives
+evaluate::evaluate_entry-returns-in_ok-unit-in-Reference-clause-gives g t c =
+    let ns = numbered g.K.Validate.shape c.args.engine.now.nodes.now in
+    let set = setting g.K.Validate.words g.K.Validate.is_whole g.K.Validate.shape g.M.Matcher.matching c.args.engine.now in
+    let w = settling (g.M.Matcher.matching c.args.engine.now.matcher.now) c.args.context.now.remembered.assumptions in
+    let q = asking c.args.question.now in
+    let p = steps_to c.args.question.now.place.now in
+    let s = subject_of c.args.question.now.instance in
+    let busy = busy_at p c.args.context.now.in_progress in
+    let e = edge_of c.in-Reference.edge in
+    let k = reference_edge ns c.args.node.0 e (rw c.in-Reference.is at c.requires.form) in
+    let l = falls_here g.K.Validate.words g.K.Validate.is_whole ns (length c.args.engine.now.nodes.now) w c.requires.may.ranked c.args.node.0 s busy e c.requires.may.known k in
+    let name = string_bytes c.args.entry.now.name in
+    let asked : Asking = record { subject = q.subject; place = q.place; path = path_of c.under_reference-path.result; mode = q.mode } in
+    let same : asked ≡ q = λ i. record { subject = q.subject; place = q.place; path = c.under_reference-path.ensures.same i; mode = q.mode } in
+    rw c.in-Reference.is (if_ok_mono c.units_of_reference.result _ _ (λ units is. gives_reference set q c.args.context.now c.args.node.0 name units e c.in_ok-unit-in-Reference.unit asked same l is c.in_ok-unit-in-Reference.ensures.gives) c.units_of_reference.ensures.units)
+
+pub evaluate::evaluate_entry-returns-in_ok-unit-in-Reference-clause-meets : goal.evaluate::evaluate_entry-returns-in_ok-unit-in-Reference-clause-meets
+evaluate::evaluate_entry-returns-in_ok-unit-in-Reference-clause-meets g t c =
+    let ns = numbered g.K.Validate.shape c.args.engine.now.nodes.now in
+    let w = settling (g.M.Matcher.matching c.args.engine.now.matcher.now) c.args.context.now.remembered.assumptions in
+    let p = steps_to c.args.question.now.place.now in
+    let s = subject_of c.args.question.now.instance in
+    let busy = busy_at p c.args.context.now.in_progress in
+    let e = edge_of c.in-Reference.edge in
+    let k = reference_edge ns c.args.node.0 e (rw c.in-Reference.is at c.requires.form) in
+    let l = falls_here g.K.Validate.words g.K.Validate.is_whole ns (length c.args.engine.now.nodes.now) w c.requires.may.ranked c.args.node.0 s busy e c.requires.may.known k in
+    let met = subst (λ path. EdgeMeets g.K.Validate.words g.K.Validate.is_whole ns (length c.args.engine.now.nodes.now) w (mode_of c.args.question.now.mode) path p busy s c.args.context.now.remembered c.evaluate_edge.new.context.remembered e) c.under_reference-path.ensures.same c.in_ok-unit-in-Reference.ensures.meets in
+    let form = meets_reference g.K.Validate.words g.K.Validate.is_whole ns (length c.args.engine.now.nodes.now) w (mode_of c.args.question.now.mode) (path_of c.args.question.now.path.now) p busy s c.args.node.0 (string_bytes c.args.entry.now.name) e _ _ l met in
+    rw c.in-Reference.is (if_ok_always c.units_of_reference.result _ (subst (λ (z : Context). FormMeets g.K.Validate.words g.K.Validate.is_whole ns (length c.args.engine.now.nodes.now) w (mode_of c.args.question.now.mode) (path_of c.args.question.now.path.now) p busy s c.args.context.now.remembered z.remembered c.args.node.0 (string_bytes c.args.entry.now.name) (node_reference e)) (sym c.units_of_reference.ensures.stays) form))
+
+pub evaluate::evaluate_keyword-keyword_answer-requires : goal.evaluate::evaluate_keyword-keyword_answer-requires
+evaluate::evaluate_keyword-keyword_answer-requires g t c =
+    λ κs h. (lower_same _ _ t 4 0 refl c.decreases, (h.0, (h.1.0, (h.1.1.0, (h.1.1.1, (record { known = c.requires.may.known; ranked = c.requires.may.ranked; above = c.requires.may.above; goes_on = c.requires.may.goes_on }, c.requires.form))))))
+
+pub evaluate::evaluate_keyword-returns-clause-gives : goal.evaluate::evaluate_keyword-returns-clause-gives
+evaluate::evaluate_keyword-returns-clause-gives g t c =
+    let ns = numbered g.K.Validate.shape c.args.engine.now.nodes.now in
+    let set = setting g.K.Validate.words g.K.Validate.is_whole g.K.Validate.shape g.M.Matcher.matching c.args.engine.now in
+    let q = asking c.args.question.now in
+    let p = steps_to c.args.question.now.place.now in
+    let s = subject_of c.args.question.now.instance in
+    let m = g.K.Validate.shape c.args.keyword.now.keyword.now in
+    let es = map (option_map edge_of) c.args.keyword.now.children.now in
+    let n = node_of c.node.result.now in
+    let name = string_bytes c.args.keyword.now.name.now in
+    let finds = finds_units set q c.args.context.now c.args.node.0 es m c.in_ok-answer.answer c.requires.may.wanted c.in_ok-answer.ensures.right in
+    if_ok_mono c.units_of_keyword.result _ _ (λ units is. gives_keyword set q c.args.context.now c.args.node.0 name units m es c.in_ok-answer.answer (entry_where n (path_of c.args.question.now.path.now) p)
+    (λ x. where_is g.K.Validate.shape c.args.engine.now.nodes.now (g.K.Validate.words x.texts) x.matcher (subject_in x.root) c.args.node.0 n (path_of c.args.question.now.path.now) p c.node.ensures.found) finds is) c.units_of_keyword.ensures.units
+
+pub evaluate::evaluate_keyword-returns-clause-meets : goal.evaluate::evaluate_keyword-returns-clause-meets
+evaluate::evaluate_keyword-returns-clause-meets g t c = if_ok_always c.units_of_keyword.result _ (rw (← c.units_of_keyword.ensures.stays) at c.in_ok-answer.ensures.meets)
+
+pub evaluate::evaluate_keyword-returns-clause-stays : goal.evaluate::evaluate_keyword-returns-clause-stays
+evaluate::evaluate_keyword-returns-clause-stays g t c = if_ok_always c.units_of_keyword.result _ (λ layout laid right.
+    let set = setting g.K.Validate.words g.K.Validate.is_whole g.K.Validate.shape g.M.Matcher.matching c.args.engine.now in
+    subst (RemembersRightly set layout) (sym c.units_of_keyword.ensures.stays) (c.in_ok-answer.ensures.stays layout laid right))
+
+pub evaluate::evaluate_keyword-returns-clause-counts : goal.evaluate::evaluate_keyword-returns-clause-counts
+evaluate::evaluate_keyword-returns-clause-counts g t c = if_ok_always c.units_of_keyword.result _ (rw (← c.units_of_keyword.ensures.stays) at c.in_ok-answer.ensures.counts)
+
+pub evaluate::evaluate_node-evaluate_entries-requires : goal.evaluate::evaluate_node-evaluate_entries-requires
+evaluate::evaluate_node-evaluate_entries-requires g t c =
+    let n = node_of c.node-found.result.now in
+    let plan = plan_is g.K.Validate.shape c.args.engine.now.nodes.now c.args.node.0 n _ c.node-found.ensures.found (ap (option_map plan_of) c.in-Some.is ∙ ap (λ f. Some (plan_of f)) c.in-Keywords.is) in
+    λ κs h. (lower_same _ _ t 8 0 refl c.decreases, (h.0, (h.1.0, (h.1.1.0, (h.1.1.1, (c.requires.may, rw c.as_slice.ensures.value (_, plan, λ y k. k)))))))
+
+pub evaluate::evaluate_node-returns-in-None-clause-gives : goal.evaluate::evaluate_node-returns-in-None-clause-gives
+evaluate::evaluate_node-returns-in-None-clause-gives g t c =
+    let set = setting g.K.Validate.words g.K.Validate.is_whole g.K.Validate.shape g.M.Matcher.matching c.args.engine.now in
+    let q = asking c.args.question.now in
+    let p = steps_to c.args.question.now.place.now in
+    let n = node_of c.node-found.result.now in
+    let plan = plan_none g.K.Validate.shape c.args.engine.now.nodes.now c.args.node.0 n c.node-found.ensures.found (ap (option_map plan_of) c.in-None.is) in
+    if_ok_mono c.accepting_unit.result _ _ (λ u is. gives_always set q c.args.context.now c.args.node.0 u (entry_where n (path_of c.args.question.now.path.now) p) (λ x. where_is g.K.Validate.shape c.args.engine.now.nodes.now (g.K.Validate.words x.texts) x.matcher (subject_in x.root) c.args.node.0 n (path_of c.args.question.now.path.now) p c.node-found.ensures.found) plan is) c.accepting_unit.ensures.unit
+
+pub evaluate::evaluate_node-returns-in-None-clause-meets : goal.evaluate::evaluate_node-returns-in-None-clause-meets
+evaluate::evaluate_node-returns-in-None-clause-meets g t c =
+    let ns = numbered g.K.Validate.shape c.args.engine.now.nodes.now in
+    let w = settling (g.M.Matcher.matching c.args.engine.now.matcher.now) c.args.context.now.remembered.assumptions in
+    let p = steps_to c.args.question.now.place.now in
+    let s = subject_of c.args.question.now.instance in
+    let busy = busy_at p c.args.context.now.in_progress in
+    let n = node_of c.node-found.result.now in
+    let plan = plan_none g.K.Validate.shape c.args.engine.now.nodes.now c.args.node.0 n c.node-found.ensures.found (ap (option_map plan_of) c.in-None.is) in
+    if_ok_always c.accepting_unit.result _ (meets_by_plan g.K.Validate.words g.K.Validate.is_whole ns (length c.args.engine.now.nodes.now) w (mode_of c.args.question.now.mode) (path_of c.args.question.now.path.now) p busy s c.args.node.0 _ _ node_always plan (λ texts root depth reads l. refl))
+
+pub evaluate::evaluate_node-returns-in-Always-clause-gives : goal.evaluate::evaluate_node-returns-in-Always-clause-gives
+evaluate::evaluate_node-returns-in-Always-clause-gives g t c =
+    let set = setting g.K.Validate.words g.K.Validate.is_whole g.K.Validate.shape g.M.Matcher.matching c.args.engine.now in
+    let q = asking c.args.question.now in
+    let p = steps_to c.args.question.now.place.now in
+    let n = node_of c.node-found.result.now in
+    let plan = plan_is g.K.Validate.shape c.args.engine.now.nodes.now c.args.node.0 n _ c.node-found.ensures.found (ap (option_map plan_of) c.in-Some.is ∙ ap (λ f. Some (plan_of f)) c.in-Always.is) in
+    if_ok_mono c.accepting_unit-in-Always.result _ _ (λ u is. gives_always set q c.args.context.now c.args.node.0 u (entry_where n (path_of c.args.question.now.path.now) p) (λ x. where_is g.K.Validate.shape c.args.engine.now.nodes.now (g.K.Validate.words x.texts) x.matcher (subject_in x.root) c.args.node.0 n (path_of c.args.question.now.path.now) p c.node-found.ensures.found) plan is) c.accepting_unit-in-Always.ensures.unit
+
+pub evaluate::evaluate_node-returns-in-Always-clause-meets : goal.evaluate::evaluate_node-returns-in-Always-clause-meets
+evaluate::evaluate_node-returns-in-Always-clause-meets g t c =
+    let ns = numbered g.K.Validate.shape c.args.engine.now.nodes.now in
+    let w = settling (g.M.Matcher.matching c.args.engine.now.matcher.now) c.args.context.now.remembered.assumptions in
+    let p = steps_to c.args.question.now.place.now in
+    let s = subject_of c.args.question.now.instance in
+    let busy = busy_at p c.args.context.now.in_progress in
+    let n = node_of c.node-found.result.now in
+    let plan = plan_is g.K.Validate.shape c.args.engine.now.nodes.now c.args.node.0 n _ c.node-found.ensures.found (ap (option_map plan_of) c.in-Some.is ∙ ap (λ f. Some (plan_of f)) c.in-Always.is) in
+    if_ok_always c.accepting_unit-in-Always.result _ (meets_by_plan g.K.Validate.words g.K.Validate.is_whole ns (length c.args.engine.now.nodes.now) w (mode_of c.args.question.now.mode) (path_of c.args.question.now.path.now) p busy s c.args.node.0 _ _ node_always plan (λ texts root depth reads l. refl))
+
+pub evaluate::evaluate_node-returns-in-Never-clause-gives : goal.evaluate::evaluate_node-returns-in-Never-clause-gives
+evaluate::evaluate_node-returns-in-Never-clause-gives g t c =
+    let ns = numbered g.K.Validate.shape c.args.engine.now.nodes.now in
+    let set = setting g.K.Validate.words g.K.Validate.is_whole g.K.Validate.shape g.M.Matcher.matching c.args.engine.now in
+    let w = settling (g.M.Matcher.matching c.args.engine.now.matcher.now) c.args.context.now.remembered.assumptions in
+    let q = asking c.args.question.now in
+    let p = steps_to c.args.question.now.place.now in
+    let s = subject_of c.args.question.now.instance in
+    let n = node_of c.node-found.result.now in
+    let plan = plan_is g.K.Validate.shape c.args.engine.now.nodes.now c.args.node.0 n _ c.node-found.ensures.found (ap (option_map plan_of) c.in-Some.is ∙ ap (λ f. Some (plan_of f)) c.in-Never.is) in
+    if_ok_mono c.refusing_unit.result _ _ (λ u is. gives_never set q c.args.context.now c.args.node.0 u (entry_where n (path_of c.args.question.now.path.now) p) (λ x. where_is g.K.Validate.shape c.args.engine.now.nodes.now (g.K.Validate.words x.texts) x.matcher (subject_in x.root) c.args.node.0 n (path_of c.args.question.now.path.now) p c.node-found.ensures.found) plan g.met.K.Validate.speaks (λ x reads. is x.texts (plain_there g.K.Validate.is_whole ns (length c.args.engine.now.nodes.now) w p s x reads))) c.refusing_unit.ensures.unit
+
+pub evaluate::evaluate_node-returns-in-Never-clause-meets : goal.evaluate::evaluate_node-returns-in-Never-clause-meets
+evaluate::evaluate_node-returns-in-Never-clause-meets g t c =
+    let ns = numbered g.K.Validate.shape c.args.engine.now.nodes.now in
+    let w = settling (g.M.Matcher.matching c.args.engine.now.matcher.now) c.args.context.now.remembered.assumptions in
+    let p = steps_to c.args.question.now.place.now in
+    let s = subject_of c.args.question.now.instance in
+    let busy = busy_at p c.args.context.now.in_progress in
+    let n = node_of c.node-found.result.now in
+    let plan = plan_is g.K.Validate.shape c.args.engine.now.nodes.now c.args.node.0 n _ c.node-found.ensures.found (ap (option_map plan_of) c.in-Some.is ∙ ap (λ f. Some (plan_of f)) c.in-Never.is) in
+    if_ok_always c.refusing_unit.result _ (meets_never g.K.Validate.words g.K.Validate.is_whole ns (length c.args.engine.now.nodes.now) w (mode_of c.args.question.now.mode) (path_of c.args.question.now.path.now) p busy s c.args.node.0 _ _ plan refl)
+
+pub evaluate::evaluate_node-returns-in_ok-children-in-Keywords-clause-gives : goal.evaluate::evaluate_node-returns-in_ok-children-in-Keywords-clause-gives
+evaluate::evaluate_node-returns-in_ok-children-in-Keywords-clause-gives g t c =
+    let set = setting g.K.Validate.words g.K.Validate.is_whole g.K.Validate.shape g.M.Matcher.matching c.args.engine.now in
+    let q = asking c.args.question.now in
+    let p = steps_to c.args.question.now.place.now in
+    let n = node_of c.node-found.result.now in
+    let plan = plan_is g.K.Validate.shape c.args.engine.now.nodes.now c.args.node.0 n _ c.node-found.ensures.found (ap (option_map plan_of) c.in-Some.is ∙ ap (λ f. Some (plan_of f)) c.in-Keywords.is) in
+    let notes = ap (λ o. option_and_then (λ n. option_map view n.annotations) o) c.node-found.ensures.found in
+    let gives = rw c.as_slice.ensures.value at c.in_ok-children-in-Keywords.ensures.gives in
+    if_ok_mono c.entries_unit.result _ _ (λ u is. gives_these set q c.args.context.now c.args.node.0 u (entry_where n (path_of c.args.question.now.path.now) p) (λ x. where_is g.K.Validate.shape c.args.engine.now.nodes.now (g.K.Validate.words x.texts) x.matcher (subject_in x.root) c.args.node.0 n (path_of c.args.question.now.path.now) p c.node-found.ensures.found) _ c.in_ok-children-in-Keywords.children _ plan notes is gives) c.entries_unit.ensures.unit
+
+pub evaluate::evaluate_node-returns-in_ok-children-in-Keywords-clause-meets : goal.evaluate::evaluate_node-returns-in_ok-children-in-Keywords-clause-meets
+evaluate::evaluate_node-returns-in_ok-children-in-Keywords-clause-meets g t c =
+    let ns = numbered g.K.Validate.shape c.args.engine.now.nodes.now in
+    let w = settling (g.M.Matcher.matching c.args.engine.now.matcher.now) c.args.context.now.remembered.assumptions in
+    let p = steps_to c.args.question.now.place.now in
+    let s = subject_of c.args.question.now.instance in
+    let busy = busy_at p c.args.context.now.in_progress in
+    let n = node_of c.node-found.result.now in
+    let plan = plan_is g.K.Validate.shape c.args.engine.now.nodes.now c.args.node.0 n _ c.node-found.ensures.found (ap (option_map plan_of) c.in-Some.is ∙ ap (λ f. Some (plan_of f)) c.in-Keywords.is) in
+    if_ok_always c.entries_unit.result _ (meets_these g.K.Validate.words g.K.Validate.is_whole ns (length c.args.engine.now.nodes.now) w (mode_of c.args.question.now.mode) (path_of c.args.question.now.path.now) p busy s c.args.node.0 _ _ _ plan (rw c.as_slice.ensures.value at c.in_ok-children-in-Keywords.ensures.meets))
+
+pub evaluate::evaluate_entries-returns-clause-counts : goal.evaluate::evaluate_entries-returns-clause-counts
+evaluate::evaluate_entries-returns-clause-counts g t c = if_ok_always c.into_children.result _ c.loop-entry.invariant.counted
+
+pub evaluate::evaluate_edge-returns-clause-counts : goal.evaluate::evaluate_edge-returns-clause-counts
+evaluate::evaluate_edge-returns-clause-counts g t c = rw (c.enter.ensures.visits, ← c.exit.ensures.visits) at c.in_ok-unit.ensures.counts
+
+pub evaluate::evaluate_edge-returns-then-branch-clause-counts : goal.evaluate::evaluate_edge-returns-then-branch-clause-counts
+evaluate::evaluate_edge-returns-then-branch-clause-counts g t c = if_ok_always c.accepting_unit.result _ (as_many _ _ c.enter.ensures.visits)
+
+pub evaluate::evaluate_entry-returns-in_ok-unit-in-Reference-clause-counts : goal.evaluate::evaluate_entry-returns-in_ok-unit-in-Reference-clause-counts
+evaluate::evaluate_entry-returns-in_ok-unit-in-Reference-clause-counts g t c = if_ok_always c.units_of_reference.result _ (rw (← c.units_of_reference.ensures.stays) at c.in_ok-unit-in-Reference.ensures.counts)

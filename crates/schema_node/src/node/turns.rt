@@ -1,0 +1,190 @@
+//! The turns of a keyword's run, in any mode. Units that it asks for are asked of the evaluations, and all else of the runs.
+ghost use Rattle.std.specs.Prelude.{◌≡◌, ◌≤◌, [], IfOk, map, option_map, string_bytes, true, false};
+ghost use Rattle.schema_reports.specs.InstanceViews.{subject_of};
+ghost use Rattle.schema_definitions.specs.Keywords.{for_units};
+ghost use Rattle.schema_definitions.specs.Laws.{IsPresent, steps_below};
+ghost use Rattle.schema_parts.specs.FaultViews.{faults_in};
+ghost use Rattle.schema_parts.specs.KeywordViews.{below_of, mode_of};
+ghost use Rattle.schema_nodes.specs.NodeTable.{numbered};
+ghost use Rattle.schema_parts.specs.EdgeViews.{edge_of};
+ghost use Rattle.schema_node.specs.NodeRuns.{HasForm, HasChildren};
+ghost use Rattle.schema_node.specs.RunStates.{asking, form_at_work, setting};
+ghost use Rattle.schema_node.specs.RunStates.{HasBegun, Keeps, PassesItsOwn, RunBorrows, StaysRight};
+ghost use Rattle.schema_node.specs.RunStates.{MeetsChild, MeetsForm};
+ghost use Rattle.schema_node.specs.UnitStates.{ChildTells, FindsRightly, MayAsk};
+
+use crate::node::evaluate::evaluate_child;
+use crate::node::faults::begun;
+use crate::node::matches::asked_match;
+use crate::node::question::{Engine, NamedKeyword, Question};
+use crate::node::run::run_child;
+use schema_contexts::validation::ValidationContext;
+use schema_parts::keyword::{Answer, Below, Mode, Reply, Step, Validate};
+use schema_parts::matcher::Matcher;
+use schema_parts::numbers::{Edge, SchemaNode};
+use schema_reports::location::OutOfMemory;
+
+// Whether units are wanted.
+fn wants_units(mode: Mode) -> bool
+    ensures units { result ≡ true → mode_of mode ≡ for_units }
+    ensures less { result ≡ false → ¬ (mode_of mode ≡ for_units) }
+{
+    match mode {
+        Mode::Verdict => false,
+        Mode::First => false,
+        Mode::All => false,
+        Mode::Evaluate => true,
+    }
+}
+
+// What a keyword has found once its run is done. The run begins with no marks; those of the run that asks are set aside until it
+// has ended.
+#[cycle(run)]
+pub(crate) fn keyword_answer<'i, K: Validate, M: Matcher>(
+    engine: &Engine<'_, K, M>,
+    node: SchemaNode,
+    keyword: &NamedKeyword<'_, K>,
+    question: &Question<'_, 'i>,
+    context: &mut ValidationContext<'i>,
+) -> Result<Answer<'i>, OutOfMemory>
+    requires may { MayAsk (setting K.words K.is_whole K.shape M.matching engine.now) (asking question.now)
+        context.old node.0 }
+    requires form { HasForm (numbered K.shape engine.now.nodes.now) node.0 (form_at_work K.shape keyword.now) }
+    ensures keeps { IfOk result (λ _. Keeps context.old context.new) }
+    ensures counts { IfOk result (λ _. context.old.visits ≤ context.new.visits) }
+    ensures right { IfOk result (λ a. FindsRightly
+        (setting K.words K.is_whole K.shape M.matching engine.now) (asking question.now)
+        context.old node.0 (map (option_map edge_of) keyword.now.children.now) (K.shape keyword.now.keyword.now) a) }
+    ensures passes { IfOk result (λ a. PassesItsOwn (asking question.now) a) }
+    ensures meets { IfOk result (λ _. MeetsForm
+        (setting K.words K.is_whole K.shape M.matching engine.now) (asking question.now)
+        context.old context.new node.0 (string_bytes keyword.now.name.now) (form_at_work K.shape keyword.now)) }
+    ensures stays { IfOk result (λ _. StaysRight
+        (setting K.words K.is_whole K.shape M.matching engine.now) (asking question.now) context.old context.new) }
+{
+    let mut run = keyword
+        .keyword
+        .begin(engine.alloc, question.instance, question.mode)?;
+    let mut answer = begun(engine.alloc, question.mode)?;
+    let aside = context.set_aside(engine.alloc);
+    run_turns(
+        engine,
+        node,
+        keyword,
+        question,
+        &mut run,
+        &mut answer,
+        context,
+    )?;
+    context.put_back(aside);
+    Ok(answer)
+}
+
+// The turns of a keyword's run that has begun, and its answer once they are done.
+#[cycle(run)]
+fn run_turns<'i, K: Validate, M: Matcher>(
+    engine: &Engine<'_, K, M>,
+    node: SchemaNode,
+    keyword: &NamedKeyword<'_, K>,
+    question: &Question<'_, 'i>,
+    run: &mut K::Run,
+    answer: &mut Answer<'i>,
+    context: &mut ValidationContext<'i>,
+) -> Result<(), OutOfMemory>
+    requires may { MayAsk (setting K.words K.is_whole K.shape M.matching engine.now) (asking question.now)
+        context.old node.0 }
+    requires form { HasForm (numbered K.shape engine.now.nodes.now) node.0 (form_at_work K.shape keyword.now) }
+    requires begun { HasBegun (setting K.words K.is_whole K.shape M.matching engine.now) (asking question.now)
+        (K.shape keyword.now.keyword.now) run.old answer.old }
+    requires no_faults { faults_in answer.old ≡ [] }
+    requires no_marks { context.old.marking ≡ [] }
+    ensures kept { IfOk result (λ _. context.new.in_progress ≡ context.old.in_progress) }
+    ensures assumes { IfOk result (λ _. context.new.remembered.assumptions ≡ context.old.remembered.assumptions) }
+    ensures counts { IfOk result (λ _. context.old.visits ≤ context.new.visits) }
+    ensures right { IfOk result (λ _. FindsRightly
+        (setting K.words K.is_whole K.shape M.matching engine.now) (asking question.now)
+        context.old node.0 (map (option_map edge_of) keyword.now.children.now) (K.shape keyword.now.keyword.now) answer.new) }
+    ensures passes { IfOk result (λ _. PassesItsOwn (asking question.now) answer.new) }
+    ensures meets { IfOk result (λ _. MeetsForm
+        (setting K.words K.is_whole K.shape M.matching engine.now) (asking question.now)
+        context.old context.new node.0 (string_bytes keyword.now.name.now) (form_at_work K.shape keyword.now)) }
+    ensures stays { IfOk result (λ _. StaysRight
+        (setting K.words K.is_whole K.shape M.matching engine.now) (asking question.now) context.old context.new) }
+{
+    let children = keyword.children;
+    let mut reply = Reply::Nothing;
+    'turns: loop {
+        match keyword
+            .keyword
+            .turn(engine.alloc, run, question.instance, reply, answer)?
+        {
+            Step::Ask(child, below, wanted) => {
+                let asked = Question {
+                    instance: question.instance,
+                    place: question.place,
+                    path: question.path,
+                    mode: wanted,
+                };
+                reply = ask_child(engine, node, children, child, below, &asked, context)?;
+            }
+            Step::Done => return Ok(()),
+            Step::Match(pattern, subject, point) => {
+                let matches = asked_match(
+                    engine,
+                    engine.nodes.node(node),
+                    keyword.name,
+                    question,
+                    pattern,
+                    subject,
+                    point,
+                    context,
+                )?;
+                reply = Reply::Truth(matches);
+            }
+            Step::Ecma(text) => {
+                let valid = context.is_valid_ecma_regex(engine.alloc, engine.matcher, text)?;
+                reply = Reply::Truth(valid);
+            }
+            Step::Mark(marked) => {
+                let held = context.enter_marking(children, marked)?;
+                reply = Reply::Truth(held);
+            }
+            Step::Unmark => {
+                context.exit_marking();
+                reply = Reply::Nothing;
+            }
+        }
+    }
+}
+
+// The reply of a keyword's child in the mode that it is asked in: its unit, or what a run says.
+#[cycle(run)]
+fn ask_child<'i, K: Validate, M: Matcher>(
+    engine: &Engine<'_, K, M>,
+    node: SchemaNode,
+    children: &[Option<Edge>],
+    child: usize,
+    below: Below<'_>,
+    question: &Question<'_, 'i>,
+    context: &mut ValidationContext<'i>,
+) -> Result<Reply<'i>, OutOfMemory>
+    requires may { MayAsk (setting K.words K.is_whole K.shape M.matching engine.now) (asking question.now)
+        context.old node.0 }
+    requires children { HasChildren (numbered K.shape engine.now.nodes.now) node.0 (map (option_map edge_of) children.now) }
+    requires present { IsPresent (subject_of question.now.instance) (steps_below (below_of below)) }
+    ensures keeps { IfOk result (λ _. Keeps context.old context.new) }
+    ensures counts { IfOk result (λ _. context.old.visits ≤ context.new.visits) }
+    ensures gives { IfOk result (λ u. ChildTells (setting K.words K.is_whole K.shape M.matching engine.now) (asking question.now)
+        context.old node.0 (map (option_map edge_of) children.now) (record { child = child; below = below_of below.entry }) u) }
+    ensures meets { IfOk result (λ _. MeetsChild (setting K.words K.is_whole K.shape M.matching engine.now) (asking question.now)
+        context.old context.new node.0 (map (option_map edge_of) children.now) (record { child = child; below = below_of below.entry })) }
+    ensures stays { IfOk result (λ _. StaysRight (setting K.words K.is_whole K.shape M.matching engine.now) (asking question.now)
+        context.old context.new) }
+    ensures borrows { IfOk result (λ r. RunBorrows (asking question.now) r) }
+{
+    if wants_units(question.mode) {
+        let unit = evaluate_child(engine, node, children, child, below, question, context)?;
+        return Ok(Reply::Unit(Box::new(engine.alloc, unit)?));
+    }
+    run_child(engine, node, children, child, below, question, context)
+}
