@@ -1,12 +1,13 @@
 //! What a run has in progress, what it assumes and remembers of unfinished matches, and what it marks.
-ghost use Rattle.std.specs.Prelude.{◌≡◌, ◌≤◌, ◌++◌, ◌∷◌, [], All, IfOk, IfErr, OnErr, OnOk, length, map, option_map};
+ghost use Rattle.std.specs.Prelude.{◌≡◌, ◌≤◌, ◌++◌, ◌∷◌, [], All, IfOk, IfErr, IfSome, OnErr, OnOk, is_some, length, map, option_map};
 ghost use Rattle.std.specs.List.{list_any};
 ghost use Rattle.std.specs.Prelude.{◌==◌};
 ghost use Rattle.schema_definitions.specs.Guarded.{same_edge};
+ghost use Rattle.schema_definitions.specs.Matching as matching;
 ghost use Rattle.schema_definitions.specs.Matching.{assumed};
 ghost use Rattle.schema_matches.specs.MatchViews.{reason_of};
 ghost use Rattle.schema_definitions.specs.Pointer.{joined};
-ghost use Rattle.schema_definitions.specs.Runs.{with_mark, without_last};
+ghost use Rattle.schema_definitions.specs.Runs.{Site, with_mark, without_last};
 ghost use Rattle.schema_definitions.specs.Unfinished.{meet, or_no, starting};
 ghost use Rattle.schema_contexts.specs.EvaluationPaths.{path_of};
 ghost use Rattle.schema_parts.specs.KeywordViews.{marked_of};
@@ -262,6 +263,20 @@ impl<'i> ValidationContext<'i> {
             Match::Finished(matches) => Ok(matches),
             Match::Unfinished(reason) => Ok(self.resolve(pattern, subject, reason, site)?),
         }
+    }
+
+    /// How a match that the matcher left unfinished comes out, where nothing is left to remember of it; none where it has to be
+    /// resolved with its site. `has_place` says whether that site has an instance path.
+    pub fn known_outcome(&self, pattern: &str, subject: &str, has_place: bool) -> Option<bool>
+        ensures answer { IfSome result (λ b. b ≡ or_no (assumed self.now.remembered.assumptions
+            (record { pattern = pattern.now; subject = subject.now }))) }
+        ensures nothing_new { IfSome result (λ _. (site : Site) (reason : matching.Reason) → is_some site.located ≡ has_place
+            → meet self.now.remembered (record {
+              met = record { pair = record { pattern = pattern.now; subject = subject.now }; site = site };
+              reason = reason;
+            }) ≡ self.now.remembered) }
+    {
+        self.matches.known_outcome(pattern, subject, has_place)
     }
 
     /// How a match that the matcher left unfinished comes out: as it is assumed to, or else as no. It is remembered with

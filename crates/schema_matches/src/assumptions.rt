@@ -1,8 +1,10 @@
 //! What a run assumes, and what it remembers of the unfinished matches that it meets.
-ghost use Rattle.std.specs.Prelude.{◌≡◌, ◌∷◌, [], IfOk, IsTrue, OnErr, OnOk, is_some, map, nat_eq};
+ghost use Rattle.std.specs.Prelude.{◌≡◌, ◌∷◌, [], IfOk, IfSome, IsTrue, OnErr, OnOk, is_some, map, nat_eq};
 ghost use Rattle.std.specs.HashMap.{get};
 ghost use Rattle.schema_matches.specs.HashIndex.{IsIndexed, match_hash};
 ghost use Rattle.schema_definitions.specs.Matching.{assumed};
+ghost use Rattle.schema_definitions.specs.Matching as matching;
+ghost use Rattle.schema_definitions.specs.Runs.{Site};
 ghost use Rattle.schema_matches.specs.MatchViews.{reason_of};
 ghost use Rattle.schema_definitions.specs.Unfinished.{FirstIsNew, first_unassumed, is_known, meet, meet_known, or_no, starting};
 
@@ -301,6 +303,27 @@ impl<'i> MatchAssumptions<'i> {
         ensures met { result ≡ is_some self.now.unassumed }
     {
         self.unassumed.is_some()
+    }
+
+    /// Returns how a match that the matcher did not finish comes out, where nothing is left to remember of it; `None` where it has to
+    /// be resolved with its site. `has_place` says whether that site has an instance path. It allocates nothing.
+    pub fn known_outcome(&self, pattern: &str, subject: &str, has_place: bool) -> Option<bool>
+        ensures answer { IfSome result (λ b. b ≡ or_no
+            (assumed self.now.assumptions (record { pattern = pattern.now; subject = subject.now }))) }
+        ensures nothing_new { IfSome result (λ _. (site : Site) (reason : matching.Reason) → is_some site.located ≡ has_place
+            → meet self.now (record {
+              met = record { pair = record { pattern = pattern.now; subject = subject.now }; site = site };
+              reason = reason;
+            }) ≡ self.now) }
+    {
+        let outcome = self.assumed.outcome(pattern, subject);
+        if outcome.is_none() && self.unassumed.is_none() {
+            return None;
+        }
+        if has_place && !self.located.contains(pattern, subject) {
+            return None;
+        }
+        Some(outcome.unwrap_or(false))
     }
 
     /// Returns the assumed outcome of a match that the matcher did not finish, or `false` if none is assumed, and remembers the

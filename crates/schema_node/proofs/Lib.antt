@@ -1,4 +1,5 @@
 pub mod PointerSteps
+pub mod MatchSites
 pub mod NodeMeets
 pub mod KeywordMeets
 pub mod Faults

@@ -1,5 +1,6 @@
 //! A match that a keyword asks for.
 ghost use Rattle.std.specs.Prelude.{◌≡◌, IfOk, OnOk, string_bytes};
+ghost use Rattle.schema_definitions.specs.Instance.{Text};
 ghost use Rattle.schema_reports.specs.InstanceViews.{subject_of};
 ghost use Rattle.schema_definitions.specs.Laws.{IsPresent};
 ghost use Rattle.schema_definitions.specs.Runs.{site_at};
@@ -17,9 +18,21 @@ use schema_parts::keyword::MatchPoint;
 use schema_parts::matcher::Matcher;
 use schema_reports::location::OutOfMemory;
 
-/// How a match that a keyword of the node asks for comes out. Its site is made only where the matcher leaves it unfinished.
+// Whether the site of a match that is asked for here has an instance path.
+fn has_place(point: MatchPoint<'_>) -> bool
+    ensures located { (pattern : Text) → result ≡ (point_of pattern point.entry).located }
+{
+    match point {
+        MatchPoint::AtKeyword(located) => located,
+        MatchPoint::AtSpot(located, _) => located,
+    }
+}
+
+/// How a match that a keyword of the node asks for comes out. Its site is made only where the matcher leaves it unfinished and
+/// the run has something to remember of it.
 /// Its room on the stack is its own, so that a turn that asks for none pays nothing.
 #[inline(never)]
+#[tactic(auto, using(crate::proofs::MatchSites::shown))]
 pub fn asked_match<'i, K, M: Matcher>(
     engine: &Engine<'_, K, M>,
     node: &Node<K>,
@@ -49,6 +62,10 @@ pub fn asked_match<'i, K, M: Matcher>(
     match engine.matcher.is_match(engine.alloc, pattern, subject)? {
         Match::Finished(matches) => Ok(matches),
         Match::Unfinished(reason) => {
+            if let Some(matches) = context.known_outcome(pattern, subject, has_place(point)) {
+                drop(reason);
+                return Ok(matches);
+            }
             let site = match_site(engine.alloc, node, name, question, pattern, point)?;
             Ok(context.resolve(pattern, subject, reason, site)?)
         }
