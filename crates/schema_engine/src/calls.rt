@@ -3,7 +3,8 @@ ghost use Rattle.std.specs.Prelude.{Bool, IfOk, IfErr, IfSome, All};
 ghost use Rattle.serde_json.specs.View.{view};
 ghost use Rattle.schema_reports.specs.ReportViews.{BorrowsItsPlace};
 ghost use Rattle.schema_engine.specs.Answers.{refusal_of};
-ghost use Rattle.schema_engine.specs.Called.{DecidesGuardedly, DecidesPlainly, BuildRefused};
+ghost use Rattle.schema_engine.specs.Checked.{PassesCheck};
+ghost use Rattle.schema_engine.specs.Called.{DecidesGuardedly, DecidesPlainly, BuildRefused, SchemaBuilds};
 ghost use Rattle.schema_engine.specs.Called.{EvaluatesGuardedly, EvaluatesPlainly, UnitsGuardedly, UnitsPlainly};
 ghost use Rattle.schema_engine.specs.Called.{ErrorsPlainly, ErrorsGuardedly, EachLeads, FirstPlainly, FirstGuardedly, FirstLeads};
 ghost use Rattle.schema_engine.specs.Handed.{default_options, handed};
@@ -41,12 +42,17 @@ pub fn is_valid<S: Resolver, T: KeywordTable<K>, K: Validate, M: Matcher, V: Met
     ensures guarded { IfOk result (λ valid. DecidesGuardedly
         (handed S.Resolver T.KeywordTable K.Validate M.Matcher.own resolver.now table.now matcher.now)
         default_options (view schema.now) (view instance.now) valid) }
+    ensures built { IfOk result (λ _. SchemaBuilds
+        (handed S.Resolver T.KeywordTable K.Validate M.Matcher.own resolver.now table.now matcher.now)
+        default_options (view schema.now)) }
+    ensures passed { IfOk result (λ _. PassesCheck (S.resolving resolver.now) (V.checked metas.now)
+        default_options (view schema.now)) }
     ensures refused { IfErr result (λ e. BuildRefused
         (handed S.Resolver T.KeywordTable K.Validate M.Matcher.own resolver.now table.now matcher.now)
         (V.checked metas.now) default_options (view schema.now) e) }
 {
-    let validator = Validator::<K, M>::new(alloc, schema, table, resolver, matcher, metas)?;
-    Ok(validator.is_valid(alloc, instance)?)
+    let built = Validator::<K, M>::new(alloc, schema, table, resolver, matcher, metas)?;
+    Ok(built.is_valid(alloc, instance)?)
 }
 
 /// Returns the first error of the instance as an inner `Err`, and an inner `Ok` if a schema accepts it, as
@@ -74,6 +80,11 @@ pub fn validate<'i, S: Resolver, T: KeywordTable<K>, K: Validate, M: Matcher, V:
         (handed S.Resolver T.KeywordTable K.Validate M.Matcher.own resolver.now table.now matcher.now)
         default_options (view schema.now) (view instance.now) (refusal_of r)) }
     ensures borrows { IfOk result (λ r. IfSome (refusal_of r) (BorrowsItsPlace (view instance.now))) }
+    ensures built { IfOk result (λ _. SchemaBuilds
+        (handed S.Resolver T.KeywordTable K.Validate M.Matcher.own resolver.now table.now matcher.now)
+        default_options (view schema.now)) }
+    ensures passed { IfOk result (λ _. PassesCheck (S.resolving resolver.now) (V.checked metas.now)
+        default_options (view schema.now)) }
     ensures refused { IfErr result (λ e. BuildRefused
         (handed S.Resolver T.KeywordTable K.Validate M.Matcher.own resolver.now table.now matcher.now)
         (V.checked metas.now) default_options (view schema.now) e) }
@@ -106,6 +117,11 @@ pub fn iter_errors<'i, S: Resolver, T: KeywordTable<K>, K: Validate, M: Matcher,
         (handed S.Resolver T.KeywordTable K.Validate M.Matcher.own resolver.now table.now matcher.now)
         default_options (view schema.now) (view instance.now) es) }
     ensures borrows { IfOk result (λ es. All (BorrowsItsPlace (view instance.now)) es) }
+    ensures built { IfOk result (λ _. SchemaBuilds
+        (handed S.Resolver T.KeywordTable K.Validate M.Matcher.own resolver.now table.now matcher.now)
+        default_options (view schema.now)) }
+    ensures passed { IfOk result (λ _. PassesCheck (S.resolving resolver.now) (V.checked metas.now)
+        default_options (view schema.now)) }
     ensures refused { IfErr result (λ e. BuildRefused
         (handed S.Resolver T.KeywordTable K.Validate M.Matcher.own resolver.now table.now matcher.now)
         (V.checked metas.now) default_options (view schema.now) e) }
@@ -141,6 +157,11 @@ pub fn evaluate<S: Resolver, T: KeywordTable<K>, K: Validate, M: Matcher, V: Met
     ensures units { IfOk result (λ u. UnitsGuardedly
         (handed S.Resolver T.KeywordTable K.Validate M.Matcher.own resolver.now table.now matcher.now)
         default_options (view schema.now) (view instance.now) u) }
+    ensures built { IfOk result (λ _. SchemaBuilds
+        (handed S.Resolver T.KeywordTable K.Validate M.Matcher.own resolver.now table.now matcher.now)
+        default_options (view schema.now)) }
+    ensures passed { IfOk result (λ _. PassesCheck (S.resolving resolver.now) (V.checked metas.now)
+        default_options (view schema.now)) }
     ensures refused { IfErr result (λ e. BuildRefused
         (handed S.Resolver T.KeywordTable K.Validate M.Matcher.own resolver.now table.now matcher.now)
         (V.checked metas.now) default_options (view schema.now) e) }

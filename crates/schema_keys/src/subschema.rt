@@ -174,7 +174,8 @@ impl<'p, 'c, R: Resolver> Context<'p, 'c, R> {
     }
 
     /// Returns the key of the subschema at a path below, to be compiled by itself: it stands at the empty location, with
-    /// nothing before it that lies outside its resource. Fails if the resolver refuses the state there, or out of memory.
+    /// nothing before it that lies outside its resource. Fails with the resolver's text if the resolver refuses the state there, or
+    /// out of memory.
     pub fn subschema_alone(&self, path: &SchemaPath) -> Result<SchemaKey<R::State>, BuildError>
         ensures key { IfOk result (λ k.
             key_alone (resolving_parts (R.resolving self.now.resolver.now))
@@ -182,6 +183,9 @@ impl<'p, 'c, R: Resolver> Context<'p, 'c, R> {
         ensures refused { IfErr result (RefusesKeyAlone
             (key_alone (resolving_parts (R.resolving self.now.resolver.now))
             (key_of R.point self.now.key.now) path.now)) }
+        ensures told { IfErr result (Names
+            (request_causes (resolving_parts (R.resolving self.now.resolver.now))
+            (key_of R.point self.now.key.now) (compile path.now))) }
     {
         let place = self.key.place.below(self.alloc, path)?;
         let value = self.resolver.value(&place);

@@ -13,10 +13,10 @@ returns-clause-answer g c =
     let table = table_of (g.T.KeywordTable.owned c.args.table.now) builtin_in (g.T.KeywordTable.script c.args.table.now) in
     let m = g.M.Matcher.matching c.args.matcher.now in
     let k = g.K.Validate in
-    plainly_from r table m k.words default_options (view c.args.schema.now) k.shape k.is_whole g.M.Matcher.matching c.in_ok-validator.validator (view c.args.instance.now)
-    (λ texts v. VerdictSays v is_valid c.in_ok-is_valid.field-0) c.in_ok-validator.ensures.means c.in_ok-is_valid.ensures.senses
+    plainly_from r table m k.words default_options (view c.args.schema.now) k.shape k.is_whole g.M.Matcher.matching c.in_ok-built.built (view c.args.instance.now)
+    (λ texts v. VerdictSays v is_valid c.in_ok-is_valid.field-0) c.in_ok-built.ensures.means c.in_ok-is_valid.ensures.senses
 
-pub returns-in_err-validator-clause-refused : goal.returns-in_err-validator-clause-refused
-returns-in_err-validator-clause-refused g c =
+pub returns-in_err-built-clause-refused : goal.returns-in_err-built-clause-refused
+returns-in_err-built-clause-refused g c =
     let p = err_from_is_err_and c.from_residual.result c.from_residual.ensures.1 in
-    rw (p.1, p.2) c.in_err-validator.ensures.refused
+    rw (p.1, p.2) c.in_err-built.ensures.refused
