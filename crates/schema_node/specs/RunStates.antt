@@ -175,6 +175,10 @@ RunRemembers g q c' = (root : Data) → IsAskedOf root q → RemembersRightly g 
 abbrev pub GoesOn : {K R : Type 0} → Setting K R → Asking → Context → Type 0
 GoesOn g q c = (layout : Layout) × IsLaidOut layout q × RemembersRightly g layout c
 
+-- a context whose verdicts and visits are forgotten, as a run begins
+abbrev pub forgotten : Context → Context
+forgotten c = record c { verdicts = []; visits = 0 }
+
 -- ---- a verdict that is read, and one that is kept
 
 -- where a guarded edge is asked across for the verdict, and its pair is not in progress: the reply is a verdict, the one that is

@@ -7,7 +7,7 @@ ghost use Rattle.schema_nodes.specs.NodeTable.{NodeEntry, numbered};
 ghost use Rattle.schema_contexts.specs.Progress.{NoDeeper};
 ghost use Rattle.schema_node.specs.RunStates.{asking_first, setting_over};
 ghost use Rattle.schema_node.specs.RunStates.{RunBorrows, RunMeets, RunRemembers, RunReplies, RunSpeaks};
-ghost use Rattle.schema_node.specs.RunStates.{GoesOn, NodeRemembers, StaysRight};
+ghost use Rattle.schema_node.specs.RunStates.{GoesOn, NodeRemembers, StaysRight, forgotten};
 ghost use Rattle.schema_node.specs.UnitStates.{RunGives, evaluating};
 
 use crate::node::evaluate::evaluate_node;
@@ -43,7 +43,8 @@ pub trait RunNodes<K: Validate> {
     /// it. The reply is of the mode. A match that the matcher leaves unfinished comes out as the context assumes it to, or
     /// else as no, and the context remembers it. The pairs in progress and the marks are as before, except on `Err`. Each error
     /// borrows the instance at its place. Verdicts that the context remembers are forgotten first; each that it remembers after the
-    /// run is what the node says at the place with its own pair alone in progress there.
+    /// run is what the node says at the place with its own pair alone in progress there. For the verdict a node whose one entry is a
+    /// guarded reference, its target's pair not in progress, counts its visit and keeps its verdict, as `run_further` does.
     fn run<'i, M: Matcher>(
         &self,
         alloc: Global,
@@ -68,7 +69,9 @@ pub trait RunNodes<K: Validate> {
         ensures borrows { IfOk result (λ r. RunBorrows (asking_first question.now) r) }
         ensures right { IfOk result (λ _. RunRemembers
             (setting_over K.words K.is_whole K.shape (table self.now) (M.matching matcher.now)) (asking_first question.now)
-            context.new) };
+            context.new) }
+        ensures remembers { IfOk result (λ r. NodeRemembers (asking_first question.now) (forgotten context.old) context.new
+            (numbered K.shape (table self.now)) node.0 r) };
 
     /// Runs a node as a part of a run that has begun: as `run` does, but verdicts that the run remembers are read, and stay
     /// remembered. For the verdict a node whose one entry is a guarded reference, its target's pair not in progress, gives the

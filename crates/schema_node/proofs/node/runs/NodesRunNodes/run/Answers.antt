@@ -35,6 +35,9 @@ returns-clause-replies g c = rw c.forget_verdicts.ensures.forgotten at c.run_fur
 pub returns-clause-meets : goal.returns-clause-meets
 returns-clause-meets g c = rw c.forget_verdicts.ensures.forgotten at c.run_further.ensures.meets
 
+pub returns-clause-remembers : goal.returns-clause-remembers
+returns-clause-remembers g c = rw c.forget_verdicts.ensures.forgotten at c.run_further.ensures.remembers
+
 pub returns-clause-right : goal.returns-clause-right
 returns-clause-right g c = if_ok_mono c.run_further.result _ _ (λ r stays root at_place.
     let p = c.args.question.now.place.now in
