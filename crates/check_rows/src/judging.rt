@@ -1,9 +1,11 @@
-//! Whether a line holds a row that the engine answers as the row says.
+//! Whether the engine answers a row as the row says.
+ghost use Rattle.std.specs.Prelude.{◌≡◌, ◌++◌, ◌∷◌, [], IfOk, None, codes, count_by, decimal, false, is_none, length, not, string_bytes};
+ghost use Rattle.serde_json.specs.Read.{read as read_text};
+ghost use Rattle.serde_json.specs.View.{view};
+ghost use Rattle.check_rows.specs.Rows.{is_right, is_right_answer};
 
+use crate::asking::{Line, RowAnswer, line_in};
 use crate::comparing::is_wanted;
-use crate::growing::grown;
-use crate::reading::{fault_in, row_in};
-use engine_cases::answer;
 use engine_cases::case::Case;
 use serde_json::Value;
 use std::alloc::{AllocError, Global};
@@ -17,66 +19,100 @@ pub struct Wrong {
     pub given: String,
 }
 
-/// Returns what is wrong with the row on a line; `None` where the engine answers as it says. Its name is put among `names`, where it
-/// may not be yet.
+/// What was found of the rows so far.
+#[derive(Drop)]
+pub struct Tally {
+    /// Of each row whether it is right.
+    pub verdicts: Vec<bool>,
+    /// The names of rows.
+    pub names: BTreeSet<String>,
+}
+
+// Whether this answer is the one that a row wants.
+fn is_right(row: &Value, given: &Value) -> bool
+    ensures right { result ≡ is_right (view row.now) (view given.now) }
+{
+    let Some(case) = Case::read(row) else {
+        return false;
+    };
+    match row.get("want") {
+        Some(want) => is_wanted(case.call, given, want),
+        None => false,
+    }
+}
+
+// Whether what came of a row is right.
+fn is_right_answer(answer: &RowAnswer) -> bool
+    ensures right { result ≡ is_right_answer answer.now }
+{
+    match answer {
+        RowAnswer::Fault(_) => false,
+        RowAnswer::Given(row, given) => is_right(row, given),
+    }
+}
+
+// What is wrong with a row itself, or what the engine answers of it, as JSON.
+fn given_in(alloc: Global, answer: &RowAnswer) -> Result<String, AllocError> {
+    match answer {
+        RowAnswer::Fault(fault) => fault.clone(),
+        RowAnswer::Given(_, given) => given.to_string(alloc),
+    }
+}
+
+// The name of a line's row, and what was given.
+fn wrong_in(alloc: Global, line: &Line) -> Result<Wrong, AllocError> {
+    let name = line.name.clone()?;
+    let given = given_in(alloc, &line.answer)?;
+    Ok(Wrong { name, given })
+}
+
+impl Tally {
+    // Counts what came of a line. Returns what is wrong with it, if anything is.
+    fn count(&mut self, alloc: Global, line: &Line) -> Result<Option<Wrong>, AllocError>
+        ensures counted { IfOk result (λ wrong.
+            self.new.verdicts.items ≡ self.old.verdicts.items ++ (is_right_answer line.now.answer ∷ [])) }
+        ensures wrong { IfOk result (λ wrong. is_none wrong ≡ is_right_answer line.now.answer) }
+    {
+        let right = is_right_answer(&line.answer);
+        self.verdicts.push(right)?;
+        if right {
+            return Ok(None);
+        }
+        Ok(Some(wrong_in(alloc, line)?))
+    }
+
+    /// Judges and counts the row on a line: returns what is wrong with it, and `None` where the engine answers as it says.
+    ///
+    /// # Errors
+    ///
+    /// Fails only out of memory.
+    pub fn judge(&mut self, alloc: Global, text: &str) -> Result<Option<Wrong>, AllocError>
+        ensures counted { IfOk result (λ wrong.
+            self.new.verdicts.items ≡ self.old.verdicts.items ++ (is_none wrong ∷ [])) }
+        ensures unread { IfOk result (λ wrong. read_text text.now ≡ None → is_none wrong ≡ false) }
+    {
+        let line = line_in(alloc, &mut self.names, text)?;
+        self.count(alloc, &line)
+    }
+}
+
+/// Returns how many rows are wrong.
+pub fn count_wrong(verdicts: &[bool]) -> usize
+    ensures count { result ≡ count_by not verdicts.now }
+{
+    verdicts.iter().filter(|right| !**right).count()
+}
+
+/// Returns the last line: how many rows there were, and how many of them were wrong.
 ///
 /// # Errors
 ///
 /// Fails only out of memory.
-pub fn judged(
-    alloc: Global,
-    names: &mut BTreeSet<String>,
-    line: &str,
-) -> Result<Option<Wrong>, AllocError> {
-    let Some(row) = row_in(alloc, line)? else {
-        return Ok(Some(Wrong {
-            name: None,
-            given: String::from_str(alloc, "the line is no JSON")?,
-        }));
-    };
-    let name = name_of(alloc, &row)?;
-    match wrong_in(alloc, names, &row)? {
-        Some(given) => Ok(Some(Wrong { name, given })),
-        None => Ok(None),
-    }
-}
-
-// The name of a row, where it has one.
-fn name_of(alloc: Global, row: &Value) -> Result<Option<String>, AllocError> {
-    match row.get("name").and_then(Value::as_str) {
-        Some(name) => Ok(Some(String::from_str(alloc, name)?)),
-        None => Ok(None),
-    }
-}
-
-// What is wrong with a row, by its shape, its name or its answer.
-fn wrong_in(
-    alloc: Global,
-    names: &mut BTreeSet<String>,
-    row: &Value,
-) -> Result<Option<String>, AllocError> {
-    if let Some(fault) = fault_in(alloc, row)? {
-        return Ok(Some(fault));
-    }
-    let name = row.get("name").and_then(Value::as_str).unwrap_or("");
-    if !names.insert(String::from_str(alloc, name)?)? {
-        return Ok(Some(String::from_str(alloc, "another row has this name")?));
-    }
-    wrong_answer(alloc, &grown(alloc, row)?)
-}
-
-// What the engine answers of a grown row, as JSON, where the row wants something else.
-fn wrong_answer(alloc: Global, row: &Value) -> Result<Option<String>, AllocError> {
-    let given = answer(alloc, row)?;
-    let Some(case) = Case::read(row) else {
-        return Ok(Some(given.to_string(alloc)?));
-    };
-    let Some(want) = row.get("want") else {
-        return Ok(Some(given.to_string(alloc)?));
-    };
-    if is_wanted(case.call, &given, want) {
-        Ok(None)
-    } else {
-        Ok(Some(given.to_string(alloc)?))
-    }
+pub fn summary(alloc: Global, verdicts: &[bool]) -> Result<String, AllocError>
+    ensures text { IfOk result (λ text. string_bytes text
+        ≡ decimal (length verdicts.now) ++ (codes " rows, " ++ (decimal (count_by not verdicts.now) ++ codes " wrong"))) }
+{
+    let rows = verdicts.len();
+    let wrong = count_wrong(verdicts);
+    format!(in alloc; "{rows} rows, {wrong} wrong")
 }

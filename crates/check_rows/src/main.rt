@@ -2,26 +2,20 @@
 //! say, and how many there are. It ends with 0 where none is, else with 1.
 #![tactic(auto)]
 
+mod asking;
 mod comparing;
+mod equality;
 mod growing;
 mod judging;
 mod reading;
 
-use crate::judging::{Wrong, judged};
+use crate::judging::{Tally, Wrong, count_wrong, summary};
 use anyhow::Context;
 use std::collections::BTreeSet;
 use std::env::Env;
 use std::process::ExitCode;
 use std::rt::Files;
 use std::{env, fs, io};
-
-/// How many rows there were, how many of them were wrong, and their names.
-#[derive(Drop)]
-struct Tally {
-    rows: u64,
-    wrong: u64,
-    names: BTreeSet<String>,
-}
 
 /// Judges the rows of a file, and prints a line for each that is wrong.
 fn check_file<R: Files + Print + AllocGlobal>(
@@ -34,9 +28,7 @@ fn check_file<R: Files + Print + AllocGlobal>(
         if line.trim().is_empty() {
             continue;
         }
-        tally.rows = tally.rows.saturating_add(1);
-        if let Some(wrong) = judged(rt.alloc(), &mut tally.names, line)? {
-            tally.wrong = tally.wrong.saturating_add(1);
+        if let Some(wrong) = tally.judge(rt.alloc(), line)? {
             tell(rt, wrong, number.saturating_add(1), file)?;
         }
     }
@@ -52,23 +44,22 @@ fn tell(rt: &impl Print, wrong: Wrong, number: usize, file: &str) -> io::Result<
     }
 }
 
-/// Judges the rows of all files that the process is given, and prints how many there were.
-fn check_files<R: Files + Env + Print + AllocGlobal>(rt: &R) -> anyhow::Result<Tally> {
+/// Judges the rows of all files that the process is given, prints how many there were, and returns how many of them are wrong.
+fn check_files<R: Files + Env + Print + AllocGlobal>(rt: &R) -> anyhow::Result<usize> {
     let mut tally = Tally {
-        rows: 0,
-        wrong: 0,
+        verdicts: Vec::new(rt.alloc()),
         names: BTreeSet::new(rt.alloc()),
     };
     for file in env::args(rt)?.skip(1) {
         check_file(rt, &mut tally, file.as_str())?;
     }
-    println!(rt; "{} rows, {} wrong", tally.rows, tally.wrong)?;
-    Ok(tally)
+    let line = summary(rt.alloc(), tally.verdicts.as_slice())?;
+    println!(rt; "{line}")?;
+    Ok(count_wrong(tally.verdicts.as_slice()))
 }
 
 fn main(rt: HostRuntime) -> anyhow::Result<ExitCode> {
-    let tally = check_files(&rt)?;
-    Ok(if tally.wrong == 0 {
+    Ok(if check_files(&rt)? == 0 {
         ExitCode::SUCCESS
     } else {
         ExitCode::FAILURE

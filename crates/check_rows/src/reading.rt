@@ -1,4 +1,7 @@
 //! Rows as they are written.
+ghost use Rattle.std.specs.Prelude.{◌≡◌, IfOk, option_map};
+ghost use Rattle.serde_json.specs.Read.{read as read_text};
+ghost use Rattle.serde_json.specs.View.{view};
 
 use engine_cases::call::Call;
 use serde_json::{Category, Value};
@@ -9,7 +12,9 @@ use std::alloc::{AllocError, Global};
 /// # Errors
 ///
 /// Fails only out of memory.
-pub fn row_in(alloc: Global, line: &str) -> Result<Option<Value>, AllocError> {
+pub fn row_in(alloc: Global, line: &str) -> Result<Option<Value>, AllocError>
+    ensures read { IfOk result (λ row. option_map view row ≡ read_text line.now) }
+{
     match Value::from_str(alloc, line) {
         Ok(row) => Ok(Some(row)),
         Err(error) => match error.classify() {

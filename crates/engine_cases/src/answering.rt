@@ -1,8 +1,8 @@
 //! From a case to its answer.
-ghost use Rattle.std.specs.Prelude.{◌≡◌, IfOk, None, codes};
-ghost use Rattle.serde_json.specs.Find.{get};
+ghost use Rattle.std.specs.Prelude.{◌≡◌, IfOk};
 ghost use Rattle.serde_json.specs.View.{view};
 ghost use Rattle.engine_cases.specs.Calls.{no_case};
+ghost use Rattle.engine_cases.specs.Cases.{IsNoCase};
 
 use crate::building::answered;
 use crate::call::Call;
@@ -43,7 +43,7 @@ fn answer_by<K: Validate, T: KeywordTable<K>>(
 ///
 /// Fails only out of memory.
 pub fn answer(alloc: Global, case: &Value) -> Result<Value, OutOfMemory>
-    ensures fault { IfOk result (λ v. get (codes "schema") (view case.now) ≡ None → view v ≡ no_case) }
+    ensures fault { IfOk result (λ v. IsNoCase (view case.now) → view v ≡ no_case) }
 {
     let Some(case) = Case::read(case) else {
         return json!(in alloc; {"fault": "no case"});

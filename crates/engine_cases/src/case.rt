@@ -1,8 +1,9 @@
 //! The members of a case.
-ghost use Rattle.std.specs.Prelude.{◌≡◌, IfSome, None, Some, codes, unwrap_or};
+ghost use Rattle.std.specs.Prelude.{◌≡◌, IfNone, IfSome, None, Some, codes, option_map, unwrap_or};
 ghost use Rattle.serde_json.specs.Find.{get};
 ghost use Rattle.serde_json.specs.View.{view};
 ghost use Rattle.engine_cases.specs.Calls.{call_in};
+ghost use Rattle.engine_cases.specs.Cases.{IsNoCase, case_in, is_asked_by, table_in, table_of};
 
 use crate::call::Call;
 use schema_engine::keywords::Draft;
@@ -32,18 +33,25 @@ pub struct Case<'c> {
 
 impl<'c> Case<'c> {
     /// Returns the case that this object is: `None` where it has no schema, where there is no call of the name that its member
-    /// `call` has, and where its member `table`, if it has one, names no table. Allocates nothing.
+    /// `call` has, where its member `table`, if it has one, names no table, and where it asks of clones by another table than the
+    /// bench's. Allocates nothing.
     pub fn read(members: &'c Value) -> Option<Case<'c>>
         ensures schema { IfSome result (λ c. get (codes "schema") (view members.now) ≡ Some (view c.schema.now)) }
         ensures instance { IfSome result (λ c. view c.instance.now
             ≡ unwrap_or (get (codes "instance") (view members.now)) (view c.schema.now)) }
         ensures call { IfSome result (λ c. call_in (view members.now) ≡ Some c.call) }
-        ensures lacking { get (codes "schema") (view members.now) ≡ None → result ≡ None }
+        ensures table { IfSome result (λ c. table_in (view members.now) ≡ Some c.table) }
+        ensures case { option_map (λ c. c.call) result ≡ case_in (view members.now) }
+        ensures wrong { IfNone result (IsNoCase (view members.now)) }
+        ensures lacking { IsNoCase (view members.now) → result ≡ None }
     {
         let schema = members.get("schema")?;
         let instance = members.get("instance").unwrap_or(schema);
         let call = Call::named(members.get("call").and_then(Value::as_str)?)?;
         let table = table_of(members.get("table"))?;
+        if !is_asked_by(call, table) {
+            return None;
+        }
         Some(Case {
             call,
             table,
@@ -83,8 +91,20 @@ impl<'c> Case<'c> {
     }
 }
 
+// Whether a call can be asked by a table: clones by the bench's alone, all else by each.
+fn is_asked_by(call: Call, table: Table) -> bool
+    ensures asked { result ≡ is_asked_by call table }
+{
+    match call {
+        Call::Clones(_) => table == Table::Bench,
+        _ => true,
+    }
+}
+
 // The table of this name; the bench's where there is none.
-fn table_of(name: Option<&Value>) -> Option<Table> {
+fn table_of(name: Option<&Value>) -> Option<Table>
+    ensures table { result ≡ table_of (option_map (λ v. view v.now) name.entry) }
+{
     let Some(name) = name else {
         return Some(Table::Bench);
     };
