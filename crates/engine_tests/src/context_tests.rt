@@ -1,95 +1,120 @@
-//! What a `Context` answers that no call of the engine asks: a table's makers may, so no row says it.
+//! What a `Context` answers that no call of the engine asks: a table's makers may, so no row of `check_rows` says it. Whether formats
+//! are checked: by the option, or else by the vocabularies, or in the drafts before 2019-09.
+use crate::asking::{number_at, push_all};
 use bench_resolver::resolver::BenchResolver;
 use schema_engine::keywords::{Draft, Vocabulary, VocabularySet};
-use schema_keys::context::{Context, DeferredAbsoluteLocation};
+use schema_keys::context::Context;
 use schema_keys::key::SchemaKey;
 use schema_keys::options::CompileOptions;
 use schema_parts::resolver::Resolver;
 use schema_reports::location::{Location, OutOfMemory};
 use serde_json::Value;
 use std::alloc::Global;
+use test_rows::{column, text_at};
 
-/// The JSON value of this text; `null` where it is none.
-pub fn value_of(alloc: Global, text: &str) -> Result<Value, OutOfMemory> {
-    match Value::from_str(alloc, text) {
-        Ok(value) => Ok(value),
-        Err(_) => Ok(Value::Null),
+/// The draft of this number.
+fn draft_of(number: Option<usize>) -> Draft {
+    match number {
+        Some(4) => Draft::Draft4,
+        Some(6) => Draft::Draft6,
+        Some(7) => Draft::Draft7,
+        Some(2019) => Draft::Draft201909,
+        Some(2020) => Draft::Draft202012,
+        _ => Draft::Unknown,
     }
 }
 
-const EMBEDDED: &str = r#"{"$defs":{"e":{"$id":"http://x/e","$defs":{"t":{"type":"string"}}}}}"#;
+/// The vocabulary of this name.
+fn vocabulary_of(name: &str) -> Vocabulary {
+    match name {
+        "format-annotation" => Vocabulary::FormatAnnotation,
+        "format-assertion" => Vocabulary::FormatAssertion,
+        "validation" => Vocabulary::Validation,
+        _ => Vocabulary::Core,
+    }
+}
 
-/// A key in the resource `http://x/e`, at `/$defs/e/$defs/t`, whose first eight bytes lie outside the resource. The last
-/// reference gave them, and the vocabulary of validation is in force.
-fn key_in<R: Resolver>(
+/// The key of a row, if the resolver has a document under its URI.
+fn key_of<R: Resolver>(
     alloc: Global,
     resolver: &R,
-    draft: Draft,
+    row: &Value,
 ) -> Result<Option<SchemaKey<R::State>>, OutOfMemory> {
-    match resolver.root(alloc, "http://x/e")? {
+    let vocabularies = VocabularySet::new(alloc).with(vocabulary_of(text_at(row, 4)))?;
+    let location = Location::from_escaped(alloc, text_at(row, 6))?;
+    let base = Location::from_escaped(alloc, text_at(row, 7))?;
+    match resolver.root(alloc, text_at(row, 2))? {
         None => Ok(None),
         Some((state, place)) => Ok(Some(SchemaKey {
             place,
             state,
-            draft,
-            vocabularies: VocabularySet::new(alloc).with(Vocabulary::Validation)?,
-            location: Location::from_escaped(alloc, "/$defs/e/$defs/t")?,
-            base: Location::from_escaped(alloc, "/$defs/e")?,
-            start: 8,
+            draft: draft_of(number_at(row, 3)),
+            vocabularies,
+            location,
+            base,
+            start: number_at(row, 8).unwrap_or(0),
         })),
     }
 }
 
-/// The absolute location, by what was kept for it.
-fn resolved(
-    kept: Option<DeferredAbsoluteLocation>,
-    location: &Location,
-) -> Result<Option<String>, OutOfMemory> {
-    match kept {
-        None => Ok(None),
-        Some(kept) => Ok(Some(kept.resolve(location)?)),
+/// Adds the context's own absolute location, if it has one.
+fn push_located<R: Resolver>(context: &Context<R>, log: &mut String) -> Result<(), OutOfMemory> {
+    match context.absolute_location(context.location())? {
+        None => log.push_str("none"),
+        Some(absolute) => log.push_str(absolute.as_str()),
     }
 }
 
-/// Whether there is a text, and it is this one.
-fn is_text(found: &Option<String>, text: &str) -> bool {
-    match found {
-        None => false,
-        Some(found) => found.as_str() == text,
+/// The same by what was kept for it.
+fn push_located_later<R: Resolver>(
+    context: &Context<R>,
+    log: &mut String,
+) -> Result<(), OutOfMemory> {
+    match context.deferred_absolute_location()? {
+        None => log.push_str(" none"),
+        Some(kept) => {
+            let absolute = kept.resolve(context.location())?;
+            push_all(log, &[" ", absolute.as_str()])
+        }
     }
 }
 
-/// Whether the context's own absolute location is this one, at once and later.
-fn is_located<R: Resolver>(context: &Context<R>, expected: &str) -> Result<bool, OutOfMemory> {
-    let location = context.location();
-    let now = context.absolute_location(location)?;
-    let later = resolved(context.deferred_absolute_location()?, location)?;
-    Ok(is_text(&now, expected) && is_text(&later, expected))
+/// A word, where this holds.
+fn where_true(holds: bool, word: &str) -> &str {
+    if holds { word } else { "" }
 }
 
-/// Whether its draft knows numbers with an integer's value, and the vocabularies of the core, of validation and of applicators
-/// are in force.
-fn known<R: Resolver>(context: &Context<R>) -> [bool; 4] {
-    [
-        context.supports_integer_valued_numbers(),
-        context.has_vocabulary(&Vocabulary::Core),
-        context.has_vocabulary(&Vocabulary::Validation),
-        context.has_vocabulary(&Vocabulary::Applicator),
-    ]
+/// Adds what follows on what the last reference gave, whether numbers with an integer's value are integers, which of three
+/// vocabularies are in force, and whether formats are checked.
+fn push_known<R: Resolver>(context: &Context<R>, log: &mut String) -> Result<(), OutOfMemory> {
+    let words = [
+        " ",
+        context.suffix().unwrap_or("elsewhere"),
+        where_true(context.supports_integer_valued_numbers(), " integers"),
+        where_true(context.has_vocabulary(&Vocabulary::Core), " core"),
+        where_true(
+            context.has_vocabulary(&Vocabulary::Validation),
+            " validation",
+        ),
+        where_true(
+            context.has_vocabulary(&Vocabulary::Applicator),
+            " applicator",
+        ),
+        where_true(context.validates_formats_by_default(), " formats"),
+    ];
+    push_all(log, &words)
 }
 
-/// Whether a context in this draft is located in its resource, below what the last reference gave, and knows this.
-fn answers<R: Resolver>(
+/// Adds what the context of a key answers, under this option for formats.
+fn push_context<R: Resolver>(
     alloc: Global,
     resolver: &R,
-    draft: Draft,
-    expected: [bool; 4],
-) -> Result<bool, OutOfMemory> {
-    let Some(key) = key_in(alloc, resolver, draft)? else {
-        return Ok(false);
-    };
+    key: &SchemaKey<R::State>,
+    formats: Option<bool>,
+    log: &mut String,
+) -> Result<(), OutOfMemory> {
     let options = CompileOptions {
-        formats: None,
+        formats,
         declared: Vec::new(alloc),
         node_limit: 1,
     };
@@ -97,24 +122,59 @@ fn answers<R: Resolver>(
         alloc,
         resolver,
         options: &options,
-        key: &key,
+        key,
     };
-    Ok(
-        is_located(&context, "http://x/e#/$defs/t")?
-            && context.suffix() == Some("/$defs/t")
-            && known(&context) == expected,
-    )
+    push_located(&context, log)?;
+    push_located_later(&context, log)?;
+    push_known(&context, log)
 }
 
-#[test]
-fn a_context_is_located_in_its_resource(rt: HostRuntime) -> Result<(), OutOfMemory> {
-    let alloc = rt.alloc();
-    let schema = value_of(alloc, EMBEDDED)?;
-    let resolver = BenchResolver::new(alloc, &schema, VocabularySet::new(alloc))?;
-    let in_2020 = [true, true, true, false];
-    assert!(rt; answers(alloc, &resolver, Draft::Draft202012, in_2020)?);
-    // In the drafts before 2019-09 each vocabulary is in force, and in draft 4 the number 1.0 is no integer.
-    let in_4 = [false, true, true, true];
-    assert!(rt; answers(alloc, &resolver, Draft::Draft4, in_4)?);
-    Ok(())
+/// Adds what the context of a row's key answers.
+fn tell_of<R: Resolver>(
+    alloc: Global,
+    resolver: &R,
+    row: &Value,
+    log: &mut String,
+) -> Result<(), OutOfMemory> {
+    match key_of(alloc, resolver, row)? {
+        None => log.push_str("no document"),
+        Some(key) => push_context(alloc, resolver, &key, column(row, 5).as_bool(), log),
+    }
 }
+
+/// The same with the resolver of the row's schema.
+pub(crate) fn tell_context(
+    alloc: Global,
+    row: &Value,
+    log: &mut String,
+) -> Result<(), OutOfMemory> {
+    let resolver = BenchResolver::new(alloc, column(row, 1), VocabularySet::new(alloc))?;
+    let told = tell_of(alloc, &resolver, row, log);
+    drop(resolver);
+    told
+}
+
+// The absolute location twice, what follows, and what is known; then schema, URI of a document, draft (0 for one that is not known),
+// vocabulary that is in force, whether formats are to be checked, location, what the last reference gave of it, how many bytes of it
+// lie outside the resource.
+//
+// The first two are in a resource inside another. In the drafts before 2019-09 each vocabulary is in force, and formats are checked;
+// in draft 4 the number 1.0 is no integer. The others are at a root whose URI is not shown. The option not to check formats holds in
+// every draft, whatever vocabulary is in force.
+pub(crate) const CONTEXTS: &str = r##"[
+["http://x/e#/$defs/t http://x/e#/$defs/t /$defs/t integers core validation",
+ {"$defs":{"e":{"$id":"http://x/e","$defs":{"t":{"type":"string"}}}}},
+ "http://x/e", 2020, "validation", null, "/$defs/e/$defs/t", "/$defs/e", 8],
+["http://x/e#/$defs/t http://x/e#/$defs/t /$defs/t core validation applicator formats",
+ {"$defs":{"e":{"$id":"http://x/e","$defs":{"t":{"type":"string"}}}}},
+ "http://x/e", 4, "validation", null, "/$defs/e/$defs/t", "/$defs/e", 8],
+["none none  integers core validation applicator formats", {}, "json-schema:///", 7, "core", null, "", "", 0],
+["none none  integers core", {}, "json-schema:///", 2020, "format-annotation", null, "", "", 0],
+["none none  integers core formats", {}, "json-schema:///", 2020, "format-assertion", null, "", "", 0],
+["none none  core validation applicator", {}, "json-schema:///", 4, "format-assertion", false, "", "", 0],
+["none none  integers core validation applicator", {}, "json-schema:///", 6, "format-assertion", false, "", "", 0],
+["none none  integers core validation applicator", {}, "json-schema:///", 7, "format-assertion", false, "", "", 0],
+["none none  integers core", {}, "json-schema:///", 2019, "format-assertion", false, "", "", 0],
+["none none  integers core", {}, "json-schema:///", 2020, "format-assertion", false, "", "", 0],
+["none none  integers core", {}, "json-schema:///", 0, "format-assertion", false, "", "", 0]
+]"##;

@@ -1,4 +1,5 @@
-//! A matcher whose engine fails.
+//! A matcher whose engine fails. The matcher of the rows of `check_rows` does not.
+use crate::asking::push_refusal;
 use bench_keywords::keyword::BenchKeyword;
 use bench_parts::meta::BenchMeta;
 use bench_parts::table::BenchTable;
@@ -6,10 +7,14 @@ use bench_resolver::resolver::BenchResolver;
 use schema_engine::validate;
 use schema_keywords::keywords::VocabularySet;
 use schema_matches::site::{Match, Reason};
+use schema_parts::keyword::Validate;
 use schema_parts::matcher::Matcher;
+use schema_parts::resolver::Resolver;
+use schema_parts::table::KeywordTable;
 use schema_reports::location::OutOfMemory;
 use serde_json::Value;
 use std::alloc::{AllocError, Global};
+use test_rows::column;
 
 /// A matcher that leaves every match unfinished, since its engine fails.
 #[derive(Drop)]
@@ -47,35 +52,51 @@ impl Matcher for FailingMatcher {
     ghost cloned = { λ m n same. refl };
 }
 
-/// Whether the schema builds, and the first error has this text.
-fn first_fails(
+/// Adds the text of the first error of a row's instance, or why there is no validator, by the call that builds and asks.
+fn tell_first<K: Validate, T: KeywordTable<K>, R: Resolver, M: Matcher>(
     alloc: Global,
-    resolver: &BenchResolver,
-    schema: &Value,
-    instance: &Value,
-    text: &str,
-) -> bool {
-    match validate::<_, _, BenchKeyword, _, _>(
+    table: &T,
+    resolver: &R,
+    matcher: &M,
+    row: &Value,
+    log: &mut String,
+) -> Result<(), OutOfMemory> {
+    let (schema, instance) = (column(row, 1), column(row, 2));
+    match validate::<R, T, K, M, BenchMeta>(
         alloc,
         schema,
         instance,
-        &BenchTable {},
+        table,
         resolver,
-        &FailingMatcher {},
+        matcher,
         &BenchMeta {},
     ) {
-        Ok(Err(error)) => error.text.as_str() == text,
-        _ => false,
+        Ok(Ok(())) => Ok(()),
+        Ok(Err(error)) => log.push_str(error.text.as_str()),
+        Err(error) => push_refusal(&error, log),
     }
 }
 
-#[test]
-fn failures_name_the_pattern(rt: HostRuntime) -> Result<(), serde_json::Error> {
-    let alloc = rt.alloc();
-    let schema = Value::from_str(alloc, r#"{"pattern":"q"}"#)?;
-    let instance = Value::from_str(alloc, r#""abc""#)?;
-    let resolver = BenchResolver::new(alloc, &schema, VocabularySet::new(alloc))?;
-    let text = "Regex engine failed to evaluate pattern 'q'";
-    assert!(rt; first_fails(alloc, &resolver, &schema, &instance, text));
-    Ok(())
+/// The same with the matcher that fails.
+pub(crate) fn tell_failure(
+    alloc: Global,
+    row: &Value,
+    log: &mut String,
+) -> Result<(), OutOfMemory> {
+    let resolver = BenchResolver::new(alloc, column(row, 1), VocabularySet::new(alloc))?;
+    let told = tell_first::<BenchKeyword, BenchTable, BenchResolver, FailingMatcher>(
+        alloc,
+        &BenchTable {},
+        &resolver,
+        &FailingMatcher {},
+        row,
+        log,
+    );
+    drop(resolver);
+    told
 }
+
+// The first error, schema, instance.
+pub(crate) const FAILURES: &str = r##"[
+["Regex engine failed to evaluate pattern 'q'", {"pattern":"q"}, "abc"]
+]"##;

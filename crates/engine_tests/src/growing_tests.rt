@@ -1,19 +1,16 @@
-//! A resolver of its own, whose state grows by one with each lookup: a schema that refers to itself never comes back to a key.
+//! A resolver of its own, whose state grows by one with each lookup: a schema that refers to itself never comes back to a key. The
+//! rows of `check_rows` have no such resolver.
 ghost use Rattle.std.specs.Prelude.{◌≡◌, MatchResult, Ok};
 ghost use Rattle.schema_parts.specs.ResolverViews.{Refuses, found_of};
 ghost use Rattle.engine_tests.specs.Growing.{next};
 
-use crate::context_tests::value_of;
+use crate::asking::{Parts, parts_of, tell_with};
 use bench_keywords::keyword::BenchKeyword;
 use bench_parts::matcher::BenchMatcher;
-use bench_parts::meta::BenchMeta;
 use bench_parts::table::BenchTable;
 use bench_resolver::resolver::BenchResolver;
 use bench_resolver::resolver::places::root_place;
 use schema_engine::keywords::{Draft, VocabularySet};
-use schema_engine::options::ValidationOptions;
-use schema_engine::validator::Validator;
-use schema_keys::error::BuildError;
 use schema_parts::resolver::{LookupError, Resolver, Target};
 use schema_parts::schema_place::SchemaPlace;
 use schema_reports::location::OutOfMemory;
@@ -153,42 +150,32 @@ impl<'a> Resolver for GrowingResolver<'a> {
     ghost below = { λ r draft p. tt };
 }
 
-/// The number of a refusal; 0 where the schema builds.
-fn number_of(built: Result<Validator<BenchKeyword, BenchMatcher>, BuildError>) -> u8 {
-    match built {
-        Ok(_validator) => 0,
-        Err(error) => error.number(),
-    }
-}
-
-/// The number of the refusal under a limit of so many keys; 0 where the schema of this text builds.
-fn refusal_under(alloc: Global, keys: usize, text: &str) -> Result<u8, OutOfMemory> {
-    let schema = value_of(alloc, text)?;
-    let document = BenchResolver::new(alloc, &schema, VocabularySet::new(alloc))?;
-    let resolver = GrowingResolver { document };
-    let matcher = BenchMatcher::new(Vec::new(alloc));
-    let options = ValidationOptions::new(alloc).with_node_limit(keys);
-    let built = options.build(
+/// Adds what is answered with a resolver whose states grow.
+pub(crate) fn tell_growing(
+    alloc: Global,
+    row: &Value,
+    log: &mut String,
+) -> Result<(), OutOfMemory> {
+    let Parts { resolver, matcher } = parts_of(alloc, row)?;
+    let resolver = GrowingResolver { document: resolver };
+    let told = tell_with::<BenchKeyword, BenchTable, GrowingResolver, BenchMatcher>(
         alloc,
-        &schema,
         &BenchTable {},
         &resolver,
         &matcher,
-        &BenchMeta {},
+        row,
+        log,
     );
-    Ok(number_of(built))
+    drop(resolver);
+    drop(matcher);
+    told
 }
 
-// Each lookup reaches a new key, so no limit is enough.
-#[test]
-fn growing_states_reach_every_limit(rt: HostRuntime) -> Result<(), OutOfMemory> {
-    let alloc = rt.alloc();
-    for keys in [1, 7, 1_000] {
-        let refusal = refusal_under(alloc, keys, r##"{"properties":{"n":{"$ref":"#"}}}"##)?;
-        assert_eq!(rt; refusal, 8);
-    }
-    // With no reference there are two keys.
-    let refusal = refusal_under(alloc, 2, r#"{"properties":{"n":{}}}"#)?;
-    assert_eq!(rt; refusal, 0);
-    Ok(())
-}
+// What is answered, schema, instance, limit of keys, no patterns. Each lookup reaches a new key, so no limit is enough. With no
+// reference there are two keys.
+pub(crate) const GROWING: &str = r##"[
+["refused by the limit", {"properties":{"n":{"$ref":"#"}}}, null, 1, []],
+["refused by the limit", {"properties":{"n":{"$ref":"#"}}}, null, 7, []],
+["refused by the limit", {"properties":{"n":{"$ref":"#"}}}, null, 1000, []],
+["yes", {"properties":{"n":{}}}, null, 2, []]
+]"##;

@@ -1,10 +1,11 @@
 //! A leaf is asked for its verdict before it is asked for errors: by a keyword type of its own, which asks for more matches when
-//! it is asked for errors.
+//! it is asked for errors. The rows of `check_rows` have no such keyword.
 ghost use Rattle.std.specs.Prelude.{◌≡◌, map, string_bytes};
 ghost use Rattle.schema_reports.specs.InstanceViews.{subject_of};
 ghost use Rattle.schema_parts.specs.KeywordViews.{mode_of, turn_of};
 ghost use Rattle.engine_tests.specs.Detours.{match_at, matches_before, pattern_at, text_in};
 
+use crate::asking::{push_answers_again, texts_of};
 use bench_keywords::keyword::BenchKeyword;
 use bench_keywords::names::NamesRun;
 use bench_keywords::texts::text_of;
@@ -15,10 +16,10 @@ use schema_nodes::node::{Entry, EntryForm, NodeForm, Nodes};
 use schema_parts::keyword::{Answer, MatchPoint, Mode, Reply, Step, Validate};
 use schema_reports::instance::Instance;
 use schema_reports::location::{Location, OutOfMemory};
-use schema_reports::reports::{ErrorIterator, ValidationError};
 use serde_json::Value;
 use std::alloc::Global;
 use std::marker::Model;
+use test_rows::{column, list_at, text_at};
 
 /// A keyword that goes a detour: where errors are wanted, it first asks whether each of these patterns matches the instance,
 /// and drops the replies. Then it goes on as the keyword that it stands for.
@@ -152,24 +153,24 @@ impl Validate for DetourKeyword {
     ghost asks_verdicts = { detour_asks_verdicts };
 }
 
-/// The keyword `"pattern": "b"`, which goes a detour over six patterns.
-fn a_keyword(alloc: Global) -> Result<DetourKeyword, OutOfMemory> {
-    let own = String::from_str(alloc, "b")?;
-    let patterns = six_patterns(alloc)?;
+/// The keyword `pattern` of a row, whose value is column 1. It goes a detour over the patterns in column 4.
+fn keyword_of(alloc: Global, row: &Value) -> Result<DetourKeyword, OutOfMemory> {
+    let patterns = texts_of(alloc, list_at(row, 4))?;
+    let own = String::from_str(alloc, text_at(row, 1))?;
     Ok(DetourKeyword {
         patterns,
         keyword: BenchKeyword::Pattern(own),
     })
 }
 
-/// The schema `{"pattern": "b"}`, whose keyword goes a detour over six patterns.
-fn a_validator(
+/// The validator of a schema that has this keyword alone.
+fn validator_of<K: Validate>(
     alloc: Global,
+    keyword: K,
+    matcher: BenchMatcher,
     is_leaf: bool,
-) -> Result<Validator<DetourKeyword, BenchMatcher>, OutOfMemory> {
-    let patterns = six_patterns(alloc)?;
+) -> Result<Validator<K, BenchMatcher>, OutOfMemory> {
     let name = String::from_str(alloc, "pattern")?;
-    let keyword = a_keyword(alloc)?;
     let mut entries = Vec::new(alloc);
     entries.push(Entry {
         name,
@@ -180,131 +181,38 @@ fn a_validator(
     let mut nodes = Nodes::new(alloc);
     let root = nodes.reserve(Location::new(alloc), None, 0, 0)?;
     nodes.fill(root, NodeForm::Keywords(entries), None, false);
-    let matcher = BenchMatcher::new(patterns);
     Ok(Validator::of_nodes(nodes, root, Draft::Draft202012, matcher))
 }
 
-fn six_patterns(alloc: Global) -> Result<Vec<String>, OutOfMemory> {
-    let mut patterns = Vec::new(alloc);
-    for pattern in ["d", "e", "f", "g", "h", "i"] {
-        patterns.push(String::from_str(alloc, pattern)?)?;
-    }
-    Ok(patterns)
-}
-
-/// What the three calls answer.
-#[derive(Drop)]
-struct Answers {
-    is_valid: bool,
-    first: Option<String>,
-    errors: Vec<String>,
-}
-
-/// The text of the first error, where there is one.
-fn first_of(
+/// Adds what is answered of the instance in column 2 by this keyword, which is a leaf where column 3 is true.
+fn tell_of<K: Validate>(
     alloc: Global,
-    validator: &Validator<DetourKeyword, BenchMatcher>,
-    instance: &Value,
-) -> Result<Option<String>, OutOfMemory> {
-    Ok(match validator.validate(alloc, instance)? {
-        Ok(()) => None,
-        Err(error) => Some(error.text),
-    })
-}
-
-/// The text of an error comes after these.
-fn push_text(texts: &mut Vec<String>, error: ValidationError<'_>) -> Result<(), OutOfMemory> {
-    Ok(texts.push(error.text)?)
-}
-
-/// The texts of errors, which come after these.
-fn push_texts(texts: &mut Vec<String>, errors: ErrorIterator<'_>) -> Result<(), OutOfMemory> {
-    for error in errors {
-        push_text(texts, error)?;
-    }
-    Ok(())
-}
-
-/// The texts of all errors.
-fn errors_of(
-    alloc: Global,
-    validator: &Validator<DetourKeyword, BenchMatcher>,
-    instance: &Value,
-) -> Result<Vec<String>, OutOfMemory> {
-    let errors = validator.iter_errors(alloc, instance)?;
-    let mut texts = Vec::new(alloc);
-    push_texts(&mut texts, errors)?;
-    Ok(texts)
-}
-
-/// What this validator answers, each error by its text.
-fn answers_of(
-    alloc: Global,
-    validator: &Validator<DetourKeyword, BenchMatcher>,
-    instance: &Value,
-) -> Result<Answers, OutOfMemory> {
-    let is_valid = validator.is_valid(alloc, instance)?;
-    let first = first_of(alloc, validator, instance)?;
-    let errors = errors_of(alloc, validator, instance)?;
-    Ok(Answers {
-        is_valid,
-        first,
-        errors,
-    })
-}
-
-/// What the three calls answer for an instance that is this text.
-fn asked(alloc: Global, text: &str, is_leaf: bool) -> Result<Answers, OutOfMemory> {
-    let text = String::from_str(alloc, text)?;
-    let validator = a_validator(alloc, is_leaf)?;
-    let instance = Value::String(text);
-    let answers = answers_of(alloc, &validator, &instance);
+    keyword: K,
+    matcher: BenchMatcher,
+    row: &Value,
+    log: &mut String,
+) -> Result<(), OutOfMemory> {
+    let is_leaf = column(row, 3).as_bool() == Some(true);
+    let validator = validator_of(alloc, keyword, matcher, is_leaf)?;
+    let told = push_answers_again(alloc, &validator, column(row, 2), log);
     drop(validator);
-    drop(instance);
-    answers
+    told
 }
 
-/// Whether the only error tells of a match that was left unfinished.
-fn tells_of_a_match(found: &Answers) -> bool {
-    let told = "Error executing regex: Max limit for backtracking count exceeded";
-    for text in &found.errors {
-        if text.as_str() != told {
-            return false;
-        }
-    }
-    match &found.first {
-        Some(text) => text.as_str() == told && found.errors.len() == 1,
-        None => false,
-    }
+/// Adds what is answered by the row's keyword, where the matcher leaves each pattern of the detour unfinished.
+pub(crate) fn tell_leaf(alloc: Global, row: &Value, log: &mut String) -> Result<(), OutOfMemory> {
+    let matcher = BenchMatcher::new(texts_of(alloc, list_at(row, 4))?);
+    let keyword = keyword_of(alloc, row)?;
+    tell_of(alloc, keyword, matcher, row, log)
 }
 
-// The pattern matches, so the six are never asked for: they would come out in more ways than a call looks at.
-#[test]
-fn a_leaf_is_asked_for_its_verdict_first(rt: HostRuntime) -> Result<(), OutOfMemory> {
-    let alloc = rt.alloc();
-    let found = asked(alloc, "abc", true)?;
-    assert!(rt; found.is_valid);
-    assert!(rt; found.first.is_none());
-    assert!(rt; found.errors.is_empty());
-    Ok(())
-}
-
-// A keyword that is no leaf is asked for them at once.
-#[test]
-fn others_are_asked_for_errors_at_once(rt: HostRuntime) -> Result<(), OutOfMemory> {
-    let alloc = rt.alloc();
-    let found = asked(alloc, "abc", false)?;
-    assert!(rt; found.is_valid);
-    assert!(rt; tells_of_a_match(&found));
-    Ok(())
-}
-
-// Where the pattern does not match, a leaf is asked for errors too, and then for the six.
-#[test]
-fn a_leaf_that_refuses_is_asked_for_errors(rt: HostRuntime) -> Result<(), OutOfMemory> {
-    let alloc = rt.alloc();
-    let found = asked(alloc, "acd", true)?;
-    assert!(rt; !found.is_valid);
-    assert!(rt; tells_of_a_match(&found));
-    Ok(())
-}
+// What is answered, the keyword's value, instance, whether it is a leaf, patterns of the detour. In the first the pattern matches,
+// so a leaf is never asked for the six: they would come out in more ways than a call looks at. A keyword that is no leaf is asked
+// for them at once. Where the pattern does not match, a leaf is asked for errors too, and then for the six.
+pub(crate) const LEAVES: &str = r##"[
+["yes", "b", "abc", true, ["d","e","f","g","h","i"]],
+["yes: Error executing regex: Max limit for backtracking count exceeded; Error executing regex: Max limit for backtracking count exceeded",
+ "b", "abc", false, ["d","e","f","g","h","i"]],
+["no: Error executing regex: Max limit for backtracking count exceeded; Error executing regex: Max limit for backtracking count exceeded",
+ "b", "acd", true, ["d","e","f","g","h","i"]]
+]"##;

@@ -1,0 +1,193 @@
+//! Builds of validators, and what these answer: the only functions here that build by `Validator::new` or by options, and ask.
+use bench_parts::matcher::BenchMatcher;
+use bench_parts::meta::BenchMeta;
+use bench_resolver::resolver::BenchResolver;
+use schema_engine::options::ValidationOptions;
+use schema_engine::validator::Validator;
+use schema_keys::error::BuildError;
+use schema_keywords::keywords::VocabularySet;
+use schema_parts::keyword::Validate;
+use schema_parts::matcher::Matcher;
+use schema_parts::resolver::Resolver;
+use schema_parts::table::KeywordTable;
+use schema_reports::location::OutOfMemory;
+use schema_reports::reports::ErrorIterator;
+use serde_json::Value;
+use std::alloc::{AllocError, Global};
+use test_rows::{column, list_at};
+
+/// The resolver of a row's schema, and the matcher that leaves the row's patterns unfinished.
+#[derive(Drop)]
+pub(crate) struct Parts<'r> {
+    pub resolver: BenchResolver<'r>,
+    pub matcher: BenchMatcher,
+}
+
+/// Adds words, with nothing between.
+pub(crate) fn push_all(log: &mut String, words: &[&str]) -> Result<(), OutOfMemory> {
+    for word in words {
+        log.push_str(word)?;
+    }
+    Ok(())
+}
+
+/// The texts in a list.
+pub(crate) fn texts_of(alloc: Global, list: &[Value]) -> Result<Vec<String>, OutOfMemory> {
+    let mut texts = Vec::new(alloc);
+    for text in list {
+        texts.push(String::from_str(alloc, text.as_str().unwrap_or(""))?)?;
+    }
+    Ok(texts)
+}
+
+/// The parts of a row, of which column 1 is the schema, and column 4 the list of the patterns.
+pub(crate) fn parts_of(alloc: Global, row: &Value) -> Result<Parts<'_>, OutOfMemory> {
+    let matcher = BenchMatcher::new(texts_of(alloc, list_at(row, 4))?);
+    match BenchResolver::new(alloc, column(row, 1), VocabularySet::new(alloc)) {
+        Ok(resolver) => Ok(Parts { resolver, matcher }),
+        Err(failed) => {
+            drop(matcher);
+            Err(failed)
+        }
+    }
+}
+
+/// The number in a column, if there is one.
+pub(crate) fn number_at(row: &Value, number: usize) -> Option<usize> {
+    match column(row, number).as_u64() {
+        Some(number) => usize::try_from(number).ok(),
+        None => None,
+    }
+}
+
+/// The validator of a row's schema: by the default options, or else under the limit of keys in column 3.
+pub(crate) fn built<K: Validate, T: KeywordTable<K>, R: Resolver, M: Matcher>(
+    alloc: Global,
+    table: &T,
+    resolver: &R,
+    matcher: &M,
+    row: &Value,
+) -> Result<Validator<K, M>, BuildError> {
+    let schema = column(row, 1);
+    match number_at(row, 3) {
+        None => Validator::new(alloc, schema, table, resolver, matcher, &BenchMeta {}),
+        Some(limit) => ValidationOptions::new(alloc)
+            .with_node_limit(limit)
+            .build(alloc, schema, table, resolver, matcher, &BenchMeta {}),
+    }
+}
+
+/// Adds that the schema was refused, and that it was by the limit.
+pub(crate) fn push_refusal(error: &BuildError, log: &mut String) -> Result<(), OutOfMemory> {
+    match error.number() {
+        8 => log.push_str("refused by the limit"),
+        9 => Err(AllocError),
+        _ => log.push_str("refused"),
+    }
+}
+
+/// Adds the verdict.
+fn push_verdict<K: Validate, M: Matcher>(
+    alloc: Global,
+    validator: &Validator<K, M>,
+    instance: &Value,
+    log: &mut String,
+) -> Result<(), OutOfMemory> {
+    log.push_str(if validator.is_valid(alloc, instance)? {
+        "yes"
+    } else {
+        "no"
+    })
+}
+
+/// Adds the text of the first error after a colon, if there is one.
+fn push_first<K: Validate, M: Matcher>(
+    alloc: Global,
+    validator: &Validator<K, M>,
+    instance: &Value,
+    log: &mut String,
+) -> Result<(), OutOfMemory> {
+    match validator.validate(alloc, instance)? {
+        Ok(()) => Ok(()),
+        Err(error) => push_all(log, &[": ", error.text.as_str()]),
+    }
+}
+
+/// Adds the text of each error after a semicolon.
+fn push_texts(errors: ErrorIterator<'_>, log: &mut String) -> Result<(), OutOfMemory> {
+    for error in errors {
+        push_all(log, &["; ", error.text.as_str()])?;
+    }
+    Ok(())
+}
+
+/// The same of all errors of an instance.
+fn push_errors<K: Validate, M: Matcher>(
+    alloc: Global,
+    validator: &Validator<K, M>,
+    instance: &Value,
+    log: &mut String,
+) -> Result<(), OutOfMemory> {
+    push_texts(validator.iter_errors(alloc, instance)?, log)
+}
+
+/// Adds the verdict, the first error and all errors.
+fn push_answers<K: Validate, M: Matcher>(
+    alloc: Global,
+    validator: &Validator<K, M>,
+    instance: &Value,
+    log: &mut String,
+) -> Result<(), OutOfMemory> {
+    push_verdict(alloc, validator, instance, log)?;
+    push_first(alloc, validator, instance, log)?;
+    push_errors(alloc, validator, instance, log)
+}
+
+/// The same to an empty log; the validator is asked once more where memory was refused.
+pub(crate) fn push_answers_again<K: Validate, M: Matcher>(
+    alloc: Global,
+    validator: &Validator<K, M>,
+    instance: &Value,
+    log: &mut String,
+) -> Result<(), OutOfMemory> {
+    if push_answers(alloc, validator, instance, log).is_ok() {
+        return Ok(());
+    }
+    log.clear();
+    push_answers(alloc, validator, instance, log)
+}
+
+/// Adds what the validator of a row's schema answers of the instance in column 2, or why there is none.
+pub(crate) fn tell_with<K: Validate, T: KeywordTable<K>, R: Resolver, M: Matcher>(
+    alloc: Global,
+    table: &T,
+    resolver: &R,
+    matcher: &M,
+    row: &Value,
+    log: &mut String,
+) -> Result<(), OutOfMemory> {
+    match built::<K, T, R, M>(alloc, table, resolver, matcher, row) {
+        Ok(validator) => push_answers_again(alloc, &validator, column(row, 2), log),
+        Err(error) => push_refusal(&error, log),
+    }
+}
+
+/// The same, by a table, with the row's parts.
+pub(crate) fn tell_by<K: Validate, T: KeywordTable<K>>(
+    alloc: Global,
+    table: &T,
+    row: &Value,
+    log: &mut String,
+) -> Result<(), OutOfMemory> {
+    let parts = parts_of(alloc, row)?;
+    let told = tell_with::<K, T, BenchResolver, BenchMatcher>(
+        alloc,
+        table,
+        &parts.resolver,
+        &parts.matcher,
+        row,
+        log,
+    );
+    drop(parts);
+    told
+}

@@ -1,0 +1,98 @@
+//! Tables of rows, and the walk over them: a row is right where what is told of it is the text in its first column.
+use crate::asking::tell_by;
+use crate::context_tests::{CONTEXTS, tell_context};
+use crate::failing_matcher_tests::{FAILURES, tell_failure};
+use crate::growing_tests::{GROWING, tell_growing};
+use crate::leaf_tests::{LEAVES, tell_leaf};
+use crate::mark_tests::{MARKS, MarkingTable};
+use crate::reservation_tests::{RESERVATIONS, tell_numbers};
+use crate::vocabulary_tests::{VOCABULARIES, tell_names};
+use bench_keywords::keyword::BenchKeyword;
+use bench_parts::by_value::TableByValue;
+use bench_parts::table::BenchTable;
+use law_tests::both_once::BothOnce;
+use law_tests::items::ItemsKeyword;
+use law_tests::items_table::ItemsTable;
+use schema_reports::location::OutOfMemory;
+use serde_json::Value;
+use std::alloc::Global;
+use test_rows::{text_at, wrong_row};
+
+/// What the rows of a table are about.
+#[derive(Clone, Copy)]
+pub(crate) enum Rows {
+    Contexts,
+    Failures,
+    Growing,
+    Leaves,
+    Marks,
+    Reservations,
+    Retries,
+    Vocabularies,
+}
+
+/// Adds what is told of a row.
+fn tell(alloc: Global, rows: Rows, row: &Value, log: &mut String) -> Result<(), OutOfMemory> {
+    match rows {
+        Rows::Contexts => tell_context(alloc, row, log),
+        Rows::Failures => tell_failure(alloc, row, log),
+        Rows::Growing => tell_growing(alloc, row, log),
+        Rows::Leaves => tell_leaf(alloc, row, log),
+        Rows::Marks => tell_by::<BothOnce, TableByValue<MarkingTable>>(
+            alloc,
+            &TableByValue {
+                keywords: MarkingTable {},
+            },
+            row,
+            log,
+        ),
+        Rows::Reservations => {
+            tell_numbers::<ItemsKeyword, ItemsTable>(alloc, &ItemsTable {}, row, log)
+        }
+        Rows::Retries => tell_by::<BenchKeyword, BenchTable>(alloc, &BenchTable {}, row, log),
+        Rows::Vocabularies => tell_names(alloc, row, log),
+    }
+}
+
+/// Whether a row is right.
+fn is_right(alloc: Global, rows: Rows, row: &Value) -> Result<bool, OutOfMemory> {
+    let mut log = String::new(alloc);
+    let told = tell(alloc, rows, row, &mut log);
+    let right = log.as_str() == text_at(row, 0);
+    drop(log);
+    told?;
+    Ok(right)
+}
+
+/// The number of the first row of a table that is wrong.
+pub(crate) fn wrong(
+    alloc: Global,
+    rows: Rows,
+    table: &str,
+) -> Result<Option<usize>, serde_json::Error> {
+    wrong_row(alloc, table, |row| is_right(alloc, rows, row))
+}
+
+/// The tables, each with what its rows are about, and with its name. Each says why its rows are none of `check_rows`.
+const TABLES: [(Rows, &str, &str); 7] = [
+    (Rows::Contexts, "contexts", CONTEXTS),
+    (Rows::Failures, "failures", FAILURES),
+    (Rows::Growing, "growing", GROWING),
+    (Rows::Leaves, "leaves", LEAVES),
+    (Rows::Marks, "marks", MARKS),
+    (Rows::Reservations, "reservations", RESERVATIONS),
+    (Rows::Vocabularies, "vocabularies", VOCABULARIES),
+];
+
+#[test]
+fn rows_hold(rt: HostRuntime) -> Result<(), serde_json::Error> {
+    let alloc = rt.alloc();
+    for (rows, name, table) in &TABLES {
+        assert_eq!(rt;
+            wrong(alloc, *rows, table)?,
+            None,
+            "a row of {name} is wrong"
+        );
+    }
+    Ok(())
+}
