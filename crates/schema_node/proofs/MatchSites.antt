@@ -3,7 +3,8 @@ use Rattle.std.proofs.Common.{◌≡◌, Bool, None, Option, Some, false, is_som
 use Rattle.std.specs.Prelude.{if◌then◌else◌}
 use Rattle.schema_definitions.specs.Instance.{Text}
 use Rattle.schema_definitions.specs.Keywords.{MatchPoint}
-use Rattle.schema_definitions.specs.Runs.{Where, site_at}
+use Rattle.schema_definitions.specs.Meaning.{Where}
+use Rattle.schema_definitions.specs.Runs.{site_at}
 
 some_if : {A : Type 0} (b : Bool) (a : A) → is_some (if b then Some a else None) ≡ b
 some_if true a = refl
