@@ -21,3 +21,4 @@ pub mod CircleFound
 pub mod WorkedRows
 mod Unknown
 mod Absorbed
+mod Answered

@@ -12,3 +12,4 @@ pub mod Working
 pub mod Compilation
 pub mod Agreeing
 pub mod Rows
+pub mod Numbering

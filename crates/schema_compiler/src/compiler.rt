@@ -5,7 +5,7 @@
 //! of references are of `schema_keys`, the check by meta validators is `schema_check`'s; both are handed on. The steps are in
 //! `vocabularies`, `makers`, `targets`, `entries` and `annotations`, references are in `ref_`.
 ghost use Rattle.std.specs.Prelude.{◌≡◌, ◌≢◌, ◌<◌, ◌++◌, ℕ, IfErr, IfOk, Option, Some, [], flat_map, map, option_map};
-ghost use Rattle.std.specs.Prelude.{slice_get, string_bytes, true};
+ghost use Rattle.std.specs.Prelude.{MatchResult, slice_get, string_bytes, true};
 ghost use Rattle.serde_json.specs.Data.{object};
 ghost use Rattle.serde_json.specs.View.{members_view, view};
 ghost use Rattle.schema_definitions.specs.Instance.{Text};
@@ -180,10 +180,7 @@ pub fn compile_subschema<R: Resolver, K: Validate, T: KeywordTable<K>>(
         options,
         nested_limit,
     };
-    let mut compiled = Compiled::new(alloc);
-    let shared = Rc::new(alloc, root)?;
-    given.number_within(&mut compiled, &shared, None)?;
-    given.work_off(&mut compiled, &shared)?;
+    let compiled = given.compiled_alone(root)?;
     // (the call says that the table is ordered)
     let count = compiled.nodes.len();
     let _ordered = count;
@@ -218,15 +215,13 @@ impl<'p, R: Resolver, T> Given<'p, R, T> {
             (filled R.point compiled.old) }
         requires reading { IsReading
             ((R.resolving self.now.resolver.now).value (place_of key.place)) reading }
-        ensures edge { IfOk result (λ e. LeadsToKey
-            (task R.resolving T.owned T.script K.shape self.now) (filled R.point compiled.old)
-            (filled R.point compiled.new) (key_of R.point key) path (edge_of e)) }
-        ensures order { IfOk result (λ e. GoesTo
-            (task R.resolving T.owned T.script K.shape self.now) (filled R.point compiled.old)
-            (filled R.point compiled.new) (key_of R.point key) nests (edge_of e)) }
-        ensures refused { IfErr result
-            (RefusesKey (task R.resolving T.owned T.script K.shape self.now)
-            (filled R.point compiled.old) (key_of R.point key)) }
+        ensures { MatchResult result (λ e. (LeadsToKey (task R.resolving T.owned T.script K.shape self.now)
+            (filled R.point compiled.old) (filled R.point compiled.new) (key_of R.point key) path (edge_of
+            e))
+            × (GoesTo (task R.resolving T.owned T.script K.shape self.now) (filled R.point compiled.old)
+            (filled R.point compiled.new) (key_of R.point key) nests (edge_of e)))
+            (RefusesKey (task R.resolving T.owned T.script K.shape self.now) (filled R.point compiled.old)
+            (key_of R.point key)) }
     {
         let number = self.number_of(compiled, key, reading, nests)?;
         Ok(compiled.edge_at(number, path))
@@ -249,14 +244,12 @@ impl<'p, R: Resolver, T> Given<'p, R, T> {
             (filled R.point compiled.old) }
         requires reading { IsReading
             ((R.resolving self.now.resolver.now).value (place_of key.place)) reading }
-        ensures numbered { IfOk result (Numbers (task R.resolving T.owned T.script K.shape self.now)
-            (filled R.point compiled.old) (filled R.point compiled.new) (key_of R.point key)) }
-        ensures order { IfOk result (λ n. Reaches
-            (task R.resolving T.owned T.script K.shape self.now) (filled R.point compiled.old)
-            (filled R.point compiled.new) (key_of R.point key) nests n) }
-        ensures refused { IfErr result
-            (RefusesKey (task R.resolving T.owned T.script K.shape self.now)
-            (filled R.point compiled.old) (key_of R.point key)) }
+        ensures { MatchResult result (λ n. (Numbers (task R.resolving T.owned T.script K.shape self.now)
+            (filled R.point compiled.old) (filled R.point compiled.new) (key_of R.point key) n)
+            × (Reaches (task R.resolving T.owned T.script K.shape self.now) (filled R.point compiled.old)
+            (filled R.point compiled.new) (key_of R.point key) nests n))
+            (RefusesKey (task R.resolving T.owned T.script K.shape self.now) (filled R.point compiled.old)
+            (key_of R.point key)) }
     {
         if let Some(number) = find::<R>(&compiled.keys, &key) {
             return Ok(number);
@@ -289,14 +282,12 @@ impl<'p, R: Resolver, T> Given<'p, R, T> {
         requires room { nests ≡ true → compiled.old.progress.depth < self.now.nested_limit }
         requires reading { IsReading
             ((R.resolving self.now.resolver.now).value (place_of key.now.value.place)) reading }
-        ensures numbered { IfOk result (Numbers (task R.resolving T.owned T.script K.shape self.now)
-            (filled R.point compiled.old) (filled R.point compiled.new) (key_of R.point key.now.value)) }
-        ensures order { IfOk result (λ n. Reaches
-            (task R.resolving T.owned T.script K.shape self.now) (filled R.point compiled.old)
-            (filled R.point compiled.new) (key_of R.point key.now.value) nests n) }
-        ensures refused { IfErr result
-            (RefusesKey (task R.resolving T.owned T.script K.shape self.now)
-            (filled R.point compiled.old) (key_of R.point key.now.value)) }
+        ensures { MatchResult result (λ n. (Numbers (task R.resolving T.owned T.script K.shape self.now)
+            (filled R.point compiled.old) (filled R.point compiled.new) (key_of R.point key.now.value) n)
+            × (Reaches (task R.resolving T.owned T.script K.shape self.now) (filled R.point compiled.old)
+            (filled R.point compiled.new) (key_of R.point key.now.value) nests n))
+            (RefusesKey (task R.resolving T.owned T.script K.shape self.now) (filled R.point compiled.old)
+            (key_of R.point key.now.value)) }
     {
         let outer = compiled.progress;
         let number = self.begin_number(compiled, key, nests)?;
@@ -325,15 +316,12 @@ impl<'p, R: Resolver, T> Given<'p, R, T> {
             (filled R.point compiled.old) }
         requires reading { IsReading
             ((R.resolving self.now.resolver.now).value (place_of key.now.place)) reading }
-        ensures planned { IfOk result (λ n. PlansNode
-            (task R.resolving T.owned T.script K.shape self.now) (filled R.point compiled.old)
-            (filled R.point compiled.new) (key_of R.point key.now) (plan_of n.form)
-            (option_map view n.annotations)) }
-        ensures order { IfOk result (λ n. GoesNode
-            (task R.resolving T.owned T.script K.shape self.now) (filled R.point compiled.old)
-            (filled R.point compiled.new) (key_of R.point key.now) (plan_of n.form)) }
-        ensures refused { IfErr result (RefusesNode
-            (task R.resolving T.owned T.script K.shape self.now) (filled R.point compiled.old)
+        ensures { MatchResult result (λ n. (PlansNode (task R.resolving T.owned T.script K.shape self.now)
+            (filled R.point compiled.old) (filled R.point compiled.new) (key_of R.point key.now) (plan_of
+            n.form) (option_map view n.annotations))
+            × (GoesNode (task R.resolving T.owned T.script K.shape self.now) (filled R.point compiled.old)
+            (filled R.point compiled.new) (key_of R.point key.now) (plan_of n.form)))
+            (RefusesNode (task R.resolving T.owned T.script K.shape self.now) (filled R.point compiled.old)
             (key_of R.point key.now)) }
     {
         let context = Context {
@@ -368,17 +356,14 @@ impl<'p, R: Resolver, T> Given<'p, R, T> {
             (filled R.point compiled.old) }
         requires object { (R.resolving self.now.resolver.now).value (place_of key.now.place) ≡
             Some (object (members_view members.now.entries)) }
-        ensures planned { IfOk result (λ n. PlansObject
-            (task R.resolving T.owned T.script K.shape self.now) (filled R.point compiled.old)
+        ensures { MatchResult result (λ n. (PlansObject (task R.resolving T.owned T.script K.shape self.now)
+            (filled R.point compiled.old) (filled R.point compiled.new) (key_of R.point key.now)
+            (members_view members.now.entries) (plan_of n.form) (option_map view n.annotations))
+            × (GoesObject (task R.resolving T.owned T.script K.shape self.now) (filled R.point compiled.old)
             (filled R.point compiled.new) (key_of R.point key.now) (members_view members.now.entries)
-            (plan_of n.form) (option_map view n.annotations)) }
-        ensures order { IfOk result (λ n. GoesObject
-            (task R.resolving T.owned T.script K.shape self.now) (filled R.point compiled.old)
-            (filled R.point compiled.new) (key_of R.point key.now) (members_view members.now.entries)
-            (plan_of n.form)) }
-        ensures refused { IfErr result (RefusesObject
-            (task R.resolving T.owned T.script K.shape self.now) (filled R.point compiled.old)
-            (key_of R.point key.now) (members_view members.now.entries)) }
+            (plan_of n.form)))
+            (RefusesObject (task R.resolving T.owned T.script K.shape self.now) (filled R.point
+            compiled.old) (key_of R.point key.now) (members_view members.now.entries)) }
     {
         let context = Context {
             alloc: self.alloc,
@@ -389,7 +374,14 @@ impl<'p, R: Resolver, T> Given<'p, R, T> {
         match context.lone_reference(members) {
             Some(value) => {
                 let name = String::from_str(self.alloc, "$ref")?;
-                let entry = self.compile_ref(compiled, key, &name, REF_PRIORITY, value)?;
+                let entry = self.reference_by(
+                    compiled,
+                    key,
+                    &name,
+                    REF_PRIORITY,
+                    ReferenceKind::Ref,
+                    value,
+                )?;
                 Ok(node_alone(self.alloc, entry)?)
             }
             None => {
@@ -418,17 +410,15 @@ impl<'p, R: Resolver, T> Given<'p, R, T> {
             (filled R.point compiled.old) }
         requires object { (R.resolving self.now.resolver.now).value (place_of key.now.place) ≡
             Some (object (members_view members.now.entries)) }
-        ensures parts { IfOk result (λ o. MakesMembers
-            (task R.resolving T.owned T.script K.shape self.now) (filled R.point compiled.old)
-            (filled R.point compiled.new) (key_of R.point key.now) (members_view members.now.entries)
-            (map entry_view o.entries.items) (members_view o.annotating.entries)) }
-        ensures order { IfOk result (λ o. GoesMembers
-            (task R.resolving T.owned T.script K.shape self.now) (filled R.point compiled.old)
-            (filled R.point compiled.new) (key_of R.point key.now) (members_view members.now.entries)
-            (map entry_view o.entries.items)) }
-        ensures refused { IfErr result (RefusesMembers
-            (task R.resolving T.owned T.script K.shape self.now) (filled R.point compiled.old)
-            (key_of R.point key.now) (members_view members.now.entries)) }
+        ensures { MatchResult result (λ o. (MakesMembers (task R.resolving T.owned T.script K.shape
+            self.now) (filled R.point compiled.old) (filled R.point compiled.new) (key_of R.point key.now)
+            (members_view members.now.entries) (map entry_view o.entries.items) (members_view
+            o.annotating.entries))
+            × (GoesMembers (task R.resolving T.owned T.script K.shape self.now) (filled R.point
+            compiled.old) (filled R.point compiled.new) (key_of R.point key.now) (members_view
+            members.now.entries) (map entry_view o.entries.items)))
+            (RefusesMembers (task R.resolving T.owned T.script K.shape self.now) (filled R.point
+            compiled.old) (key_of R.point key.now) (members_view members.now.entries)) }
     {
         let mut entries = Vec::new(self.alloc);
         let mut unknown = Map::new(self.alloc);
@@ -466,22 +456,19 @@ impl<'p, R: Resolver, T> Given<'p, R, T> {
             (filled R.point compiled.old) }
         requires object { (R.resolving self.now.resolver.now).value (place_of key.now.place) ≡
             Some (object (members_view members.now.entries)) }
-        ensures part { IfOk result (λ o. MakesMember
-            (task R.resolving T.owned T.script K.shape self.now) (filled R.point compiled.old)
+        ensures { MatchResult result (λ o. (MakesMember (task R.resolving T.owned T.script K.shape self.now)
+            (filled R.point compiled.old) (filled R.point compiled.new) (key_of R.point key.now)
+            (members_view members.now.entries) (string_bytes name.now) (view value.now) (option_map
+            entry_view o))
+            × (map string_bytes absorbed.new.items ≡ map string_bytes absorbed.old.items ++ member_absorbs
+            (task R.resolving T.owned T.script K.shape self.now) (key_of R.point key.now) (members_view
+            members.now.entries) (string_bytes name.now) (view value.now))
+            × (GoesMember (task R.resolving T.owned T.script K.shape self.now) (filled R.point compiled.old)
             (filled R.point compiled.new) (key_of R.point key.now) (members_view members.now.entries)
-            (string_bytes name.now) (view value.now) (option_map entry_view o)) }
-        ensures absorbed { IfOk result (λ _. map string_bytes absorbed.new.items ≡
-            map string_bytes absorbed.old.items ++ member_absorbs
-            (task R.resolving T.owned T.script K.shape self.now) (key_of R.point key.now)
-            (members_view members.now.entries) (string_bytes name.now) (view value.now)) }
-        ensures order { IfOk result (λ o. GoesMember
-            (task R.resolving T.owned T.script K.shape self.now) (filled R.point compiled.old)
-            (filled R.point compiled.new) (key_of R.point key.now) (members_view members.now.entries)
-            (string_bytes name.now) (view value.now) (option_map entry_view o)) }
-        ensures refused { IfErr result (RefusesMember
-            (task R.resolving T.owned T.script K.shape self.now) (filled R.point compiled.old)
-            (key_of R.point key.now) (members_view members.now.entries) (string_bytes name.now)
-            (view value.now)) }
+            (string_bytes name.now) (view value.now) (option_map entry_view o)))
+            (RefusesMember (task R.resolving T.owned T.script K.shape self.now) (filled R.point
+            compiled.old) (key_of R.point key.now) (members_view members.now.entries) (string_bytes
+            name.now) (view value.now)) }
     {
         let text = name.as_str();
         if self.table.owns(text) {
@@ -505,7 +492,7 @@ impl<'p, R: Resolver, T> Given<'p, R, T> {
         match context.builtin_row(text) {
             None => Ok(None),
             Some(row) => match reference_kind(text) {
-                Some(kind) => self.reference_entry(compiled, key, name, row.priority, kind, value),
+                Some(kind) => self.reference_by(compiled, key, name, row.priority, kind, value),
                 None => self.made_entry(
                     compiled,
                     key,
@@ -541,22 +528,19 @@ impl<'p, R: Resolver, T> Given<'p, R, T> {
             (filled R.point compiled.old) }
         requires object { (R.resolving self.now.resolver.now).value (place_of key.now.place) ≡
             Some (object (members_view members.now.entries)) }
-        ensures part { IfOk result (λ o. MakesKeyword
-            (task R.resolving T.owned T.script K.shape self.now) (filled R.point compiled.old)
-            (filled R.point compiled.new) (key_of R.point key.now) (members_view members.now.entries)
-            own (string_bytes name.now) priority is_leaf (option_map entry_view o)) }
-        ensures absorbed { IfOk result (λ _. map string_bytes absorbed.new.items ≡
-            map string_bytes absorbed.old.items ++ keyword_absorbs
-            (task R.resolving T.owned T.script K.shape self.now) (key_of R.point key.now)
-            (members_view members.now.entries) own (string_bytes name.now) priority is_leaf) }
-        ensures order { IfOk result (λ o. GoesMaker
-            (task R.resolving T.owned T.script K.shape self.now) (filled R.point compiled.old)
+        ensures { MatchResult result (λ o. (MakesKeyword (task R.resolving T.owned T.script K.shape
+            self.now) (filled R.point compiled.old) (filled R.point compiled.new) (key_of R.point key.now)
+            (members_view members.now.entries) own (string_bytes name.now) priority is_leaf (option_map
+            entry_view o))
+            × (map string_bytes absorbed.new.items ≡ map string_bytes absorbed.old.items ++ keyword_absorbs
+            (task R.resolving T.owned T.script K.shape self.now) (key_of R.point key.now) (members_view
+            members.now.entries) own (string_bytes name.now) priority is_leaf)
+            × (GoesMaker (task R.resolving T.owned T.script K.shape self.now) (filled R.point compiled.old)
             (filled R.point compiled.new) (key_of R.point key.now) (members_view members.now.entries) own
-            (string_bytes name.now) (option_map entry_view o)) }
-        ensures reserved { IfOk result (λ o. Ends (place_of key.now.place) (string_bytes name.now)
-            (node_made (option_map entry_view o)) compiled.old.reservations compiled.new.reservations) }
-        ensures refused { IfErr result (RefusesMaker
-            (task R.resolving T.owned T.script K.shape self.now) (filled R.point compiled.old)
+            (string_bytes name.now) (option_map entry_view o))
+            × (Ends (place_of key.now.place) (string_bytes name.now) (node_made (option_map entry_view o))
+            compiled.old.reservations compiled.new.reservations))
+            (RefusesMaker (task R.resolving T.owned T.script K.shape self.now) (filled R.point compiled.old)
             (key_of R.point key.now) (members_view members.now.entries) own (string_bytes name.now)) }
     {
         let first = compiled.reservations.len();
@@ -615,14 +599,12 @@ impl<'p, R: Resolver, T> Given<'p, R, T> {
             (filled R.point compiled.old) }
         requires object { (R.resolving self.now.resolver.now).value (place_of key.now.place) ≡
             Some (object (members_view members.now.entries)) }
-        ensures answered { IfOk result (λ e. AnswersChild
-            (task R.resolving T.owned T.script K.shape self.now) (filled R.point compiled.old)
-            (filled R.point compiled.new) (key_of R.point key.now) path.now (edge_of e)) }
-        ensures order { IfOk result (λ e. GoesChild
-            (task R.resolving T.owned T.script K.shape self.now) (filled R.point compiled.old)
-            (filled R.point compiled.new) (key_of R.point key.now) path.now (edge_of e)) }
-        ensures refused { IfErr result (RefusesChild
-            (task R.resolving T.owned T.script K.shape self.now) (filled R.point compiled.old)
+        ensures { MatchResult result (λ e. (AnswersChild (task R.resolving T.owned T.script K.shape
+            self.now) (filled R.point compiled.old) (filled R.point compiled.new) (key_of R.point key.now)
+            path.now (edge_of e))
+            × (GoesChild (task R.resolving T.owned T.script K.shape self.now) (filled R.point compiled.old)
+            (filled R.point compiled.new) (key_of R.point key.now) path.now (edge_of e)))
+            (RefusesChild (task R.resolving T.owned T.script K.shape self.now) (filled R.point compiled.old)
             (key_of R.point key.now) path.now) }
     {
         let location = path.pointer(self.alloc)?;
@@ -653,16 +635,13 @@ impl<'p, R: Resolver, T> Given<'p, R, T> {
             (filled R.point compiled.old) }
         requires under_way { IsUnderWay (task R.resolving T.owned T.script K.shape self.now)
             (filled R.point compiled.old) }
-        ensures answered { IfOk result (λ o. AnswersReference
-            (task R.resolving T.owned T.script K.shape self.now) (filled R.point compiled.old)
-            (filled R.point compiled.new) (key_of R.point key.now) (string_bytes name.now)
-            (kind_of kind) (string_bytes text.now) (option_map edge_of o)) }
-        ensures order { IfOk result (λ o. GoesRefer
-            (task R.resolving T.owned T.script K.shape self.now) (filled R.point compiled.old)
-            (filled R.point compiled.new) (key_of R.point key.now) (string_bytes name.now)
-            (kind_of kind) (string_bytes text.now) (option_map edge_of o)) }
-        ensures refused { IfErr result (RefusesEdge
-            (task R.resolving T.owned T.script K.shape self.now) (filled R.point compiled.old)
+        ensures { MatchResult result (λ o. (AnswersReference (task R.resolving T.owned T.script K.shape
+            self.now) (filled R.point compiled.old) (filled R.point compiled.new) (key_of R.point key.now)
+            (string_bytes name.now) (kind_of kind) (string_bytes text.now) (option_map edge_of o))
+            × (GoesRefer (task R.resolving T.owned T.script K.shape self.now) (filled R.point compiled.old)
+            (filled R.point compiled.new) (key_of R.point key.now) (string_bytes name.now) (kind_of kind)
+            (string_bytes text.now) (option_map edge_of o)))
+            (RefusesEdge (task R.resolving T.owned T.script K.shape self.now) (filled R.point compiled.old)
             (key_of R.point key.now) (string_bytes name.now) (kind_of kind) (string_bytes text.now)) }
     {
         let path = Location::new(self.alloc).join(LocationSegment::Property(name.as_str()))?;

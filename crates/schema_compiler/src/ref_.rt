@@ -1,5 +1,5 @@
 //! The keywords that references are.
-ghost use Rattle.std.specs.Prelude.{IfOk, IfErr, Ok, not, option_map, string_bytes};
+ghost use Rattle.std.specs.Prelude.{IfOk, IfErr, MatchResult, Ok, not, option_map, string_bytes};
 ghost use Rattle.serde_json.specs.View.{view};
 ghost use Rattle.schema_definitions.specs.Plan.{to_dynamic, to_recursive, to_ref};
 ghost use Rattle.schema_nodes.specs.NodeViews.{entry_of as entry_view};
@@ -28,7 +28,6 @@ impl<'p, R: Resolver, T> Given<'p, R, T> {
     ///
     /// Fails if the value is no string, if the resolver refuses it, if a vocabulary that the target requires is not declared,
     /// if a schema that is reached cannot be compiled or is one too many, or if memory cannot be allocated.
-    #[cycle(compile)]
     pub fn compile_ref<K: Validate>(
         &self,
         compiled: &mut Compiled<R::State, K>,
@@ -65,7 +64,6 @@ impl<'p, R: Resolver, T> Given<'p, R, T> {
     ///
     /// Fails if the value is no string, if the resolver refuses it, if a vocabulary that the target requires is not declared,
     /// if a schema that is reached cannot be compiled or is one too many, or if memory cannot be allocated.
-    #[cycle(compile)]
     pub fn compile_dynamic_ref<K: Validate>(
         &self,
         compiled: &mut Compiled<R::State, K>,
@@ -102,7 +100,6 @@ impl<'p, R: Resolver, T> Given<'p, R, T> {
     ///
     /// Fails if the value is no string, if the resolver refuses it, if a vocabulary that the target requires is not declared,
     /// if a schema that is reached cannot be compiled or is one too many, or if memory cannot be allocated.
-    #[cycle(compile)]
     pub fn compile_recursive_ref<K: Validate>(
         &self,
         compiled: &mut Compiled<R::State, K>,
@@ -139,9 +136,9 @@ impl<'p, R: Resolver, T> Given<'p, R, T> {
         )
     }
 
-    // The reference under a keyword of this name, by its kind; none where it is skipped.
+    /// The reference under a keyword of this name, by its kind; none where it is skipped.
     #[cycle(compile)]
-    pub(crate) fn reference_entry<K: Validate>(
+    pub(crate) fn reference_by<K: Validate>(
         &self,
         compiled: &mut Compiled<R::State, K>,
         key: &SchemaKey<R::State>,
@@ -156,57 +153,14 @@ impl<'p, R: Resolver, T> Given<'p, R, T> {
             (filled R.point compiled.old) }
         requires under_way { IsUnderWay (task R.resolving T.owned T.script K.shape self.now)
             (filled R.point compiled.old) }
-        ensures part { IfOk result (λ o. MakesReference
-            (task R.resolving T.owned T.script K.shape self.now) (filled R.point compiled.old)
-            (filled R.point compiled.new) (key_of R.point key.now) (string_bytes name.now) priority
-            (kind_of kind) (view value.now) (option_map entry_view o)) }
-        ensures order { IfOk result (λ o. GoesReference
-            (task R.resolving T.owned T.script K.shape self.now) (filled R.point compiled.old)
-            (filled R.point compiled.new) (key_of R.point key.now) (string_bytes name.now) (kind_of kind)
-            (view value.now) (option_map entry_view o)) }
-        ensures refused { IfErr result (RefusesReference
-            (task R.resolving T.owned T.script K.shape self.now) (filled R.point compiled.old)
-            (key_of R.point key.now) (string_bytes name.now) (kind_of kind) (view value.now)) }
-    {
-        match kind {
-            ReferenceKind::Ref => self.compile_ref(compiled, key, name, priority, value),
-            ReferenceKind::Dynamic => self.compile_dynamic_ref(
-                compiled, key, name, priority, value,
-            ),
-            ReferenceKind::Recursive => self.compile_recursive_ref(
-                compiled, key, name, priority, value,
-            ),
-        }
-    }
-
-    // The reference under a keyword of this name; none where it is skipped.
-    #[cycle(compile)]
-    fn reference_by<K: Validate>(
-        &self,
-        compiled: &mut Compiled<R::State, K>,
-        key: &SchemaKey<R::State>,
-        name: &String,
-        priority: u8,
-        kind: ReferenceKind,
-        value: &Value,
-    ) -> Result<Option<Entry<K>>, BuildError>
-    where
-        T: KeywordTable<K>,
-        requires table { IsWell (task R.resolving T.owned T.script K.shape self.now)
-            (filled R.point compiled.old) }
-        requires under_way { IsUnderWay (task R.resolving T.owned T.script K.shape self.now)
-            (filled R.point compiled.old) }
-        ensures part { IfOk result (λ o. MakesReference
-            (task R.resolving T.owned T.script K.shape self.now) (filled R.point compiled.old)
-            (filled R.point compiled.new) (key_of R.point key.now) (string_bytes name.now) priority
-            (kind_of kind) (view value.now) (option_map entry_view o)) }
-        ensures order { IfOk result (λ o. GoesReference
-            (task R.resolving T.owned T.script K.shape self.now) (filled R.point compiled.old)
-            (filled R.point compiled.new) (key_of R.point key.now) (string_bytes name.now) (kind_of kind)
-            (view value.now) (option_map entry_view o)) }
-        ensures refused { IfErr result (RefusesReference
-            (task R.resolving T.owned T.script K.shape self.now) (filled R.point compiled.old)
-            (key_of R.point key.now) (string_bytes name.now) (kind_of kind) (view value.now)) }
+        ensures { MatchResult result (λ o. (MakesReference (task R.resolving T.owned T.script K.shape
+            self.now) (filled R.point compiled.old) (filled R.point compiled.new) (key_of R.point key.now)
+            (string_bytes name.now) priority (kind_of kind) (view value.now) (option_map entry_view o))
+            × (GoesReference (task R.resolving T.owned T.script K.shape self.now) (filled R.point
+            compiled.old) (filled R.point compiled.new) (key_of R.point key.now) (string_bytes name.now)
+            (kind_of kind) (view value.now) (option_map entry_view o)))
+            (RefusesReference (task R.resolving T.owned T.script K.shape self.now) (filled R.point
+            compiled.old) (key_of R.point key.now) (string_bytes name.now) (kind_of kind) (view value.now)) }
     {
         let context = Context {
             alloc: self.alloc,

@@ -1,11 +1,12 @@
 //! The keys that were reached and their nodes, while they are filled.
 ghost use Rattle.std.specs.Prelude.{◌≡◌, ◌≢◌, ℕ, ◌<◌, ◌≤◌, ◌++◌, ◌∷◌, [], true, false, suc, IfOk, IfErr, OnOk};
-ghost use Rattle.std.specs.Prelude.{map, Some, None, slice_get, length, if◌then◌else◌};
+ghost use Rattle.std.specs.Prelude.{MatchResult, map, Some, None, slice_get, length, if◌then◌else◌};
 ghost use Rattle.schema_keys.specs.KeyViews.{key_of};
 ghost use Rattle.schema_compiler.specs.Carried.{IsWell, RefusesKey, filled, task};
 ghost use Rattle.schema_keys.specs.Compiling.{resolving_parts};
 ghost use Rattle.schema_keys.specs.ShownBases.{shown_base};
-ghost use Rattle.schema_compiler.specs.Passing.{Numbered, PassesTo};
+ghost use Rattle.schema_compiler.specs.Passing.{PassesTo};
+ghost use Rattle.schema_compiler.specs.Numbering.{BeginsNext, TakesNext};
 ghost use Rattle.schema_compiler.specs.UnderWay.{IsUnderWay};
 ghost use Rattle.schema_keys.specs.declared.error.BuildError.TheVariants as build;
 
@@ -180,15 +181,9 @@ impl<'p, R: Resolver, T> Given<'p, R, T> {
         requires absent { (i : ℕ) → slice_get (map (key_of R.point) compiled.old.keys) i ≢
             Some (key_of R.point key.now.value) }
         requires room { length compiled.old.keys < self.now.options.now.node_limit }
-        ensures table { OnOk result (IsWell (task R.resolving T.owned T.script K.shape self.now)
-            (filled R.point compiled.new)) }
-        ensures keys { OnOk result (map (key_of R.point) compiled.new.keys ≡
-            map (key_of R.point) compiled.old.keys ++ key_of R.point key.now.value ∷ []) }
-        ensures nodes { OnOk result (Numbered compiled.old.nodes round compiled.new.nodes) }
-        ensures progress { OnOk result (compiled.new.progress ≡ compiled.old.progress) }
-        ensures reserved { OnOk result (compiled.new.reservations ≡ compiled.old.reservations) }
-        ensures number { IfOk result (λ n. n.0 ≡ length compiled.old.nodes) }
-        ensures memory { IfErr result (λ e. e ≡ build.OutOfMemory) }
+        ensures { MatchResult result (λ n. TakesNext (task R.resolving T.owned T.script K.shape self.now)
+            R.point compiled.old compiled.new (key_of R.point key.now.value) round n.0)
+            (λ e. e ≡ build.OutOfMemory) }
     {
         let number = self.add_node(&mut compiled.nodes, key, round)?;
         let own = key.clone()?;
@@ -209,15 +204,8 @@ impl<'p, R: Resolver, T> Given<'p, R, T> {
             (filled R.point compiled.old) }
         requires absent { (i : ℕ) → slice_get (map (key_of R.point) compiled.old.keys) i ≢
             Some (key_of R.point key.now.value) }
-        ensures table { OnOk result (IsWell (task R.resolving T.owned T.script K.shape self.now)
-            (filled R.point compiled.new)) }
-        ensures keys { OnOk result (map (key_of R.point) compiled.new.keys ≡
-            map (key_of R.point) compiled.old.keys ++ key_of R.point key.now.value ∷ []) }
-        ensures nodes { OnOk result (Numbered compiled.old.nodes round compiled.new.nodes) }
-        ensures progress { OnOk result (compiled.new.progress ≡ compiled.old.progress) }
-        ensures reserved { OnOk result (compiled.new.reservations ≡ compiled.old.reservations) }
-        ensures number { IfOk result (λ n. n.0 ≡ length compiled.old.nodes) }
-        ensures refused { IfErr result
+        ensures { MatchResult result (λ n. TakesNext (task R.resolving T.owned T.script K.shape self.now)
+            R.point compiled.old compiled.new (key_of R.point key.now.value) round n.0)
             (RefusesKey (task R.resolving T.owned T.script K.shape self.now)
             (filled R.point compiled.old) (key_of R.point key.now.value)) }
     {
@@ -244,20 +232,8 @@ impl<'p, R: Resolver, T> Given<'p, R, T> {
         requires absent { (i : ℕ) → slice_get (map (key_of R.point) compiled.old.keys) i ≢
             Some (key_of R.point key.now.value) }
         requires room { nests ≡ true → compiled.old.progress.depth < self.now.nested_limit }
-        ensures table { OnOk result (IsWell (task R.resolving T.owned T.script K.shape self.now)
-            (filled R.point compiled.new)) }
-        ensures under_way { OnOk result (IsUnderWay (task R.resolving T.owned T.script K.shape self.now)
-            (filled R.point compiled.new)) }
-        ensures keys { OnOk result (map (key_of R.point) compiled.new.keys ≡
-            map (key_of R.point) compiled.old.keys ++ key_of R.point key.now.value ∷ []) }
-        ensures nodes { OnOk result (Numbered compiled.old.nodes (Some compiled.old.progress.round) compiled.new.nodes) }
-        ensures round { OnOk result (compiled.new.progress.round ≡ compiled.old.progress.round) }
-        ensures depth { OnOk result (compiled.new.progress.depth ≡
-            (if nests then suc compiled.old.progress.depth else compiled.old.progress.depth)) }
-        ensures settled { OnOk result (compiled.new.progress.reaches_unsettled ≡ false) }
-        ensures reserved { OnOk result (compiled.new.reservations ≡ compiled.old.reservations) }
-        ensures number { IfOk result (λ n. n.0 ≡ length compiled.old.nodes) }
-        ensures refused { IfErr result
+        ensures { MatchResult result (λ n. BeginsNext (task R.resolving T.owned T.script K.shape self.now)
+            R.point compiled.old compiled.new (key_of R.point key.now.value) nests n.0)
             (RefusesKey (task R.resolving T.owned T.script K.shape self.now)
             (filled R.point compiled.old) (key_of R.point key.now.value)) }
     {

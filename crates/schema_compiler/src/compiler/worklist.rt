@@ -1,6 +1,6 @@
 //! The worklist: keys that were found while as many targets of references as may nest were open. Each is compiled in a round
 //! of its own, in the order of finding, which is that of the numbers.
-ghost use Rattle.std.specs.Prelude.{◌<◌, IfErr, IfOk, length, suc};
+ghost use Rattle.std.specs.Prelude.{◌<◌, MatchResult, length, suc};
 ghost use Rattle.schema_nodes.specs.NodeTable.{Waits};
 ghost use Rattle.schema_keys.specs.KeyViews.{key_of};
 ghost use Rattle.schema_compiler.specs.Carried.{filled, task};
@@ -30,9 +30,9 @@ impl<'p, R: Resolver, T> Given<'p, R, T> {
         requires at { IsAtNumber (task R.resolving T.owned T.script K.shape self.now)
             (key_of R.point root.now.value) (filled R.point compiled.old) number }
         requires waits { Waits compiled.old.nodes number }
-        ensures moved { IfOk result (λ _. IsAtNumber (task R.resolving T.owned T.script K.shape self.now)
-            (key_of R.point root.now.value) (filled R.point compiled.new) (suc number)) }
-        ensures refused { IfErr result (RefusesRootKey (task R.resolving T.owned T.script K.shape self.now)
+        ensures { MatchResult result (λ _. IsAtNumber (task R.resolving T.owned T.script K.shape self.now)
+            (key_of R.point root.now.value) (filled R.point compiled.new) (suc number))
+            (RefusesRootKey (task R.resolving T.owned T.script K.shape self.now)
             (key_of R.point root.now.value)) }
     {
         let key = compiled.keys.shared(number)?;
@@ -61,9 +61,9 @@ impl<'p, R: Resolver, T> Given<'p, R, T> {
         requires at { IsAtNumber (task R.resolving T.owned T.script K.shape self.now)
             (key_of R.point root.now.value) (filled R.point compiled.old) number }
         requires within { number < length compiled.old.keys }
-        ensures moved { IfOk result (λ _. IsAtNumber (task R.resolving T.owned T.script K.shape self.now)
-            (key_of R.point root.now.value) (filled R.point compiled.new) (suc number)) }
-        ensures refused { IfErr result (RefusesRootKey (task R.resolving T.owned T.script K.shape self.now)
+        ensures { MatchResult result (λ _. IsAtNumber (task R.resolving T.owned T.script K.shape self.now)
+            (key_of R.point root.now.value) (filled R.point compiled.new) (suc number))
+            (RefusesRootKey (task R.resolving T.owned T.script K.shape self.now)
             (key_of R.point root.now.value)) }
     {
         if compiled.nodes.waits(SchemaNode(number)) {
@@ -82,9 +82,9 @@ impl<'p, R: Resolver, T> Given<'p, R, T> {
         T: KeywordTable<K>,
         requires first { IsAtNumber (task R.resolving T.owned T.script K.shape self.now)
             (key_of R.point root.now.value) (filled R.point compiled.old) 0 }
-        ensures done { IfOk result (λ _. IsWorkedOff (task R.resolving T.owned T.script K.shape self.now)
-            (key_of R.point root.now.value) (filled R.point compiled.new)) }
-        ensures refused { IfErr result (RefusesRootKey (task R.resolving T.owned T.script K.shape self.now)
+        ensures { MatchResult result (λ _. IsWorkedOff (task R.resolving T.owned T.script K.shape self.now)
+            (key_of R.point root.now.value) (filled R.point compiled.new))
+            (RefusesRootKey (task R.resolving T.owned T.script K.shape self.now)
             (key_of R.point root.now.value)) }
     {
         let mut next = 0;
@@ -93,5 +93,24 @@ impl<'p, R: Resolver, T> Given<'p, R, T> {
             next += 1;
         }
         Ok(())
+    }
+
+    /// The table of a key before which none was compiled, and of all that is found on the way.
+    pub(crate) fn compiled_alone<K: Validate>(
+        &self,
+        root: SchemaKey<R::State>,
+    ) -> Result<Compiled<R::State, K>, BuildError>
+    where
+        T: KeywordTable<K>,
+        ensures { MatchResult result (λ m. IsWorkedOff
+            (task R.resolving T.owned T.script K.shape self.now) (key_of R.point root) (filled R.point m))
+            (RefusesRootKey (task R.resolving T.owned T.script K.shape self.now)
+            (key_of R.point root)) }
+    {
+        let mut compiled = Compiled::new(self.alloc);
+        let shared = Rc::new(self.alloc, root)?;
+        self.number_within(&mut compiled, &shared, None)?;
+        self.work_off(&mut compiled, &shared)?;
+        Ok(compiled)
     }
 }

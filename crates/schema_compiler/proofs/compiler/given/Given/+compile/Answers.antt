@@ -1,7 +1,7 @@
 use Rattle.std.proofs.Common.{Bool, Global, String, ℕ, length, ◌≡◌, ◌∷◌, [], ◌++◌, List, append_assoc, string_cmp, subst, map, refl, sym, ap, ap₂, ◌∙◌, arith, Some, None, rules, true, false, true≢false}
-use Rattle.std.specs.Prelude.{codes, not, IfErr, IfOk, Option, string_bytes, option_map, unwrap_or}
+use Rattle.std.specs.Prelude.{codes, not, MatchResult, Option, string_bytes, option_map, unwrap_or}
 use Rattle.std.proofs.lemmas.List.{append-nil, length-map}
-use Rattle.std.proofs.lemmas.Result.{IfOk-weaker, err_from_is_err_and}
+use Rattle.std.proofs.lemmas.Result.{err_from_is_err_and}
 use Rattle.std.proofs.lemmas.Grind.{common_steps}
 use Rattle.std.specs.List.Sorted.{IsStrictlySortedBy}
 use Rattle.std.specs.Map.{keys_of}
@@ -34,6 +34,7 @@ use Rattle.schema_compiler.proofs.UnderWay.{goes_none, goes_to, may_be_filled, r
 use Rattle.schema_compiler.specs.Reserving.{of_its_keyword, of_no_entry}
 use Rattle.schema_compiler.proofs.Reserving.{ends_held, ends_reserves, having}
 use Rattle.schema_compiler.proofs.ReservedTold.{pending_told, reserved_told}
+use Rattle.schema_compiler.proofs.Answered.{value_says}
 use Rattle.schema_compiler.proofs.References.{asked_refused, compile_clean, reference_clean, self_clean, asked_self, asked_edge, is_answered, is_skipped}
 use Rattle.schema_compiler.proofs.Entries.{all_entries, all_goes, all_steps, so_far_none, so_far_more, member_refused}
 use Rattle.schema_compiler.proofs.Forms.{boolean_goes, boolean_made, object_is, object_stands, other_refused}
@@ -42,58 +43,48 @@ use Rattle.schema_compiler.proofs.MembersAsk.{own_is, reference_is, built_is, no
 use Rattle.schema_compiler.proofs.Unknown.{made_known, kept_unknown, more_absorbed}
 use Rattle.schema_compiler.proofs.compiler.given.Given.+compile.Goals as goal
 
-pub child_edge-returns-in_err-edge_to-clause-refused : goal.child_edge-returns-in_err-edge_to-clause-refused
-child_edge-returns-in_err-edge_to-clause-refused g t c =
+pub child_edge-returns-in_err-edge_to : goal.child_edge-returns-in_err-edge_to
+child_edge-returns-in_err-edge_to g t c =
     let v = key_of g.R.Resolver.point in
     let s = task g.R.Resolver.resolving g.T.KeywordTable.owned g.T.KeywordTable.script g.K.Validate.shape c.args.self.now in
     let old = filled g.R.Resolver.point c.args.compiled.now in
     let p = err_from_is_err_and c.from_residual-in_err-edge_to.result c.from_residual-in_err-edge_to.ensures.1 in
-    rw (p.1, p.2) (asked_refused s.parts s.limit _ (record { key = v c.in_ok-below.below.0; path = pointer_to c.args.path.now; is_reference = false; is_recursive = false }) _ old.keys _ c.in_ok-below.ensures.below c.in_err-edge_to.ensures.refused)
+    rw (p.1, p.2) (asked_refused s.parts s.limit _ (record { key = v c.in_ok-below.below.0; path = pointer_to c.args.path.now; is_reference = false; is_recursive = false }) _ old.keys _ c.in_ok-below.ensures.below c.in_err-edge_to.ensures)
 
-pub child_edge-returns-clause-answered : goal.child_edge-returns-clause-answered
-child_edge-returns-clause-answered g t c =
-    let v = key_of g.R.Resolver.point in
-    let s = task g.R.Resolver.resolving g.T.KeywordTable.owned g.T.KeywordTable.script g.K.Validate.shape c.args.self.now in
-    let old = filled g.R.Resolver.point c.args.compiled.now in
-    is_answered s.parts s.shape s.limit _ (record { key = v c.in_ok-below.below.0; path = pointer_to c.args.path.now; is_reference = false; is_recursive = false }) _ old.keys (map v c.edge_to.new.compiled.keys) old.nodes c.edge_to.new.compiled.nodes (edge_of c.in_ok-edge_to.field-0) _ c.in_ok-below.ensures.below
-    (compile_clean s.parts (v c.args.key.now) c.args.path.now (record { key = v c.in_ok-below.below.0; path = pointer_to c.args.path.now; is_reference = false; is_recursive = false }) c.in_ok-below.ensures.below) (λ f. absurd (true≢false (sym f))) c.in_ok-location.ensures.pointer c.in_ok-edge_to.ensures.edge
-
-pub child_edge-returns-clause-order : goal.child_edge-returns-clause-order
-child_edge-returns-clause-order g t c =
+pub child_edge-returns : goal.child_edge-returns
+child_edge-returns g t c =
     let v = key_of g.R.Resolver.point in
     let s = task g.R.Resolver.resolving g.T.KeywordTable.owned g.T.KeywordTable.script g.K.Validate.shape c.args.self.now in
     let old = filled g.R.Resolver.point c.args.compiled.now in
     let new = filled g.R.Resolver.point c.edge_to.new.compiled in
-    let edge : Edge _ = record { key = v c.in_ok-below.below.0; path = pointer_to c.args.path.now; is_reference = false; is_recursive = false } in
-    subst (λ (o : Option (Edge _)). Goes s old new (option_list o) (edge_of c.in_ok-edge_to.field-0 ∷ [])) (sym c.in_ok-below.ensures.below) (c.in_ok-edge_to.ensures.order edge refl refl)
+    let edge : Edge _ = record { key = v c.in_ok-below.below.0; path = pointer_to c.args.path.now; is_reference = false; is_recursive = false } in (
+      is_answered s.parts s.shape s.limit _ (record { key = v c.in_ok-below.below.0; path = pointer_to c.args.path.now; is_reference = false; is_recursive = false }) _ old.keys (map v c.edge_to.new.compiled.keys) old.nodes c.edge_to.new.compiled.nodes (edge_of c.in_ok-edge_to.field-0) _ c.in_ok-below.ensures.below
+          (compile_clean s.parts (v c.args.key.now) c.args.path.now (record { key = v c.in_ok-below.below.0; path = pointer_to c.args.path.now; is_reference = false; is_recursive = false }) c.in_ok-below.ensures.below) (λ f. absurd (true≢false (sym f))) c.in_ok-location.ensures.pointer c.in_ok-edge_to.ensures.0,
+      subst (λ (o : Option (Edge _)). Goes s old new (option_list o) (edge_of c.in_ok-edge_to.field-0 ∷ [])) (sym c.in_ok-below.ensures.below) (c.in_ok-edge_to.ensures.1 edge refl refl),
+    )
 
-pub edge_to-returns-clause-edge : goal.edge_to-returns-clause-edge
-edge_to-returns-clause-edge g t c =
-    let n = c.in_ok-number.ensures.numbered in
-    rw (c.edge_at.ensures.keys, c.edge_at.ensures.nodes) (record { table = n.table; grown = n.grown; number = rw c.edge_at.ensures.node n.number; at_path = c.edge_at.ensures.path })
-
-pub edge_to-returns-clause-order : goal.edge_to-returns-clause-order
-edge_to-returns-clause-order g t c =
+pub edge_to-returns : goal.edge_to-returns
+edge_to-returns g t c =
+    let n = c.in_ok-number.ensures.0 in
     let v = key_of g.R.Resolver.point in
     let s = task g.R.Resolver.resolving g.T.KeywordTable.owned g.T.KeywordTable.script g.K.Validate.shape c.args.self.now in
-    let passes = c.edge_at.ensures.passes in
-    goes_to s (filled g.R.Resolver.point c.args.compiled.now) (filled g.R.Resolver.point c.number_of.new.compiled) (filled g.R.Resolver.point c.edge_at.new.self) (v c.args.key) c.args.nests c.in_ok-number.number (edge_of c.edge_at.result) passes.entry
-    c.in_ok-number.ensures.order c.edge_at.ensures.reserved (ap (map v) c.edge_at.ensures.keys) c.edge_at.ensures.nodes passes.same_round passes.same_depth passes.loose passes.at c.edge_at.ensures.node passes.guard
+    let passes = c.edge_at.ensures.passes in (
+      rw (c.edge_at.ensures.keys, c.edge_at.ensures.nodes) (record { table = n.table; grown = n.grown; number = rw c.edge_at.ensures.node n.number; at_path = c.edge_at.ensures.path }),
+      goes_to s (filled g.R.Resolver.point c.args.compiled.now) (filled g.R.Resolver.point c.number_of.new.compiled) (filled g.R.Resolver.point c.edge_at.new.self) (v c.args.key) c.args.nests c.in_ok-number.number (edge_of c.edge_at.result) passes.entry
+          c.in_ok-number.ensures.1 c.edge_at.ensures.reserved (ap (map v) c.edge_at.ensures.keys) c.edge_at.ensures.nodes passes.same_round passes.same_depth passes.loose passes.at c.edge_at.ensures.node passes.guard,
+    )
 
-pub number_of-returns-in-Some-clause-numbered : goal.number_of-returns-in-Some-clause-numbered
-number_of-returns-in-Some-clause-numbered g t c =
+pub number_of-returns-in-Some : goal.number_of-returns-in-Some
+number_of-returns-in-Some g t c =
     let old = filled g.R.Resolver.point c.args.compiled.now in
-    record { table = c.requires.table; grown = grown_none _ old.keys old.nodes c.requires.table.lengths; number = c.in-Some.ensures.found }
-
-pub number_of-returns-in-Some-clause-order : goal.number_of-returns-in-Some-clause-order
-number_of-returns-in-Some-clause-order g t c =
     let v = key_of g.R.Resolver.point in
-    let s = task g.R.Resolver.resolving g.T.KeywordTable.owned g.T.KeywordTable.script g.K.Validate.shape c.args.self.now in
-    let old = filled g.R.Resolver.point c.args.compiled.now in
-    reaches_found s old (v c.args.key) c.args.nests _ c.requires.under_way c.requires.table.lengths c.in-Some.ensures.found
+    let s = task g.R.Resolver.resolving g.T.KeywordTable.owned g.T.KeywordTable.script g.K.Validate.shape c.args.self.now in (
+      record { table = c.requires.table; grown = grown_none _ old.keys old.nodes c.requires.table.lengths; number = c.in-Some.ensures.found },
+      reaches_found s old (v c.args.key) c.args.nests _ c.requires.under_way c.requires.table.lengths c.in-Some.ensures.found,
+    )
 
-pub number_of-returns-then-is_full-clause-numbered : goal.number_of-returns-then-is_full-clause-numbered
-number_of-returns-then-is_full-clause-numbered g t c =
+pub number_of-returns-then-is_full : goal.number_of-returns-then-is_full
+number_of-returns-then-is_full g t c =
     let v = key_of g.R.Resolver.point in
     let s = task g.R.Resolver.resolving g.T.KeywordTable.owned g.T.KeywordTable.script g.K.Validate.shape c.args.self.now in
     let old = filled g.R.Resolver.point c.args.compiled.now in
@@ -102,34 +93,27 @@ number_of-returns-then-is_full-clause-numbered g t c =
     let added = rw c.in_ok-shared.ensures.ok at c.in_ok-number.ensures.keys in
     let keys' = map v c.number_within.new.compiled.keys in
     let nodes' = c.number_within.new.compiled.nodes in
-    record {
-      table = c.in_ok-number.ensures.table;
-      grown = put_grown (Reached s.parts k) old.keys keys' old.nodes nodes' k n.0 c.requires.table.lengths added n.1 n.2 n.3 at_first;
-      number = put_number old.keys keys' k c.in_ok-number.number.0 (c.in_ok-number.ensures.number ∙ c.requires.table.lengths) added;
-    }
-
-pub number_of-returns-then-is_full-clause-order : goal.number_of-returns-then-is_full-clause-order
-number_of-returns-then-is_full-clause-order g t c =
-    let v = key_of g.R.Resolver.point in
-    let s = task g.R.Resolver.resolving g.T.KeywordTable.owned g.T.KeywordTable.script g.K.Validate.shape c.args.self.now in
-    let old = filled g.R.Resolver.point c.args.compiled.now in
     let new = filled g.R.Resolver.point c.number_within.new.compiled in
-    let n = c.in_ok-number.ensures.nodes in
     let full = c.is_full.ensures.full c.if-is_full.true in
-    let added = rw c.in_ok-shared.ensures.ok at c.in_ok-number.ensures.keys in
-    let same = c.in_ok-number.ensures.progress in
-    subst (λ (b : Bool). Reaches s old new (v c.args.key) b c.in_ok-number.number.0) (sym full.0)
-    (reaches_put s old new (v c.args.key) c.in_ok-number.number.0 n.0 c.requires.under_way c.in_default.ensures.found full.1 c.requires.table.lengths added n.1 n.2 n.3
-    (ap (λ (p : Progress). p.round) same) (ap (λ (p : Progress). p.depth) same) (ap (λ (p : Progress). p.reaches_unsettled) same) c.in_ok-number.ensures.reserved c.in_ok-number.ensures.number)
+    let same = c.in_ok-number.ensures.progress in (
+      record {
+        table = c.in_ok-number.ensures.table;
+        grown = put_grown (Reached s.parts k) old.keys keys' old.nodes nodes' k n.0 c.requires.table.lengths added n.1 n.2 n.3 at_first;
+        number = put_number old.keys keys' k c.in_ok-number.number.0 (c.in_ok-number.ensures.number ∙ c.requires.table.lengths) added;
+      },
+      subst (λ (b : Bool). Reaches s old new (v c.args.key) b c.in_ok-number.number.0) (sym full.0)
+          (reaches_put s old new (v c.args.key) c.in_ok-number.number.0 n.0 c.requires.under_way c.in_default.ensures.found full.1 c.requires.table.lengths added n.1 n.2 n.3
+          (ap (λ (p : Progress). p.round) same) (ap (λ (p : Progress). p.depth) same) (ap (λ (p : Progress). p.reaches_unsettled) same) c.in_ok-number.ensures.reserved c.in_ok-number.ensures.number),
+    )
 
-pub compiled_number-returns-in_err-planned-clause-refused : goal.compiled_number-returns-in_err-planned-clause-refused
-compiled_number-returns-in_err-planned-clause-refused g t c =
+pub compiled_number-returns-in_err-planned : goal.compiled_number-returns-in_err-planned
+compiled_number-returns-in_err-planned g t c =
     let v = key_of g.R.Resolver.point in
     let s = task g.R.Resolver.resolving g.T.KeywordTable.owned g.T.KeywordTable.script g.K.Validate.shape c.args.self.now in
     let old = filled g.R.Resolver.point c.args.compiled.now in
     let p = err_from_is_err_and c.from_residual-in_err-planned.result c.from_residual-in_err-planned.ensures.1 in
     let k = v c.args.key.now.value in
-    rw (p.1, p.2) (refusal_map s.limit _ _ _ _ old.keys (map v c.begin_number.new.compiled.keys) (k ∷ []) (from_key s.parts k) (blames_key s.parts k) c.in_ok-number.ensures.keys (at_first, tt) _ (rw c.deref.ensures at c.in_err-planned.ensures.refused))
+    rw (p.1, p.2) (refusal_map s.limit _ _ _ _ old.keys (map v c.begin_number.new.compiled.keys) (k ∷ []) (from_key s.parts k) (blames_key s.parts k) c.in_ok-number.ensures.keys (at_first, tt) _ (rw c.deref.ensures at c.in_err-planned.ensures))
 
 pub compiled_number-fill-requires : goal.compiled_number-fill-requires
 compiled_number-fill-requires g t c =
@@ -137,18 +121,18 @@ compiled_number-fill-requires g t c =
     let s = task g.R.Resolver.resolving g.T.KeywordTable.owned g.T.KeywordTable.script g.K.Validate.shape c.args.self.now in
     let old = filled g.R.Resolver.point c.args.compiled.now in
     let n = c.in_ok-number.ensures.nodes in
-    let o = c.in_ok-planned.ensures.order in
+    let o = c.in_ok-planned.ensures.1 in
     let d = filled g.R.Resolver.point c.planned_node.new.compiled in
     let there = reserved_after old.nodes c.begin_number.new.compiled.nodes d.nodes n.0 c.in_ok-number.number.0 c.in_ok-number.ensures.number n.1 o.stay in
     record { ready = may_be_filled s d c.in_ok-number.number.0 n.0 (plan_of c.in_ok-planned.planned.form) o.under_way there n.2 (n.3 ∙ ap (λ (r : ℕ). Some r) (sym (o.same_round ∙ c.in_ok-number.ensures.round))) o.now }
 
-pub compiled_number-returns-clause-numbered : goal.compiled_number-returns-clause-numbered
-compiled_number-returns-clause-numbered g t c =
+pub compiled_number-returns : goal.compiled_number-returns
+compiled_number-returns g t c =
     let v = key_of g.R.Resolver.point in
     let s = task g.R.Resolver.resolving g.T.KeywordTable.owned g.T.KeywordTable.script g.K.Validate.shape c.args.self.now in
     let old = filled g.R.Resolver.point c.args.compiled.now in
     let n = c.in_ok-number.ensures.nodes in
-    let m = rw c.deref.ensures at c.in_ok-planned.ensures.planned in
+    let m = rw c.deref.ensures at c.in_ok-planned.ensures.0 in
     let added = c.in_ok-number.ensures.keys in
     let k = v c.args.key.now.value in
     let i = c.in_ok-number.number.0 in
@@ -161,25 +145,19 @@ compiled_number-returns-clause-numbered g t c =
     let nodes-filled = c.fill.new.self in
     let settled = not c.planned_node.new.compiled.progress.reaches_unsettled in
     let at = numbered_after old.keys begun planned m.step.grown.added.0 k i (c.in_ok-number.ensures.number ∙ c.requires.table.lengths) added m.step.grown.added.1 in
-    record {
-      table = finished_table s.parts s.shape s.limit planned nodes'' nodes-filled i k settled annotations p m.step.table at c.fill.ensures.filled (record { plans = m.plan; settled = m.step.settled; clean = m.step.clean }) m.annotated;
-      grown = finished_grown _ old.keys begun planned planned old.nodes nodes' nodes'' nodes-filled k n.0 i
-          c.requires.table.lengths c.in_ok-number.ensures.number added n.1 at_first (grown_map _ _ _ _ _ _ (from_key s.parts k) m.step.grown) refl (finishes nodes'' nodes-filled i settled annotations p c.fill.ensures.filled);
-      number = at;
-    }
-
-pub compiled_number-returns-clause-order : goal.compiled_number-returns-clause-order
-compiled_number-returns-clause-order g t c =
-    let v = key_of g.R.Resolver.point in
-    let s = task g.R.Resolver.resolving g.T.KeywordTable.owned g.T.KeywordTable.script g.K.Validate.shape c.args.self.now in
-    let old = filled g.R.Resolver.point c.args.compiled.now in
-    let n = c.in_ok-number.ensures.nodes in
     let b = filled g.R.Resolver.point c.begin_number.new.compiled in
     let d = filled g.R.Resolver.point c.planned_node.new.compiled in
-    let new : Table _ _ = record { keys = d.keys; nodes = c.fill.new.self; round = old.round; depth = old.depth; loose = old.loose; reserved = d.reserved } in
-    reaches_opened s old b d new (v c.args.key.now.value) c.args.nests c.in_ok-number.number.0 n.0 c.in_ok-planned.planned.annotations (plan_of c.in_ok-planned.planned.form)
-    c.requires.under_way c.requires.absent c.requires.room c.requires.table.lengths c.in_ok-number.ensures.keys n.1 n.2 n.3 c.in_ok-number.ensures.round c.in_ok-number.ensures.depth c.in_ok-number.ensures.settled c.in_ok-number.ensures.reserved refl c.in_ok-number.ensures.number
-    (rw c.deref.ensures at c.in_ok-planned.ensures.order) c.fill.ensures.filled refl refl refl refl
+    let new : Table _ _ = record { keys = d.keys; nodes = c.fill.new.self; round = old.round; depth = old.depth; loose = old.loose; reserved = d.reserved } in (
+      record {
+        table = finished_table s.parts s.shape s.limit planned nodes'' nodes-filled i k settled annotations p m.step.table at c.fill.ensures.filled (record { plans = m.plan; settled = m.step.settled; clean = m.step.clean }) m.annotated;
+        grown = finished_grown _ old.keys begun planned planned old.nodes nodes' nodes'' nodes-filled k n.0 i
+            c.requires.table.lengths c.in_ok-number.ensures.number added n.1 at_first (grown_map _ _ _ _ _ _ (from_key s.parts k) m.step.grown) refl (finishes nodes'' nodes-filled i settled annotations p c.fill.ensures.filled);
+        number = at;
+      },
+      reaches_opened s old b d new (v c.args.key.now.value) c.args.nests c.in_ok-number.number.0 n.0 c.in_ok-planned.planned.annotations (plan_of c.in_ok-planned.planned.form)
+          c.requires.under_way c.requires.absent c.requires.room c.requires.table.lengths c.in_ok-number.ensures.keys n.1 n.2 n.3 c.in_ok-number.ensures.round c.in_ok-number.ensures.depth c.in_ok-number.ensures.settled c.in_ok-number.ensures.reserved refl c.in_ok-number.ensures.number
+          (rw c.deref.ensures at c.in_ok-planned.ensures.1) c.fill.ensures.filled refl refl refl refl,
+    )
 
 pub keywords_of-loop-name-init : goal.keywords_of-loop-name-init
 keywords_of-loop-name-init g t c =
@@ -194,8 +172,8 @@ keywords_of-loop-name-init g t c =
       unknown = ([], sym all, rw c.new-unknown.ensures.empty refl, rw c.new-absorbed.ensures.items refl);
     }
 
-pub keywords_of-returns-in_err-entry-clause-refused : goal.keywords_of-returns-in_err-entry-clause-refused
-keywords_of-returns-in_err-entry-clause-refused g t c =
+pub keywords_of-returns-in_err-entry : goal.keywords_of-returns-in_err-entry
+keywords_of-returns-in_err-entry g t c =
     let v = key_of g.R.Resolver.point in
     let s = task g.R.Resolver.resolving g.T.KeywordTable.owned g.T.KeywordTable.script g.K.Validate.shape c.args.self.now in
     let old = filled g.R.Resolver.point c.args.compiled.now in
@@ -209,7 +187,7 @@ keywords_of-returns-in_err-entry-clause-refused g t c =
     let keys' = map v c.loop-name.compiled.keys in
     let nodes' = c.loop-name.compiled.nodes in
     let p = err_from_is_err_and c.from_residual.result c.from_residual.ensures.1 in
-    rw (p.1, p.2) (member_refused s.parts s.shape s.limit s.nested k whole name value rest es old.keys keys' old.nodes nodes' _ so c.in_err-entry.ensures.refused)
+    rw (p.1, p.2) (member_refused s.parts s.shape s.limit s.nested k whole name value rest es old.keys keys' old.nodes nodes' _ so c.in_err-entry.ensures)
 
 pub keywords_of-loop-name-preserved-in-Continue-branch-3 : goal.keywords_of-loop-name-preserved-in-Continue-branch-3
 keywords_of-loop-name-preserved-in-Continue-branch-3 g t c =
@@ -233,17 +211,17 @@ keywords_of-loop-name-preserved-in-Continue-branch-3 g t c =
     let left = c.next.new.self in
     let all : c.args.members.now.entries ≡ done ++ member ∷ left = inv.1 ∙ ap (λ ms. done ++ ms) c.in-Some.ensures.steps in
     let all' = all ∙ sym (append_assoc done (member ∷ []) left) in
-    let step = c.in_ok-entry.ensures.part.step in
-    let made = rw c.in-Some-2.is at c.in_ok-entry.ensures.part.made in
+    let step = c.in_ok-entry.ensures.0.step in
+    let made = rw c.in-Some-2.is at c.in_ok-entry.ensures.0.made in
     record {
       can = tt;
       finite = tt;
-      so_far = rw c.in_ok-insert_by_priority-in-Some-2.ensures.placed (so_far_more s.parts s.shape s.limit s.nested k whole name value rest (Some (entry_of c.in-Some-2.entry)) es old.keys keys' keys'' old.nodes nodes' nodes'' old (filled g.R.Resolver.point c.loop-name.compiled) (filled g.R.Resolver.point c.entry_of.new.compiled) so step made (rw c.in-Some-2.is at c.in_ok-entry.ensures.order));
+      so_far = rw c.in_ok-insert_by_priority-in-Some-2.ensures.placed (so_far_more s.parts s.shape s.limit s.nested k whole name value rest (Some (entry_of c.in-Some-2.entry)) es old.keys keys' keys'' old.nodes nodes' nodes'' old (filled g.R.Resolver.point c.loop-name.compiled) (filled g.R.Resolver.point c.entry_of.new.compiled) so step made (rw c.in-Some-2.is at c.in_ok-entry.ensures.2));
       unknown = (
         done ++ member ∷ [],
         all',
         made_known s.parts k whole s.shape keys'' (entry_of c.in-Some-2.entry) done member (members_view c.loop-name.unknown.entries) made inv.2,
-        more_absorbed s.parts k whole done member _ _ inv.3 c.in_ok-entry.ensures.absorbed,
+        more_absorbed s.parts k whole done member _ _ inv.3 c.in_ok-entry.ensures.1,
       );
     }
 
@@ -269,23 +247,23 @@ keywords_of-loop-name-preserved g t c =
     let left = c.next.new.self in
     let all : c.args.members.now.entries ≡ done ++ member ∷ left = inv.1 ∙ ap (λ ms. done ++ ms) c.in-Some.ensures.steps in
     let all' = all ∙ sym (append_assoc done (member ∷ []) left) in
-    let step = c.in_ok-entry.ensures.part.step in
-    let made = rw c.in-None-2.is at c.in_ok-entry.ensures.part.made in
+    let step = c.in_ok-entry.ensures.0.step in
+    let made = rw c.in-None-2.is at c.in_ok-entry.ensures.0.made in
     record {
       can = tt;
       finite = tt;
-      so_far = so_far_more s.parts s.shape s.limit s.nested k whole name value rest None es old.keys keys' keys'' old.nodes nodes' nodes'' old (filled g.R.Resolver.point c.loop-name.compiled) (filled g.R.Resolver.point c.entry_of.new.compiled) so step made (rw c.in-None-2.is at c.in_ok-entry.ensures.order);
+      so_far = so_far_more s.parts s.shape s.limit s.nested k whole name value rest None es old.keys keys' keys'' old.nodes nodes' nodes'' old (filled g.R.Resolver.point c.loop-name.compiled) (filled g.R.Resolver.point c.entry_of.new.compiled) so step made (rw c.in-None-2.is at c.in_ok-entry.ensures.2);
       unknown = (
         done ++ member ∷ [],
         all',
         kept_unknown s.parts k whole s.shape keys'' done member left (members_view c.loop-name.unknown.entries) (members_view c.keep_unknown.new.unknown.entries)
             (subst (λ ms. IsStrictlySortedBy string_cmp (keys_of ms)) all c.iter-name-items.ensures.ordered) made inv.2 c.in_ok-keep_unknown-in-None-2.ensures.kept,
-        more_absorbed s.parts k whole done member _ _ inv.3 c.in_ok-entry.ensures.absorbed,
+        more_absorbed s.parts k whole done member _ _ inv.3 c.in_ok-entry.ensures.1,
       );
     }
 
-pub keywords_of-returns-clause-parts : goal.keywords_of-returns-clause-parts
-keywords_of-returns-clause-parts g t c =
+pub keywords_of-returns : goal.keywords_of-returns
+keywords_of-returns g t c =
     let v = key_of g.R.Resolver.point in
     let s = task g.R.Resolver.resolving g.T.KeywordTable.owned g.T.KeywordTable.script g.K.Validate.shape c.args.self.now in
     let old = filled g.R.Resolver.point c.args.compiled.now in
@@ -296,26 +274,20 @@ keywords_of-returns-clause-parts g t c =
     let es = map entry_of c.loop-name.entries.items in
     let keys' = map v c.loop-name.compiled.keys in
     let nodes' = c.loop-name.compiled.nodes in
-    let inv = c.loop-name.invariant.unknown in
-    record {
-      step = all_steps s.parts s.shape s.limit s.nested k whole es old.keys keys' old.nodes nodes' so;
-      entries = all_entries s.parts s.shape s.limit s.nested k whole es old.keys keys' old.nodes nodes' so;
-      unknown = c.without-annotating.ensures.left
-          ∙ ap (λ (names : List (String Global)). without (map string_bytes names) (members_view c.loop-name.unknown.entries)) c.as_slice.ensures.value
-          ∙ ap₂ (λ (names : List Text) (left : Members). without names left) inv.3 inv.2
-          ∙ ap (λ (ms : List Entry). without (absorbed_in s.parts k whole (members_view ms)) (unknown s.parts k whole (members_view ms))) (sym (inv.1 ∙ ap (λ (ms : List Entry). inv.0 ++ ms) ended ∙ append-nil inv.0));
-    }
+    let inv = c.loop-name.invariant.unknown in (
+      record {
+        step = all_steps s.parts s.shape s.limit s.nested k whole es old.keys keys' old.nodes nodes' so;
+        entries = all_entries s.parts s.shape s.limit s.nested k whole es old.keys keys' old.nodes nodes' so;
+        unknown = c.without-annotating.ensures.left
+            ∙ ap (λ (names : List (String Global)). without (map string_bytes names) (members_view c.loop-name.unknown.entries)) c.as_slice.ensures.value
+            ∙ ap₂ (λ (names : List Text) (left : Members). without names left) inv.3 inv.2
+            ∙ ap (λ (ms : List Entry). without (absorbed_in s.parts k whole (members_view ms)) (unknown s.parts k whole (members_view ms))) (sym (inv.1 ∙ ap (λ (ms : List Entry). inv.0 ++ ms) ended ∙ append-nil inv.0));
+      },
+      all_goes s.parts s.shape s.limit s.nested (v c.args.key.now) (members_view c.args.members.now.entries) (map entry_of c.loop-name.entries.items) old.keys (map v c.loop-name.compiled.keys) old.nodes c.loop-name.compiled.nodes so,
+    )
 
-pub keywords_of-returns-clause-order : goal.keywords_of-returns-clause-order
-keywords_of-returns-clause-order g t c =
-    let v = key_of g.R.Resolver.point in
-    let s = task g.R.Resolver.resolving g.T.KeywordTable.owned g.T.KeywordTable.script g.K.Validate.shape c.args.self.now in
-    let old = filled g.R.Resolver.point c.args.compiled.now in
-    let so = rw c.in-None.ensures.steps.0 at c.loop-name.invariant.so_far in
-    all_goes s.parts s.shape s.limit s.nested (v c.args.key.now) (members_view c.args.members.now.entries) (map entry_of c.loop-name.entries.items) old.keys (map v c.loop-name.compiled.keys) old.nodes c.loop-name.compiled.nodes so
-
-pub entry_of-returns-then-owns-clause-refused : goal.entry_of-returns-then-owns-clause-refused
-entry_of-returns-then-owns-clause-refused g t c =
+pub entry_of-returns-then-owns : goal.entry_of-returns-then-owns
+entry_of-returns-then-owns g t c =
     let v = key_of g.R.Resolver.point in
     let s = task g.R.Resolver.resolving g.T.KeywordTable.owned g.T.KeywordTable.script g.K.Validate.shape c.args.self.now in
     let old = filled g.R.Resolver.point c.args.compiled.now in
@@ -323,11 +295,15 @@ entry_of-returns-then-owns-clause-refused g t c =
     let whole = members_view c.args.members.now.entries in
     let name = string_bytes c.args.name.now in
     let value = view c.args.value.now in
+    let before = map string_bytes c.args.absorbed.now.items in
     let owns = rw c.as_str-text.ensures.value at c.owns.ensures.owned in
-    own_is s.parts k whole name value (λ (es : List (Edge _)) (cs : List Cause) (p : Option (Part _)). IfErr c.made_entry.result (Refused s.parts s.limit es cs old.keys)) (sym owns ∙ c.if-owns.true) c.made_entry.ensures.refused
+    let made = c.made_entry in
+    let new = filled g.R.Resolver.point made.new.compiled in
+    own_is s.parts k whole name value (λ (es : List (Edge _)) (cs : List Cause) (p : Option (Part _)). MatchResult made.result (λ o. (MakesPart s.parts s.shape s.limit old.keys new.keys old.nodes new.nodes es cs k (option_map entry_of o) p) × (map string_bytes made.new.absorbed.items ≡ before ++ absorbed_by p) × (Goes s old new es (part_edges (option_map entry_of o)))) (Refused s.parts s.limit es cs old.keys))
+    (sym owns ∙ c.if-owns.true) (value_says made.result _ _ _ (λ o h. (h.0, h.1, h.2)) made.ensures)
 
-pub entry_of-returns-in-Some-reference_kind-clause-refused : goal.entry_of-returns-in-Some-reference_kind-clause-refused
-entry_of-returns-in-Some-reference_kind-clause-refused g t c =
+pub entry_of-returns-in-Some-reference_kind : goal.entry_of-returns-in-Some-reference_kind
+entry_of-returns-in-Some-reference_kind g t c =
     let v = key_of g.R.Resolver.point in
     let s = task g.R.Resolver.resolving g.T.KeywordTable.owned g.T.KeywordTable.script g.K.Validate.shape c.args.self.now in
     let old = filled g.R.Resolver.point c.args.compiled.now in
@@ -335,53 +311,19 @@ entry_of-returns-in-Some-reference_kind-clause-refused g t c =
     let whole = members_view c.args.members.now.entries in
     let name = string_bytes c.args.name.now in
     let value = view c.args.value.now in
-    let owns = rw c.as_str-text.ensures.value at c.owns.ensures.owned in
-    let row = rw c.as_str-text.ensures.value at c.in-Some.ensures.row in
-    let kind = rw c.as_str-text.ensures.value at c.in-Some-reference_kind.ensures.kind in
-    reference_is s.parts k whole name value (λ (es : List (Edge _)) (cs : List Cause) (p : Option (Part _)). IfErr c.reference_entry.result (Refused s.parts s.limit es cs old.keys)) _ (kind_of c.in-Some-reference_kind.kind) (sym owns ∙ c.if-owns.false) row kind c.reference_entry.ensures.refused
-
-pub entry_of-returns-in-None-reference_kind-clause-refused : goal.entry_of-returns-in-None-reference_kind-clause-refused
-entry_of-returns-in-None-reference_kind-clause-refused g t c =
-    let v = key_of g.R.Resolver.point in
-    let s = task g.R.Resolver.resolving g.T.KeywordTable.owned g.T.KeywordTable.script g.K.Validate.shape c.args.self.now in
-    let old = filled g.R.Resolver.point c.args.compiled.now in
-    let k = v c.args.key.now in
-    let whole = members_view c.args.members.now.entries in
-    let name = string_bytes c.args.name.now in
-    let value = view c.args.value.now in
-    let owns = rw c.as_str-text.ensures.value at c.owns.ensures.owned in
-    let row = rw c.as_str-text.ensures.value at c.in-Some.ensures.row in
-    let kind = rw c.as_str-text.ensures.value at c.in-None-reference_kind.ensures.kind in
-    built_is s.parts k whole name value (λ (es : List (Edge _)) (cs : List Cause) (p : Option (Part _)). IfErr c.made_entry-in-None-reference_kind.result (Refused s.parts s.limit es cs old.keys)) _ (sym owns ∙ c.if-owns.false) row kind c.made_entry-in-None-reference_kind.ensures.refused
-
-pub entry_of-returns-then-owns-clause-part : goal.entry_of-returns-then-owns-clause-part
-entry_of-returns-then-owns-clause-part g t c =
-    let v = key_of g.R.Resolver.point in
-    let s = task g.R.Resolver.resolving g.T.KeywordTable.owned g.T.KeywordTable.script g.K.Validate.shape c.args.self.now in
-    let old = filled g.R.Resolver.point c.args.compiled.now in
-    let k = v c.args.key.now in
-    let whole = members_view c.args.members.now.entries in
-    let name = string_bytes c.args.name.now in
-    let value = view c.args.value.now in
-    let owns = rw c.as_str-text.ensures.value at c.owns.ensures.owned in
-    own_is s.parts k whole name value (λ (es : List (Edge _)) (cs : List Cause) (p : Option (Part _)). IfOk c.made_entry.result (λ o. MakesPart s.parts s.shape s.limit old.keys (map v c.made_entry.new.compiled.keys) old.nodes c.made_entry.new.compiled.nodes es cs k (option_map entry_of o) p)) (sym owns ∙ c.if-owns.true) c.made_entry.ensures.part
-
-pub entry_of-returns-in-Some-reference_kind-clause-part : goal.entry_of-returns-in-Some-reference_kind-clause-part
-entry_of-returns-in-Some-reference_kind-clause-part g t c =
-    let v = key_of g.R.Resolver.point in
-    let s = task g.R.Resolver.resolving g.T.KeywordTable.owned g.T.KeywordTable.script g.K.Validate.shape c.args.self.now in
-    let old = filled g.R.Resolver.point c.args.compiled.now in
-    let k = v c.args.key.now in
-    let whole = members_view c.args.members.now.entries in
-    let name = string_bytes c.args.name.now in
-    let value = view c.args.value.now in
+    let before = map string_bytes c.args.absorbed.now.items in
     let owns = rw c.as_str-text.ensures.value at c.owns.ensures.owned in
     let row = rw c.as_str-text.ensures.value at c.in-Some.ensures.row in
     let kind = rw c.as_str-text.ensures.value at c.in-Some-reference_kind.ensures.kind in
-    reference_is s.parts k whole name value (λ (es : List (Edge _)) (cs : List Cause) (p : Option (Part _)). IfOk c.reference_entry.result (λ o. MakesPart s.parts s.shape s.limit old.keys (map v c.reference_entry.new.compiled.keys) old.nodes c.reference_entry.new.compiled.nodes es cs k (option_map entry_of o) p)) _ (kind_of c.in-Some-reference_kind.kind) (sym owns ∙ c.if-owns.false) row kind c.reference_entry.ensures.part
+    let made = c.reference_by in
+    let new = filled g.R.Resolver.point made.new.compiled in
+    let none = reference_absorbs s.parts k name c.in-Some.row.priority (kind_of c.in-Some-reference_kind.kind) value in
+    reference_is s.parts k whole name value (λ (es : List (Edge _)) (cs : List Cause) (p : Option (Part _)). MatchResult made.result (λ o. (MakesPart s.parts s.shape s.limit old.keys new.keys old.nodes new.nodes es cs k (option_map entry_of o) p) × (map string_bytes c.args.absorbed.now.items ≡ before ++ absorbed_by p) × (Goes s old new es (part_edges (option_map entry_of o)))) (Refused s.parts s.limit es cs old.keys))
+    _ (kind_of c.in-Some-reference_kind.kind) (sym owns ∙ c.if-owns.false) row kind
+    (value_says made.result _ _ _ (λ o h. (h.0, sym (ap (λ (names : List Text). before ++ names) none ∙ append-nil before), h.1)) made.ensures)
 
-pub entry_of-returns-in-None-reference_kind-clause-part : goal.entry_of-returns-in-None-reference_kind-clause-part
-entry_of-returns-in-None-reference_kind-clause-part g t c =
+pub entry_of-returns-in-None-reference_kind : goal.entry_of-returns-in-None-reference_kind
+entry_of-returns-in-None-reference_kind g t c =
     let v = key_of g.R.Resolver.point in
     let s = task g.R.Resolver.resolving g.T.KeywordTable.owned g.T.KeywordTable.script g.K.Validate.shape c.args.self.now in
     let old = filled g.R.Resolver.point c.args.compiled.now in
@@ -389,13 +331,17 @@ entry_of-returns-in-None-reference_kind-clause-part g t c =
     let whole = members_view c.args.members.now.entries in
     let name = string_bytes c.args.name.now in
     let value = view c.args.value.now in
+    let before = map string_bytes c.args.absorbed.now.items in
     let owns = rw c.as_str-text.ensures.value at c.owns.ensures.owned in
     let row = rw c.as_str-text.ensures.value at c.in-Some.ensures.row in
     let kind = rw c.as_str-text.ensures.value at c.in-None-reference_kind.ensures.kind in
-    built_is s.parts k whole name value (λ (es : List (Edge _)) (cs : List Cause) (p : Option (Part _)). IfOk c.made_entry-in-None-reference_kind.result (λ o. MakesPart s.parts s.shape s.limit old.keys (map v c.made_entry-in-None-reference_kind.new.compiled.keys) old.nodes c.made_entry-in-None-reference_kind.new.compiled.nodes es cs k (option_map entry_of o) p)) _ (sym owns ∙ c.if-owns.false) row kind c.made_entry-in-None-reference_kind.ensures.part
+    let made = c.made_entry-in-None-reference_kind in
+    let new = filled g.R.Resolver.point made.new.compiled in
+    built_is s.parts k whole name value (λ (es : List (Edge _)) (cs : List Cause) (p : Option (Part _)). MatchResult made.result (λ o. (MakesPart s.parts s.shape s.limit old.keys new.keys old.nodes new.nodes es cs k (option_map entry_of o) p) × (map string_bytes made.new.absorbed.items ≡ before ++ absorbed_by p) × (Goes s old new es (part_edges (option_map entry_of o)))) (Refused s.parts s.limit es cs old.keys))
+    _ (sym owns ∙ c.if-owns.false) row kind (value_says made.result _ _ _ (λ o h. (h.0, h.1, h.2)) made.ensures)
 
-pub entry_of-returns-in-None-clause-part : goal.entry_of-returns-in-None-clause-part
-entry_of-returns-in-None-clause-part g t c =
+pub entry_of-returns-in-None : goal.entry_of-returns-in-None
+entry_of-returns-in-None g t c =
     let v = key_of g.R.Resolver.point in
     let s = task g.R.Resolver.resolving g.T.KeywordTable.owned g.T.KeywordTable.script g.K.Validate.shape c.args.self.now in
     let old = filled g.R.Resolver.point c.args.compiled.now in
@@ -403,10 +349,11 @@ entry_of-returns-in-None-clause-part g t c =
     let whole = members_view c.args.members.now.entries in
     let name = string_bytes c.args.name.now in
     let value = view c.args.value.now in
+    let before = map string_bytes c.args.absorbed.now.items in
     let owns = rw c.as_str-text.ensures.value at c.owns.ensures.owned in
     let row = rw c.as_str-text.ensures.value at c.in-None.ensures.row in
-    no_member s.parts k whole name value (λ (es : List (Edge _)) (cs : List Cause) (p : Option (Part _)). MakesPart s.parts s.shape s.limit old.keys old.keys old.nodes old.nodes es cs k None p) (sym owns ∙ c.if-owns.false) row
-    (record { step = step_none s.parts s.shape s.limit old.keys old.nodes c.requires.table; made = tt })
+    no_member s.parts k whole name value (λ (es : List (Edge _)) (cs : List Cause) (p : Option (Part _)). (MakesPart s.parts s.shape s.limit old.keys old.keys old.nodes old.nodes es cs k None p) × (before ≡ before ++ absorbed_by p) × (Goes s old old es []))
+    (sym owns ∙ c.if-owns.false) row (record { step = step_none s.parts s.shape s.limit old.keys old.nodes c.requires.table; made = tt }, sym (append-nil before), goes_none s old c.requires.under_way)
 
 pub made_entry-loop-children-init : goal.made_entry-loop-children-init
 made_entry-loop-children-init g t c =
@@ -421,8 +368,8 @@ made_entry-loop-children-init g t c =
     let alike = asks_alike g.K.Validate.absorbed g.K.Validate.is_whole whole script (g.met.T.KeywordTable.right c.args.self.now.table.now c.args.own name whole k.target.draft k.target.vocabularies (checks_formats s.parts k)) in
     (rw c.new-children.ensures.items (asked_begun s.parts s.shape s.limit s.nested k name making script (g.T.KeywordTable.waiting c.in_ok-maker.maker) old.keys old.nodes old refl alike c.in_ok-maker.ensures.begins c.requires.table c.requires.under_way), refl)
 
-pub made_entry-returns-in_err-edge-in-Compile-clause-refused : goal.made_entry-returns-in_err-edge-in-Compile-clause-refused
-made_entry-returns-in_err-edge-in-Compile-clause-refused g t c =
+pub made_entry-returns-in_err-edge-in-Compile : goal.made_entry-returns-in_err-edge-in-Compile
+made_entry-returns-in_err-edge-in-Compile g t c =
     let v = key_of g.R.Resolver.point in
     let s = task g.R.Resolver.resolving g.T.KeywordTable.owned g.T.KeywordTable.script g.K.Validate.shape c.args.self.now in
     let old = filled g.R.Resolver.point c.args.compiled.now in
@@ -439,7 +386,7 @@ made_entry-returns-in_err-edge-in-Compile-clause-refused g t c =
     let nodes' = c.loop-children.compiled.nodes in
     let takes = rw c.in-Compile.is at c.in_ok-path.ensures.takes in
     let p = err_from_is_err_and c.from_residual-in_err-edge-in-Compile.result c.from_residual-in_err-edge-in-Compile.ensures.1 in
-    rw (p.1, p.2) (compile_refused s.parts s.shape s.limit s.nested k name making waiting waiting' told es old.keys keys' old.nodes nodes' c.in-Compile.path _ inv takes c.in_err-edge-in-Compile.ensures.refused)
+    rw (p.1, p.2) (compile_refused s.parts s.shape s.limit s.nested k name making waiting waiting' told es old.keys keys' old.nodes nodes' c.in-Compile.path _ inv takes c.in_err-edge-in-Compile.ensures)
 
 pub made_entry-loop-children-preserved-in-Compile : goal.made_entry-loop-children-preserved-in-Compile
 made_entry-loop-children-preserved-in-Compile g t c =
@@ -458,15 +405,15 @@ made_entry-loop-children-preserved-in-Compile g t c =
     let keys' = map v c.loop-children.compiled.keys in
     let nodes' = c.loop-children.compiled.nodes in
     let takes = rw c.in-Compile.is at c.in_ok-path.ensures.takes in
-    let e = c.in_ok-edge-in-Compile.ensures.answered in (
+    let e = c.in_ok-edge-in-Compile.ensures.0 in (
       rw (c.in_ok-reply-in-Compile.ensures.kept, c.in_ok-reply-in-Compile.ensures.told)
           (asked_compile s.parts s.shape s.limit s.nested k name making waiting waiting' told es old.keys keys' (map v c.child_edge.new.compiled.keys) old.nodes nodes' c.child_edge.new.compiled.nodes c.in-Compile.path (edge_of c.in_ok-edge-in-Compile.edge) (length c.loop-children.children.items)
-          inv takes (sym (length-map c.loop-children.children.items (option_map edge_of))) e.leads c.in_ok-edge-in-Compile.ensures.order e.step),
+          inv takes (sym (length-map c.loop-children.children.items (option_map edge_of))) e.leads c.in_ok-edge-in-Compile.ensures.1 e.step),
       c.loop-children.invariant.1,
     )
 
-pub made_entry-returns-in_err-edge-in-Refer-clause-refused : goal.made_entry-returns-in_err-edge-in-Refer-clause-refused
-made_entry-returns-in_err-edge-in-Refer-clause-refused g t c =
+pub made_entry-returns-in_err-edge-in-Refer : goal.made_entry-returns-in_err-edge-in-Refer
+made_entry-returns-in_err-edge-in-Refer g t c =
     let v = key_of g.R.Resolver.point in
     let s = task g.R.Resolver.resolving g.T.KeywordTable.owned g.T.KeywordTable.script g.K.Validate.shape c.args.self.now in
     let old = filled g.R.Resolver.point c.args.compiled.now in
@@ -483,7 +430,7 @@ made_entry-returns-in_err-edge-in-Refer-clause-refused g t c =
     let nodes' = c.loop-children.compiled.nodes in
     let takes = rw c.in-Refer.is at c.in_ok-path.ensures.takes in
     let p = err_from_is_err_and c.from_residual-in_err-edge-in-Refer.result c.from_residual-in_err-edge-in-Refer.ensures.1 in
-    rw (p.1, p.2) (refer_refused s.parts s.shape s.limit s.nested k name making waiting waiting' told es old.keys keys' old.nodes nodes' c.in-Refer.text _ inv takes c.in_err-edge-in-Refer.ensures.refused)
+    rw (p.1, p.2) (refer_refused s.parts s.shape s.limit s.nested k name making waiting waiting' told es old.keys keys' old.nodes nodes' c.in-Refer.text _ inv takes c.in_err-edge-in-Refer.ensures)
 
 pub made_entry-loop-children-smaller-in-Refer : goal.made_entry-loop-children-smaller-in-Refer
 made_entry-loop-children-smaller-in-Refer g t c =
@@ -511,10 +458,10 @@ made_entry-loop-children-preserved-in-Refer g t c =
     let keys' = map v c.loop-children.compiled.keys in
     let nodes' = c.loop-children.compiled.nodes in
     let takes = rw c.in-Refer.is at c.in_ok-path.ensures.takes in
-    let e = c.in_ok-edge-in-Refer.ensures.answered in (
+    let e = c.in_ok-edge-in-Refer.ensures.0 in (
       rw c.in_ok-reply-in-Refer.ensures.kept
           (asked_refer s.parts s.shape s.limit s.nested k name making waiting waiting' told _ es old.keys keys' (map v c.reference_edge.new.compiled.keys) old.nodes nodes' c.reference_edge.new.compiled.nodes c.in-Refer.text (option_map edge_of c.in_ok-edge-in-Refer.edge) (length c.loop-children.children.items)
-          inv takes (sym (length-map c.loop-children.children.items (option_map edge_of))) c.in_ok-reply-in-Refer.ensures.told e.leads c.in_ok-edge-in-Refer.ensures.order e.step),
+          inv takes (sym (length-map c.loop-children.children.items (option_map edge_of))) c.in_ok-reply-in-Refer.ensures.told e.leads c.in_ok-edge-in-Refer.ensures.1 e.step),
       c.loop-children.invariant.1,
     )
 
@@ -560,44 +507,8 @@ made_entry-loop-children-preserved g t c =
       c.loop-children.invariant.1,
     )
 
-pub made_entry-returns-in-Keyword-clause-reserved : goal.made_entry-returns-in-Keyword-clause-reserved
-made_entry-returns-in-Keyword-clause-reserved g t c =
-    let v = key_of g.R.Resolver.point in
-    let s = task g.R.Resolver.resolving g.T.KeywordTable.owned g.T.KeywordTable.script g.K.Validate.shape c.args.self.now in
-    let old = filled g.R.Resolver.point c.args.compiled.now in
-    let k = v c.args.key.now in
-    let whole = members_view c.args.members.now.entries in
-    let name = string_bytes c.args.name.now in
-    let making = making s.parts k whole c.args.own name in
-    let inv = c.loop-children.invariant.0 in
-    let waiting = g.T.KeywordTable.waiting c.loop-children.maker in
-    let waiting' = g.T.KeywordTable.waiting c.turn.new.maker in
-    let told = maker_reply_of c.loop-children.reply in
-    let es = map (option_map edge_of) c.loop-children.children.items in
-    let keys' = map v c.loop-children.compiled.keys in
-    let nodes' = c.loop-children.compiled.nodes in
-    ends_held k.target.place name of_its_keyword c.len-first.result old.reserved _ _ inv.holds c.len-first.ensures.count c.give_up.ensures.given_up
-
-pub made_entry-returns-in-Nothing-clause-reserved : goal.made_entry-returns-in-Nothing-clause-reserved
-made_entry-returns-in-Nothing-clause-reserved g t c =
-    let v = key_of g.R.Resolver.point in
-    let s = task g.R.Resolver.resolving g.T.KeywordTable.owned g.T.KeywordTable.script g.K.Validate.shape c.args.self.now in
-    let old = filled g.R.Resolver.point c.args.compiled.now in
-    let k = v c.args.key.now in
-    let whole = members_view c.args.members.now.entries in
-    let name = string_bytes c.args.name.now in
-    let making = making s.parts k whole c.args.own name in
-    let inv = c.loop-children.invariant.0 in
-    let waiting = g.T.KeywordTable.waiting c.loop-children.maker in
-    let waiting' = g.T.KeywordTable.waiting c.turn.new.maker in
-    let told = maker_reply_of c.loop-children.reply in
-    let es = map (option_map edge_of) c.loop-children.children.items in
-    let keys' = map v c.loop-children.compiled.keys in
-    let nodes' = c.loop-children.compiled.nodes in
-    ends_held k.target.place name of_no_entry c.len-first.result old.reserved _ _ inv.holds c.len-first.ensures.count c.give_up-in-Nothing.ensures.given_up
-
-pub made_entry-returns-in-Keyword-clause-part : goal.made_entry-returns-in-Keyword-clause-part
-made_entry-returns-in-Keyword-clause-part g t c =
+pub made_entry-returns-in-Keyword : goal.made_entry-returns-in-Keyword
+made_entry-returns-in-Keyword g t c =
     let v = key_of g.R.Resolver.point in
     let s = task g.R.Resolver.resolving g.T.KeywordTable.owned g.T.KeywordTable.script g.K.Validate.shape c.args.self.now in
     let old = filled g.R.Resolver.point c.args.compiled.now in
@@ -614,10 +525,20 @@ made_entry-returns-in-Keyword-clause-part g t c =
     let nodes' = c.loop-children.compiled.nodes in
     let takes = rw c.in-Keyword.is at c.in_ok-path.ensures.takes in
     let made = made_keyword s.parts s.shape s.limit s.nested k name making waiting waiting' told es old.keys keys' old.nodes nodes' c.args.priority c.args.is_leaf c.in-Keyword.keyword c.in-Keyword.names inv takes in
-    rw c.in_ok-entry_named-in-Keyword.ensures.entry (record { step = made.0; made = made.1 })
+    let before = map string_bytes c.args.absorbed.now.items in
+    let rs = c.give_up.new.self in
+    let ends = ends_held k.target.place name of_its_keyword c.len-first.result old.reserved _ rs inv.holds c.len-first.ensures.count c.give_up.ensures.given_up in (
+      rw c.in_ok-entry_named-in-Keyword.ensures.entry (record { step = made.0; made = made.1 }),
+      c.in_ok-absorb-in-Keyword.ensures.added ∙ ap (λ (so_far : List (String Global)). map string_bytes so_far ++ map string_bytes c.in-Keyword.names.items) c.loop-children.invariant.1
+          ∙ ap (λ (names : List Text). before ++ names)
+          (sym (absorbed_keyword s.parts s.shape s.limit s.nested k name making waiting waiting' told es old.keys keys' old.nodes nodes' c.args.priority c.args.is_leaf c.in-Keyword.keyword c.in-Keyword.names inv takes)),
+      subst (λ (x : NodePart _). Goes s old (having (filled g.R.Resolver.point c.loop-children.compiled) rs) (maker_edges s.parts k name making) (form_edges x.form)) (sym c.in_ok-entry_named-in-Keyword.ensures.entry)
+          (keyword_goes s.parts s.shape s.limit s.nested k name making waiting waiting' told es old.keys keys' old.nodes nodes' c.in-Keyword.keyword c.in-Keyword.names inv takes rs (ends_reserves k.target.place name of_its_keyword old.reserved rs refl ends)),
+      ends,
+    )
 
-pub made_entry-returns-in-Nothing-clause-part : goal.made_entry-returns-in-Nothing-clause-part
-made_entry-returns-in-Nothing-clause-part g t c =
+pub made_entry-returns-in-Nothing : goal.made_entry-returns-in-Nothing
+made_entry-returns-in-Nothing g t c =
     let v = key_of g.R.Resolver.point in
     let s = task g.R.Resolver.resolving g.T.KeywordTable.owned g.T.KeywordTable.script g.K.Validate.shape c.args.self.now in
     let old = filled g.R.Resolver.point c.args.compiled.now in
@@ -634,64 +555,80 @@ made_entry-returns-in-Nothing-clause-part g t c =
     let nodes' = c.loop-children.compiled.nodes in
     let takes = rw c.in-Nothing.is at c.in_ok-path.ensures.takes in
     let made = made_nothing s.parts s.shape s.limit s.nested k name making waiting waiting' told es old.keys keys' old.nodes nodes' c.args.priority c.args.is_leaf inv takes in
-    record { step = made.0; made = made.1 }
+    let before = map string_bytes c.args.absorbed.now.items in
+    let rs = c.give_up-in-Nothing.new.self in
+    let ends = ends_held k.target.place name of_no_entry c.len-first.result old.reserved _ rs inv.holds c.len-first.ensures.count c.give_up-in-Nothing.ensures.given_up in (
+      record { step = made.0; made = made.1 },
+      ap (λ (so_far : List (String Global)). map string_bytes so_far) c.loop-children.invariant.1
+          ∙ sym (ap (λ (names : List Text). before ++ names) (absorbed_nothing s.parts s.shape s.limit s.nested k name making waiting waiting' told es old.keys keys' old.nodes nodes' c.args.priority c.args.is_leaf inv takes) ∙ append-nil before),
+      nothing_goes s.parts s.shape s.limit s.nested k name making waiting waiting' told es old.keys keys' old.nodes nodes' inv takes rs (ends_reserves k.target.place name of_no_entry old.reserved rs refl ends),
+      ends,
+    )
 
-pub planned_object-returns-in_err-entry-in-Some-clause-refused : goal.planned_object-returns-in_err-entry-in-Some-clause-refused
-planned_object-returns-in_err-entry-in-Some-clause-refused g t c =
+pub planned_object-returns-in_err-entry-in-Some : goal.planned_object-returns-in_err-entry-in-Some
+planned_object-returns-in_err-entry-in-Some g t c =
     let v = key_of g.R.Resolver.point in
     let s = task g.R.Resolver.resolving g.T.KeywordTable.owned g.T.KeywordTable.script g.K.Validate.shape c.args.self.now in
     let old = filled g.R.Resolver.point c.args.compiled.now in
     let k = v c.args.key.now in
     let whole = members_view c.args.members.now.entries in
     let p = err_from_is_err_and c.from_residual-in_err-entry-in-Some.result c.from_residual-in_err-entry-in-Some.ensures.1 in
-    rw (p.1, p.2) (lone_refused s.parts k s.limit old.keys _ whole (view c.in-Some.value.now) c.in-Some.ensures.alone (rw c.in_ok-name-in-Some.ensures.ok at c.in_err-entry-in-Some.ensures.refused))
+    rw (p.1, p.2) (lone_refused s.parts k s.limit old.keys _ whole (view c.in-Some.value.now) c.in-Some.ensures.alone (rw c.in_ok-name-in-Some.ensures.ok at c.in_err-entry-in-Some.ensures))
 
-pub planned_object-returns-in_err-keywords-in-None-clause-refused : goal.planned_object-returns-in_err-keywords-in-None-clause-refused
-planned_object-returns-in_err-keywords-in-None-clause-refused g t c =
+pub planned_object-returns-in_err-keywords-in-None : goal.planned_object-returns-in_err-keywords-in-None
+planned_object-returns-in_err-keywords-in-None g t c =
     let v = key_of g.R.Resolver.point in
     let s = task g.R.Resolver.resolving g.T.KeywordTable.owned g.T.KeywordTable.script g.K.Validate.shape c.args.self.now in
     let old = filled g.R.Resolver.point c.args.compiled.now in
     let k = v c.args.key.now in
     let whole = members_view c.args.members.now.entries in
     let p = err_from_is_err_and c.from_residual-in_err-keywords-in-None.result c.from_residual-in_err-keywords-in-None.ensures.1 in
-    rw (p.1, p.2) (members_refused s.parts k s.limit old.keys _ whole c.in-None.ensures.alone c.in_err-keywords-in-None.ensures.refused)
+    rw (p.1, p.2) (members_refused s.parts k s.limit old.keys _ whole c.in-None.ensures.alone c.in_err-keywords-in-None.ensures)
 
-pub planned_object-returns-in_ok-node_alone-in-Some-clause-planned : goal.planned_object-returns-in_ok-node_alone-in-Some-clause-planned
-planned_object-returns-in_ok-node_alone-in-Some-clause-planned g t c =
+pub planned_object-returns-in_ok-node_alone-in-Some : goal.planned_object-returns-in_ok-node_alone-in-Some
+planned_object-returns-in_ok-node_alone-in-Some g t c =
     let v = key_of g.R.Resolver.point in
     let s = task g.R.Resolver.resolving g.T.KeywordTable.owned g.T.KeywordTable.script g.K.Validate.shape c.args.self.now in
     let old = filled g.R.Resolver.point c.args.compiled.now in
     let k = v c.args.key.now in
     let whole = members_view c.args.members.now.entries in
     let n = c.in_ok-node_alone-in-Some.field-0 in
-    let keys' = map v c.compile_ref.new.compiled.keys in
-    let nodes' = c.compile_ref.new.compiled.nodes in
-    lone_is s.parts k whole (λ (es : List (Edge _)) (cs : List Cause) (q : Plan _) (a : Option Data). MakesPlan s.parts s.shape s.limit old.keys keys' old.nodes nodes' es cs k (plan_of n.form) q (option_map view n.annotations) a) (view c.in-Some.value.now) c.in-Some.ensures.alone
-    (planned_alone s.parts k s.shape s.limit old.keys keys' old.nodes nodes' _ _ _ _ (plan_of n.form) n.annotations c.in_ok-node_alone-in-Some.ensures.plan c.in_ok-node_alone-in-Some.ensures.annotations (rw c.in_ok-name-in-Some.ensures.ok at c.in_ok-entry-in-Some.ensures.part))
+    let keys' = map v c.reference_by.new.compiled.keys in
+    let nodes' = c.reference_by.new.compiled.nodes in
+    let new = filled g.R.Resolver.point c.reference_by.new.compiled in (
+      lone_is s.parts k whole (λ (es : List (Edge _)) (cs : List Cause) (q : Plan _) (a : Option Data). MakesPlan s.parts s.shape s.limit old.keys keys' old.nodes nodes' es cs k (plan_of n.form) q (option_map view n.annotations) a) (view c.in-Some.value.now) c.in-Some.ensures.alone
+          (planned_alone s.parts k s.shape s.limit old.keys keys' old.nodes nodes' _ _ _ _ (plan_of n.form) n.annotations c.in_ok-node_alone-in-Some.ensures.plan c.in_ok-node_alone-in-Some.ensures.annotations (rw c.in_ok-name-in-Some.ensures.ok at c.in_ok-entry-in-Some.ensures.0)),
+      lone_is s.parts k whole (λ (es : List (Edge _)) (cs : List Cause) (q : Plan _) (a : Option Data). Goes s old new es (node_edges (plan_of c.in_ok-node_alone-in-Some.field-0.form))) (view c.in-Some.value.now) c.in-Some.ensures.alone
+          (subst (λ (p : NodePlan _). Goes s old new (reference_edges s.parts k (codes "$ref") to_ref (view c.in-Some.value.now)) (node_edges p)) (sym c.in_ok-node_alone-in-Some.ensures.plan)
+          (alone_goes s old new (reference_edges s.parts k (codes "$ref") to_ref (view c.in-Some.value.now)) (option_map entry_of c.in_ok-entry-in-Some.entry) (rw c.in_ok-name-in-Some.ensures.ok at c.in_ok-entry-in-Some.ensures.1))),
+    )
 
-pub planned_object-returns-in_ok-keywords-in-None-clause-planned : goal.planned_object-returns-in_ok-keywords-in-None-clause-planned
-planned_object-returns-in_ok-keywords-in-None-clause-planned g t c =
+pub planned_object-returns-in_ok-keywords-in-None : goal.planned_object-returns-in_ok-keywords-in-None
+planned_object-returns-in_ok-keywords-in-None g t c =
     let v = key_of g.R.Resolver.point in
     let s = task g.R.Resolver.resolving g.T.KeywordTable.owned g.T.KeywordTable.script g.K.Validate.shape c.args.self.now in
     let old = filled g.R.Resolver.point c.args.compiled.now in
     let k = v c.args.key.now in
     let whole = members_view c.args.members.now.entries in
-    let m = c.in_ok-keywords-in-None.ensures.parts in
+    let m = c.in_ok-keywords-in-None.ensures.0 in
     let keys' = map v c.keywords_of.new.compiled.keys in
     let nodes' = c.keywords_of.new.compiled.nodes in
-    members_are s.parts k whole (λ (es : List (Edge _)) (cs : List Cause) (q : Plan _) (a : Option Data). MakesPlan s.parts s.shape s.limit old.keys keys' old.nodes nodes' es cs k (node_these (map entry_of c.in_ok-keywords-in-None.keywords.entries.items)) q (option_map view c.object_of.result) a) c.in-None.ensures.alone
-    (record { step = m.step; plan = m.entries; annotated = c.object_of.ensures.object ∙ ap object_of m.unknown })
+    let new = filled g.R.Resolver.point c.keywords_of.new.compiled in (
+      members_are s.parts k whole (λ (es : List (Edge _)) (cs : List Cause) (q : Plan _) (a : Option Data). MakesPlan s.parts s.shape s.limit old.keys keys' old.nodes nodes' es cs k (node_these (map entry_of c.in_ok-keywords-in-None.keywords.entries.items)) q (option_map view c.object_of.result) a) c.in-None.ensures.alone
+          (record { step = m.step; plan = m.entries; annotated = c.object_of.ensures.object ∙ ap object_of m.unknown }),
+      members_are s.parts k whole (λ (es : List (Edge _)) (cs : List Cause) (q : Plan _) (a : Option Data). Goes s old new es (node_edges (node_these (map entry_of c.in_ok-keywords-in-None.keywords.entries.items)))) c.in-None.ensures.alone c.in_ok-keywords-in-None.ensures.1,
+    )
 
-pub reference_edge-returns-in_err-target_of-clause-refused : goal.reference_edge-returns-in_err-target_of-clause-refused
-reference_edge-returns-in_err-target_of-clause-refused g t c =
+pub reference_edge-returns-in_err-target_of : goal.reference_edge-returns-in_err-target_of
+reference_edge-returns-in_err-target_of g t c =
     let old = filled g.R.Resolver.point c.args.compiled.now in
     let name = string_bytes c.args.name.now in
     let h = rw c.as_str-2.ensures.value at (c.in_err-target_of.ensures.refused name old.keys) in
     let p = err_from_is_err_and c.from_residual-in_err-target_of.result c.from_residual-in_err-target_of.ensures.1 in
     rw (p.1, p.2) h
 
-pub reference_edge-returns-in_err-edge-in-Some-clause-refused : goal.reference_edge-returns-in_err-edge-in-Some-clause-refused
-reference_edge-returns-in_err-edge-in-Some-clause-refused g t c =
+pub reference_edge-returns-in_err-edge-in-Some : goal.reference_edge-returns-in_err-edge-in-Some
+reference_edge-returns-in_err-edge-in-Some g t c =
     let v = key_of g.R.Resolver.point in
     let s = task g.R.Resolver.resolving g.T.KeywordTable.owned g.T.KeywordTable.script g.K.Validate.shape c.args.self.now in
     let old = filled g.R.Resolver.point c.args.compiled.now in
@@ -702,10 +639,10 @@ reference_edge-returns-in_err-edge-in-Some-clause-refused g t c =
     let target = rw c.as_str-2.ensures.value at c.in_ok-target_of.ensures.target in
     let t = rw c.in-Some.is at target in
     let p = err_from_is_err_and c.from_residual-in_err-edge-in-Some.result c.from_residual-in_err-edge-in-Some.ensures.1 in
-    rw (p.1, p.2) (asked_refused s.parts s.limit (reference_asked s.parts k name kind text) (record { key = v c.in-Some.target; path = joined [] name; is_reference = true; is_recursive = is_recursive_ref kind }) _ old.keys _ (asked_edge s.parts k name kind text (record { key = v c.in-Some.target; path = joined [] name; is_reference = true; is_recursive = is_recursive_ref kind }) t.0 (t.1 name)) c.in_err-edge-in-Some.ensures.refused)
+    rw (p.1, p.2) (asked_refused s.parts s.limit (reference_asked s.parts k name kind text) (record { key = v c.in-Some.target; path = joined [] name; is_reference = true; is_recursive = is_recursive_ref kind }) _ old.keys _ (asked_edge s.parts k name kind text (record { key = v c.in-Some.target; path = joined [] name; is_reference = true; is_recursive = is_recursive_ref kind }) t.0 (t.1 name)) c.in_err-edge-in-Some.ensures)
 
-pub reference_edge-returns-in-None-clause-answered : goal.reference_edge-returns-in-None-clause-answered
-reference_edge-returns-in-None-clause-answered g t c =
+pub reference_edge-returns-in-None : goal.reference_edge-returns-in-None
+reference_edge-returns-in-None g t c =
     let v = key_of g.R.Resolver.point in
     let s = task g.R.Resolver.resolving g.T.KeywordTable.owned g.T.KeywordTable.script g.K.Validate.shape c.args.self.now in
     let old = filled g.R.Resolver.point c.args.compiled.now in
@@ -714,342 +651,13 @@ reference_edge-returns-in-None-clause-answered g t c =
     let kind = kind_of c.args.kind in
     let text = string_bytes c.args.text.now in
     let target = rw c.as_str-2.ensures.value at c.in_ok-target_of.ensures.target in
-    let h = rw c.in-None.is at target in
-    is_skipped s.parts s.shape s.limit (reference_asked s.parts k name kind text) _ old.keys old.nodes (asked_self s.parts k name kind text h) (self_clean s.parts k kind text h) c.requires.table
+    let h = rw c.in-None.is at target in (
+      is_skipped s.parts s.shape s.limit (reference_asked s.parts k name kind text) _ old.keys old.nodes (asked_self s.parts k name kind text h) (self_clean s.parts k kind text h) c.requires.table,
+      subst (λ (o : Option (Edge _)). Goes s old old (option_list o) []) (sym (asked_self s.parts k name kind text h)) (goes_none s old c.requires.under_way),
+    )
 
-pub reference_edge-returns-in_ok-edge-in-Some-clause-answered : goal.reference_edge-returns-in_ok-edge-in-Some-clause-answered
-reference_edge-returns-in_ok-edge-in-Some-clause-answered g t c =
-    let v = key_of g.R.Resolver.point in
-    let s = task g.R.Resolver.resolving g.T.KeywordTable.owned g.T.KeywordTable.script g.K.Validate.shape c.args.self.now in
-    let old = filled g.R.Resolver.point c.args.compiled.now in
-    let k = v c.args.key.now in
-    let name = string_bytes c.args.name.now in
-    let kind = kind_of c.args.kind in
-    let text = string_bytes c.args.text.now in
-    let target = rw c.as_str-2.ensures.value at c.in_ok-target_of.ensures.target in
-    let t = rw c.in-Some.is at target in
-    is_answered s.parts s.shape s.limit (reference_asked s.parts k name kind text) (record { key = v c.in-Some.target; path = joined [] name; is_reference = true; is_recursive = is_recursive_ref kind }) _ old.keys (map v c.edge_to.new.compiled.keys) old.nodes c.edge_to.new.compiled.nodes (edge_of c.in_ok-edge-in-Some.edge) _ (asked_edge s.parts k name kind text (record { key = v c.in-Some.target; path = joined [] name; is_reference = true; is_recursive = is_recursive_ref kind }) t.0 (t.1 name))
-    (reference_clean s.parts k name kind text (record { key = v c.in-Some.target; path = joined [] name; is_reference = true; is_recursive = is_recursive_ref kind }) (t.1 name)) (λ f. t.2) (grind (arith, common_steps, c.in_ok-path.ensures)) c.in_ok-edge-in-Some.ensures.edge
-
-pub reference_by-returns-in_err-text-clause-refused : goal.reference_by-returns-in_err-text-clause-refused
-reference_by-returns-in_err-text-clause-refused g t c =
-    let v = key_of g.R.Resolver.point in
-    let s = task g.R.Resolver.resolving g.T.KeywordTable.owned g.T.KeywordTable.script g.K.Validate.shape c.args.self.now in
-    let old = filled g.R.Resolver.point c.args.compiled.now in
-    let k = v c.args.key.now in
-    let name = string_bytes c.args.name.now in
-    let kind = kind_of c.args.kind in
-    let value = view c.args.value.now in
-    let p = err_from_is_err_and c.from_residual.result c.from_residual.ensures.1 in
-    rw (p.1, p.2) (other_text_refused s.parts k s.limit old.keys _ name kind value c.in_err-text.ensures.other c.in_err-text.ensures.refused)
-
-pub reference_by-returns-in_err-reference_edge-clause-refused : goal.reference_by-returns-in_err-reference_edge-clause-refused
-reference_by-returns-in_err-reference_edge-clause-refused g t c =
-    let v = key_of g.R.Resolver.point in
-    let s = task g.R.Resolver.resolving g.T.KeywordTable.owned g.T.KeywordTable.script g.K.Validate.shape c.args.self.now in
-    let old = filled g.R.Resolver.point c.args.compiled.now in
-    let k = v c.args.key.now in
-    let name = string_bytes c.args.name.now in
-    let kind = kind_of c.args.kind in
-    let value = view c.args.value.now in
-    let p = err_from_is_err_and c.from_residual-in_err-reference_edge.result c.from_residual-in_err-reference_edge.ensures.1 in
-    rw (p.1, p.2) (text_refused s.parts k s.limit old.keys _ name kind (string_bytes c.in_ok-text.text.now) value c.in_ok-text.ensures.text c.in_err-reference_edge.ensures.refused)
-
-pub reference_by-returns-in-None-clause-part : goal.reference_by-returns-in-None-clause-part
-reference_by-returns-in-None-clause-part g t c =
-    let v = key_of g.R.Resolver.point in
-    let s = task g.R.Resolver.resolving g.T.KeywordTable.owned g.T.KeywordTable.script g.K.Validate.shape c.args.self.now in
-    let old = filled g.R.Resolver.point c.args.compiled.now in
-    let k = v c.args.key.now in
-    let name = string_bytes c.args.name.now in
-    let kind = kind_of c.args.kind in
-    let value = view c.args.value.now in
-    reference_made s.parts k s.shape s.limit old.keys (map v c.reference_edge.new.compiled.keys) old.nodes c.reference_edge.new.compiled.nodes name kind (string_bytes c.in_ok-text.text.now) value c.args.priority None c.in_ok-text.ensures.text (rw c.in-None.is at c.in_ok-reference_edge.ensures.answered)
-
-pub reference_by-returns-in_ok-entry_named-in-Some-clause-part : goal.reference_by-returns-in_ok-entry_named-in-Some-clause-part
-reference_by-returns-in_ok-entry_named-in-Some-clause-part g t c =
-    let v = key_of g.R.Resolver.point in
-    let s = task g.R.Resolver.resolving g.T.KeywordTable.owned g.T.KeywordTable.script g.K.Validate.shape c.args.self.now in
-    let old = filled g.R.Resolver.point c.args.compiled.now in
-    let k = v c.args.key.now in
-    let name = string_bytes c.args.name.now in
-    let kind = kind_of c.args.kind in
-    let value = view c.args.value.now in
-    rw c.in_ok-entry_named-in-Some.ensures.entry (reference_made s.parts k s.shape s.limit old.keys (map v c.reference_edge.new.compiled.keys) old.nodes c.reference_edge.new.compiled.nodes name kind (string_bytes c.in_ok-text.text.now) value c.args.priority (Some (edge_of c.in-Some.edge)) c.in_ok-text.ensures.text (rw c.in-Some.is at c.in_ok-reference_edge.ensures.answered))
-
-pub planned_node-returns-in-Some-clause-refused : goal.planned_node-returns-in-Some-clause-refused
-planned_node-returns-in-Some-clause-refused g t c =
-    let v = key_of g.R.Resolver.point in
-    let s = task g.R.Resolver.resolving g.T.KeywordTable.owned g.T.KeywordTable.script g.K.Validate.shape c.args.self.now in
-    let old = filled g.R.Resolver.point c.args.compiled.now in
-    let k = v c.args.key.now in
-    let object = ap (λ (o : Option Data). as_object (unwrap_or o null)) c.value_of-value.ensures.value in
-    object_stands s.parts k (λ (es : List (Edge _)) (cs : List Cause) (q : Plan _) (a : Option Data). IfErr c.planned_object.result (Refused s.parts s.limit es cs old.keys)) (members_view c.in-Some.members.now.entries) (object_is s.parts k _ (members_view c.in-Some.members.now.entries) (c.in-Some.ensures.object ∙ object)) c.planned_object.ensures.refused
-
-pub planned_node-returns-in-Some-clause-planned : goal.planned_node-returns-in-Some-clause-planned
-planned_node-returns-in-Some-clause-planned g t c =
-    let v = key_of g.R.Resolver.point in
-    let s = task g.R.Resolver.resolving g.T.KeywordTable.owned g.T.KeywordTable.script g.K.Validate.shape c.args.self.now in
-    let old = filled g.R.Resolver.point c.args.compiled.now in
-    let k = v c.args.key.now in
-    let object = ap (λ (o : Option Data). as_object (unwrap_or o null)) c.value_of-value.ensures.value in
-    object_stands s.parts k (λ (es : List (Edge _)) (cs : List Cause) (q : Plan _) (a : Option Data). IfOk c.planned_object.result (λ n. MakesPlan s.parts s.shape s.limit old.keys (map v c.planned_object.new.compiled.keys) old.nodes c.planned_object.new.compiled.nodes es cs k (plan_of n.form) q (option_map view n.annotations) a)) (members_view c.in-Some.members.now.entries) (object_is s.parts k _ (members_view c.in-Some.members.now.entries) (c.in-Some.ensures.object ∙ object)) c.planned_object.ensures.planned
-
-pub planned_node-returns-in_err-plain_form-in-None-clause-refused : goal.planned_node-returns-in_err-plain_form-in-None-clause-refused
-planned_node-returns-in_err-plain_form-in-None-clause-refused g t c =
-    let v = key_of g.R.Resolver.point in
-    let s = task g.R.Resolver.resolving g.T.KeywordTable.owned g.T.KeywordTable.script g.K.Validate.shape c.args.self.now in
-    let old = filled g.R.Resolver.point c.args.compiled.now in
-    let k = v c.args.key.now in
-    let object = ap (λ (o : Option Data). as_object (unwrap_or o null)) c.value_of-value.ensures.value in
-    let boolean = ap (λ (o : Option Data). as_bool (unwrap_or o null)) c.value_of-value.ensures.value in
-    let p = err_from_is_err_and c.from_residual.result c.from_residual.ensures.1 in
-    rw (p.1, p.2) (other_refused s.parts k s.limit old.keys _ (c.in-None.ensures.object ∙ object) (sym boolean ∙ c.in_err-plain_form-in-None.ensures.other) c.in_err-plain_form-in-None.ensures.refused)
-
-pub planned_node-returns-in_ok-plain_form-in-None-clause-planned : goal.planned_node-returns-in_ok-plain_form-in-None-clause-planned
-planned_node-returns-in_ok-plain_form-in-None-clause-planned g t c =
-    let v = key_of g.R.Resolver.point in
-    let s = task g.R.Resolver.resolving g.T.KeywordTable.owned g.T.KeywordTable.script g.K.Validate.shape c.args.self.now in
-    let old = filled g.R.Resolver.point c.args.compiled.now in
-    let k = v c.args.key.now in
-    let boolean = ap (λ (o : Option Data). as_bool (unwrap_or o null)) c.value_of-value.ensures.value in
-    let f = c.in_ok-plain_form-in-None.ensures.form in
-    boolean_made s.parts k s.shape s.limit f.0 (plan_of c.in_ok-plain_form-in-None.field-0) old.keys old.nodes (sym boolean ∙ f.1) f.2 c.requires.table
-
-pub entry_of-returns-then-owns-clause-absorbed : goal.entry_of-returns-then-owns-clause-absorbed
-entry_of-returns-then-owns-clause-absorbed g t c =
-    let v = key_of g.R.Resolver.point in
-    let s = task g.R.Resolver.resolving g.T.KeywordTable.owned g.T.KeywordTable.script g.K.Validate.shape c.args.self.now in
-    let old = filled g.R.Resolver.point c.args.compiled.now in
-    let k = v c.args.key.now in
-    let whole = members_view c.args.members.now.entries in
-    let name = string_bytes c.args.name.now in
-    let value = view c.args.value.now in
-    let before = map string_bytes c.args.absorbed.now.items in
-    let owns = rw c.as_str-text.ensures.value at c.owns.ensures.owned in
-    own_is s.parts k whole name value (λ (es : List (Edge _)) (cs : List Cause) (p : Option (Part _)). IfOk c.made_entry.result (λ _. map string_bytes c.made_entry.new.absorbed.items ≡ before ++ absorbed_by p)) (sym owns ∙ c.if-owns.true) c.made_entry.ensures.absorbed
-
-pub entry_of-returns-in-None-reference_kind-clause-absorbed : goal.entry_of-returns-in-None-reference_kind-clause-absorbed
-entry_of-returns-in-None-reference_kind-clause-absorbed g t c =
-    let v = key_of g.R.Resolver.point in
-    let s = task g.R.Resolver.resolving g.T.KeywordTable.owned g.T.KeywordTable.script g.K.Validate.shape c.args.self.now in
-    let old = filled g.R.Resolver.point c.args.compiled.now in
-    let k = v c.args.key.now in
-    let whole = members_view c.args.members.now.entries in
-    let name = string_bytes c.args.name.now in
-    let value = view c.args.value.now in
-    let before = map string_bytes c.args.absorbed.now.items in
-    let owns = rw c.as_str-text.ensures.value at c.owns.ensures.owned in
-    let row = rw c.as_str-text.ensures.value at c.in-Some.ensures.row in
-    let kind = rw c.as_str-text.ensures.value at c.in-None-reference_kind.ensures.kind in
-    built_is s.parts k whole name value (λ (es : List (Edge _)) (cs : List Cause) (p : Option (Part _)). IfOk c.made_entry-in-None-reference_kind.result (λ _. map string_bytes c.made_entry-in-None-reference_kind.new.absorbed.items ≡ before ++ absorbed_by p)) _ (sym owns ∙ c.if-owns.false) row kind c.made_entry-in-None-reference_kind.ensures.absorbed
-
-pub entry_of-returns-in-Some-reference_kind-clause-absorbed : goal.entry_of-returns-in-Some-reference_kind-clause-absorbed
-entry_of-returns-in-Some-reference_kind-clause-absorbed g t c =
-    let v = key_of g.R.Resolver.point in
-    let s = task g.R.Resolver.resolving g.T.KeywordTable.owned g.T.KeywordTable.script g.K.Validate.shape c.args.self.now in
-    let old = filled g.R.Resolver.point c.args.compiled.now in
-    let k = v c.args.key.now in
-    let whole = members_view c.args.members.now.entries in
-    let name = string_bytes c.args.name.now in
-    let value = view c.args.value.now in
-    let before = map string_bytes c.args.absorbed.now.items in
-    let owns = rw c.as_str-text.ensures.value at c.owns.ensures.owned in
-    let row = rw c.as_str-text.ensures.value at c.in-Some.ensures.row in
-    let kind = rw c.as_str-text.ensures.value at c.in-Some-reference_kind.ensures.kind in
-    reference_is s.parts k whole name value (λ (es : List (Edge _)) (cs : List Cause) (p : Option (Part _)). IfOk c.reference_entry.result (λ _. before ≡ before ++ absorbed_by p)) _ (kind_of c.in-Some-reference_kind.kind) (sym owns ∙ c.if-owns.false) row kind
-    (IfOk-weaker c.reference_entry.result _ _ (λ o h. sym (ap (λ (names : List Text). before ++ names) (reference_absorbs s.parts k name _ (kind_of c.in-Some-reference_kind.kind) value) ∙ append-nil before)) c.reference_entry.ensures.part)
-
-pub entry_of-returns-in-None-clause-absorbed : goal.entry_of-returns-in-None-clause-absorbed
-entry_of-returns-in-None-clause-absorbed g t c =
-    let v = key_of g.R.Resolver.point in
-    let s = task g.R.Resolver.resolving g.T.KeywordTable.owned g.T.KeywordTable.script g.K.Validate.shape c.args.self.now in
-    let old = filled g.R.Resolver.point c.args.compiled.now in
-    let k = v c.args.key.now in
-    let whole = members_view c.args.members.now.entries in
-    let name = string_bytes c.args.name.now in
-    let value = view c.args.value.now in
-    let before = map string_bytes c.args.absorbed.now.items in
-    let owns = rw c.as_str-text.ensures.value at c.owns.ensures.owned in
-    let row = rw c.as_str-text.ensures.value at c.in-None.ensures.row in
-    no_member s.parts k whole name value (λ (es : List (Edge _)) (cs : List Cause) (p : Option (Part _)). before ≡ before ++ absorbed_by p) (sym owns ∙ c.if-owns.false) row (sym (append-nil before))
-
-pub made_entry-returns-in-Keyword-clause-absorbed : goal.made_entry-returns-in-Keyword-clause-absorbed
-made_entry-returns-in-Keyword-clause-absorbed g t c =
-    let v = key_of g.R.Resolver.point in
-    let s = task g.R.Resolver.resolving g.T.KeywordTable.owned g.T.KeywordTable.script g.K.Validate.shape c.args.self.now in
-    let old = filled g.R.Resolver.point c.args.compiled.now in
-    let k = v c.args.key.now in
-    let whole = members_view c.args.members.now.entries in
-    let name = string_bytes c.args.name.now in
-    let making = making s.parts k whole c.args.own name in
-    let inv = c.loop-children.invariant.0 in
-    let waiting = g.T.KeywordTable.waiting c.loop-children.maker in
-    let waiting' = g.T.KeywordTable.waiting c.turn.new.maker in
-    let told = maker_reply_of c.loop-children.reply in
-    let es = map (option_map edge_of) c.loop-children.children.items in
-    let keys' = map v c.loop-children.compiled.keys in
-    let nodes' = c.loop-children.compiled.nodes in
-    let takes = rw c.in-Keyword.is at c.in_ok-path.ensures.takes in
-    let before = map string_bytes c.args.absorbed.now.items in
-    c.in_ok-absorb-in-Keyword.ensures.added ∙ ap (λ (so_far : List (String Global)). map string_bytes so_far ++ map string_bytes c.in-Keyword.names.items) c.loop-children.invariant.1
-    ∙ ap (λ (names : List Text). before ++ names)
-    (sym (absorbed_keyword s.parts s.shape s.limit s.nested k name making waiting waiting' told es old.keys keys' old.nodes nodes' c.args.priority c.args.is_leaf c.in-Keyword.keyword c.in-Keyword.names inv takes))
-
-pub made_entry-returns-in-Nothing-clause-absorbed : goal.made_entry-returns-in-Nothing-clause-absorbed
-made_entry-returns-in-Nothing-clause-absorbed g t c =
-    let v = key_of g.R.Resolver.point in
-    let s = task g.R.Resolver.resolving g.T.KeywordTable.owned g.T.KeywordTable.script g.K.Validate.shape c.args.self.now in
-    let old = filled g.R.Resolver.point c.args.compiled.now in
-    let k = v c.args.key.now in
-    let whole = members_view c.args.members.now.entries in
-    let name = string_bytes c.args.name.now in
-    let making = making s.parts k whole c.args.own name in
-    let inv = c.loop-children.invariant.0 in
-    let waiting = g.T.KeywordTable.waiting c.loop-children.maker in
-    let waiting' = g.T.KeywordTable.waiting c.turn.new.maker in
-    let told = maker_reply_of c.loop-children.reply in
-    let es = map (option_map edge_of) c.loop-children.children.items in
-    let keys' = map v c.loop-children.compiled.keys in
-    let nodes' = c.loop-children.compiled.nodes in
-    let takes = rw c.in-Nothing.is at c.in_ok-path.ensures.takes in
-    let before = map string_bytes c.args.absorbed.now.items in
-    ap (λ (so_far : List (String Global)). map string_bytes so_far) c.loop-children.invariant.1
-    ∙ sym (ap (λ (names : List Text). before ++ names) (absorbed_nothing s.parts s.shape s.limit s.nested k name making waiting waiting' told es old.keys keys' old.nodes nodes' c.args.priority c.args.is_leaf inv takes) ∙ append-nil before)
-
-pub entry_of-returns-then-owns-clause-order : goal.entry_of-returns-then-owns-clause-order
-entry_of-returns-then-owns-clause-order g t c =
-    let v = key_of g.R.Resolver.point in
-    let s = task g.R.Resolver.resolving g.T.KeywordTable.owned g.T.KeywordTable.script g.K.Validate.shape c.args.self.now in
-    let old = filled g.R.Resolver.point c.args.compiled.now in
-    let k = v c.args.key.now in
-    let whole = members_view c.args.members.now.entries in
-    let name = string_bytes c.args.name.now in
-    let value = view c.args.value.now in
-    let owns = rw c.as_str-text.ensures.value at c.owns.ensures.owned in
-    own_is s.parts k whole name value (λ (es : List (Edge _)) (cs : List Cause) (p : Option (Part _)). IfOk c.made_entry.result (λ o. Goes s old (filled g.R.Resolver.point c.made_entry.new.compiled) es (part_edges (option_map entry_of o)))) (sym owns ∙ c.if-owns.true) c.made_entry.ensures.order
-
-pub entry_of-returns-in-Some-reference_kind-clause-order : goal.entry_of-returns-in-Some-reference_kind-clause-order
-entry_of-returns-in-Some-reference_kind-clause-order g t c =
-    let v = key_of g.R.Resolver.point in
-    let s = task g.R.Resolver.resolving g.T.KeywordTable.owned g.T.KeywordTable.script g.K.Validate.shape c.args.self.now in
-    let old = filled g.R.Resolver.point c.args.compiled.now in
-    let k = v c.args.key.now in
-    let whole = members_view c.args.members.now.entries in
-    let name = string_bytes c.args.name.now in
-    let value = view c.args.value.now in
-    let owns = rw c.as_str-text.ensures.value at c.owns.ensures.owned in
-    let row = rw c.as_str-text.ensures.value at c.in-Some.ensures.row in
-    let kind = rw c.as_str-text.ensures.value at c.in-Some-reference_kind.ensures.kind in
-    reference_is s.parts k whole name value (λ (es : List (Edge _)) (cs : List Cause) (p : Option (Part _)). IfOk c.reference_entry.result (λ o. Goes s old (filled g.R.Resolver.point c.reference_entry.new.compiled) es (part_edges (option_map entry_of o)))) _ (kind_of c.in-Some-reference_kind.kind) (sym owns ∙ c.if-owns.false) row kind c.reference_entry.ensures.order
-
-pub entry_of-returns-in-None-reference_kind-clause-order : goal.entry_of-returns-in-None-reference_kind-clause-order
-entry_of-returns-in-None-reference_kind-clause-order g t c =
-    let v = key_of g.R.Resolver.point in
-    let s = task g.R.Resolver.resolving g.T.KeywordTable.owned g.T.KeywordTable.script g.K.Validate.shape c.args.self.now in
-    let old = filled g.R.Resolver.point c.args.compiled.now in
-    let k = v c.args.key.now in
-    let whole = members_view c.args.members.now.entries in
-    let name = string_bytes c.args.name.now in
-    let value = view c.args.value.now in
-    let owns = rw c.as_str-text.ensures.value at c.owns.ensures.owned in
-    let row = rw c.as_str-text.ensures.value at c.in-Some.ensures.row in
-    let kind = rw c.as_str-text.ensures.value at c.in-None-reference_kind.ensures.kind in
-    built_is s.parts k whole name value (λ (es : List (Edge _)) (cs : List Cause) (p : Option (Part _)). IfOk c.made_entry-in-None-reference_kind.result (λ o. Goes s old (filled g.R.Resolver.point c.made_entry-in-None-reference_kind.new.compiled) es (part_edges (option_map entry_of o)))) _ (sym owns ∙ c.if-owns.false) row kind c.made_entry-in-None-reference_kind.ensures.order
-
-pub entry_of-returns-in-None-clause-order : goal.entry_of-returns-in-None-clause-order
-entry_of-returns-in-None-clause-order g t c =
-    let v = key_of g.R.Resolver.point in
-    let s = task g.R.Resolver.resolving g.T.KeywordTable.owned g.T.KeywordTable.script g.K.Validate.shape c.args.self.now in
-    let old = filled g.R.Resolver.point c.args.compiled.now in
-    let k = v c.args.key.now in
-    let whole = members_view c.args.members.now.entries in
-    let name = string_bytes c.args.name.now in
-    let value = view c.args.value.now in
-    let owns = rw c.as_str-text.ensures.value at c.owns.ensures.owned in
-    let row = rw c.as_str-text.ensures.value at c.in-None.ensures.row in
-    no_member s.parts k whole name value (λ (es : List (Edge _)) (cs : List Cause) (p : Option (Part _)). Goes s old old es []) (sym owns ∙ c.if-owns.false) row (goes_none s old c.requires.under_way)
-
-pub made_entry-returns-in-Keyword-clause-order : goal.made_entry-returns-in-Keyword-clause-order
-made_entry-returns-in-Keyword-clause-order g t c =
-    let v = key_of g.R.Resolver.point in
-    let s = task g.R.Resolver.resolving g.T.KeywordTable.owned g.T.KeywordTable.script g.K.Validate.shape c.args.self.now in
-    let old = filled g.R.Resolver.point c.args.compiled.now in
-    let k = v c.args.key.now in
-    let whole = members_view c.args.members.now.entries in
-    let name = string_bytes c.args.name.now in
-    let making = making s.parts k whole c.args.own name in
-    let inv = c.loop-children.invariant.0 in
-    let waiting = g.T.KeywordTable.waiting c.loop-children.maker in
-    let waiting' = g.T.KeywordTable.waiting c.turn.new.maker in
-    let told = maker_reply_of c.loop-children.reply in
-    let es = map (option_map edge_of) c.loop-children.children.items in
-    let keys' = map v c.loop-children.compiled.keys in
-    let nodes' = c.loop-children.compiled.nodes in
-    let takes = rw c.in-Keyword.is at c.in_ok-path.ensures.takes in
-    let rs = c.give_up.new.self in
-    let ends = ends_held k.target.place name of_its_keyword c.len-first.result old.reserved _ rs inv.holds c.len-first.ensures.count c.give_up.ensures.given_up in
-    subst (λ (x : NodePart _). Goes s old (having (filled g.R.Resolver.point c.loop-children.compiled) rs) (maker_edges s.parts k name making) (form_edges x.form)) (sym c.in_ok-entry_named-in-Keyword.ensures.entry)
-    (keyword_goes s.parts s.shape s.limit s.nested k name making waiting waiting' told es old.keys keys' old.nodes nodes' c.in-Keyword.keyword c.in-Keyword.names inv takes rs (ends_reserves k.target.place name of_its_keyword old.reserved rs refl ends))
-
-pub made_entry-returns-in-Nothing-clause-order : goal.made_entry-returns-in-Nothing-clause-order
-made_entry-returns-in-Nothing-clause-order g t c =
-    let v = key_of g.R.Resolver.point in
-    let s = task g.R.Resolver.resolving g.T.KeywordTable.owned g.T.KeywordTable.script g.K.Validate.shape c.args.self.now in
-    let old = filled g.R.Resolver.point c.args.compiled.now in
-    let k = v c.args.key.now in
-    let whole = members_view c.args.members.now.entries in
-    let name = string_bytes c.args.name.now in
-    let making = making s.parts k whole c.args.own name in
-    let inv = c.loop-children.invariant.0 in
-    let waiting = g.T.KeywordTable.waiting c.loop-children.maker in
-    let waiting' = g.T.KeywordTable.waiting c.turn.new.maker in
-    let told = maker_reply_of c.loop-children.reply in
-    let es = map (option_map edge_of) c.loop-children.children.items in
-    let keys' = map v c.loop-children.compiled.keys in
-    let nodes' = c.loop-children.compiled.nodes in
-    let takes = rw c.in-Nothing.is at c.in_ok-path.ensures.takes in
-    let rs = c.give_up-in-Nothing.new.self in
-    let ends = ends_held k.target.place name of_no_entry c.len-first.result old.reserved _ rs inv.holds c.len-first.ensures.count c.give_up-in-Nothing.ensures.given_up in
-    nothing_goes s.parts s.shape s.limit s.nested k name making waiting waiting' told es old.keys keys' old.nodes nodes' inv takes rs (ends_reserves k.target.place name of_no_entry old.reserved rs refl ends)
-
-pub planned_object-returns-in_ok-node_alone-in-Some-clause-order : goal.planned_object-returns-in_ok-node_alone-in-Some-clause-order
-planned_object-returns-in_ok-node_alone-in-Some-clause-order g t c =
-    let v = key_of g.R.Resolver.point in
-    let s = task g.R.Resolver.resolving g.T.KeywordTable.owned g.T.KeywordTable.script g.K.Validate.shape c.args.self.now in
-    let old = filled g.R.Resolver.point c.args.compiled.now in
-    let k = v c.args.key.now in
-    let whole = members_view c.args.members.now.entries in
-    let new = filled g.R.Resolver.point c.compile_ref.new.compiled in
-    lone_is s.parts k whole (λ (es : List (Edge _)) (cs : List Cause) (q : Plan _) (a : Option Data). Goes s old new es (node_edges (plan_of c.in_ok-node_alone-in-Some.field-0.form))) (view c.in-Some.value.now) c.in-Some.ensures.alone
-    (subst (λ (p : NodePlan _). Goes s old new (reference_edges s.parts k (codes "$ref") to_ref (view c.in-Some.value.now)) (node_edges p)) (sym c.in_ok-node_alone-in-Some.ensures.plan)
-    (alone_goes s old new (reference_edges s.parts k (codes "$ref") to_ref (view c.in-Some.value.now)) (option_map entry_of c.in_ok-entry-in-Some.entry) (rw c.in_ok-name-in-Some.ensures.ok at c.in_ok-entry-in-Some.ensures.order)))
-
-pub planned_object-returns-in_ok-keywords-in-None-clause-order : goal.planned_object-returns-in_ok-keywords-in-None-clause-order
-planned_object-returns-in_ok-keywords-in-None-clause-order g t c =
-    let v = key_of g.R.Resolver.point in
-    let s = task g.R.Resolver.resolving g.T.KeywordTable.owned g.T.KeywordTable.script g.K.Validate.shape c.args.self.now in
-    let old = filled g.R.Resolver.point c.args.compiled.now in
-    let k = v c.args.key.now in
-    let whole = members_view c.args.members.now.entries in
-    let new = filled g.R.Resolver.point c.keywords_of.new.compiled in
-    members_are s.parts k whole (λ (es : List (Edge _)) (cs : List Cause) (q : Plan _) (a : Option Data). Goes s old new es (node_edges (node_these (map entry_of c.in_ok-keywords-in-None.keywords.entries.items)))) c.in-None.ensures.alone c.in_ok-keywords-in-None.ensures.order
-
-pub reference_edge-returns-in-None-clause-order : goal.reference_edge-returns-in-None-clause-order
-reference_edge-returns-in-None-clause-order g t c =
-    let v = key_of g.R.Resolver.point in
-    let s = task g.R.Resolver.resolving g.T.KeywordTable.owned g.T.KeywordTable.script g.K.Validate.shape c.args.self.now in
-    let old = filled g.R.Resolver.point c.args.compiled.now in
-    let k = v c.args.key.now in
-    let name = string_bytes c.args.name.now in
-    let kind = kind_of c.args.kind in
-    let text = string_bytes c.args.text.now in
-    let target = rw c.as_str-2.ensures.value at c.in_ok-target_of.ensures.target in
-    let h = rw c.in-None.is at target in
-    subst (λ (o : Option (Edge _)). Goes s old old (option_list o) []) (sym (asked_self s.parts k name kind text h)) (goes_none s old c.requires.under_way)
-
-pub reference_edge-returns-in_ok-edge-in-Some-clause-order : goal.reference_edge-returns-in_ok-edge-in-Some-clause-order
-reference_edge-returns-in_ok-edge-in-Some-clause-order g t c =
+pub reference_edge-returns-in_ok-edge-in-Some : goal.reference_edge-returns-in_ok-edge-in-Some
+reference_edge-returns-in_ok-edge-in-Some g t c =
     let v = key_of g.R.Resolver.point in
     let s = task g.R.Resolver.resolving g.T.KeywordTable.owned g.T.KeywordTable.script g.K.Validate.shape c.args.self.now in
     let old = filled g.R.Resolver.point c.args.compiled.now in
@@ -1060,46 +668,95 @@ reference_edge-returns-in_ok-edge-in-Some-clause-order g t c =
     let target = rw c.as_str-2.ensures.value at c.in_ok-target_of.ensures.target in
     let t = rw c.in-Some.is at target in
     let new = filled g.R.Resolver.point c.edge_to.new.compiled in
-    let edge : Edge _ = record { key = v c.in-Some.target; path = joined [] name; is_reference = true; is_recursive = is_recursive_ref kind } in
-    subst (λ (o : Option (Edge _)). Goes s old new (option_list o) (edge_of c.in_ok-edge-in-Some.edge ∷ [])) (sym (asked_edge s.parts k name kind text edge t.0 (t.1 name))) (c.in_ok-edge-in-Some.ensures.order edge refl (sym c.nests.ensures.nests))
+    let edge : Edge _ = record { key = v c.in-Some.target; path = joined [] name; is_reference = true; is_recursive = is_recursive_ref kind } in (
+      is_answered s.parts s.shape s.limit (reference_asked s.parts k name kind text) (record { key = v c.in-Some.target; path = joined [] name; is_reference = true; is_recursive = is_recursive_ref kind }) _ old.keys (map v c.edge_to.new.compiled.keys) old.nodes c.edge_to.new.compiled.nodes (edge_of c.in_ok-edge-in-Some.edge) _ (asked_edge s.parts k name kind text (record { key = v c.in-Some.target; path = joined [] name; is_reference = true; is_recursive = is_recursive_ref kind }) t.0 (t.1 name))
+          (reference_clean s.parts k name kind text (record { key = v c.in-Some.target; path = joined [] name; is_reference = true; is_recursive = is_recursive_ref kind }) (t.1 name)) (λ f. t.2) (grind (arith, common_steps, c.in_ok-path.ensures)) c.in_ok-edge-in-Some.ensures.0,
+      subst (λ (o : Option (Edge _)). Goes s old new (option_list o) (edge_of c.in_ok-edge-in-Some.edge ∷ [])) (sym (asked_edge s.parts k name kind text edge t.0 (t.1 name))) (c.in_ok-edge-in-Some.ensures.1 edge refl (sym c.nests.ensures.nests)),
+    )
 
-pub reference_by-returns-in-None-clause-order : goal.reference_by-returns-in-None-clause-order
-reference_by-returns-in-None-clause-order g t c =
+pub reference_by-returns-in_err-text : goal.reference_by-returns-in_err-text
+reference_by-returns-in_err-text g t c =
     let v = key_of g.R.Resolver.point in
     let s = task g.R.Resolver.resolving g.T.KeywordTable.owned g.T.KeywordTable.script g.K.Validate.shape c.args.self.now in
     let old = filled g.R.Resolver.point c.args.compiled.now in
     let k = v c.args.key.now in
     let name = string_bytes c.args.name.now in
     let kind = kind_of c.args.kind in
-    let text = string_bytes c.in_ok-text.text.now in
-    text_goes s old (filled g.R.Resolver.point c.reference_edge.new.compiled) k name kind text (view c.args.value.now) [] c.in_ok-text.ensures.text (rw c.in-None.is at c.in_ok-reference_edge.ensures.order)
+    let value = view c.args.value.now in
+    let p = err_from_is_err_and c.from_residual.result c.from_residual.ensures.1 in
+    rw (p.1, p.2) (other_text_refused s.parts k s.limit old.keys _ name kind value c.in_err-text.ensures.other c.in_err-text.ensures.refused)
 
-pub reference_by-returns-in_ok-entry_named-in-Some-clause-order : goal.reference_by-returns-in_ok-entry_named-in-Some-clause-order
-reference_by-returns-in_ok-entry_named-in-Some-clause-order g t c =
+pub reference_by-returns-in_err-reference_edge : goal.reference_by-returns-in_err-reference_edge
+reference_by-returns-in_err-reference_edge g t c =
     let v = key_of g.R.Resolver.point in
     let s = task g.R.Resolver.resolving g.T.KeywordTable.owned g.T.KeywordTable.script g.K.Validate.shape c.args.self.now in
     let old = filled g.R.Resolver.point c.args.compiled.now in
     let k = v c.args.key.now in
     let name = string_bytes c.args.name.now in
     let kind = kind_of c.args.kind in
-    let text = string_bytes c.in_ok-text.text.now in
-    subst (λ (x : NodePart _). Goes s old (filled g.R.Resolver.point c.reference_edge.new.compiled) (reference_edges s.parts k name kind (view c.args.value.now)) (form_edges x.form)) (sym c.in_ok-entry_named-in-Some.ensures.entry) (text_goes s old (filled g.R.Resolver.point c.reference_edge.new.compiled) k name kind text (view c.args.value.now) (edge_of c.in-Some.edge ∷ []) c.in_ok-text.ensures.text (rw c.in-Some.is at c.in_ok-reference_edge.ensures.order))
+    let value = view c.args.value.now in
+    let p = err_from_is_err_and c.from_residual-in_err-reference_edge.result c.from_residual-in_err-reference_edge.ensures.1 in
+    rw (p.1, p.2) (text_refused s.parts k s.limit old.keys _ name kind (string_bytes c.in_ok-text.text.now) value c.in_ok-text.ensures.text c.in_err-reference_edge.ensures)
 
-pub planned_node-returns-in-Some-clause-order : goal.planned_node-returns-in-Some-clause-order
-planned_node-returns-in-Some-clause-order g t c =
+pub reference_by-returns-in-None : goal.reference_by-returns-in-None
+reference_by-returns-in-None g t c =
+    let v = key_of g.R.Resolver.point in
+    let s = task g.R.Resolver.resolving g.T.KeywordTable.owned g.T.KeywordTable.script g.K.Validate.shape c.args.self.now in
+    let old = filled g.R.Resolver.point c.args.compiled.now in
+    let k = v c.args.key.now in
+    let name = string_bytes c.args.name.now in
+    let kind = kind_of c.args.kind in
+    let value = view c.args.value.now in
+    let text = string_bytes c.in_ok-text.text.now in (
+      reference_made s.parts k s.shape s.limit old.keys (map v c.reference_edge.new.compiled.keys) old.nodes c.reference_edge.new.compiled.nodes name kind (string_bytes c.in_ok-text.text.now) value c.args.priority None c.in_ok-text.ensures.text (rw c.in-None.is at c.in_ok-reference_edge.ensures.0),
+      text_goes s old (filled g.R.Resolver.point c.reference_edge.new.compiled) k name kind text (view c.args.value.now) [] c.in_ok-text.ensures.text (rw c.in-None.is at c.in_ok-reference_edge.ensures.1),
+    )
+
+pub reference_by-returns-in_ok-entry_named-in-Some : goal.reference_by-returns-in_ok-entry_named-in-Some
+reference_by-returns-in_ok-entry_named-in-Some g t c =
+    let v = key_of g.R.Resolver.point in
+    let s = task g.R.Resolver.resolving g.T.KeywordTable.owned g.T.KeywordTable.script g.K.Validate.shape c.args.self.now in
+    let old = filled g.R.Resolver.point c.args.compiled.now in
+    let k = v c.args.key.now in
+    let name = string_bytes c.args.name.now in
+    let kind = kind_of c.args.kind in
+    let value = view c.args.value.now in
+    let text = string_bytes c.in_ok-text.text.now in (
+      rw c.in_ok-entry_named-in-Some.ensures.entry (reference_made s.parts k s.shape s.limit old.keys (map v c.reference_edge.new.compiled.keys) old.nodes c.reference_edge.new.compiled.nodes name kind (string_bytes c.in_ok-text.text.now) value c.args.priority (Some (edge_of c.in-Some.edge)) c.in_ok-text.ensures.text (rw c.in-Some.is at c.in_ok-reference_edge.ensures.0)),
+      subst (λ (x : NodePart _). Goes s old (filled g.R.Resolver.point c.reference_edge.new.compiled) (reference_edges s.parts k name kind (view c.args.value.now)) (form_edges x.form)) (sym c.in_ok-entry_named-in-Some.ensures.entry) (text_goes s old (filled g.R.Resolver.point c.reference_edge.new.compiled) k name kind text (view c.args.value.now) (edge_of c.in-Some.edge ∷ []) c.in_ok-text.ensures.text (rw c.in-Some.is at c.in_ok-reference_edge.ensures.1)),
+    )
+
+pub planned_node-returns-in-Some : goal.planned_node-returns-in-Some
+planned_node-returns-in-Some g t c =
+    let v = key_of g.R.Resolver.point in
+    let s = task g.R.Resolver.resolving g.T.KeywordTable.owned g.T.KeywordTable.script g.K.Validate.shape c.args.self.now in
+    let old = filled g.R.Resolver.point c.args.compiled.now in
+    let k = v c.args.key.now in
+    let members = members_view c.in-Some.members.now.entries in
+    let object = ap (λ (o : Option Data). as_object (unwrap_or o null)) c.value_of-value.ensures.value in
+    let new = filled g.R.Resolver.point c.planned_object.new.compiled in
+    object_stands s.parts k (λ (es : List (Edge _)) (cs : List Cause) (q : Plan _) (a : Option Data). MatchResult c.planned_object.result (λ n. (MakesPlan s.parts s.shape s.limit old.keys new.keys old.nodes new.nodes es cs k (plan_of n.form) q (option_map view n.annotations) a) × (Goes s old new es (node_edges (plan_of n.form)))) (Refused s.parts s.limit es cs old.keys))
+    members (object_is s.parts k _ members (c.in-Some.ensures.object ∙ object)) c.planned_object.ensures
+
+pub planned_node-returns-in_err-plain_form-in-None : goal.planned_node-returns-in_err-plain_form-in-None
+planned_node-returns-in_err-plain_form-in-None g t c =
     let v = key_of g.R.Resolver.point in
     let s = task g.R.Resolver.resolving g.T.KeywordTable.owned g.T.KeywordTable.script g.K.Validate.shape c.args.self.now in
     let old = filled g.R.Resolver.point c.args.compiled.now in
     let k = v c.args.key.now in
     let object = ap (λ (o : Option Data). as_object (unwrap_or o null)) c.value_of-value.ensures.value in
-    object_stands s.parts k (λ (es : List (Edge _)) (cs : List Cause) (q : Plan _) (a : Option Data). IfOk c.planned_object.result (λ n. Goes s old (filled g.R.Resolver.point c.planned_object.new.compiled) es (node_edges (plan_of n.form)))) (members_view c.in-Some.members.now.entries) (object_is s.parts k _ (members_view c.in-Some.members.now.entries) (c.in-Some.ensures.object ∙ object)) c.planned_object.ensures.order
+    let boolean = ap (λ (o : Option Data). as_bool (unwrap_or o null)) c.value_of-value.ensures.value in
+    let p = err_from_is_err_and c.from_residual.result c.from_residual.ensures.1 in
+    rw (p.1, p.2) (other_refused s.parts k s.limit old.keys _ (c.in-None.ensures.object ∙ object) (sym boolean ∙ c.in_err-plain_form-in-None.ensures.other) c.in_err-plain_form-in-None.ensures.refused)
 
-pub planned_node-returns-in_ok-plain_form-in-None-clause-order : goal.planned_node-returns-in_ok-plain_form-in-None-clause-order
-planned_node-returns-in_ok-plain_form-in-None-clause-order g t c =
+pub planned_node-returns-in_ok-plain_form-in-None : goal.planned_node-returns-in_ok-plain_form-in-None
+planned_node-returns-in_ok-plain_form-in-None g t c =
     let v = key_of g.R.Resolver.point in
     let s = task g.R.Resolver.resolving g.T.KeywordTable.owned g.T.KeywordTable.script g.K.Validate.shape c.args.self.now in
     let old = filled g.R.Resolver.point c.args.compiled.now in
     let k = v c.args.key.now in
     let boolean = ap (λ (o : Option Data). as_bool (unwrap_or o null)) c.value_of-value.ensures.value in
-    let f = c.in_ok-plain_form-in-None.ensures.form in
-    boolean_goes s old k f.0 (plan_of c.in_ok-plain_form-in-None.field-0) (sym boolean ∙ f.1) f.2 c.requires.under_way
+    let f = c.in_ok-plain_form-in-None.ensures.form in (
+      boolean_made s.parts k s.shape s.limit f.0 (plan_of c.in_ok-plain_form-in-None.field-0) old.keys old.nodes (sym boolean ∙ f.1) f.2 c.requires.table,
+      boolean_goes s old k f.0 (plan_of c.in_ok-plain_form-in-None.field-0) (sym boolean ∙ f.1) f.2 c.requires.under_way,
+    )

@@ -38,18 +38,6 @@ decreases-entry_of g l = 11 * (l.self.now.options.now.node_limit - length l.comp
 abbrev pub decreases-made_entry : goal.decreases-made_entry
 decreases-made_entry g l = 11 * (l.self.now.options.now.node_limit - length l.compiled.now.keys) + 4
 
-abbrev pub decreases-reference_entry : goal.decreases-reference_entry
-decreases-reference_entry g l = 11 * (l.self.now.options.now.node_limit - length l.compiled.now.keys) + 6
-
-abbrev pub decreases-compile_ref : goal.decreases-compile_ref
-decreases-compile_ref g l = 11 * (l.self.now.options.now.node_limit - length l.compiled.now.keys) + 5
-
-abbrev pub decreases-compile_dynamic_ref : goal.decreases-compile_dynamic_ref
-decreases-compile_dynamic_ref g l = 11 * (l.self.now.options.now.node_limit - length l.compiled.now.keys) + 5
-
-abbrev pub decreases-compile_recursive_ref : goal.decreases-compile_recursive_ref
-decreases-compile_recursive_ref g l = 11 * (l.self.now.options.now.node_limit - length l.compiled.now.keys) + 5
-
 abbrev pub decreases-reference_by : goal.decreases-reference_by
 decreases-reference_by g l = 11 * (l.self.now.options.now.node_limit - length l.compiled.now.keys) + 4
 

@@ -26,14 +26,14 @@ planned_node-requires-clause-under_way g c =
     begun_way s old begun c.args.number (each_stands s (key_of g.R.Resolver.point c.args.root.now.value) old c.args.number c.requires.at) c.requires.at.under_way (λ j n q at is. c.requires.at.rounds j q n at is)
     c.requires.waits c.begin.ensures.begun c.at_round-compiled.ensures.round c.at_round-compiled.ensures.depth
 
-pub returns-in_err-planned-clause-refused : goal.returns-in_err-planned-clause-refused
-returns-in_err-planned-clause-refused g c =
+pub returns-in_err-planned : goal.returns-in_err-planned
+returns-in_err-planned g c =
     let v = key_of g.R.Resolver.point in
     let s = task g.R.Resolver.resolving g.T.KeywordTable.owned g.T.KeywordTable.script g.K.Validate.shape c.args.self.now in
     let old = filled g.R.Resolver.point c.args.compiled.now in
     let p = err_from_is_err_and c.from_residual-in_err-planned.result c.from_residual-in_err-planned.ensures.1 in
     let at = slice_get-map v c.args.compiled.now.keys c.args.number ∙ ap (option_map v) c.in_ok-key.ensures.key in
-    rw (p.1, p.2) (round_refused s (v c.args.root.now.value) old (v c.in_ok-key.key.value) c.args.number _ c.requires.at at (rw c.deref.ensures at c.in_err-planned.ensures.refused))
+    rw (p.1, p.2) (round_refused s (v c.args.root.now.value) old (v c.in_ok-key.key.value) c.args.number _ c.requires.at at (rw c.deref.ensures at c.in_err-planned.ensures))
 
 pub fill-requires : goal.fill-requires
 fill-requires g c =
@@ -41,10 +41,10 @@ fill-requires g c =
     let old = filled g.R.Resolver.point c.args.compiled.now in
     let begun : Table _ _ = record { keys = old.keys; nodes = c.begin.new.self; round = c.at_round-compiled.result.round; depth = c.at_round-compiled.result.depth; loose = c.at_round-compiled.result.reaches_unsettled; reserved = old.reserved } in
     let found = filled g.R.Resolver.point c.planned_node.new.compiled in
-    record { ready = round_fills s (key_of g.R.Resolver.point c.args.root.now.value) old begun found c.args.number _ (plan_of c.in_ok-planned.planned.form) c.requires.waits c.begin.ensures.begun c.at_round-compiled.ensures.round c.in_ok-planned.ensures.order }
+    record { ready = round_fills s (key_of g.R.Resolver.point c.args.root.now.value) old begun found c.args.number _ (plan_of c.in_ok-planned.planned.form) c.requires.waits c.begin.ensures.begun c.at_round-compiled.ensures.round c.in_ok-planned.ensures.1 }
 
-pub returns-clause-moved : goal.returns-clause-moved
-returns-clause-moved g c =
+pub returns : goal.returns
+returns g c =
     let v = key_of g.R.Resolver.point in
     let s = task g.R.Resolver.resolving g.T.KeywordTable.owned g.T.KeywordTable.script g.K.Validate.shape c.args.self.now in
     let old = filled g.R.Resolver.point c.args.compiled.now in
@@ -53,8 +53,8 @@ returns-clause-moved g c =
     let begun : Table _ _ = record { keys = old.keys; nodes = c.begin.new.self; round = c.at_round-compiled.result.round; depth = c.at_round-compiled.result.depth; loose = c.at_round-compiled.result.reaches_unsettled; reserved = old.reserved } in
     let found = filled g.R.Resolver.point c.planned_node.new.compiled in
     let new : Table _ _ = record { keys = found.keys; nodes = c.fill.new.self; round = found.round; depth = found.depth; loose = found.loose; reserved = found.reserved } in
-    let m = rw c.deref.ensures at c.in_ok-planned.ensures.planned in
-    let o = rw c.deref.ensures at c.in_ok-planned.ensures.order in
+    let m = rw c.deref.ensures at c.in_ok-planned.ensures.0 in
+    let o = rw c.deref.ensures at c.in_ok-planned.ensures.1 in
     let p = plan_of c.in_ok-planned.planned.form in
     let annotations = c.in_ok-planned.planned.annotations in
     let settled = not found.loose in

@@ -6,8 +6,8 @@ use Rattle.schema_keys.proofs.Lists.{length-more}
 use Rattle.schema_compiler.proofs.Tables.{pushed_distinct}
 use Rattle.schema_compiler.proofs.compiler.given.Given.number_within.Goals as goal
 
-pub returns-then-len-self-clause-refused : goal.returns-then-len-self-clause-refused
-returns-then-len-self-clause-refused g c =
+pub returns-then-len-self : goal.returns-then-len-self
+returns-then-len-self g c =
     let v = key_of g.R.Resolver.point in
     let keys = map v c.args.compiled.now.keys in
     let k = v c.args.key.now.value in

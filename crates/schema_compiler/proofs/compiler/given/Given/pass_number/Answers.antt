@@ -5,8 +5,8 @@ use Rattle.schema_compiler.specs.Carried.{filled, task}
 use Rattle.schema_compiler.proofs.Working.{at_next_number}
 use Rattle.schema_compiler.proofs.compiler.given.Given.pass_number.Goals as goal
 
-pub returns-clause-moved : goal.returns-clause-moved
-returns-clause-moved g c =
+pub returns : goal.returns
+returns g c =
     let v = key_of g.R.Resolver.point in
     let s = task g.R.Resolver.resolving g.T.KeywordTable.owned g.T.KeywordTable.script g.K.Validate.shape c.args.self.now in
     let within = c.requires.within in
