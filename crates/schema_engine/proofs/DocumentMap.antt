@@ -15,7 +15,7 @@ use Rattle.schema_parts.specs.ResolverViews.{IsInside}
 use Rattle.schema_keys.specs.Compiling.{Each, In}
 use Rattle.schema_compiler.proofs.Compiled.{stands_but}
 use Rattle.schema_keys.proofs.Lists.{contains_of, each_in}
-use Rattle.schema_engine.specs.DocumentSchemas.{IndicesFit, schemas_in}
+use Rattle.schema_engine.specs.DocumentSchemas.{IndicesFit, schemas_of}
 use Rattle.schema_engine.specs.Entries.{HoldsPlaces, IsCompiledAlone, IsEntry, IsLeftOut}
 use Rattle.schema_engine.specs.Handed.{Handed, Options, parts_of}
 use Rattle.schema_engine.specs.MapViews.{Entries, at_pointer}
@@ -25,11 +25,6 @@ use Rattle.schema_engine.specs.Roots.{IsRootKey}
 use Rattle.schema_engine.proofs.DocumentPlaces.{document_schema}
 use Rattle.schema_engine.proofs.PlaceNames.{one_place}
 use Rattle.schema_engine.proofs.RootKeys.{one_root_key, some_is}
-
--- the places of a document's objects and booleans; none where there is no document
-abbrev pub schemas_of : Option Data → List Place
-schemas_of None = []
-schemas_of (Some d) = schemas_in [] d
 
 module _ {S K R : Type 0} (w : Parts S K R) where
   -- where no cause stands for a key, its value is an object or a boolean

@@ -7,6 +7,7 @@ mod OtherParts
 pub mod Remembers
 pub mod Searches
 pub mod ErrorSearches
+mod SharedErrors
 pub mod Built
 pub mod Compilations
 pub mod RootKeys

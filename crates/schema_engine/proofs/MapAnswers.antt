@@ -10,14 +10,14 @@ use Rattle.schema_keys.specs.Alone.{RefusesVocabularies}
 use Rattle.schema_check.specs.Checking.{AcceptsSchema, MetaChecks, RefusesSchema}
 use Rattle.schema_keys.specs.Compiling.{Each, no_keywords, no_matcher, no_table}
 use Rattle.schema_keys.specs.declared.error.BuildError.{BuildError}
-use Rattle.schema_engine.specs.DocumentSchemas.{IndicesFit}
+use Rattle.schema_engine.specs.DocumentSchemas.{IndicesFit, schemas_of}
 use Rattle.schema_engine.specs.Entries.{HoldsPlaces, RefusesOneOf}
 use Rattle.schema_engine.specs.Handed.{Handed, Options, parts_of}
 use Rattle.schema_engine.specs.MapViews.{Entries}
 use Rattle.schema_engine.specs.Mapped.{EachHasPlainUnits, EachIsCompiledFrom, EachMeansPlainly, EachPointsPlainly, HoldsCompiled, HoldsEach, MapIsBuilt, MapRefused, no_root, not_accepted, not_declared, past_limit}
 use Rattle.schema_engine.specs.Program.{Program}
 use Rattle.schema_engine.specs.Roots.{IsRootKey, RefusesKey, root_parts}
-use Rattle.schema_engine.proofs.DocumentMap.{holds_compiled, holds_each, of_each, schemas_of}
+use Rattle.schema_engine.proofs.DocumentMap.{holds_compiled, holds_each, of_each}
 use Rattle.schema_engine.proofs.RootKeys.{one_root_key, root_key_too}
 
 module _ {S K R C M : Type 0} (h : Handed S K R C M) (options : Options) (schema : Data) where

@@ -1,6 +1,6 @@
 -- The objects and booleans of a document, in the order of its text, the outer ones first: each counts as a schema when validators
 -- are made for all of them. (section 4.3 of Core 2020-12, sections 3 and 4 of RFC 6901)
-use Rattle.std.specs.Prelude.{List, [], ℕ, ◌+◌, ◌++◌, ◌<◌, ◌∷◌, ◌^◌}
+use Rattle.std.specs.Prelude.{List, None, Option, Some, [], ℕ, ◌+◌, ◌++◌, ◌<◌, ◌∷◌, ◌^◌}
 use Rattle.serde_json.specs.Data.{Data, Items, Members, array, boolean, item, member, no_items, no_members, null, number, object, string}
 use Rattle.schema_definitions.specs.Instance.{Place, to_item, to_member}
 
@@ -21,6 +21,11 @@ abbrev mutual
   pub schemas_in_members : Place → Members → List Place
   schemas_in_members p no_members = []
   schemas_in_members p (member k d ms) = schemas_in (p ++ to_member k ∷ []) d ++ schemas_in_members p ms
+
+-- of a document; none where there is none
+abbrev pub schemas_of : Option Data → List Place
+schemas_of None = []
+schemas_of (Some d) = schemas_in [] d
 
 -- the numbers of a place's items fit 64 bits, as those of a list in memory do
 abbrev pub IndicesFit : Place → Type 0

@@ -1,17 +1,19 @@
 -- What is known of an entry of a map while the map is built: the validator at a place, why there is none, and what the map holds
 -- of the places that were passed.
-use Rattle.std.specs.Prelude.{Bool, List, Some, bytes_eq, if◌then◌else◌, length, MatchOption, ◌≡◌, ◌≤◌, ◌⊎◌}
+use Rattle.std.specs.Prelude.{Bool, List, Option, Some, [], bytes_eq, flat_map, if◌then◌else◌, length, MatchOption, ◌≡◌, ◌≤◌, ◌⊎◌}
 use Rattle.serde_json.specs.Data.{Data}
 use Rattle.schema_definitions.specs.Instance.{Place, Text}
 use Rattle.schema_meaning.specs.MapPointers.{IsCompiled, StandsBelow, entry_key}
 use Rattle.schema_definitions.specs.Parts.{Parts}
 use Rattle.schema_definitions.specs.Plan.{Key}
-use Rattle.schema_meaning.specs.Refusals.{Cause}
+use Rattle.schema_meaning.specs.Refusals.{Cause, undeclared}
 use Rattle.schema_keys.specs.Alone.{RefusesKeyAlone}
 use Rattle.schema_compiler.specs.Compilation as compilation
+use Rattle.schema_check.specs.Checking.{AcceptsSchema, MetaChecks}
 use Rattle.schema_keys.specs.Compiling.{Each, In}
 use Rattle.schema_keys.specs.declared.error.BuildError.{BuildError}
 use Rattle.schema_keys.specs.declared.error.BuildError.TheVariants.{OutOfMemory}
+use Rattle.schema_engine.specs.DocumentSchemas.{IndicesFit, schemas_of}
 use Rattle.schema_engine.specs.Handed.{Handed, Options, default_nested, parts_of}
 use Rattle.schema_engine.specs.MapViews.{Entries, at_pointer}
 use Rattle.schema_engine.specs.Mapped.{RefusesLimit, name_of}
@@ -69,3 +71,12 @@ module _ {S K R C M : Type 0} (h : Handed S K R C M) (options : Options) (schema
     HoldsPlaces paths es = (name : Text) → MatchOption (at_pointer es name)
         (Each (λ path. name ≡ name_of path → IsLeftOut h options root path) paths)
         (λ p. (path : Place) × (name ≡ name_of path) × IsEntry path p)
+
+    -- a map of what stands at the root: the schema is accepted, the root's vocabularies are declared, and the map holds what compiles of the document
+    pub record IsMade (refuses : MetaChecks) (es : Entries (Program C M)) : Type 0 where
+      pub accepted : AcceptsSchema h.resolver refuses root.target.draft root.target.place
+      pub declared : (texts : Bool) → flat_map (undeclared (parts h options texts)) root.target.vocabularies ≡ []
+      pub document : Option Data
+      pub stands : h.resolver.value root.target.place ≡ document
+      pub fit : Each IndicesFit (schemas_of document)
+      pub held : HoldsPlaces (schemas_of document) es

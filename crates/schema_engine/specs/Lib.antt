@@ -18,3 +18,4 @@ pub mod MapViews
 pub mod DocumentSchemas
 pub mod Mapped
 pub mod Entries
+pub mod SharedErrors

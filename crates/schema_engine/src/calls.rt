@@ -52,7 +52,9 @@ pub fn is_valid<S: Resolver, T: KeywordTable<K>, K: Validate, M: Matcher, V: Met
         (V.checked metas.now) default_options (view schema.now) e) }
 {
     let built = Validator::<K, M>::new(alloc, schema, table, resolver, matcher, metas)?;
-    Ok(built.is_valid(alloc, instance)?)
+    let answer = built.is_valid(alloc, instance);
+    drop(built);
+    Ok(answer?)
 }
 
 /// Returns the first error of the instance as an inner `Err`, and an inner `Ok` if a schema accepts it, as
@@ -90,7 +92,9 @@ pub fn validate<'i, S: Resolver, T: KeywordTable<K>, K: Validate, M: Matcher, V:
         (V.checked metas.now) default_options (view schema.now) e) }
 {
     let validator = Validator::<K, M>::new(alloc, schema, table, resolver, matcher, metas)?;
-    Ok(validator.validate(alloc, instance)?)
+    let answer = validator.validate(alloc, instance);
+    drop(validator);
+    Ok(answer?)
 }
 
 /// Returns all errors of the instance in order, and none if a schema accepts it, as `Validator::iter_errors` does.
@@ -127,7 +131,9 @@ pub fn iter_errors<'i, S: Resolver, T: KeywordTable<K>, K: Validate, M: Matcher,
         (V.checked metas.now) default_options (view schema.now) e) }
 {
     let validator = Validator::<K, M>::new(alloc, schema, table, resolver, matcher, metas)?;
-    Ok(validator.iter_errors(alloc, instance)?)
+    let answer = validator.iter_errors(alloc, instance);
+    drop(validator);
+    Ok(answer?)
 }
 
 /// Returns the evaluation of the instance by a schema, as `Validator::evaluate` does. Where no chain of references returns and
@@ -167,5 +173,7 @@ pub fn evaluate<S: Resolver, T: KeywordTable<K>, K: Validate, M: Matcher, V: Met
         (V.checked metas.now) default_options (view schema.now) e) }
 {
     let validator = Validator::<K, M>::new(alloc, schema, table, resolver, matcher, metas)?;
-    Ok(validator.evaluate(alloc, instance)?)
+    let answer = validator.evaluate(alloc, instance);
+    drop(validator);
+    Ok(answer?)
 }

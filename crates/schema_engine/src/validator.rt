@@ -1,5 +1,5 @@
 //! A validator: what it answers of instances.
-ghost use Rattle.std.specs.Prelude.{◌≡◌, [], false, Bool, Option, IfOk, All, IfSome, length, slice_get, ◌<◌};
+ghost use Rattle.std.specs.Prelude.{◌≡◌, [], false, Bool, Option, IfOk, All, IfSome, IsSome, length, slice_get, ◌<◌};
 ghost use Rattle.serde_json.specs.View.{view};
 ghost use Rattle.schema_keywords.specs.KeywordViews.{draft_of};
 ghost use Rattle.schema_definitions.specs.Unfinished.{starting};
@@ -15,6 +15,7 @@ ghost use Rattle.schema_engine.specs.Asked.{DecidesInEverySense, ErrorsInEverySe
 ghost use Rattle.schema_engine.specs.Asked.{ErrorsPointAsNodes, FirstPointsAsNodes};
 ghost use Rattle.schema_engine.specs.Asked.{EvaluatesFromSomeDepth, EvaluatesInEverySense};
 ghost use Rattle.schema_engine.specs.Asked.{RunGivesUnit, UnitsFromSomeDepth, UnitsInEverySense};
+ghost use Rattle.schema_engine.specs.SharedErrors.{AreShared};
 ghost use Rattle.schema_engine.specs.Asked.{RunDecides, RunFindsFirst, RunListsErrors, RunMeets, RunReplies};
 
 mod cloning;
@@ -150,8 +151,15 @@ impl<K: Validate, M: Matcher> Validator<K, M> {
         };
         let reply = self
             .nodes
-            .run(alloc, &self.matcher, self.root, &question, &mut context)?;
-        Ok((context.into_matches(), reply))
+            .run(alloc, &self.matcher, self.root, &question, &mut context);
+        let met = context.into_matches();
+        match reply {
+            Ok(reply) => Ok((met, reply)),
+            Err(refused) => {
+                drop(met);
+                Err(refused)
+            }
+        }
     }
 
     // The verdict of the root's node, under what is assumed of unfinished matches.
@@ -181,6 +189,7 @@ impl<K: Validate, M: Matcher> Validator<K, M> {
     {
         let first = self.verdict(alloc, instance, MatchAssumptions::new(alloc))?;
         if !first.0.met_unassumed() {
+            drop(first.0);
             return Ok(first.1);
         }
         validity_under_each(
@@ -232,6 +241,28 @@ impl<K: Validate, M: Matcher> Validator<K, M> {
         }
     }
 
+    // The errors that every outcome of the unfinished matches gives, after a first run that met such a match. The further runs
+    // want all errors, whatever the first one wanted.
+    fn shared_errors<'i>(
+        &self,
+        alloc: Global,
+        instance: &'i Value,
+        first: (MatchAssumptions<'i>, Vec<ValidationError<'i>>),
+    ) -> Result<Vec<ValidationError<'i>>, OutOfMemory>
+        requires none { first.0.assumptions ≡ [] }
+        requires met { IsSome first.0.unassumed }
+        ensures shares { IfOk result (λ es. AreShared
+            K.Validate M.Matcher.own self.now (view instance.now) first.entry.0 es.items) }
+    {
+        let shared = errors_under_each(
+            alloc,
+            |matches| self.errors(alloc, instance, matches),
+            first,
+            instance,
+        )?;
+        Ok(shared)
+    }
+
     // The first of the errors that every outcome of the unfinished matches gives. Where the first run meets such a match, the
     // further runs want all errors.
     fn first_under_each<'i>(
@@ -245,14 +276,11 @@ impl<K: Validate, M: Matcher> Validator<K, M> {
     {
         let (met, error) = self.first(alloc, instance)?;
         if !met.met_unassumed() {
+            drop(met);
             return Ok(error);
         }
-        let shared = errors_under_each(
-            alloc,
-            |matches| self.errors(alloc, instance, matches),
-            (met, Vec::new(alloc)),
-            instance,
-        )?;
+        drop(error);
+        let shared = self.shared_errors(alloc, instance, (met, Vec::new(alloc)))?;
         Ok(first_of(shared))
     }
 
@@ -268,15 +296,10 @@ impl<K: Validate, M: Matcher> Validator<K, M> {
     {
         let (met, errors) = self.errors(alloc, instance, MatchAssumptions::new(alloc))?;
         if !met.met_unassumed() {
+            drop(met);
             return Ok(errors);
         }
-        let shared = errors_under_each(
-            alloc,
-            |matches| self.errors(alloc, instance, matches),
-            (met, errors),
-            instance,
-        )?;
-        Ok(shared)
+        self.shared_errors(alloc, instance, (met, errors))
     }
 
     // The unit of the root's node, where nothing is assumed.
@@ -302,8 +325,15 @@ impl<K: Validate, M: Matcher> Validator<K, M> {
             &place,
             &path,
             &mut context,
-        )?;
-        Ok((context.into_matches(), unit))
+        );
+        let met = context.into_matches();
+        match unit {
+            Ok(unit) => Ok((met, unit)),
+            Err(refused) => {
+                drop(met);
+                Err(refused)
+            }
+        }
     }
 
     // The units of the root's node; where its run meets an unfinished match, those of the errors that every outcome of the
@@ -320,14 +350,11 @@ impl<K: Validate, M: Matcher> Validator<K, M> {
     {
         let (met, unit) = self.unit(alloc, instance)?;
         if !met.met_unassumed() {
+            drop(met);
             return Ok(unit);
         }
-        let shared = errors_under_each(
-            alloc,
-            |matches| self.errors(alloc, instance, matches),
-            (met, Vec::new(alloc)),
-            instance,
-        )?;
+        drop(unit);
+        let shared = self.shared_errors(alloc, instance, (met, Vec::new(alloc)))?;
         unit_of_errors(alloc, shared)
     }
 

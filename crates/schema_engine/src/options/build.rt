@@ -122,6 +122,8 @@ impl ValidationOptions {
         self.check(alloc, resolver, metas, &root)?;
         let compiled = compile(alloc, resolver, table, &self.compiling, nested, root)?;
         let nodes = compiled.nodes;
+        drop(compiled.keys);
+        drop(compiled.reservations);
         let validator = of_compiled(table, resolver, matcher, nodes, SchemaNode(0), draft)?;
         Ok(validator)
     }

@@ -5,7 +5,7 @@ ghost use Rattle.schema_meaning.specs.MapPointers.{entry_key};
 ghost use Rattle.schema_keys.specs.Alone.{RefusesKeyAlone};
 ghost use Rattle.schema_keys.specs.Compiling.{resolving_parts};
 ghost use Rattle.schema_keys.specs.KeyViews.{key_of};
-ghost use Rattle.schema_engine.specs.Entries.{FailsEntry, HoldsPlaces, IsCompiledAlone, IsEntry, IsLeftOut, IsPut};
+ghost use Rattle.schema_engine.specs.Entries.{FailsEntry, HoldsPlaces, IsCompiledAlone, IsEntry, IsLeftOut, IsMade, IsPut};
 ghost use Rattle.schema_engine.specs.Entries.{RefusesAlone, RefusesEntry, RefusesOneOf};
 ghost use Rattle.schema_engine.specs.Handed.{handed};
 ghost use Rattle.schema_engine.specs.Mapped.{EachHasPlainUnits, EachIsCompiledFrom, EachMeansPlainly, EachPointsPlainly};
@@ -80,8 +80,6 @@ impl ValidationOptions {
             self.now (view schema.now) (V.checked metas.now) e) }
     {
         let root = root_key(alloc, resolver, self, schema)?;
-        validate_schema(alloc, resolver, metas, root.draft, &root.place)?;
-        check_vocabularies::<S, K, T>(alloc, resolver, table, &self.compiling, &root)?;
         let building = MapBuilding {
             alloc,
             schema,
@@ -91,13 +89,7 @@ impl ValidationOptions {
             matcher,
             root: &root,
         };
-        match resolver.value(&root.place) {
-            Some(document) => {
-                let paths = schemas_in(alloc, document)?;
-                building.map_of(paths.as_slice())
-            }
-            None => building.map_of(&[]),
-        }
+        building.checked_map(metas)
     }
 }
 
@@ -114,6 +106,46 @@ struct MapBuilding<'p, S: Resolver, T, M> {
 }
 
 impl<'p, S: Resolver, T, M: Matcher> MapBuilding<'p, S, T, M> {
+    /// The map of the document, once the meta validators accept the schema and the root's vocabularies are declared.
+    fn checked_map<K: Validate, V: MetaValidators>(
+        &self,
+        metas: &V,
+    ) -> Result<ValidatorMap<K, M>, BuildError>
+    where
+        T: KeywordTable<K>,
+        requires root { IsRootKey (root_parts (S.resolving self.now.resolver.now) self.now.options.now)
+            (view self.now.schema.now) (key_of S.point self.now.root.now) }
+        ensures made { IfOk result (IsMade
+            (handed S.Resolver T.KeywordTable K.Validate M.Matcher.own self.now.resolver.now self.now.table.now self.now.matcher.now)
+            self.now.options.now (view self.now.schema.now) (key_of S.point self.now.root.now) (V.checked metas.now)) }
+        ensures refused { IfErr result (MapRefused
+            (handed S.Resolver T.KeywordTable K.Validate M.Matcher.own self.now.resolver.now self.now.table.now self.now.matcher.now)
+            self.now.options.now (view self.now.schema.now) (V.checked metas.now)) }
+    {
+        let options = self.options;
+        validate_schema(
+            self.alloc,
+            self.resolver,
+            metas,
+            self.root.draft,
+            &self.root.place,
+        )?;
+        check_vocabularies::<S, K, T>(
+            self.alloc,
+            self.resolver,
+            self.table,
+            &options.compiling,
+            self.root,
+        )?;
+        match self.resolver.value(&self.root.place) {
+            Some(document) => {
+                let paths = schemas_in(self.alloc, document)?;
+                self.map_of(paths.as_slice())
+            }
+            None => self.map_of(&[]),
+        }
+    }
+
     /// A copy of the root's key.
     fn root_again(&self) -> Result<SchemaKey<S::State>, OutOfMemory>
         ensures key { IfOk result (λ k. key_of S.point k ≡ key_of S.point self.now.root.now) }
@@ -174,6 +206,8 @@ impl<'p, S: Resolver, T, M: Matcher> MapBuilding<'p, S, T, M> {
         )?;
         let draft = self.root.draft;
         let nodes = compiled.nodes;
+        drop(compiled.keys);
+        drop(compiled.reservations);
         let validator = of_compiled(
             self.table,
             self.resolver,

@@ -13,7 +13,7 @@ returns-clause-answer g c =
     let m = g.M.Matcher.matching c.args.matcher.now in
     let k = g.K.Validate in
     plainly_from r table m k.words default_options (view c.args.schema.now) k.shape k.is_whole g.M.Matcher.matching c.in_ok-validator.validator (view c.args.instance.now)
-    (λ texts v. EvaluationAnswered v texts c.in_ok-evaluate.field-0) c.in_ok-validator.ensures.means c.in_ok-evaluate.ensures.senses
+    (λ texts v. EvaluationAnswered v texts c.in_ok-answer.field-0) c.in_ok-validator.ensures.means c.in_ok-answer.ensures.senses
 
 pub returns-clause-plain_units : goal.returns-clause-plain_units
 returns-clause-plain_units g c =
@@ -23,13 +23,13 @@ returns-clause-plain_units g c =
     let k = g.K.Validate in
     let built = c.in_ok-validator.ensures in
     plainly_with_units r table m k.words default_options (view c.args.schema.now) k.shape k.is_whole g.M.Matcher.matching c.in_ok-validator.validator (view c.args.instance.now)
-    (λ texts v units. UnitsAnswered v texts units c.in_ok-evaluate.field-0) built.means built.units c.in_ok-evaluate.ensures.plain
+    (λ texts v units. UnitsAnswered v texts units c.in_ok-answer.field-0) built.means built.units c.in_ok-answer.ensures.plain
 
 pub returns-clause-guarded : goal.returns-clause-guarded
-returns-clause-guarded g c = (c.in_ok-validator.validator, c.in_ok-validator.ensures.program, c.in_ok-evaluate.ensures.depth)
+returns-clause-guarded g c = (c.in_ok-validator.validator, c.in_ok-validator.ensures.program, c.in_ok-answer.ensures.depth)
 
 pub returns-clause-units : goal.returns-clause-units
-returns-clause-units g c = (c.in_ok-validator.validator, c.in_ok-validator.ensures.program, c.in_ok-evaluate.ensures.units)
+returns-clause-units g c = (c.in_ok-validator.validator, c.in_ok-validator.ensures.program, c.in_ok-answer.ensures.units)
 
 pub returns-in_err-validator-clause-refused : goal.returns-in_err-validator-clause-refused
 returns-in_err-validator-clause-refused g c =

@@ -14,10 +14,10 @@ returns-clause-answer g c =
     let m = g.M.Matcher.matching c.args.matcher.now in
     let k = g.K.Validate in
     plainly_from r table m k.words default_options (view c.args.schema.now) k.shape k.is_whole g.M.Matcher.matching c.in_ok-validator.validator (view c.args.instance.now)
-    (λ texts v. ErrorsAnswered v texts c.in_ok-iter_errors.field-0) c.in_ok-validator.ensures.means c.in_ok-iter_errors.ensures.senses
+    (λ texts v. ErrorsAnswered v texts c.in_ok-answer.field-0) c.in_ok-validator.ensures.means c.in_ok-answer.ensures.senses
 
 pub returns-clause-guarded : goal.returns-clause-guarded
-returns-clause-guarded g c = (c.in_ok-validator.validator, c.in_ok-validator.ensures.program, c.in_ok-iter_errors.ensures.depth)
+returns-clause-guarded g c = (c.in_ok-validator.validator, c.in_ok-validator.ensures.program, c.in_ok-answer.ensures.depth)
 
 pub returns-clause-leads : goal.returns-clause-leads
 returns-clause-leads g c =
@@ -29,7 +29,7 @@ returns-clause-leads g c =
       c.in_ok-validator.validator,
       built.program,
       each_points r table m k.words default_options (view c.args.schema.now) k.shape g.M.Matcher.matching c.in_ok-validator.validator k.is_whole built.means built.points
-          (view c.args.instance.now) c.in_ok-iter_errors.field-0 c.in_ok-iter_errors.ensures.points,
+          (view c.args.instance.now) c.in_ok-answer.field-0 c.in_ok-answer.ensures.points,
     )
 
 pub returns-in_err-validator-clause-refused : goal.returns-in_err-validator-clause-refused

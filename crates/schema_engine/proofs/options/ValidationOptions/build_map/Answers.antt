@@ -1,92 +1,27 @@
-use Rattle.std.proofs.Common.{◌≡◌, ◌∙◌, [], Bool, List, subst, sym}
-use Rattle.std.specs.Prelude.{IfErr, IfOk, None, Some, flat_map, option_map, string_bytes}
-use Rattle.std.proofs.lemmas.Result.{IfErr-weaker, IfOk-weaker, err_from_is_err_and}
+use Rattle.std.proofs.lemmas.Result.{IfOk-weaker}
 use Rattle.serde_json.specs.View.{view}
-use Rattle.schema_definitions.specs.Instance.{Place}
-use Rattle.schema_keywords.specs.KeywordViews.{draft_of}
-use Rattle.schema_meaning.specs.Refusals.{undeclared}
-use Rattle.schema_keys.specs.Alone.{RefusesVocabularies}
-use Rattle.schema_keys.specs.Builtins.{builtin}
-use Rattle.schema_compiler.specs.Compilation.{all_parts}
-use Rattle.schema_keys.specs.Compiling.{Each}
 use Rattle.schema_keys.specs.KeyViews.{key_of}
-use Rattle.schema_engine.specs.DocumentSchemas.{IndicesFit}
-use Rattle.schema_engine.specs.Entries.{HoldsPlaces, RefusesOneOf}
-use Rattle.schema_engine.specs.Handed.{Options, handed}
-use Rattle.schema_engine.proofs.DocumentMap.{schemas_of}
-use Rattle.schema_engine.proofs.MapAnswers.{IsMap, is_built, is_map, refuses_entry, refuses_schema, refuses_vocabularies}
+use Rattle.schema_engine.specs.Handed.{handed}
+use Rattle.schema_engine.proofs.MapAnswers.{IsMap, is_built, is_map}
 use Rattle.schema_engine.proofs.options.ValidationOptions.build_map.Goals as goal
-
-pub returns-in_err-validate_schema-clause-refused :
-    goal.returns-in_err-validate_schema-clause-refused
-returns-in_err-validate_schema-clause-refused g c =
-    let h = handed g.S.Resolver g.T.KeywordTable g.K.Validate g.M.Matcher c.args.resolver.now c.args.table.now c.args.matcher.now in
-    let root = key_of g.S.Resolver.point c.in_ok-root.root in
-    let p = err_from_is_err_and c.from_residual-in_err-validate_schema.result c.from_residual-in_err-validate_schema.ensures.1 in
-    rw (p.1, p.2) (refuses_schema h c.args.self.now (view c.args.schema.now) root c.in_ok-root.ensures.key (g.V.MetaValidators.checked c.args.metas.now) _ c.in_err-validate_schema.ensures.refused)
-
-pub returns-in_err-check_vocabularies-clause-refused :
-    goal.returns-in_err-check_vocabularies-clause-refused
-returns-in_err-check_vocabularies-clause-refused g c =
-    let h = handed g.S.Resolver g.T.KeywordTable g.K.Validate g.M.Matcher c.args.resolver.now c.args.table.now c.args.matcher.now in
-    let root = key_of g.S.Resolver.point c.in_ok-root.root in
-    let inside = c.self.inside in
-    let e = c.in_err-check_vocabularies.field-0.0 in
-    let why = λ (texts : Bool). subst (λ (o : Options). RefusesVocabularies (all_parts h.resolver (record { owns = h.table.owns; builtin = builtin; script = h.table.script }) o.formats o.declared h.matcher (h.words texts) o.draft o.base) root e) c.self.view_is
-    (c.in_err-check_vocabularies.ensures.refused h.matcher (h.words texts) (option_map draft_of inside.draft) (option_map string_bytes inside.base)) in
-    let p = err_from_is_err_and c.from_residual-in_err-check_vocabularies.result c.from_residual-in_err-check_vocabularies.ensures.1 in
-    rw (p.1, p.2) (refuses_vocabularies h c.args.self.now (view c.args.schema.now) root c.in_ok-root.ensures.key (g.V.MetaValidators.checked c.args.metas.now) e why)
-
-pub returns-in-Some : goal.returns-in-Some
-returns-in-Some g c =
-    let h = handed g.S.Resolver g.T.KeywordTable g.K.Validate g.M.Matcher c.args.resolver.now c.args.table.now c.args.matcher.now in
-    let options = c.args.self.now in
-    let schema = view c.args.schema.now in
-    let refuses = g.V.MetaValidators.checked c.args.metas.now in
-    let root = key_of g.S.Resolver.point c.in_ok-root.root in
-    let key = c.in_ok-root.ensures.key in
-    let inside = c.self.inside in
-    let declared = λ (texts : Bool). subst (λ (o : Options). flat_map (undeclared (all_parts h.resolver (record { owns = h.table.owns; builtin = builtin; script = h.table.script }) o.formats o.declared h.matcher (h.words texts) o.draft o.base)) root.target.vocabularies ≡ []) c.self.view_is
-    (c.in_ok-check_vocabularies.ensures.declared h.matcher (h.words texts) (option_map draft_of inside.draft) (option_map string_bytes inside.base)) in
-    let document = view c.in-Some.document.now in
-    let made = c.map_of.result in
-    let refused : IfErr made (RefusesOneOf h options root (schemas_of (Some document))) =
-    subst (λ (ps : List Place). IfErr made (RefusesOneOf h options root ps)) (c.as_slice.ensures.value ∙ c.in_ok-paths-in-Some.ensures.schemas) c.map_of.ensures.refused in
-    let held : IfOk made (HoldsPlaces h options schema root (schemas_of (Some document))) =
-    subst (λ (ps : List Place). IfOk made (HoldsPlaces h options schema root ps)) (c.as_slice.ensures.value ∙ c.in_ok-paths-in-Some.ensures.schemas) c.map_of.ensures.holds in
-    let all = IfOk-weaker made _ (IsMap h options schema) (is_map h options schema root key declared (g.met.S.Resolver.inside c.args.resolver.now) (Some document) (sym c.in-Some.ensures.value) (subst (Each IndicesFit) c.in_ok-paths-in-Some.ensures.schemas c.in_ok-paths-in-Some.ensures.fit)) held in
-    record {
-      holds = IfOk-weaker made _ _ (λ m is. is.holds) all;
-      means = IfOk-weaker made _ _ (λ m is. is.means) all;
-      units = IfOk-weaker made _ _ (λ m is. is.units) all;
-      points = IfOk-weaker made _ _ (λ m is. is.points) all;
-      programs = IfOk-weaker made _ _ (λ m is. is.programs) all;
-      at_each = IfOk-weaker made _ _ (λ m is. is.at_each) all;
-      built = IfOk-weaker made _ _ (λ m is. is_built h options schema root key declared refuses c.in_ok-validate_schema.ensures.accepted) all;
-      refused = IfErr-weaker made _ _ (refuses_entry h options schema root key refuses (Some document) (sym c.in-Some.ensures.value)) refused;
-    }
 
 pub returns : goal.returns
 returns g c =
     let h = handed g.S.Resolver g.T.KeywordTable g.K.Validate g.M.Matcher c.args.resolver.now c.args.table.now c.args.matcher.now in
     let options = c.args.self.now in
     let schema = view c.args.schema.now in
-    let refuses = g.V.MetaValidators.checked c.args.metas.now in
     let root = key_of g.S.Resolver.point c.in_ok-root.root in
     let key = c.in_ok-root.ensures.key in
-    let inside = c.self.inside in
-    let declared = λ (texts : Bool). subst (λ (o : Options). flat_map (undeclared (all_parts h.resolver (record { owns = h.table.owns; builtin = builtin; script = h.table.script }) o.formats o.declared h.matcher (h.words texts) o.draft o.base)) root.target.vocabularies ≡ []) c.self.view_is
-    (c.in_ok-check_vocabularies.ensures.declared h.matcher (h.words texts) (option_map draft_of inside.draft) (option_map string_bytes inside.base)) in
-    let made = c.map_of-in-None.result in
-    let held : IfOk made (HoldsPlaces h options schema root (schemas_of None)) = c.map_of-in-None.ensures.holds in
-    let all = IfOk-weaker made _ (IsMap h options schema) (is_map h options schema root key declared (g.met.S.Resolver.inside c.args.resolver.now) None (sym c.in-None.ensures.value) tt) held in
+    let result = c.checked_map.result in
+    let made = c.checked_map.ensures.made in
+    let all = IfOk-weaker result _ (IsMap h options schema) (λ m is. is_map h options schema root key is.declared (g.met.S.Resolver.inside c.args.resolver.now) is.document is.stands is.fit m is.held) made in
     record {
-      holds = IfOk-weaker made _ _ (λ m is. is.holds) all;
-      means = IfOk-weaker made _ _ (λ m is. is.means) all;
-      units = IfOk-weaker made _ _ (λ m is. is.units) all;
-      points = IfOk-weaker made _ _ (λ m is. is.points) all;
-      programs = IfOk-weaker made _ _ (λ m is. is.programs) all;
-      at_each = IfOk-weaker made _ _ (λ m is. is.at_each) all;
-      built = IfOk-weaker made _ _ (λ m is. is_built h options schema root key declared refuses c.in_ok-validate_schema.ensures.accepted) all;
-      refused = IfErr-weaker made _ _ (refuses_entry h options schema root key refuses None (sym c.in-None.ensures.value)) c.map_of-in-None.ensures.refused;
+      holds = IfOk-weaker result _ _ (λ m is. is.holds) all;
+      means = IfOk-weaker result _ _ (λ m is. is.means) all;
+      units = IfOk-weaker result _ _ (λ m is. is.units) all;
+      points = IfOk-weaker result _ _ (λ m is. is.points) all;
+      programs = IfOk-weaker result _ _ (λ m is. is.programs) all;
+      at_each = IfOk-weaker result _ _ (λ m is. is.at_each) all;
+      built = IfOk-weaker result _ _ (λ m is. is_built h options schema root key is.declared (g.V.MetaValidators.checked c.args.metas.now) is.accepted) made;
+      refused = c.checked_map.ensures.refused;
     }

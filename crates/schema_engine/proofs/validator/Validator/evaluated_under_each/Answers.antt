@@ -1,16 +1,13 @@
-use Rattle.std.proofs.Common.{rules, ◌≡◌, ◌∙◌, ◌<◌, true, suc, [], sym, arith, length}
+use Rattle.std.proofs.Common.{◌≡◌, ◌∙◌, true, suc, [], sym, arith, length}
 use Rattle.std.specs.Prelude.{is_some}
 use Rattle.serde_json.specs.View.{view}
-use Rattle.schema_definitions.specs.Keywords.{for_all}
 use Rattle.schema_definitions.specs.Laws.{EachKeeps}
 use Rattle.schema_meaning.specs.Numbered.{left, subject_in}
-use Rattle.schema_definitions.specs.Unfinished.{starting}
 use Rattle.schema_meaning.proofs.TurnsGiveRuns.{keeps_of_turns}
 use Rattle.schema_nodes.specs.NodeTable.{numbered}
 use Rattle.schema_contexts.proofs.Matches.{nothing_twice}
 use Rattle.schema_parts.proofs.Replies.{if_ok_mono}
-use Rattle.schema_engine.specs.Answers.{MeetsMatches, SaysErrors}
-use Rattle.schema_engine.proofs.ErrorSearches.{evaluated_first, evaluated_searched, units_first, units_searched}
+use Rattle.schema_engine.proofs.ErrorSearches.{evaluated_first, units_first, units_searched}
 use Rattle.schema_engine.proofs.Searches.{none_of}
 use Rattle.schema_engine.proofs.validator.Validator.evaluated_under_each.Goals as goal
 
@@ -42,27 +39,6 @@ returns-then-not-met_unassumed-clause-units g c = λ texts speaks.
       λ n more. units_first (w.words texts) each (g.M.Matcher.matching p.matcher) nodes d p.root n texts c.in_ok-met.unit (says texts speaks nothing_twice n (omega (arith, more))),
     )
 
-pub returns-clause-depth : goal.returns-clause-depth
-returns-clause-depth g c = if_ok_mono c.unit_of_errors.result _ _ (λ u made texts speaks.
-    let w = g.K.Validate in
-    let p = c.args.self.now in
-    let d = view c.args.instance.now in
-    let nodes = numbered w.shape p.nodes in
-    let deep = left nodes (length p.nodes) p.root (subject_in d []) [] in
-    let each : EachKeeps (w.words texts) = λ m. (w.absorbed m, keeps_of_turns (w.words texts) m (w.absorbed m) (w.remaining m) (w.can_be texts m) (w.ends texts m) (w.fits texts m) (g.met.K.Validate.turn_laws texts m) (g.met.K.Validate.function_laws texts m)) in
-    let meets = c.in_ok-met.ensures.meets in
-    let none : c.in_ok-met.met.assumptions ≡ [] = c.in_ok-met.ensures.assumes in (
-      suc deep,
-      λ n more.
-          let enough : deep < n = omega (arith, more) in
-          evaluated_searched (w.words texts) each (g.M.Matcher.matching p.matcher) nodes d p.root n _ _ (λ given r es end step. search rules) c.in_ok-met.met none texts
-          (λ as' r es end step once.
-          let fact : SaysErrors w.shape w.words w.is_whole g.M.Matcher.matching p d as' es.items = search rules in
-          let met : MeetsMatches w.shape w.words w.is_whole g.M.Matcher.matching p d for_all (starting as') r = search rules in
-          (fact texts speaks once n enough, met texts speaks once n enough))
-          (meets texts speaks nothing_twice n enough) c.in_ok-shared.shared c.in_ok-shared.ensures.errors c.in_ok-shared.ensures.verdict c.in_ok-shared.ensures.gives u (made texts),
-    )) c.unit_of_errors.ensures.unit
-
 pub returns-clause-units : goal.returns-clause-units
 returns-clause-units g c = if_ok_mono c.unit_of_errors.result _ _ (λ u made texts speaks.
     let w = g.K.Validate in
@@ -77,3 +53,6 @@ returns-clause-units g c = if_ok_mono c.unit_of_errors.result _ _ (λ u made tex
       suc deep,
       λ n more branch completion. absurd (units_searched (w.words texts) each (g.M.Matcher.matching p.matcher) nodes d p.root n c.in_ok-met.met none some (meets texts speaks nothing_twice n (omega (arith, more))) branch),
     )) c.unit_of_errors.ensures.unit
+
+pub returns-clause-depth : goal.returns-clause-depth
+returns-clause-depth g c = if_ok_mono c.unit_of_errors.result _ _ (λ u made. c.in_ok-shared.ensures.shares.units c.in_ok-met.ensures.meets u made) c.unit_of_errors.ensures.unit

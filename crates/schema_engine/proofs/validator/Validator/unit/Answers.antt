@@ -6,18 +6,18 @@ use Rattle.schema_definitions.specs.Unfinished.{starting}
 use Rattle.schema_engine.specs.Answers.{MeetsMatches, SaysUnit}
 use Rattle.schema_engine.proofs.validator.Validator.unit.Goals as goal
 
-pub returns-clause-says : goal.returns-clause-says
-returns-clause-says g c =
+pub returns-in-Ok-clause-says : goal.returns-in-Ok-clause-says
+returns-in-Ok-clause-says g c =
     let d = view c.args.instance.now in
-    subst (λ p. SaysUnit g.K.Validate.shape g.K.Validate.words g.K.Validate.is_whole g.M.Matcher.matching p d [] c.in_ok-unit.unit) c.self.view_is
+    subst (λ p. SaysUnit g.K.Validate.shape g.K.Validate.words g.K.Validate.is_whole g.M.Matcher.matching p d [] c.in-Ok.unit) c.self.view_is
     (λ texts speaks once n more.
     (rw (c.new-path.ensures.empty, c.new-context.ensures.empty, c.root-place.ensures.root) at
-    (c.in_ok-unit.ensures.gives d texts (ap (λ (p : Place). subject_at d p) c.root-place.ensures.root) (record { keywords = λ t. (speaks t).1; instance = λ t. (speaks t).0 }))) once n more)
+    (c.in-Ok.ensures.gives d texts (ap (λ (p : Place). subject_at d p) c.root-place.ensures.root) (record { keywords = λ t. (speaks t).1; instance = λ t. (speaks t).0 }))) once n more)
 
-pub returns-clause-meets : goal.returns-clause-meets
-returns-clause-meets g c =
+pub returns-in-Ok-clause-meets : goal.returns-in-Ok-clause-meets
+returns-in-Ok-clause-meets g c =
     let d = view c.args.instance.now in
-    subst (λ p. MeetsMatches g.K.Validate.shape g.K.Validate.words g.K.Validate.is_whole g.M.Matcher.matching p d for_units (starting []) c.into_matches.result) c.self.view_is
+    subst (λ p. MeetsMatches g.K.Validate.shape g.K.Validate.words g.K.Validate.is_whole g.M.Matcher.matching p d for_units (starting []) c.into_matches-met.result) c.self.view_is
     (λ texts speaks once n more.
-    rw c.into_matches.ensures.remembered ((rw (c.new-path.ensures.empty, c.new-context.ensures.empty, c.root-place.ensures.root) at
-    (c.in_ok-unit.ensures.meets d texts (ap (λ (p : Place). subject_at d p) c.root-place.ensures.root) (record { keywords = λ t. (speaks t).1; instance = λ t. (speaks t).0 }))) once n more))
+    rw c.into_matches-met.ensures.remembered ((rw (c.new-path.ensures.empty, c.new-context.ensures.empty, c.root-place.ensures.root) at
+    (c.in-Ok.ensures.meets d texts (ap (λ (p : Place). subject_at d p) c.root-place.ensures.root) (record { keywords = λ t. (speaks t).1; instance = λ t. (speaks t).0 }))) once n more))
