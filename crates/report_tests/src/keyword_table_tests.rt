@@ -1,28 +1,14 @@
 //! The table of the standard's keywords, cell by cell, and what keywords and vocabularies say of themselves.
+use crate::fixtures::{Rows, count_of, is_text, owned, wrong};
 use schema_keywords::keywords::*;
-use schema_reports::location::OutOfMemory;
 use serde_json::Value;
-use std::alloc::{AllocError, Global};
-use std::test::Fail;
-use test_rows::{column, text_at, wrong_row};
-
-/// What a draft says of a keyword, as the published table has it.
-#[derive(Clone, Copy, Debug, PartialEq, Eq)]
-enum Cell {
-    Absent,
-    Free,
-    Legacy,
-    Validation,
-    Applicator,
-    Unevaluated,
-    Content,
-}
-
-use Cell::{Absent, Applicator, Content, Free, Legacy, Unevaluated, Validation};
+use std::alloc::Global;
+use std::process::Abort;
+use test_rows::{column, text_at};
 
 /// Rows of the published table: name, priority, leaf, and a cell for each of the drafts 4, 6, 7, 2019-09 and 2020-12: `-`
 /// where it is not there, `F` with no need, `D` with no need in draft 4's form, or by the vocabulary `V` (validation),
-/// `A` (applicator), `U` (unevaluated), or `C` (content, as an annotation).
+/// `A` (applicator), `U` (unevaluated), or `C` (content, as an annotation). Those of priority 80 are custom ones.
 const ROWS: &str = r##"[
 ["type", 1, true, "D", "V", "V", "V", "V"],
 ["const", 5, true, "-", "V", "V", "V", "V"],
@@ -65,343 +51,313 @@ const ROWS: &str = r##"[
 ["unevaluatedItems", 61, false, "-", "-", "-", "A", "U"],
 ["$ref", 70, false, "F", "F", "F", "F", "F"],
 ["$recursiveRef", 71, false, "-", "-", "-", "F", "-"],
-["$dynamicRef", 72, false, "-", "-", "-", "-", "F"]
+["$dynamicRef", 72, false, "-", "-", "-", "-", "F"],
+["", 80, false, "-", "-", "-", "-", "-"],
+["Type", 80, false, "-", "-", "-", "-", "-"],
+["typ", 80, false, "-", "-", "-", "-", "-"],
+["types", 80, false, "-", "-", "-", "-", "-"],
+["$defs", 80, false, "-", "-", "-", "-", "-"],
+["then", 80, false, "-", "-", "-", "-", "-"],
+["else", 80, false, "-", "-", "-", "-", "-"],
+["$anchor", 80, false, "-", "-", "-", "-", "-"],
+["even", 80, false, "-", "-", "-", "-", "-"]
 ]"##;
 
-fn drafts() -> [Draft; 6] {
-    [
-        Draft::Draft4,
-        Draft::Draft6,
-        Draft::Draft7,
-        Draft::Draft201909,
-        Draft::Draft202012,
-        Draft::Unknown,
-    ]
-}
+/// What the published calls find: the draft, the vocabularies beside the standard's own, the name, and the form, as in a cell.
+const FOUND: &str = r#"[
+[4, "", "type", "D"],
+[2020, "", "type", "-"],
+[2020, "", "format", "F"],
+[6, "", "if", "-"],
+[7, "", "contentMediaType", "F"],
+[2019, "", "$recursiveRef", "F"],
+[0, "content", "contentMediaType", "C"],
+[2019, "applicator", "prefixItems", "-"]
+]"#;
 
-/// The column of a draft's cells.
-fn column_of(draft: Draft) -> usize {
-    match draft {
-        Draft::Draft4 => 3,
-        Draft::Draft6 => 4,
-        Draft::Draft7 => 5,
-        Draft::Draft201909 => 6,
-        Draft::Draft202012 | Draft::Unknown => 7,
-    }
-}
-
-fn cell_in(draft: Draft, row: &Value) -> Cell {
-    match text_at(row, column_of(draft)) {
-        "F" => Free,
-        "D" => Legacy,
-        "V" => Validation,
-        "A" => Applicator,
-        "U" => Unevaluated,
-        "C" => Content,
-        _ => Absent,
-    }
-}
-
-fn has_vocabularies(draft: Draft) -> bool {
-    match draft {
-        Draft::Draft4 | Draft::Draft6 | Draft::Draft7 => false,
-        Draft::Draft201909 | Draft::Draft202012 | Draft::Unknown => true,
-    }
-}
-
-fn form_in(cell: Cell) -> Option<KeywordForm> {
+/// The form that a cell says, if the keyword is there.
+fn form_in(cell: &str) -> Option<KeywordForm> {
     match cell {
-        Absent => None,
-        Legacy => Some(KeywordForm::Draft4),
-        Content => Some(KeywordForm::Annotating),
-        Free | Validation | Applicator | Unevaluated => Some(KeywordForm::Plain),
+        "-" => None,
+        "D" => Some(KeywordForm::Draft4),
+        "C" => Some(KeywordForm::Annotating),
+        _ => Some(KeywordForm::Plain),
     }
 }
 
-fn need_in(cell: Cell) -> Option<Vocabulary> {
+/// The vocabulary that a cell says, if there is a need of one.
+fn need_in(cell: &str) -> Option<Vocabulary> {
     match cell {
-        Absent | Free | Legacy => None,
-        Validation => Some(Vocabulary::Validation),
-        Applicator => Some(Vocabulary::Applicator),
-        Unevaluated => Some(Vocabulary::Unevaluated),
-        Content => Some(Vocabulary::Content),
+        "V" => Some(Vocabulary::Validation),
+        "A" => Some(Vocabulary::Applicator),
+        "U" => Some(Vocabulary::Unevaluated),
+        "C" => Some(Vocabulary::Content),
+        _ => None,
     }
 }
 
-/// The four vocabularies that keywords need, without one of them.
-fn needed_but(alloc: Global, left_out: &Option<Vocabulary>) -> Result<VocabularySet, AllocError> {
+/// The four vocabularies that keywords need, without the one that this cell says.
+fn needed_but(rt: &impl Abort, alloc: Global, left_out: &str) -> VocabularySet {
     let mut set = VocabularySet::new(alloc);
-    for vocabulary in [
-        Vocabulary::Validation,
-        Vocabulary::Applicator,
-        Vocabulary::Unevaluated,
-        Vocabulary::Content,
-    ] {
-        let is_left_out = match left_out {
-            None => false,
-            Some(other) => vocabulary == *other,
-        };
-        if is_left_out {
+    for cell in ["V", "A", "U", "C"] {
+        if cell == left_out {
             continue;
         }
-        set.add(vocabulary)?;
-    }
-    Ok(set)
-}
-
-fn form_found(draft: Draft, set: &VocabularySet, name: &str) -> Option<KeywordForm> {
-    match get_for_draft(draft, set, name) {
-        None => None,
-        Some(entry) => Some(entry.form),
-    }
-}
-
-/// The form that is found with every vocabulary, and without the one that the cell needs.
-fn forms_found(
-    alloc: Global,
-    draft: Draft,
-    name: &str,
-    cell: Cell,
-) -> Result<(Option<KeywordForm>, Option<KeywordForm>), AllocError> {
-    let all = needed_but(alloc, &None)?;
-    let others = needed_but(alloc, &need_in(cell))?;
-    Ok((
-        form_found(draft, &all, name),
-        form_found(draft, &others, name),
-    ))
-}
-
-/// The forms that the published table has there.
-fn forms_published(draft: Draft, cell: Cell) -> (Option<KeywordForm>, Option<KeywordForm>) {
-    let form = form_in(cell);
-    if has_vocabularies(draft) && need_in(cell).is_some() {
-        (form, None)
-    } else {
-        (form, form)
-    }
-}
-
-/// Whether each draft has the row's form, with every vocabulary and without the one that its cell needs.
-fn is_found(alloc: Global, row: &Value) -> Result<bool, OutOfMemory> {
-    for draft in drafts() {
-        let cell = cell_in(draft, row);
-        if forms_found(alloc, draft, text_at(row, 0), cell)? != forms_published(draft, cell) {
-            return Ok(false);
+        if let Some(vocabulary) = need_in(cell) {
+            set.add(vocabulary).expect(rt, "memory");
         }
     }
-    Ok(true)
+    set
 }
 
-#[test]
-fn walks_every_name_in_every_draft(rt: HostRuntime) -> Result<(), serde_json::Error> {
-    let alloc = rt.alloc();
-    assert_eq!(rt; wrong_row(alloc, ROWS, |row| is_found(alloc, row))?, None);
-    Ok(())
-}
-
-/// Whether a keyword of the row's name has its priority and is a leaf where the row says so.
-fn is_known(row: &Value) -> bool {
-    let Some(builtin) = BuiltinKeyword::named(text_at(row, 0)) else {
-        return false;
-    };
-    let keyword = Keyword::from(builtin);
-    builtin.as_str() == text_at(row, 0)
-        && column(row, 1).as_u64() == Some(u64::from(keyword_priority(&keyword)))
-        && column(row, 2).as_bool() == Some(keyword_is_leaf(&keyword))
-}
-
-#[test]
-fn knows_every_name(rt: HostRuntime) -> Result<(), serde_json::Error> {
-    let wrong = wrong_row(rt.alloc(), ROWS, |row| Ok(is_known(row)))?;
-    assert_eq!(rt; wrong, None);
-    for name in [
-        "", "Type", "typ", "types", "$defs", "then", "else", "$anchor",
-    ] {
-        assert!(rt; BuiltinKeyword::named(name).is_none(), "{name}");
+/// Whether a draft finds the keyword of a row in this form.
+fn finds(draft: Draft, set: &VocabularySet, row: &Value, form: Option<KeywordForm>) -> bool {
+    match get_for_draft(draft, set, text_at(row, 0)) {
+        None => form.is_none(),
+        Some(entry) => form == Some(entry.form),
     }
-    Ok(())
 }
 
-/// Whether each draft, with all vocabularies, has the row's form, priority and leaf.
-fn has_its_row(all: &VocabularySet, row: &Value) -> bool {
-    for draft in drafts() {
-        let published = form_in(cell_in(draft, row));
-        match builtin_row(draft, all, text_at(row, 0)) {
-            None => {
-                if published.is_some() {
-                    return false;
-                }
-            }
-            Some(found) => {
-                if published != Some(found.entry.form)
-                    || column(row, 1).as_u64() != Some(u64::from(found.priority))
-                    || column(row, 2).as_bool() != Some(found.is_leaf)
-                {
-                    return false;
-                }
-            }
+/// Whether a draft, with all vocabularies, has the row's priority and leaf and this form.
+fn has_row(draft: Draft, all: &VocabularySet, row: &Value, form: Option<KeywordForm>) -> bool {
+    match builtin_row(draft, all, text_at(row, 0)) {
+        None => form.is_none(),
+        Some(found) => {
+            form == Some(found.entry.form)
+                && column(row, 1).as_u64() == Some(u64::from(found.priority))
+                && column(row, 2).as_bool() == Some(found.is_leaf)
+        }
+    }
+}
+
+/// Whether a draft has the keyword of a row in its cell's form with every vocabulary, and without the one that the cell needs
+/// where it needs none: the drafts before 2019-09, whose cells come before the sixth column, have no vocabularies.
+fn is_in_draft(
+    rt: &impl Abort,
+    alloc: Global,
+    draft: Draft,
+    number: usize,
+    all: &VocabularySet,
+    row: &Value,
+) -> bool {
+    let cell = text_at(row, number);
+    let form = form_in(cell);
+    let without = if number < 6 || cell == "F" {
+        form
+    } else {
+        None
+    };
+    let others = needed_but(rt, alloc, cell);
+    let is_found = finds(draft, &others, row, without);
+    drop(others);
+    is_found && finds(draft, all, row, form) && has_row(draft, all, row, form)
+}
+
+/// Whether each draft has the keyword of a row as the row says.
+fn is_in_drafts(rt: &impl Abort, alloc: Global, all: &VocabularySet, row: &Value) -> bool {
+    for (draft, number) in [
+        (Draft::Draft4, 3),
+        (Draft::Draft6, 4),
+        (Draft::Draft7, 5),
+        (Draft::Draft201909, 6),
+        (Draft::Draft202012, 7),
+        (Draft::Unknown, 7),
+    ] {
+        if !is_in_draft(rt, alloc, draft, number, all, row) {
+            return false;
         }
     }
     true
 }
 
+/// The keyword of this name.
+fn keyword_named(rt: &impl Abort, alloc: Global, name: &str) -> Keyword {
+    match BuiltinKeyword::named(name) {
+        Some(builtin) => Keyword::from(builtin),
+        None => Keyword::custom(owned(rt, alloc, name)),
+    }
+}
+
+/// Whether a keyword has the row's priority, is a leaf where the row says so, and is a custom one where its priority is 80.
+fn is_of_row(keyword: &Keyword, row: &Value) -> bool {
+    let priority = keyword_priority(keyword);
+    let has_name = match keyword {
+        Keyword::Builtin(builtin) => priority != 80 && builtin.as_str() == text_at(row, 0),
+        Keyword::Custom(_) => priority == 80,
+    };
+    has_name
+        && column(row, 1).as_u64() == Some(u64::from(priority))
+        && column(row, 2).as_bool() == Some(keyword_is_leaf(keyword))
+}
+
+/// Whether a keyword is printed so.
+fn prints(rt: &impl Abort, alloc: Global, keyword: &Keyword, want: &str) -> bool {
+    is_text(format!(in alloc; "{keyword}").expect(rt, "memory"), want)
+}
+
+/// Whether the keyword of a row's name is the row's, and each draft has it as the row says.
+pub(crate) fn is_as_published(rt: &impl Abort, alloc: Global, row: &Value) -> bool {
+    let all = needed_but(rt, alloc, "");
+    let is_in_drafts = is_in_drafts(rt, alloc, &all, row);
+    drop(all);
+    let name = text_at(row, 0);
+    let keyword = keyword_named(rt, alloc, name);
+    let is_known = is_of_row(&keyword, row) && prints(rt, alloc, &keyword, name);
+    drop(keyword);
+    is_in_drafts && is_known
+}
+
+/// The draft of this year or number, or an unknown one.
+fn draft_of(number: Option<usize>) -> Draft {
+    match number {
+        Some(4) => Draft::Draft4,
+        Some(6) => Draft::Draft6,
+        Some(7) => Draft::Draft7,
+        Some(2019) => Draft::Draft201909,
+        Some(2020) => Draft::Draft202012,
+        _ => Draft::Unknown,
+    }
+}
+
+/// The set of the vocabulary of this name.
+fn set_named(rt: &impl Abort, alloc: Global, name: &str) -> VocabularySet {
+    let none = VocabularySet::new(alloc);
+    match name {
+        "content" => none.with(Vocabulary::Content).expect(rt, "memory"),
+        "applicator" => none.with(Vocabulary::Applicator).expect(rt, "memory"),
+        _ => none,
+    }
+}
+
+/// Whether the keyword is the one of this name.
+fn is_named(keyword: BuiltinKeyword, name: &str) -> bool {
+    match keyword {
+        BuiltinKeyword::TypeKeyword => name == "type",
+        BuiltinKeyword::Format => name == "format",
+        BuiltinKeyword::ContentMediaType => name == "contentMediaType",
+        BuiltinKeyword::RecursiveRef => name == "$recursiveRef",
+        _ => false,
+    }
+}
+
+/// Whether a row's call finds what it says.
+pub(crate) fn is_found(rt: &impl Abort, alloc: Global, row: &Value) -> bool {
+    let set = set_named(rt, alloc, text_at(row, 1));
+    let found = get_for_draft(draft_of(count_of(column(row, 0))), &set, text_at(row, 2));
+    drop(set);
+    let form = form_in(text_at(row, 3));
+    match found {
+        None => form.is_none(),
+        Some(entry) => form == Some(entry.form) && is_named(entry.keyword, text_at(row, 2)),
+    }
+}
+
 #[test]
-fn finds_the_rows_of_every_draft(rt: HostRuntime) -> Result<(), serde_json::Error> {
-    let all = needed_but(rt.alloc(), &None)?;
-    let wrong = wrong_row(rt.alloc(), ROWS, |row| Ok(has_its_row(&all, row)))?;
-    assert_eq!(rt; wrong, None);
+fn has_every_row_in_every_draft(rt: HostRuntime) -> Result<(), serde_json::Error> {
+    assert_eq!(rt; wrong(&rt, rt.alloc(), ROWS, Rows::Keywords)?, None);
     Ok(())
 }
 
-fn entry(keyword: BuiltinKeyword, form: KeywordForm) -> Option<BuiltinEntry> {
-    Some(BuiltinEntry { keyword, form })
-}
-
 #[test]
-fn answers_the_published_calls(rt: HostRuntime) {
-    let none = VocabularySet::new(rt.alloc());
-    let plain = KeywordForm::Plain;
-    let found = get_for_draft(Draft::Draft4, &none, "type");
-    assert_eq!(rt;
-        found,
-        entry(BuiltinKeyword::TypeKeyword, KeywordForm::Draft4)
-    );
-    assert_eq!(rt; get_for_draft(Draft::Draft202012, &none, "type"), None);
-    let found = get_for_draft(Draft::Draft202012, &none, "format");
-    assert_eq!(rt; found, entry(BuiltinKeyword::Format, plain));
-    assert_eq!(rt; get_for_draft(Draft::Draft6, &none, "if"), None);
-    let found = get_for_draft(Draft::Draft7, &none, "contentMediaType");
-    assert_eq!(rt; found, entry(BuiltinKeyword::ContentMediaType, plain));
-    let found = get_for_draft(Draft::Draft201909, &none, "$recursiveRef");
-    assert_eq!(rt; found, entry(BuiltinKeyword::RecursiveRef, plain));
-}
-
-#[test]
-fn answers_by_vocabulary(rt: HostRuntime) -> Result<(), AllocError> {
-    let content = VocabularySet::new(rt.alloc()).with(Vocabulary::Content)?;
-    let found = get_for_draft(Draft::Unknown, &content, "contentMediaType");
-    assert_eq!(rt;
-        found,
-        entry(BuiltinKeyword::ContentMediaType, KeywordForm::Annotating)
-    );
-    drop(content);
-    let applicator = VocabularySet::new(rt.alloc()).with(Vocabulary::Applicator)?;
-    assert_eq!(rt;
-        get_for_draft(Draft::Draft201909, &applicator, "prefixItems"),
-        None
-    );
+fn answers_the_published_calls(rt: HostRuntime) -> Result<(), serde_json::Error> {
+    assert_eq!(rt; wrong(&rt, rt.alloc(), FOUND, Rows::Found)?, None);
     Ok(())
 }
 
-#[test]
-fn prints_keywords(rt: HostRuntime) -> Result<(), Fail> {
-    let custom = Keyword::custom(String::from_str(rt.alloc(), "even")?);
-    assert!(rt; !keyword_is_leaf(&Keyword::Builtin(BuiltinKeyword::ContentSchema)));
-    assert!(rt; !keyword_is_leaf(&custom));
-    assert_eq!(rt; keyword_priority(&custom), 80);
-    assert_eq!(rt; format!(in rt.alloc(); "{custom}")?.as_str(), "even");
-    let keyword = Keyword::from(BuiltinKeyword::DynamicRef);
-    assert_eq!(rt;
-        format!(in rt.alloc(); "{keyword}")?.as_str(),
-        "$dynamicRef"
-    );
-    Ok(())
-}
-
-/// A vocabulary that is not the standard's.
-fn custom_vocabulary(alloc: Global, uri: &str) -> Result<Vocabulary, AllocError> {
-    Ok(Vocabulary::Custom(String::from_str(alloc, uri)?))
+/// Adds the vocabularies with these URIs, which are not the standard's.
+fn add_customs(rt: &impl Abort, alloc: Global, uris: &[&str], set: &mut VocabularySet) {
+    for uri in uris {
+        let custom = Vocabulary::Custom(owned(rt, alloc, uri));
+        set.add(custom).expect(rt, "memory");
+    }
 }
 
 /// A set of two custom vocabularies, one of them added twice, and of the one that asserts formats.
-fn a_set(alloc: Global) -> Result<VocabularySet, AllocError> {
+fn a_set(rt: &impl Abort, alloc: Global) -> VocabularySet {
     let mut set = VocabularySet::new(alloc);
-    for uri in ["http://v/y", "http://v/x", "http://v/y"] {
-        add_custom(alloc, &mut set, uri)?;
-    }
-    set.with(Vocabulary::FormatAssertion)
+    let uris = ["http://v/y", "http://v/x", "http://v/y"];
+    add_customs(rt, alloc, &uris, &mut set);
+    set.with(Vocabulary::FormatAssertion).expect(rt, "memory")
 }
 
-/// The same set, its vocabularies added in another order.
-fn turned(alloc: Global) -> Result<VocabularySet, AllocError> {
-    let mut set = VocabularySet::new(alloc).with(Vocabulary::FormatAssertion)?;
-    for uri in ["http://v/x", "http://v/y"] {
-        add_custom(alloc, &mut set, uri)?;
-    }
-    Ok(set)
-}
-
-fn add_custom(alloc: Global, set: &mut VocabularySet, uri: &str) -> Result<(), AllocError> {
-    set.add(custom_vocabulary(alloc, uri)?)
-}
-
-#[test]
-fn the_standards_vocabularies(rt: HostRuntime) {
-    let set = VocabularySet::new(rt.alloc());
-    assert!(rt; has_vocabulary(Draft::Draft202012, &set, &Vocabulary::Core));
-    assert!(rt; !set.contains(&Vocabulary::Core));
-    assert!(rt; has_vocabulary(Draft::Draft7, &set, &Vocabulary::Content));
-    assert!(rt; !has_vocabulary(Draft::Draft201909, &set, &Vocabulary::Content));
-}
-
-/// Whether a set has the vocabularies of `a_set`, and not the one that annotates formats.
-fn has_those(set: &VocabularySet, custom: &Vocabulary) -> bool {
-    let uris = set.custom();
-    set.contains(custom)
-        && set.contains(&Vocabulary::FormatAssertion)
-        && !set.contains(&Vocabulary::FormatAnnotation)
-        && uris.len() == 2
-        && uris.first().map(|uri| uri.as_str()) == Some("http://v/x")
-}
-
-#[test]
-fn keeps_vocabularies(rt: HostRuntime) -> Result<(), AllocError> {
-    let alloc = rt.alloc();
-    let custom = custom_vocabulary(alloc, "http://v/x")?;
-    assert!(rt; !VocabularySet::new(alloc).contains(&custom));
-    let set = a_set(alloc)?;
-    assert!(rt; has_those(&set, &custom));
-    Ok(())
+/// Whether a set is the same as one of the same vocabularies, added in another order.
+fn is_turned(rt: &impl Abort, alloc: Global, set: &VocabularySet) -> bool {
+    let none = VocabularySet::new(alloc);
+    let mut turned = none.with(Vocabulary::FormatAssertion).expect(rt, "memory");
+    add_customs(rt, alloc, &["http://v/x", "http://v/y"], &mut turned);
+    let is_same = set.same(&turned);
+    drop(turned);
+    is_same
 }
 
 /// Whether a set is the same as its copy, and another one once the copy has one vocabulary more.
-fn is_copied(set: &VocabularySet) -> Result<bool, AllocError> {
-    let copy = set.clone()?;
-    let same = copy.same(set);
-    let more = copy.with(Vocabulary::FormatAnnotation)?;
-    Ok(same && !more.same(set))
+fn is_copied(rt: &impl Abort, set: &VocabularySet) -> bool {
+    let copy = set.clone().expect(rt, "memory");
+    let is_same = copy.same(set);
+    let more = copy.with(Vocabulary::FormatAnnotation).expect(rt, "memory");
+    let is_more = !more.same(set);
+    drop(more);
+    is_same && is_more
+}
+
+/// Whether a set has two custom vocabularies, `http://v/x` the first of them, and of those for formats the one that asserts.
+fn has_those(set: &VocabularySet, custom: &Vocabulary) -> bool {
+    match set.custom() {
+        [first, _] => {
+            first.as_str() == "http://v/x"
+                && set.contains(custom)
+                && set.contains(&Vocabulary::FormatAssertion)
+                && !set.contains(&Vocabulary::FormatAnnotation)
+        }
+        _ => false,
+    }
+}
+
+/// Whether an empty set has the vocabularies that the drafts have by themselves, and no other.
+fn has_none(none: &VocabularySet, custom: &Vocabulary) -> bool {
+    has_vocabulary(Draft::Draft202012, none, &Vocabulary::Core)
+        && !none.contains(&Vocabulary::Core)
+        && has_vocabulary(Draft::Draft7, none, &Vocabulary::Content)
+        && !has_vocabulary(Draft::Draft201909, none, &Vocabulary::Content)
+        && !none.contains(custom)
 }
 
 #[test]
-fn vocabularies_have_no_order(rt: HostRuntime) -> Result<(), AllocError> {
-    let set = a_set(rt.alloc())?;
-    let other = turned(rt.alloc())?;
-    assert!(rt; set.same(&other));
-    Ok(())
-}
-
-#[test]
-fn copies_vocabularies(rt: HostRuntime) -> Result<(), AllocError> {
-    let set = a_set(rt.alloc())?;
-    assert!(rt; is_copied(&set)?);
-    Ok(())
+fn keeps_vocabularies_in_no_order(rt: HostRuntime) {
+    let custom = Vocabulary::Custom(owned(&rt, rt.alloc(), "http://v/x"));
+    let none = VocabularySet::new(rt.alloc());
+    let has_none = has_none(&none, &custom);
+    drop(none);
+    let set = a_set(&rt, rt.alloc());
+    let has_those = has_those(&set, &custom);
+    drop(custom);
+    let is_turned = is_turned(&rt, rt.alloc(), &set);
+    let is_copied = is_copied(&rt, &set);
+    drop(set);
+    assert!(rt; has_none && has_those && is_turned && is_copied);
 }
 
 fn accepts_null<N: Nullability>(_of: &N) -> bool {
     N::ACCEPTS_NULL
 }
 
-#[test]
-fn tells_who_accepts_null(rt: HostRuntime) {
-    assert!(rt; accepts_null(&Nullable));
-    assert!(rt; !accepts_null(&NotNullable));
+/// Whether the drafts rise.
+fn drafts_rise() -> bool {
+    Draft::Draft4 < Draft::Draft6
+        && Draft::Draft6 < Draft::Draft7
+        && Draft::Draft7 < Draft::Draft201909
+        && Draft::Draft201909 < Draft::Draft202012
+        && Draft::Draft202012 < Draft::Unknown
 }
 
 #[test]
-fn orders_the_drafts(rt: HostRuntime) {
-    assert!(rt; Draft::Draft4 < Draft::Draft6);
-    assert!(rt; Draft::Draft6 < Draft::Draft7);
-    assert!(rt; Draft::Draft7 < Draft::Draft201909);
-    assert!(rt; Draft::Draft201909 < Draft::Draft202012);
-    assert!(rt; Draft::Draft202012 < Draft::Unknown);
+fn marks_and_orders(rt: HostRuntime) {
+    assert!(rt; accepts_null(&Nullable) && !accepts_null(&NotNullable) && drafts_rise());
+    let reference = Keyword::from(BuiltinKeyword::DynamicRef);
+    let has_name = prints(&rt, rt.alloc(), &reference, "$dynamicRef");
+    drop(reference);
+    let content = Keyword::Builtin(BuiltinKeyword::ContentSchema);
+    let is_leaf = keyword_is_leaf(&content);
+    drop(content);
+    assert!(rt; has_name && !is_leaf);
 }

@@ -1,8 +1,11 @@
-//! Tests of the public calls of `schema_reports` and `schema_output`. Nothing stands on this crate.
+//! Tests of the public calls of `schema_keywords`, `schema_reports`, `schema_matches`, `schema_search` and `schema_output`. Nothing
+//! stands on this crate.
 #![tactic(auto)]
 
 #[cfg(test)]
 mod evaluation_tests;
+#[cfg(test)]
+mod fixtures;
 #[cfg(test)]
 mod keyword_table_tests;
 #[cfg(test)]

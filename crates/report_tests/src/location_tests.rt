@@ -1,314 +1,240 @@
 //! Worked values from outside, and each public call once.
+use crate::fixtures::{
+    Rows, count_of, errors_at, is_text, member_place, owned, pointer, points, wrong,
+};
 use schema_reports::instance::{Instance, InstanceStep, Place, same_step};
-use schema_reports::location::{Location, LocationSegment, OutOfMemory};
+use schema_reports::location::{Location, LocationSegment};
 use schema_reports::reports::{ErrorIterator, OwnedError, ValidationError};
 use serde_json::Value;
 use std::alloc::Global;
+use std::process::Abort;
+use test_rows::{column, list_at, text_at};
 
-/// Whether the member of the root with a row's name has the row's pointer.
-fn row_points(alloc: Global, row: &(&str, &str)) -> Result<bool, OutOfMemory> {
-    let root = Location::new(alloc);
-    let location = root.join(LocationSegment::Property(row.0));
-    drop(root);
-    Ok(location?.as_str() == row.1)
+/// Rows, by what they say first: a pointer, the name or the index that it is joined with, and what comes out (sections 3 to 5 of
+/// RFC 6901); a pointer, and that of an item of it with itself appended; an instance, the steps down from it, and the text of
+/// what they lead to, which is empty where they lead nowhere; an instance, and the text with which the schema `false` refuses it;
+/// the steps to a place, and its pointer; or the paths of errors, which come one by one. A step is the name of a member, the index
+/// of an item, or the name of a member in a list, which leads to that name.
+const ROWS: &str = r#"[
+["joined", "", "foo", "/foo"],
+["joined", "", "", "/"],
+["joined", "", "a/b", "/a~1b"],
+["joined", "", "a/b~", "/a~1b~0"],
+["joined", "", "~1", "/~01"],
+["joined", "", "m~n", "/m~0n"],
+["joined", "", "c%d", "/c%d"],
+["joined", "", " ", "/ "],
+["joined", "", "é/ü", "/é~1ü"],
+["joined", "/items", 0, "/items/0"],
+["joined", "/items", 120, "/items/120"],
+["appended", "/items", 120, "/items/120/items"],
+["led", {"list":[10,true],"other":"é"}, ["list"], "[10,true]"],
+["led", {"list":[10,true],"other":"é"}, [0], ""],
+["led", {"list":[10,true],"other":"é"}, ["list", 1], "true"],
+["led", {"list":[10,true],"other":"é"}, ["list", 2], ""],
+["led", {"list":[10,true],"other":"é"}, ["list", "list"], ""],
+["led", {"list":[10,true],"other":"é"}, [["other"]], "\"other\""],
+["led", {"list":[10,true],"other":"é"}, [["other"], ["other"]], ""],
+["led", {"list":[10,true],"other":"é"}, [["none"]], ""],
+["refused", {"a":[1,null]}, "False schema does not allow {\"a\":[1,null]}"],
+["refused", [], "False schema does not allow []"],
+["placed", [], ""],
+["placed", ["a/b", 3], "/a~1b/3"],
+["counted", ["/a", "/b"]]
+]"#;
+
+/// The segment of a row.
+fn segment_in(row: &Value) -> LocationSegment<'_> {
+    match count_of(column(row, 2)) {
+        Some(index) => LocationSegment::Index(index),
+        None => LocationSegment::Property(text_at(row, 2)),
+    }
 }
 
-/// Whether each name has the pointer that it is said to have.
-fn all_point(alloc: Global, rows: &[(&str, &str)]) -> Result<bool, OutOfMemory> {
-    for row in rows {
-        if !row_points(alloc, row)? {
-            return Ok(false);
+/// A row's pointer.
+fn start_in(rt: &impl Abort, alloc: Global, row: &Value) -> Location {
+    match text_at(row, 1) {
+        "" => Location::new(alloc),
+        text => pointer(rt, alloc, text),
+    }
+}
+
+/// Whether a row's pointer, joined with its segment, is what it says.
+fn is_joined(rt: &impl Abort, alloc: Global, row: &Value) -> bool {
+    let start = start_in(rt, alloc, row);
+    let joined = start.join(segment_in(row));
+    drop(start);
+    points(joined.expect(rt, "memory"), text_at(row, 3))
+}
+
+/// Whether a row's pointer, joined with its segment, copied, with the pointer appended, is what it says.
+fn is_appended(rt: &impl Abort, alloc: Global, row: &Value) -> bool {
+    let start = pointer(rt, alloc, text_at(row, 1));
+    let item = start.join(segment_in(row)).expect(rt, "memory");
+    let copied: Location = item.clone().expect(rt, "memory");
+    drop(item);
+    let appended = copied.append(&start);
+    drop(start);
+    drop(copied);
+    points(appended.expect(rt, "memory"), text_at(row, 3))
+}
+
+/// What a step leads to.
+fn below<'i>(start: Instance<'i>, step: &Value) -> Option<Instance<'i>> {
+    let found = match count_of(step) {
+        Some(index) => start.item(index),
+        None => match step.as_str() {
+            Some(name) => start.member(name),
+            None => start.name_of(text_at(step, 0)),
+        },
+    };
+    match found {
+        Some((instance, _)) => Some(instance),
+        None => None,
+    }
+}
+
+/// What these steps lead to.
+fn reached<'i>(root: Instance<'i>, steps: &[Value]) -> Option<Instance<'i>> {
+    let mut instance = root;
+    for step in steps {
+        match below(instance, step) {
+            Some(next) => instance = next,
+            None => return None,
         }
     }
-    Ok(true)
+    Some(instance)
 }
 
-/// Whether the item of this number has this pointer.
-fn item_points(items: &Location, number: usize, want: &str) -> Result<bool, OutOfMemory> {
-    let item = items.join(LocationSegment::Index(number))?;
-    Ok(item.as_str() == want)
+/// Whether an instance has this text, also as a value.
+fn shows(rt: &impl Abort, alloc: Global, instance: Instance<'_>, want: &str) -> bool {
+    let text = instance.text(alloc).expect(rt, "memory");
+    let has_text = is_text(text, want);
+    let value = instance.to_value(alloc).expect(rt, "memory");
+    let text = value.to_string(alloc);
+    drop(value);
+    is_text(text.expect(rt, "memory"), want) && has_text
 }
 
-/// Whether the location of an item, copied, with that of the items after it, is this pointer.
-fn item_with_items_points(items: &Location, want: &str) -> Result<bool, OutOfMemory> {
-    let deep = items.join(LocationSegment::Index(120))?;
-    let copied: Result<Location, OutOfMemory> = deep.clone();
-    drop(deep);
-    let appended = copied?.append(items)?;
-    Ok(appended.as_str() == want)
+/// Whether a row's steps lead to what it says.
+fn is_led(rt: &impl Abort, alloc: Global, row: &Value) -> bool {
+    let want = text_at(row, 3);
+    match reached(Instance::Value(column(row, 1)), list_at(row, 2)) {
+        Some(instance) => shows(rt, alloc, instance, want),
+        None => want.is_empty(),
+    }
 }
 
-// Sections 3 to 5 of RFC 6901.
-#[test]
-fn pointers(rt: HostRuntime) -> Result<(), OutOfMemory> {
-    let alloc = rt.alloc();
-    let rows = [
-        ("foo", "/foo"),
-        ("", "/"),
-        ("a/b", "/a~1b"),
-        ("a/b~", "/a~1b~0"),
-        ("~1", "/~01"),
-        ("m~n", "/m~0n"),
-        ("c%d", "/c%d"),
-        (" ", "/ "),
-        ("é/ü", "/é~1ü"),
-    ];
-    assert!(rt; all_point(alloc, &rows)?);
-    let items = Location::from_escaped(alloc, "/items")?;
-    let first = item_points(&items, 0, "/items/0");
-    let deep = item_points(&items, 120, "/items/120");
-    let with_items = item_with_items_points(&items, "/items/120/items");
-    drop(items);
-    assert!(rt; first?);
-    assert!(rt; deep?);
-    assert!(rt; with_items?);
-    Ok(())
+/// The error of a false schema at the member `a` of a value.
+fn refusal<'i>(rt: &impl Abort, alloc: Global, value: &'i Value) -> ValidationError<'i> {
+    let place = member_place(rt, alloc);
+    let path = pointer(rt, alloc, "/properties/a");
+    let way = pointer(rt, alloc, "/$ref/properties/a");
+    let absolute = Some(owned(rt, alloc, "json-schema:///#/properties/a"));
+    let instance = Instance::Value(value);
+    ValidationError::false_schema(alloc, instance, place, path, way, absolute).expect(rt, "memory")
 }
 
-/// The place of the item 3 in the member `a/b` of a root.
-fn item_of_member(root: &Place<'static>) -> Result<Place<'static>, OutOfMemory> {
-    let member = root.below(InstanceStep::Member("a/b"))?;
-    member.below(InstanceStep::Item(3))
+/// The error, owned, as seen from the location `/outer`.
+fn from_above(rt: &impl Abort, alloc: Global, error: &ValidationError<'_>) -> OwnedError {
+    let outer = pointer(rt, alloc, "/outer");
+    let owned = error.to_owned(alloc).expect(rt, "memory");
+    let seen = owned.with_instance_path_prefix(&outer);
+    drop(outer);
+    seen.expect(rt, "memory")
 }
 
-/// Whether a place has this pointer.
-fn points(alloc: Global, place: &Place<'_>, want: &str) -> Result<bool, OutOfMemory> {
-    Ok(place.pointer(alloc)?.as_str() == want)
+/// Whether an error, owned and seen from `/outer`, has this text, and its path there.
+fn owned_says(rt: &impl Abort, alloc: Global, error: &ValidationError<'_>, want: &str) -> bool {
+    let owned = from_above(rt, alloc, error);
+    let has_path = owned.instance_path.as_str() == "/outer/a";
+    let text = owned.to_string(alloc);
+    drop(owned);
+    is_text(text.expect(rt, "memory"), want) && has_path
+}
+
+/// Whether the refusal of a row's value, and its owned copy, show what the row says.
+fn is_refused(rt: &impl Abort, alloc: Global, row: &Value) -> bool {
+    let want = text_at(row, 2);
+    let error = refusal(rt, alloc, column(row, 1));
+    let says = is_text(error.to_string(alloc).expect(rt, "memory"), want)
+        && points(error.instance_path(alloc).expect(rt, "memory"), "/a")
+        && error.keyword() == "falseSchema"
+        && owned_says(rt, alloc, &error, want);
+    drop(error);
+    says
+}
+
+/// The step to a member or an item.
+fn step_in(step: &Value) -> InstanceStep<'_> {
+    match count_of(step) {
+        Some(index) => InstanceStep::Item(index),
+        None => InstanceStep::Member(text_at(step, 0)),
+    }
+}
+
+/// The place that these steps lead to.
+fn place_of<'i>(rt: &impl Abort, alloc: Global, steps: &'i [Value]) -> Place<'i> {
+    let mut place = Place::root(alloc);
+    for step in steps {
+        place = place.below(step_in(step)).expect(rt, "memory");
+    }
+    place
 }
 
 /// Whether the copy of a place is the same.
-fn is_its_copy(place: &Place<'_>) -> Result<bool, OutOfMemory> {
-    let copied = place.clone()?;
-    Ok(*place == copied)
+fn is_its_copy(rt: &impl Abort, place: &Place<'_>) -> bool {
+    let copied = place.clone().expect(rt, "memory");
+    *place == copied
 }
 
-/// Whether a member's name has this pointer, and is not the same place as the object.
-fn has_name_apart(alloc: Global, object: &Place<'static>, want: &str) -> Result<bool, OutOfMemory> {
-    let name = object.below(InstanceStep::NameOf("c"))?;
+/// Whether a member's name has the object's pointer, is not the same place as the object, and is shown at the object.
+fn has_name_apart(rt: &impl Abort, alloc: Global, object: &Place<'_>, want: &str) -> bool {
+    let name = object.below(InstanceStep::NameOf("c")).expect(rt, "memory");
     let is_same = *object == name;
-    let has_pointer = points(alloc, &name, want);
-    drop(name);
-    Ok(has_pointer? && !is_same)
-}
-
-/// Whether a member's name is shown at the object.
-fn is_shown_at(object: &Place<'static>) -> Result<bool, OutOfMemory> {
-    let name = object.below(InstanceStep::NameOf("c"))?;
+    let has_pointer = points(name.pointer(alloc).expect(rt, "memory"), want);
     let shown = name.shown();
-    Ok(*object == shown)
+    let is_shown = *object == shown;
+    drop(shown);
+    has_pointer && is_shown && !is_same
 }
 
-#[test]
-fn names_are_shown_at_their_objects(rt: HostRuntime) -> Result<(), OutOfMemory> {
-    let alloc = rt.alloc();
-    let root = Place::root(alloc);
-    let item = item_of_member(&root);
-    drop(root);
-    let item = item?;
-    let is_shown = is_shown_at(&item);
-    drop(item);
-    assert!(rt; is_shown?);
-    Ok(())
+/// Whether the place of a row's steps has its pointer, its copy and the names in it.
+fn is_placed(rt: &impl Abort, alloc: Global, row: &Value) -> bool {
+    let want = text_at(row, 2);
+    let place = place_of(rt, alloc, list_at(row, 1));
+    let is_placed = points(place.pointer(alloc).expect(rt, "memory"), want)
+        && has_name_apart(rt, alloc, &place, want)
+        && is_its_copy(rt, &place);
+    drop(place);
+    is_placed
 }
 
-#[test]
-fn places(rt: HostRuntime) -> Result<(), OutOfMemory> {
-    let alloc = rt.alloc();
-    let root = Place::root(alloc);
-    let root_points = points(alloc, &root, "");
-    let item = item_of_member(&root);
-    drop(root);
-    let item = item?;
-    let is_item = points(alloc, &item, "/a~1b/3");
-    let is_copy = is_its_copy(&item);
-    let has_name = has_name_apart(alloc, &item, "/a~1b/3");
-    drop(item);
-    assert!(rt; root_points?);
-    assert!(rt; is_item?);
-    assert!(rt; is_copy?);
-    assert!(rt; has_name?);
-    assert!(rt; !same_step(InstanceStep::Member("c"), InstanceStep::NameOf("c")));
-    Ok(())
-}
-
-/// One step down.
-type Below<'i> = Option<(Instance<'i>, InstanceStep<'i>)>;
-
-/// Whether the step leads to what has this text; an empty one where it leads nowhere.
-fn leads_to(alloc: Global, found: Below<'_>, want: &str) -> Result<bool, OutOfMemory> {
-    match found {
-        Some((instance, _)) => Ok(instance.text(alloc)?.as_str() == want),
-        None => Ok(want.is_empty()),
-    }
-}
-
-/// Whether the step leads to what is this JSON text as a value.
-fn is_value(alloc: Global, found: Below<'_>, want: &str) -> Result<bool, OutOfMemory> {
-    match found {
-        Some((instance, _)) => Ok(instance.to_value(alloc)?.to_string(alloc)?.as_str() == want),
-        None => Ok(false),
-    }
-}
-
-/// The instance that a step leads to, or else the one that it begins at.
-fn below<'i>(start: Instance<'i>, found: Below<'i>) -> Instance<'i> {
-    match found {
-        Some((instance, _)) => instance,
-        None => start,
-    }
-}
-
-/// Whether the root leads to its list, and to no item.
-fn root_leads(alloc: Global, root: Instance<'_>) -> Result<bool, OutOfMemory> {
-    let list = leads_to(alloc, root.member("list"), "[10,true]")?;
-    let item = leads_to(alloc, root.item(0), "")?;
-    Ok(list && item)
-}
-
-/// Whether the root's list leads to its second item, and neither to a third one nor to a member.
-fn list_leads(alloc: Global, root: Instance<'_>) -> Result<bool, OutOfMemory> {
-    let list = below(root, root.member("list"));
-    let item = leads_to(alloc, list.item(1), "true")?;
-    Ok(item && list.item(2).is_none() && list.member("list").is_none())
-}
-
-#[test]
-fn steps_down(rt: HostRuntime) -> Result<(), serde_json::Error> {
-    let alloc = rt.alloc();
-    let value = Value::from_str(alloc, r#"{"list":[10,true],"other":"é"}"#)?;
-    let root = root_leads(alloc, Instance::Value(&value));
-    let list = list_leads(alloc, Instance::Value(&value));
-    drop(value);
-    assert!(rt; root?);
-    assert!(rt; list?);
-    Ok(())
-}
-
-/// Whether the name of the root's member `other` is its text, and the same as a value.
-fn name_is_text(alloc: Global, root: Instance<'_>) -> Result<bool, OutOfMemory> {
-    let text = leads_to(alloc, root.name_of("other"), "\"other\"")?;
-    let value = is_value(alloc, root.name_of("other"), "\"other\"")?;
-    Ok(text && value)
-}
-
-/// Whether the root has no name `none`, and the name `other` has no name in it.
-fn leads_to_one_name(root: Instance<'_>) -> bool {
-    let name = below(root, root.name_of("other"));
-    name.name_of("other").is_none() && root.name_of("none").is_none()
-}
-
-#[test]
-fn steps_to_names(rt: HostRuntime) -> Result<(), serde_json::Error> {
-    let alloc = rt.alloc();
-    let value = Value::from_str(alloc, r#"{"other":"é"}"#)?;
-    let name = name_is_text(alloc, Instance::Value(&value));
-    let none = leads_to_one_name(Instance::Value(&value));
-    drop(value);
-    assert!(rt; name?);
-    assert!(rt; none);
-    Ok(())
-}
-
-// The error of a false schema at the member `a` of a value.
-fn refusal<'i>(alloc: Global, value: &'i Value) -> Result<ValidationError<'i>, OutOfMemory> {
-    let place = Place::root(alloc).below(InstanceStep::Member("a"))?;
-    let schema_path = Location::from_escaped(alloc, "/properties/a")?;
-    let evaluation_path = Location::from_escaped(alloc, "/$ref/properties/a")?;
-    let absolute = String::from_str(alloc, "json-schema:///#/properties/a")?;
-    ValidationError::false_schema(
-        alloc,
-        Instance::Value(value),
-        place,
-        schema_path,
-        evaluation_path,
-        Some(absolute),
-    )
-}
-
-/// Whether an error's instance path is this pointer.
-fn leads_to_place(
-    alloc: Global,
-    error: &ValidationError<'_>,
-    want: &str,
-) -> Result<bool, OutOfMemory> {
-    Ok(error.instance_path(alloc)?.as_str() == want)
-}
-
-/// Whether an error has this text.
-fn says(alloc: Global, error: &ValidationError<'_>, want: &str) -> Result<bool, OutOfMemory> {
-    let text = error.to_string(alloc)?;
-    Ok(text.as_str() == want)
-}
-
-/// Whether the refusal has these three: its text, its keyword and its instance path.
-fn refusal_shows(
-    alloc: Global,
-    value: &Value,
-    text: &str,
-    keyword: &str,
-    path: &str,
-) -> Result<bool, OutOfMemory> {
-    let error = refusal(alloc, value)?;
-    let has_text = says(alloc, &error, text);
-    let has_path = leads_to_place(alloc, &error, path);
-    let has_keyword = error.keyword() == keyword;
-    drop(error);
-    Ok(has_text? && has_path? && has_keyword)
-}
-
-#[test]
-fn errors(rt: HostRuntime) -> Result<(), serde_json::Error> {
-    let alloc = rt.alloc();
-    let value = Value::from_str(alloc, r#"{"a":[1,null]}"#)?;
-    let text = "False schema does not allow {\"a\":[1,null]}";
-    let shows = refusal_shows(alloc, &value, text, "falseSchema", "/a");
-    drop(value);
-    assert!(rt; shows?);
-    Ok(())
-}
-
-/// The refusal, owned, as seen from the location `/outer`.
-fn refusal_from_above(alloc: Global, value: &Value) -> Result<OwnedError, OutOfMemory> {
-    let outer = Location::from_escaped(alloc, "/outer")?;
-    let error = refusal(alloc, value)?;
-    let owned = error.to_owned(alloc);
-    drop(error);
-    owned?.with_instance_path_prefix(&outer)
-}
-
-#[test]
-fn owned_errors(rt: HostRuntime) -> Result<(), serde_json::Error> {
-    let alloc = rt.alloc();
-    let value = Value::from_str(alloc, "[]")?;
-    let owned = refusal_from_above(alloc, &value);
-    drop(value);
-    let owned = owned?;
-    let text = owned.to_string(alloc);
-    assert_eq!(rt; owned.instance_path.as_str(), "/outer/a");
-    drop(owned);
-    let text = text?;
-    assert_eq!(rt; text.as_str(), "False schema does not allow []");
-    Ok(())
-}
-
-fn two_refusals<'i>(
-    alloc: Global,
-    value: &'i Value,
-) -> Result<Vec<ValidationError<'i>>, OutOfMemory> {
-    let mut list = Vec::new(alloc);
-    list.push(refusal(alloc, value)?)?;
-    list.push(refusal(alloc, value)?)?;
-    Ok(list)
-}
-
-#[test]
-fn errors_in_order(rt: HostRuntime) -> Result<(), OutOfMemory> {
-    let alloc = rt.alloc();
-    let list = two_refusals(alloc, &Value::Null)?;
-    let mut errors = ErrorIterator::new(list);
-    assert_eq!(rt; errors.size_hint(), (2, Some(2)));
+/// Whether there are two errors, and one once the first of them has come.
+fn come_in_order(errors: ErrorIterator<'_>) -> bool {
+    let mut errors = errors;
+    let two = errors.size_hint() == (2, Some(2));
     drop(errors.next());
-    assert_eq!(rt; errors.size_hint(), (1, Some(1)));
-    assert_eq!(rt; errors.count(), 1);
+    let one = errors.size_hint() == (1, Some(1));
+    let left = errors.count();
+    two && one && left == 1
+}
+
+/// Whether a row holds.
+pub(crate) fn leads(rt: &impl Abort, alloc: Global, row: &Value) -> bool {
+    match text_at(row, 0) {
+        "joined" => is_joined(rt, alloc, row),
+        "appended" => is_appended(rt, alloc, row),
+        "led" => is_led(rt, alloc, row),
+        "refused" => is_refused(rt, alloc, row),
+        "placed" => is_placed(rt, alloc, row),
+        _ => come_in_order(ErrorIterator::new(errors_at(rt, alloc, row, list_at(row, 1)))),
+    }
+}
+
+#[test]
+fn locations_steps_places_and_errors(rt: HostRuntime) -> Result<(), serde_json::Error> {
+    assert!(rt; !same_step(InstanceStep::Member("c"), InstanceStep::NameOf("c")));
+    assert_eq!(rt; wrong(&rt, rt.alloc(), ROWS, Rows::Locations)?, None);
     Ok(())
 }

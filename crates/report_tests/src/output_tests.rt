@@ -1,179 +1,75 @@
 //! What evaluations show, of units that are made by hand: worked values from outside, and each public call once.
+use crate::fixtures::{
+    Rows, count_of, described, error_at, is_text, is_yes, owned, unit_at, wrong,
+};
 use schema_output::error_units::unit_of_errors;
 use schema_output::errors::{ErrorEntry, EvaluationErrors};
 use schema_output::evaluation::Evaluation;
-use schema_reports::evaluation::{ErrorDescription, EvaluationNode, UnitReport};
-use schema_reports::instance::{Instance, InstanceStep, Place};
-use schema_reports::location::{Location, OutOfMemory};
+use schema_reports::evaluation::EvaluationNode;
 use schema_reports::reports::ValidationError;
 use serde_json::Value;
 use std::alloc::Global;
+use std::process::Abort;
+use test_rows::{column, list_at, text_at};
 
-/// A unit of the whole instance that the schema's own way leads to, and that says nothing else.
-fn unit_at(alloc: Global, valid: bool, path: &str) -> Result<EvaluationNode, OutOfMemory> {
-    let evaluation_path = Location::from_escaped(alloc, path)?;
-    let schema_location = evaluation_path.clone()?;
-    Ok(EvaluationNode {
-        report: UnitReport {
-            valid,
-            evaluation_path,
-            absolute_keyword_location: None,
-            schema_location,
-            instance_location: Location::new(alloc),
-            annotations: None,
-            errors: Vec::new(alloc),
-        },
-        children: Vec::new(alloc),
-    })
-}
+/// Rows: what is evaluated; its units, or how many errors of `pattern` they are made of; its verdict; the errors that come one by
+/// one, each with the path of its unit; and the number of its list, if it is asked for. A unit is its path, its verdict, its
+/// absolute location and its annotations, where it has any, its errors, each a keyword and a text, and how many units are inside
+/// it: those that come right before it, and are inside no other. The last one is the outermost.
+const SHOWN: &str = r##"[
+["the schema {'type':'string'} and 'AB'",
+  [["/type", true, null, null, [], 0], ["", true, null, null, [], 1]],
+  true, [], 0],
+["the schema {'$id':'https://example.com/text','type':'string'} and 1: absolute locations are shown",
+  [["/type", false, "https://example.com/text#/type", null, [["type", "1 is not of type \"string\""]], 0],
+    ["", false, "https://example.com/text", null, [], 1]],
+  false, [["/type", "1 is not of type \"string\""]], 1],
+["the schema {'required':['a','b']} and {}: the first error of a keyword is shown",
+  [["/required", false, null, null, [["required", "\"a\" is missing"], ["required", "\"b\" is missing"], ["other", "refused"]], 0]],
+  false, [["/required", "\"a\" is missing"], ["/required", "\"b\" is missing"], ["/required", "refused"]], 2],
+["two schemas under allOf, of which the second refuses: annotations of an invalid unit are dropped",
+  [["/allOf/0", true, null, "t", [], 0], ["/allOf/1", false, null, "u", [], 0], ["/allOf", false, null, null, [], 2]],
+  false, [], 3],
+["an error of pattern below not",
+  1,
+  false, [["/$ref/not/pattern", "no outcome"]], 4],
+["no error",
+  0,
+  true, [], 5],
+["two errors of the outermost unit, one of its first unit, one of the unit inside that, and one of its second unit, in that order",
+  [["/a/b", false, null, null, [["keyword", "/a/b"]], 0],
+    ["/a", false, null, null, [["keyword", "/a"]], 1],
+    ["/c", false, null, null, [["keyword", "/c"]], 0],
+    ["", false, null, null, [["keyword", ""], ["keyword", "again"]], 2]],
+  false, [["", ""], ["", "again"], ["/a", "/a"], ["/a/b", "/a/b"], ["/c", "/c"]], null]
+]"##;
 
-/// The unit, with one more unit inside it.
-fn with_child(
-    parent: EvaluationNode,
-    child: EvaluationNode,
-) -> Result<EvaluationNode, OutOfMemory> {
-    let mut unit = parent;
-    unit.children.push(child)?;
-    Ok(unit)
-}
-
-/// The unit, with one more error.
-fn with_error(
-    alloc: Global,
-    unit: EvaluationNode,
-    keyword: &str,
-    text: &str,
-) -> Result<EvaluationNode, OutOfMemory> {
-    let keyword = String::from_str(alloc, keyword)?;
-    let text = String::from_str(alloc, text)?;
-    let mut unit = unit;
-    unit.report.errors.push(ErrorDescription { keyword, text })?;
-    Ok(unit)
-}
-
-/// The unit, with this URI as its absolute location.
-fn with_absolute(
-    alloc: Global,
-    unit: EvaluationNode,
-    uri: &str,
-) -> Result<EvaluationNode, OutOfMemory> {
-    let uri = String::from_str(alloc, uri)?;
-    let mut unit = unit;
-    unit.report.absolute_keyword_location = Some(uri);
-    Ok(unit)
-}
-
-/// The unit, with a text as its annotations.
-fn with_annotations(
-    alloc: Global,
-    unit: EvaluationNode,
-    text: &str,
-) -> Result<EvaluationNode, OutOfMemory> {
-    let text = String::from_str(alloc, text)?;
-    let mut unit = unit;
-    unit.report.annotations = Some(Value::String(text));
-    Ok(unit)
-}
-
-/// The texts, one after another.
-fn joined(alloc: Global, texts: &[&str]) -> Result<String, OutOfMemory> {
-    let mut whole = String::new(alloc);
-    for text in texts.iter() {
-        whole.push_str(text)?;
-    }
-    Ok(whole)
-}
-
-/// The list of an evaluation, which is asked for once more where memory was refused: that leaves the evaluation as it was.
-fn list_again(alloc: Global, evaluation: &Evaluation) -> Result<Value, OutOfMemory> {
-    if let Ok(list) = evaluation.list(alloc) {
-        return Ok(list);
-    }
-    evaluation.list(alloc)
-}
-
-/// Whether the list of an evaluation with this unit outermost has this text, which comes in parts.
-fn is_listed(alloc: Global, root: EvaluationNode, want: &[&str]) -> Result<bool, OutOfMemory> {
-    let evaluation = Evaluation::new(root);
-    let list = list_again(alloc, &evaluation)?;
-    drop(evaluation);
-    let text = list.to_string(alloc)?;
-    drop(list);
-    Ok(text.as_str() == joined(alloc, want)?.as_str())
-}
-
-// {"type":"string"} and "AB".
-#[test]
-fn a_string_is_listed(rt: HostRuntime) -> Result<(), OutOfMemory> {
-    let alloc = rt.alloc();
-    let root = with_child(unit_at(alloc, true, "")?, unit_at(alloc, true, "/type")?)?;
-    let want = [
+/// The lists, by their numbers.
+const LISTS: [&str; 6] = [
+    // A string.
+    concat!(
         r#"{"details":["#,
         r#"{"evaluationPath":"","instanceLocation":"","schemaLocation":"","valid":true}"#,
         r#",{"evaluationPath":"/type","instanceLocation":"","schemaLocation":"/type","valid":true}"#,
         r#"],"valid":true}"#,
-    ];
-    assert!(rt; is_listed(alloc, root, &want)?);
-    Ok(())
-}
-
-// {"$id":"https://example.com/text","type":"string"} and 1.
-#[test]
-fn absolute_locations_are_shown(rt: HostRuntime) -> Result<(), OutOfMemory> {
-    let alloc = rt.alloc();
-    let root = with_absolute(
-        alloc,
-        unit_at(alloc, false, "")?,
-        "https://example.com/text",
-    )?;
-    let keyword = with_error(
-        alloc,
-        unit_at(alloc, false, "/type")?,
-        "type",
-        "1 is not of type \"string\"",
-    )?;
-    let keyword = with_absolute(alloc, keyword, "https://example.com/text#/type")?;
-    let want = [
+    ),
+    // An absolute location.
+    concat!(
         r#"{"details":["#,
         r#"{"evaluationPath":"","instanceLocation":"","schemaLocation":"https://example.com/text","valid":false}"#,
         r#",{"errors":{"type":"1 is not of type \"string\""}"#,
         r#","evaluationPath":"/type","instanceLocation":"","schemaLocation":"https://example.com/text#/type","valid":false}"#,
         r#"],"valid":false}"#,
-    ];
-    assert!(rt; is_listed(alloc, with_child(root, keyword)?, &want)?);
-    Ok(())
-}
-
-// {"required":["a","b"]} and {}.
-#[test]
-fn the_first_error_of_a_keyword_is_shown(rt: HostRuntime) -> Result<(), OutOfMemory> {
-    let alloc = rt.alloc();
-    let unit = with_error(
-        alloc,
-        unit_at(alloc, false, "/required")?,
-        "required",
-        "\"a\" is missing",
-    )?;
-    let unit = with_error(alloc, unit, "required", "\"b\" is missing")?;
-    let unit = with_error(alloc, unit, "other", "refused")?;
-    let want = [
+    ),
+    // The first error of a keyword.
+    concat!(
         r#"{"details":["#,
         r#"{"errors":{"other":"refused","required":"\"a\" is missing"}"#,
         r#","evaluationPath":"/required","instanceLocation":"","schemaLocation":"/required","valid":false}"#,
         r#"],"valid":false}"#,
-    ];
-    assert!(rt; is_listed(alloc, unit, &want)?);
-    Ok(())
-}
-
-// Two schemas under `allOf`, of which the second refuses.
-#[test]
-fn annotations_of_an_invalid_unit_are_dropped(rt: HostRuntime) -> Result<(), OutOfMemory> {
-    let alloc = rt.alloc();
-    let kept = with_annotations(alloc, unit_at(alloc, true, "/allOf/0")?, "t")?;
-    let dropped = with_annotations(alloc, unit_at(alloc, false, "/allOf/1")?, "u")?;
-    let root = with_child(with_child(unit_at(alloc, false, "/allOf")?, kept)?, dropped)?;
-    let want = [
+    ),
+    // Annotations of an invalid unit.
+    concat!(
         r#"{"details":["#,
         r#"{"evaluationPath":"/allOf","instanceLocation":"","schemaLocation":"/allOf","valid":false}"#,
         r#",{"annotations":"t""#,
@@ -181,134 +77,179 @@ fn annotations_of_an_invalid_unit_are_dropped(rt: HostRuntime) -> Result<(), Out
         r#",{"droppedAnnotations":"u""#,
         r#","evaluationPath":"/allOf/1","instanceLocation":"","schemaLocation":"/allOf/1","valid":false}"#,
         r#"],"valid":false}"#,
-    ];
-    assert!(rt; is_listed(alloc, root, &want)?);
-    Ok(())
-}
-
-/// A unit at this path with one error, whose text is the path.
-fn refusing_at(alloc: Global, path: &str) -> Result<EvaluationNode, OutOfMemory> {
-    with_error(alloc, unit_at(alloc, false, path)?, "keyword", path)
-}
-
-/// Whether the error has this text, and is of the unit at this path.
-fn is_of(entry: ErrorEntry<'_>, path: &str, text: &str) -> bool {
-    entry.unit.evaluation_path.as_str() == path && entry.error.text.as_str() == text
-}
-
-/// Whether the next errors have these texts, and are of the units at these paths.
-fn come_next(errors: &mut EvaluationErrors<'_>, rows: &[(&str, &str)]) -> bool {
-    for row in rows {
-        match errors.next() {
-            None => return false,
-            Some(entry) => {
-                if !is_of(entry, row.0, row.1) {
-                    return false;
-                }
-            }
-        }
-    }
-    true
-}
-
-/// Two errors of the outermost unit, one of its first unit, one of the unit inside that, and one of its second unit.
-fn five_errors(alloc: Global) -> Result<EvaluationNode, OutOfMemory> {
-    let root = with_error(alloc, refusing_at(alloc, "")?, "keyword", "again")?;
-    let first = with_child(refusing_at(alloc, "/a")?, refusing_at(alloc, "/a/b")?)?;
-    with_child(with_child(root, first)?, refusing_at(alloc, "/c")?)
-}
-
-/// Whether the five errors come in their order, and no other.
-fn come_in_order(alloc: Global, evaluation: &Evaluation) -> Result<bool, OutOfMemory> {
-    let mut errors = evaluation.iter_errors(alloc)?;
-    if errors.size_hint() != (5, Some(5)) || !come_next(&mut errors, &[("", ""), ("", "again")]) {
-        return Ok(false);
-    }
-    Ok(
-        errors.size_hint() == (3, Some(3))
-            && come_next(&mut errors, &[("/a", "/a"), ("/a/b", "/a/b"), ("/c", "/c")])
-            && errors.next().is_none(),
-    )
-}
-
-#[test]
-fn errors_come_before_those_inside(rt: HostRuntime) -> Result<(), OutOfMemory> {
-    let alloc = rt.alloc();
-    let evaluation = Evaluation::new(five_errors(alloc)?);
-    assert!(rt; !evaluation.is_valid());
-    assert!(rt; come_in_order(alloc, &evaluation)?);
-    Ok(())
-}
-
-/// An error of `pattern` below `not`, at the member `a` of a value, with an absolute location.
-fn pattern_error<'i>(alloc: Global, value: &'i Value) -> Result<ValidationError<'i>, OutOfMemory> {
-    let place = Place::root(alloc).below(InstanceStep::Member("a"))?;
-    let schema_path = Location::from_escaped(alloc, "/not/pattern")?;
-    let evaluation_path = Location::from_escaped(alloc, "/$ref/not/pattern")?;
-    let absolute = String::from_str(alloc, "https://example.com/text#/not/pattern")?;
-    Ok(ValidationError {
-        instance: Instance::Value(value),
-        place,
-        schema_path,
-        evaluation_path,
-        absolute_keyword_location: Some(absolute),
-        keyword: String::from_str(alloc, "pattern")?,
-        text: String::from_str(alloc, "no outcome")?,
-    })
-}
-
-/// The units of that error alone.
-fn units_of_one(alloc: Global, value: &Value) -> Result<EvaluationNode, OutOfMemory> {
-    let mut errors = Vec::new(alloc);
-    errors.push(pattern_error(alloc, value)?)?;
-    unit_of_errors(alloc, errors)
-}
-
-#[test]
-fn an_error_has_a_unit(rt: HostRuntime) -> Result<(), OutOfMemory> {
-    let alloc = rt.alloc();
-    let want = [
+    ),
+    // An error of `pattern` below `not`.
+    concat!(
         r#"{"details":["#,
         r#"{"evaluationPath":"","instanceLocation":"","schemaLocation":"","valid":false}"#,
         r#",{"errors":{"pattern":"no outcome"}"#,
         r#","evaluationPath":"/$ref/not/pattern","instanceLocation":"/a","schemaLocation":"/not/pattern","valid":false}"#,
         r#"],"valid":false}"#,
-    ];
-    assert!(rt; is_listed(alloc, units_of_one(alloc, &Value::Null)?, &want)?);
-    let none = unit_of_errors(alloc, Vec::new(alloc))?;
-    let want = [
+    ),
+    // No error.
+    concat!(
         r#"{"details":["#,
         r#"{"evaluationPath":"","instanceLocation":"","schemaLocation":"","valid":true}"#,
         r#"],"valid":true}"#,
-    ];
-    assert!(rt; is_listed(alloc, none, &want)?);
+    ),
+];
+
+/// The list of this number, or an empty text.
+fn list_of(number: usize) -> &'static str {
+    match LISTS.get(number) {
+        Some(list) => *list,
+        None => "",
+    }
+}
+
+/// The unit of a row, without the units inside it.
+fn unit_alone(rt: &impl Abort, alloc: Global, row: &Value) -> EvaluationNode {
+    let mut unit = unit_at(rt, alloc, is_yes(row, 1), text_at(row, 0));
+    if let Some(absolute) = column(row, 2).as_str() {
+        unit.report.absolute_keyword_location = Some(owned(rt, alloc, absolute));
+    }
+    if let Some(annotation) = column(row, 3).as_str() {
+        unit.report.annotations = Some(Value::String(owned(rt, alloc, annotation)));
+    }
+    for told in list_at(row, 4) {
+        let error = described(rt, alloc, text_at(told, 0), text_at(told, 1));
+        unit.report.errors.push(error).expect(rt, "memory");
+    }
+    unit
+}
+
+/// Adds the unit of a row, with as many of the last units inside it as the row says.
+fn push_unit(rt: &impl Abort, alloc: Global, row: &Value, units: &mut Vec<EvaluationNode>) {
+    let count = count_of(column(row, 5)).unwrap_or(0);
+    let start = units.len().saturating_sub(count);
+    let mut unit = unit_alone(rt, alloc, row);
+    unit.children = units.split_off(start).expect(rt, "memory");
+    units.push(unit).expect(rt, "memory");
+}
+
+/// An error of `pattern` below `not`, at the member `a` of a value, with an absolute location.
+fn pattern_error<'i>(rt: &impl Abort, alloc: Global, value: &'i Value) -> ValidationError<'i> {
+    let way = "/$ref/not/pattern";
+    let mut error = error_at(rt, alloc, value, "/not/pattern", way, "no outcome");
+    let absolute = owned(rt, alloc, "https://example.com/text#/not/pattern");
+    error.absolute_keyword_location = Some(absolute);
+    error
+}
+
+/// The unit of so many such errors.
+fn unit_of(rt: &impl Abort, alloc: Global, value: &Value, count: usize) -> EvaluationNode {
+    let mut errors = Vec::new(alloc);
+    for _ in 0..count {
+        errors
+            .push(pattern_error(rt, alloc, value))
+            .expect(rt, "memory");
+    }
+    unit_of_errors(alloc, errors).expect(rt, "memory")
+}
+
+/// The outermost unit of a row of the table.
+fn outermost(rt: &impl Abort, alloc: Global, row: &Value) -> EvaluationNode {
+    if let Some(count) = count_of(column(row, 1)) {
+        return unit_of(rt, alloc, row, count);
+    }
+    let mut units = Vec::new(alloc);
+    for unit in list_at(row, 1) {
+        push_unit(rt, alloc, unit, &mut units);
+    }
+    let last = units.pop();
+    drop(units);
+    last.expect(rt, "a unit")
+}
+
+/// Whether there is an error with a row's text, and it is of the unit at the row's path.
+fn is_of(found: Option<ErrorEntry<'_>>, row: &Value) -> bool {
+    match found {
+        None => false,
+        Some(entry) => {
+            entry.unit.evaluation_path.as_str() == text_at(row, 0)
+                && entry.error.text.as_str() == text_at(row, 1)
+        }
+    }
+}
+
+/// Whether the errors are those of these rows, in their order, and no other, and tell at each how many are left.
+fn are_those(errors: EvaluationErrors<'_>, rows: &[Value]) -> bool {
+    let mut errors = errors;
+    for (number, row) in rows.iter().enumerate() {
+        let left = rows.len().saturating_sub(number);
+        if errors.size_hint() != (left, Some(left)) || !is_of(errors.next(), row) {
+            return false;
+        }
+    }
+    errors.next().is_none()
+}
+
+/// The list of an evaluation, which is asked for once more where memory was refused: that leaves the evaluation as it was.
+fn list_again(rt: &impl Abort, alloc: Global, evaluation: &Evaluation) -> Value {
+    match evaluation.list(alloc) {
+        Ok(list) => list,
+        Err(_) => evaluation.list(alloc).expect(rt, "memory"),
+    }
+}
+
+/// Whether the list of an evaluation has this text.
+fn is_listed(rt: &impl Abort, alloc: Global, evaluation: &Evaluation, want: &str) -> bool {
+    let list = list_again(rt, alloc, evaluation);
+    let text = list.to_string(alloc);
+    drop(list);
+    is_text(text.expect(rt, "memory"), want)
+}
+
+/// Whether the evaluation with a row's unit outermost shows what the row says.
+pub(crate) fn is_shown(rt: &impl Abort, alloc: Global, row: &Value) -> bool {
+    let evaluation = Evaluation::new(outermost(rt, alloc, row));
+    let has_verdict = column(row, 2).as_bool() == Some(evaluation.is_valid());
+    let errors = evaluation.iter_errors(alloc).expect(rt, "memory");
+    let has_errors = are_those(errors, list_at(row, 3));
+    let has_list = match count_of(column(row, 4)) {
+        Some(number) => is_listed(rt, alloc, &evaluation, list_of(number)),
+        None => column(row, 4).is_null(),
+    };
+    drop(evaluation);
+    has_verdict && has_errors && has_list
+}
+
+#[test]
+fn units_are_shown(rt: HostRuntime) -> Result<(), serde_json::Error> {
+    assert_eq!(rt; wrong(&rt, rt.alloc(), SHOWN, Rows::Units)?, None);
     Ok(())
 }
 
 /// So many units around a unit, each alone inside the next.
-fn nested(alloc: Global, count: usize) -> Result<EvaluationNode, OutOfMemory> {
-    let mut unit = unit_at(alloc, true, "")?;
+fn nested(rt: &impl Abort, alloc: Global, count: usize) -> EvaluationNode {
+    let mut inner = unit_at(rt, alloc, true, "");
     for _ in 0..count {
-        unit = with_child(unit_at(alloc, true, "/$ref")?, unit)?;
+        let mut outer = unit_at(rt, alloc, true, "/$ref");
+        outer.children.push(inner).expect(rt, "memory");
+        inner = outer;
     }
-    Ok(unit)
+    inner
 }
 
 /// How many units a list shows.
 fn count_shown(list: &Value) -> usize {
-    match list.get("details").and_then(Value::as_array) {
+    let Some(details) = list.get("details") else {
+        return 0;
+    };
+    match details.as_array() {
         Some(details) => details.len(),
         None => 0,
     }
 }
 
 #[test]
-fn a_thousand_nested_units_are_listed(rt: HostRuntime) -> Result<(), OutOfMemory> {
-    let alloc = rt.alloc();
-    let evaluation = Evaluation::new(nested(alloc, 1000)?);
-    assert!(rt; evaluation.is_valid());
-    let list = evaluation.list(alloc)?;
+fn a_thousand_nested_units_are_listed(rt: HostRuntime) {
+    let evaluation = Evaluation::new(nested(&rt, rt.alloc(), 1000));
+    let is_valid = evaluation.is_valid();
+    let list = evaluation.list(rt.alloc());
     drop(evaluation);
-    assert_eq!(rt; count_shown(&list), 1001);
-    Ok(())
+    let list = list.expect(&rt, "memory");
+    let shown = count_shown(&list);
+    drop(list);
+    assert!(rt; is_valid && shown == 1001);
 }

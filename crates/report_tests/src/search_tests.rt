@@ -1,8 +1,10 @@
-//! Worked values from outside, and each public call once.
+//! What searches over unfinished matches find: worked values from outside, and each public call once.
+use crate::fixtures::{
+    Rows, error_at, errors_at, is_text, is_yes, member_place, pointer, points, wrong,
+};
 use schema_matches::assumptions::MatchAssumptions;
 use schema_matches::site::{MatchFailure, MatchSite, Reason};
-use schema_reports::instance::{Instance, InstanceStep, Place};
-use schema_reports::location::{Location, OutOfMemory};
+use schema_reports::location::OutOfMemory;
 use schema_reports::reports::ValidationError;
 use schema_reports::text::Text;
 use schema_search::unfinished_matches::{
@@ -10,388 +12,275 @@ use schema_search::unfinished_matches::{
 };
 use serde_json::Value;
 use std::alloc::Global;
+use std::process::Abort;
+use test_rows::{column, list_at, text_at};
 
-// An error at the root with this schema path and this text.
-fn error_at<'i>(
-    alloc: Global,
-    root: &'i Value,
-    path: &str,
-    text: &str,
-) -> Result<ValidationError<'i>, OutOfMemory> {
-    let keyword = String::from_str(alloc, "test")?;
-    let text = String::from_str(alloc, text)?;
-    let schema_path = Location::from_escaped(alloc, path)?;
-    let evaluation_path = schema_path.clone()?;
-    Ok(ValidationError {
-        instance: Instance::Value(root),
-        place: Place::root(alloc),
-        schema_path,
-        evaluation_path,
-        absolute_keyword_location: None,
-        keyword,
-        text,
-    })
+/// Rows, by what they say first: what each run of a search meets, and its verdict; what the first run of a search meets, whose other
+/// runs meet nothing, the paths of the errors that each of two runs gives, where the search is decided, and the texts of the errors
+/// that it gives; or an instance, and the text, the paths and the instance of the error that a search over it gives, whose runs
+/// meet a match as a verdict and then at a place. What a run of the first two meets is a pattern and its path, and then `known`
+/// where the match is known to be unfinished, or the text of the limit that it came to; a run accepts where each match that is
+/// known comes out as the one before it.
+const ROWS: &str = r#"[
+["accepted", [["d", "/anyOf/0/pattern"]], true],
+["accepted", [["d", "/anyOf/0/pattern"], ["e", "/anyOf/0/pattern"], ["f", "/anyOf/0/pattern"], ["g", "/anyOf/0/pattern"],
+  ["h", "/anyOf/0/pattern"]], true],
+["accepted", [["d", "/anyOf/0/pattern"], ["e", "/anyOf/0/pattern"], ["f", "/anyOf/0/pattern"], ["g", "/anyOf/0/pattern"],
+  ["h", "/anyOf/0/pattern"], ["i", "/anyOf/0/pattern"]], false],
+["accepted", [["d", "/anyOf/0/pattern"], ["e", "/anyOf/0/pattern"], ["f", "/anyOf/0/pattern"], ["g", "/anyOf/0/pattern"],
+  ["h", "/anyOf/0/pattern"], ["i", "/anyOf/0/pattern"], ["j", "/anyOf/0/pattern"], ["k", "/anyOf/0/pattern"]], false],
+["accepted", [["p", "/a/pattern"], ["p", "/b/pattern", "known"]], true],
+["shared", [["compiled", "/pattern"]], [[["/b", "/a"]], [["/a", "/b"]]], ["/a", "/b"]],
+["shared", [["compiled", "/pattern"]], [[["/b", "/a"]], [["/c", "/d"]]], ["Regex engine failed to evaluate pattern 'compiled'"]],
+["shared", [["compiled", "/pattern"]], [[[]], [[]]], []],
+["shared", [["compiled", "/pattern", "Error executing regex: Max limit for backtracking count exceeded"]], null,
+  ["Error executing regex: Max limit for backtracking count exceeded"]],
+["located", {"a": "abc"},
+  "Regex engine failed to evaluate pattern 'source'", "/$defs/s/pattern", "/properties/a/$ref/pattern", "/a", "\"abc\""]
+]"#;
+
+/// The site of a keyword's path.
+fn schema_site<'i>(rt: &impl Abort, alloc: Global, path: &str) -> MatchSite<'i> {
+    MatchSite::schema(pointer(rt, alloc, path))
 }
 
-// An error for each of these paths, whose text is the path, comes after these.
-fn push_errors<'i>(
-    alloc: Global,
-    root: &'i Value,
-    paths: &[&str],
-    list: &mut Vec<ValidationError<'i>>,
-) -> Result<(), OutOfMemory> {
-    for path in paths.iter() {
-        list.push(error_at(alloc, root, path, path)?)?;
+/// Why a match is not finished: it came to this limit, or the engine failed where there is none.
+fn reason_of(rt: &impl Abort, alloc: Global, limit: &str) -> Reason {
+    if limit.is_empty() {
+        Reason::Engine
+    } else {
+        Reason::Limit(Text::new(alloc, limit).expect(rt, "memory"))
     }
-    Ok(())
 }
 
-// An error for each of these paths, whose text is the path.
-fn errors_at<'i>(
+/// What a match comes out as that is not known to be unfinished.
+fn meet_new<'i>(
+    rt: &impl Abort,
     alloc: Global,
-    root: &'i Value,
-    paths: &[&str],
-) -> Result<Vec<ValidationError<'i>>, OutOfMemory> {
-    let mut list = Vec::new(alloc);
-    push_errors(alloc, root, paths, &mut list)?;
-    Ok(list)
-}
-
-// The results of two runs: the errors at these paths.
-fn two_results<'i>(
-    alloc: Global,
-    root: &'i Value,
-    one: &[&str],
-    other: &[&str],
-) -> Result<Vec<Vec<ValidationError<'i>>>, OutOfMemory> {
-    let mut results = Vec::new(alloc);
-    push_result(alloc, root, one, &mut results)?;
-    push_result(alloc, root, other, &mut results)?;
-    Ok(results)
-}
-
-// The errors at these paths come after these results.
-fn push_result<'i>(
-    alloc: Global,
-    root: &'i Value,
-    paths: &[&str],
-    results: &mut Vec<Vec<ValidationError<'i>>>,
-) -> Result<(), OutOfMemory> {
-    let list = errors_at(alloc, root, paths)?;
-    Ok(results.push(list)?)
-}
-
-fn schema_site<'i>(alloc: Global, path: &str) -> Result<MatchSite<'i>, OutOfMemory> {
-    Ok(MatchSite::schema(Location::from_escaped(alloc, path)?))
-}
-
-// What a match of this pattern comes out as, which stays unfinished, and which is met at this path.
-fn met_at<'i>(
-    alloc: Global,
+    row: &Value,
     met: &mut MatchAssumptions<'i>,
-    pattern: &str,
-    reason: Reason,
-    path: &str,
-) -> Result<bool, OutOfMemory> {
-    let site = schema_site(alloc, path)?;
-    met.resolve(pattern, "abc", reason, site)
+) -> bool {
+    let reason = reason_of(rt, alloc, text_at(row, 2));
+    let site = schema_site(rt, alloc, text_at(row, 1));
+    met.resolve(text_at(row, 0), "abc", reason, site)
+        .expect(rt, "memory")
 }
 
-// The failure that a search gives, whatever it found.
-fn failure_of<'i>(outcomes: Outcomes<'i, bool>) -> MatchFailure<'i> {
-    match outcomes {
-        Outcomes::Assumed { failure, .. } => failure,
-        Outcomes::Undecided(failure) => failure,
-    }
-}
-
-// The failure of a search whose first run met a match that stays unfinished.
-fn a_failure<'i>(alloc: Global, reason: Reason) -> Result<Option<MatchFailure<'i>>, OutOfMemory> {
-    let mut first = MatchAssumptions::new(alloc);
-    let met = met_at(alloc, &mut first, "compiled", reason, "/pattern");
-    if met.is_err() || !first.met_unassumed() {
-        drop(first);
-        met?;
-        return Ok(None);
-    }
-    let mut run = |matches| Ok((matches, true));
-    let outcomes = assume_each_outcome(alloc, &mut run, (first, true))?;
-    Ok(Some(failure_of(outcomes)))
-}
-
-// Whether the errors have these texts, in order.
-fn have_texts(list: &[ValidationError<'_>], texts: &[&str]) -> bool {
-    if list.len() != texts.len() {
+/// Whether a match, and no other one, is known to be unfinished, and comes out like this.
+fn comes_out<'i>(
+    rt: &impl Abort,
+    alloc: Global,
+    row: &Value,
+    like: bool,
+    met: &mut MatchAssumptions<'i>,
+) -> bool {
+    let pattern = text_at(row, 0);
+    if met.is_unfinished("q", "abc")
+        || met.is_unfinished(pattern, "ab")
+        || !met.is_unfinished(pattern, "abc")
+    {
         return false;
     }
-    for (i, error) in list.iter().enumerate() {
-        if error.text.as_str() != texts[i] {
+    let site = schema_site(rt, alloc, text_at(row, 1));
+    met.resolve_unfinished(pattern, "abc", site)
+        .expect(rt, "memory")
+        == like
+}
+
+/// A run that meets these, and whether it accepts.
+fn run<'i>(
+    rt: &impl Abort,
+    alloc: Global,
+    rows: &[Value],
+    met: MatchAssumptions<'i>,
+) -> (MatchAssumptions<'i>, bool) {
+    let mut met = met;
+    let mut last = false;
+    let mut accepts = true;
+    for row in rows {
+        if text_at(row, 2) != "known" {
+            last = meet_new(rt, alloc, row, &mut met);
+        } else if !comes_out(rt, alloc, row, last, &mut met) {
+            accepts = false;
+        }
+    }
+    (met, accepts)
+}
+
+/// Whether the search accepts whose runs meet these; nothing where the first run meets nothing.
+fn verdict(rt: &impl Abort, alloc: Global, rows: &[Value]) -> Result<Option<bool>, OutOfMemory> {
+    let first = run(rt, alloc, rows, MatchAssumptions::new(alloc));
+    if !first.0.met_unassumed() {
+        drop(first);
+        return Ok(None);
+    }
+    let again = |met| Ok(run(rt, alloc, rows, met));
+    Ok(Some(validity_under_each(alloc, again, first)?))
+}
+
+/// What the search finds whose first run meets these, and whose other runs meet those; nothing where the first run meets nothing.
+fn outcomes<'i>(
+    rt: &impl Abort,
+    alloc: Global,
+    first: &[Value],
+    later: &[Value],
+) -> Option<Outcomes<'i, bool>> {
+    let first = run(rt, alloc, first, MatchAssumptions::new(alloc));
+    if !first.0.met_unassumed() {
+        drop(first);
+        return None;
+    }
+    let mut again = |met| Ok(run(rt, alloc, later, met));
+    Some(assume_each_outcome(alloc, &mut again, first).expect(rt, "memory"))
+}
+
+/// Whether the search of a row, and the results of one that is made apart, have its verdict.
+fn is_accepted(rt: &impl Abort, alloc: Global, row: &Value) -> bool {
+    let rows = list_at(row, 1);
+    let want = Some(is_yes(row, 2));
+    let apart = match outcomes(rt, alloc, rows, rows) {
+        Some(outcomes) => Some(validity(outcomes)),
+        None => None,
+    };
+    apart == want && verdict(rt, alloc, rows).expect(rt, "memory") == want
+}
+
+/// The failure that a search gives, whatever it found.
+fn failure_of<'i>(outcomes: Option<Outcomes<'i, bool>>) -> Option<MatchFailure<'i>> {
+    match outcomes {
+        Some(Outcomes::Assumed { failure, .. }) => Some(failure),
+        Some(Outcomes::Undecided(failure)) => Some(failure),
+        None => None,
+    }
+}
+
+/// A decided search with the results of a row's runs, or an undecided one where it has none.
+fn found_by<'i>(
+    rt: &impl Abort,
+    alloc: Global,
+    row: &'i Value,
+    failure: MatchFailure<'i>,
+) -> Outcomes<'i, Vec<ValidationError<'i>>> {
+    let Some(runs) = column(row, 2).as_array() else {
+        return Outcomes::Undecided(failure);
+    };
+    let mut results = Vec::new(alloc);
+    for run in runs {
+        results
+            .push(errors_at(rt, alloc, row, list_at(run, 0)))
+            .expect(rt, "memory");
+    }
+    Outcomes::Assumed { results, failure }
+}
+
+/// Whether the errors have these texts, in order.
+fn have_texts(errors: &[ValidationError<'_>], texts: &[Value]) -> bool {
+    for (number, text) in texts.iter().enumerate() {
+        let Some(error) = errors.get(number) else {
+            return false;
+        };
+        if error.text.as_str() != text_at(text, 0) {
             return false;
         }
     }
-    true
+    errors.len() == texts.len()
 }
 
-// What a search gives of which two runs gave the errors at these paths.
-fn shared_of<'i>(
-    alloc: Global,
-    root: &'i Value,
-    one: &[&str],
-    other: &[&str],
-) -> Result<Vec<ValidationError<'i>>, OutOfMemory> {
-    let Some(failure) = a_failure(alloc, Reason::Engine)? else {
-        return Ok(Vec::new(alloc));
+/// Whether the search of a row gives errors with its texts.
+fn is_shared(rt: &impl Abort, alloc: Global, row: &Value) -> bool {
+    let Some(failure) = failure_of(outcomes(rt, alloc, list_at(row, 1), &[])) else {
+        return false;
     };
-    match two_results(alloc, root, one, other) {
-        Ok(results) => errors(alloc, Outcomes::Assumed { results, failure }, root),
-        Err(failed) => {
-            drop(failure);
-            Err(failed)
-        }
-    }
-}
-
-// Whether two runs that gave the errors at these paths share errors with these texts.
-fn share(alloc: Global, one: &[&str], other: &[&str], texts: &[&str]) -> Result<bool, OutOfMemory> {
-    let root = Value::Null;
-    let shared = shared_of(alloc, &root, one, other)?;
-    let is_told = have_texts(&shared, texts);
+    let found = found_by(rt, alloc, row, failure);
+    let shared = errors(alloc, found, row).expect(rt, "memory");
+    let have_texts = have_texts(&shared, list_at(row, 3));
     drop(shared);
-    drop(root);
-    Ok(is_told)
+    have_texts
 }
 
-#[test]
-fn what_two_results_share(rt: HostRuntime) -> Result<(), OutOfMemory> {
-    let alloc = rt.alloc();
-    assert!(rt; share(alloc, &["/b", "/a"], &["/a", "/b"], &["/a", "/b"])?);
-    let alone = "Regex engine failed to evaluate pattern 'compiled'";
-    assert!(rt; share(alloc, &["/b", "/a"], &["/c", "/d"], &[alone])?);
-    assert!(rt; share(alloc, &[], &[], &[])?);
-    Ok(())
+/// A site with a place.
+fn site_at_place<'i>(rt: &impl Abort, alloc: Global) -> MatchSite<'i> {
+    let path = pointer(rt, alloc, "/$defs/s/pattern");
+    let way = pointer(rt, alloc, "/properties/a/$ref/pattern");
+    MatchSite::located(path, way, member_place(rt, alloc))
 }
 
-// What a search gives that is undecided, its failure having this reason.
-fn errors_of_undecided<'i>(
+/// A run that meets a match as a verdict and then, where that comes out as a yes, at a place, and refuses there.
+fn run_at_place<'i>(
+    rt: &impl Abort,
     alloc: Global,
-    root: &'i Value,
-    reason: Reason,
-) -> Result<Vec<ValidationError<'i>>, OutOfMemory> {
-    match a_failure(alloc, reason)? {
-        Some(failure) => errors(alloc, Outcomes::Undecided(failure), root),
-        None => Ok(Vec::new(alloc)),
-    }
-}
-
-#[test]
-fn an_undecided_search_fails(rt: HostRuntime) -> Result<(), OutOfMemory> {
-    let alloc = rt.alloc();
-    let told = "Error executing regex: Max limit for backtracking count exceeded";
-    let reason = Reason::Limit(Text::new(alloc, told)?);
-    let root = Value::Null;
-    let undecided = errors_of_undecided(alloc, &root, reason)?;
-    assert!(rt; have_texts(&undecided, &[told]));
-    drop(undecided);
-    drop(root);
-    Ok(())
-}
-
-// Each of these patterns is met once.
-fn meet<'i>(
-    alloc: Global,
-    patterns: &[&str],
-    met: &mut MatchAssumptions<'i>,
-) -> Result<(), OutOfMemory> {
-    for pattern in patterns.iter() {
-        met_at(alloc, met, pattern, Reason::Engine, "/anyOf/0/pattern")?;
-    }
-    Ok(())
-}
-
-// A run that meets each of these patterns once, and accepts whatever comes out.
-fn meet_each<'i>(
-    alloc: Global,
-    patterns: &[&str],
+    value: &'i Value,
     met: MatchAssumptions<'i>,
-) -> Result<(MatchAssumptions<'i>, bool), OutOfMemory> {
+) -> (MatchAssumptions<'i>, Vec<ValidationError<'i>>) {
     let mut met = met;
-    match meet(alloc, patterns, &mut met) {
-        Ok(()) => Ok((met, true)),
-        Err(failed) => {
-            drop(met);
-            Err(failed)
-        }
+    let mut errors = Vec::new(alloc);
+    let site = schema_site(rt, alloc, "/not/pattern");
+    let site = site.pattern(alloc, "source").expect(rt, "memory");
+    if met
+        .resolve("p", "abc", Reason::Engine, site)
+        .expect(rt, "memory")
+    {
+        let site = site_at_place(rt, alloc);
+        met.resolve("p", "abc", Reason::Engine, site)
+            .expect(rt, "memory");
+        let error = error_at(rt, alloc, value, "/not", "/not", "refused");
+        errors.push(error).expect(rt, "memory");
     }
+    (met, errors)
 }
 
-// Whether the search accepts, or no where the first run meets nothing.
-fn accepts(alloc: Global, patterns: &[&str]) -> Result<bool, OutOfMemory> {
-    let first = meet_each(alloc, patterns, MatchAssumptions::new(alloc))?;
-    if !first.0.met_unassumed() {
-        drop(first);
-        return Ok(false);
-    }
-    validity_under_each(alloc, |met| meet_each(alloc, patterns, met), first)
-}
-
-#[test]
-fn accepted_with_at_most_five(rt: HostRuntime) -> Result<(), OutOfMemory> {
-    let alloc = rt.alloc();
-    assert!(rt; accepts(alloc, &["d"])?);
-    assert!(rt; accepts(alloc, &["d", "e", "f", "g", "h"])?);
-    assert!(rt; !accepts(alloc, &["d", "e", "f", "g", "h", "i"])?);
-    assert!(rt; !accepts(alloc, &["d", "e", "f", "g", "h", "i", "j", "k"])?);
-    Ok(())
-}
-
-// Whether a match that is met at two places comes out alike.
-fn come_out_alike<'i>(alloc: Global, met: &mut MatchAssumptions<'i>) -> Result<bool, OutOfMemory> {
-    let one = met_at(alloc, met, "p", Reason::Engine, "/a/pattern")?;
-    if !met.is_unfinished("p", "abc") {
-        return Ok(false);
-    }
-    let site = schema_site(alloc, "/b/pattern")?;
-    let other = met.resolve_unfinished("p", "abc", site)?;
-    Ok(one == other)
-}
-
-// A run that meets one match at two places, and accepts where both come out alike.
-fn meet_twice<'i>(
+/// The errors of a search with such runs, or none where the first run meets nothing.
+fn errors_at_place<'i>(
+    rt: &impl Abort,
     alloc: Global,
-    met: MatchAssumptions<'i>,
-) -> Result<(MatchAssumptions<'i>, bool), OutOfMemory> {
-    let mut met = met;
-    match come_out_alike(alloc, &mut met) {
-        Ok(is_alike) => Ok((met, is_alike)),
-        Err(failed) => {
-            drop(met);
-            Err(failed)
-        }
-    }
-}
-
-#[test]
-fn one_outcome_for_both(rt: HostRuntime) -> Result<(), OutOfMemory> {
-    let alloc = rt.alloc();
-    let first = meet_twice(alloc, MatchAssumptions::new(alloc))?;
-    assert!(rt; !first.0.is_unfinished("q", "abc") && !first.0.is_unfinished("p", "ab"));
-    assert!(rt; first.0.met_unassumed());
-    let mut run = |met| meet_twice(alloc, met);
-    assert!(rt; validity(assume_each_outcome(alloc, &mut run, first)?));
-    Ok(())
-}
-
-// A site with a place.
-fn site_at_place<'i>(alloc: Global) -> Result<MatchSite<'i>, OutOfMemory> {
-    let schema_path = Location::from_escaped(alloc, "/$defs/s/pattern")?;
-    let evaluation_path = Location::from_escaped(alloc, "/properties/a/$ref/pattern")?;
-    let place = Place::root(alloc).below(InstanceStep::Member("a"))?;
-    Ok(MatchSite::located(schema_path, evaluation_path, place))
-}
-
-// Whether a match that is met as a verdict comes out as a yes; then it is met at a place.
-fn meet_at_place<'i>(alloc: Global, met: &mut MatchAssumptions<'i>) -> Result<bool, OutOfMemory> {
-    let site = schema_site(alloc, "/not/pattern")?.pattern(alloc, "source")?;
-    if !met.resolve("p", "abc", Reason::Engine, site)? {
-        return Ok(false);
-    }
-    let site = site_at_place(alloc)?;
-    met.resolve("p", "abc", Reason::Engine, site)?;
-    Ok(true)
-}
-
-// The errors of such a run: one where that match comes out as a yes.
-fn refusals_at<'i>(
-    alloc: Global,
-    root: &'i Value,
-    met: &mut MatchAssumptions<'i>,
+    value: &'i Value,
 ) -> Result<Vec<ValidationError<'i>>, OutOfMemory> {
-    if !meet_at_place(alloc, met)? {
-        return Ok(Vec::new(alloc));
-    }
-    let error = error_at(alloc, root, "/not", "refused")?;
-    let mut list = Vec::new(alloc);
-    list.push(error)?;
-    Ok(list)
-}
-
-// A run that meets a match as a verdict and then, where that comes out as a yes, at a place, and refuses there.
-fn meet_at<'i>(
-    alloc: Global,
-    root: &'i Value,
-    met: MatchAssumptions<'i>,
-) -> Result<(MatchAssumptions<'i>, Vec<ValidationError<'i>>), OutOfMemory> {
-    let mut met = met;
-    match refusals_at(alloc, root, &mut met) {
-        Ok(list) => Ok((met, list)),
-        Err(failed) => {
-            drop(met);
-            Err(failed)
-        }
-    }
-}
-
-// The errors of a search with such runs, or none where the first run meets nothing.
-fn errors_of_search<'i>(
-    alloc: Global,
-    root: &'i Value,
-) -> Result<Vec<ValidationError<'i>>, OutOfMemory> {
-    let first = meet_at(alloc, root, MatchAssumptions::new(alloc))?;
+    let first = run_at_place(rt, alloc, value, MatchAssumptions::new(alloc));
     if !first.0.met_unassumed() {
         drop(first);
         return Ok(Vec::new(alloc));
     }
-    errors_under_each(alloc, |met| meet_at(alloc, root, met), first, root)
+    let again = |met| Ok(run_at_place(rt, alloc, value, met));
+    errors_under_each(alloc, again, first, value)
 }
 
-// Whether an error has this instance path and this instance text.
-fn is_of(
-    alloc: Global,
-    error: &ValidationError<'_>,
-    path: &str,
-    text: &str,
-) -> Result<bool, OutOfMemory> {
-    let instance_path = error.instance_path(alloc)?;
-    let instance = error.instance.text(alloc)?;
-    Ok(instance_path.as_str() == path && instance.as_str() == text)
-}
-
-// Whether each error has this instance path and this instance text.
-fn are_of(
-    alloc: Global,
-    list: &[ValidationError<'_>],
-    path: &str,
-    text: &str,
-) -> Result<bool, OutOfMemory> {
-    for error in list.iter() {
-        if !is_of(alloc, error, path, text)? {
-            return Ok(false);
-        }
-    }
-    Ok(true)
-}
-
-#[test]
-fn a_site_with_a_place_is_taken(rt: HostRuntime) -> Result<(), serde_json::Error> {
-    let alloc = rt.alloc();
-    let root = Value::from_str(alloc, r#"{"a":"abc"}"#)?;
-    let alone = errors_of_search(alloc, &root)?;
-    assert!(rt;
-        have_texts(
-            &alone,
-            &["Regex engine failed to evaluate pattern 'source'"]
+/// Whether an error has a row's text, paths and instance.
+fn is_of(rt: &impl Abort, alloc: Global, error: &ValidationError<'_>, row: &Value) -> bool {
+    error.text.as_str() == text_at(row, 2)
+        && error.schema_path.as_str() == text_at(row, 3)
+        && error.evaluation_path.as_str() == text_at(row, 4)
+        && points(
+            error.instance_path(alloc).expect(rt, "memory"),
+            text_at(row, 5),
         )
-    );
-    for error in &alone {
-        assert_eq!(rt; error.schema_path.as_str(), "/$defs/s/pattern");
-        assert_eq!(rt;
-            error.evaluation_path.as_str(),
-            "/properties/a/$ref/pattern"
-        );
+        && is_text(
+            error.instance.text(alloc).expect(rt, "memory"),
+            text_at(row, 6),
+        )
+}
+
+/// Whether the search over a row's instance gives the row's error alone.
+fn is_located(rt: &impl Abort, alloc: Global, row: &Value) -> bool {
+    let errors = errors_at_place(rt, alloc, column(row, 1)).expect(rt, "memory");
+    let is_located = match errors.as_slice() {
+        [error] => is_of(rt, alloc, error, row),
+        _ => false,
+    };
+    drop(errors);
+    is_located
+}
+
+/// Whether a row holds.
+pub(crate) fn finds(rt: &impl Abort, alloc: Global, row: &Value) -> bool {
+    match text_at(row, 0) {
+        "accepted" => is_accepted(rt, alloc, row),
+        "shared" => is_shared(rt, alloc, row),
+        _ => is_located(rt, alloc, row),
     }
-    let are_at_place = are_of(alloc, &alone, "/a", "\"abc\"");
-    drop(alone);
-    drop(root);
-    assert!(rt; are_at_place?);
+}
+
+#[test]
+fn searches(rt: HostRuntime) -> Result<(), serde_json::Error> {
+    assert_eq!(rt; wrong(&rt, rt.alloc(), ROWS, Rows::Searches)?, None);
     Ok(())
 }
