@@ -1,5 +1,5 @@
 -- What is so when a key that had no number has the next one.
-use Rattle.std.specs.Prelude.{Bool, List, Option, Some, [], false, if◌then◌else◌, length, map, suc, ℕ, ◌++◌, ◌∷◌, ◌≡◌}
+use Rattle.std.specs.Prelude.{Bool, Option, Some, [], false, if◌then◌else◌, length, map, suc, ℕ, ◌++◌, ◌∷◌, ◌≡◌}
 use Rattle.schema_definitions.specs.Plan.{Key}
 use Rattle.schema_keys.specs.KeyViews.{key_of}
 use Rattle.schema_compiler.specs.Carried.{IsWell, Task, filled}

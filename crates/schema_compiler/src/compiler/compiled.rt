@@ -1,5 +1,5 @@
 //! The keys that were reached and their nodes, while they are filled.
-ghost use Rattle.std.specs.Prelude.{◌≡◌, ◌≢◌, ℕ, ◌<◌, ◌≤◌, ◌++◌, ◌∷◌, [], true, false, suc, IfOk, IfErr, OnOk};
+ghost use Rattle.std.specs.Prelude.{◌≡◌, ◌≢◌, ℕ, ◌<◌, ◌≤◌, ◌++◌, ◌∷◌, [], true, false, suc, IfOk, OnOk};
 ghost use Rattle.std.specs.Prelude.{MatchResult, map, Some, None, slice_get, length, if◌then◌else◌};
 ghost use Rattle.schema_keys.specs.KeyViews.{key_of};
 ghost use Rattle.schema_compiler.specs.Carried.{IsWell, RefusesKey, filled, task};
