@@ -52,9 +52,7 @@ pub fn is_valid<S: Resolver, T: KeywordTable<K>, K: Validate, M: Matcher, V: Met
         (V.checked metas.now) default_options (view schema.now) e) }
 {
     let built = Validator::<K, M>::new(alloc, schema, table, resolver, matcher, metas)?;
-    let answer = built.is_valid(alloc, instance);
-    drop(built);
-    Ok(answer?)
+    Ok(built.is_valid(alloc, instance)?)
 }
 
 /// Returns the first error of the instance as an inner `Err`, and an inner `Ok` if a schema accepts it, as
