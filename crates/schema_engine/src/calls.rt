@@ -46,9 +46,7 @@ pub fn is_valid<S: Resolver, T: KeywordTable<K>, K: Validate, M: Matcher, V: Met
         (V.checked metas.now) default_options (view schema.now) e) }
 {
     let validator = Validator::<K, M>::new(alloc, schema, table, resolver, matcher, metas)?;
-    let answer = validator.is_valid(alloc, instance);
-    drop(validator);
-    Ok(answer?)
+    Ok(validator.is_valid(alloc, instance)?)
 }
 
 /// Returns the first error of the instance as an inner `Err`, and an inner `Ok` if a schema accepts it, as

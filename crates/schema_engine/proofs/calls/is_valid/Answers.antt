@@ -14,7 +14,7 @@ returns-clause-answer g c =
     let m = g.M.Matcher.matching c.args.matcher.now in
     let k = g.K.Validate in
     plainly_from r table m k.words default_options (view c.args.schema.now) k.shape k.is_whole g.M.Matcher.matching c.in_ok-validator.validator (view c.args.instance.now)
-    (λ texts v. VerdictSays v is_valid c.in_ok-answer.field-0) c.in_ok-validator.ensures.means c.in_ok-answer.ensures.senses
+    (λ texts v. VerdictSays v is_valid c.in_ok-is_valid.field-0) c.in_ok-validator.ensures.means c.in_ok-is_valid.ensures.senses
 
 pub returns-in_err-validator-clause-refused : goal.returns-in_err-validator-clause-refused
 returns-in_err-validator-clause-refused g c =
