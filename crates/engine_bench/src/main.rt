@@ -2,11 +2,14 @@
 //! table, a resolver and a matcher that are made for tests and for this program.
 #![tactic(auto)]
 
-pub mod program;
+#[cfg(test)]
+mod row_tests;
+#[cfg(test)]
+mod tests;
 
-use crate::program::arguments::given_words;
-use crate::program::faults::Fault;
-use crate::program::{refuse, run};
+use bench_program::program::arguments::given_words;
+use bench_program::program::faults::Fault;
+use bench_program::program::{refuse, run};
 use std::process::ExitCode;
 
 fn main(rt: HostRuntime) -> ExitCode {

@@ -1,9 +1,9 @@
 -- How a run of the program ends.
 use Rattle.std.specs.Prelude.{Bool, false, true, ℕ, ◌≡◌, ◌⊎◌}
-use Rattle.engine_bench.specs.declared.program.Status.{Status}
-use Rattle.engine_bench.specs.declared.program.Status.TheVariants as status
-use Rattle.engine_bench.specs.declared.program.faults.Fault.{Fault}
-use Rattle.engine_bench.specs.declared.program.faults.Fault.TheVariants.{BuildRefused, NotJson, OutOfMemory, Usage}
+use Rattle.bench_program.specs.declared.program.Status.{Status}
+use Rattle.bench_program.specs.declared.program.Status.TheVariants as status
+use Rattle.bench_program.specs.declared.program.faults.Fault.{Fault}
+use Rattle.bench_program.specs.declared.program.faults.Fault.TheVariants.{BuildRefused, NotJson, OutOfMemory, Usage}
 
 -- the status of the process
 abbrev pub code_of : Status → ℕ

@@ -7,12 +7,12 @@ use Rattle.schema_engine.specs.ProgramOf.{IsProgramOf}
 use Rattle.schema_engine.specs.Roots.{Builds, RefusesBuild}
 use Rattle.bench_resolver.specs.BenchAnswers.{bench_resolving}
 use Rattle.bench_parts.specs.BenchMatching.{bench_matcher}
-use Rattle.engine_bench.specs.ProgramMeaning.{Asked, BenchHasUnits, BenchMeans, IsRefused, bench_table}
-use Rattle.engine_bench.specs.ProgramViews.{texts}
+use Rattle.bench_program.specs.ProgramMeaning.{Asked, BenchHasUnits, BenchMeans, IsRefused, bench_table}
+use Rattle.bench_program.specs.ProgramViews.{texts}
 use Rattle.bench_keywords.specs.Shapes.{shape_of}
 use Rattle.bench_keywords.specs.Words.{words}
-use Rattle.engine_bench.proofs.BuildFaults.{build_fault}
-use Rattle.engine_bench.proofs.program.answer_to.Goals as goal
+use Rattle.bench_program.proofs.BuildFaults.{build_fault}
+use Rattle.bench_program.proofs.program.answer_to.Goals as goal
 
 pub returns-in_err-validator-clause-fault : goal.returns-in_err-validator-clause-fault
 returns-in_err-validator-clause-fault c =

@@ -1,8 +1,8 @@
 use Rattle.std.proofs.Common.{ap, is_none, option_map, sym, true, ◌++◌, ◌∙◌}
 use Rattle.schema_reports.specs.ReportViews.{error_of}
 use Rattle.schema_engine.specs.Answers.{refusal_of}
-use Rattle.engine_bench.specs.ProgramTexts.{error_line, first_text}
-use Rattle.engine_bench.proofs.program.answers.first.Goals as goal
+use Rattle.bench_program.specs.ProgramTexts.{error_line, first_text}
+use Rattle.bench_program.proofs.program.answers.first.Goals as goal
 
 pub returns-in_ok-from_str-in-Ok-clause-senses : goal.returns-in_ok-from_str-in-Ok-clause-senses
 returns-in_ok-from_str-in-Ok-clause-senses c = (

@@ -27,12 +27,12 @@ use Rattle.bench_parts.specs.BenchMeta.{document_fault}
 use Rattle.bench_resolver.specs.BenchStates.{Point}
 use Rattle.bench_parts.specs.Makers.{bench_script}
 use Rattle.bench_keywords.specs.BenchShape.{BenchShape, is_whole}
-use Rattle.engine_bench.specs.ProgramAnswers.{Answers}
-use Rattle.engine_bench.specs.ProgramWords.{Holds}
+use Rattle.bench_program.specs.ProgramAnswers.{Answers}
+use Rattle.bench_program.specs.ProgramWords.{Holds}
 use Rattle.bench_keywords.specs.Shapes.{shape_of}
 use Rattle.bench_keywords.specs.Words.{words}
 use Rattle.bench_keywords.specs.declared.keyword.BenchKeyword.{BenchKeyword}
-use Rattle.engine_bench.specs.declared.program.requests.Call.{Call}
+use Rattle.bench_program.specs.declared.program.requests.Call.{Call}
 
 module _ (resolver : Resolver Point) (table : Table BenchShape) (matcher : Matcher) (options : Options) (schema : Data) where
   -- said of the plain meaning for each root key of the schema, of texts too where they are spoken rightly

@@ -2,9 +2,9 @@ use Rattle.std.proofs.Common.{List, map, string_bytes, subst, true, ◌≡◌}
 use Rattle.schema_reports.specs.ReportViews.{error_of}
 use Rattle.schema_reports.specs.declared.reports.ValidationError.{ValidationError}
 use Rattle.schema_parts.specs.KeywordViews.{is_nil}
-use Rattle.engine_bench.specs.ProgramTexts.{errors_text}
-use Rattle.engine_bench.proofs.ErrorLists.{all_counted, all_printed}
-use Rattle.engine_bench.proofs.program.answers.errors.Goals as goal
+use Rattle.bench_program.specs.ProgramTexts.{errors_text}
+use Rattle.bench_program.proofs.ErrorLists.{all_counted, all_printed}
+use Rattle.bench_program.proofs.program.answers.errors.Goals as goal
 
 pub returns-clause-senses : goal.returns-clause-senses
 returns-clause-senses c =

@@ -14,13 +14,13 @@ use Rattle.bench_resolver.specs.BenchStates.{Point}
 use Rattle.bench_keywords.specs.BenchShape.{BenchShape, is_whole}
 use Rattle.schema_engine.specs.Evaluated.{UnitsAnswered}
 use Rattle.schema_engine.proofs.PlainAnswers.{plainly_with_units}
-use Rattle.engine_bench.specs.ProgramMeaning.{AnswersInEverySense, AnswersPlainly, BenchHasUnits, BenchMeans, OfPlainMeaning}
+use Rattle.bench_program.specs.ProgramMeaning.{AnswersInEverySense, AnswersPlainly, BenchHasUnits, BenchMeans, OfPlainMeaning}
 use Rattle.bench_keywords.specs.Shapes.{shape_of}
 use Rattle.bench_keywords.specs.Words.{words}
 use Rattle.bench_keywords.specs.declared.keyword.BenchKeyword.{BenchKeyword}
-use Rattle.engine_bench.specs.declared.program.answers.Answer.{Answer}
-use Rattle.engine_bench.specs.declared.program.requests.Call.{Call}
-use Rattle.engine_bench.specs.declared.program.requests.Call.TheVariants.{Evaluate, IsValid, IterErrors, Validate}
+use Rattle.bench_program.specs.declared.program.answers.Answer.{Answer}
+use Rattle.bench_program.specs.declared.program.requests.Call.{Call}
+use Rattle.bench_program.specs.declared.program.requests.Call.TheVariants.{Evaluate, IsValid, IterErrors, Validate}
 
 said_plainly : (resolver : Resolver Point) (table : Table BenchShape) (matcher : Matcher) (options : Options) (schema : Data) (p : Program BenchKeyword (List Text)) (instance : Data) (fact : Bool → Sense → Type 0)
     → BenchMeans resolver table matcher options schema p → OfEverySense shape_of words is_whole bench_matcher p instance fact

@@ -4,7 +4,7 @@ use Rattle.schema_definitions.specs.Instance.{Text}
 use Rattle.schema_reports.specs.ReportViews.{error_of}
 use Rattle.schema_reports.specs.declared.reports.ValidationError.{ValidationError}
 use Rattle.schema_parts.specs.KeywordViews.{is_nil}
-use Rattle.engine_bench.specs.ProgramTexts.{errors_text}
+use Rattle.bench_program.specs.ProgramTexts.{errors_text}
 
 pub all_printed : (all left : List ValidationError) (text : Text) → errors_text (map (error_of true) all) ≡ text ++ errors_text (map (error_of true) left) → left ≡ []
     → text ≡ errors_text (map (error_of true) all)

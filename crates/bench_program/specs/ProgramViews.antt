@@ -3,8 +3,8 @@ use Rattle.std.specs.Prelude.{List, map, ℕ}
 use Rattle.std.specs.declared.alloc.Global.{Global}
 use Rattle.std.specs.declared.vec.Vec.{Vec}
 use Rattle.schema_definitions.specs.Instance.{Text}
-use Rattle.engine_bench.specs.declared.program.requests.Words.{Words}
-use Rattle.engine_bench.specs.ProgramWords.{FourWords}
+use Rattle.bench_program.specs.declared.program.requests.Words.{Words}
+use Rattle.bench_program.specs.ProgramWords.{FourWords}
 
 abbrev pub texts : List (Vec ℕ Global) → List Text
 texts vs = map (λ v. v.items) vs

@@ -1,6 +1,6 @@
 //! Why the program answers nothing.
-ghost use Rattle.engine_bench.specs.ProgramFaults.{fault_of, fault_text, word_name};
-ghost use Rattle.engine_bench.specs.ProgramRuns.{fault_status};
+ghost use Rattle.bench_program.specs.ProgramFaults.{fault_of, fault_text, word_name};
+ghost use Rattle.bench_program.specs.ProgramRuns.{fault_status};
 ghost use Rattle.std.specs.Prelude.{◌≡◌, Some};
 
 use crate::program::Status;
@@ -68,7 +68,7 @@ impl fmt::Display for Fault {
 }
 
 impl From<AllocError> for Fault {
-    ghost use Rattle.engine_bench.specs.declared.program.faults.Fault.TheVariants.{OutOfMemory};
+    ghost use Rattle.bench_program.specs.declared.program.faults.Fault.TheVariants.{OutOfMemory};
 
     ghost from_gives = { λ _ f. f ≡ OutOfMemory };
 
@@ -78,7 +78,7 @@ impl From<AllocError> for Fault {
 }
 
 impl<T: Drop> From<AllocFailed<T>> for Fault {
-    ghost use Rattle.engine_bench.specs.declared.program.faults.Fault.TheVariants.{OutOfMemory};
+    ghost use Rattle.bench_program.specs.declared.program.faults.Fault.TheVariants.{OutOfMemory};
 
     ghost from_gives = { λ _ f. f ≡ OutOfMemory };
 
@@ -88,7 +88,7 @@ impl<T: Drop> From<AllocFailed<T>> for Fault {
 }
 
 impl From<BuildError> for Fault {
-    ghost use Rattle.engine_bench.specs.ProgramFaults.{fault_of};
+    ghost use Rattle.bench_program.specs.ProgramFaults.{fault_of};
 
     ghost from_gives = { λ e f. f ≡ fault_of e };
 

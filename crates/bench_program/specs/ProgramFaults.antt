@@ -5,12 +5,12 @@ use Rattle.schema_definitions.specs.Instance.{Text}
 use Rattle.schema_keys.specs.Refusing.{number_of}
 use Rattle.schema_keys.specs.declared.error.BuildError.{BuildError}
 use Rattle.schema_keys.specs.declared.error.BuildError.TheVariants as build
-use Rattle.engine_bench.specs.declared.program.faults.Fault.{Fault}
-use Rattle.engine_bench.specs.declared.program.faults.Fault.TheVariants.{BuildRefused, NotJson, OutOfMemory, Usage}
-use Rattle.engine_bench.specs.declared.program.faults.Word.{Word}
-use Rattle.engine_bench.specs.declared.program.faults.Word.TheVariants.{Instance, Schema, Unfinished}
-use Rattle.engine_bench.specs.ProgramMeaning.{Asked, IsRefused}
-use Rattle.engine_bench.specs.ProgramWords.{FourWords, IsJson, IsList, call_in, words_in}
+use Rattle.bench_program.specs.declared.program.faults.Fault.{Fault}
+use Rattle.bench_program.specs.declared.program.faults.Fault.TheVariants.{BuildRefused, NotJson, OutOfMemory, Usage}
+use Rattle.bench_program.specs.declared.program.faults.Word.{Word}
+use Rattle.bench_program.specs.declared.program.faults.Word.TheVariants.{Instance, Schema, Unfinished}
+use Rattle.bench_program.specs.ProgramMeaning.{Asked, IsRefused}
+use Rattle.bench_program.specs.ProgramWords.{FourWords, IsJson, IsList, call_in, words_in}
 
 abbrev pub word_name : Word → Text
 word_name Schema = codes "SCHEMA"

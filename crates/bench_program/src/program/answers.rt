@@ -9,10 +9,10 @@ ghost use Rattle.schema_reports.specs.ReportViews.{error_of};
 ghost use Rattle.schema_engine.specs.Handed.{Options};
 ghost use Rattle.bench_resolver.specs.BenchStates.{Point};
 ghost use Rattle.bench_keywords.specs.BenchShape.{BenchShape};
-ghost use Rattle.engine_bench.specs.ProgramMeaning.{AnswersFromSomeDepth, AnswersInEverySense, AnswersPlainly, BenchHasUnits, BenchMeans};
-ghost use Rattle.engine_bench.specs.ProgramRuns.{answer_status};
-ghost use Rattle.engine_bench.specs.ProgramTexts.{IsJsonLine, error_line, verdict_text};
-ghost use Rattle.engine_bench.specs.declared.program.requests.Call.TheVariants.{Evaluate, IsValid, IterErrors, Validate};
+ghost use Rattle.bench_program.specs.ProgramMeaning.{AnswersFromSomeDepth, AnswersInEverySense, AnswersPlainly, BenchHasUnits, BenchMeans};
+ghost use Rattle.bench_program.specs.ProgramRuns.{answer_status};
+ghost use Rattle.bench_program.specs.ProgramTexts.{IsJsonLine, error_line, verdict_text};
+ghost use Rattle.bench_program.specs.declared.program.requests.Call.TheVariants.{Evaluate, IsValid, IterErrors, Validate};
 
 use crate::program::Status;
 use crate::program::requests::Call;

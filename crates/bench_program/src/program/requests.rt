@@ -2,9 +2,9 @@
 ghost use Rattle.std.specs.Prelude.{◌≡◌, IfOk, IfErr, map, option_map, string_bytes};
 ghost use Rattle.serde_json.specs.View.{view};
 ghost use Rattle.bench_parts.specs.Makers.{texts_of};
-ghost use Rattle.engine_bench.specs.ProgramFaults.{FaultStands, Unlisted, Unread};
-ghost use Rattle.engine_bench.specs.ProgramViews.{texts, words_of};
-ghost use Rattle.engine_bench.specs.ProgramWords.{Holds, IsListOf, IsTextOf, call_in, call_named, listed, words_in};
+ghost use Rattle.bench_program.specs.ProgramFaults.{FaultStands, Unlisted, Unread};
+ghost use Rattle.bench_program.specs.ProgramViews.{texts, words_of};
+ghost use Rattle.bench_program.specs.ProgramWords.{Holds, IsListOf, IsTextOf, call_in, call_named, listed, words_in};
 
 use crate::program::faults::{Fault, Word};
 use bench_parts::table::keyword_values::texts_of;

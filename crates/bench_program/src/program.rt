@@ -2,21 +2,17 @@
 ghost use Rattle.std.specs.Prelude.{◌≡◌, Bool, IfOk, IfErr, OnErr, OnOk, string_bytes};
 ghost use Rattle.std.specs.Io.KnownBytes.{Appends, Keeps};
 ghost use Rattle.schema_definitions.specs.Instance.{Text};
-ghost use Rattle.engine_bench.specs.declared.program.faults.Fault.{Fault};
-ghost use Rattle.engine_bench.specs.ProgramFaults.{FaultStands, fault_line};
-ghost use Rattle.engine_bench.specs.ProgramMeaning.{AnswersWords};
-ghost use Rattle.engine_bench.specs.ProgramRuns.{IsAnswer, IsRefusal, UnlessUnwritten, answer_status, fault_status};
-ghost use Rattle.engine_bench.specs.ProgramViews.{texts};
-ghost use Rattle.engine_bench.specs.ProgramWords.{call_in};
+ghost use Rattle.bench_program.specs.declared.program.faults.Fault.{Fault};
+ghost use Rattle.bench_program.specs.ProgramFaults.{FaultStands, fault_line};
+ghost use Rattle.bench_program.specs.ProgramMeaning.{AnswersWords};
+ghost use Rattle.bench_program.specs.ProgramRuns.{IsAnswer, IsRefusal, UnlessUnwritten, answer_status, fault_status};
+ghost use Rattle.bench_program.specs.ProgramViews.{texts};
+ghost use Rattle.bench_program.specs.ProgramWords.{call_in};
 
 pub mod answers;
 pub mod arguments;
 pub mod faults;
 pub mod requests;
-#[cfg(test)]
-mod row_tests;
-#[cfg(test)]
-mod tests;
 
 use crate::program::answers::{Answer, ask};
 use crate::program::faults::Fault;
@@ -49,7 +45,7 @@ pub enum Status {
 }
 
 impl Status {
-    ghost use Rattle.engine_bench.specs.ProgramRuns.{code_of};
+    ghost use Rattle.bench_program.specs.ProgramRuns.{code_of};
 
     /// The status that the process ends with, from 0 to 5 in the order of the variants.
     pub fn code(self) -> u8

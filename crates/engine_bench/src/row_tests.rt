@@ -4,7 +4,7 @@
 //! A row is `[schema, instance, unfinished patterns, lines of all errors]`, which each mode answers; or
 //! `[words, standard output, standard error, status]`, where a word that is not a text is written as JSON, and a standard output
 //! that is a list is its texts one after the other.
-use crate::program::run;
+use bench_program::program::run;
 use schema_reports::location::OutOfMemory;
 use serde_json::Value;
 use std::alloc::Global;

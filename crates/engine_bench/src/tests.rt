@@ -1,7 +1,7 @@
 //! Words that are not UTF-8, writers that refuse, and the words of a process.
-use crate::program::arguments::given_words;
-use crate::program::faults::Fault;
-use crate::program::{Status, refuse, run};
+use bench_program::program::arguments::given_words;
+use bench_program::program::faults::Fault;
+use bench_program::program::{Status, refuse, run};
 use schema_reports::location::OutOfMemory;
 use std::alloc::Global;
 use std::env::{Env, FillError};
@@ -36,13 +36,23 @@ fn told_without_utf8(alloc: Global, place: usize) -> Result<Vec<u8>, OutOfMemory
     }
 }
 
+/// Whether this is the line for words of which the one at a place is no UTF-8.
+fn tells_without_utf8(alloc: Global, place: usize, line: &str) -> Result<bool, OutOfMemory> {
+    let told = told_without_utf8(alloc, place)?;
+    Ok(told.as_slice() == line.as_bytes())
+}
+
 #[test]
 fn words_without_utf8(rt: HostRuntime) -> Result<(), OutOfMemory> {
     let alloc = rt.alloc();
-    assert!(rt; told_without_utf8(alloc, 0)?.as_slice() == USAGE.as_bytes());
-    assert!(rt; told_without_utf8(alloc, 1)?.as_slice() == b"not JSON: SCHEMA\n".as_slice());
-    assert!(rt; told_without_utf8(alloc, 2)?.as_slice() == b"not JSON: INSTANCE\n".as_slice());
-    assert!(rt; told_without_utf8(alloc, 3)?.as_slice() == b"not JSON: UNFINISHED\n".as_slice());
+    for (place, line) in [
+        (0, USAGE),
+        (1, "not JSON: SCHEMA\n"),
+        (2, "not JSON: INSTANCE\n"),
+        (3, "not JSON: UNFINISHED\n"),
+    ] {
+        assert!(rt; tells_without_utf8(alloc, place, line)?);
+    }
     Ok(())
 }
 
@@ -90,17 +100,19 @@ fn narrow_status(
 #[test]
 fn failed_writes(rt: HostRuntime) -> Result<(), OutOfMemory> {
     let alloc = rt.alloc();
-    let answered: &[&str] = &["first", "true", "1"];
-    assert_eq!(rt; narrow_status(alloc, answered, 3, true)?.code(), 0);
-    assert_eq!(rt; narrow_status(alloc, answered, 3, false)?.code(), 5);
-    assert_eq!(rt; narrow_status(alloc, answered, 2, true)?.code(), 5);
-    assert_eq!(rt; narrow_status(alloc, answered, 0, true)?.code(), 5);
-    let refused: &[&str] = &["first", "7", "1"];
-    assert_eq!(rt; narrow_status(alloc, refused, 17, true)?.code(), 2);
-    assert_eq!(rt; narrow_status(alloc, refused, 17, false)?.code(), 5);
-    assert_eq!(rt; narrow_status(alloc, refused, 16, true)?.code(), 5);
-    let silent: &[&str] = &["errors", "true", "1"];
-    assert_eq!(rt; narrow_status(alloc, silent, 0, true)?.code(), 0);
+    for (mode, schema, room, flushes, code) in [
+        ("first", "true", 3, true, 0),
+        ("first", "true", 3, false, 5),
+        ("first", "true", 2, true, 5),
+        ("first", "true", 0, true, 5),
+        ("first", "7", 17, true, 2),
+        ("first", "7", 17, false, 5),
+        ("first", "7", 16, true, 5),
+        ("errors", "true", 0, true, 0),
+    ] {
+        let status = narrow_status(alloc, &[mode, schema, "1"], room, flushes)?;
+        assert_eq!(rt; status.code(), code);
+    }
     Ok(())
 }
 

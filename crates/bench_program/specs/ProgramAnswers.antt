@@ -12,9 +12,9 @@ use Rattle.schema_parts.specs.KeywordViews.{is_nil}
 use Rattle.schema_output.specs.Output.{output_list}
 use Rattle.schema_engine.specs.Evaluated.{EvaluationAnswered}
 use Rattle.schema_engine.specs.Spoken.{ErrorsAnswered, FirstAnswered}
-use Rattle.engine_bench.specs.ProgramTexts.{IsJsonLine, errors_text, first_text, verdict_text}
-use Rattle.engine_bench.specs.declared.program.requests.Call.{Call}
-use Rattle.engine_bench.specs.declared.program.requests.Call.TheVariants.{Evaluate, IsValid, IterErrors, Validate}
+use Rattle.bench_program.specs.ProgramTexts.{IsJsonLine, errors_text, first_text, verdict_text}
+use Rattle.bench_program.specs.declared.program.requests.Call.{Call}
+use Rattle.bench_program.specs.declared.program.requests.Call.TheVariants.{Evaluate, IsValid, IterErrors, Validate}
 
 -- an evaluation of which its sentence is said, and that it has the units that are said of it, its verdict, and the line of its list
 pub record AnswersEvaluate (Of : (Bool → Sense → Type 0) → Type 0) (HasUnits : EvaluationNode → Type 0) (accepted : Bool) (text : Text) : Type 0 where

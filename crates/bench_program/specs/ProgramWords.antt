@@ -4,8 +4,8 @@ use Rattle.serde_json.specs.Data.{Data, array}
 use Rattle.serde_json.specs.Read.{read}
 use Rattle.schema_definitions.specs.Instance.{Text}
 use Rattle.bench_parts.specs.Makers.{texts_of}
-use Rattle.engine_bench.specs.declared.program.requests.Call.{Call}
-use Rattle.engine_bench.specs.declared.program.requests.Call.TheVariants.{Evaluate, IsValid, IterErrors, Validate}
+use Rattle.bench_program.specs.declared.program.requests.Call.{Call}
+use Rattle.bench_program.specs.declared.program.requests.Call.TheVariants.{Evaluate, IsValid, IterErrors, Validate}
 
 pub record FourWords : Type 0 where
   pub mode : Text

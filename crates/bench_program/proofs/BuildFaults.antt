@@ -3,8 +3,8 @@ use Rattle.std.proofs.Common.{List, refl}
 use Rattle.schema_definitions.specs.Instance.{Text}
 use Rattle.schema_keys.specs.declared.error.BuildError.{BuildError}
 use Rattle.schema_keys.specs.declared.error.BuildError.TheVariants.{KeywordRefused, Lookup, MetaSchema, MissingRoot, NodeLimit, NotASchema, OutOfMemory, ReferenceNotText, UnsupportedVocabulary}
-use Rattle.engine_bench.specs.ProgramFaults.{FaultStands, fault_of}
-use Rattle.engine_bench.specs.ProgramMeaning.{Asked, IsRefused}
+use Rattle.bench_program.specs.ProgramFaults.{FaultStands, fault_of}
+use Rattle.bench_program.specs.ProgramMeaning.{Asked, IsRefused}
 
 pub build_fault : (ts : List Text) (asked : Asked ts) (e : BuildError) → IsRefused asked e → FaultStands ts (fault_of e)
 build_fault ts asked (NotASchema location) stands = (asked, NotASchema location, refl, stands)
