@@ -1,5 +1,5 @@
 //! Subschemas of schemas.
-ghost use Rattle.std.specs.Prelude.{◌≡◌, ◌++◌, ◌∷◌, [], flat_map, map, IfOk};
+ghost use Rattle.std.specs.Prelude.{◌≡◌, ◌++◌, ◌∷◌, [], flat_map, map, IfOk, option_map};
 ghost use Rattle.serde_json.specs.Find.{get};
 ghost use Rattle.serde_json.specs.Data.{object};
 ghost use Rattle.serde_json.specs.View.{items_view, members_view, view};
@@ -20,6 +20,13 @@ pub fn is_schema(value: &Value) -> bool
     ensures schema { result ≡ is_schema (view value.now) }
 {
     value.is_object() || value.is_boolean()
+}
+
+/// The value under a name.
+fn member<'v>(members: &'v Map<String, Value>, name: &str) -> Option<&'v Value>
+    ensures member { option_map (λ v. view v.now) result ≡ get name.now (object (members_view members.now.entries)) }
+{
+    members.get(name)
 }
 
 /// The place of a member's member, below a place.
@@ -114,7 +121,7 @@ fn push_object(
     ensures pushed { IfOk result (λ _. map place_of places.new.items ≡ map place_of places.old.items
         ++ map (at_path (place_of place.now)) (below_object keyword.now (get keyword.now (object (members_view members.now.entries))))) }
 {
-    if let Some(value) = members.get(keyword) {
+    if let Some(value) = member(members, keyword) {
         if let Some(inner) = value.as_object() {
             push_members(alloc, place, keyword, inner, places)?;
         }
@@ -133,7 +140,7 @@ fn push_list(
     ensures pushed { IfOk result (λ _. map place_of places.new.items ≡ map place_of places.old.items
         ++ map (at_path (place_of place.now)) (below_list keyword.now (get keyword.now (object (members_view members.now.entries))))) }
 {
-    if let Some(value) = members.get(keyword) {
+    if let Some(value) = member(members, keyword) {
         if let Some(items) = value.as_array() {
             push_items(alloc, place, keyword, items.as_slice(), places)?;
         }
@@ -152,7 +159,7 @@ fn push_value(
     ensures pushed { IfOk result (λ _. map place_of places.new.items ≡ map place_of places.old.items
         ++ map (at_path (place_of place.now)) (below_value keyword.now (get keyword.now (object (members_view members.now.entries))))) }
 {
-    if let Some(value) = members.get(keyword) {
+    if let Some(value) = member(members, keyword) {
         if is_schema(value) {
             places.push(value_place(alloc, place, keyword)?)?;
         }
