@@ -1,1 +1,3 @@
 pub mod BenchResolving
+pub mod FoundSchemas
+pub mod FoundViews
