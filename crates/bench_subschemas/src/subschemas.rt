@@ -7,9 +7,10 @@ ghost use Rattle.schema_definitions.specs.Drafts.{at_path};
 ghost use Rattle.schema_parts.specs.ResolverViews.{place_of};
 ghost use Rattle.bench_subschemas.specs.BenchResolving.{below_list, below_object, below_value, is_schema};
 ghost use Rattle.bench_subschemas.specs.BenchResolving.{names_of_lists, names_of_objects, names_of_values, subschemas};
-ghost use Rattle.bench_subschemas.specs.FoundSchemas.{any_names_schemas, found_at, names_schemas, schema_if};
+ghost use Rattle.bench_subschemas.specs.FoundSchemas.{found_at, schema_if};
 ghost use Rattle.bench_subschemas.specs.FoundViews.{found_of, path_of};
 
+use crate::plain::any_names_schemas;
 use schema_parts::schema_place::{SchemaPath, SchemaPlace, SchemaStep};
 use schema_reports::location::OutOfMemory;
 use serde_json::{Map, Value};
@@ -213,30 +214,6 @@ fn found_in<'v>(
     find_in_lists(members, &mut found)?;
     find_values(members, &mut found)?;
     Ok(found)
-}
-
-/// Whether subschemas may lie under this name.
-fn names_schemas(name: &str) -> bool
-    ensures names { result ≡ names_schemas name.now }
-{
-    match name {
-        "$defs" | "definitions" | "properties" => true,
-        "allOf" | "anyOf" | "oneOf" | "prefixItems" => true,
-        "not" | "if" | "then" | "else" | "items" | "propertyNames" => true,
-        _ => false,
-    }
-}
-
-/// Whether subschemas may lie under the name of one of these members.
-fn any_names_schemas(members: &Map<String, Value>) -> bool
-    ensures any { result ≡ any_names_schemas (members_view members.now.entries) }
-{
-    for (name, _) in members {
-        if names_schemas(name.as_str()) {
-            return true;
-        }
-    }
-    false
 }
 
 /// The subschemas of a schema, in order, each with the path that leads to it.
