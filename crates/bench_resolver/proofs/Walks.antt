@@ -1,16 +1,22 @@
--- The walk of a document goes down.
-use Rattle.std.proofs.Common.{◌≡◌, ◌∙◌, ◌<◌, ◌≤◌, ◌+◌, ℕ, zero, suc, Bool, true, false, List, [], ◌∷◌, ◌++◌, drop, length, map, get_or, refl, sym, ap, subst, arith, append-nil, append_assoc}
-use Rattle.std.specs.Prelude.{None, Some, flat_map}
-use Rattle.std.proofs.lemmas.List.{drop_all, drop_more}
+-- The walk of a document goes down, and keeps what it looks for.
+use Rattle.std.proofs.Common.{◌≡◌, ◌∙◌, ◌<◌, ◌≤◌, ◌+◌, ◌-◌, ℕ, zero, suc, Bool, true, false, List, [], ◌∷◌, ◌++◌, Option, codes, cond, drop, length, length-append, map, get_or, refl, sym, ap, subst, arith, append-nil, append_assoc, option_and_then, take}
+use Rattle.std.specs.Prelude.{None, Some, flat_map, is_some, ◌||◌}
+use Rattle.std.specs.List.{filter}
+use Rattle.std.proofs.lemmas.List.{drop_all, drop_more, flat_map_more}
+use Rattle.std.proofs.lemmas.List.Elements.{filter-append}
 use Rattle.serde_json.specs.Data.{Data, depth}
-use Rattle.schema_parts.specs.declared.schema_place.SchemaPlace.{SchemaPlace}
-use Rattle.schema_parts.specs.ResolverViews.{place_of}
-use Rattle.schema_definitions.specs.Drafts as spec
-use Rattle.schema_definitions.specs.Drafts.{Draft, at_path}
-use Rattle.schema_definitions.specs.Instance.{Place, a_value, subject_at}
+use Rattle.serde_json.specs.View.{view}
+use Rattle.schema_definitions.specs.Drafts.{Draft}
+use Rattle.schema_definitions.specs.Instance.{Place, Subject, Text, a_name, a_value, subject_at}
 use Rattle.schema_meaning.proofs.Falls.{path_falls}
-use Rattle.bench_subschemas.specs.BenchResolving.{data_of, detected, root_place, subschemas}
-use Rattle.bench_resolver.specs.BenchResources.{Visited, goes_into, visited_at, visited_below, visited_if}
+use Rattle.bench_subschemas.specs.BenchResolving.{data_of, detected, identifier, subschemas, text_member}
+use Rattle.bench_subschemas.specs.FoundSchemas.{Found, found_at}
+use Rattle.bench_subschemas.specs.FoundViews.{found_of, path_of}
+use Rattle.bench_subschemas.specs.PlainSchemas.{IsPlain}
+use Rattle.bench_subschemas.specs.declared.subschemas.FoundSchema.{FoundSchema}
+use Rattle.bench_resolver.specs.BenchResources.{Visited, goes_into, name_if, names_at, resource_if, uri_at, visited_at, visited_below, visited_if}
+use Rattle.bench_resolver.specs.BenchSpeaking.{kept_if, speaking, speaks}
+use Rattle.bench_resolver.specs.BenchUris.{own_uri}
 use Rattle.bench_resolver.specs.OnWay.{pairs_below, singles_below}
 use Rattle.bench_resolver.proofs.OnWay.{Long, long_pairs, long_singles}
 
@@ -30,73 +36,156 @@ both (p ∷ ps) qs h k = (h.0, both ps qs h.1 k)
 pub subschemas_have : (d : Data) → HaveSteps (subschemas d)
 subschemas_have d = both (pairs_below d) (singles_below d) (of_long 1 (pairs_below d) (long_pairs d)) (of_long 0 (singles_below d) (long_singles d))
 
-pub has_steps : (ps : List Place) (k : ℕ) (p : Place) → HaveSteps ps → k < length ps → 0 < length (get_or ps k p)
-has_steps [] k p h l = absurd (omega arith)
-has_steps (q ∷ ps) zero p h l = h.0
-has_steps (q ∷ ps) (suc k) p h l = has_steps ps k p h.1 (omega arith)
-
 pub lower : (schema below : Data) (p : Place) → 0 < length p → subject_at schema p ≡ Some (a_value below) → depth below < depth schema
 lower schema below [] l h = absurd (omega arith)
 lower schema below (s ∷ p) l h = let e : suc (depth below) < suc (depth schema) = path_falls s p (a_value schema) (a_value below) h in omega arith
 
--- the path of a place in the code
-abbrev pub path_at : SchemaPlace → Place
-path_at p = p.path
+-- ---- what the walk keeps
 
--- what the walk comes to at a path
-abbrev pub from : Bool → ℕ → Place → Draft → Data → Place → List Visited
-from everywhere n path draft schema p = visited_at (visited_below everywhere n) everywhere (path ++ p) draft (data_of (subject_at schema p))
+-- what is kept below what was found in a schema
+abbrev pub from : Bool → ℕ → Place → Draft → Found → List Visited
+from everywhere n path draft f = filter (speaking everywhere) (visited_at (visited_below everywhere n) everywhere (path ++ f.path) draft f.schema)
+
+module _ {A B : Type 0} (p : B → Bool) (f : A → List B) where
+  filter_flat : (xs : List A) → filter p (flat_map f xs) ≡ flat_map (λ x. filter p (f x)) xs
+  filter_flat [] = refl
+  filter_flat (x ∷ xs) = filter-append p (f x) (flat_map f xs) ∙ ap (λ ys. filter p (f x) ++ ys) (filter_flat xs)
+
+kept_below : (everywhere : Bool) (n : ℕ) (path : Place) (draft : Draft) (schema : Data) (ps : List Place)
+    → flat_map (from everywhere n path draft) (map (found_at schema) ps)
+    ≡ flat_map (λ p. filter (speaking everywhere) (visited_at (visited_below everywhere n) everywhere (path ++ p) draft (data_of (subject_at schema p)))) ps
+kept_below everywhere n path draft schema [] = refl
+kept_below everywhere n path draft schema (p ∷ ps) = ap (λ ys. from everywhere n path draft (found_at schema p) ++ ys) (kept_below everywhere n path draft schema ps)
+
+-- ---- what was found lies deeper
+
+data_is : (o : Option Subject) (d : Data) → Some d ≡ data_of o → o ≡ Some (a_value d)
+data_is None d e = absurd (let none : ⊥ = cc in none)
+data_is (Some (a_value x)) d e = let same : x ≡ d = cc in ap (λ y. Some (a_value y)) same
+data_is (Some (a_name k)) d e = absurd (let none : ⊥ = cc in none)
+
+pub found_lower : (schema : Data) (items : List FoundSchema) (ps : List Place) (k : ℕ) (f : FoundSchema) → map found_of items ≡ map (found_at schema) ps → HaveSteps ps → k < length items
+    → f ≡ get_or items k f → depth (view f.schema.now) < depth schema
+found_lower schema [] ps k f e have l at = absurd (omega arith)
+found_lower schema (x ∷ items) [] k f e have l at = absurd (let none : ⊥ = cc in none)
+found_lower schema (x ∷ items) (p ∷ ps) zero f e have l at =
+    let first : found_of x ≡ found_at schema p = cc in
+    let there : Some (view x.schema.now) ≡ data_of (subject_at schema p) = ap (λ (g : Found). g.schema) first in
+    subst (λ (g : FoundSchema). depth (view g.schema.now) < depth schema) (sym at) (lower schema (view x.schema.now) p have.0 (data_is _ _ there))
+found_lower schema (x ∷ items) (p ∷ ps) (suc k) f e have l at =
+    let rest : map found_of items ≡ map (found_at schema) ps = cc in
+    found_lower schema items ps k f rest have.1 (omega arith) at
 
 -- ---- a turn of the walk
 
-pub paths_are : (items : List SchemaPlace) (root : spec.SchemaPlace) (ps : List Place) → map place_of items ≡ map (at_path root) ps → root ≡ root_place → map path_at items ≡ ps
-paths_are [] root [] e r = refl
-paths_are [] root (p ∷ ps) e r = absurd (let no : ⊥ = cc in no)
-paths_are (x ∷ items) root [] e r = absurd (let no : ⊥ = cc in no)
-paths_are (x ∷ items) root (p ∷ ps) e r =
-    let first : place_of x ≡ at_path root p = cc in
-    let rest : map place_of items ≡ map (at_path root) ps = cc in
-    let path : x.path ≡ p = ap (λ (q : spec.SchemaPlace). q.path) (first ∙ ap (λ (q : spec.SchemaPlace). at_path q p) r) in
-    ap (λ (q : Place). q ∷ map path_at items) path ∙ ap (λ (qs : List Place). p ∷ qs) (paths_are items root ps rest r)
-
-pub item_has_steps : (items : List SchemaPlace) (ps : List Place) (k : ℕ) (p : SchemaPlace) → map path_at items ≡ ps → HaveSteps ps → k < length items → p ≡ get_or items k p → 0 < length p.path
-item_has_steps items ps k p is have l at = go items k l at (subst HaveSteps (sym is) have)
-  where
-    go : (xs : List SchemaPlace) (i : ℕ) → i < length xs → p ≡ get_or xs i p → HaveSteps (map path_at xs) → 0 < length p.path
-    go [] i less e h = absurd (omega arith)
-    go (x ∷ xs) zero less e h = subst (λ (q : SchemaPlace). 0 < length q.path) (sym e) h.0
-    go (x ∷ xs) (suc i) less e h = go xs i (omega arith) e h.1
-
--- one path more
-pub next_path : (f : Place → List Visited) (items : List SchemaPlace) (k : ℕ) (p : SchemaPlace) → k < length items → p ≡ get_or items k p
-    → flat_map f (map path_at (drop k items)) ≡ f p.path ++ flat_map f (map path_at (drop (k + 1) items))
-next_path f items k p l at = ap (λ (xs : List SchemaPlace). flat_map f (map path_at xs)) (drop_more items k p l)
-    ∙ ap (λ (q : SchemaPlace). f q.path ++ flat_map f (map path_at (drop (k + 1) items))) (sym at)
+pub next_found : (f : Found → List Visited) (items : List FoundSchema) (k : ℕ) (x : FoundSchema) → k < length items → x ≡ get_or items k x
+    → flat_map f (map found_of (drop k items)) ≡ f (found_of x) ++ flat_map f (map found_of (drop (k + 1) items))
+next_found f items k x l at = ap (λ (xs : List FoundSchema). flat_map f (map found_of xs)) (drop_more items k x l)
+    ∙ ap (λ (y : FoundSchema). f (found_of y) ++ flat_map f (map found_of (drop (k + 1) items))) (sym at)
 
 pub turned : {A : Type 0} (old new x rest next whole : List A) → old ++ rest ≡ whole → rest ≡ x ++ next → new ≡ old ++ x → new ++ next ≡ whole
 turned old new x rest next whole so_far one_more added = ap (λ ys. ys ++ next) added ∙ append_assoc old x next ∙ ap (λ ys. old ++ ys) (sym one_more) ∙ so_far
 
-module _ (everywhere : Bool) (n : ℕ) (path : Place) (draft : Draft) (schema : Data) (p : Place) where
-  -- nothing stands there, or what stands there is left aside
-  pub comes_to_nothing : data_of (subject_at schema p) ≡ None → from everywhere n path draft schema p ≡ []
-  comes_to_nothing e = ap (visited_at (visited_below everywhere n) everywhere (path ++ p) draft) e
+kept_first : (everywhere b : Bool) (v : Visited) (rest : List Visited) → speaking everywhere v ≡ b → kept_if b v ++ filter (speaking everywhere) rest ≡ filter (speaking everywhere) (v ∷ rest)
+kept_first everywhere true v rest e = ap (λ b. cond b (v ∷ filter (speaking everywhere) rest) (filter (speaking everywhere) rest)) (sym e)
+kept_first everywhere false v rest e = ap (λ b. cond b (v ∷ filter (speaking everywhere) rest) (filter (speaking everywhere) rest)) (sym e)
 
-  pub leaves : (below : Data) (d : Draft) → data_of (subject_at schema p) ≡ Some below → d ≡ detected draft below → goes_into everywhere d below ≡ false → from everywhere n path draft schema p ≡ []
-  leaves below d e is goes = ap (visited_at (visited_below everywhere n) everywhere (path ++ p) draft) e
-      ∙ ap (λ (d' : Draft). visited_if (visited_below everywhere n) (path ++ p) d' below (goes_into everywhere d' below)) (sym is)
-      ∙ ap (visited_if (visited_below everywhere n) (path ++ p) d below) goes
+-- the way, one step longer
+pub way_more : (path : Place) (way : List FoundSchema) (f : FoundSchema) → path ++ flat_map path_of (way ++ f ∷ []) ≡ (path ++ flat_map path_of way) ++ path_of f
+way_more path way f = sym (flat_map_more path_of path way f)
 
-  pub goes_on : (below : Data) (d : Draft) → data_of (subject_at schema p) ≡ Some below → d ≡ detected draft below → goes_into everywhere d below ≡ true
-      → from everywhere n path draft schema p ≡ record { path = path ++ p; draft = d; schema = below } ∷ visited_below everywhere n (path ++ p) d below
-  goes_on below d e is goes = ap (visited_at (visited_below everywhere n) everywhere (path ++ p) draft) e
-      ∙ ap (λ (d' : Draft). visited_if (visited_below everywhere n) (path ++ p) d' below (goes_into everywhere d' below)) (sym is)
-      ∙ ap (visited_if (visited_below everywhere n) (path ++ p) d below) goes
+take_first : (way : List FoundSchema) (more : List FoundSchema) → take (length way) (way ++ more) ≡ way
+take_first [] more = refl
+take_first (w ∷ way) more = ap (λ (ws : List FoundSchema). w ∷ ws) (take_first way more)
+
+-- and back
+pub one_back : (way longer back : List FoundSchema) (f : FoundSchema) (n : ℕ) → n ≡ length longer → longer ≡ way ++ f ∷ [] → back ≡ take (n - 1) longer → back ≡ way
+one_back way longer back f n count is rest =
+    let e : n ≡ length way + 1 = count ∙ ap length is ∙ length-append way (f ∷ []) in
+    let less : n - 1 ≡ length way = omega arith in
+    rest ∙ ap (λ m. take m longer) less ∙ ap (take (length way)) is ∙ take_first way (f ∷ [])
+
+module _ (everywhere : Bool) (n : ℕ) (path : Place) (draft : Draft) (below : Data) (q : Place) (d : Draft) (is : d ≡ detected draft below) where
+  pub leaves : goes_into everywhere d below ≡ false → from everywhere n path draft (record { path = q; schema = Some below }) ≡ []
+  leaves goes = ap (λ (d' : Draft). filter (speaking everywhere) (visited_if (visited_below everywhere n) (path ++ q) d' below (goes_into everywhere d' below))) (sym is)
+      ∙ ap (λ b. filter (speaking everywhere) (visited_if (visited_below everywhere n) (path ++ q) d below b)) goes
+
+  pub goes_on : (old kept new : List Visited) (at : Place) → at ≡ path ++ q → goes_into everywhere d below ≡ true
+      → kept ≡ old ++ kept_if (speaks everywhere d below) (record { path = at; draft = d; schema = below })
+      → new ≡ kept ++ filter (speaking everywhere) (visited_below everywhere n at d below)
+      → new ≡ old ++ from everywhere n path draft (record { path = q; schema = Some below })
+  goes_on old kept new at there goes k m =
+      let v : Visited = record { path = at; draft = d; schema = below } in
+      let rest = visited_below everywhere n at d below in
+      m ∙ ap (λ (xs : List Visited). xs ++ filter (speaking everywhere) rest) k ∙ append_assoc old (kept_if (speaks everywhere d below) v) (filter (speaking everywhere) rest)
+      ∙ ap (λ (xs : List Visited). old ++ xs) (
+      kept_first everywhere (speaks everywhere d below) v rest refl
+      ∙ ap (λ (p : Place). filter (speaking everywhere) (record { path = p; draft = d; schema = below } ∷ visited_below everywhere n p d below)) there
+      ∙ ap (λ b. filter (speaking everywhere) (visited_if (visited_below everywhere n) (path ++ q) d below b)) (sym goes)
+      ∙ ap (λ (d' : Draft). filter (speaking everywhere) (visited_if (visited_below everywhere n) (path ++ q) d' below (goes_into everywhere d' below))) is
+      )
+
+-- a schema that has nothing for the resolver adds nothing
+module _ (everywhere : Bool) (path : Place) (draft : Draft) (below : Data) (plain : IsPlain below) where
+  quiet : (b : Bool) → speaks b draft below ≡ false
+  quiet true = ap is_some (plain.no_identifier draft)
+  quiet false = ap (λ o. is_some o || is_some (text_member (codes "$dynamicAnchor") below)) plain.no_anchor ∙ ap is_some plain.no_dynamic_anchor
+
+  nothing_deeper : (n : ℕ) → visited_below everywhere n path draft below ≡ []
+  nothing_deeper zero = refl
+  nothing_deeper (suc n) = ap (flat_map (λ p. visited_at (visited_below everywhere n) everywhere (path ++ p) draft (data_of (subject_at below p)))) plain.no_subschemas
+
+  nothing_if : (n : ℕ) (b : Bool) → filter (speaking everywhere) (visited_if (visited_below everywhere n) path draft below b) ≡ []
+  nothing_if n false = refl
+  nothing_if n true =
+      let v : Visited = record { path = path; draft = draft; schema = below } in
+      let rest = filter (speaking everywhere) (visited_below everywhere n path draft below) in
+      ap (λ b. cond b (v ∷ rest) rest) (quiet everywhere) ∙ ap (filter (speaking everywhere)) (nothing_deeper n)
+
+pub adds_nothing : (everywhere : Bool) (n : ℕ) (path : Place) (draft : Draft) (below : Data) (q : Place) → IsPlain below → from everywhere n path draft (record { path = q; schema = Some below }) ≡ []
+adds_nothing everywhere n path draft below q plain = nothing_if everywhere (path ++ q) (detected draft below) below plain n (goes_into everywhere (detected draft below) below)
+
+pub passed : {A : Type 0} (old none : List A) → none ≡ [] → old ≡ old ++ none
+passed old none e = sym (append-nil old) ∙ ap (λ ys. old ++ ys) (sym e)
 
 -- all of them
-pub finished : (everywhere : Bool) (path : Place) (draft : Draft) (schema : Data) (items : List SchemaPlace) (k : ℕ) (old new : List Visited) → map path_at items ≡ subschemas schema → length items ≤ k
-    → ((n : ℕ) → depth schema ≤ n → new ++ flat_map (from everywhere n path draft schema) (map path_at (drop k items)) ≡ old ++ flat_map (from everywhere n path draft schema) (map path_at items))
-    → (n : ℕ) → depth schema < n → new ≡ old ++ visited_below everywhere n path draft schema
+pub finished : (everywhere : Bool) (path : Place) (draft : Draft) (schema : Data) (items : List FoundSchema) (k : ℕ) (old new : List Visited) → map found_of items ≡ map (found_at schema) (subschemas schema)
+    → length items ≤ k
+    → ((n : ℕ) → depth schema ≤ n → new ++ flat_map (from everywhere n path draft) (map found_of (drop k items)) ≡ old ++ flat_map (from everywhere n path draft) (map found_of items))
+    → (n : ℕ) → depth schema < n → new ≡ old ++ filter (speaking everywhere) (visited_below everywhere n path draft schema)
 finished everywhere path draft schema items k old new paths l so_far zero less = absurd (omega arith)
 finished everywhere path draft schema items k old new paths l so_far (suc n) less =
-    let f = from everywhere n path draft schema in
-    sym (append-nil new) ∙ ap (λ (xs : List SchemaPlace). new ++ flat_map f (map path_at xs)) (sym (drop_all k items l)) ∙ so_far n (omega arith) ∙ ap (λ (ps : List Place). old ++ flat_map f ps) paths
+    let f = from everywhere n path draft in
+    sym (append-nil new) ∙ ap (λ (xs : List FoundSchema). new ++ flat_map f (map found_of xs)) (sym (drop_all k items l)) ∙ so_far n (omega arith) ∙ ap (λ (fs : List Found). old ++ flat_map f fs) paths
+    ∙ ap (λ (vs : List Visited). old ++ vs) (
+    kept_below everywhere n path draft schema (subschemas schema)
+    ∙ sym (filter_flat (speaking everywhere) (λ p. visited_at (visited_below everywhere n) everywhere (path ++ p) draft (data_of (subject_at schema p))) (subschemas schema))
+    )
+
+-- ---- what the walk leaves aside adds nothing
+
+skips : {A B : Type 0} (p : A → Bool) (f : A → List B) → ((x : A) → p x ≡ false → f x ≡ []) → (xs : List A) → flat_map f (filter p xs) ≡ flat_map f xs
+skips p f none [] = refl
+skips p f none (x ∷ xs) = go (p x) refl (skips p f none xs)
+  where
+    go : (b : Bool) → p x ≡ b → flat_map f (filter p xs) ≡ flat_map f xs → flat_map f (cond b (x ∷ filter p xs) (filter p xs)) ≡ f x ++ flat_map f xs
+    go true e rest = ap (λ ys. f x ++ ys) rest
+    go false e rest = rest ∙ ap (λ ys. ys ++ flat_map f xs) (sym (none x e))
+
+no_names : (v : Visited) (a b : Option Text) → (is_some a || is_some b) ≡ false → name_if a false v ++ name_if b true v ≡ []
+no_names v None None e = refl
+no_names v None (Some y) e = absurd (let none : ⊥ = cc in none)
+no_names v (Some x) b e = absurd (let none : ⊥ = cc in none)
+
+-- names stand in the schemas that are kept
+pub names_kept : (vs kept : List Visited) → kept ≡ filter (speaking false) vs → flat_map names_at vs ≡ flat_map names_at kept
+names_kept vs kept e = sym (skips (speaking false) names_at (λ v. no_names v (text_member (codes "$anchor") v.schema) (text_member (codes "$dynamicAnchor") v.schema)) vs) ∙ ap (flat_map names_at) (sym e)
+
+no_uri : (document : ℕ) (v : Visited) (o : Option Text) → is_some o ≡ false → resource_if document v (option_and_then own_uri o) ≡ []
+no_uri document v None e = refl
+no_uri document v (Some t) e = absurd (let none : ⊥ = cc in none)
+
+-- and resources begin with them
+pub resources_kept : (document : ℕ) (vs kept : List Visited) → kept ≡ filter (speaking true) vs → flat_map (λ v. resource_if document v (uri_at v)) vs ≡ flat_map (λ v. resource_if document v (uri_at v)) kept
+resources_kept document vs kept e = sym (skips (speaking true) (λ v. resource_if document v (uri_at v)) (λ v. no_uri document v (identifier v.draft v.schema)) vs)
+    ∙ ap (flat_map (λ v. resource_if document v (uri_at v))) (sym e)

@@ -4,6 +4,7 @@ pub mod BenchDocuments
 pub mod BenchKeys
 pub mod BenchUris
 pub mod BenchResources
+pub mod BenchSpeaking
 pub mod BenchStates
 pub mod BenchLookups
 pub mod BenchRows

@@ -1,1 +1,4 @@
+pub mod Finding
+pub mod NoneNamed
 pub mod PlaceLists
+pub mod PlainObjects

@@ -1,1 +1,4 @@
 pub mod BenchResolving
+pub mod FoundSchemas
+pub mod FoundViews
+pub mod PlainSchemas

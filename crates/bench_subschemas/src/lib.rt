@@ -4,4 +4,5 @@
 pub mod drafts;
 pub mod identifiers;
 pub mod known;
+pub mod plain;
 pub mod subschemas;

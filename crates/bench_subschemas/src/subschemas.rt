@@ -2,13 +2,15 @@
 ghost use Rattle.std.specs.Prelude.{◌≡◌, ◌++◌, ◌∷◌, [], flat_map, map, IfOk, option_map};
 ghost use Rattle.serde_json.specs.Find.{get};
 ghost use Rattle.serde_json.specs.Data.{object};
-ghost use Rattle.serde_json.specs.View.{items_view, members_view, view};
-ghost use Rattle.schema_definitions.specs.Instance.{to_item, to_member};
+ghost use Rattle.serde_json.specs.View.{members_view, view};
 ghost use Rattle.schema_definitions.specs.Drafts.{at_path};
 ghost use Rattle.schema_parts.specs.ResolverViews.{place_of};
-ghost use Rattle.bench_subschemas.specs.BenchResolving.{below_list, below_object, below_value, is_schema, items_below, members_below};
+ghost use Rattle.bench_subschemas.specs.BenchResolving.{below_list, below_object, below_value, is_schema};
 ghost use Rattle.bench_subschemas.specs.BenchResolving.{names_of_lists, names_of_objects, names_of_values, subschemas};
+ghost use Rattle.bench_subschemas.specs.FoundSchemas.{found_at, schema_if};
+ghost use Rattle.bench_subschemas.specs.FoundViews.{found_of, path_of};
 
+use crate::plain::any_names_schemas;
 use schema_parts::schema_place::{SchemaPath, SchemaPlace, SchemaStep};
 use schema_reports::location::OutOfMemory;
 use serde_json::{Map, Value};
@@ -29,210 +31,243 @@ fn member<'v>(members: &'v Map<String, Value>, name: &str) -> Option<&'v Value>
     members.get(name)
 }
 
-/// The place of a member's member, below a place.
-fn member_place(
-    alloc: Global,
-    place: &SchemaPlace,
-    keyword: &str,
-    name: &str,
-) -> Result<SchemaPlace, OutOfMemory>
-    ensures place { IfOk result (λ p. place_of p ≡ at_path (place_of place.now) (to_member keyword.now ∷ to_member name.now ∷ [])) }
-{
-    let mut path = SchemaPath::root(alloc);
-    path.push(SchemaStep::Member(RcStr::from_str(alloc, keyword)?))?;
-    path.push(SchemaStep::Member(RcStr::from_str(alloc, name)?))?;
-    place.below(alloc, &path)
+/// What leads from the value under a keyword to a subschema: nothing, where that value is the subschema, a member's name, or an
+/// item's index.
+#[derive(Clone, Copy)]
+pub enum Inside<'v> {
+    Nothing,
+    Member(&'v str),
+    Item(usize),
 }
 
-/// The place of a member's item, below a place.
-fn item_place(
-    alloc: Global,
-    place: &SchemaPlace,
-    keyword: &str,
-    index: usize,
-) -> Result<SchemaPlace, OutOfMemory>
-    ensures place { IfOk result (λ p. place_of p ≡ at_path (place_of place.now) (to_member keyword.now ∷ to_item index ∷ [])) }
-{
-    let mut path = SchemaPath::root(alloc);
-    path.push(SchemaStep::Member(RcStr::from_str(alloc, keyword)?))?;
-    path.push(SchemaStep::Item(index))?;
-    place.below(alloc, &path)
+/// A subschema as it is found: the keyword that it lies under, what leads from there to it, and itself.
+#[derive(Clone, Copy)]
+pub struct FoundSchema<'v> {
+    pub keyword: &'v str,
+    pub inside: Inside<'v>,
+    pub schema: &'v Value,
 }
 
-/// The place of a member, below a place.
-fn value_place(
-    alloc: Global,
-    place: &SchemaPlace,
-    keyword: &str,
-) -> Result<SchemaPlace, OutOfMemory>
-    ensures place { IfOk result (λ p. place_of p ≡ at_path (place_of place.now) (to_member keyword.now ∷ [])) }
-{
-    let mut path = SchemaPath::root(alloc);
-    path.push(SchemaStep::Member(RcStr::from_str(alloc, keyword)?))?;
-    place.below(alloc, &path)
-}
-
-/// Adds the places of the schemas among the members of an object.
-fn push_members(
-    alloc: Global,
-    place: &SchemaPlace,
-    keyword: &str,
-    members: &Map<String, Value>,
-    places: &mut Vec<SchemaPlace>,
-) -> Result<(), OutOfMemory>
-    ensures pushed { IfOk result (λ _. map place_of places.new.items ≡ map place_of places.old.items
-        ++ map (at_path (place_of place.now)) (members_below keyword.now (members_view members.now.entries))) }
-{
-    for (name, member) in members {
-        if is_schema(member) {
-            places.push(member_place(alloc, place, keyword, name.as_str())?)?;
+impl<'v> FoundSchema<'v> {
+    /// Adds the steps that lead to the subschema to a path.
+    ///
+    /// # Errors
+    ///
+    /// Fails only if memory cannot be allocated.
+    pub fn add_steps(&self, alloc: Global, path: &mut SchemaPath) -> Result<(), OutOfMemory>
+        ensures added { IfOk result (λ _. path.new ≡ path.old ++ path_of self.now) }
+    {
+        path.push(SchemaStep::Member(RcStr::from_str(alloc, self.keyword)?))?;
+        match self.inside {
+            Inside::Nothing => Ok(()),
+            Inside::Member(name) => path.push(SchemaStep::Member(RcStr::from_str(alloc, name)?)),
+            Inside::Item(index) => path.push(SchemaStep::Item(index)),
         }
+    }
+}
+
+/// Adds a value that was found, where it is a schema.
+fn add_schema<'v>(one: FoundSchema<'v>, found: &mut Vec<FoundSchema<'v>>) -> Result<(), OutOfMemory>
+    ensures added { IfOk result (λ _. map found_of found.new.items ≡ map found_of found.old.items ++ schema_if (found_of one.entry)) }
+{
+    if is_schema(one.schema) {
+        found.push(one)?;
     }
     Ok(())
 }
 
-/// Adds the places of the schemas among the items of a list.
-fn push_items(
-    alloc: Global,
-    place: &SchemaPlace,
-    keyword: &str,
-    items: &[Value],
-    places: &mut Vec<SchemaPlace>,
+/// Adds the schemas among the members of the object under a name.
+fn find_in_object<'v>(
+    members: &'v Map<String, Value>,
+    keyword: &'v str,
+    found: &mut Vec<FoundSchema<'v>>,
 ) -> Result<(), OutOfMemory>
-    ensures pushed { IfOk result (λ _. map place_of places.new.items ≡ map place_of places.old.items
-        ++ map (at_path (place_of place.now)) (items_below keyword.now 0 (items_view items.now))) }
+    ensures found { IfOk result (λ _. let schema = object (members_view members.now.entries) in
+        map found_of found.new.items ≡ map found_of found.old.items
+        ++ map (found_at schema) (below_object keyword.now (get keyword.now schema))) }
 {
+    let Some(value) = member(members, keyword) else {
+        return Ok(());
+    };
+    let Some(inner) = value.as_object() else {
+        return Ok(());
+    };
+    for (name, member) in inner.iter() {
+        let one = FoundSchema {
+            keyword,
+            inside: Inside::Member(name.as_str()),
+            schema: member,
+        };
+        add_schema(one, found)?;
+    }
+    Ok(())
+}
+
+/// Adds the schemas among the items of the list under a name.
+fn find_in_list<'v>(
+    members: &'v Map<String, Value>,
+    keyword: &'v str,
+    found: &mut Vec<FoundSchema<'v>>,
+) -> Result<(), OutOfMemory>
+    ensures found { IfOk result (λ _. let schema = object (members_view members.now.entries) in
+        map found_of found.new.items ≡ map found_of found.old.items
+        ++ map (found_at schema) (below_list keyword.now (get keyword.now schema))) }
+{
+    let Some(value) = member(members, keyword) else {
+        return Ok(());
+    };
+    let Some(items) = value.as_array() else {
+        return Ok(());
+    };
     for (index, item) in items.iter().enumerate() {
-        if is_schema(item) {
-            places.push(item_place(alloc, place, keyword, index)?)?;
-        }
+        let one = FoundSchema {
+            keyword,
+            inside: Inside::Item(index),
+            schema: item,
+        };
+        add_schema(one, found)?;
     }
     Ok(())
 }
 
-/// Adds the places of the schemas in an object under this name.
-fn push_object(
-    alloc: Global,
-    place: &SchemaPlace,
-    members: &Map<String, Value>,
-    keyword: &str,
-    places: &mut Vec<SchemaPlace>,
+/// Adds the schema under a name.
+fn find_value<'v>(
+    members: &'v Map<String, Value>,
+    keyword: &'v str,
+    found: &mut Vec<FoundSchema<'v>>,
 ) -> Result<(), OutOfMemory>
-    ensures pushed { IfOk result (λ _. map place_of places.new.items ≡ map place_of places.old.items
-        ++ map (at_path (place_of place.now)) (below_object keyword.now (get keyword.now (object (members_view members.now.entries))))) }
+    ensures found { IfOk result (λ _. let schema = object (members_view members.now.entries) in
+        map found_of found.new.items ≡ map found_of found.old.items
+        ++ map (found_at schema) (below_value keyword.now (get keyword.now schema))) }
 {
-    if let Some(value) = member(members, keyword) {
-        if let Some(inner) = value.as_object() {
-            push_members(alloc, place, keyword, inner, places)?;
-        }
-    }
-    Ok(())
+    let Some(value) = member(members, keyword) else {
+        return Ok(());
+    };
+    let one = FoundSchema {
+        keyword,
+        inside: Inside::Nothing,
+        schema: value,
+    };
+    add_schema(one, found)
 }
 
-/// Adds the places of the schemas in a list under this name.
-fn push_list(
-    alloc: Global,
-    place: &SchemaPlace,
-    members: &Map<String, Value>,
-    keyword: &str,
-    places: &mut Vec<SchemaPlace>,
-) -> Result<(), OutOfMemory>
-    ensures pushed { IfOk result (λ _. map place_of places.new.items ≡ map place_of places.old.items
-        ++ map (at_path (place_of place.now)) (below_list keyword.now (get keyword.now (object (members_view members.now.entries))))) }
-{
-    if let Some(value) = member(members, keyword) {
-        if let Some(items) = value.as_array() {
-            push_items(alloc, place, keyword, items.as_slice(), places)?;
-        }
-    }
-    Ok(())
-}
-
-/// Adds the place of the schema under this name.
-fn push_value(
-    alloc: Global,
-    place: &SchemaPlace,
-    members: &Map<String, Value>,
-    keyword: &str,
-    places: &mut Vec<SchemaPlace>,
-) -> Result<(), OutOfMemory>
-    ensures pushed { IfOk result (λ _. map place_of places.new.items ≡ map place_of places.old.items
-        ++ map (at_path (place_of place.now)) (below_value keyword.now (get keyword.now (object (members_view members.now.entries))))) }
-{
-    if let Some(value) = member(members, keyword) {
-        if is_schema(value) {
-            places.push(value_place(alloc, place, keyword)?)?;
-        }
-    }
-    Ok(())
-}
-
-/// Adds the places of the schemas in objects.
+/// Adds the schemas in objects.
 #[tactic(auto, using(crate::proofs::PlaceLists::three))]
-fn push_objects(
-    alloc: Global,
-    place: &SchemaPlace,
-    members: &Map<String, Value>,
-    places: &mut Vec<SchemaPlace>,
+fn find_in_objects<'v>(
+    members: &'v Map<String, Value>,
+    found: &mut Vec<FoundSchema<'v>>,
 ) -> Result<(), OutOfMemory>
-    ensures pushed { IfOk result (λ _. map place_of places.new.items ≡ map place_of places.old.items
-        ++ map (at_path (place_of place.now)) (flat_map (λ k. below_object k (get k (object (members_view members.now.entries)))) names_of_objects)) }
+    ensures found { IfOk result (λ _. let schema = object (members_view members.now.entries) in
+        map found_of found.new.items ≡ map found_of found.old.items
+        ++ map (found_at schema) (flat_map (λ k. below_object k (get k schema)) names_of_objects)) }
 {
-    push_object(alloc, place, members, "$defs", places)?;
-    push_object(alloc, place, members, "definitions", places)?;
-    push_object(alloc, place, members, "properties", places)
+    find_in_object(members, "$defs", found)?;
+    find_in_object(members, "definitions", found)?;
+    find_in_object(members, "properties", found)
 }
 
-/// Adds the places of the schemas in lists.
+/// Adds the schemas in lists.
 #[tactic(auto, using(crate::proofs::PlaceLists::four))]
-fn push_lists(
-    alloc: Global,
-    place: &SchemaPlace,
-    members: &Map<String, Value>,
-    places: &mut Vec<SchemaPlace>,
+fn find_in_lists<'v>(
+    members: &'v Map<String, Value>,
+    found: &mut Vec<FoundSchema<'v>>,
 ) -> Result<(), OutOfMemory>
-    ensures pushed { IfOk result (λ _. map place_of places.new.items ≡ map place_of places.old.items
-        ++ map (at_path (place_of place.now)) (flat_map (λ k. below_list k (get k (object (members_view members.now.entries)))) names_of_lists)) }
+    ensures found { IfOk result (λ _. let schema = object (members_view members.now.entries) in
+        map found_of found.new.items ≡ map found_of found.old.items
+        ++ map (found_at schema) (flat_map (λ k. below_list k (get k schema)) names_of_lists)) }
 {
-    push_list(alloc, place, members, "allOf", places)?;
-    push_list(alloc, place, members, "anyOf", places)?;
-    push_list(alloc, place, members, "oneOf", places)?;
-    push_list(alloc, place, members, "prefixItems", places)
+    find_in_list(members, "allOf", found)?;
+    find_in_list(members, "anyOf", found)?;
+    find_in_list(members, "oneOf", found)?;
+    find_in_list(members, "prefixItems", found)
 }
 
-/// Adds the places of the other schemas.
+/// Adds the other schemas.
 #[tactic(auto, using(crate::proofs::PlaceLists::six))]
-fn push_values(
-    alloc: Global,
-    place: &SchemaPlace,
-    members: &Map<String, Value>,
-    places: &mut Vec<SchemaPlace>,
+fn find_values<'v>(
+    members: &'v Map<String, Value>,
+    found: &mut Vec<FoundSchema<'v>>,
 ) -> Result<(), OutOfMemory>
-    ensures pushed { IfOk result (λ _. map place_of places.new.items ≡ map place_of places.old.items
-        ++ map (at_path (place_of place.now)) (flat_map (λ k. below_value k (get k (object (members_view members.now.entries)))) names_of_values)) }
+    ensures found { IfOk result (λ _. let schema = object (members_view members.now.entries) in
+        map found_of found.new.items ≡ map found_of found.old.items
+        ++ map (found_at schema) (flat_map (λ k. below_value k (get k schema)) names_of_values)) }
 {
-    push_value(alloc, place, members, "not", places)?;
-    push_value(alloc, place, members, "if", places)?;
-    push_value(alloc, place, members, "then", places)?;
-    push_value(alloc, place, members, "else", places)?;
-    push_value(alloc, place, members, "items", places)?;
-    push_value(alloc, place, members, "propertyNames", places)
+    find_value(members, "not", found)?;
+    find_value(members, "if", found)?;
+    find_value(members, "then", found)?;
+    find_value(members, "else", found)?;
+    find_value(members, "items", found)?;
+    find_value(members, "propertyNames", found)
 }
 
-/// The places of the subschemas of an object with these members, in order.
+/// The subschemas of an object with these members, in order.
 #[tactic(auto, using(crate::proofs::PlaceLists::parts))]
-fn subschemas_in(
+fn found_in<'v>(
+    alloc: Global,
+    members: &'v Map<String, Value>,
+) -> Result<Vec<FoundSchema<'v>>, OutOfMemory>
+    ensures found { IfOk result (λ found. let schema = object (members_view members.now.entries) in
+        map found_of found.items ≡ map (found_at schema) (subschemas schema)) }
+{
+    let mut found = Vec::new(alloc);
+    find_in_objects(members, &mut found)?;
+    find_in_lists(members, &mut found)?;
+    find_values(members, &mut found)?;
+    Ok(found)
+}
+
+/// The subschemas of a schema, in order, each with the path that leads to it.
+///
+/// # Errors
+///
+/// Fails only if memory cannot be allocated.
+pub fn subschemas_found<'v>(
+    alloc: Global,
+    schema: &'v Value,
+) -> Result<Vec<FoundSchema<'v>>, OutOfMemory>
+    ensures found { IfOk result (λ found. map found_of found.items ≡ map (found_at (view schema.now)) (subschemas (view schema.now))) }
+{
+    match schema {
+        Value::Object(members) => {
+            if any_names_schemas(members) {
+                found_in(alloc, members)
+            } else {
+                Ok(Vec::new(alloc))
+            }
+        }
+        Value::Null => Ok(Vec::new(alloc)),
+        Value::Bool(_) => Ok(Vec::new(alloc)),
+        Value::Number(_) => Ok(Vec::new(alloc)),
+        Value::String(_) => Ok(Vec::new(alloc)),
+        Value::Array(_) => Ok(Vec::new(alloc)),
+    }
+}
+
+/// The place of a subschema of the schema at a place.
+fn place_found(
     alloc: Global,
     place: &SchemaPlace,
-    members: &Map<String, Value>,
-) -> Result<Vec<SchemaPlace>, OutOfMemory>
-    ensures places { IfOk result (λ places. map place_of places.items
-        ≡ map (at_path (place_of place.now)) (subschemas (object (members_view members.now.entries)))) }
+    found: &FoundSchema<'_>,
+) -> Result<SchemaPlace, OutOfMemory>
+    ensures place { IfOk result (λ p. place_of p ≡ at_path (place_of place.now) (path_of found.now)) }
 {
-    let mut places = Vec::new(alloc);
-    push_objects(alloc, place, members, &mut places)?;
-    push_lists(alloc, place, members, &mut places)?;
-    push_values(alloc, place, members, &mut places)?;
+    let mut path = SchemaPath::root(alloc);
+    found.add_steps(alloc, &mut path)?;
+    place.below(alloc, &path)
+}
+
+/// The places of subschemas of the schema at a place.
+fn places_found(
+    alloc: Global,
+    place: &SchemaPlace,
+    found: &[FoundSchema<'_>],
+) -> Result<Vec<SchemaPlace>, OutOfMemory>
+    ensures places { IfOk result (λ places. map place_of places.items ≡ map (at_path (place_of place.now)) (map path_of found.now)) }
+{
+    let mut places = Vec::with_capacity(alloc, found.len())?;
+    for one in found {
+        places.push(place_found(alloc, place, one)?)?;
+    }
     Ok(places)
 }
 
@@ -244,12 +279,6 @@ pub fn subschemas(
 ) -> Result<Vec<SchemaPlace>, OutOfMemory>
     ensures places { IfOk result (λ places. map place_of places.items ≡ map (at_path (place_of place.now)) (subschemas (view schema.now))) }
 {
-    match schema {
-        Value::Object(members) => subschemas_in(alloc, place, members),
-        Value::Null => Ok(Vec::new(alloc)),
-        Value::Bool(_) => Ok(Vec::new(alloc)),
-        Value::Number(_) => Ok(Vec::new(alloc)),
-        Value::String(_) => Ok(Vec::new(alloc)),
-        Value::Array(_) => Ok(Vec::new(alloc)),
-    }
+    let found = subschemas_found(alloc, schema)?;
+    places_found(alloc, place, found.as_slice())
 }

@@ -17,4 +17,6 @@ mod path_tests;
 #[cfg(test)]
 mod resolver_tests;
 #[cfg(test)]
+mod size_tests;
+#[cfg(test)]
 mod words;

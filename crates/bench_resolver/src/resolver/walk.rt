@@ -1,15 +1,18 @@
 //! The walk of a document, from schemas to their subschemas.
-ghost use Rattle.std.specs.Prelude.{◌≡◌, ◌<◌, ◌++◌, ℕ, IfOk, map};
+ghost use Rattle.std.specs.Prelude.{◌≡◌, ◌<◌, ◌++◌, ◌∷◌, [], ℕ, IfOk, flat_map, map};
+ghost use Rattle.std.specs.List.{filter};
 ghost use Rattle.serde_json.specs.Data.{depth};
 ghost use Rattle.serde_json.specs.View.{view};
 ghost use Rattle.schema_keywords.specs.KeywordViews.{draft_of};
+ghost use Rattle.bench_subschemas.specs.FoundViews.{path_of};
 ghost use Rattle.bench_resolver.specs.BenchResources.{goes_into, visited_below, walked};
+ghost use Rattle.bench_resolver.specs.BenchSpeaking.{kept_if, speaking, speaks};
 ghost use Rattle.bench_resolver.specs.BenchViews.{visited_of};
 
-use crate::resolver::places::{root_place, value_after};
-use bench_subschemas::drafts::detected;
+use bench_subschemas::drafts::{detected, text_member};
 use bench_subschemas::identifiers::identifier;
-use bench_subschemas::subschemas::subschemas;
+use bench_subschemas::plain::is_plain;
+use bench_subschemas::subschemas::{FoundSchema, subschemas_found};
 use schema_keywords::keywords::Draft;
 use schema_parts::schema_place::SchemaPath;
 use schema_reports::location::OutOfMemory;
@@ -31,36 +34,98 @@ fn goes_into(everywhere: bool, draft: Draft, schema: &Value) -> bool
     everywhere || identifier(draft, schema).is_none()
 }
 
-/// Adds the schemas below a schema.
-fn visit_below<'a>(
+/// Whether a schema has what the walk looks for: an identifier, if it goes into all schemas, and else a name.
+fn speaks(everywhere: bool, draft: Draft, schema: &Value) -> bool
+    ensures speaks { result ≡ speaks everywhere (draft_of draft) (view schema.now) }
+{
+    if everywhere {
+        identifier(draft, schema).is_some()
+    } else {
+        text_member(schema, "$anchor").is_some() || text_member(schema, "$dynamicAnchor").is_some()
+    }
+}
+
+/// The path from a document's root over a schema's path and then from subschema to subschema.
+fn path_over(
+    alloc: Global,
+    path: &SchemaPath,
+    way: &[FoundSchema<'_>],
+) -> Result<SchemaPath, OutOfMemory>
+    ensures path { IfOk result (λ p. p ≡ path.now ++ flat_map path_of way.now) }
+{
+    let mut over = path.clone()?;
+    for found in way {
+        found.add_steps(alloc, &mut over)?;
+    }
+    Ok(over)
+}
+
+/// Adds a schema that the walk has come to, where it has what the walk looks for.
+fn keep<'a>(
     alloc: Global,
     everywhere: bool,
     path: &SchemaPath,
+    way: &[FoundSchema<'a>],
     draft: Draft,
     schema: &'a Value,
     visited: &mut Vec<Visited<'a>>,
 ) -> Result<(), OutOfMemory>
-    ensures visited { IfOk result (λ _. (n : ℕ) → depth (view schema.now) < n → map visited_of visited.new.items
-        ≡ map visited_of visited.old.items ++ visited_below everywhere n path.now (draft_of draft) (view schema.now)) }
+    ensures kept { IfOk result (λ _. map visited_of visited.new.items ≡ map visited_of visited.old.items
+        ++ kept_if (speaks everywhere (draft_of draft) (view schema.now))
+        (record { path = path.now ++ flat_map path_of way.now; draft = draft_of draft; schema = view schema.now })) }
 {
-    for place in &subschemas(alloc, &root_place(alloc), schema)? {
-        if let Some(below) = value_after(schema, place.path.steps()) {
-            let draft = detected(draft, below);
-            if goes_into(everywhere, draft, below) {
-                let path = path.append(alloc, &place.path)?;
-                visited.push(Visited {
-                    path: path.clone()?,
-                    draft,
-                    schema: below,
-                })?;
-                visit_below(alloc, everywhere, &path, draft, below, visited)?;
-            }
-        }
+    if speaks(everywhere, draft, schema) {
+        visited.push(Visited {
+            path: path_over(alloc, path, way)?,
+            draft,
+            schema,
+        })?;
     }
     Ok(())
 }
 
-/// The schemas below a schema, in the order of the walk.
+/// Adds the schemas below a schema that have what the walk looks for. The schema lies at a path and then on the way.
+fn visit_below<'a>(
+    alloc: Global,
+    everywhere: bool,
+    path: &SchemaPath,
+    way: &mut Vec<FoundSchema<'a>>,
+    draft: Draft,
+    schema: &'a Value,
+    visited: &mut Vec<Visited<'a>>,
+) -> Result<(), OutOfMemory>
+    ensures way { IfOk result (λ _. way.new.items ≡ way.old.items) }
+    ensures visited { IfOk result (λ _. (n : ℕ) → depth (view schema.now) < n → map visited_of visited.new.items
+        ≡ map visited_of visited.old.items ++ filter (speaking everywhere)
+        (visited_below everywhere n (path.now ++ flat_map path_of way.old.items) (draft_of draft) (view schema.now))) }
+{
+    for found in &subschemas_found(alloc, schema)? {
+        let below = found.schema;
+        if is_plain(below) {
+            continue;
+        }
+        let draft = detected(draft, below);
+        if !goes_into(everywhere, draft, below) {
+            continue;
+        }
+        way.push(*found)?;
+        keep(
+            alloc,
+            everywhere,
+            path,
+            way.as_slice(),
+            draft,
+            below,
+            visited,
+        )?;
+        visit_below(alloc, everywhere, path, way, draft, below, visited)?;
+        way.pop();
+    }
+    Ok(())
+}
+
+/// The schemas below a schema that have an identifier, in the order of the walk, if it goes into all, and else those that have a
+/// name.
 ///
 /// # Errors
 ///
@@ -72,9 +137,19 @@ pub fn walked<'a>(
     draft: Draft,
     schema: &'a Value,
 ) -> Result<Vec<Visited<'a>>, OutOfMemory>
-    ensures walked { IfOk result (λ v. map visited_of v.items ≡ walked everywhere path.now (draft_of draft) (view schema.now)) }
+    ensures walked { IfOk result (λ v. map visited_of v.items
+        ≡ filter (speaking everywhere) (walked everywhere path.now (draft_of draft) (view schema.now))) }
 {
     let mut visited = Vec::new(alloc);
-    visit_below(alloc, everywhere, path, draft, schema, &mut visited)?;
+    let mut way = Vec::new(alloc);
+    visit_below(
+        alloc,
+        everywhere,
+        path,
+        &mut way,
+        draft,
+        schema,
+        &mut visited,
+    )?;
     Ok(visited)
 }

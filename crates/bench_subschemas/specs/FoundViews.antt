@@ -1,0 +1,19 @@
+-- Subschemas that the code has found, as the definitions have them.
+use Rattle.std.specs.Prelude.{Some, [], ◌∷◌}
+use Rattle.serde_json.specs.View.{view}
+use Rattle.schema_definitions.specs.Instance.{Place, to_item, to_member}
+use Rattle.bench_subschemas.specs.declared.subschemas.FoundSchema.{FoundSchema}
+use Rattle.bench_subschemas.specs.declared.subschemas.Inside.{Inside}
+use Rattle.bench_subschemas.specs.declared.subschemas.Inside.TheVariants.{Item, Member, Nothing}
+use Rattle.bench_subschemas.specs.FoundSchemas.{Found}
+
+abbrev pub steps_inside : Inside → Place
+steps_inside Nothing = []
+steps_inside (Member name) = to_member name.now ∷ []
+steps_inside (Item i) = to_item i ∷ []
+
+abbrev pub path_of : FoundSchema → Place
+path_of f = to_member f.keyword.now ∷ steps_inside f.inside
+
+abbrev pub found_of : FoundSchema → Found
+found_of f = record { path = path_of f; schema = Some (view f.schema.now) }

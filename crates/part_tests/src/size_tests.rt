@@ -1,0 +1,16 @@
+//! How large the values are that a run moves, in bytes. An evaluation, an error and a unit alone stand in a box, so that an answer, a
+//! reply and what a keyword asks for are a few words long in every mode.
+
+use schema_parts::keyword::{Answer, Reply, Step};
+use schema_reports::location::OutOfMemory;
+use std::mem::size_of;
+
+const _: () = prove!(size_of::<Answer<'static>>() <= 32);
+
+const _: () = prove!(size_of::<Reply<'static>>() <= 32);
+
+// (an enum has a tag of its own, so the result of a reply is a word longer)
+const _: () = prove!(size_of::<Result<Reply<'static>, OutOfMemory>>() <= 40);
+
+// (a match asks with two texts and a point, which is the largest that a step holds)
+const _: () = prove!(size_of::<Step<'static>>() <= 56);
