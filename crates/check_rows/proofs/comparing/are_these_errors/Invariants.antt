@@ -7,4 +7,4 @@ use Rattle.check_rows.proofs.comparing.are_these_errors.Given as goal
 abbrev pub invariant-loop-error : goal.invariant-loop-error
 invariant-loop-error l =
     are_these_errors (items_view l.errors) (items_view l.wanted)
-        ≡ are_these_errors (items_view (drop l.error-index l.errors)) (items_view (iter_rest l.others))
+    ≡ are_these_errors (items_view (drop l.error-index l.errors)) (items_view (iter_rest l.others))

@@ -7,4 +7,4 @@ use Rattle.check_rows.proofs.comparing.begins_with.Given as goal
 abbrev pub invariant-loop-name : goal.invariant-loop-name
 invariant-loop-name l =
     begins_with (items_view l.columns) (items_view l.names)
-        ≡ begins_with (items_view (iter_rest l.others)) (items_view (drop l.name-index l.names))
+    ≡ begins_with (items_view (iter_rest l.others)) (items_view (drop l.name-index l.names))
