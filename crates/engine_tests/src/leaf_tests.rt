@@ -164,12 +164,12 @@ fn keyword_of(alloc: Global, row: &Value) -> Result<DetourKeyword, OutOfMemory> 
 }
 
 /// The validator of a schema that has this keyword alone.
-fn validator_of<K: Validate>(
+fn validator_of(
     alloc: Global,
-    keyword: K,
+    keyword: DetourKeyword,
     matcher: BenchMatcher,
     is_leaf: bool,
-) -> Result<Validator<K, BenchMatcher>, OutOfMemory> {
+) -> Result<Validator<DetourKeyword, BenchMatcher>, OutOfMemory> {
     let name = String::from_str(alloc, "pattern")?;
     let mut entries = Vec::new(alloc);
     entries.push(Entry {
@@ -184,26 +184,26 @@ fn validator_of<K: Validate>(
     Ok(Validator::of_nodes(nodes, root, Draft::Draft202012, matcher))
 }
 
-/// Adds what is answered of the instance in column 2 by this keyword, which is a leaf where column 3 is true.
+/// Adds what a validator answers of the instance.
 fn tell_of<K: Validate>(
     alloc: Global,
-    keyword: K,
-    matcher: BenchMatcher,
-    row: &Value,
+    validator: Validator<K, BenchMatcher>,
+    instance: &Value,
     log: &mut String,
 ) -> Result<(), OutOfMemory> {
-    let is_leaf = column(row, 3).as_bool() == Some(true);
-    let validator = validator_of(alloc, keyword, matcher, is_leaf)?;
-    let told = push_answers_again(alloc, &validator, column(row, 2), log);
+    let told = push_answers_again(alloc, &validator, instance, log);
     drop(validator);
     told
 }
 
-/// Adds what is answered by the row's keyword, where the matcher leaves each pattern of the detour unfinished.
+/// Adds what is answered of the instance in column 2 by the row's keyword, which is a leaf where column 3 is true, where the matcher
+/// leaves each pattern of the detour unfinished.
 pub(crate) fn tell_leaf(alloc: Global, row: &Value, log: &mut String) -> Result<(), OutOfMemory> {
+    let is_leaf = column(row, 3).as_bool() == Some(true);
     let matcher = BenchMatcher::new(texts_of(alloc, list_at(row, 4))?);
     let keyword = keyword_of(alloc, row)?;
-    tell_of(alloc, keyword, matcher, row, log)
+    let validator = validator_of(alloc, keyword, matcher, is_leaf)?;
+    tell_of(alloc, validator, column(row, 2), log)
 }
 
 // What is answered, the keyword's value, instance, whether it is a leaf, patterns of the detour. In the first the pattern matches,
