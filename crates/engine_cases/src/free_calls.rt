@@ -10,7 +10,7 @@ use schema_engine::context::table::KeywordTable;
 use schema_engine::location::OutOfMemory;
 use schema_engine::{evaluate, is_valid, iter_errors, validate};
 use schema_keys::error::BuildError;
-use serde_json::Value;
+use serde_json::{Value, json};
 use std::alloc::Global;
 
 // The verdict.
@@ -108,6 +108,51 @@ fn four_answers<K: Validate, T: KeywordTable<K>>(
     })
 }
 
+// Whether a call is refused, and for this reason.
+fn is_refused<A: Drop>(
+    alloc: Global,
+    answer: Result<A, BuildError>,
+    refused: &Value,
+) -> Result<bool, OutOfMemory> {
+    match answer {
+        Ok(_) => Ok(false),
+        Err(error) => {
+            let given = refusal(alloc, &error)?;
+            Ok(given == *refused)
+        }
+    }
+}
+
+// Whether the three calls beside `is_valid` are refused for this reason too.
+fn others_are_refused<K: Validate, T: KeywordTable<K>>(
+    alloc: Global,
+    case: &Case<'_>,
+    setting: &Setting<'_>,
+    table: &T,
+    refused: &Value,
+) -> Result<bool, OutOfMemory> {
+    let first = is_refused(alloc, first_error(alloc, case, setting, table), refused)?;
+    let all = is_refused(alloc, all_errors(alloc, case, setting, table), refused)?;
+    let evaluated = is_refused(alloc, evaluated(alloc, case, setting, table), refused)?;
+    Ok(first && all && evaluated)
+}
+
+// The reason for which a call was refused, if the others are refused for it too.
+fn refused_alike<K: Validate, T: KeywordTable<K>>(
+    alloc: Global,
+    case: &Case<'_>,
+    table: &T,
+    refused: Value,
+) -> Result<Value, OutOfMemory> {
+    let setting = Setting::of(alloc, case)?;
+    let alike = others_are_refused(alloc, case, &setting, table, &refused);
+    drop(setting);
+    if alike? {
+        return Ok(refused);
+    }
+    json!(in alloc; {"disagree": refused})
+}
+
 // What the four calls answer, if they agree, or why they refuse.
 pub(crate) fn answered_free<K: Validate, T: KeywordTable<K>>(
     alloc: Global,
@@ -116,6 +161,9 @@ pub(crate) fn answered_free<K: Validate, T: KeywordTable<K>>(
 ) -> Result<Value, OutOfMemory> {
     match four_answers(alloc, case, table) {
         Ok(answers) => agreed(alloc, answers),
-        Err(error) => refusal(alloc, &error),
+        Err(error) => {
+            let refused = refusal(alloc, &error)?;
+            refused_alike(alloc, case, table, refused)
+        }
     }
 }
