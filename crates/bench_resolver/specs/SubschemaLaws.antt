@@ -10,8 +10,10 @@ use Rattle.schema_definitions.specs.Instance.{Place, Step, Subject, Text, a_name
 use Rattle.schema_definitions.specs.Drafts.{SchemaPlace, at_path}
 use Rattle.schema_reports.proofs.Found.{after_member}
 use Rattle.schema_parts.proofs.Replies.{from_append}
-use Rattle.schema_parts.specs.ResolverViews.{StandsBelow, SubschemasStandBelow}
+use Rattle.schema_parts.specs.ResolverViews.{Placed, StandsBelow, SubschemasStandBelow, placed_in}
 use Rattle.bench_subschemas.specs.BenchResolving.{below_list, below_object, below_value, data_of, is_schema, items_below, members_below, names_of_lists, names_of_objects, names_of_values, place_if, subschemas, subschemas_of}
+use Rattle.bench_subschemas.specs.FoundSchemas.{found_at}
+use Rattle.bench_subschemas.specs.FoundViews.{placed_at}
 use Rattle.bench_resolver.specs.BenchDocuments.{BenchDocument, Document, documents_of, value_in, value_of}
 use Rattle.bench_resolver.specs.BenchAnswers.{bench_resolving}
 
@@ -136,3 +138,21 @@ module _ (r : BenchDocument) (p : SchemaPlace) where
 
 pub subschemas_stand_below : (r : BenchDocument) → SubschemasStandBelow (bench_resolving r)
 subschemas_stand_below r = λ draft p. below_it r p (value_in (documents_of r) p) refl
+
+-- ---- subschemas with their values
+
+module _ (r : BenchDocument) (p : SchemaPlace) where
+  values_there : (d : Data) → value_in (documents_of r) p ≡ Some d → (ps : List Place) → AllByRecursion (StandsIn d) ps
+      → map (placed_at p) (map (found_at d) ps) ≡ map (placed_in (bench_resolving r)) (map (at_path p) ps)
+  values_there d e [] h = refl
+  values_there d e (path ∷ ps) h =
+      let one = h.0 in
+      let there = value_below (slice_get (documents_of r) p.document) p path d one.2 e one.4 in
+      let same : data_of (subject_at d path) ≡ value_in (documents_of r) (at_path p path) = ap data_of one.4 ∙ sym there in
+      ap (λ (v : Option Data). let first : Placed = record { place = at_path p path; value = v } in first ∷ map (placed_at p) (map (found_at d) ps)) same
+      ∙ ap (λ (qs : List Placed). placed_in (bench_resolving r) (at_path p path) ∷ qs) (values_there d e ps h.1)
+
+  -- what is found in a schema stands at its place
+  pub found_there : (d : Data) → value_in (documents_of r) p ≡ Some d
+      → map (placed_at p) (map (found_at d) (subschemas d)) ≡ map (placed_in (bench_resolving r)) (map (at_path p) (subschemas d))
+  found_there d e = values_there d e (subschemas d) (all_stand d)

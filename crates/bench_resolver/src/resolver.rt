@@ -32,10 +32,10 @@ use crate::resolver::vocabularies::DraftVocabularies;
 use bench_subschemas::drafts::detected;
 use bench_subschemas::identifiers::{identifier, without_fragment};
 use bench_subschemas::known::is_known;
-use bench_subschemas::subschemas::subschemas;
+use bench_subschemas::subschemas::{subschemas, subschemas_placed};
 pub use bench_subschemas::{drafts, identifiers, known, subschemas};
 use schema_keywords::keywords::{Draft, VocabularySet};
-use schema_parts::resolver::{LookupError, Resolver, Target};
+use schema_parts::resolver::{LookupError, PlacedSchema, Resolver, Target};
 use schema_parts::schema_place::{SchemaPath, SchemaPlace};
 use schema_reports::location::OutOfMemory;
 use serde_json::{Map, Value};
@@ -347,6 +347,19 @@ impl<'a> Resolver for BenchResolver<'a> {
     ) -> Result<Vec<SchemaPlace>, OutOfMemory> {
         match self.documents.value_at(place) {
             Some(schema) => subschemas(alloc, place, schema),
+            None => Ok(Vec::new(alloc)),
+        }
+    }
+
+    fn subschemas_read<'v>(
+        &'v self,
+        alloc: Global,
+        _draft: Draft,
+        place: &SchemaPlace,
+        value: Option<&'v Value>,
+    ) -> Result<Vec<PlacedSchema<'v>>, OutOfMemory> {
+        match value {
+            Some(schema) => subschemas_placed(alloc, place, schema),
             None => Ok(Vec::new(alloc)),
         }
     }

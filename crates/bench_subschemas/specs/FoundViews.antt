@@ -2,6 +2,8 @@
 use Rattle.std.specs.Prelude.{Some, [], ◌∷◌}
 use Rattle.serde_json.specs.View.{view}
 use Rattle.schema_definitions.specs.Instance.{Place, to_item, to_member}
+use Rattle.schema_definitions.specs.Drafts.{SchemaPlace, at_path}
+use Rattle.schema_parts.specs.ResolverViews.{Placed}
 use Rattle.bench_subschemas.specs.declared.subschemas.FoundSchema.{FoundSchema}
 use Rattle.bench_subschemas.specs.declared.subschemas.Inside.{Inside}
 use Rattle.bench_subschemas.specs.declared.subschemas.Inside.TheVariants.{Item, Member, Nothing}
@@ -17,3 +19,7 @@ path_of f = to_member f.keyword.now ∷ steps_inside f.inside
 
 abbrev pub found_of : FoundSchema → Found
 found_of f = record { path = path_of f; schema = Some (view f.schema.now) }
+
+-- a subschema that was found in the schema at a place, with its own place
+abbrev pub placed_at : SchemaPlace → Found → Placed
+placed_at p f = record { place = at_path p f.path; value = f.schema }

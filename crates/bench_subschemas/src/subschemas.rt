@@ -4,13 +4,14 @@ ghost use Rattle.serde_json.specs.Find.{get};
 ghost use Rattle.serde_json.specs.Data.{object};
 ghost use Rattle.serde_json.specs.View.{members_view, view};
 ghost use Rattle.schema_definitions.specs.Drafts.{at_path};
-ghost use Rattle.schema_parts.specs.ResolverViews.{place_of};
+ghost use Rattle.schema_parts.specs.ResolverViews.{place_of, placed_of};
 ghost use Rattle.bench_subschemas.specs.BenchResolving.{below_list, below_object, below_value, is_schema};
 ghost use Rattle.bench_subschemas.specs.BenchResolving.{names_of_lists, names_of_objects, names_of_values, subschemas};
 ghost use Rattle.bench_subschemas.specs.FoundSchemas.{found_at, schema_if};
-ghost use Rattle.bench_subschemas.specs.FoundViews.{found_of, path_of};
+ghost use Rattle.bench_subschemas.specs.FoundViews.{found_of, path_of, placed_at};
 
 use crate::plain::any_names_schemas;
+use schema_parts::resolver::PlacedSchema;
 use schema_parts::schema_place::{SchemaPath, SchemaPlace, SchemaStep};
 use schema_reports::location::OutOfMemory;
 use serde_json::{Map, Value};
@@ -269,6 +270,40 @@ fn places_found(
         places.push(place_found(alloc, place, one)?)?;
     }
     Ok(places)
+}
+
+/// Subschemas of the schema at a place, each with its own place.
+fn placed_found<'v>(
+    alloc: Global,
+    place: &SchemaPlace,
+    found: &[FoundSchema<'v>],
+) -> Result<Vec<PlacedSchema<'v>>, OutOfMemory>
+    ensures placed { IfOk result (λ ps. map placed_of ps.items ≡ map (placed_at (place_of place.now)) (map found_of found.now)) }
+{
+    let mut placed = Vec::with_capacity(alloc, found.len())?;
+    for one in found {
+        let place = place_found(alloc, place, one)?;
+        let value = Some(one.schema);
+        placed.push(PlacedSchema { place, value })?;
+    }
+    Ok(placed)
+}
+
+/// The subschemas of the schema at a place, in order, each with its own place.
+///
+/// # Errors
+///
+/// Fails only if memory cannot be allocated.
+pub fn subschemas_placed<'v>(
+    alloc: Global,
+    place: &SchemaPlace,
+    schema: &'v Value,
+) -> Result<Vec<PlacedSchema<'v>>, OutOfMemory>
+    ensures placed { IfOk result (λ ps. map placed_of ps.items
+        ≡ map (placed_at (place_of place.now)) (map (found_at (view schema.now)) (subschemas (view schema.now)))) }
+{
+    let found = subschemas_found(alloc, schema)?;
+    placed_found(alloc, place, found.as_slice())
 }
 
 /// The places of the subschemas of a schema, in order.

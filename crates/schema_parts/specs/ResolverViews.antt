@@ -1,18 +1,32 @@
 -- What the code's resolver answers, as the definitions have it.
 use Rattle.std.specs.List.{AllByRecursion}
-use Rattle.std.specs.Prelude.{◌≡◌, ◌∷◌, Some, Result, Err, string_bytes}
+use Rattle.std.specs.Prelude.{◌≡◌, ◌∷◌, Option, Some, Result, Err, option_map, string_bytes}
 use Rattle.serde_json.specs.Data.{Data}
+use Rattle.serde_json.specs.View.{view}
 use Rattle.schema_definitions.specs.Instance.{Text, Place, Step, subject_at, a_value}
 use Rattle.schema_definitions.specs.Drafts as spec
 use Rattle.schema_definitions.specs.Resolving.{Found, Entrance, Resolver}
 use Rattle.schema_keywords.specs.KeywordViews.{draft_of}
 use Rattle.schema_parts.specs.declared.schema_place.SchemaPlace.{SchemaPlace}
+use Rattle.schema_parts.specs.declared.resolver.PlacedSchema.{PlacedSchema}
 use Rattle.schema_parts.specs.declared.resolver.Target.{Target}
 use Rattle.schema_parts.specs.declared.resolver.LookupError.{LookupError}
 use Rattle.schema_parts.specs.declared.resolver.LookupError.TheVariants.{Refused, OutOfMemory}
 
 abbrev pub place_of : SchemaPlace → spec.SchemaPlace
 place_of p = record { document = p.document; path = p.path }
+
+-- a subschema's place, and what stands there
+pub record Placed : Type 0 where
+  pub place : spec.SchemaPlace
+  pub value : Option Data
+
+-- a place, with what the resolver has there
+abbrev pub placed_in : {S : Type 0} → Resolver S → spec.SchemaPlace → Placed
+placed_in r p = record { place = p; value = r.value p }
+
+abbrev pub placed_of : PlacedSchema → Placed
+placed_of p = record { place = place_of p.place; value = option_map (λ v. view v.now) p.value }
 
 abbrev pub entrance_of : {S P : Type 0} → (S → P) → S × SchemaPlace → Entrance P
 entrance_of point e = record { place = place_of e.1; state = point e.0 }

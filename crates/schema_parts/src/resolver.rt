@@ -7,6 +7,7 @@ ghost use Rattle.schema_definitions.specs.Drafts as schemas;
 ghost use Rattle.schema_definitions.specs.Resolving as spec;
 ghost use Rattle.schema_keywords.specs.KeywordViews.{draft_of};
 ghost use Rattle.schema_parts.specs.ResolverViews.{place_of, entrance_of, found_of, Refuses, IsInside, SubschemasStandBelow};
+ghost use Rattle.schema_parts.specs.ResolverViews.{placed_in, placed_of};
 
 use crate::schema_place::{SchemaPath, SchemaPlace};
 use schema_keywords::keywords::{Draft, VocabularySet};
@@ -21,6 +22,13 @@ pub struct Target<S> {
     pub place: SchemaPlace,
     pub state: S,
     pub draft: Draft,
+}
+
+/// A subschema's place, and the value that stands there.
+#[derive(Drop)]
+pub struct PlacedSchema<'v> {
+    pub place: SchemaPlace,
+    pub value: Option<&'v Value>,
 }
 
 /// A refusal with a text of the resolver's own, or memory that could not be allocated.
@@ -199,6 +207,31 @@ pub trait Resolver {
     ) -> Result<Vec<SchemaPlace>, OutOfMemory>
         ensures places { IfOk result (λ ps. map place_of ps.items
             ≡ (resolving self.now).subresources_of (draft_of draft) (place_of place.now)) };
+
+    /// The subschemas of the schema at a place, whose value was read there, in order, each with the value at its place. It is
+    /// asked for each schema that is checked: a resolver that finds the subschemas in the value gives its own body.
+    fn subschemas_read<'v>(
+        &'v self,
+        alloc: Global,
+        draft: Draft,
+        place: &SchemaPlace,
+        _value: Option<&'v Value>,
+    ) -> Result<Vec<PlacedSchema<'v>>, OutOfMemory>
+        ensures subschemas { option_map (λ v. view v.now) _value.entry ≡ (resolving self.now).value (place_of place.now) →
+            IfOk result (λ ps. map placed_of ps.items ≡ map (placed_in (resolving self.now))
+            ((resolving self.now).subresources_of (draft_of draft) (place_of place.now))) }
+    {
+        let places = self.subresources_of(alloc, draft, place)?;
+        let mut placed = Vec::new(alloc);
+        for below in places {
+            let value = self.value(&below);
+            placed.push(PlacedSchema {
+                place: below,
+                value,
+            })?;
+        }
+        Ok(placed)
+    }
 
     /// Whether the draft knows a keyword of this name.
     fn is_known_keyword(&self, draft: Draft, name: &str) -> bool
