@@ -282,9 +282,11 @@ fn placed_found<'v>(
 {
     let mut placed = Vec::with_capacity(alloc, found.len())?;
     for one in found {
-        let place = place_found(alloc, place, one)?;
-        let value = Some(one.schema);
-        placed.push(PlacedSchema { place, value })?;
+        let below = place_found(alloc, place, one)?;
+        placed.push(PlacedSchema {
+            place: below,
+            value: Some(one.schema),
+        })?;
     }
     Ok(placed)
 }
