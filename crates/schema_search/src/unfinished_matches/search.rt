@@ -166,7 +166,7 @@ pub fn assume_within<
     requires met { IsSome first.unassumed }
     requires limit { 1 ≤ run_limit }
     ensures outcomes { IfOk result
-        (AreOutcomes (λ s x m t end. F.step s x (Ok (m, t)) end) first.entry run.old run_limit) }
+        (AreOutcomes (λ s x m t end. F.step s x (Ok (m, t)) end) first.entry run.old run_limit run.new) }
     ensures uses { UsesBelow run_limit F.step run.old run.new }
 {
     let (mut pending, mut failure) = begin(alloc, first)?;
@@ -218,7 +218,7 @@ pub fn assume_each_outcome<
     requires callable { F.IsAlwaysCallable run.old }
     requires met { IsSome first.0.unassumed }
     ensures outcomes { IfOk result
-        (AreOutcomes (λ s x m t end. F.step s x (Ok (m, t)) end) first.entry.0 run.old MAX_ASSUMED_RUNS) }
+        (AreOutcomes (λ s x m t end. F.step s x (Ok (m, t)) end) first.entry.0 run.old MAX_ASSUMED_RUNS run.new) }
     ensures uses { UsesBelow MAX_ASSUMED_RUNS F.step run.old run.new }
 {
     let (first, result) = first;
