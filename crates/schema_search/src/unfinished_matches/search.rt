@@ -151,7 +151,8 @@ fn take<'i, T: Drop>(
 }
 
 /// Makes the runs that the unfinished matches call for, at most so many, the first one among them, also where it fails. The first
-/// run has been made, and met such a match. Fails if a run fails, or if memory cannot be allocated.
+/// run has been made, and met such a match. Where it finds outcomes, it used the run for these runs alone, and not once after the
+/// last of them. Fails if a run fails, or if memory cannot be allocated.
 pub fn assume_within<
     'i,
     T: Drop,
@@ -204,8 +205,9 @@ pub fn assume_within<
 }
 
 /// Runs once for each combination of outcomes of the unfinished matches, and returns the results, or `Undecided` after
-/// `MAX_ASSUMED_RUNS` runs, the first one among them, also where it fails. The first run has been made, and met such a match. Fails if
-/// a run fails, or if memory cannot be allocated.
+/// `MAX_ASSUMED_RUNS` runs, the first one among them, also where it fails. The first run has been made, and met such a match. Where
+/// it finds outcomes, it used the run for these runs alone, and not once after the last of them. Fails if a run fails, or if memory
+/// cannot be allocated.
 pub fn assume_each_outcome<
     'i,
     T: Drop,
