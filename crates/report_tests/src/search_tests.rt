@@ -17,10 +17,13 @@ use test_rows::{column, list_at, text_at};
 
 /// Rows, by what they say first: what each run of a search meets, and its verdict; what the first run of a search meets, whose other
 /// runs meet nothing, the paths of the errors that each of two runs gives, where the search is decided, and the texts of the errors
-/// that it gives; or an instance, and the text, the paths and the instance of the error that a search over it gives, whose runs
-/// meet a match as a verdict and then at a place. What a run of the first two meets is a pattern and its path, and then `known`
-/// where the match is known to be unfinished, or the text of the limit that it came to; a run accepts where each match that is
-/// known comes out as the one before it.
+/// that it gives; what the first run of a search meets and what its other runs meet, and what is then read of its failure: compiled
+/// pattern, subject, schema path, evaluation path, instance path, pattern as it is written, and limit; or an instance, and the text,
+/// the paths and the instance of the error that a search over it gives, whose runs meet a match as a verdict and then at a place.
+/// What a run of the first three meets is a pattern and its path, and then `known` where the match is known to be unfinished, or
+/// the text of the limit that it came to, the way to it where it is met at the member `a`, and the pattern as it is written; a run
+/// accepts where each match that is known comes out as the one before it. A failure without a place takes over the first site of
+/// its match that has one, and keeps its written pattern where that has none.
 const ROWS: &str = r#"[
 ["accepted", [["d", "/anyOf/0/pattern"]], true],
 ["accepted", [["d", "/anyOf/0/pattern"], ["e", "/anyOf/0/pattern"], ["f", "/anyOf/0/pattern"], ["g", "/anyOf/0/pattern"],
@@ -35,6 +38,12 @@ const ROWS: &str = r#"[
 ["shared", [["compiled", "/pattern"]], [[[]], [[]]], []],
 ["shared", [["compiled", "/pattern", "Error executing regex: Max limit for backtracking count exceeded"]], null,
   ["Error executing regex: Max limit for backtracking count exceeded"]],
+["read", [["p", "/pattern"]], [], ["p", "abc", "/pattern", null, null, null, ""]],
+["read", [["compiled", "/$defs/s/pattern", "Max limit reached", "/properties/a/$ref/pattern", "source"]], [],
+  ["compiled", "abc", "/$defs/s/pattern", "/properties/a/$ref/pattern", "/a", "source", "Max limit reached"]],
+["read", [["compiled", "/not/pattern", "", null, "source"]], [["compiled", "/$defs/s/pattern", "", "/properties/a/$ref/pattern"]],
+  ["compiled", "abc", "/$defs/s/pattern", "/properties/a/$ref/pattern", "/a", "source", ""]],
+["read", [["p", "/a/pattern"], ["q", "/b/pattern", "", "/b/pattern"]], [], ["p", "abc", "/a/pattern", null, null, null, ""]],
 ["located", {"a": "abc"},
   "Regex engine failed to evaluate pattern 'source'", "/$defs/s/pattern", "/properties/a/$ref/pattern", "/a", "\"abc\""]
 ]"#;
@@ -42,6 +51,19 @@ const ROWS: &str = r#"[
 /// The site of a keyword's path.
 fn schema_site<'i>(rt: &impl Abort, alloc: Global, path: &str) -> MatchSite<'i> {
     MatchSite::schema(pointer(rt, alloc, path))
+}
+
+/// The site of a match that a run meets.
+fn site_in<'i>(rt: &impl Abort, alloc: Global, row: &Value) -> MatchSite<'i> {
+    let path = pointer(rt, alloc, text_at(row, 1));
+    let site = match column(row, 3).as_str() {
+        None => MatchSite::schema(path),
+        Some(way) => MatchSite::located(path, pointer(rt, alloc, way), member_place(rt, alloc)),
+    };
+    match column(row, 4).as_str() {
+        None => site,
+        Some(pattern) => site.pattern(alloc, pattern).expect(rt, "memory"),
+    }
 }
 
 /// Why a match is not finished: it came to this limit, or the engine failed where there is none.
@@ -61,7 +83,7 @@ fn meet_new<'i>(
     met: &mut MatchAssumptions<'i>,
 ) -> bool {
     let reason = reason_of(rt, alloc, text_at(row, 2));
-    let site = schema_site(rt, alloc, text_at(row, 1));
+    let site = site_in(rt, alloc, row);
     met.resolve(text_at(row, 0), "abc", reason, site)
         .expect(rt, "memory")
 }
@@ -198,6 +220,51 @@ fn is_shared(rt: &impl Abort, alloc: Global, row: &Value) -> bool {
     have_texts
 }
 
+/// Whether the place of a site is the one that a pointer leads to; it has none where there is no pointer.
+fn is_placed(rt: &impl Abort, alloc: Global, site: &MatchSite<'_>, pointer: &Value) -> bool {
+    match site.place() {
+        None => pointer.is_null(),
+        Some(place) => match pointer.as_str() {
+            None => false,
+            Some(want) => points(place.pointer(alloc).expect(rt, "memory"), want),
+        },
+    }
+}
+
+/// Whether a site has the paths and the pattern that a row wants.
+fn is_site(rt: &impl Abort, alloc: Global, site: &MatchSite<'_>, want: &Value) -> bool {
+    let way = match site.evaluation_path() {
+        None => None,
+        Some(way) => Some(way.as_str()),
+    };
+    site.schema_path().as_str() == text_at(want, 2)
+        && way == column(want, 3).as_str()
+        && is_placed(rt, alloc, site, column(want, 4))
+        && site.written_pattern() == column(want, 5).as_str()
+}
+
+/// The text of a reason's limit, or no text.
+fn limit_of(reason: &Reason) -> &str {
+    match reason {
+        Reason::Limit(text) => text.as_str(),
+        Reason::Engine => "",
+    }
+}
+
+/// Whether what is read of the failure of a row's search is what the row says.
+fn is_read(rt: &impl Abort, alloc: Global, row: &Value) -> bool {
+    let Some(failure) = failure_of(outcomes(rt, alloc, list_at(row, 1), list_at(row, 2))) else {
+        return false;
+    };
+    let want = column(row, 3);
+    let is_read = failure.pattern() == text_at(want, 0)
+        && failure.subject() == text_at(want, 1)
+        && limit_of(failure.reason()) == text_at(want, 6)
+        && is_site(rt, alloc, failure.site(), want);
+    drop(failure);
+    is_read
+}
+
 /// A site with a place.
 fn site_at_place<'i>(rt: &impl Abort, alloc: Global) -> MatchSite<'i> {
     let path = pointer(rt, alloc, "/$defs/s/pattern");
@@ -275,6 +342,7 @@ pub(crate) fn finds(rt: &impl Abort, alloc: Global, row: &Value) -> bool {
     match text_at(row, 0) {
         "accepted" => is_accepted(rt, alloc, row),
         "shared" => is_shared(rt, alloc, row),
+        "read" => is_read(rt, alloc, row),
         _ => is_located(rt, alloc, row),
     }
 }

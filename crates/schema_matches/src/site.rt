@@ -1,6 +1,6 @@
 //! Unfinished matches, and where they are met.
-ghost use Rattle.std.specs.Prelude.{[], IfOk, MatchOption, None, Some, is_some, length, slice_index_or, string_bytes, true};
-ghost use Rattle.std.specs.Prelude.{unwrap_or, ◌<◌, ◌≡◌};
+ghost use Rattle.std.specs.Prelude.{[], IfOk, MatchOption, None, Some, is_some, length, option_copied, option_map, slice_index_or};
+ghost use Rattle.std.specs.Prelude.{string_bytes, true, unwrap_or, ◌<◌, ◌≡◌};
 ghost use Rattle.schema_meaning.specs.Headline.{reason_text};
 ghost use Rattle.schema_definitions.specs.Instance.{a_value, subject_at};
 ghost use Rattle.schema_reports.specs.InstanceViews.{subject_of};
@@ -165,6 +165,43 @@ impl<'i> MatchSite<'i> {
         self.located.is_some()
     }
 
+    /// The schema path.
+    pub fn schema_path(&self) -> &Location
+        ensures path { result.now ≡ self.now.schema_path }
+    {
+        &self.schema_path
+    }
+
+    /// The evaluation path, where the site has one.
+    pub fn evaluation_path(&self) -> Option<&Location>
+        ensures path { option_copied result ≡ option_map (λ l. l.0) self.now.located }
+    {
+        match &self.located {
+            Some(located) => Some(&located.0),
+            None => None,
+        }
+    }
+
+    /// The place of the subject, which is where the instance path leads to, where the site has one.
+    pub fn place(&self) -> Option<&Place<'i>>
+        ensures place { option_copied result ≡ option_map (λ l. l.1) self.now.located }
+    {
+        match &self.located {
+            Some(located) => Some(&located.1),
+            None => None,
+        }
+    }
+
+    /// The pattern as it is written in the schema, where the site has that.
+    pub fn written_pattern(&self) -> Option<&str>
+        ensures pattern { option_copied result ≡ self.now.pattern }
+    {
+        match &self.pattern {
+            Some(pattern) => Some(pattern.as_str()),
+            None => None,
+        }
+    }
+
     // Takes over the other site, and keeps its pattern where the other has none.
     fn take_over(&mut self, other: MatchSite<'i>)
         ensures { self.new ≡ record other.entry { pattern = or_pattern other.entry.pattern self.old.pattern } }
@@ -282,6 +319,27 @@ impl<'i> MatchFailure<'i> {
         ensures { result.now ≡ self.now.met.site }
     {
         &self.site
+    }
+
+    /// The compiled pattern.
+    pub fn pattern(&self) -> &str
+        ensures pattern { result.now ≡ self.now.met.pair.pattern }
+    {
+        self.unfinished.pattern()
+    }
+
+    /// The subject.
+    pub fn subject(&self) -> &str
+        ensures subject { result.now ≡ self.now.met.pair.subject }
+    {
+        self.unfinished.subject()
+    }
+
+    /// Why the match was not finished.
+    pub fn reason(&self) -> &Reason
+        ensures reason { reason_of result.now ≡ self.now.reason }
+    {
+        &self.reason
     }
 
     /// Takes over the first of these sites that is of this match, where its own has no instance path.

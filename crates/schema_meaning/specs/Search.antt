@@ -111,12 +111,12 @@ all_yes as' = list_all (λ a. a.outcome) as'
 
 module _ {S T : Type 0} (Step : S → Remembered → Remembered → T → S → Type 0) (first : Remembered) (start : S) (limit : ℕ) where
   -- the runs that the search made, the first one among them, and the failure: the first match that the first run met and did
-  -- not assume, at the first of the sites of it that has an instance path. Where each use hands back the assumptions that it
-  -- got, it branches only on matches that are not yet assumed
-  pub record Made (tree : Tree T) (failure : Failure) : Type 0 where
+  -- not assume, at the first of the sites of it that has an instance path. The uses of these runs, the first one's aside, lead
+  -- to the end, one after another, and there are no others. Where each use hands back the assumptions that it got, it branches
+  -- only on matches that are not yet assumed
+  pub record Made (end : S) (tree : Tree T) (failure : Failure) : Type 0 where
     pub unassumed : Failure
     pub is_first : first.unassumed ≡ Some unassumed
-    pub end : S
     pub grows : GrowsFrom Step first start tree end
     pub few : runs tree ≤ limit
     pub located : failure ≡ located_by_all unassumed (sites tree)

@@ -181,23 +181,23 @@ module _ (root : Data) (f : Failure) where
 -- ---- the calls
 
 module _ (v : Sense) (call : Call) {S T V : Type 0} (Step : S → Remembered → Remembered → T → S → Type 0) (first : Remembered) (start : S) (view : T → V) (says : Assumptions → V) (is : IsRunOf v call Step first start view says) (limit : ℕ) where
-  pub first_is : (tree : Tree T) (f : Failure) (made : Made Step first start limit tree f) → branch_at v call [] ≡ Some made.unassumed.met
+  pub first_is : {end : S} (tree : Tree T) (f : Failure) (made : Made Step first start limit end tree f) → branch_at v call [] ≡ Some made.unassumed.met
   first_is tree f made = sym is.remembers_first.first ∙ ap (option_map (λ (g : Failure). g.met)) made.is_first
 
   -- the failure of the search is one of the call's
-  pub fails : (tree : Tree T) (f : Failure) → Made Step first start limit tree f → IsFailure v call (failure_error f)
-  fails tree f made =
+  pub fails : {end : S} (tree : Tree T) (f : Failure) → Made Step first start limit end tree f → IsFailure v call (failure_error f)
+  fails {end} tree f made =
       let e = first_is tree f made in
-      let at : IsAt v call made.unassumed f = subst (IsAt v call made.unassumed) (sym made.located) (at_all v call made.unassumed made.unassumed (sites tree) (call_part v call Step first start view says is tree made.end made.grows).sited (at_first v call made.unassumed e)) in
+      let at : IsAt v call made.unassumed f = subst (IsAt v call made.unassumed) (sym made.located) (at_all v call made.unassumed made.unassumed (sites tree) (call_part v call Step first start view says is tree end made.grows).sited (at_first v call made.unassumed e)) in
       is_failure v call made.unassumed f at e (is.remembers_first.reason made.unassumed made.is_first) (failure_error f) refl
 
-module _ (v : Sense) (follows : Follows v) (root : Data) {S : Type 0} (Step : S → Remembered → Remembered → Vec ValidationError → S → Type 0) (first : Remembered) (start : S) where
+module _ (v : Sense) (follows : Follows v) (root : Data) {S : Type 0} (Step : S → Remembered → Remembered → Vec ValidationError → S → Type 0) (first : Remembered) (start end : S) where
   told_results : (tree : Tree (Vec ValidationError)) (results : List (Vec ValidationError)) (ms : List Assumptions) → results ≡ results_of tree → map errors_in (results_of tree) ≡ map (errors_of v) ms
       → map told (map (λ (r : Vec ValidationError). r.items) results) ≡ map (errors_of v) ms
   told_results tree results ms e same = map_map told (λ (r : Vec ValidationError). r.items) results ∙ (ap (map errors_in) e ∙ same)
 
   -- what is given is what the call's sentence lists, for each call whose further runs want all errors
-  pub all_errors_say : (call : Call) → WantsAllLater call → IsRunOf v call Step first start errors_in (errors_of v) → (o : Outcomes (Vec ValidationError)) → AreOutcomes Step first start 64 o → (es : Vec ValidationError) → AreErrors root o es.items → ErrorsOf v call (errors_in es)
+  pub all_errors_say : (call : Call) → WantsAllLater call → IsRunOf v call Step first start errors_in (errors_of v) → (o : Outcomes (Vec ValidationError)) → AreOutcomes Step first start 64 end o → (es : Vec ValidationError) → AreErrors root o es.items → ErrorsOf v call (errors_in es)
   all_errors_say call later is (Assumed results f) (tree, made, whole, same) es (o, shared, answer) =
       let m = are_few v call Step first start errors_in (errors_of v) is 64 tree f made whole in
       let some : ¬ (branch_at v call [] ≡ None) = λ e. absurd (cc (sym e ∙ first_is v call Step first start errors_in (errors_of v) is 64 tree f made)) in
@@ -208,7 +208,7 @@ module _ (v : Sense) (follows : Follows v) (root : Data) {S : Type 0} (Step : S 
     λ n. (failure_error f, fails v call Step first start errors_in (errors_of v) is 64 tree f made, ap told one.alone ∙ ap (λ z. z ∷ []) one.is),
   )
 
-  pub first_error_says : IsRunOf v validate Step first start errors_in (errors_of v) → (o : Outcomes (Vec ValidationError)) → AreOutcomes Step first start 64 o → (es : Vec ValidationError) → AreErrors root o es.items → FirstSays v (first_error (errors_in es))
+  pub first_error_says : IsRunOf v validate Step first start errors_in (errors_of v) → (o : Outcomes (Vec ValidationError)) → AreOutcomes Step first start 64 end o → (es : Vec ValidationError) → AreErrors root o es.items → FirstSays v (first_error (errors_in es))
   first_error_says is (Assumed results f) (tree, made, whole, same) es (o, shared, answer) =
       let m = are_few v validate Step first start errors_in (errors_of v) is 64 tree f made whole in
       let it = listed_is root f v m.others m.last (map (λ (r : Vec ValidationError). r.items) results.items) o es.items (told_results tree results.items (lists_of [] tree) same m.same ∙ ap (map (errors_of v)) m.split) shared answer in
@@ -222,7 +222,7 @@ module _ (v : Sense) (follows : Follows v) (root : Data) {S : Type 0} (Step : S 
   accepts_is ms = all_same (λ m. is_nil (errors_of v m)) (verdict_of v) ms (λ m. nil_agrees (v.says (completion_of m)) (follows.agrees (completion_of m)))
 
   -- no error is given exactly where the call's sentence says yes
-  pub none_says : (call : Call) → IsRunOf v call Step first start none_in (λ m. is_nil (errors_of v m)) → (o : Outcomes (Vec ValidationError)) → AreOutcomes Step first start 64 o → (es : Vec ValidationError) → AreErrors root o es.items → VerdictSays v call (none_in es)
+  pub none_says : (call : Call) → IsRunOf v call Step first start none_in (λ m. is_nil (errors_of v m)) → (o : Outcomes (Vec ValidationError)) → AreOutcomes Step first start 64 end o → (es : Vec ValidationError) → AreErrors root o es.items → VerdictSays v call (none_in es)
   none_says call is (Assumed results f) (tree, made, whole, same) es (o, shared, answer) =
       let m = are_few v call Step first start none_in (λ x. is_nil (errors_of v x)) is 64 tree f made whole in
       let it = none_answer root f (map (λ (r : Vec ValidationError). r.items) results.items) o es.items shared answer in
@@ -245,8 +245,8 @@ shared_each P (r ∷ rs) xs h (front, end, is, shared) =
     kept [] true e = cc
     kept [] false e = absurd (cc e)
 
-module _ (v : Sense) (call : Call) (root : Data) {S : Type 0} (Step : S → Remembered → Remembered → Vec ValidationError → S → Type 0) (first : Remembered) (start : S) (is : IsRunOf v call Step first start none_in (λ m. is_nil (errors_of v m))) where
-  failure_alone : (tree : Tree (Vec ValidationError)) (f : Failure) → Made Step first start 64 tree f → (es : List ValidationError) → OneError root f es → FailureAlone v call root es
+module _ (v : Sense) (call : Call) (root : Data) {S : Type 0} (Step : S → Remembered → Remembered → Vec ValidationError → S → Type 0) (first : Remembered) (start end : S) (is : IsRunOf v call Step first start none_in (λ m. is_nil (errors_of v m))) where
+  failure_alone : (tree : Tree (Vec ValidationError)) (f : Failure) → Made Step first start 64 end tree f → (es : List ValidationError) → OneError root f es → FailureAlone v call root es
   failure_alone tree f made es one = record {
     error = one.error;
     alone = one.alone;
@@ -262,7 +262,7 @@ module _ (v : Sense) (call : Call) (root : Data) {S : Type 0} (Step : S → Reme
       (λ e inside. record { before = s; assumptions = as'; remembered = r; errors = result; after = end; reaches = at; runs = run; further = some; is_step = step; all_assumed = none; gives = inside })
       result.items (All-contains_itself result.items)
 
-  pub errors_given : (o : Outcomes (Vec ValidationError)) → AreOutcomes Step first start 64 o → (es : Vec ValidationError) → AreErrors root o es.items → GivesErrors v call Step start root es.items
+  pub errors_given : (o : Outcomes (Vec ValidationError)) → AreOutcomes Step first start 64 end o → (es : Vec ValidationError) → AreErrors root o es.items → GivesErrors v call Step start root es.items
   errors_given (Assumed results f) (tree, made, whole, same) es (o, shared, answer) = record {
     each = go o shared answer;
     undecided = λ n. let m = are_few v call Step first start none_in (λ x. is_nil (errors_of v x)) is 64 tree f made whole in absurd (n (lists_of [] tree, m.cover, omega (arith, m.few)));
@@ -270,7 +270,7 @@ module _ (v : Sense) (call : Call) (root : Data) {S : Type 0} (Step : S → Reme
     where
       lists : All (All (OfRun v call Step start)) (map (λ (r : Vec ValidationError). r.items) results.items)
       lists = All-map (All (OfRun v call Step start)) (λ (r : Vec ValidationError). r.items) results.items
-          (subst (All AllOfRuns) (sym same) (call_each v call Step first start none_in (λ m. is_nil (errors_of v m)) is AllOfRuns all_of_runs tree made.end made.grows))
+          (subst (All AllOfRuns) (sym same) (call_each v call Step first start none_in (λ m. is_nil (errors_of v m)) is AllOfRuns all_of_runs tree end made.grows))
 
       go : (o : Option (List ValidationError)) → IsSharedBy (map (λ (r : Vec ValidationError). r.items) results.items) o → OrFailure root f o es.items → All (OfRun v call Step start) es.items ⊎ FailureAlone v call root es.items
       go (Some xs) shared answer = inl (subst (All (OfRun v call Step start)) (sym answer) (shared_each (OfRun v call Step start) (map (λ (r : Vec ValidationError). r.items) results.items) xs lists shared))

@@ -38,9 +38,9 @@ module _ (v : Sense) (call : Call) {S T V : Type 0} (Step : S → Remembered →
     pub last : Assumptions
     pub split : lists_of [] tree ≡ others ++ last ∷ []
 
-  pub are_few : (limit : ℕ) (tree : Tree T) (f : Failure) → Made Step first start limit tree f → Whole Step first start limit tree → AreFew limit tree
-  are_few limit tree f made whole =
-      let c = call_cover v call Step first start view says is tree made.end made.grows whole.none_waits in
+  pub are_few : {end : S} (limit : ℕ) (tree : Tree T) (f : Failure) → Made Step first start limit end tree f → Whole Step first start limit tree → AreFew limit tree
+  are_few {end} limit tree f made whole =
+      let c = call_cover v call Step first start view says is tree end made.grows whole.none_waits in
       let counted : length (lists_of [] tree) ≡ ends tree = subst (λ z. length (lists_of z tree) ≡ ends tree) is.assumes_none whole.counted in
       record {
         cover = c.cover;
@@ -51,22 +51,22 @@ module _ (v : Sense) (call : Call) {S T V : Type 0} (Step : S → Remembered →
         split = subst (λ z. lists_of z tree ≡ whole.others ++ whole.last ∷ []) is.assumes_none whole.lists_are;
       }
 
-  pub not_decided : (tree : Tree T) (f : Failure) → Made Step first start 64 tree f → Cut Step first start 64 tree → ¬ (Decides v call)
-  not_decided tree f made cut = undecided_past v call (ends tree) (call_part v call Step first start view says is tree made.end made.grows).part (omega (arith, cut.many))
+  pub not_decided : {end : S} (tree : Tree T) (f : Failure) → Made Step first start 64 end tree f → Cut Step first start 64 tree → ¬ (Decides v call)
+  not_decided {end} tree f made cut = undecided_past v call (ends tree) (call_part v call Step first start view says is tree end made.grows).part (omega (arith, cut.many))
 
-module _ (v : Sense) (call : Call) (follows : Follows v) {S : Type 0} (Step : S → Remembered → Remembered → Bool → S → Type 0) (first : Remembered) (start : S) (is : IsRunOf v call Step first start (λ (b : Bool). b) (verdict_of v)) where
+module _ (v : Sense) (call : Call) (follows : Follows v) {S : Type 0} (Step : S → Remembered → Remembered → Bool → S → Type 0) (first : Remembered) (start end : S) (is : IsRunOf v call Step first start (λ (b : Bool). b) (verdict_of v)) where
   yes_is : (tree : Tree Bool) (results : List Bool) → results ≡ results_of tree → map (λ b. b) (results_of tree) ≡ map (verdict_of v) (lists_of [] tree) → list_all (λ b. b) results ≡ all_accept v (lists_of [] tree)
   yes_is tree results e same =
       ap (list_all (λ b. b)) (e ∙ sym (map_same (results_of tree)) ∙ same) ∙ all_map (λ b. b) (verdict_of v) (lists_of [] tree)
 
-  pub validity_says : (o : Outcomes Bool) → AreOutcomes Step first start 64 o → VerdictSays v call (is_yes o)
+  pub validity_says : (o : Outcomes Bool) → AreOutcomes Step first start 64 end o → VerdictSays v call (is_yes o)
   validity_says (Assumed results failure) (tree, made, whole, same) =
       let m = are_few v call Step first start (λ b. b) (verdict_of v) is 64 tree failure made whole in
       subst (VerdictSays v call) (sym (yes_is tree results.items same m.same)) (verdict_says v call follows (lists_of [] tree) m.cover (omega (arith, m.few)))
   validity_says (Undecided failure) (tree, made, cut) =
       (λ d. absurd (not_decided v call Step first start (λ b. b) (verdict_of v) is tree failure made cut d), λ n. refl)
 
-  pub validity_exactly : (o : Outcomes Bool) → AreOutcomes Step first start 64 o → (is_yes o ≡ true) ↔ (Decides v call × EachAccepts v)
+  pub validity_exactly : (o : Outcomes Bool) → AreOutcomes Step first start 64 end o → (is_yes o ≡ true) ↔ (Decides v call × EachAccepts v)
   validity_exactly (Assumed results failure) (tree, made, whole, same) =
       let m = are_few v call Step first start (λ b. b) (verdict_of v) is 64 tree failure made whole in
       let decides : Decides v call = (lists_of [] tree, m.cover, omega (arith, m.few)) in

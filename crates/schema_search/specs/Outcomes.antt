@@ -13,10 +13,11 @@ use Rattle.schema_search.specs.declared.unfinished_matches.search.Outcomes.{Outc
 use Rattle.schema_search.specs.declared.unfinished_matches.search.Outcomes.TheVariants as outcomes
 
 module _ {S T : Type 0} (Step : S → Remembered → Remembered → T → S → Type 0) (first : Remembered) (start : S) (limit : ℕ) where
-  -- one result for each member of the cover that the run grows, within the limit; or the limit is reached before the cover is whole
-  abbrev pub AreOutcomes : Outcomes T → Type 0
-  AreOutcomes (outcomes.Assumed results failure) = (tree : Tree T) × Made Step first start limit tree failure × Whole Step first start limit tree × (results.items ≡ results_of tree)
-  AreOutcomes (outcomes.Undecided failure) = (tree : Tree T) × Made Step first start limit tree failure × Cut Step first start limit tree
+  -- one result for each member of the cover that the run grows, within the limit; or the limit is reached before the cover is whole.
+  -- The run is left as the last of the uses that grow it leaves it
+  abbrev pub AreOutcomes : S → Outcomes T → Type 0
+  AreOutcomes end (outcomes.Assumed results failure) = (tree : Tree T) × Made Step first start limit end tree failure × Whole Step first start limit tree × (results.items ≡ results_of tree)
+  AreOutcomes end (outcomes.Undecided failure) = (tree : Tree T) × Made Step first start limit end tree failure × Cut Step first start limit tree
 
 -- all results are yes; a search that is cut is no
 abbrev pub is_yes : Outcomes Bool → Bool

@@ -151,7 +151,8 @@ fn take<'i, T: Drop>(
 }
 
 /// Makes the runs that the unfinished matches call for, at most so many, the first one among them, also where it fails. The first
-/// run has been made, and met such a match. Fails if a run fails, or if memory cannot be allocated.
+/// run has been made, and met such a match. Where it finds outcomes, it used the run for these runs alone, and not once after the
+/// last of them. Fails if a run fails, or if memory cannot be allocated.
 pub fn assume_within<
     'i,
     T: Drop,
@@ -166,7 +167,7 @@ pub fn assume_within<
     requires met { IsSome first.unassumed }
     requires limit { 1 ≤ run_limit }
     ensures outcomes { IfOk result
-        (AreOutcomes (λ s x m t end. F.step s x (Ok (m, t)) end) first.entry run.old run_limit) }
+        (AreOutcomes (λ s x m t end. F.step s x (Ok (m, t)) end) first.entry run.old run_limit run.new) }
     ensures uses { UsesBelow run_limit F.step run.old run.new }
 {
     let (mut pending, mut failure) = begin(alloc, first)?;
@@ -204,8 +205,9 @@ pub fn assume_within<
 }
 
 /// Runs once for each combination of outcomes of the unfinished matches, and returns the results, or `Undecided` after
-/// `MAX_ASSUMED_RUNS` runs, the first one among them, also where it fails. The first run has been made, and met such a match. Fails if
-/// a run fails, or if memory cannot be allocated.
+/// `MAX_ASSUMED_RUNS` runs, the first one among them, also where it fails. The first run has been made, and met such a match. Where
+/// it finds outcomes, it used the run for these runs alone, and not once after the last of them. Fails if a run fails, or if memory
+/// cannot be allocated.
 pub fn assume_each_outcome<
     'i,
     T: Drop,
@@ -218,7 +220,7 @@ pub fn assume_each_outcome<
     requires callable { F.IsAlwaysCallable run.old }
     requires met { IsSome first.0.unassumed }
     ensures outcomes { IfOk result
-        (AreOutcomes (λ s x m t end. F.step s x (Ok (m, t)) end) first.entry.0 run.old MAX_ASSUMED_RUNS) }
+        (AreOutcomes (λ s x m t end. F.step s x (Ok (m, t)) end) first.entry.0 run.old MAX_ASSUMED_RUNS run.new) }
     ensures uses { UsesBelow MAX_ASSUMED_RUNS F.step run.old run.new }
 {
     let (first, result) = first;
