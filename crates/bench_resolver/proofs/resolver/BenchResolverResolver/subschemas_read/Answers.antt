@@ -1,0 +1,23 @@
+use Rattle.std.proofs.Common.{Bor, ◌≡◌, ◌∙◌, List, Option, Some, ap, map, option_map, subst, sym}
+use Rattle.std.specs.Prelude.{IfOk}
+use Rattle.serde_json.specs.Data.{Data}
+use Rattle.serde_json.specs.View.{view}
+use Rattle.serde_json.specs.declared.value.Value.{Value}
+use Rattle.schema_definitions.specs.Drafts.{at_path}
+use Rattle.schema_parts.specs.ResolverViews.{Placed, place_of, placed_in, placed_of}
+use Rattle.bench_subschemas.specs.BenchResolving.{subschemas_of}
+use Rattle.bench_resolver.specs.BenchAnswers.{bench_resolving}
+use Rattle.bench_resolver.specs.BenchDocuments.{documents_of, value_in}
+use Rattle.bench_resolver.specs.SubschemaLaws.{found_there}
+use Rattle.bench_resolver.proofs.resolver.BenchResolverResolver.subschemas_read.Goals as goal
+
+pub returns-in-Some : goal.returns-in-Some
+returns-in-Some c = record {
+  subschemas = λ read.
+      let r = c.args.self.now in
+      let p = place_of c.args.place.now in
+      let v : Data = view c.in-Some.schema.now in
+      let there : value_in (documents_of r) p ≡ Some v = sym read ∙ ap (option_map (λ (b : Bor Value). view b.now)) c.in-Some.is in
+      let same = found_there r p v there ∙ ap (λ (o : Option Data). map (placed_in (bench_resolving r)) (map (at_path p) (subschemas_of o))) (sym there) in
+      subst (λ (qs : List Placed). IfOk c.subschemas_placed.result (λ ps. map placed_of ps.items ≡ qs)) same c.subschemas_placed.ensures.placed;
+}
