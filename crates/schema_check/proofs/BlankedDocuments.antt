@@ -15,7 +15,7 @@ use Rattle.serde_json.proofs.Views.{Entry}
 use Rattle.schema_definitions.specs.Instance.{Step, to_item, to_member}
 use Rattle.schema_definitions.specs.Drafts.{SchemaPlace}
 use Rattle.schema_definitions.specs.Parts.{Parts}
-use Rattle.schema_meaning.specs.Documents.{blanked, blanked_items, blanked_members, is_cut, passes_unseen}
+use Rattle.schema_meaning.specs.Documents.{Cut, blanked, blanked_items, blanked_members, is_cut, passes_unseen}
 
 -- items as a list
 abbrev pub items_of : List Data → Items
@@ -40,7 +40,7 @@ module _ {S K R : Type 0} (w : Parts S K R) where
 
   -- ---- one step below a place
 
-  module _ (qs : List SchemaPlace) (p : SchemaPlace) where
+  module _ (qs : List Cut) (p : SchemaPlace) where
     abbrev pub below : Step → SchemaPlace
     below s = record p { path = p.path ++ s ∷ [] }
 

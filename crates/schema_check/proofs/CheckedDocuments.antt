@@ -10,7 +10,7 @@ use Rattle.schema_definitions.specs.Drafts as spec
 use Rattle.schema_definitions.specs.Drafts.{Draft, at_path}
 use Rattle.schema_definitions.specs.Resolving.{Resolver}
 use Rattle.schema_definitions.specs.Plan.{schema_at}
-use Rattle.schema_meaning.specs.Documents.{Document, blanked, cuts, documents, embedded, passes_unseen}
+use Rattle.schema_meaning.specs.Documents.{Cut, Document, blanked, cuts, documents, embedded, passes_unseen}
 use Rattle.schema_reports.specs.Owned.{prefixed}
 use Rattle.schema_reports.specs.ReportViews.{owned_error_of}
 use Rattle.schema_reports.specs.declared.reports.OwnedError.{OwnedError}
@@ -19,6 +19,8 @@ use Rattle.schema_parts.specs.ResolverViews.{IsInside, StandsBelow, SubschemasSt
 use Rattle.schema_parts.specs.declared.schema_place.SchemaPlace.{SchemaPlace}
 use Rattle.schema_keys.specs.Compiling.{Each, In, resolving_parts}
 use Rattle.schema_check.specs.Checking.{EachAccepted, IsAccepted, IsErrorBelow, MetaChecks, RefusesOne, location_from, own_document, without_text}
+use Rattle.schema_check.specs.CutViews.{cut_of}
+use Rattle.schema_check.specs.declared.check.cuts.Cut as code
 use Rattle.schema_keys.specs.declared.error.BuildError.{BuildError}
 use Rattle.schema_keys.specs.declared.error.BuildError.TheVariants.{KeywordRefused, Lookup, MetaSchema, MissingRoot, NodeLimit, NotASchema, OutOfMemory, ReferenceNotText, UnsupportedVocabulary}
 use Rattle.schema_keys.proofs.Lists.{in_left, in_right}
@@ -29,23 +31,23 @@ pub both : {A : Type 0} (P : A → Type 0) (xs ys : List A) → Each P xs → Ea
 both P [] ys h k = k
 both P (x ∷ xs) ys h k = (h.0, both P xs ys h.1 k)
 
-pub at_index : (P : spec.SchemaPlace → Type 0) (items : List SchemaPlace) (k : ℕ) (x : SchemaPlace) → Each P (map place_of items) → k < length items → x ≡ get_or items k x → P (place_of x)
-at_index P [] k x h l at = absurd (omega arith)
-at_index P (y ∷ items) zero x h l at = subst (λ (z : SchemaPlace). P (place_of z)) (sym at) h.0
-at_index P (y ∷ items) (suc k) x h l at = at_index P items k x h.1 (omega arith) at
+pub at_index : {A B : Type 0} (v : A → B) (P : B → Type 0) (items : List A) (k : ℕ) (x : A) → Each P (map v items) → k < length items → x ≡ get_or items k x → P (v x)
+at_index v P [] k x h l at = absurd (omega arith)
+at_index {A} v P (y ∷ items) zero x h l at = subst (λ (z : A). P (v z)) (sym at) h.0
+at_index v P (y ∷ items) (suc k) x h l at = at_index v P items k x h.1 (omega arith) at
 
-pub no_cuts : (b : Bool) (items : List SchemaPlace) → b ≡ (length items == 0) → b ≡ true → map place_of items ≡ []
+pub no_cuts : (b : Bool) (items : List code.Cut) → b ≡ (length items == 0) → b ≡ true → map cut_of items ≡ []
 no_cuts b [] e h = refl
 no_cuts b (x ∷ items) e h = absurd (let none : suc (length items) ≡ 0 = eqb-true (suc (length items)) 0 (sym e ∙ h) in omega arith)
 
--- one place more
-pub next_place : {A : Type 0} (f : spec.SchemaPlace → List A) (items : List SchemaPlace) (k : ℕ) (x : SchemaPlace) → k < length items → x ≡ get_or items k x
-    → flat_map f (map place_of (drop k items)) ≡ f (place_of x) ++ flat_map f (map place_of (drop (k + 1) items))
-next_place f items k x l at = ap (λ (xs : List SchemaPlace). flat_map f (map place_of xs)) (drop_more items k x l)
-    ∙ ap (λ (y : SchemaPlace). f (place_of y) ++ flat_map f (map place_of (drop (k + 1) items))) (sym at)
+-- one more
+pub next_one : {A B C : Type 0} (v : A → B) (f : B → List C) (items : List A) (k : ℕ) (x : A) → k < length items → x ≡ get_or items k x
+    → flat_map f (map v (drop k items)) ≡ f (v x) ++ flat_map f (map v (drop (k + 1) items))
+next_one {A} v f items k x l at = ap (λ (xs : List A). flat_map f (map v xs)) (drop_more items k x l)
+    ∙ ap (λ (y : A). f (v y) ++ flat_map f (map v (drop (k + 1) items))) (sym at)
 
-pub no_place : {A : Type 0} (f : spec.SchemaPlace → List A) (items : List SchemaPlace) (k : ℕ) → length items ≤ k → flat_map f (map place_of (drop k items)) ≡ []
-no_place f items k l = ap (λ (xs : List SchemaPlace). flat_map f (map place_of xs)) (drop_all k items l)
+pub no_more : {A B C : Type 0} (v : A → B) (f : B → List C) (items : List A) (k : ℕ) → length items ≤ k → flat_map f (map v (drop k items)) ≡ []
+no_more {A} v f items k l = ap (λ (xs : List A). flat_map f (map v xs)) (drop_all k items l)
 
 pub turned : {A : Type 0} (old new x rest next whole : List A) → old ++ rest ≡ whole → rest ≡ x ++ next → new ≡ old ++ x → new ++ next ≡ whole
 turned old new x rest next whole so_far one_more added = ap (λ ys. ys ++ next) added ∙ append_assoc old x next ∙ ap (λ ys. old ++ ys) (sym one_more) ∙ so_far
@@ -55,10 +57,10 @@ in_flat f [] x y i j = absurd i
 in_flat f (z ∷ xs) x y (inl e) j = in_left (f z) (flat_map f xs) y (subst (λ u. In (f u) y) (sym e) j)
 in_flat f (z ∷ xs) x y (inr i) j = in_right (f z) (flat_map f xs) y (in_flat f xs x y i j)
 
-pub in_at_index : (items : List SchemaPlace) (k : ℕ) (x : SchemaPlace) → k < length items → x ≡ get_or items k x → In (map place_of items) (place_of x)
-in_at_index [] k x l at = absurd (omega arith)
-in_at_index (y ∷ items) zero x l at = inl (ap place_of (sym at))
-in_at_index (y ∷ items) (suc k) x l at = inr (in_at_index items k x (omega arith) at)
+pub in_at_index : {A B : Type 0} (v : A → B) (items : List A) (k : ℕ) (x : A) → k < length items → x ≡ get_or items k x → In (map v items) (v x)
+in_at_index v [] k x l at = absurd (omega arith)
+in_at_index v (y ∷ items) zero x l at = inl (ap v (sym at))
+in_at_index v (y ∷ items) (suc k) x l at = inr (in_at_index v items k x (omega arith) at)
 
 -- ---- the way inwards
 
@@ -67,32 +69,48 @@ module _ {S : Type 0} (r : Resolver S) where
   height p = depth (schema_at (resolving_parts r) p)
 
   -- the cuts of a document
-  abbrev pub cuts_of : Draft → spec.SchemaPlace → List spec.SchemaPlace
-  cuts_of draft p = cuts (resolving_parts r) (suc (height p)) draft p
+  abbrev pub cuts_of : Draft → spec.SchemaPlace → List Cut
+  cuts_of draft p = cuts (resolving_parts r) (suc (height p)) draft draft p
 
-  abbrev pub cut_at : ℕ → Draft → spec.SchemaPlace → List spec.SchemaPlace
-  cut_at n draft q = elim (embedded (resolving_parts r) draft (schema_at (resolving_parts r) q)) [ true ↦ q ∷ [] | false ↦ cuts (resolving_parts r) n draft q ]
+  abbrev pub own_of : Draft → spec.SchemaPlace → Draft
+  own_of draft q = r.detect draft (schema_at (resolving_parts r) q)
 
-  pub cuts_are : (n : ℕ) (draft : Draft) (p : spec.SchemaPlace) → cuts (resolving_parts r) (suc n) draft p ≡ flat_map (cut_at n draft) (r.subresources_of draft p)
-  cuts_are n draft p = refl
+  -- whether what is inside a schema of this draft, of that draft of its own, is embedded in a document
+  abbrev pub is_embedded : Draft → Draft → Draft → spec.SchemaPlace → Bool
+  is_embedded document draft own q = embedded (resolving_parts r) document draft own (schema_at (resolving_parts r) q)
 
-  pub cut_here : (n : ℕ) (draft : Draft) (q : spec.SchemaPlace) → embedded (resolving_parts r) draft (schema_at (resolving_parts r) q) ≡ true → cut_at n draft q ≡ q ∷ []
-  cut_here n draft q e = rw e refl
+  abbrev pub cut_if : ℕ → Draft → Draft → spec.SchemaPlace → Bool → List Cut
+  cut_if n document own q b = elim b [ true ↦ record { place = q; draft = own } ∷ [] | false ↦ cuts (resolving_parts r) n document own q ]
 
-  pub cut_below : (n : ℕ) (draft : Draft) (q : spec.SchemaPlace) → embedded (resolving_parts r) draft (schema_at (resolving_parts r) q) ≡ false → cut_at n draft q ≡ cuts (resolving_parts r) n draft q
-  cut_below n draft q e = rw e refl
+  abbrev pub cut_with : ℕ → Draft → Draft → Draft → spec.SchemaPlace → List Cut
+  cut_with n document draft own q = cut_if n document own q (is_embedded document draft own q)
+
+  abbrev pub cut_at : ℕ → Draft → Draft → spec.SchemaPlace → List Cut
+  cut_at n document draft q = cut_with n document draft (own_of draft q) q
+
+  pub cuts_are : (n : ℕ) (document draft : Draft) (p : spec.SchemaPlace) → cuts (resolving_parts r) (suc n) document draft p ≡ flat_map (cut_at n document draft) (r.subresources_of draft p)
+  cuts_are n document draft p = refl
+
+  pub cut_here : (n : ℕ) (document draft own : Draft) (q : spec.SchemaPlace) → own ≡ own_of draft q → is_embedded document draft own q ≡ true → cut_at n document draft q ≡ record { place = q; draft = own } ∷ []
+  cut_here n document draft own q is e = ap (λ (d : Draft). cut_with n document draft d q) (sym is) ∙ ap (cut_if n document own q) e
+
+  pub cut_below : (n : ℕ) (document draft own : Draft) (q : spec.SchemaPlace) → own ≡ own_of draft q → is_embedded document draft own q ≡ false → cut_at n document draft q ≡ cuts (resolving_parts r) n document own q
+  cut_below n document draft own q is e = ap (λ (d : Draft). cut_with n document draft d q) (sym is) ∙ ap (cut_if n document own q) e
 
   -- all places were gone through
-  pub finished : (draft : Draft) (p : spec.SchemaPlace) (items : List SchemaPlace) (k : ℕ) (old new : List spec.SchemaPlace) → map place_of items ≡ r.subresources_of draft p → length items ≤ k
-      → ((n : ℕ) → height p ≤ n → new ++ flat_map (cut_at n draft) (map place_of (drop k items)) ≡ old ++ flat_map (cut_at n draft) (map place_of items))
-      → (n : ℕ) → height p < n → new ≡ old ++ cuts (resolving_parts r) n draft p
-  finished draft p items k old new are past so_far zero less = absurd (omega arith)
-  finished draft p items k old new are past so_far (suc n) less =
-      sym (append-nil new) ∙ ap (λ (qs : List spec.SchemaPlace). new ++ qs) (sym (no_place (cut_at n draft) items k past)) ∙ so_far n (omega arith)
-      ∙ ap (λ (qs : List spec.SchemaPlace). old ++ flat_map (cut_at n draft) qs) are
+  pub finished : (document draft : Draft) (p : spec.SchemaPlace) (items : List SchemaPlace) (k : ℕ) (old new : List Cut) → map place_of items ≡ r.subresources_of draft p → length items ≤ k
+      → ((n : ℕ) → height p ≤ n → new ++ flat_map (cut_at n document draft) (map place_of (drop k items)) ≡ old ++ flat_map (cut_at n document draft) (map place_of items))
+      → (n : ℕ) → height p < n → new ≡ old ++ cuts (resolving_parts r) n document draft p
+  finished document draft p items k old new are past so_far zero less = absurd (omega arith)
+  finished document draft p items k old new are past so_far (suc n) less =
+      sym (append-nil new) ∙ ap (λ (qs : List Cut). new ++ qs) (sym (no_more place_of (cut_at n document draft) items k past)) ∙ so_far n (omega arith)
+      ∙ ap (λ (qs : List spec.SchemaPlace). old ++ flat_map (cut_at n document draft) qs) are
 
   abbrev pub IsLower : spec.SchemaPlace → spec.SchemaPlace → Type 0
   IsLower p q = height q < height p
+
+  abbrev pub IsLowerCut : spec.SchemaPlace → Cut → Type 0
+  IsLowerCut p q = IsLower p q.place
 
   module _ (inside : IsInside r) (below : SubschemasStandBelow r) where
     lower : (p q : spec.SchemaPlace) → StandsBelow r p q → IsLower p q
@@ -111,34 +129,35 @@ module _ {S : Type 0} (r : Resolver S) where
     pub subschemas_lower : (draft : Draft) (p : spec.SchemaPlace) → Each (IsLower p) (r.subresources_of draft p)
     subschemas_lower draft p = each_lower p (r.subresources_of draft p) (below draft p)
 
-    lower_still : (p q : spec.SchemaPlace) → IsLower p q → (qs : List spec.SchemaPlace) → Each (IsLower q) qs → Each (IsLower p) qs
+    lower_still : (p q : spec.SchemaPlace) → IsLower p q → (qs : List Cut) → Each (IsLowerCut q) qs → Each (IsLowerCut p) qs
     lower_still p q l [] h = tt
-    lower_still p q l (x ∷ qs) h = ((let m : height x < height q = h.0 in omega arith), lower_still p q l qs h.1)
+    lower_still p q l (x ∷ qs) h = ((let m : height x.place < height q = h.0 in omega arith), lower_still p q l qs h.1)
 
-    lower_at : (n : ℕ) (draft : Draft) (p q : spec.SchemaPlace) (b : Bool) → embedded (resolving_parts r) draft (schema_at (resolving_parts r) q) ≡ b → IsLower p q
-        → Each (IsLower q) (cuts (resolving_parts r) n draft q) → Each (IsLower p) (cut_at n draft q)
-    lower_at n draft p q true e l h = subst (Each (IsLower p)) (sym (cut_here n draft q e)) (l, tt)
-    lower_at n draft p q false e l h = subst (Each (IsLower p)) (sym (cut_below n draft q e)) (lower_still p q l (cuts (resolving_parts r) n draft q) h)
+    lower_at : (n : ℕ) (document draft : Draft) (p q : spec.SchemaPlace) (b : Bool) → is_embedded document draft (own_of draft q) q ≡ b → IsLower p q
+        → Each (IsLowerCut q) (cuts (resolving_parts r) n document (own_of draft q) q) → Each (IsLowerCut p) (cut_at n document draft q)
+    lower_at n document draft p q true e l h = subst (Each (IsLowerCut p)) (sym (cut_here n document draft (own_of draft q) q refl e)) (l, tt)
+    lower_at n document draft p q false e l h = subst (Each (IsLowerCut p)) (sym (cut_below n document draft (own_of draft q) q refl e))
+        (lower_still p q l (cuts (resolving_parts r) n document (own_of draft q) q) h)
 
-    lower_in : (n : ℕ) (draft : Draft) (p : spec.SchemaPlace) → ((q : spec.SchemaPlace) → Each (IsLower q) (cuts (resolving_parts r) n draft q)) → (qs : List spec.SchemaPlace)
-        → Each (IsLower p) qs → Each (IsLower p) (flat_map (cut_at n draft) qs)
-    lower_in n draft p inner [] h = tt
-    lower_in n draft p inner (q ∷ qs) h = both (IsLower p) (cut_at n draft q) (flat_map (cut_at n draft) qs)
-        (lower_at n draft p q (embedded (resolving_parts r) draft (schema_at (resolving_parts r) q)) refl h.0 (inner q)) (lower_in n draft p inner qs h.1)
+    lower_in : (n : ℕ) (document draft : Draft) (p : spec.SchemaPlace) → ((own : Draft) (q : spec.SchemaPlace) → Each (IsLowerCut q) (cuts (resolving_parts r) n document own q)) → (qs : List spec.SchemaPlace)
+        → Each (IsLower p) qs → Each (IsLowerCut p) (flat_map (cut_at n document draft) qs)
+    lower_in n document draft p inner [] h = tt
+    lower_in n document draft p inner (q ∷ qs) h = both (IsLowerCut p) (cut_at n document draft q) (flat_map (cut_at n document draft) qs)
+        (lower_at n document draft p q (is_embedded document draft (own_of draft q) q) refl h.0 (inner (own_of draft q) q)) (lower_in n document draft p inner qs h.1)
 
-    pub cuts_lower : (n : ℕ) (draft : Draft) (p : spec.SchemaPlace) → Each (IsLower p) (cuts (resolving_parts r) n draft p)
-    cuts_lower zero draft p = tt
-    cuts_lower (suc n) draft p = lower_in n draft p (λ q. cuts_lower n draft q) (r.subresources_of draft p) (subschemas_lower draft p)
+    pub cuts_lower : (n : ℕ) (document draft : Draft) (p : spec.SchemaPlace) → Each (IsLowerCut p) (cuts (resolving_parts r) n document draft p)
+    cuts_lower zero document draft p = tt
+    cuts_lower (suc n) document draft p = lower_in n document draft p (λ own q. cuts_lower n document own q) (r.subresources_of draft p) (subschemas_lower draft p)
 
 -- ---- what a check says
 
 module _ {S : Type 0} (r : Resolver S) (refuses : MetaChecks) where
   -- the documents of an embedded resource
-  abbrev pub inner_documents : ℕ → Draft → spec.SchemaPlace → List (Document (resolving_parts r))
-  inner_documents n draft q = documents (resolving_parts r) n (r.detect draft (schema_at (resolving_parts r) q)) q
+  abbrev pub inner_documents : ℕ → Cut → List (Document (resolving_parts r))
+  inner_documents n q = documents (resolving_parts r) n q.draft q.place
 
   pub documents_are : (n : ℕ) (draft : Draft) (p : spec.SchemaPlace)
-      → documents (resolving_parts r) (suc n) draft p ≡ own_document (resolving_parts r) (cuts_of r draft p) draft p ++ flat_map (inner_documents n draft) (cuts_of r draft p)
+      → documents (resolving_parts r) (suc n) draft p ≡ own_document (resolving_parts r) (cuts_of r draft p) draft p ++ flat_map (inner_documents n) (cuts_of r draft p)
   documents_are n draft p = refl
 
   pub refuses_more : (root : spec.SchemaPlace) (ds es : List (Document (resolving_parts r))) → ((d : Document (resolving_parts r)) → In ds d → In es d) → (e : BuildError)
@@ -154,7 +173,7 @@ module _ {S : Type 0} (r : Resolver S) (refuses : MetaChecks) where
   refuses_more root ds es among (NodeLimit limit) h = absurd h
 
   -- an error in the document itself, as it is seen from the root
-  pub error_located : (root p : spec.SchemaPlace) (draft : Draft) (qs : List spec.SchemaPlace) (schema : Data) (o : Option OwnedError) (error e : OwnedError)
+  pub error_located : (root p : spec.SchemaPlace) (draft : Draft) (qs : List Cut) (schema : Data) (o : Option OwnedError) (error e : OwnedError)
       → schema ≡ schema_at (resolving_parts r) p → passes_unseen (resolving_parts r) schema ≡ false → o ≡ Some error
       → MatchOption o (refuses draft (blanked (resolving_parts r) qs p schema) ≡ None) (IsErrorBelow refuses [] draft (blanked (resolving_parts r) qs p schema))
       → owned_error_of e ≡ prefixed (location_from root p) (owned_error_of error) → RefusesOne (resolving_parts r) refuses root (own_document (resolving_parts r) qs draft p) (MetaSchema e)
@@ -169,44 +188,41 @@ module _ {S : Type 0} (r : Resolver S) (refuses : MetaChecks) where
       (d, there, (here.0, here.1, here.2, here.3, ap without_text located ∙ ap (prefixed (location_from root p)) here.4))
 
   -- a refusal of the document itself
-  pub refused_itself : (root p : spec.SchemaPlace) (draft : Draft) (qs : List spec.SchemaPlace) (e : BuildError) → qs ≡ cuts_of r draft p
+  pub refused_itself : (root p : spec.SchemaPlace) (draft : Draft) (qs : List Cut) (e : BuildError) → qs ≡ cuts_of r draft p
       → RefusesOne (resolving_parts r) refuses root (own_document (resolving_parts r) qs draft p) e
       → (n : ℕ) → height r p < n → RefusesOne (resolving_parts r) refuses root (documents (resolving_parts r) n draft p) e
   refused_itself root p draft qs e are h zero l = absurd (omega arith)
   refused_itself root p draft qs e are h (suc n) l = refuses_more root (own_document (resolving_parts r) (cuts_of r draft p) draft p) _ (λ d i. in_left _ _ d i) e
-      (subst (λ (ps : List spec.SchemaPlace). RefusesOne (resolving_parts r) refuses root (own_document (resolving_parts r) ps draft p) e) are h)
+      (subst (λ (ps : List Cut). RefusesOne (resolving_parts r) refuses root (own_document (resolving_parts r) ps draft p) e) are h)
 
   -- a refusal inside one of the embedded resources
-  pub refused_inside : (root p : spec.SchemaPlace) (draft : Draft) (items : List SchemaPlace) (k : ℕ) (x : SchemaPlace) (own : Draft) (e : BuildError)
-      → map place_of items ≡ cuts_of r draft p → k < length items → x ≡ get_or items k x → own ≡ r.detect draft (schema_at (resolving_parts r) (place_of x)) → IsLower r p (place_of x)
-      → ((n : ℕ) → height r (place_of x) < n → RefusesOne (resolving_parts r) refuses root (documents (resolving_parts r) n own (place_of x)) e)
+  pub refused_inside : (root p : spec.SchemaPlace) (draft : Draft) (items : List code.Cut) (k : ℕ) (x : code.Cut) (e : BuildError)
+      → map cut_of items ≡ cuts_of r draft p → k < length items → x ≡ get_or items k x → IsLowerCut r p (cut_of x)
+      → ((n : ℕ) → height r (place_of x.place) < n → RefusesOne (resolving_parts r) refuses root (inner_documents n (cut_of x)) e)
       → (n : ℕ) → height r p < n → RefusesOne (resolving_parts r) refuses root (documents (resolving_parts r) n draft p) e
-  refused_inside root p draft items k x own e are l at is low inner zero less = absurd (omega arith)
-  refused_inside root p draft items k x own e are l at is low inner (suc n) less =
-      let there : In (cuts_of r draft p) (place_of x) = subst (λ (qs : List spec.SchemaPlace). In qs (place_of x)) are (in_at_index items k x l at) in
-      let here = subst (λ (d : Draft). RefusesOne (resolving_parts r) refuses root (documents (resolving_parts r) n d (place_of x)) e) is (inner n (omega arith)) in
-      refuses_more root (inner_documents n draft (place_of x)) _ (λ d i. in_right _ _ d (in_flat (inner_documents n draft) (cuts_of r draft p) (place_of x) d there i)) e here
+  refused_inside root p draft items k x e are l at low inner zero less = absurd (omega arith)
+  refused_inside root p draft items k x e are l at low inner (suc n) less =
+      let there : In (cuts_of r draft p) (cut_of x) = subst (λ (qs : List Cut). In qs (cut_of x)) are (in_at_index cut_of items k x l at) in
+      refuses_more root (inner_documents n (cut_of x)) _ (λ d i. in_right _ _ d (in_flat (inner_documents n) (cuts_of r draft p) (cut_of x) d there i)) e (inner n (omega arith))
 
   -- so far each document is accepted
-  abbrev pub AcceptedFrom : Draft → spec.SchemaPlace → List SchemaPlace → ℕ → Type 0
-  AcceptedFrom draft p items k = (n : ℕ) → height r p ≤ n → EachAccepted (resolving_parts r) refuses (flat_map (inner_documents n draft) (map place_of (drop k items)))
-      → EachAccepted (resolving_parts r) refuses (flat_map (inner_documents n draft) (map place_of items))
+  abbrev pub AcceptedFrom : spec.SchemaPlace → List code.Cut → ℕ → Type 0
+  AcceptedFrom p items k = (n : ℕ) → height r p ≤ n → EachAccepted (resolving_parts r) refuses (flat_map (inner_documents n) (map cut_of (drop k items)))
+      → EachAccepted (resolving_parts r) refuses (flat_map (inner_documents n) (map cut_of items))
 
-  pub accepted_next : (draft : Draft) (p : spec.SchemaPlace) (items : List SchemaPlace) (k : ℕ) (x : SchemaPlace) (own : Draft) → k < length items → x ≡ get_or items k x
-      → own ≡ r.detect draft (schema_at (resolving_parts r) (place_of x)) → IsLower r p (place_of x)
-      → ((n : ℕ) → height r (place_of x) < n → EachAccepted (resolving_parts r) refuses (documents (resolving_parts r) n own (place_of x)))
-      → AcceptedFrom draft p items k → AcceptedFrom draft p items (k + 1)
-  accepted_next draft p items k x own l at is low inner so_far n less rest =
-      let here = subst (λ (d : Draft). EachAccepted (resolving_parts r) refuses (documents (resolving_parts r) n d (place_of x))) is (inner n (omega arith)) in
-      so_far n less (subst (EachAccepted (resolving_parts r) refuses) (sym (next_place (inner_documents n draft) items k x l at))
-      (both (IsAccepted (resolving_parts r) refuses) (inner_documents n draft (place_of x)) (flat_map (inner_documents n draft) (map place_of (drop (k + 1) items))) here rest))
+  pub accepted_next : (p : spec.SchemaPlace) (items : List code.Cut) (k : ℕ) (x : code.Cut) → k < length items → x ≡ get_or items k x → IsLowerCut r p (cut_of x)
+      → ((n : ℕ) → height r (place_of x.place) < n → EachAccepted (resolving_parts r) refuses (inner_documents n (cut_of x)))
+      → AcceptedFrom p items k → AcceptedFrom p items (k + 1)
+  accepted_next p items k x l at low inner so_far n less rest =
+      so_far n less (subst (EachAccepted (resolving_parts r) refuses) (sym (next_one cut_of (inner_documents n) items k x l at))
+      (both (IsAccepted (resolving_parts r) refuses) (inner_documents n (cut_of x)) (flat_map (inner_documents n) (map cut_of (drop (k + 1) items))) (inner n (omega arith)) rest))
 
-  pub accepted_all : (draft : Draft) (p : spec.SchemaPlace) (items : List SchemaPlace) (k : ℕ) → map place_of items ≡ cuts_of r draft p → length items ≤ k
-      → EachAccepted (resolving_parts r) refuses (own_document (resolving_parts r) (map place_of items) draft p) → AcceptedFrom draft p items k
+  pub accepted_all : (draft : Draft) (p : spec.SchemaPlace) (items : List code.Cut) (k : ℕ) → map cut_of items ≡ cuts_of r draft p → length items ≤ k
+      → EachAccepted (resolving_parts r) refuses (own_document (resolving_parts r) (map cut_of items) draft p) → AcceptedFrom p items k
       → (n : ℕ) → height r p < n → EachAccepted (resolving_parts r) refuses (documents (resolving_parts r) n draft p)
   accepted_all draft p items k are past own so_far zero less = absurd (omega arith)
   accepted_all draft p items k are past own so_far (suc n) less =
-      let inner = so_far n (omega arith) (subst (EachAccepted (resolving_parts r) refuses) (sym (no_place (inner_documents n draft) items k past)) tt) in
-      both (IsAccepted (resolving_parts r) refuses) (own_document (resolving_parts r) (cuts_of r draft p) draft p) (flat_map (inner_documents n draft) (cuts_of r draft p))
-      (subst (λ (qs : List spec.SchemaPlace). EachAccepted (resolving_parts r) refuses (own_document (resolving_parts r) qs draft p)) are own)
-      (subst (λ (qs : List spec.SchemaPlace). EachAccepted (resolving_parts r) refuses (flat_map (inner_documents n draft) qs)) are inner)
+      let inner = so_far n (omega arith) (subst (EachAccepted (resolving_parts r) refuses) (sym (no_more cut_of (inner_documents n) items k past)) tt) in
+      both (IsAccepted (resolving_parts r) refuses) (own_document (resolving_parts r) (cuts_of r draft p) draft p) (flat_map (inner_documents n) (cuts_of r draft p))
+      (subst (λ (qs : List Cut). EachAccepted (resolving_parts r) refuses (own_document (resolving_parts r) qs draft p)) are own)
+      (subst (λ (qs : List Cut). EachAccepted (resolving_parts r) refuses (flat_map (inner_documents n) qs)) are inner)

@@ -13,7 +13,7 @@ use Rattle.schema_definitions.specs.Drafts.{Draft, SchemaPlace}
 use Rattle.schema_definitions.specs.Resolving.{Resolver}
 use Rattle.schema_definitions.specs.Parts.{Parts}
 use Rattle.schema_definitions.specs.Plan.{schema_at, without_prefix}
-use Rattle.schema_meaning.specs.Documents.{Document, blanked, checked, passes_unseen}
+use Rattle.schema_meaning.specs.Documents.{Cut, Document, blanked, checked, passes_unseen}
 use Rattle.schema_keys.specs.Compiling.{Each, In, resolving_parts}
 use Rattle.schema_keys.specs.declared.error.BuildError.{BuildError}
 use Rattle.schema_keys.specs.declared.error.BuildError.TheVariants.{KeywordRefused, Lookup, MetaSchema, MissingRoot, NodeLimit, NotASchema, OutOfMemory, ReferenceNotText, UnsupportedVocabulary}
@@ -54,8 +54,8 @@ module _ {S K R : Type 0} (w : Parts S K R) (refuses : MetaChecks) where
   RefusesOne root ds (MissingRoot uri) = ⊥
   RefusesOne root ds (NodeLimit limit) = ⊥
 
--- the document at a place with `{}` at these places; none where it passes unseen
-abbrev pub own_document : {S K R : Type 0} (w : Parts S K R) → List SchemaPlace → Draft → SchemaPlace → List (Document w)
+-- the document at a place with `{}` at these cuts; none where it passes unseen
+abbrev pub own_document : {S K R : Type 0} (w : Parts S K R) → List Cut → Draft → SchemaPlace → List (Document w)
 own_document w qs draft p = if passes_unseen w (schema_at w p) then [] else record { place = p; draft = draft; value = blanked w qs p (schema_at w p) } ∷ []
 
 -- the documents of the schema at a place, in a draft

@@ -14,10 +14,12 @@ ghost use Rattle.schema_parts.specs.ResolverViews.{place_of};
 ghost use Rattle.schema_keys.specs.Compiling.{resolving_parts};
 ghost use Rattle.schema_check.specs.Checking.{AcceptsSchema, EachAccepted, IsErrorBelow, RefusesOne, RefusesSchema};
 ghost use Rattle.schema_check.specs.Checking.{location_from, own_document};
+ghost use Rattle.schema_check.specs.CutViews.{cut_of};
 
 mod blanked;
 mod cuts;
 
+use crate::check::cuts::Cut;
 use schema_keys::error::BuildError;
 use schema_keywords::keywords::Draft;
 use schema_parts::meta::MetaValidators;
@@ -37,9 +39,10 @@ pub(crate) struct SchemaCheck<'p, R, V> {
     pub root: &'p SchemaPlace,
 }
 
-/// Checks the schema at a place against the meta-schemas, as a schema of this draft. A subschema with an identifier, by the draft
-/// around it or by its own, and of another known draft than the one around it is an embedded resource: it counts as `{}` in the
-/// document around it and is checked by its own draft. Booleans and `{}` are not looked at.
+/// Checks the schema at a place against the meta-schemas, as a schema of this draft. A subschema of another known draft than the
+/// document around it, with an identifier by the draft around it or by its own, is an embedded resource: it counts as `{}` in that
+/// document and is checked by its own draft. What is below a subschema is read by the subschema's own draft. Booleans and `{}` are
+/// not looked at.
 ///
 /// # Errors
 ///
@@ -91,21 +94,21 @@ impl<'p, R: Resolver, V: MetaValidators> SchemaCheck<'p, R, V> {
         }
     }
 
-    /// The error of the document at a place, whose embedded resources lie at these places.
+    /// The error of the document at a place, whose embedded resources are these.
     fn refusal_without(
         &self,
         draft: Draft,
         place: &SchemaPlace,
         schema: &Value,
-        cuts: &[SchemaPlace],
+        cuts: &[Cut],
     ) -> Result<Option<OwnedError>, OutOfMemory>
         ensures refusal { IfOk result (λ o. MatchOption o
             (V.checked self.now.metas.now (draft_of draft)
             (documents.blanked (resolving_parts (R.resolving self.now.resolver.now))
-            (map place_of cuts.now) (place_of place.now) (view schema.now)) ≡ None)
+            (map cut_of cuts.now) (place_of place.now) (view schema.now)) ≡ None)
             (IsErrorBelow (V.checked self.now.metas.now) [] (draft_of draft)
             (documents.blanked (resolving_parts (R.resolving self.now.resolver.now))
-            (map place_of cuts.now) (place_of place.now) (view schema.now)))) }
+            (map cut_of cuts.now) (place_of place.now) (view schema.now)))) }
     {
         if cuts.is_empty() {
             return self.refusal(draft, schema);
@@ -123,25 +126,25 @@ impl<'p, R: Resolver, V: MetaValidators> SchemaCheck<'p, R, V> {
         error.with_instance_path_prefix(&below.pointer(self.alloc)?)
     }
 
-    /// Checks the document at a place, which begins with this schema, and whose embedded resources lie at these places.
+    /// Checks the document at a place, which begins with this schema, and whose embedded resources are these.
     fn check_schema(
         &self,
         draft: Draft,
         place: &SchemaPlace,
         schema: &Value,
-        cuts: &[SchemaPlace],
+        cuts: &[Cut],
     ) -> Result<(), BuildError>
         requires read { view schema.now ≡
             schema_at (resolving_parts (R.resolving self.now.resolver.now)) (place_of place.now) }
         ensures accepted { IfOk result (λ _. EachAccepted
             (resolving_parts (R.resolving self.now.resolver.now)) (V.checked self.now.metas.now)
             (own_document (resolving_parts (R.resolving self.now.resolver.now))
-            (map place_of cuts.now) (draft_of draft) (place_of place.now))) }
+            (map cut_of cuts.now) (draft_of draft) (place_of place.now))) }
         ensures refused { IfErr result (RefusesOne
             (resolving_parts (R.resolving self.now.resolver.now)) (V.checked self.now.metas.now)
             (place_of self.now.root.now)
             (own_document (resolving_parts (R.resolving self.now.resolver.now))
-            (map place_of cuts.now) (draft_of draft) (place_of place.now))) }
+            (map cut_of cuts.now) (draft_of draft) (place_of place.now))) }
     {
         if self.passes_unseen(schema) {
             return Ok(());
@@ -152,22 +155,22 @@ impl<'p, R: Resolver, V: MetaValidators> SchemaCheck<'p, R, V> {
         }
     }
 
-    /// Checks the document at a place, whose embedded resources lie at these places. No value counts as null.
+    /// Checks the document at a place, whose embedded resources are these. No value counts as null.
     fn check_document(
         &self,
         draft: Draft,
         place: &SchemaPlace,
-        cuts: &[SchemaPlace],
+        cuts: &[Cut],
     ) -> Result<(), BuildError>
         ensures accepted { IfOk result (λ _. EachAccepted
             (resolving_parts (R.resolving self.now.resolver.now)) (V.checked self.now.metas.now)
             (own_document (resolving_parts (R.resolving self.now.resolver.now))
-            (map place_of cuts.now) (draft_of draft) (place_of place.now))) }
+            (map cut_of cuts.now) (draft_of draft) (place_of place.now))) }
         ensures refused { IfErr result (RefusesOne
             (resolving_parts (R.resolving self.now.resolver.now)) (V.checked self.now.metas.now)
             (place_of self.now.root.now)
             (own_document (resolving_parts (R.resolving self.now.resolver.now))
-            (map place_of cuts.now) (draft_of draft) (place_of place.now))) }
+            (map cut_of cuts.now) (draft_of draft) (place_of place.now))) }
     {
         match self.resolver.value(place) {
             Some(schema) => self.check_schema(draft, place, schema, cuts),
@@ -193,8 +196,7 @@ impl<'p, R: Resolver, V: MetaValidators> SchemaCheck<'p, R, V> {
         let cuts = self.cuts(draft, place)?;
         self.check_document(draft, place, cuts.as_slice())?;
         for cut in &cuts {
-            let own = self.own_draft(draft, cut);
-            self.check_documents(own, cut)?;
+            self.check_documents(cut.draft, &cut.place)?;
         }
         Ok(())
     }

@@ -8,22 +8,30 @@ use Rattle.schema_definitions.specs.Drafts.{Draft, SchemaPlace, draft_unknown, s
 use Rattle.schema_definitions.specs.Parts.{Parts}
 use Rattle.schema_definitions.specs.Plan.{schema_at}
 
+-- what is cut out of a document: where an embedded resource lies, and its own draft
+pub record Cut : Type 0 where
+  pub place : SchemaPlace
+  pub draft : Draft
+
 module _ {S K R : Type 0} (w : Parts S K R) where
-  abbrev pub embedded : Draft → Data → Bool
-  embedded draft v = let inner = w.resolver.detect draft v in
-      not (same_draft inner draft) && not (same_draft inner draft_unknown) && (is_some (w.resolver.id draft v) || is_some (w.resolver.id inner v))
+  -- a schema of another known draft than the document that it stands in, with an identifier by the draft around it or by its own
+  abbrev pub embedded : Draft → Draft → Draft → Data → Bool
+  embedded document around own v =
+      not (same_draft own document) && not (same_draft own draft_unknown) && (is_some (w.resolver.id around v) || is_some (w.resolver.id own v))
 
-  -- the outermost embedded resources below a place, at most h deep
-  abbrev pub cuts : ℕ → Draft → SchemaPlace → List SchemaPlace
-  cuts zero draft p = []
-  cuts (suc h) draft p = flat_map (λ q. elim (embedded draft (schema_at w q)) [ true ↦ q ∷ [] | false ↦ cuts h draft q ]) (w.resolver.subresources_of draft p)
+  -- the outermost embedded resources below a schema of this draft in a document of that one, at most h deep: each subschema is
+  -- read by the draft around it, and what is below it by its own
+  abbrev pub cuts : ℕ → Draft → Draft → SchemaPlace → List Cut
+  cuts zero document draft p = []
+  cuts (suc h) document draft p = flat_map (λ q. let own = w.resolver.detect draft (schema_at w q) in
+      elim (embedded document draft own (schema_at w q)) [ true ↦ record { place = q; draft = own } ∷ [] | false ↦ cuts h document own q ]) (w.resolver.subresources_of draft p)
 
-  abbrev pub is_cut : List SchemaPlace → SchemaPlace → Bool
-  is_cut qs p = list_any (λ q. same_place q.path p.path) qs
+  abbrev pub is_cut : List Cut → SchemaPlace → Bool
+  is_cut qs p = list_any (λ q. same_place q.place.path p.path) qs
 
   -- the value at a place, with `{}` at the cuts
   abbrev mutual
-    pub blanked : List SchemaPlace → SchemaPlace → Data → Data
+    pub blanked : List Cut → SchemaPlace → Data → Data
     blanked qs p null = null
     blanked qs p (boolean b) = boolean b
     blanked qs p (number n) = number n
@@ -31,12 +39,12 @@ module _ {S K R : Type 0} (w : Parts S K R) where
     blanked qs p (array ds) = array (blanked_items qs p 0 ds)
     blanked qs p (object ms) = object (blanked_members qs p ms)
 
-    pub blanked_items : List SchemaPlace → SchemaPlace → ℕ → Items → Items
+    pub blanked_items : List Cut → SchemaPlace → ℕ → Items → Items
     blanked_items qs p n no_items = no_items
     blanked_items qs p n (item d ds) = let q = record p { path = p.path ++ to_item n ∷ [] } in
         item (if is_cut qs q then object no_members else blanked qs q d) (blanked_items qs p (n + 1) ds)
 
-    pub blanked_members : List SchemaPlace → SchemaPlace → Members → Members
+    pub blanked_members : List Cut → SchemaPlace → Members → Members
     blanked_members qs p no_members = no_members
     blanked_members qs p (member k d ms) = let q = record p { path = p.path ++ to_member k ∷ [] } in
         member k (if is_cut qs q then object no_members else blanked qs q d) (blanked_members qs p ms)
@@ -54,9 +62,9 @@ module _ {S K R : Type 0} (w : Parts S K R) where
   -- the documents of a schema, at most h resources deep
   abbrev pub documents : ℕ → Draft → SchemaPlace → List Document
   documents zero draft p = []
-  documents (suc h) draft p = let qs = cuts (suc (depth (schema_at w p))) draft p in
+  documents (suc h) draft p = let qs = cuts (suc (depth (schema_at w p))) draft draft p in
       (if passes_unseen (schema_at w p) then [] else record { place = p; draft = draft; value = blanked qs p (schema_at w p) } ∷ [])
-      ++ flat_map (λ q. documents h (w.resolver.detect draft (schema_at w q)) q) qs
+      ++ flat_map (λ q. documents h q.draft q.place) qs
 
   abbrev pub checked : Draft → SchemaPlace → List Document
   checked draft p = documents (suc (depth (schema_at w p))) draft p

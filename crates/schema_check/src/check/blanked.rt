@@ -8,8 +8,10 @@ ghost use Rattle.schema_meaning.specs.Documents.{blanked, blanked_items, blanked
 ghost use Rattle.schema_parts.specs.ResolverViews.{place_of};
 ghost use Rattle.schema_parts.specs.SchemaViews.{schema_step_of};
 ghost use Rattle.schema_keys.specs.Compiling.{resolving_parts};
+ghost use Rattle.schema_check.specs.CutViews.{cut_of};
 
 use crate::check::SchemaCheck;
+use crate::check::cuts::Cut;
 use schema_parts::meta::MetaValidators;
 use schema_parts::resolver::Resolver;
 use schema_parts::schema_place::{SchemaPlace, SchemaStep};
@@ -28,23 +30,23 @@ fn one_below(place: &SchemaPlace, step: SchemaStep) -> Result<SchemaPlace, OutOf
 
 impl<'p, R: Resolver, V: MetaValidators> SchemaCheck<'p, R, V> {
     /// Whether a place is one of these.
-    fn is_cut(&self, cuts: &[SchemaPlace], place: &SchemaPlace) -> bool
+    fn is_cut(&self, cuts: &[Cut], place: &SchemaPlace) -> bool
         ensures cut { result ≡
-            is_cut (resolving_parts (R.resolving self.now.resolver.now)) (map place_of cuts.now) (place_of place.now) }
+            is_cut (resolving_parts (R.resolving self.now.resolver.now)) (map cut_of cuts.now) (place_of place.now) }
     {
-        cuts.iter().any(|cut| cut.path == place.path)
+        cuts.iter().any(|cut| cut.place.path == place.path)
     }
 
     /// A copy of the value at a place, with `{}` at these places below it.
     #[cycle(blank)]
     pub(crate) fn blanked(
         &self,
-        cuts: &[SchemaPlace],
+        cuts: &[Cut],
         place: &SchemaPlace,
         value: &Value,
     ) -> Result<Value, OutOfMemory>
         ensures blanked { IfOk result (λ v. view v ≡ blanked (resolving_parts (R.resolving self.now.resolver.now))
-            (map place_of cuts.now) (place_of place.now) (view value.now)) }
+            (map cut_of cuts.now) (place_of place.now) (view value.now)) }
     {
         match value {
             Value::Array(items) => Ok(Value::Array(self.blanked_items(cuts, place, items)?)),
@@ -62,13 +64,13 @@ impl<'p, R: Resolver, V: MetaValidators> SchemaCheck<'p, R, V> {
     #[cycle(blank)]
     fn blanked_items(
         &self,
-        cuts: &[SchemaPlace],
+        cuts: &[Cut],
         place: &SchemaPlace,
         items: &Vec<Value>,
     ) -> Result<Vec<Value>, OutOfMemory>
         ensures blanked { IfOk result (λ v. items_view v.items ≡
             blanked_items (resolving_parts (R.resolving self.now.resolver.now))
-            (map place_of cuts.now) (place_of place.now) 0 (items_view items.now.items)) }
+            (map cut_of cuts.now) (place_of place.now) 0 (items_view items.now.items)) }
     {
         let mut copies = Vec::new(self.alloc);
         for (index, item) in items.iter().enumerate() {
@@ -83,13 +85,13 @@ impl<'p, R: Resolver, V: MetaValidators> SchemaCheck<'p, R, V> {
     #[cycle(blank)]
     fn blanked_members(
         &self,
-        cuts: &[SchemaPlace],
+        cuts: &[Cut],
         place: &SchemaPlace,
         members: &Map<String, Value>,
     ) -> Result<Map<String, Value>, OutOfMemory>
         ensures blanked { IfOk result (λ v. members_view v.entries ≡
             blanked_members (resolving_parts (R.resolving self.now.resolver.now))
-            (map place_of cuts.now) (place_of place.now) (members_view members.now.entries)) }
+            (map cut_of cuts.now) (place_of place.now) (members_view members.now.entries)) }
     {
         let mut copies = Map::new(self.alloc);
         for (name, member) in members.iter() {
@@ -106,15 +108,15 @@ impl<'p, R: Resolver, V: MetaValidators> SchemaCheck<'p, R, V> {
     #[cycle(blank)]
     fn blanked_below(
         &self,
-        cuts: &[SchemaPlace],
+        cuts: &[Cut],
         place: &SchemaPlace,
         value: &Value,
     ) -> Result<Value, OutOfMemory>
         ensures blanked { IfOk result (λ v. view v ≡
-            (if is_cut (resolving_parts (R.resolving self.now.resolver.now)) (map place_of cuts.now) (place_of place.now)
+            (if is_cut (resolving_parts (R.resolving self.now.resolver.now)) (map cut_of cuts.now) (place_of place.now)
             then object no_members
             else blanked (resolving_parts (R.resolving self.now.resolver.now))
-            (map place_of cuts.now) (place_of place.now) (view value.now))) }
+            (map cut_of cuts.now) (place_of place.now) (view value.now))) }
     {
         if self.is_cut(cuts, place) {
             Ok(Value::Object(Map::new(self.alloc)))

@@ -1,4 +1,4 @@
-//! The places of embedded resources.
+//! The embedded resources of a document.
 ghost use Rattle.std.specs.Prelude.{◌≡◌, ◌<◌, ◌++◌, ℕ, IfOk, is_some, map, suc};
 ghost use Rattle.serde_json.specs.Data.{depth};
 ghost use Rattle.schema_definitions.specs.Plan.{schema_at};
@@ -7,6 +7,7 @@ ghost use Rattle.schema_meaning.specs.Documents.{embedded};
 ghost use Rattle.schema_keywords.specs.KeywordViews.{draft_of};
 ghost use Rattle.schema_parts.specs.ResolverViews.{place_of};
 ghost use Rattle.schema_keys.specs.Compiling.{resolving_parts};
+ghost use Rattle.schema_check.specs.CutViews.{cut_of};
 
 use crate::check::SchemaCheck;
 use schema_keywords::keywords::Draft;
@@ -16,9 +17,16 @@ use schema_parts::schema_place::SchemaPlace;
 use schema_reports::location::OutOfMemory;
 use serde_json::Value;
 
+/// What is cut out of a document: where an embedded resource lies, and its own draft.
+#[derive(Drop)]
+pub(crate) struct Cut {
+    pub place: SchemaPlace,
+    pub draft: Draft,
+}
+
 impl<'p, R: Resolver, V: MetaValidators> SchemaCheck<'p, R, V> {
     /// The draft of the schema at a place, inside a schema of this draft; no value counts as null.
-    pub(crate) fn own_draft(&self, draft: Draft, place: &SchemaPlace) -> Draft
+    fn own_draft(&self, draft: Draft, place: &SchemaPlace) -> Draft
         ensures own { draft_of result ≡ (R.resolving self.now.resolver.now).detect (draft_of draft)
             (schema_at (resolving_parts (R.resolving self.now.resolver.now)) (place_of place.now)) }
     {
@@ -39,53 +47,53 @@ impl<'p, R: Resolver, V: MetaValidators> SchemaCheck<'p, R, V> {
         }
     }
 
-    /// Whether the schema at a place, inside a schema of this draft, is an embedded resource: it has an identifier, and another
-    /// draft, which is known.
-    fn is_embedded(&self, draft: Draft, place: &SchemaPlace) -> bool
-        ensures embedded { result ≡ embedded (resolving_parts (R.resolving self.now.resolver.now)) (draft_of draft)
+    /// Whether the schema at a place, of this draft of its own inside a schema of that one, is an embedded resource of a document:
+    /// it has an identifier, and another draft than the document, which is known.
+    fn is_embedded(&self, document: Draft, around: Draft, own: Draft, place: &SchemaPlace) -> bool
+        ensures embedded { result ≡ embedded (resolving_parts (R.resolving self.now.resolver.now))
+            (draft_of document) (draft_of around) (draft_of own)
             (schema_at (resolving_parts (R.resolving self.now.resolver.now)) (place_of place.now)) }
     {
-        let own = self.own_draft(draft, place);
-        own != draft
+        own != document
             && own != Draft::Unknown
-            && (self.has_identifier(draft, place) || self.has_identifier(own, place))
+            && (self.has_identifier(around, place) || self.has_identifier(own, place))
     }
 
-    /// Adds the places of the outermost embedded resources below a place.
+    /// Adds the outermost embedded resources of a document below a schema of this draft.
     fn find_cuts(
         &self,
+        document: Draft,
         draft: Draft,
         place: &SchemaPlace,
-        cuts: &mut Vec<SchemaPlace>,
+        cuts: &mut Vec<Cut>,
     ) -> Result<(), OutOfMemory>
         ensures found { IfOk result (λ _. (n : ℕ) →
             depth (schema_at (resolving_parts (R.resolving self.now.resolver.now)) (place_of place.now)) < n →
-            map place_of cuts.new.items ≡ map place_of cuts.old.items
-            ++ documents.cuts (resolving_parts (R.resolving self.now.resolver.now)) n (draft_of draft) (place_of place.now)) }
+            map cut_of cuts.new.items ≡ map cut_of cuts.old.items
+            ++ documents.cuts (resolving_parts (R.resolving self.now.resolver.now)) n
+            (draft_of document) (draft_of draft) (place_of place.now)) }
     {
         for below in &self.resolver.subresources_of(self.alloc, draft, place)? {
-            if self.is_embedded(draft, below) {
-                cuts.push(below.clone()?)?;
+            let own = self.own_draft(draft, below);
+            if self.is_embedded(document, draft, own, below) {
+                let place = below.clone()?;
+                cuts.push(Cut { place, draft: own })?;
             } else {
-                self.find_cuts(draft, below, cuts)?;
+                self.find_cuts(document, own, below, cuts)?;
             }
         }
         Ok(())
     }
 
-    /// The places of the outermost embedded resources below a place.
-    pub(crate) fn cuts(
-        &self,
-        draft: Draft,
-        place: &SchemaPlace,
-    ) -> Result<Vec<SchemaPlace>, OutOfMemory>
-        ensures cuts { IfOk result (λ v. map place_of v.items ≡
+    /// The outermost embedded resources of the document at a place.
+    pub(crate) fn cuts(&self, draft: Draft, place: &SchemaPlace) -> Result<Vec<Cut>, OutOfMemory>
+        ensures cuts { IfOk result (λ v. map cut_of v.items ≡
             documents.cuts (resolving_parts (R.resolving self.now.resolver.now))
             (suc (depth (schema_at (resolving_parts (R.resolving self.now.resolver.now)) (place_of place.now))))
-            (draft_of draft) (place_of place.now)) }
+            (draft_of draft) (draft_of draft) (place_of place.now)) }
     {
         let mut cuts = Vec::new(self.alloc);
-        self.find_cuts(draft, place, &mut cuts)?;
+        self.find_cuts(draft, draft, place, &mut cuts)?;
         Ok(cuts)
     }
 }

@@ -13,13 +13,14 @@ use Rattle.schema_definitions.specs.Drafts.{SchemaPlace}
 use Rattle.schema_meaning.specs.Documents.{blanked, is_cut}
 use Rattle.schema_parts.specs.ResolverViews.{place_of}
 use Rattle.schema_keys.specs.Compiling.{resolving_parts}
+use Rattle.schema_check.specs.CutViews.{cut_of}
 use Rattle.schema_check.proofs.BlankedDocuments.{below, child, children_from, children_listed, items_listed, items_of, put_child}
 use Rattle.schema_check.proofs.check.SchemaCheck.+blank.Goals as goal
 
 pub blanked_items-returns : goal.blanked_items-returns
 blanked_items-returns g t c =
     let w = resolving_parts (g.R.Resolver.resolving c.args.self.now.resolver.now) in
-    let qs = map place_of c.args.cuts.now in
+    let qs = map cut_of c.args.cuts.now in
     let p = place_of c.args.place.now in
     let items = c.args.items.now.items in
     let k = c.loop-index.index in
@@ -32,7 +33,7 @@ blanked_items-returns g t c =
 pub blanked_members-loop-name-preserved : goal.blanked_members-loop-name-preserved
 blanked_members-loop-name-preserved g t c =
     let w = resolving_parts (g.R.Resolver.resolving c.args.self.now.resolver.now) in
-    let qs = map place_of c.args.cuts.now in
+    let qs = map cut_of c.args.cuts.now in
     let p = place_of c.args.place.now in
     let l = c.loop-name in
     let done = l.invariant.0 in

@@ -2,10 +2,11 @@ use Rattle.std.proofs.Common.{◌≡◌, ◌∙◌, List, ap, arith, map, rules,
 use Rattle.std.proofs.lemmas.Result.{err_from_is_err_and}
 use Rattle.schema_keywords.specs.KeywordViews.{draft_of}
 use Rattle.schema_parts.specs.ResolverViews.{place_of}
-use Rattle.schema_parts.specs.declared.schema_place.SchemaPlace.{SchemaPlace}
 use Rattle.schema_keys.specs.Compiling.{Each, resolving_parts}
 use Rattle.schema_check.specs.Checking.{EachAccepted, own_document}
-use Rattle.schema_check.proofs.CheckedDocuments.{IsLower, accepted_all, accepted_next, at_index, cuts_lower, cuts_of, height, refused_inside, refused_itself}
+use Rattle.schema_check.specs.CutViews.{cut_of}
+use Rattle.schema_check.specs.declared.check.cuts.Cut as code
+use Rattle.schema_check.proofs.CheckedDocuments.{IsLowerCut, accepted_all, accepted_next, at_index, cuts_lower, cuts_of, height, refused_inside, refused_itself}
 use Rattle.schema_check.proofs.check.SchemaCheck.+check_documents.Goals as goal
 
 pub returns-in_err-check_document-clause-refused :
@@ -14,7 +15,7 @@ returns-in_err-check_document-clause-refused g t c =
     let r = g.R.Resolver.resolving c.args.self.now.resolver.now in
     let refuses = g.V.MetaValidators.checked c.args.self.now.metas.now in
     let p = err_from_is_err_and c.from_residual-in_err-check_document.result c.from_residual-in_err-check_document.ensures.1 in
-    let are = ap (map place_of) c.as_slice.ensures.value ∙ c.in_ok-cuts.ensures.cuts in
+    let are = ap (map cut_of) c.as_slice.ensures.value ∙ c.in_ok-cuts.ensures.cuts in
     rw (p.1, p.2) (refused_itself r refuses (place_of c.args.self.now.root.now) (place_of c.args.place.now) (draft_of c.args.draft) _ _ are c.in_err-check_document.ensures.refused)
 
 pub check_documents-requires : goal.check_documents-requires
@@ -25,9 +26,9 @@ check_documents-requires g t c κs within =
     let place = place_of c.args.place.now in
     let items = c.deref-cut-items.result.now in
     let x = c.cut-item.result in
-    let are : map place_of items ≡ cuts_of r draft place = ap (map place_of) c.deref-cut-items.ensures.value ∙ c.in_ok-cuts.ensures.cuts in
-    let lower : IsLower r place (place_of x) = at_index (IsLower r place) items c.loop-cut.cut-index x
-    (subst (Each (IsLower r place)) (sym are) (cuts_lower r (g.met.R.Resolver.inside resolver) (g.met.R.Resolver.below resolver) (suc (height r place)) draft place)) c.loop-cut-test.true c.cut-item.is in
+    let are : map cut_of items ≡ cuts_of r draft place = ap (map cut_of) c.deref-cut-items.ensures.value ∙ c.in_ok-cuts.ensures.cuts in
+    let lower : IsLowerCut r place (cut_of x) = at_index cut_of (IsLowerCut r place) items c.loop-cut.cut-index x
+    (subst (Each (IsLowerCut r place)) (sym are) (cuts_lower r (g.met.R.Resolver.inside resolver) (g.met.R.Resolver.below resolver) (suc (height r place)) draft draft place)) c.loop-cut-test.true c.cut-item.is in
     (omega arith, search (rules, within))
 
 pub returns-in_err-check_documents-clause-refused :
@@ -40,12 +41,12 @@ returns-in_err-check_documents-clause-refused g t c =
     let place = place_of c.args.place.now in
     let items = c.deref-cut-items.result.now in
     let x = c.cut-item.result in
-    let are : map place_of items ≡ cuts_of r draft place = ap (map place_of) c.deref-cut-items.ensures.value ∙ c.in_ok-cuts.ensures.cuts in
-    let lower : IsLower r place (place_of x) = at_index (IsLower r place) items c.loop-cut.cut-index x
-    (subst (Each (IsLower r place)) (sym are) (cuts_lower r (g.met.R.Resolver.inside resolver) (g.met.R.Resolver.below resolver) (suc (height r place)) draft place)) c.loop-cut-test.true c.cut-item.is in
+    let are : map cut_of items ≡ cuts_of r draft place = ap (map cut_of) c.deref-cut-items.ensures.value ∙ c.in_ok-cuts.ensures.cuts in
+    let lower : IsLowerCut r place (cut_of x) = at_index cut_of (IsLowerCut r place) items c.loop-cut.cut-index x
+    (subst (Each (IsLowerCut r place)) (sym are) (cuts_lower r (g.met.R.Resolver.inside resolver) (g.met.R.Resolver.below resolver) (suc (height r place)) draft draft place)) c.loop-cut-test.true c.cut-item.is in
     let p = err_from_is_err_and c.from_residual-in_err-check_documents.result c.from_residual-in_err-check_documents.ensures.1 in
-    rw (p.1, p.2) (refused_inside r refuses (place_of c.args.self.now.root.now) place draft items c.loop-cut.cut-index x (draft_of c.own_draft-own.result) _ are c.loop-cut-test.true c.cut-item.is
-    c.own_draft-own.ensures.own lower c.in_err-check_documents.ensures.refused)
+    rw (p.1, p.2) (refused_inside r refuses (place_of c.args.self.now.root.now) place draft items c.loop-cut.cut-index x _ are c.loop-cut-test.true c.cut-item.is
+    lower c.in_err-check_documents.ensures.refused)
 
 pub loop-cut-preserved : goal.loop-cut-preserved
 loop-cut-preserved g t c =
@@ -56,10 +57,10 @@ loop-cut-preserved g t c =
     let place = place_of c.args.place.now in
     let items = c.deref-cut-items.result.now in
     let x = c.cut-item.result in
-    let are : map place_of items ≡ cuts_of r draft place = ap (map place_of) c.deref-cut-items.ensures.value ∙ c.in_ok-cuts.ensures.cuts in
-    let lower : IsLower r place (place_of x) = at_index (IsLower r place) items c.loop-cut.cut-index x
-    (subst (Each (IsLower r place)) (sym are) (cuts_lower r (g.met.R.Resolver.inside resolver) (g.met.R.Resolver.below resolver) (suc (height r place)) draft place)) c.loop-cut-test.true c.cut-item.is in
-    accepted_next r refuses draft place items c.loop-cut.cut-index x (draft_of c.own_draft-own.result) c.loop-cut-test.true c.cut-item.is c.own_draft-own.ensures.own lower
+    let are : map cut_of items ≡ cuts_of r draft place = ap (map cut_of) c.deref-cut-items.ensures.value ∙ c.in_ok-cuts.ensures.cuts in
+    let lower : IsLowerCut r place (cut_of x) = at_index cut_of (IsLowerCut r place) items c.loop-cut.cut-index x
+    (subst (Each (IsLowerCut r place)) (sym are) (cuts_lower r (g.met.R.Resolver.inside resolver) (g.met.R.Resolver.below resolver) (suc (height r place)) draft draft place)) c.loop-cut-test.true c.cut-item.is in
+    accepted_next r refuses place items c.loop-cut.cut-index x c.loop-cut-test.true c.cut-item.is lower
     c.in_ok-check_documents.ensures.accepted c.loop-cut.invariant
 
 pub returns-clause-accepted : goal.returns-clause-accepted
@@ -69,7 +70,7 @@ returns-clause-accepted g t c =
     let draft = draft_of c.args.draft in
     let place = place_of c.args.place.now in
     let items = c.deref-cut-items.result.now in
-    let are : map place_of items ≡ cuts_of r draft place = ap (map place_of) c.deref-cut-items.ensures.value ∙ c.in_ok-cuts.ensures.cuts in
+    let are : map cut_of items ≡ cuts_of r draft place = ap (map cut_of) c.deref-cut-items.ensures.value ∙ c.in_ok-cuts.ensures.cuts in
     let one_list = c.as_slice.ensures.value ∙ sym c.deref-cut-items.ensures.value in
-    let own = subst (λ (xs : List SchemaPlace). EachAccepted (resolving_parts r) refuses (own_document (resolving_parts r) (map place_of xs) draft place)) one_list c.in_ok-check_document.ensures.accepted in
+    let own = subst (λ (xs : List code.Cut). EachAccepted (resolving_parts r) refuses (own_document (resolving_parts r) (map cut_of xs) draft place)) one_list c.in_ok-check_document.ensures.accepted in
     accepted_all r refuses draft place items c.loop-cut.cut-index are c.loop-cut-test.false own c.loop-cut.invariant

@@ -3,13 +3,14 @@ use Rattle.std.specs.Prelude.{flat_map}
 use Rattle.std.proofs.lemmas.List.{map-append}
 use Rattle.schema_definitions.specs.Drafts as spec
 use Rattle.schema_keywords.specs.KeywordViews.{draft_of}
-use Rattle.schema_meaning.specs.Documents.{cuts}
+use Rattle.schema_meaning.specs.Documents.{Cut, cuts}
 use Rattle.schema_parts.specs.ResolverViews.{place_of}
-use Rattle.schema_parts.specs.declared.schema_place.SchemaPlace.{SchemaPlace}
 use Rattle.schema_keys.specs.Compiling.{Each, resolving_parts}
-use Rattle.schema_check.proofs.CheckedDocuments.{IsLower, at_index, cut_at, cut_below, cut_here, finished, next_place, subschemas_lower, turned}
+use Rattle.schema_check.specs.CutViews.{cut_of}
+use Rattle.schema_check.specs.declared.check.cuts.Cut as code
+use Rattle.schema_check.proofs.CheckedDocuments.{IsLower, at_index, cut_at, cut_below, cut_here, finished, next_one, subschemas_lower, turned}
 use Rattle.schema_check.proofs.check.SchemaCheck.+find_cuts.Goals as goal
-use Rattle.schema_check.proofs.check.SchemaCheck.+find_cuts.Goals.{then-is_embedded+in_ok-clone+in_ok-push, else-is_embedded+in_ok-find_cuts}
+use Rattle.schema_check.proofs.check.SchemaCheck.+find_cuts.Goals.{then-is_embedded+in_ok-place+in_ok-push, else-is_embedded+in_ok-find_cuts}
 
 pub find_cuts-requires : goal.find_cuts-requires
 find_cuts-requires g t c κs within =
@@ -21,7 +22,7 @@ find_cuts-requires g t c κs within =
     let k = c.loop-below.below-index in
     let x = c.below-item.result in
     let subschemas : map place_of items ≡ r.subresources_of draft place = ap (map place_of) c.deref-below-items.ensures.value ∙ c.in_ok-subresources_of.ensures.places in
-    let lower : IsLower r place (place_of x) = at_index (IsLower r place) items k x
+    let lower : IsLower r place (place_of x) = at_index place_of (IsLower r place) items k x
     (subst (Each (IsLower r place)) (sym subschemas) (subschemas_lower r (g.met.R.Resolver.inside resolver) (g.met.R.Resolver.below resolver) draft place)) c.loop-below-test.true c.below-item.is in
     (omega arith, search (rules, within))
 
@@ -29,27 +30,30 @@ pub loop-below-preserved : goal.loop-below-preserved
 loop-below-preserved g t c = λ n deep.
     let resolver = c.args.self.now.resolver.now in
     let r = g.R.Resolver.resolving resolver in
+    let document = draft_of c.args.document in
     let draft = draft_of c.args.draft in
     let place = place_of c.args.place.now in
     let items = c.deref-below-items.result.now in
     let k = c.loop-below.below-index in
     let x = c.below-item.result in
-    let old = map place_of c.loop-below.cuts.items in
-    let later = flat_map (cut_at r n draft) (map place_of (drop (k + 1) items)) in
+    let old = map cut_of c.loop-below.cuts.items in
+    let later = flat_map (cut_at r n document draft) (map place_of (drop (k + 1) items)) in
     let subschemas : map place_of items ≡ r.subresources_of draft place = ap (map place_of) c.deref-below-items.ensures.value ∙ c.in_ok-subresources_of.ensures.places in
-    let lower : IsLower r place (place_of x) = at_index (IsLower r place) items k x
+    let lower : IsLower r place (place_of x) = at_index place_of (IsLower r place) items k x
     (subst (Each (IsLower r place)) (sym subschemas) (subschemas_lower r (g.met.R.Resolver.inside resolver) (g.met.R.Resolver.below resolver) draft place)) c.loop-below-test.true c.below-item.is in
-    let one_more = next_place (cut_at r n draft) items k x c.loop-below-test.true c.below-item.is in
+    let one_more = next_one place_of (cut_at r n document draft) items k x c.loop-below-test.true c.below-item.is in
+    let own = c.own_draft-own.ensures.own in
     elim c.if-is_embedded.branch [
-      | then-is_embedded+in_ok-clone+in_ok-push w ↦
-          let here = cut_here r n draft (place_of x) (sym c.is_embedded.ensures.embedded ∙ w.if-is_embedded.true) in
-          let pushed = ap (map place_of) w.in_ok-push.ensures.items ∙ map-append place_of c.loop-below.cuts.items _ ∙ ap (λ (q : spec.SchemaPlace). old ++ q ∷ []) w.in_ok-clone.ensures.cases in
-          turned old _ (place_of x ∷ []) _ later _ (c.loop-below.invariant n deep) (one_more ∙ ap (λ (qs : List spec.SchemaPlace). qs ++ later) here)
-          (ap (λ (v : Vec SchemaPlace Global). map place_of v.items) w.cuts-is ∙ pushed)
+      | then-is_embedded+in_ok-place+in_ok-push w ↦
+          let here = cut_here r n document draft (draft_of c.own_draft-own.result) (place_of x) own (sym c.is_embedded.ensures.embedded ∙ w.if-is_embedded.true) in
+          let pushed = ap (map cut_of) w.in_ok-push.ensures.items ∙ map-append cut_of c.loop-below.cuts.items _
+          ∙ ap (λ (q : spec.SchemaPlace). old ++ record { place = q; draft = draft_of c.own_draft-own.result } ∷ []) w.in_ok-place.ensures.cases in
+          turned old _ (record { place = place_of x; draft = draft_of c.own_draft-own.result } ∷ []) _ later _ (c.loop-below.invariant n deep) (one_more ∙ ap (λ (qs : List Cut). qs ++ later) here)
+          (ap (λ (v : Vec code.Cut Global). map cut_of v.items) w.cuts-is ∙ pushed)
       | else-is_embedded+in_ok-find_cuts w ↦
-          let below = cut_below r n draft (place_of x) (sym c.is_embedded.ensures.embedded ∙ w.if-is_embedded.false) in
-          turned old _ (cuts (resolving_parts r) n draft (place_of x)) _ later _ (c.loop-below.invariant n deep) (one_more ∙ ap (λ (qs : List spec.SchemaPlace). qs ++ later) below)
-          (ap (λ (v : Vec SchemaPlace Global). map place_of v.items) w.cuts-is ∙ w.in_ok-find_cuts.ensures.found n (omega arith))
+          let below = cut_below r n document draft (draft_of c.own_draft-own.result) (place_of x) own (sym c.is_embedded.ensures.embedded ∙ w.if-is_embedded.false) in
+          turned old _ (cuts (resolving_parts r) n document (draft_of c.own_draft-own.result) (place_of x)) _ later _ (c.loop-below.invariant n deep) (one_more ∙ ap (λ (qs : List Cut). qs ++ later) below)
+          (ap (λ (v : Vec code.Cut Global). map cut_of v.items) w.cuts-is ∙ w.in_ok-find_cuts.ensures.found n (omega arith))
     ]
 
 pub returns : goal.returns
@@ -59,7 +63,7 @@ returns g t c =
     let place = place_of c.args.place.now in
     let items = c.deref-below-items.result.now in
     let k = c.loop-below.below-index in
-    let old = map place_of c.args.cuts.now.items in
-    let new = map place_of c.loop-below.cuts.items in
+    let old = map cut_of c.args.cuts.now.items in
+    let new = map cut_of c.loop-below.cuts.items in
     let subschemas : map place_of items ≡ r.subresources_of draft place = ap (map place_of) c.deref-below-items.ensures.value ∙ c.in_ok-subresources_of.ensures.places in
-    record { found = finished r draft place items k old new subschemas c.loop-below-test.false c.loop-below.invariant }
+    record { found = finished r (draft_of c.args.document) draft place items k old new subschemas c.loop-below-test.false c.loop-below.invariant }
