@@ -15,8 +15,8 @@ use Rattle.schema_reports.specs.Owned.{prefixed}
 use Rattle.schema_reports.specs.ReportViews.{owned_error_of}
 use Rattle.schema_reports.specs.declared.reports.OwnedError.{OwnedError}
 use Rattle.schema_meaning.proofs.Falls.{path_falls}
-use Rattle.schema_parts.specs.ResolverViews.{IsInside, StandsBelow, SubschemasStandBelow, place_of}
-use Rattle.schema_parts.specs.declared.schema_place.SchemaPlace.{SchemaPlace}
+use Rattle.schema_parts.specs.ResolverViews.{IsInside, Placed, StandsBelow, SubschemasStandBelow, place_of, placed_in, placed_of}
+use Rattle.schema_parts.specs.declared.resolver.PlacedSchema.{PlacedSchema}
 use Rattle.schema_keys.specs.Compiling.{Each, In, resolving_parts}
 use Rattle.schema_check.specs.Checking.{EachAccepted, IsAccepted, IsErrorBelow, MetaChecks, RefusesOne, location_from, own_document, without_text}
 use Rattle.schema_check.specs.CutViews.{cut_of}
@@ -39,6 +39,36 @@ at_index v P (y ∷ items) (suc k) x h l at = at_index v P items k x h.1 (omega 
 pub no_cuts : (b : Bool) (items : List code.Cut) → b ≡ (length items == 0) → b ≡ true → map cut_of items ≡ []
 no_cuts b [] e h = refl
 no_cuts b (x ∷ items) e h = absurd (let none : suc (length items) ≡ 0 = eqb-true (suc (length items)) 0 (sym e ∙ h) in omega arith)
+
+-- ---- subschemas with their values
+
+-- the place of a subschema
+abbrev pub lies_at : PlacedSchema → spec.SchemaPlace
+lies_at x = place_of x.place
+
+module _ {S : Type 0} (r : Resolver S) where
+  -- what stands at its place was read there
+  abbrev pub IsRead : Placed → Type 0
+  IsRead p = p.value ≡ r.value p.place
+
+  all_read : (qs : List spec.SchemaPlace) → Each IsRead (map (placed_in r) qs)
+  all_read [] = tt
+  all_read (q ∷ qs) = (refl, all_read qs)
+
+  pub each_read : (items : List PlacedSchema) (qs : List spec.SchemaPlace) → map placed_of items ≡ map (placed_in r) qs → Each IsRead (map placed_of items)
+  each_read items qs e = subst (Each IsRead) (sym e) (all_read qs)
+
+  places_again : (qs : List spec.SchemaPlace) → map (λ (p : Placed). p.place) (map (placed_in r) qs) ≡ qs
+  places_again [] = refl
+  places_again (q ∷ qs) = ap (λ (ps : List spec.SchemaPlace). q ∷ ps) (places_again qs)
+
+  places_read : (items : List PlacedSchema) → map lies_at items ≡ map (λ (p : Placed). p.place) (map placed_of items)
+  places_read [] = refl
+  places_read (x ∷ items) = ap (λ (ps : List spec.SchemaPlace). lies_at x ∷ ps) (places_read items)
+
+  -- they lie where the resolver says
+  pub lie_at : (items : List PlacedSchema) (qs : List spec.SchemaPlace) → map placed_of items ≡ map (placed_in r) qs → map lies_at items ≡ qs
+  lie_at items qs e = places_read items ∙ ap (map (λ (p : Placed). p.place)) e ∙ places_again qs
 
 -- one more
 pub next_one : {A B C : Type 0} (v : A → B) (f : B → List C) (items : List A) (k : ℕ) (x : A) → k < length items → x ≡ get_or items k x
@@ -98,12 +128,12 @@ module _ {S : Type 0} (r : Resolver S) where
   cut_below n document draft own q is e = ap (λ (d : Draft). cut_with n document draft d q) (sym is) ∙ ap (cut_if n document own q) e
 
   -- all places were gone through
-  pub finished : (document draft : Draft) (p : spec.SchemaPlace) (items : List SchemaPlace) (k : ℕ) (old new : List Cut) → map place_of items ≡ r.subresources_of draft p → length items ≤ k
-      → ((n : ℕ) → height p ≤ n → new ++ flat_map (cut_at n document draft) (map place_of (drop k items)) ≡ old ++ flat_map (cut_at n document draft) (map place_of items))
+  pub finished : (document draft : Draft) (p : spec.SchemaPlace) (items : List PlacedSchema) (k : ℕ) (old new : List Cut) → map lies_at items ≡ r.subresources_of draft p → length items ≤ k
+      → ((n : ℕ) → height p ≤ n → new ++ flat_map (cut_at n document draft) (map lies_at (drop k items)) ≡ old ++ flat_map (cut_at n document draft) (map lies_at items))
       → (n : ℕ) → height p < n → new ≡ old ++ cuts (resolving_parts r) n document draft p
   finished document draft p items k old new are past so_far zero less = absurd (omega arith)
   finished document draft p items k old new are past so_far (suc n) less =
-      sym (append-nil new) ∙ ap (λ (qs : List Cut). new ++ qs) (sym (no_more place_of (cut_at n document draft) items k past)) ∙ so_far n (omega arith)
+      sym (append-nil new) ∙ ap (λ (qs : List Cut). new ++ qs) (sym (no_more lies_at (cut_at n document draft) items k past)) ∙ so_far n (omega arith)
       ∙ ap (λ (qs : List spec.SchemaPlace). old ++ flat_map (cut_at n document draft) qs) are
 
   abbrev pub IsLower : spec.SchemaPlace → spec.SchemaPlace → Type 0

@@ -3,7 +3,7 @@ use Rattle.std.specs.Prelude.{flat_map}
 use Rattle.schema_keywords.specs.KeywordViews.{draft_of}
 use Rattle.schema_parts.specs.ResolverViews.{place_of}
 use Rattle.schema_check.specs.CutViews.{cut_of}
-use Rattle.schema_check.proofs.CheckedDocuments.{cut_at, height}
+use Rattle.schema_check.proofs.CheckedDocuments.{cut_at, height, lies_at}
 use Rattle.schema_check.proofs.check.SchemaCheck.+find_cuts.Given as goal
 
 abbrev pub decreases-find_cuts : goal.decreases-find_cuts
@@ -11,5 +11,5 @@ decreases-find_cuts g l = height (g.R.Resolver.resolving l.self.now.resolver.now
 
 abbrev pub invariant-loop-below : goal.invariant-loop-below
 invariant-loop-below g l = (n : ℕ) → height (g.R.Resolver.resolving l.self.resolver.now) (place_of l.place) ≤ n
-    → map cut_of l.cuts.items ++ flat_map (cut_at (g.R.Resolver.resolving l.self.resolver.now) n (draft_of l.document) (draft_of l.draft)) (map place_of (drop l.below-index l.below-items))
-    ≡ map cut_of l.initial.cuts.items ++ flat_map (cut_at (g.R.Resolver.resolving l.self.resolver.now) n (draft_of l.document) (draft_of l.draft)) (map place_of l.below-items)
+    → map cut_of l.cuts.items ++ flat_map (cut_at (g.R.Resolver.resolving l.self.resolver.now) n (draft_of l.document) (draft_of l.draft)) (map lies_at (drop l.below-index l.below-items))
+    ≡ map cut_of l.initial.cuts.items ++ flat_map (cut_at (g.R.Resolver.resolving l.self.resolver.now) n (draft_of l.document) (draft_of l.draft)) (map lies_at l.below-items)
