@@ -10,6 +10,7 @@ pub mod WayRuns
 pub mod WayReads
 pub mod WayWords
 pub mod WayLaws
+pub mod WayHandsOn
 pub mod Places
 pub mod FaultLists
 pub mod OwnWays

@@ -243,3 +243,34 @@ module _ {C Run K M : Type 0} (keywords : KeywordMembers C Run K) (matchers : Ma
         λ n more. all_have_one _ (follow n p.root) texts b o es u
             (f1 n (omega (arith, more))) (f2 n (omega (arith, more))) (f3 n (omega (arith, more))) (f4 n (omega (arith, more))),
       )
+
+-- ---- one call of one validator and one instance, made twice
+
+module _ {C Run K M : Type 0} (keywords : KeywordMembers C Run K) (matchers : MatcherMembers M) where
+  -- what follows from two answers for one sense is so from some depth on
+  twice : (p : Program C M) (instance : Data) (fact fact' says : Bool → Sense → Type 0) → ((texts : Bool) (v : Sense) → fact texts v → fact' texts v → says texts v)
+      → calls.NodesSay keywords matchers p instance fact → calls.NodesSay keywords matchers p instance fact' → calls.NodesSay keywords matchers p instance says
+  twice p instance fact fact' says joined told told' = λ texts speaks.
+      let (deep, f) = told texts speaks in
+      let (deep', f') = told' texts speaks in
+      (deep + deep', λ n more. joined texts _ (f n (omega (arith, more))) (f' n (omega (arith, more))))
+
+  pub verdict_again : calls.VerdictAgain keywords matchers
+  verdict_again p instance b b' told told' =
+      let all = twice p instance (Verdict b) (Verdict b') (λ texts v. b ≡ b') (λ texts v. same_verdict v is_valid b b') told told' in
+      let (deep, f) = all false (λ e. absurd (cc e)) in f deep (omega arith)
+
+  pub first_error_again : calls.FirstErrorAgain keywords matchers
+  first_error_again p instance o o' = twice p instance (First o) (First o') (λ texts v. FirstsAgree v texts o o') (λ texts v. firsts_agree v texts o o')
+
+  pub error_list_again : calls.ErrorListAgain keywords matchers
+  error_list_again p instance es es' = twice p instance (Errors es) (Errors es') (λ texts v. ErrorsAgree v texts es es') (λ texts v. errors_agree v texts es es')
+
+  pub evaluation_again : calls.EvaluationAgain keywords matchers
+  evaluation_again p instance u u' = twice p instance (Evaluated u) (Evaluated u') (λ texts v. EvaluationsAgree v texts u u') (λ texts v. evaluations_agree v texts u u')
+
+  pub units_again : calls.UnitsAgain keywords matchers
+  units_again p instance u u' told told' = λ texts speaks.
+      let (deep, f) = told texts speaks in
+      let (deep', f') = told' texts speaks in
+      (deep + deep', λ n more none. f n (omega (arith, more)) none (completion_of []) ∙ sym (f' n (omega (arith, more)) none (completion_of [])))

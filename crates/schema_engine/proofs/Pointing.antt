@@ -1,11 +1,11 @@
 -- The errors of a validator that is compiled from a key point at keywords and at values; so do those of one that is compiled from
--- the schema's root.
-use Rattle.std.proofs.Common.{◌≡◌, ℕ, sym, subst, Bool, true, false, List, [], ◌∷◌, map, Some, None, inl, inr}
+-- the schema's root, and the errors in its units.
+use Rattle.std.proofs.Common.{◌≡◌, ◌+◌, ℕ, arith, sym, subst, Bool, true, false, List, [], ◌∷◌, map, Some, None, inl, inr}
 use Rattle.std.proofs.lemmas.List.Elements.{All-cons, All-contains, All-contains_itself, All-head, All-map, All-nil, All-tail, All-weaker}
 use Rattle.std.specs.Prelude.{All, Contains, Option, ◌⊎◌}
 use Rattle.serde_json.specs.Data.{Data}
 use Rattle.schema_definitions.specs.Instance.{Text}
-use Rattle.schema_definitions.specs.Reports.{Error}
+use Rattle.schema_definitions.specs.Reports.{Error, Unit_}
 use Rattle.schema_definitions.specs.Matching.{Completion, Matcher, all_match}
 use Rattle.schema_definitions.specs.Resolving.{Resolver}
 use Rattle.schema_definitions.specs.Making.{Table}
@@ -15,23 +15,28 @@ use Rattle.schema_definitions.specs.Plan.{Key}
 use Rattle.schema_definitions.specs.Cover.{Sense, iter_errors, validate}
 use Rattle.schema_meaning.specs.Headline.{FirstShared, IsFailure, IsFirst}
 use Rattle.schema_reports.specs.ReportViews.{error_of}
+use Rattle.schema_reports.specs.UnitViews.{unit_of}
+use Rattle.schema_reports.specs.declared.evaluation.EvaluationNode.{EvaluationNode}
 use Rattle.schema_reports.specs.declared.reports.ValidationError.{ValidationError}
 use Rattle.schema_meaning.specs.ErrorsLead.{EachKeepsAbsorbing, EachLeads, MakesAbsorbing, PointsAt}
+use Rattle.schema_meaning.specs.UnitsLead.{EachHandsUnitsOn, UnitsPoint}
 use Rattle.schema_meaning.specs.Means as means
-use Rattle.schema_definitions.specs.Guarded.{guarded_sense}
+use Rattle.schema_definitions.specs.Guarded.{guarded_sense, guarded_within, node_unit, yes_unit}
 use Rattle.schema_meaning.specs.Numbered.{subject_in}
 use Rattle.schema_meaning.proofs.NodeErrorsLead.{node_errors_lead}
+use Rattle.schema_meaning.proofs.UnitsLead.{node_units_lead}
 use Rattle.schema_meaning.proofs.ListedLead.{of_failure, of_first, of_found, of_lists}
 use Rattle.schema_nodes.specs.NodeTable.{numbered}
 use Rattle.schema_parts.proofs.PartLaws.{makes_absorbed}
-use Rattle.schema_engine.specs.Program.{Program, FromSomeDepth}
+use Rattle.schema_engine.specs.Evaluated.{EvaluationAnswered, IsOfErrors}
+use Rattle.schema_engine.specs.Program.{FromSomeDepth, HasUnits, Program}
 use Rattle.schema_engine.specs.Spoken.{EachIsGiven, ErrorsAnswered, FirstAnswered, FirstIsGiven, IsGiven}
 use Rattle.schema_engine.specs.Compiled.{IsWhole}
 use Rattle.schema_engine.specs.ProgramOf.{IsProgramFrom, IsProgramOf}
 use Rattle.schema_keys.specs.Compiling.{no_keywords, no_matcher}
 use Rattle.schema_engine.specs.Handed.{Options, parts_of}
 use Rattle.schema_engine.specs.Promised.{MeansSchema, OfSchema, PointsFromKey, PointsIntoSchema}
-use Rattle.schema_engine.specs.Pointing.{EachPoints, FirstPoints}
+use Rattle.schema_engine.specs.Pointing.{EachPoints, EvaluationPoints, FirstPoints, IsOfPointing}
 use Rattle.schema_engine.proofs.Built.{EachScript, in_map}
 use Rattle.schema_engine.proofs.OtherParts.{numbered_too}
 use Rattle.schema_engine.proofs.RootKeys.{one_root_key, root_key_of, root_key_too}
@@ -81,6 +86,10 @@ module _ {S K R C M : Type 0} (resolver : Resolver S) (table : Table K) (matcher
   abbrev sense_at : Bool → Data → Matcher → (n : ℕ) → Sense
   sense_at texts instance m n = guarded_sense (words texts) m (numbered shape p.nodes) (subject_in instance) n p.root
 
+  -- the units of the root's node
+  abbrev units_at : Bool → Data → Matcher → (n : ℕ) → Unit_
+  units_at texts instance m n = guarded_within (yes_unit (numbered shape p.nodes)) (node_unit (words texts) m (numbered shape p.nodes) (subject_in instance) all_match) n p.root [] [] []
+
   module _ (absorbed : K → List Text) (is_whole : K → Bool) (each : (texts : Bool) → EachKeepsAbsorbing (words texts) absorbed) (scripts : EachScript absorbed is_whole table)
       {nested : ℕ} where
     pub points_from_key : (key : Key S) → IsProgramFrom resolver table matcher options nested schema shape matching key p → PointsFromKey resolver table matcher words options key shape matching p
@@ -104,6 +113,23 @@ module _ {S K R C M : Type 0} (resolver : Resolver S) (table : Table K) (matcher
         let same = one_root_key w0 schema program.root root program.is_root (root_key_too resolver table table matcher no_matcher (words texts) no_keywords options schema root (root_key_of (w texts) schema root is_root)) in
         points_from_key root (from_root program root same) instance texts speaks n
 
+    -- ---- where the errors in units of compiled nodes point
+
+    units_point_from_key : (key : Key S) → IsProgramFrom resolver table matcher options nested schema shape matching key p → (instance : Data) (texts : Bool)
+        → EachHandsUnitsOn (words texts) absorbed → (n : ℕ) → UnitsPoint (w texts) key instance (units_at texts instance (matching p.matcher) n)
+    units_point_from_key key program instance texts hands n =
+        let keys = program.compiled.compiled.keys in
+        subst (λ m. UnitsPoint (w texts) key instance (units_at texts instance m n)) (sym program.matcher_is)
+        (node_units_lead (w texts) absorbed (map Some keys) (numbered shape p.nodes) (each texts) (makers absorbed is_whole table scripts) hands
+        (numbered_too resolver table no_matcher matcher no_keywords (words texts) options (map Some keys) (numbered shape p.nodes) program.compiled.compiled.numbers)
+        instance all_match n p.root key (in_map keys p.root key program.compiled.compiled.is_root))
+
+    units_point_into : IsProgramOf resolver table matcher options nested schema shape matching p → (instance : Data)
+        → OfSchema resolver table matcher words options schema instance (λ texts w root. EachHandsUnitsOn w.keywords absorbed → (n : ℕ) → UnitsPoint w root instance (units_at texts instance (matching p.matcher) n))
+    units_point_into program instance = λ texts root is_root speaks hands n.
+        let same = one_root_key w0 schema program.root root program.is_root (root_key_too resolver table table matcher no_matcher (words texts) no_keywords options schema root (root_key_of (w texts) schema root is_root)) in
+        units_point_from_key root (from_root program root same) instance texts hands n
+
   -- ---- what a build and a call say, together
 
   module _ (is_whole : K → Bool) (meant : MeansSchema resolver table matcher words options schema shape is_whole matching p) (points : PointsIntoSchema resolver table matcher words options schema shape matching p) (instance : Data) where
@@ -111,14 +137,11 @@ module _ {S K R C M : Type 0} (resolver : Resolver S) (table : Table K) (matcher
     given_points : (texts : Bool) (root : Key S) (v : Sense) → EachLeads (w texts) root instance v → (e : ValidationError) → IsGiven v texts e → PointsAt (w texts) root instance (error_of texts e)
     given_points texts root v lead e given = All-contains (PointsAt (w texts) root instance) (v.says given.0).errors (error_of texts e) (lead given.0) given.1
 
+    each_given : (texts : Bool) (root : Key S) (v : Sense) → EachLeads (w texts) root instance v → (es : List ValidationError) → All (IsGiven v texts) es → All (PointsAt (w texts) root instance) (map (error_of texts) es)
+    each_given texts root v lead es all = All-map (PointsAt (w texts) root instance) (error_of texts) es (All-weaker (IsGiven v texts) (λ e. PointsAt (w texts) root instance (error_of texts e)) (given_points texts root v lead) es all)
+
     each_points_at : (texts : Bool) (root : Key S) (v : Sense) → EachLeads (w texts) root instance v → (es : List ValidationError) → EachIsGiven v texts es → EachPoints (w texts) root instance v texts es
-    each_points_at texts root v lead es says = (
-      λ decides. elim (says.0 decides) [
-        | inl all ↦ inl (All-map (PointsAt (w texts) root instance) (error_of texts) es (All-weaker (IsGiven v texts) (λ e. PointsAt (w texts) root instance (error_of texts e)) (given_points texts root v lead) es all))
-        | inr failure ↦ inr failure
-      ],
-      says.1,
-    )
+    each_points_at texts root v lead es says = (λ decides. elim (says.0 decides) [ inl all ↦ inl (each_given texts root v lead es all) | inr failure ↦ inr failure ], says.1)
 
     pub each_points : (es : List ValidationError) → FromSomeDepth shape words is_whole matching p instance (λ texts v. EachIsGiven v texts es)
         → OfSchema resolver table matcher words options schema instance (λ texts w root. means.FromSomeDepth (words texts) (matching p.matcher) (numbered shape p.nodes) p.root instance (λ v. EachPoints w root instance v texts es))
@@ -138,3 +161,26 @@ module _ {S K R C M : Type 0} (resolver : Resolver S) (table : Table K) (matcher
     first_points o says = λ texts root is_root speaks.
         let deep = says texts (meant instance texts root is_root speaks).0 in
         (deep.0, λ n more. first_points_at texts root (sense_at texts instance (matching p.matcher) n) (points instance texts root is_root speaks n) o (deep.1 n more))
+
+    -- the errors that units are made of
+    made_of_pointing : (texts : Bool) (root : Key S) (v : Sense) → EachLeads (w texts) root instance v → (u : Unit_) → IsOfErrors v texts u → IsOfPointing (w texts) root instance v texts u
+    made_of_pointing texts root v lead u of = record {
+      errors = of.errors;
+      made = of.made;
+      point = (λ decides. elim of.given [ inl all ↦ inl (each_given texts root v lead of.errors all) | inr failure ↦ inr failure ], of.undecided);
+    }
+
+    module _ (absorbed : K → List Text) (each : (texts : Bool) → EachKeepsAbsorbing (words texts) absorbed) (scripts : EachScript absorbed is_whole table)
+        {nested : ℕ} (program : IsProgramOf resolver table matcher options nested schema shape matching p) where
+      pub evaluation_points : (u : EvaluationNode) → FromSomeDepth shape words is_whole matching p instance (λ texts v. EvaluationAnswered v texts u) → HasUnits shape words is_whole matching p instance u
+          → OfSchema resolver table matcher words options schema instance (λ texts w root. means.FromSomeDepth (words texts) (matching p.matcher) (numbered shape p.nodes) p.root instance (λ v. EvaluationPoints w root instance v absorbed texts u))
+      evaluation_points u says has = λ texts root is_root speaks.
+          let told = (meant instance texts root is_root speaks).0 in
+          let (deep, f) = says texts told in
+          let (deep', g) = has texts told in (
+            deep + deep',
+            λ n more. record {
+              apart = λ met. made_of_pointing texts root (sense_at texts instance (matching p.matcher) n) (points instance texts root is_root speaks n) (unit_of texts u) ((f n (omega (arith, more))).apart met);
+              alone = λ none hands. subst (UnitsPoint (w texts) root instance) (sym (g n (omega (arith, more)) none all_match)) (units_point_into absorbed is_whole each scripts program instance texts root is_root speaks hands n);
+            },
+          )

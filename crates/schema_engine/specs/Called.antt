@@ -3,6 +3,7 @@
 use Rattle.std.specs.Prelude.{Bool, List, Option, ℕ, ◌⊎◌}
 use Rattle.serde_json.specs.Data.{Data}
 use Rattle.schema_definitions.specs.Cover.{Sense, is_valid}
+use Rattle.schema_definitions.specs.Instance.{Text}
 use Rattle.schema_meaning.specs.Headline.{IsValidAnswer, Plainly, PlainlyWithUnits, VerdictSays}
 use Rattle.schema_meaning.specs.Means as means
 use Rattle.schema_definitions.specs.Parts.{Parts}
@@ -16,7 +17,7 @@ use Rattle.schema_engine.specs.Checked.{FailsCheck}
 use Rattle.schema_engine.specs.Compiled.{IsCompiled}
 use Rattle.schema_keys.specs.Compiling.{no_keywords, no_matcher}
 use Rattle.schema_engine.specs.Handed.{Handed, Options, default_nested, parts_of}
-use Rattle.schema_engine.specs.Pointing.{EachPoints, FirstPoints}
+use Rattle.schema_engine.specs.Pointing.{EachPoints, EvaluationPoints, FirstPoints}
 use Rattle.schema_engine.specs.Evaluated.{EvaluationAnswered, UnitsAnswered}
 use Rattle.schema_engine.specs.Program.{FromSomeDepth, HasUnits, Program}
 use Rattle.schema_engine.specs.ProgramOf.{IsProgramOf}
@@ -120,6 +121,10 @@ module _ {S K R C M : Type 0} (h : Handed S K R C M) (options : Options) (schema
     -- each points at a keyword that its evaluation path leads to, and at a value inside the instance
     abbrev pub EachLeads : List ValidationError → Type 0
     EachLeads es = PointingOf (λ w root v texts. EachPoints w root instance v texts es)
+
+    -- each error in a unit points at a keyword that the unit's evaluation path leads to, and at a value inside the instance; where no match stays unfinished, if every keyword hands on the units that its questions answer
+    abbrev pub UnitsLead : (K → List Text) → EvaluationNode → Type 0
+    UnitsLead absorbs u = PointingOf (λ w root v texts. EvaluationPoints w root instance v absorbs texts u)
 
 -- the error says so of schema and parts, or that a meta validator refuses a document of the schema, where the check is on
 abbrev pub BuildRefused : {S K R C M : Type 0} → Handed S K R C M → MetaChecks → Options → Data → BuildError → Type 0

@@ -1,7 +1,7 @@
 -- The calls of a schema and an instance agree with each other, also where chains of references return. Each call compiles nodes of
 -- its own, and its answer is what these say from some depth on; but all nodes that are compiled from one schema by the same options
 -- and the same limit on nested targets have one sense and the same units, so that calls of one schema and one instance speak of one
--- sense. So do the calls of one validator.
+-- sense. So do the calls of one validator, and one call of it that is made twice answers twice alike.
 use Rattle.std.specs.Prelude.{Bool, List, None, Option, [], is_none, ℕ, ◌≡◌}
 use Rattle.serde_json.specs.Data.{Data}
 use Rattle.schema_definitions.specs.Cover.{Decides, Sense, branch_at, evaluate, is_valid, iter_errors, validate}
@@ -16,7 +16,7 @@ use Rattle.schema_reports.specs.declared.reports.ValidationError.{ValidationErro
 use Rattle.schema_nodes.specs.NodeTable.{numbered}
 use Rattle.schema_parts.specs.declared.keyword.Validate.{Ghosts as KeywordMembers}
 use Rattle.schema_parts.specs.declared.matcher.Matcher.{Ghosts as MatcherMembers}
-use Rattle.schema_engine.specs.Asked.{DecidesFromSomeDepth, ErrorsFromSomeDepth, EvaluatesFromSomeDepth, FirstFromSomeDepth}
+use Rattle.schema_engine.specs.Asked.{DecidesFromSomeDepth, ErrorsFromSomeDepth, EvaluatesFromSomeDepth, FirstFromSomeDepth, UnitsFromSomeDepth}
 use Rattle.schema_engine.specs.Called.{DecidesGuardedly, ErrorsGuardedly, EvaluatesGuardedly, FirstGuardedly, IsCompiledFrom, UnitsGuardedly}
 use Rattle.schema_engine.specs.Handed.{Handed, Options, default_nested}
 use Rattle.schema_engine.specs.Nesting.{ErrorsAgree, EvaluationsAgree, FirstsAgree, verdict_in}
@@ -150,3 +150,46 @@ ValidatorCallsAgree {C} {Run} {K} {M} keywords matchers = (p : Program C M) (ins
     → DecidesFromSomeDepth keywords matchers p instance b → FirstFromSomeDepth keywords matchers p instance o
     → ErrorsFromSomeDepth keywords matchers p instance es → EvaluatesFromSomeDepth keywords matchers p instance u
     → FromSomeDepth keywords.shape keywords.words keywords.is_whole matchers.matching p instance (λ texts v. OneVerdictOfAll v texts b o es u)
+
+-- ---- one call of one validator and one instance, made twice
+
+module _ {C Run K M : Type 0} (keywords : KeywordMembers C Run K) (matchers : MatcherMembers M) where
+  -- what is said of a validator and an instance
+  abbrev OfValidators : (Program C M → Data → Type 0) → Type 0
+  OfValidators says = (p : Program C M) (instance : Data) → says p instance
+
+  -- a fact about what the validator's nodes say of the instance from some depth on
+  abbrev pub NodesSay : Program C M → Data → (Bool → Sense → Type 0) → Type 0
+  NodesSay p instance fact = FromSomeDepth keywords.shape keywords.words keywords.is_whole matchers.matching p instance fact
+
+  -- two verdicts of `is_valid` are equal
+  abbrev pub VerdictAgain : Type 0
+  VerdictAgain = OfValidators (λ p instance. (b b' : Bool)
+      → DecidesFromSomeDepth keywords matchers p instance b → DecidesFromSomeDepth keywords matchers p instance b' → b ≡ b')
+
+  -- two first errors of `validate` are both none, or equal in place, paths, absolute location, keyword and text; or both are the
+  -- failure, each perhaps at a site of its own; and where texts are not spoken of, what is said then
+  abbrev pub FirstErrorAgain : Type 0
+  FirstErrorAgain = OfValidators (λ p instance. (o o' : Option ValidationError)
+      → FirstFromSomeDepth keywords matchers p instance o → FirstFromSomeDepth keywords matchers p instance o'
+      → NodesSay p instance (λ texts v. FirstsAgree v texts o o'))
+
+  -- two lists of errors of `iter_errors` are equal in all of these, in one order; or both are the failure alone, each perhaps at a
+  -- site of its own; and where texts are not spoken of, what is said then
+  abbrev pub ErrorListAgain : Type 0
+  ErrorListAgain = OfValidators (λ p instance. (es es' : List ValidationError)
+      → ErrorsFromSomeDepth keywords matchers p instance es → ErrorsFromSomeDepth keywords matchers p instance es'
+      → NodesSay p instance (λ texts v. ErrorsAgree v texts es es'))
+
+  -- two evaluations have one verdict; both are made of the failure where the call doesn't decide; and where the first run meets an
+  -- unfinished match and texts are spoken of, the units are equal, or both are made of the failure
+  abbrev pub EvaluationAgain : Type 0
+  EvaluationAgain = OfValidators (λ p instance. (u u' : EvaluationNode)
+      → EvaluatesFromSomeDepth keywords matchers p instance u → EvaluatesFromSomeDepth keywords matchers p instance u'
+      → NodesSay p instance (λ texts v. EvaluationsAgree v texts u u'))
+
+  -- two evaluations have the same units where the first run meets no unfinished match
+  abbrev pub UnitsAgain : Type 0
+  UnitsAgain = OfValidators (λ p instance. (u u' : EvaluationNode)
+      → UnitsFromSomeDepth keywords matchers p instance u → UnitsFromSomeDepth keywords matchers p instance u'
+      → NodesSay p instance (λ texts v. branch_at v evaluate [] ≡ None → unit_of texts u ≡ unit_of texts u'))

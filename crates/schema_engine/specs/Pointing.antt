@@ -1,20 +1,41 @@
 -- Where the errors of a call point: each at a keyword that its evaluation path leads to, its schema path being the
 -- target's location going on alike, and at a value inside the instance; or the call gives its one failure, where a match
--- stays unfinished. (Core 2020-12, 12.3)
-use Rattle.std.specs.Prelude.{All, Bool, List, None, Option, Some, map, true, ◌⊎◌}
+-- stays unfinished. So point the errors in the units of an evaluation, each by its unit. (Core 2020-12, 12.3 and 12.4)
+use Rattle.std.specs.Prelude.{All, Bool, List, None, Option, Some, [], map, true, ◌≡◌, ◌⊎◌}
 use Rattle.serde_json.specs.Data.{Data}
+use Rattle.schema_definitions.specs.Instance.{Text}
+use Rattle.schema_definitions.specs.Reports.{Unit_}
 use Rattle.schema_definitions.specs.Parts.{Parts}
 use Rattle.schema_definitions.specs.Plan.{Key}
-use Rattle.schema_definitions.specs.Cover.{Decides, Sense, iter_errors, validate}
+use Rattle.schema_definitions.specs.Cover.{Call, Decides, Sense, branch_at, evaluate, iter_errors, validate}
 use Rattle.schema_meaning.specs.Headline.{Either, IsFailure, OneFailure}
 use Rattle.schema_meaning.specs.ErrorsLead.{PointsAt}
+use Rattle.schema_meaning.specs.UnitsLead.{EachHandsUnitsOn, UnitsPoint}
 use Rattle.schema_reports.specs.ReportViews.{error_of}
+use Rattle.schema_reports.specs.UnitViews.{unit_of}
+use Rattle.schema_reports.specs.declared.evaluation.EvaluationNode.{EvaluationNode}
 use Rattle.schema_reports.specs.declared.reports.ValidationError.{ValidationError}
+use Rattle.schema_output.specs.ErrorUnits.{errors_unit}
 
 module _ {S K R : Type 0} (w : Parts S K R) (root : Key S) (instance : Data) (v : Sense) where
+  -- each of a call's errors points so, or the call gives its one failure; the latter where it doesn't decide
+  abbrev pub EachPointsIn : Call → Bool → List ValidationError → Type 0
+  EachPointsIn call texts es = Either (Decides v call) (All (PointsAt w root instance) (map (error_of texts) es) ⊎ OneFailure v call (map (error_of true) es)) (OneFailure v call (map (error_of true) es))
+
   abbrev pub EachPoints : Bool → List ValidationError → Type 0
-  EachPoints texts es = Either (Decides v iter_errors) (All (PointsAt w root instance) (map (error_of texts) es) ⊎ OneFailure v iter_errors (map (error_of true) es)) (OneFailure v iter_errors (map (error_of true) es))
+  EachPoints = EachPointsIn iter_errors
 
   abbrev pub FirstPoints : Bool → Option ValidationError → Type 0
   FirstPoints texts None = Unit {0}
   FirstPoints texts (Some e) = Either (Decides v validate) (PointsAt w root instance (error_of texts e) ⊎ IsFailure v validate (error_of true e)) (IsFailure v validate (error_of true e))
+
+  -- there is one unit for each of these errors, inside one at empty locations, and the errors point so
+  pub record IsOfPointing (texts : Bool) (u : Unit_) : Type 0 where
+    pub errors : List ValidationError
+    pub made : u ≡ errors_unit (map (error_of texts) errors)
+    pub point : EachPointsIn evaluate texts errors
+
+  -- where the first run meets an unfinished match, the units are those of errors that point so; where it meets none, and every keyword hands on the units that its questions answer, each unit that has an error of its own points so
+  pub record EvaluationPoints (absorbs : K → List Text) (texts : Bool) (u : EvaluationNode) : Type 0 where
+    pub apart : ¬ (branch_at v evaluate [] ≡ None) → IsOfPointing texts (unit_of texts u)
+    pub alone : branch_at v evaluate [] ≡ None → EachHandsUnitsOn w.keywords absorbs → UnitsPoint w root instance (unit_of texts u)

@@ -2,6 +2,7 @@
 //! nothing.
 ghost use Rattle.schema_engine.specs.FreeCalls.{EmptyIffValid, NoneIffEmpty, NoneIffValid, TrueIffEmpty, TrueIffNone, TrueIffValid};
 ghost use Rattle.schema_engine.specs.FreeCalls.{OneErrorList, OneEvaluation, OneFirstError, OneSense, OneTree, OneVerdict};
+ghost use Rattle.schema_engine.specs.FreeCalls.{ErrorListAgain, EvaluationAgain, FirstErrorAgain, UnitsAgain, VerdictAgain};
 ghost use Rattle.schema_engine.specs.FreeCalls.{ValidatorCallsAgree};
 ghost use Rattle.schema_engine.specs.Handed.{handed};
 ghost use Rattle.schema_engine.specs.Nesting.{AllErrorsAgree, BuildsAgree, FirstErrorsAgree, VerdictsAgree};
@@ -83,4 +84,17 @@ pub fn free_calls_agree<S: Resolver, T: KeywordTable<K>, K: Validate, M: Matcher
 /// `iter_errors` the empty list, and `evaluate` by a unit that is valid.
 pub fn validator_calls_agree<K: Validate, M: Matcher>()
     ensures verdicts { ValidatorCallsAgree K.Validate M.Matcher.own }
+{}
+
+/// One call of one validator and one instance answers alike each time it is made, also where chains of references return: two
+/// verdicts are equal, two first errors are equal or both are none, two lists of errors are equal, and two evaluations have one
+/// verdict, and equal units. Only a failure, which tells of a match that stays unfinished where the call does not decide or the
+/// outcomes share no error, may each time show the match at a site of its own. Where texts of errors are not spoken of, as the
+/// instance or the schema holds a fraction, what is said is what `limits_agree` says then.
+pub fn calls_repeat<K: Validate, M: Matcher>()
+    ensures verdict { VerdictAgain K.Validate M.Matcher.own }
+    ensures first { FirstErrorAgain K.Validate M.Matcher.own }
+    ensures errors { ErrorListAgain K.Validate M.Matcher.own }
+    ensures evaluation { EvaluationAgain K.Validate M.Matcher.own }
+    ensures units { UnitsAgain K.Validate M.Matcher.own }
 {}

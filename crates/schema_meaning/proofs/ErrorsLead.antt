@@ -90,6 +90,13 @@ module _ {S K R : Type 0} (w : Parts S K R) (absorbs : K → List Text) where
   absorbing makers k (array ds) = tt
   absorbing makers k (object ms) = plan_forms w k ms Absorbing (λ kind text. tt) (λ custom name m absorbed e. makers custom name ms _ _ _ _ m absorbed e)
 
+-- a part of a target absorbs what its keyword does
+pub absorbs_its : {S K R : Type 0} (w : Parts S K R) (absorbs : K → List Text) → MakesAbsorbing absorbs w.table → (k : Key S) (xs : List (Part K)) → plan w k ≡ these xs
+    → (x : Part K) → Contains xs x → (m : K) (requests : List Request) (absorbed : List Text) → x.form ≡ keyword m requests absorbed → absorbed ≡ absorbs m
+absorbs_its w absorbs makers k xs is_plan x in_xs m requests absorbed is_form =
+    let forms : EachForm (Absorbing w absorbs) xs = subst (PlanForms (Absorbing w absorbs)) is_plan (absorbing w absorbs makers k (schema_of w k)) in
+    subst (Absorbing w absorbs) is_form (each_form (Absorbing w absorbs) xs forms x in_xs)
+
 abbrev absorbed_by : {K : Type 0} → Form K → List Text
 absorbed_by form = elim form [ keyword m requests absorbed ↦ absorbed | reference kind text ↦ [] ]
 
@@ -199,9 +206,7 @@ module _ {S K R : Type 0} (w : Parts S K R) (absorbs : K → List Text) (laws : 
   pub keeps : (k : Key S) (xs : List (Part K)) → plan w k ≡ these xs → (x : Part K) → Contains xs x → (m : K) (requests : List Request) (absorbed : List Text) → x.form ≡ keyword m requests absorbed
       → KeepsLaws w.keywords m absorbed
   keeps k xs is_plan x in_xs m requests absorbed is_form =
-      let forms : EachForm (Absorbing w absorbs) xs = subst (PlanForms (Absorbing w absorbs)) is_plan (absorbing w absorbs makers k (schema_of w k)) in
-      let e : absorbed ≡ absorbs m = subst (Absorbing w absorbs) is_form (each_form (Absorbing w absorbs) xs forms x in_xs) in
-      subst (KeepsLaws w.keywords m) (sym e) (laws m)
+      subst (KeepsLaws w.keywords m) (sym (absorbs_its w absorbs makers k xs is_plan x in_xs m requests absorbed is_form)) (laws m)
 
   -- each error of what is answered leads, after these locations
   abbrev pub AllLead : List (Option Text) → Outcome → Type 0

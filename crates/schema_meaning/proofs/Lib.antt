@@ -39,6 +39,7 @@ mod PlanForms
 pub mod WholeNumbers
 pub mod ErrorsLead
 pub mod NodeErrorsLead
+pub mod UnitsLead
 pub mod ShownPlaces
 pub mod ListedLead
 pub mod WorkedRows

@@ -16,6 +16,7 @@ pub mod Members
 pub mod Promises
 pub mod Deciding
 pub mod ErrorsLead
+pub mod UnitsLead
 pub mod RowsBench
 pub mod Rows
 pub mod RowsFused

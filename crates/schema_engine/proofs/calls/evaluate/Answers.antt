@@ -1,8 +1,12 @@
+use Rattle.std.specs.Prelude.{Bool}
 use Rattle.std.proofs.lemmas.Result.{err_from_is_err_and}
 use Rattle.serde_json.specs.View.{view}
 use Rattle.schema_keywords.specs.KeywordTable.{builtin_in}
+use Rattle.schema_meaning.specs.ErrorsLead.{EachKeepsAbsorbing}
+use Rattle.schema_meaning.proofs.TurnsGiveRuns.{keeps_of_turns}
 use Rattle.schema_engine.specs.Evaluated.{EvaluationAnswered, UnitsAnswered}
 use Rattle.schema_engine.specs.Handed.{default_options, table_of}
+use Rattle.schema_engine.proofs.Pointing.{evaluation_points}
 use Rattle.schema_engine.proofs.PlainAnswers.{plainly_from, plainly_with_units}
 use Rattle.schema_engine.proofs.calls.evaluate.Goals as goal
 
@@ -30,6 +34,21 @@ returns-clause-guarded g c = (c.in_ok-validator.validator, c.in_ok-validator.ens
 
 pub returns-clause-units : goal.returns-clause-units
 returns-clause-units g c = (c.in_ok-validator.validator, c.in_ok-validator.ensures.program, c.in_ok-answer.ensures.units)
+
+pub returns-clause-leads : goal.returns-clause-leads
+returns-clause-leads g c =
+    let r = g.S.Resolver.resolving c.args.resolver.now in
+    let table = table_of (g.T.KeywordTable.owned c.args.table.now) builtin_in (g.T.KeywordTable.script c.args.table.now) in
+    let m = g.M.Matcher.matching c.args.matcher.now in
+    let k = g.K.Validate in
+    let built = c.in_ok-validator.ensures in
+    let each : (texts : Bool) → EachKeepsAbsorbing (k.words texts) k.absorbed =
+    λ texts s. keeps_of_turns (k.words texts) s (k.absorbed s) (k.remaining s) (k.can_be texts s) (k.ends texts s) (k.fits texts s) (g.met.K.Validate.turn_laws texts s) (g.met.K.Validate.function_laws texts s) in (
+      c.in_ok-validator.validator,
+      built.program,
+      evaluation_points r table m k.words default_options (view c.args.schema.now) k.shape g.M.Matcher.matching c.in_ok-validator.validator k.is_whole built.means built.points
+          (view c.args.instance.now) k.absorbed each (g.met.T.KeywordTable.right c.args.table.now) built.program c.in_ok-answer.field-0 c.in_ok-answer.ensures.depth c.in_ok-answer.ensures.units,
+    )
 
 pub returns-in_err-validator-clause-refused : goal.returns-in_err-validator-clause-refused
 returns-in_err-validator-clause-refused g c =
