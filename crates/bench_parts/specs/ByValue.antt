@@ -93,7 +93,7 @@ module _ {K : Type 0} (absorbed : K → List Text) (is_whole : K → Bool) where
   member_rightly owner name d here (member_is.Keyword m c) right = asked_rightly owner (a_keyword m []) (right.0, (λ h. right.1 (member_whole name owner d here h)), tt)
       (children_of c name d) (children_lie_below c name d)
   member_rightly owner name d here member_is.Nothing right = tt
-  member_rightly owner name d here member_is.Malformed right = tt
+  member_rightly owner name d here member_is.Malformed right = λ h. refl
 
   module _ (made : Text → Data → MemberKeyword K) (right : (name : Text) (d : Data) → IsRightMember absorbed is_whole d (made name d)) where
     found_rightly : (owner : Members) (name : Text) (o : Option Data) → get_member name owner ≡ o → MakesRightly absorbed is_whole owner (script_at made name o)

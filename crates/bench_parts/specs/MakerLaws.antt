@@ -51,7 +51,7 @@ IsWholeIf None = Unit {0}
 IsWholeIf (Some m) = is_whole m ≡ true
 
 made_rightly : (owner : Members) (name : Text) (d : Data) (m : Option BenchShape) → IsWholeIf m → Rightly owner (makes_if name d m)
-made_rightly owner name d None w = tt
+made_rightly owner name d None w = λ h. refl
 made_rightly owner name d (Some m) w = (refl, (λ h. w), tt)
 
 type_whole : (o : Option TypeName) → IsWholeIf (option_map has_type o)
@@ -96,11 +96,11 @@ count_whole kind (Some n) = refl
 
 properties_rightly : (owner : Members) (name : Text) (d : Data) → Rightly owner (properties_script name d)
 properties_rightly owner name (object ms) = asked_rightly owner name (names_of ms) (has_properties (names_of ms)) refl
-properties_rightly owner name null = tt
-properties_rightly owner name (boolean b) = tt
-properties_rightly owner name (number n) = tt
-properties_rightly owner name (string t) = tt
-properties_rightly owner name (array ds) = tt
+properties_rightly owner name null = λ h. refl
+properties_rightly owner name (boolean b) = λ h. refl
+properties_rightly owner name (number n) = λ h. refl
+properties_rightly owner name (string t) = λ h. refl
+properties_rightly owner name (array ds) = λ h. refl
 
 items_rightly : (owner : Members) (name : Text) (i : ℕ) (ds : Items) (m : BenchShape) → is_whole m ≡ true → Rightly owner (asks_for (items_from name i ds) (a_keyword m []))
 items_rightly owner name i no_items m w = (refl, (λ h. w), tt)
@@ -108,11 +108,11 @@ items_rightly owner name i (item d ds) m w = (tt, items_rightly owner name (i + 
 
 list_rightly : (owner : Members) (shape : ℕ → BenchShape) (name : Text) (d : Data) → ((n : ℕ) → is_whole (shape n) ≡ true) → Rightly owner (list_script shape name d)
 list_rightly owner shape name (array ds) w = items_rightly owner name 0 ds (shape (items_count ds)) (w (items_count ds))
-list_rightly owner shape name null w = tt
-list_rightly owner shape name (boolean b) w = tt
-list_rightly owner shape name (number n) w = tt
-list_rightly owner shape name (string t) w = tt
-list_rightly owner shape name (object ms) w = tt
+list_rightly owner shape name null w = λ h. refl
+list_rightly owner shape name (boolean b) w = λ h. refl
+list_rightly owner shape name (number n) w = λ h. refl
+list_rightly owner shape name (string t) w = λ h. refl
+list_rightly owner shape name (object ms) w = λ h. refl
 
 one_of : (owner : Members) (b : Bool) (x y : Script BenchShape) → Rightly owner x → Rightly owner y → Rightly owner (if b then x else y)
 one_of owner true x y p q = p

@@ -1,5 +1,5 @@
 -- The code's makers, as the definitions have them.
-use Rattle.std.specs.Prelude.{option_map, [], ℕ}
+use Rattle.std.specs.Prelude.{option_map, [], true, ℕ}
 use Rattle.schema_definitions.specs.Making.{Made, a_keyword, nothing, refused}
 use Rattle.schema_reports.specs.ReportViews.{owned_error_of}
 use Rattle.schema_parts.specs.MakerViews.{Waiting}
@@ -15,7 +15,7 @@ use Rattle.bench_parts.specs.declared.table.maker.PathsMaker.{PathsMaker}
 abbrev pub made_of : {C K : Type 0} → (C → K) → Ending C → Made K
 made_of shape (ending.Keyword k) = a_keyword (shape k) []
 made_of shape ending.Nothing = nothing
-made_of shape (ending.Refused e) = refused (owned_error_of e)
+made_of shape (ending.Refused e) = refused true (owned_error_of e)
 
 -- what a keyword with a list of schemas is, by how many there are
 abbrev pub list_shape : ListKeyword → ℕ → BenchShape

@@ -40,7 +40,7 @@ malformed_error name d = record {
 }
 
 abbrev pub malformed : {K : Type 0} → Text → Data → Script K
-malformed name d = then_end (refused (malformed_error name d))
+malformed name d = then_end (refused true (malformed_error name d))
 
 abbrev pub makes_if : Text → Data → Option BenchShape → Script BenchShape
 makes_if name d None = malformed name d

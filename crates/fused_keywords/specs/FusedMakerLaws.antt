@@ -41,7 +41,7 @@ followed_among f is_self (then_end m) = refl
 made_rightly : (owner : Members) (m : Made BenchShape) → MakesRightly none_absorbed is_whole owner (then_end m) → Rightly owner (then_end (made_among of_bench m))
 made_rightly owner (a_keyword m names) h = h
 made_rightly owner nothing h = tt
-made_rightly owner (refused e) h = tt
+made_rightly owner (refused told e) h = h
 
 among_rightly : (owner : Members) (s : Script BenchShape) → MakesRightly none_absorbed is_whole owner s → Rightly owner (script_among of_bench s)
 among_rightly owner (then_compile path s) h = (h.0, among_rightly owner s h.1)

@@ -23,7 +23,7 @@ use Rattle.fused_keywords.specs.declared.array.ArrayKeyword.TheVariants.{ArraySh
 abbrev pub made_among : {A B : Type 0} → (A → B) → Made A → Made B
 made_among f (a_keyword m names) = a_keyword (f m) names
 made_among f nothing = nothing
-made_among f (refused e) = refused e
+made_among f (refused told e) = refused told e
 
 abbrev pub script_among : {A B : Type 0} → (A → B) → Script A → Script B
 script_among f (then_compile path s) = then_compile path (script_among f s)

@@ -7,3 +7,4 @@ pub mod Marking
 pub mod Items
 pub mod ItemsWords
 pub mod ItemsTable
+pub mod PrintingTable

@@ -1,6 +1,6 @@
 //! Keyword types that keep the laws, as a test of the laws: one whose run has no state at all, one whose run counts what is left of
 //! a length that it stores as it begins, one that marks its children and skips one that is marked already, and one that asks its child
-//! and drops what is replied.
+//! and drops what is replied; and a table that refuses with the text of a value that may hold a fraction.
 #![tactic(auto)]
 
 pub mod both_once;
@@ -9,5 +9,6 @@ pub mod in_vain;
 pub mod items;
 pub mod items_table;
 pub mod marking;
+pub mod printing_table;
 pub mod refusals;
 pub mod refusing;

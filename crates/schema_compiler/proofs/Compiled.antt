@@ -118,7 +118,7 @@ module _ {S K R : Type 0} (w : Parts S K R) where
   refuses_root limit root (NotASchema l) h = stands_too h
   refuses_root limit root (ReferenceNotText l) h = stands_too h
   refuses_root limit root (Lookup t) h = stands_too h
-  refuses_root limit root (KeywordRefused x) h = stands_too h
+  refuses_root limit root (KeywordRefused x) h = (h.0, stands_too h.1)
   refuses_root limit root (UnsupportedVocabulary u) h = stands_too h
   refuses_root limit root (MetaSchema x) h = h
   refuses_root limit root (MissingRoot u) h = h
@@ -161,7 +161,7 @@ module _ {S K R : Type 0} (resolver : Resolver S) (table : Table K) (formats : O
   refuses_alone law limit root (NotASchema l) h = below_stands root _ h
   refuses_alone law limit root (ReferenceNotText l) h = below_stands root _ h
   refuses_alone law limit root (Lookup t) h = below_stands root _ h
-  refuses_alone law limit root (KeywordRefused x) h = below_stands root _ h
+  refuses_alone law limit root (KeywordRefused x) h = (h.0, below_stands root _ h.1)
   refuses_alone law limit root (UnsupportedVocabulary u) h = below_stands root _ h
   refuses_alone law limit root (MetaSchema x) h = h
   refuses_alone law limit root (MissingRoot u) h = h
@@ -174,7 +174,7 @@ module _ {S K R : Type 0} (resolver : Resolver S) (table : Table K) (formats : O
   vocabulary_refuses root (NotASchema l) h = unsupported w root.target.vocabularies _ h
   vocabulary_refuses root (ReferenceNotText l) h = unsupported w root.target.vocabularies _ h
   vocabulary_refuses root (Lookup t) h = unsupported w root.target.vocabularies _ h
-  vocabulary_refuses root (KeywordRefused x) h = unsupported w root.target.vocabularies _ h
+  vocabulary_refuses root (KeywordRefused x) h = unsupported w root.target.vocabularies _ h.1
   vocabulary_refuses root (UnsupportedVocabulary u) h = contains_of _ _ h
   vocabulary_refuses root (MetaSchema x) h = h
   vocabulary_refuses root (MissingRoot u) h = h

@@ -32,7 +32,7 @@ module _ {S : Type 0} (limit : ℕ) where
   refusal_map P Q C D keys keys' added f g is each (NotASchema l) h = g _ h
   refusal_map P Q C D keys keys' added f g is each (ReferenceNotText l) h = g _ h
   refusal_map P Q C D keys keys' added f g is each (Lookup t) h = g _ h
-  refusal_map P Q C D keys keys' added f g is each (KeywordRefused x) h = g _ h
+  refusal_map P Q C D keys keys' added f g is each (KeywordRefused x) h = (h.0, g _ h.1)
   refusal_map P Q C D keys keys' added f g is each (UnsupportedVocabulary u) h = g _ h
   refusal_map P Q C D keys keys' added f g is each (MetaSchema x) h = h
   refusal_map P Q C D keys keys' added f g is each (MissingRoot u) h = h
@@ -87,7 +87,7 @@ module _ {S K R : Type 0} (w : Parts S K R) where
   names_refused limit es cs keys (NotASchema l) h = inl (inl h)
   names_refused limit es cs keys (ReferenceNotText l) h = inl (inl h)
   names_refused limit es cs keys (Lookup t) h = inl (inl h)
-  names_refused limit es cs keys (KeywordRefused x) h = inl (inl h)
+  names_refused limit es cs keys (KeywordRefused x) h = (h.0, inl (inl h.1))
   names_refused limit es cs keys (UnsupportedVocabulary u) h = inl (inl h)
   names_refused limit es cs keys (MetaSchema x) h = absurd h
   names_refused limit es cs keys (MissingRoot u) h = absurd h
@@ -100,7 +100,7 @@ module _ {S K R : Type 0} (w : Parts S K R) where
   vocabulary_refused limit edge cs keys (NotASchema l) r h = inl (inr (edge, inl refl, r, h))
   vocabulary_refused limit edge cs keys (ReferenceNotText l) r h = inl (inr (edge, inl refl, r, h))
   vocabulary_refused limit edge cs keys (Lookup t) r h = inl (inr (edge, inl refl, r, h))
-  vocabulary_refused limit edge cs keys (KeywordRefused x) r h = inl (inr (edge, inl refl, r, h))
+  vocabulary_refused limit edge cs keys (KeywordRefused x) r h = (h.0, inl (inr (edge, inl refl, r, h.1)))
   vocabulary_refused limit edge cs keys (UnsupportedVocabulary u) r h = inl (inr (edge, inl refl, r, h))
   vocabulary_refused limit edge cs keys (MetaSchema x) r h = absurd h
   vocabulary_refused limit edge cs keys (MissingRoot u) r h = absurd h

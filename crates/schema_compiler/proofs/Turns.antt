@@ -1,5 +1,5 @@
 -- How a maker's turns are followed, and what it has asked for so far.
-use Rattle.std.proofs.Common.{◌≡◌, ◌<◌, arith, ℕ, suc, max, Bool, cond, List, [], ◌∷◌, ◌++◌, length, map, refl, ap, sym, ◌∙◌, ◌⊎◌, ⊎_elim, subst, append_assoc}
+use Rattle.std.proofs.Common.{◌≡◌, ◌<◌, arith, ℕ, suc, max, Bool, cond, List, [], ◌∷◌, ◌++◌, length, map, refl, ap, sym, ◌∙◌, ◌⊎◌, ⊎_elim, inl, subst, append_assoc}
 use Rattle.std.specs.Prelude.{Option, Some, None, String, string_bytes, filter_map, flat_map, Vec}
 use Rattle.std.specs.declared.alloc.Global.{Global}
 use Rattle.std.proofs.lemmas.List.{append-nil}
@@ -10,9 +10,13 @@ use Rattle.schema_definitions.specs.Plan.{Edge, Key, found, is_self, part_made, 
 use Rattle.schema_meaning.specs.Reach.{maker_edges}
 use Rattle.schema_definitions.specs.Units.{absorbed_by}
 use Rattle.schema_keys.specs.declared.error.BuildError.{BuildError}
+use Rattle.schema_keys.specs.declared.error.BuildError.TheVariants.{KeywordRefused}
 use Rattle.schema_keys.specs.Refusing.{Refused}
 use Rattle.schema_compiler.proofs.References.{asked_not_self, leads_none, leads_some, skipped_self}
-use Rattle.schema_meaning.specs.Refusals.{Cause, end_causes, lookup_causes, maker_causes, request_causes}
+use Rattle.schema_meaning.specs.Refusals.{Cause, end_causes, keyword_refused, lookup_causes, maker_causes, request_causes}
+use Rattle.schema_keys.proofs.Lists.{in_right}
+use Rattle.schema_definitions.specs.Reports as reports
+use Rattle.schema_definitions.specs.Reports.{told_error}
 use Rattle.schema_reports.specs.ReportViews.{owned_error_of}
 use Rattle.schema_reports.specs.declared.reports.OwnedError.{OwnedError}
 use Rattle.schema_definitions.specs.Guarded.{Children, NodeEdge, form_edges, node_keyword}
@@ -114,7 +118,7 @@ module _ {C K : Type 0} (shape : C → K) where
   compile_step n (then_reserve purpose u) p w h = absurd h
   compile_step n (then_end (a_keyword m' absorbed)) p w h = absurd h
   compile_step n (then_end nothing) p w h = absurd h
-  compile_step n (then_end (refused x)) p w h = absurd h
+  compile_step n (then_end (refused told x)) p w h = absurd h
 
   pub refer_step : (n : ℕ) (s : Script K) (t : String Global) (w : Waiting K) → IsStepOf shape n s (Refer t) w
       → (next : Script K) × (skipped : Script K) × (s ≡ then_refer (string_bytes t) next skipped) × (w ≡ waits n next skipped)
@@ -124,7 +128,7 @@ module _ {C K : Type 0} (shape : C → K) where
   refer_step n (then_reserve purpose u) t' w h = absurd h
   refer_step n (then_end (a_keyword m' absorbed)) t' w h = absurd h
   refer_step n (then_end nothing) t' w h = absurd h
-  refer_step n (then_end (refused x)) t' w h = absurd h
+  refer_step n (then_end (refused told x)) t' w h = absurd h
 
   -- after a reference was asked for, there are fewer turns to come
   pub fewer_refer : (waiting waiting' : Waiting K) (told told' : Told) (n : ℕ) (text : String Global) (o : Option NodeEdge) (m : ℕ) → IsDue waiting told n → TakesTurn shape waiting told (Refer text) waiting' → told' ≡ answers o m
@@ -148,7 +152,7 @@ module _ {C K : Type 0} (shape : C → K) where
   pending_step n (then_reserve purpose u) kind w h = absurd h
   pending_step n (then_end (a_keyword m' absorbed)) kind w h = absurd h
   pending_step n (then_end nothing) kind w h = absurd h
-  pending_step n (then_end (refused x)) kind w h = absurd h
+  pending_step n (then_end (refused told x)) kind w h = absurd h
 
   pub reserve_step : (n : ℕ) (s : Script K) (kind : PendingKind) (w : Waiting K) → IsStepOf shape n s (Reserve kind) w → (next : Script K) × (s ≡ then_reserve (purpose_of kind) next) × (w ≡ wants_reserved n next)
   reserve_step n (then_reserve purpose u) kind w h = (u, ap (λ q. then_reserve q u) (sym h.0), h.1)
@@ -157,7 +161,7 @@ module _ {C K : Type 0} (shape : C → K) where
   reserve_step n (then_pending purpose u v) kind w h = absurd h
   reserve_step n (then_end (a_keyword m' absorbed)) kind w h = absurd h
   reserve_step n (then_end nothing) kind w h = absurd h
-  reserve_step n (then_end (refused x)) kind w h = absurd h
+  reserve_step n (then_end (refused told x)) kind w h = absurd h
 
   pub keyword_step : (n : ℕ) (s : Script K) (k : C) (names : Vec (String Global) Global) (w : Waiting K) → IsStepOf shape n s (Keyword k names) w → s ≡ then_end (a_keyword (shape k) (map string_bytes names.items))
   keyword_step n (then_end (a_keyword m' absorbed)) k names w h = ap then_end (ap (λ q. a_keyword q absorbed) (sym h.0) ∙ ap (a_keyword (shape k)) (sym h.1))
@@ -166,7 +170,7 @@ module _ {C K : Type 0} (shape : C → K) where
   keyword_step n (then_pending purpose u v) k names w h = absurd h
   keyword_step n (then_reserve purpose u) k names w h = absurd h
   keyword_step n (then_end nothing) k names w h = absurd h
-  keyword_step n (then_end (refused x)) k names w h = absurd h
+  keyword_step n (then_end (refused told x)) k names w h = absurd h
 
   pub nothing_step : (n : ℕ) (s : Script K) (w : Waiting K) → IsStepOf shape n s Nothing w → s ≡ then_end nothing
   nothing_step n (then_end nothing) w h = refl
@@ -175,10 +179,11 @@ module _ {C K : Type 0} (shape : C → K) where
   nothing_step n (then_pending purpose u v) w h = absurd h
   nothing_step n (then_reserve purpose u) w h = absurd h
   nothing_step n (then_end (a_keyword m' absorbed)) w h = absurd h
-  nothing_step n (then_end (refused x)) w h = absurd h
+  nothing_step n (then_end (refused told x)) w h = absurd h
 
-  pub refuse_step : (n : ℕ) (s : Script K) (e : OwnedError) (w : Waiting K) → IsStepOf shape n s (Refuse e) w → s ≡ then_end (refused (owned_error_of e))
-  refuse_step n (then_end (refused x)) e w h = ap (λ q. then_end (refused q)) (sym h)
+  refuse_step : (n : ℕ) (s : Script K) (e : OwnedError) (w : Waiting K) → IsStepOf shape n s (Refuse e) w
+      → (told : Bool) × (error : reports.OwnedError) × (s ≡ then_end (refused told error)) × (told_error told (owned_error_of e) ≡ told_error told error)
+  refuse_step n (then_end (refused told x)) e w h = (told, x, refl, h)
   refuse_step n (then_compile path t) e w h = absurd h
   refuse_step n (then_refer text u v) e w h = absurd h
   refuse_step n (then_pending purpose u v) e w h = absurd h
@@ -444,3 +449,11 @@ module _ {S K C : Type 0} (w : Parts S K (Unit {0})) (shape : C → K) (limit ne
   refer_refused making waiting waiting' told es keys keys' nodes nodes' text e a takes h =
       let st = refer_step shape (length a.requests) (resumed waiting told) text waiting' (due_step shape waiting told (length a.requests) (Refer text) waiting' a.due takes) in
       ask_refused making waiting told es keys keys' nodes nodes' (refer (string_bytes text)) _ e a (ap (λ s. followed (is_self w k to_ref) s) st.2) h
+
+  pub maker_refused : (making : Making K) (waiting waiting' : Waiting K) (told : Told) (es : Children) (keys keys' : List (Key S)) (nodes nodes' : List (NodeEntry C)) {t t' : Table S C} (error : OwnedError)
+      → Asked making waiting told es keys keys' nodes nodes' t t' → TakesTurn shape waiting told (Refuse error) waiting'
+      → Refused w limit (maker_edges w k name making) (maker_causes w k making) keys (KeywordRefused error)
+  maker_refused making waiting waiting' told es keys keys' nodes nodes' error a takes =
+      let st = refuse_step shape (length a.requests) (resumed waiting told) error waiting' (due_step shape waiting told (length a.requests) (Refuse error) waiting' a.due takes) in
+      subst (λ f. Refused w limit (maker_edges w k name f) (maker_causes w k f) keys (KeywordRefused error)) (sym (ended_by making waiting told es keys keys' nodes nodes' (refused st.0 st.1) a st.2))
+      (st.0, inl (inl (in_right (causes_of a.requests) (keyword_refused st.0 (told_error st.0 st.1) ∷ []) _ (inl (ap (keyword_refused st.0) (sym st.3))))))

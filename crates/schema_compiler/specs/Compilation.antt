@@ -9,6 +9,7 @@ use Rattle.schema_definitions.specs.Matching.{Matcher}
 use Rattle.schema_definitions.specs.Making.{Table}
 use Rattle.schema_definitions.specs.Keywords.{Keywords}
 use Rattle.schema_definitions.specs.Parts.{Parts}
+use Rattle.schema_definitions.specs.Reports.{told_error}
 use Rattle.schema_definitions.specs.Plan.{Key}
 use Rattle.schema_meaning.specs.Reach.{Reached, ReachesMoreThan}
 use Rattle.schema_meaning.specs.MapPointers.{StandsBelow}
@@ -68,7 +69,7 @@ module _ {S K R : Type 0} (w : Parts S K R) where
   RefusesBy stands limit root (NotASchema location) = stands (not_a_schema location)
   RefusesBy stands limit root (ReferenceNotText location) = stands (reference_not_text location)
   RefusesBy stands limit root (Lookup text) = stands (lookup_refuses (string_bytes text))
-  RefusesBy stands limit root (KeywordRefused error) = stands (keyword_refused (owned_error_of error))
+  RefusesBy stands limit root (KeywordRefused error) = (told : Bool) × stands (keyword_refused told (told_error told (owned_error_of error)))
   RefusesBy stands limit root (UnsupportedVocabulary uri) = stands (unsupported_vocabulary (string_bytes uri))
   RefusesBy stands limit root (MetaSchema error) = ⊥
   RefusesBy stands limit root (MissingRoot uri) = ⊥

@@ -11,11 +11,11 @@ pub data Request : Type 0 where
   compile : Place → Request
   refer : Text → Request
 
--- how a maker ends
+-- how a maker ends; a refusal says whether its text is told
 pub data Made (K : Type 0) : Type 0 where
   a_keyword : K → List Text → Made K
   nothing : Made K
-  refused : OwnedError → Made K
+  refused : Bool → OwnedError → Made K
 
 -- what a maker reserves a number for
 pub data Purpose : Type 0 where

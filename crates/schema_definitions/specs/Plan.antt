@@ -228,7 +228,7 @@ module _ {S K R : Type 0} (w : Parts S K R) where
   making k whole custom name = followed (is_self k to_ref) (w.table.script custom name whole k.target.draft k.target.vocabularies (checks_formats k))
 
   abbrev pub part_made : Text → ℕ → Bool → Making K → Option (Part K)
-  part_made name priority leaf m = elim m.ends [ a_keyword meaning absorbed ↦ Some (record { name = name; priority = priority; is_leaf = leaf; form = keyword meaning m.requests absorbed }) | nothing ↦ None | refused text ↦ None ]
+  part_made name priority leaf m = elim m.ends [ a_keyword meaning absorbed ↦ Some (record { name = name; priority = priority; is_leaf = leaf; form = keyword meaning m.requests absorbed }) | nothing ↦ None | refused told error ↦ None ]
 
   abbrev pub reference_part : Key S → Text → ℕ → Reference → Data → Option (Part K)
   reference_part k name priority kind (string text) = if is_self k kind text then None else Some (record { name = name; priority = priority; is_leaf = false; form = reference kind text })

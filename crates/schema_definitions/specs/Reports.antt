@@ -1,6 +1,6 @@
 -- An error says where the instance and the schema disagree. A unit says of one place of the schema and one of the
 -- instance what its evaluation gave, with the units inside it. (Core 2020-12, 12.3 and 12.4)
-use Rattle.std.specs.Prelude.{Bool, List, Option, [], bytes_eq, true, ◌&&◌, ◌∷◌}
+use Rattle.std.specs.Prelude.{Bool, List, Option, [], bytes_eq, if◌then◌else◌, true, ◌&&◌, ◌∷◌}
 use Rattle.serde_json.specs.Data.{Data}
 use Rattle.schema_definitions.specs.Instance.{Place, Text}
 use Rattle.schema_definitions.specs.Pointer.{pointer_to}
@@ -30,6 +30,10 @@ pub record OwnedError : Type 0 where
   pub absolute : Option Text
   pub name : Text
   pub text : Text
+
+-- the error with its text where that is told, else with an empty one
+abbrev pub told_error : Bool → OwnedError → OwnedError
+told_error told e = record e { text = if told then e.text else [] }
 
 pub record Described : Type 0 where
   pub name : Text

@@ -79,10 +79,10 @@ module _ {S K R : Type 0} (w : Parts S K R) (law : (a b : S) → Decides (w.reso
     memory_alone (NotASchema l) (inr (root, is, stands)) = absurd (no_cause _ root is stands)
     memory_alone (ReferenceNotText l) (inl void) = absurd void
     memory_alone (ReferenceNotText l) (inr (root, is, stands)) = absurd (no_cause _ root is stands)
-    memory_alone (Lookup text) (inl refused) = absurd (has_draft (string_bytes text) refused)
+    memory_alone (Lookup text) (inl refused) = absurd (has_draft refused.0 refused.1)
     memory_alone (Lookup text) (inr (root, is, stands)) = absurd (no_cause _ root is stands)
     memory_alone (KeywordRefused x) (inl void) = absurd void
-    memory_alone (KeywordRefused x) (inr (root, is, stands)) = absurd (no_cause _ root is stands)
+    memory_alone (KeywordRefused x) (inr (root, is, (told, stands))) = absurd (no_cause _ root is stands)
     memory_alone (UnsupportedVocabulary uri) (inl void) = absurd void
     memory_alone (UnsupportedVocabulary uri) (inr (root, is, stands)) = absurd (no_cause _ root is stands)
     memory_alone (MetaSchema x) (inl void) = absurd void

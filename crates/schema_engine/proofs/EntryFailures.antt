@@ -50,7 +50,7 @@ module _ {S K R : Type 0} (w : Parts S K R) (root : Key S) where
   refused_refutes path c key is limit (NotASchema l) of h = cause_refutes path c key is _ h
   refused_refutes path c key is limit (ReferenceNotText l) of h = cause_refutes path c key is _ h
   refused_refutes path c key is limit (Lookup t) of h = cause_refutes path c key is _ h
-  refused_refutes path c key is limit (KeywordRefused x) of h = cause_refutes path c key is _ h
+  refused_refutes path c key is limit (KeywordRefused x) of h = cause_refutes path c key is _ h.1
   refused_refutes path c key is limit (UnsupportedVocabulary u) of h = cause_refutes path c key is _ h
   refused_refutes path c key is limit (MetaSchema x) of h = h
   refused_refutes path c key is limit (MissingRoot u) of h = h

@@ -1,7 +1,8 @@
 -- The key of a schema's root, as options, schema and resolver give it; and why a schema is refused. (Core 2020-12, 4.3.5
 -- and 9.1.1)
-use Rattle.std.specs.Prelude.{List, None, Ok, Err, Some, length, string_bytes, ◌≡◌, ◌⊎◌, ◌≤◌, ℕ}
+use Rattle.std.specs.Prelude.{List, None, Ok, Err, Some, false, length, string_bytes, ◌≡◌, ◌⊎◌, ◌≤◌, ℕ}
 use Rattle.serde_json.specs.Data.{Data}
+use Rattle.serde_json.specs.Written.{has_float}
 use Rattle.schema_definitions.specs.Instance.{Text}
 use Rattle.schema_definitions.specs.Drafts.{Draft}
 use Rattle.schema_definitions.specs.Resolving.{Entrance, Resolver}
@@ -46,11 +47,11 @@ module _ {S K R : Type 0} (w : Parts S K R) (schema : Data) where
     pub reach : IsReach w root keys
     pub within : length keys ≤ limit
 
-  -- why a schema's root has no key; want of memory says nothing
+  -- why a schema's root has no key; the text is the resolver's where the schema holds no fraction; want of memory says nothing
   abbrev pub RefusesKey : BuildError → Type 0
   RefusesKey (NotASchema location) = ⊥
   RefusesKey (ReferenceNotText location) = ⊥
-  RefusesKey (Lookup text) = root_draft w schema ≡ Err (string_bytes text)
+  RefusesKey (Lookup text) = (shown : Text) × (root_draft w schema ≡ Err shown) × (has_float schema ≡ false → string_bytes text ≡ shown)
   RefusesKey (KeywordRefused error) = ⊥
   RefusesKey (UnsupportedVocabulary uri) = ⊥
   RefusesKey (MetaSchema error) = ⊥

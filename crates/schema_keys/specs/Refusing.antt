@@ -1,6 +1,7 @@
 -- What a refusal of the compiler says: a cause that stands, or more keys than the limit.
-use Rattle.std.specs.Prelude.{List, None, Option, Some, codes, length, slice_get, string_bytes, ℕ, ◌++◌, ◌<◌, ◌≡◌}
+use Rattle.std.specs.Prelude.{Bool, List, None, Option, Some, codes, length, slice_get, string_bytes, ℕ, ◌++◌, ◌<◌, ◌≡◌}
 use Rattle.schema_definitions.specs.Parts.{Parts}
+use Rattle.schema_definitions.specs.Reports.{told_error}
 use Rattle.schema_definitions.specs.Plan.{Edge, Key}
 use Rattle.schema_meaning.specs.Refusals.{Cause, keyword_refused, lookup_refuses, not_a_schema, reference_not_text, unsupported_vocabulary}
 use Rattle.schema_reports.specs.ReportViews.{owned_error_of}
@@ -46,12 +47,12 @@ AreDistinct {S} keys = (i j : ℕ) (k : Key S) → slice_get keys i ≡ Some k �
 abbrev pub OverLimit : {S : Type 0} → ℕ → List (Key S) → (Key S → Type 0) → Type 0
 OverLimit {S} limit keys P = (ks : List (Key S)) × Each P ks × AreDistinct (keys ++ ks) × (limit < length (keys ++ ks))
 
--- a refusal shows a cause for which C holds; want of memory says nothing
+-- a refusal shows a cause for which C holds, a table's its text where it is told; want of memory says nothing
 abbrev pub IsRefusal : {S : Type 0} → ℕ → List (Key S) → (Key S → Type 0) → (Cause → Type 0) → BuildError → Type 0
 IsRefusal limit keys P C (NotASchema location) = C (not_a_schema location)
 IsRefusal limit keys P C (ReferenceNotText location) = C (reference_not_text location)
 IsRefusal limit keys P C (Lookup text) = C (lookup_refuses (string_bytes text))
-IsRefusal limit keys P C (KeywordRefused error) = C (keyword_refused (owned_error_of error))
+IsRefusal limit keys P C (KeywordRefused error) = (told : Bool) × C (keyword_refused told (told_error told (owned_error_of error)))
 IsRefusal limit keys P C (UnsupportedVocabulary uri) = C (unsupported_vocabulary (string_bytes uri))
 IsRefusal limit keys P C (MetaSchema error) = ⊥
 IsRefusal limit keys P C (MissingRoot uri) = ⊥
@@ -67,7 +68,7 @@ abbrev pub Names : List Cause → BuildError → Type 0
 Names cs (NotASchema location) = In cs (not_a_schema location)
 Names cs (ReferenceNotText location) = In cs (reference_not_text location)
 Names cs (Lookup text) = In cs (lookup_refuses (string_bytes text))
-Names cs (KeywordRefused error) = In cs (keyword_refused (owned_error_of error))
+Names cs (KeywordRefused error) = (told : Bool) × In cs (keyword_refused told (told_error told (owned_error_of error)))
 Names cs (UnsupportedVocabulary uri) = In cs (unsupported_vocabulary (string_bytes uri))
 Names cs (MetaSchema error) = ⊥
 Names cs (MissingRoot uri) = ⊥

@@ -48,10 +48,10 @@ module _ {S K R : Type 0} (w : Parts S K R) (values : ValuesInside w) (makers : 
   unfolding FormBelow
   made_below name n leaf m h = go m.ends
     where
-      go : (e : Made K) → OptionBelow (elim e [ a_keyword meaning absorbed ↦ Some (record { name = name; priority = n; is_leaf = leaf; form = keyword meaning m.requests absorbed }) | nothing ↦ None | refused text ↦ None ])
+      go : (e : Made K) → OptionBelow (elim e [ a_keyword meaning absorbed ↦ Some (record { name = name; priority = n; is_leaf = leaf; form = keyword meaning m.requests absorbed }) | nothing ↦ None | refused told error ↦ None ])
       go (a_keyword meaning absorbed) = h
       go nothing = tt
-      go (refused text) = tt
+      go (refused told error) = tt
 
   reference_below : (k : Key S) (name : Text) (n : ℕ) (kind : Reference) (value : Data) → OptionBelow (reference_part w k name n kind value)
   unfolding FormBelow

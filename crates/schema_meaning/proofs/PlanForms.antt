@@ -45,10 +45,10 @@ module _ {S K R : Type 0} (w : Parts S K R) (k : Key S) (whole : Members) (P : F
   made_form custom name n leaf = go (making w k whole custom name).ends (makes custom name)
     where
       go : (e : Made K) → ((m : K) (absorbed : List Text) → e ≡ a_keyword m absorbed → P (keyword m (making w k whole custom name).requests absorbed))
-          → OptionForm (elim e [ a_keyword meaning absorbed ↦ Some (record { name = name; priority = n; is_leaf = leaf; form = keyword meaning (making w k whole custom name).requests absorbed }) | nothing ↦ None | refused text ↦ None ])
+          → OptionForm (elim e [ a_keyword meaning absorbed ↦ Some (record { name = name; priority = n; is_leaf = leaf; form = keyword meaning (making w k whole custom name).requests absorbed }) | nothing ↦ None | refused told error ↦ None ])
       go (a_keyword meaning absorbed) f = f meaning absorbed refl
       go nothing f = tt
-      go (refused text) f = tt
+      go (refused told error) f = tt
 
   reference_form : (name : Text) (n : ℕ) (kind : Reference) (value : Data) → OptionForm (reference_part w k name n kind value)
   reference_form name n kind (string text) = go (is_self w k kind text)

@@ -64,10 +64,10 @@ module _ {S K R : Type 0} (w : Parts S K R) (k : Key S) where
   unfolding In
   made_in name n leaf m = go m.ends
     where
-      go : (e : Made K) → OneIn (maker_edges w k name m) (elim e [ a_keyword meaning absorbed ↦ Some (record { name = name; priority = n; is_leaf = leaf; form = keyword meaning m.requests absorbed }) | nothing ↦ None | refused text ↦ None ])
+      go : (e : Made K) → OneIn (maker_edges w k name m) (elim e [ a_keyword meaning absorbed ↦ Some (record { name = name; priority = n; is_leaf = leaf; form = keyword meaning m.requests absorbed }) | nothing ↦ None | refused told error ↦ None ])
       go (a_keyword meaning absorbed) = λ e c. c
       go nothing = tt
-      go (refused text) = tt
+      go (refused told error) = tt
 
   reference_in : (name : Text) (n : ℕ) (kind : Reference) (value : Data) → OneIn (reference_edges w k name kind value) (reference_part w k name n kind value)
   unfolding In

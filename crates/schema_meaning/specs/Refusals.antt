@@ -1,22 +1,22 @@
 -- Why a schema is refused: the causes that stand for the keys that it reaches.
 use Rattle.std.specs.List.{list_any}
-use Rattle.std.specs.Prelude.{Contains, Err, List, None, Ok, Result, Some, [], bytes_eq, codes, false, flat_map, if◌then◌else◌, true, ◌++◌, ◌∷◌, ◌≡◌}
+use Rattle.std.specs.Prelude.{Bool, Contains, Err, List, None, Ok, Result, Some, [], bytes_eq, codes, false, flat_map, if◌then◌else◌, true, ◌++◌, ◌∷◌, ◌≡◌}
 use Rattle.serde_json.specs.Data.{Data, Members, boolean, member, no_members, object, string}
 use Rattle.schema_definitions.specs.Instance.{Text}
 use Rattle.schema_definitions.specs.Pointer.{joined}
-use Rattle.schema_definitions.specs.Reports.{OwnedError}
+use Rattle.schema_definitions.specs.Reports.{OwnedError, told_error}
 use Rattle.schema_definitions.specs.Drafts.{Vocabulary, custom_vocabulary}
 use Rattle.schema_definitions.specs.Making.{Made, Making, Request, a_keyword, compile, nothing, refer, refused}
 use Rattle.schema_definitions.specs.Parts.{Parts}
 use Rattle.schema_definitions.specs.Plan.{Edge, Key, Reference, found, making, reference_named, schema_at, schema_of, to_ref}
 use Rattle.schema_meaning.specs.Reach.{Reached, asked_edges, lone_ref}
 
--- why a key cannot be compiled, with what the refusal shows
+-- why a key cannot be compiled, with what the refusal shows; of a table's refusal whether its text is told
 pub data Cause : Type 0 where
   not_a_schema : Text → Cause
   reference_not_text : Text → Cause
   lookup_refuses : Text → Cause
-  keyword_refused : OwnedError → Cause
+  keyword_refused : Bool → OwnedError → Cause
   unsupported_vocabulary : Text → Cause
 
 module _ {S K R : Type 0} (w : Parts S K R) where
@@ -27,7 +27,7 @@ module _ {S K R : Type 0} (w : Parts S K R) where
   abbrev pub end_causes : Made K → List Cause
   end_causes (a_keyword m absorbed) = []
   end_causes nothing = []
-  end_causes (refused error) = keyword_refused error ∷ []
+  end_causes (refused told error) = keyword_refused told (told_error told error) ∷ []
 
   abbrev pub request_causes : Key S → Request → List Cause
   request_causes k (compile path) = lookup_causes (w.resolver.in_subresource k.target.state (w.resolver.detect k.target.draft (schema_at w (record k.target.place { path = k.target.place.path ++ path }))) (record k.target.place { path = k.target.place.path ++ path }))

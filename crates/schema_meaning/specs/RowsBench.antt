@@ -215,7 +215,7 @@ gives_word k (path ∷ paths) = then_compile path (gives_word k paths)
 
 -- a value of a shape that the keyword does not take
 abbrev pub no_word : Script Word
-no_word = then_end (refused (record { instance = null; instance_path = []; schema_path = []; evaluation_path = []; absolute = None; name = []; text = codes "shape" }))
+no_word = then_end (refused true (record { instance = null; instance_path = []; schema_path = []; evaluation_path = []; absolute = None; name = []; text = codes "shape" }))
 
 abbrev pub word_made : Text → Data → Script Word
 word_made name (array ds) = if bytes_eq name (codes "allOf") then gives_word (is_all_of (item_count ds)) (item_paths name 0 ds)

@@ -40,7 +40,7 @@ module _ {K : Type 0} (absorbed : K → List Text) (is_whole : K → Bool) (obje
   made_whole : (m : Made K) (k : K) (names : List Text) → IsMade absorbed is_whole object m → m ≡ a_keyword k names → members_have_float object ≡ false → is_whole k ≡ true
   made_whole (a_keyword k' names') k names h e f = let same : k' ≡ k = cc in ap is_whole (sym same) ∙ h.1 f
   made_whole nothing k names h e f = absurd (let g : ⊥ = cc in g)
-  made_whole (refused error) k names h e f = absurd (let g : ⊥ = cc in g)
+  made_whole (refused told error) k names h e f = absurd (let g : ⊥ = cc in g)
 
   -- what is made of an object without fractions is whole
   pub makes_whole : (s : Script K) → MakesRightly absorbed is_whole object s → (k : K) (names : List Text) → (followed is_self s).ends ≡ a_keyword k names → members_have_float object ≡ false → is_whole k ≡ true
@@ -56,7 +56,7 @@ module _ {K : Type 0} (absorbed : K → List Text) (is_whole : K → Bool) (obje
   made_absorbed : (m : Made K) (k : K) (names : List Text) → IsMade absorbed is_whole object m → m ≡ a_keyword k names → names ≡ absorbed k
   made_absorbed (a_keyword k' names') k names h e = let same : k' ≡ k = cc in let list : names' ≡ names = cc in sym list ∙ h.0 ∙ ap absorbed same
   made_absorbed nothing k names h e = absurd (let g : ⊥ = cc in g)
-  made_absorbed (refused error) k names h e = absurd (let g : ⊥ = cc in g)
+  made_absorbed (refused told error) k names h e = absurd (let g : ⊥ = cc in g)
 
   pub makes_absorbed : (s : Script K) → MakesRightly absorbed is_whole object s → (k : K) (names : List Text) → (followed is_self s).ends ≡ a_keyword k names → names ≡ absorbed k
   makes_absorbed (then_compile path s) h k names e = makes_absorbed s h.1 k names e

@@ -4,6 +4,7 @@ use Rattle.serde_json.specs.Data.{Members}
 use Rattle.serde_json.specs.Written.{members_have_float}
 use Rattle.schema_definitions.specs.Instance.{Text, Place, member_of}
 use Rattle.schema_definitions.specs.Making as spec
+use Rattle.schema_definitions.specs.Reports.{told_error}
 use Rattle.schema_reports.specs.ReportViews.{owned_error_of}
 use Rattle.schema_parts.specs.declared.table.KeywordOrigin.{KeywordOrigin}
 use Rattle.schema_parts.specs.declared.table.KeywordOrigin.TheVariants.{Own, Builtin}
@@ -54,7 +55,8 @@ pub data Waiting (K : Type 0) : Type 0 where
   wants_reserved : ℕ → spec.Script K → Waiting K
   ended : Waiting K
 
--- a step is the first of a script whose next request has this number, and what is waited for after it
+-- a step is the first of a script whose next request has this number, and what is waited for after it; a refusal's text is
+-- the script's where the script tells it
 abbrev pub IsStepOf : {C K : Type 0} → (C → K) → ℕ → spec.Script K → MakerStep C → Waiting K → Type 0
 IsStepOf shape n (spec.then_compile path s) (Compile p) w = (p ≡ path) × (w ≡ waits n s s)
 IsStepOf shape n (spec.then_refer text s skipped) (Refer t) w = (string_bytes t ≡ text) × (w ≡ waits n s skipped)
@@ -62,7 +64,7 @@ IsStepOf shape n (spec.then_pending purpose free held) (Pending k) w = (purpose_
 IsStepOf shape n (spec.then_reserve purpose s) (Reserve k) w = (purpose_of k ≡ purpose) × (w ≡ wants_reserved n s)
 IsStepOf shape n (spec.then_end (spec.a_keyword m absorbed)) (Keyword k names) w = (shape k ≡ m) × (map string_bytes names.items ≡ absorbed)
 IsStepOf shape n (spec.then_end spec.nothing) Nothing w = Unit {0}
-IsStepOf shape n (spec.then_end (spec.refused error)) (Refuse e) w = owned_error_of e ≡ error
+IsStepOf shape n (spec.then_end (spec.refused told error)) (Refuse e) w = told_error told (owned_error_of e) ≡ told_error told error
 IsStepOf shape n _ _ w = ⊥
 
 -- a turn whose reply is the one that is due
@@ -85,11 +87,12 @@ abbrev pub AreMembers : Members → List Text → Type 0
 AreMembers object [] = Unit {0}
 AreMembers object (name ∷ names) = (is_some (member_of name object) ≡ true) × AreMembers object names
 
--- a keyword is handed on with the names that it absorbs, which the object has, and is whole where the object holds no fraction
+-- a keyword is handed on with the names that it absorbs, which the object has, and is whole where the object holds no
+-- fraction; a refusal tells its text there
 abbrev pub IsMade : {K : Type 0} → (K → List Text) → (K → Bool) → Members → spec.Made K → Type 0
 IsMade absorbed is_whole object (spec.a_keyword m names) = (names ≡ absorbed m) × (members_have_float object ≡ false → is_whole m ≡ true) × AreMembers object names
 IsMade absorbed is_whole object spec.nothing = Unit {0}
-IsMade absorbed is_whole object (spec.refused e) = Unit {0}
+IsMade absorbed is_whole object (spec.refused told e) = members_have_float object ≡ false → told ≡ true
 
 -- whether a number is pending or none, the same subschemas and references are asked for, and the maker ends alike
 abbrev pub PendingChangesNothing : {K : Type 0} → spec.Script K → spec.Script K → Type 0

@@ -1,8 +1,9 @@
 -- What the code's resolver answers, as the definitions have it.
 use Rattle.std.specs.List.{AllByRecursion}
-use Rattle.std.specs.Prelude.{◌≡◌, ◌∷◌, Option, Some, Result, Err, option_map, string_bytes}
+use Rattle.std.specs.Prelude.{◌≡◌, ◌∷◌, Option, Some, Result, Err, false, option_map, string_bytes}
 use Rattle.serde_json.specs.Data.{Data}
 use Rattle.serde_json.specs.View.{view}
+use Rattle.serde_json.specs.Written.{has_float}
 use Rattle.schema_definitions.specs.Instance.{Text, Place, Step, subject_at, a_value}
 use Rattle.schema_definitions.specs.Drafts as spec
 use Rattle.schema_definitions.specs.Resolving.{Found, Entrance, Resolver}
@@ -38,6 +39,11 @@ found_of point t = record { place = place_of t.place; state = point t.state; dra
 abbrev pub Refuses : {A : Type 0} → Result A Text → LookupError → Type 0
 Refuses r (Refused t) = r ≡ Err (string_bytes t)
 Refuses r OutOfMemory = Unit {0}
+
+-- a refusal over a value: its text is the one that the definitions give it where the value holds no fraction
+abbrev pub RefusesValue : {A : Type 0} → Data → Result A Text → LookupError → Type 0
+RefusesValue value r (Refused t) = (text : Text) × (r ≡ Err text) × (has_float value ≡ false → string_bytes t ≡ text)
+RefusesValue value r OutOfMemory = Unit {0}
 
 -- what stands at a path below a place stands there inside the place's value
 abbrev pub IsInside : {S : Type 0} → Resolver S → Type 0

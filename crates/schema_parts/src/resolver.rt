@@ -6,7 +6,7 @@ ghost use Rattle.serde_json.specs.View.{members_view, view};
 ghost use Rattle.schema_definitions.specs.Drafts as schemas;
 ghost use Rattle.schema_definitions.specs.Resolving as spec;
 ghost use Rattle.schema_keywords.specs.KeywordViews.{draft_of};
-ghost use Rattle.schema_parts.specs.ResolverViews.{place_of, entrance_of, found_of, Refuses, IsInside, SubschemasStandBelow};
+ghost use Rattle.schema_parts.specs.ResolverViews.{place_of, entrance_of, found_of, Refuses, RefusesValue, IsInside, SubschemasStandBelow};
 ghost use Rattle.schema_parts.specs.ResolverViews.{placed_in, placed_of};
 
 use crate::schema_place::{SchemaPath, SchemaPlace};
@@ -188,11 +188,11 @@ pub trait Resolver {
     fn detect(&self, draft: Draft, value: &Value) -> Draft
         ensures draft { draft_of result ≡ (resolving self.now).detect (draft_of draft) (view value.now) };
 
-    /// The draft that a root asks for.
+    /// The draft that a root asks for. Where the root holds a fraction, a refusal may have any text.
     fn draft_for(&self, alloc: Global, value: &Value) -> Result<Draft, LookupError>
         ensures draft { MatchResult result
             (λ d. (resolving self.now).draft_for (view value.now) ≡ Ok (draft_of d))
-            (Refuses ((resolving self.now).draft_for (view value.now))) };
+            (RefusesValue (view value.now) ((resolving self.now).draft_for (view value.now))) };
 
     /// The identifier of a schema.
     fn id<'v>(&self, draft: Draft, value: &'v Value) -> Option<&'v str>

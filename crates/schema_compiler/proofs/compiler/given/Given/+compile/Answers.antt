@@ -38,7 +38,7 @@ use Rattle.schema_compiler.proofs.Answered.{value_says}
 use Rattle.schema_compiler.proofs.References.{asked_refused, compile_clean, reference_clean, self_clean, asked_self, asked_edge, is_answered, is_skipped}
 use Rattle.schema_compiler.proofs.Entries.{all_entries, all_goes, all_steps, so_far_none, so_far_more, member_refused}
 use Rattle.schema_compiler.proofs.Forms.{boolean_goes, boolean_made, object_is, object_stands, other_refused}
-use Rattle.schema_compiler.proofs.Turns.{asked_begun, asked_compile, asked_pending, asked_refer, asked_reserve, asks_alike, compile_refused, fewer_refer, refer_refused, keyword_goes, made_keyword, made_nothing, nothing_goes, absorbed_keyword, absorbed_nothing}
+use Rattle.schema_compiler.proofs.Turns.{asked_begun, asked_compile, asked_pending, asked_refer, asked_reserve, asks_alike, compile_refused, fewer_refer, refer_refused, keyword_goes, made_keyword, maker_refused, made_nothing, nothing_goes, absorbed_keyword, absorbed_nothing}
 use Rattle.schema_compiler.proofs.MembersAsk.{own_is, reference_is, built_is, no_member, lone_is, lone_refused, members_are, members_refused, text_goes, alone_goes, text_refused, other_text_refused, reference_absorbs, reference_made, planned_alone}
 use Rattle.schema_compiler.proofs.Unknown.{made_known, kept_unknown, more_absorbed}
 use Rattle.schema_compiler.proofs.compiler.given.Given.+compile.Goals as goal
@@ -564,6 +564,22 @@ made_entry-returns-in-Nothing g t c =
       nothing_goes s.parts s.shape s.limit s.nested k name making waiting waiting' told es old.keys keys' old.nodes nodes' inv takes rs (ends_reserves k.target.place name of_no_entry old.reserved rs refl ends),
       ends,
     )
+
+pub made_entry-returns-in-Refuse : goal.made_entry-returns-in-Refuse
+made_entry-returns-in-Refuse g t c =
+    let v = key_of g.R.Resolver.point in
+    let s = task g.R.Resolver.resolving g.T.KeywordTable.owned g.T.KeywordTable.script g.K.Validate.shape c.args.self.now in
+    let old = filled g.R.Resolver.point c.args.compiled.now in
+    let k = v c.args.key.now in
+    let name = string_bytes c.args.name.now in
+    let making = making s.parts k (members_view c.args.members.now.entries) c.args.own name in
+    let waiting = g.T.KeywordTable.waiting c.loop-children.maker in
+    let waiting' = g.T.KeywordTable.waiting c.turn.new.maker in
+    let told = maker_reply_of c.loop-children.reply in
+    let es = map (option_map edge_of) c.loop-children.children.items in
+    let keys' = map v c.loop-children.compiled.keys in
+    maker_refused s.parts s.shape s.limit s.nested k name making waiting waiting' told es old.keys keys' old.nodes c.loop-children.compiled.nodes c.in-Refuse.error c.loop-children.invariant.0
+        (rw c.in-Refuse.is at c.in_ok-path.ensures.takes)
 
 pub planned_object-returns-in_err-entry-in-Some : goal.planned_object-returns-in_err-entry-in-Some
 planned_object-returns-in_err-entry-in-Some g t c =
