@@ -17,11 +17,10 @@ use Rattle.schema_reports.specs.declared.reports.OwnedError.{OwnedError}
 use Rattle.schema_meaning.proofs.Falls.{path_falls}
 use Rattle.schema_parts.specs.ResolverViews.{IsInside, StandsBelow, SubschemasStandBelow, place_of}
 use Rattle.schema_parts.specs.declared.schema_place.SchemaPlace.{SchemaPlace}
-use Rattle.schema_keys.specs.Compiling.{Each, In, resolving_parts}
-use Rattle.schema_check.specs.Checking.{EachAccepted, IsAccepted, IsErrorBelow, MetaChecks, RefusesOne, location_from, own_document, without_text}
+use Rattle.schema_keys.specs.Compiling.{Each, resolving_parts}
+use Rattle.schema_check.specs.Checking.{EachAccepted, FollowsAccepted, IsAccepted, IsErrorBelow, MetaChecks, RefusesOne, location_from, own_document, without_text}
 use Rattle.schema_keys.specs.declared.error.BuildError.{BuildError}
 use Rattle.schema_keys.specs.declared.error.BuildError.TheVariants.{KeywordRefused, Lookup, MetaSchema, MissingRoot, NodeLimit, NotASchema, OutOfMemory, ReferenceNotText, UnsupportedVocabulary}
-use Rattle.schema_keys.proofs.Lists.{in_left, in_right}
 
 -- ---- lists
 
@@ -49,16 +48,6 @@ no_place f items k l = ap (λ (xs : List SchemaPlace). flat_map f (map place_of 
 
 pub turned : {A : Type 0} (old new x rest next whole : List A) → old ++ rest ≡ whole → rest ≡ x ++ next → new ≡ old ++ x → new ++ next ≡ whole
 turned old new x rest next whole so_far one_more added = ap (λ ys. ys ++ next) added ∙ append_assoc old x next ∙ ap (λ ys. old ++ ys) (sym one_more) ∙ so_far
-
-in_flat : {A B : Type 0} (f : A → List B) (xs : List A) (x : A) (y : B) → In xs x → In (f x) y → In (flat_map f xs) y
-in_flat f [] x y i j = absurd i
-in_flat f (z ∷ xs) x y (inl e) j = in_left (f z) (flat_map f xs) y (subst (λ u. In (f u) y) (sym e) j)
-in_flat f (z ∷ xs) x y (inr i) j = in_right (f z) (flat_map f xs) y (in_flat f xs x y i j)
-
-pub in_at_index : (items : List SchemaPlace) (k : ℕ) (x : SchemaPlace) → k < length items → x ≡ get_or items k x → In (map place_of items) (place_of x)
-in_at_index [] k x l at = absurd (omega arith)
-in_at_index (y ∷ items) zero x l at = inl (ap place_of (sym at))
-in_at_index (y ∷ items) (suc k) x l at = inr (in_at_index items k x (omega arith) at)
 
 -- ---- the way inwards
 
@@ -130,6 +119,21 @@ module _ {S : Type 0} (r : Resolver S) where
     cuts_lower zero draft p = tt
     cuts_lower (suc n) draft p = lower_in n draft p (λ q. cuts_lower n draft q) (r.subresources_of draft p) (subschemas_lower draft p)
 
+-- ---- documents after accepted ones
+
+module _ {S : Type 0} (r : Resolver S) (refuses : MetaChecks) where
+  abbrev Follows : List (Document (resolving_parts r)) → Document (resolving_parts r) → Type 0
+  Follows = FollowsAccepted (resolving_parts r) refuses
+
+  follows_left : (ds es : List (Document (resolving_parts r))) (d : Document (resolving_parts r)) → Follows ds d → Follows (ds ++ es) d
+  follows_left [] es d f = absurd f
+  follows_left (x ∷ ds) es d (inl e) = inl e
+  follows_left (x ∷ ds) es d (inr f) = inr (f.0, follows_left ds es d f.1)
+
+  follows_right : (ds es : List (Document (resolving_parts r))) (d : Document (resolving_parts r)) → EachAccepted (resolving_parts r) refuses ds → Follows es d → Follows (ds ++ es) d
+  follows_right [] es d a f = f
+  follows_right (x ∷ ds) es d a f = inr (a.0, follows_right ds es d a.1 f)
+
 -- ---- what a check says
 
 module _ {S : Type 0} (r : Resolver S) (refuses : MetaChecks) where
@@ -141,7 +145,7 @@ module _ {S : Type 0} (r : Resolver S) (refuses : MetaChecks) where
       → documents (resolving_parts r) (suc n) draft p ≡ own_document (resolving_parts r) (cuts_of r draft p) draft p ++ flat_map (inner_documents n draft) (cuts_of r draft p)
   documents_are n draft p = refl
 
-  pub refuses_more : (root : spec.SchemaPlace) (ds es : List (Document (resolving_parts r))) → ((d : Document (resolving_parts r)) → In ds d → In es d) → (e : BuildError)
+  pub refuses_more : (root : spec.SchemaPlace) (ds es : List (Document (resolving_parts r))) → ((d : Document (resolving_parts r)) → Follows r refuses ds d → Follows r refuses es d) → (e : BuildError)
       → RefusesOne (resolving_parts r) refuses root ds e → RefusesOne (resolving_parts r) refuses root es e
   refuses_more root ds es among (MetaSchema e) h = (h.0, among h.0 h.1, h.2)
   refuses_more root ds es among OutOfMemory h = tt
@@ -163,7 +167,7 @@ module _ {S : Type 0} (r : Resolver S) (refuses : MetaChecks) where
       let value = blanked w qs p (schema_at w p) in
       let d : Document w = record { place = p; draft = draft; value = value } in
       let unseen : passes_unseen w (schema_at w p) ≡ false = ap (passes_unseen w) (sym read) ∙ seen in
-      let there : In (own_document w qs draft p) d = subst (λ (b : Bool). In (if b then [] else d ∷ []) d) (sym unseen) (inl refl) in
+      let there : Follows r refuses (own_document w qs draft p) d = subst (λ (b : Bool). Follows r refuses (if b then [] else d ∷ []) d) (sym unseen) (inl refl) in
       let here : IsErrorBelow refuses [] draft value error = subst (λ (x : Option OwnedError). MatchOption x (refuses draft value ≡ None) (IsErrorBelow refuses [] draft value)) is
       (subst (λ (v : Data). MatchOption o (refuses draft (blanked w qs p v) ≡ None) (IsErrorBelow refuses [] draft (blanked w qs p v))) read refused) in
       (d, there, (here.0, here.1, here.2, here.3, ap without_text located ∙ ap (prefixed (location_from root p)) here.4))
@@ -173,19 +177,39 @@ module _ {S : Type 0} (r : Resolver S) (refuses : MetaChecks) where
       → RefusesOne (resolving_parts r) refuses root (own_document (resolving_parts r) qs draft p) e
       → (n : ℕ) → height r p < n → RefusesOne (resolving_parts r) refuses root (documents (resolving_parts r) n draft p) e
   refused_itself root p draft qs e are h zero l = absurd (omega arith)
-  refused_itself root p draft qs e are h (suc n) l = refuses_more root (own_document (resolving_parts r) (cuts_of r draft p) draft p) _ (λ d i. in_left _ _ d i) e
+  refused_itself root p draft qs e are h (suc n) l = refuses_more root (own_document (resolving_parts r) (cuts_of r draft p) draft p) _ (λ d i. follows_left r refuses _ _ d i) e
       (subst (λ (ps : List spec.SchemaPlace). RefusesOne (resolving_parts r) refuses root (own_document (resolving_parts r) ps draft p) e) are h)
 
-  -- a refusal inside one of the embedded resources
+  -- so far each document is accepted, so one after accepted ones among those that are left is so among all
+  abbrev pub FollowsFrom : Draft → spec.SchemaPlace → List SchemaPlace → ℕ → Type 0
+  FollowsFrom draft p items k = (n : ℕ) → height r p ≤ n → (d : Document (resolving_parts r)) → Follows r refuses (flat_map (inner_documents n draft) (map place_of (drop k items))) d
+      → Follows r refuses (flat_map (inner_documents n draft) (map place_of items)) d
+
+  pub follows_next : (draft : Draft) (p : spec.SchemaPlace) (items : List SchemaPlace) (k : ℕ) (x : SchemaPlace) (own : Draft) → k < length items → x ≡ get_or items k x
+      → own ≡ r.detect draft (schema_at (resolving_parts r) (place_of x)) → IsLower r p (place_of x)
+      → ((n : ℕ) → height r (place_of x) < n → EachAccepted (resolving_parts r) refuses (documents (resolving_parts r) n own (place_of x)))
+      → FollowsFrom draft p items k → FollowsFrom draft p items (k + 1)
+  follows_next draft p items k x own l at is low inner so_far n less d rest =
+      let here = subst (λ (d : Draft). EachAccepted (resolving_parts r) refuses (documents (resolving_parts r) n d (place_of x))) is (inner n (omega arith)) in
+      so_far n less d (subst (λ (ds : List (Document (resolving_parts r))). Follows r refuses ds d) (sym (next_place (inner_documents n draft) items k x l at))
+      (follows_right r refuses (inner_documents n draft (place_of x)) (flat_map (inner_documents n draft) (map place_of (drop (k + 1) items))) d here rest))
+
+  -- a refusal inside one of the embedded resources, those before it being accepted
   pub refused_inside : (root p : spec.SchemaPlace) (draft : Draft) (items : List SchemaPlace) (k : ℕ) (x : SchemaPlace) (own : Draft) (e : BuildError)
       → map place_of items ≡ cuts_of r draft p → k < length items → x ≡ get_or items k x → own ≡ r.detect draft (schema_at (resolving_parts r) (place_of x)) → IsLower r p (place_of x)
+      → EachAccepted (resolving_parts r) refuses (own_document (resolving_parts r) (map place_of items) draft p) → FollowsFrom draft p items k
       → ((n : ℕ) → height r (place_of x) < n → RefusesOne (resolving_parts r) refuses root (documents (resolving_parts r) n own (place_of x)) e)
       → (n : ℕ) → height r p < n → RefusesOne (resolving_parts r) refuses root (documents (resolving_parts r) n draft p) e
-  refused_inside root p draft items k x own e are l at is low inner zero less = absurd (omega arith)
-  refused_inside root p draft items k x own e are l at is low inner (suc n) less =
-      let there : In (cuts_of r draft p) (place_of x) = subst (λ (qs : List spec.SchemaPlace). In qs (place_of x)) are (in_at_index items k x l at) in
-      let here = subst (λ (d : Draft). RefusesOne (resolving_parts r) refuses root (documents (resolving_parts r) n d (place_of x)) e) is (inner n (omega arith)) in
-      refuses_more root (inner_documents n draft (place_of x)) _ (λ d i. in_right _ _ d (in_flat (inner_documents n draft) (cuts_of r draft p) (place_of x) d there i)) e here
+  refused_inside root p draft items k x own e are l at is low itself so_far inner zero less = absurd (omega arith)
+  refused_inside root p draft items k x own e are l at is low itself so_far inner (suc n) less =
+      let w = resolving_parts r in
+      let f = inner_documents n draft in
+      let here = subst (λ (d : Draft). RefusesOne w refuses root (documents w n d (place_of x)) e) is (inner n (omega arith)) in
+      let accepted : EachAccepted w refuses (own_document w (cuts_of r draft p) draft p) = subst (λ (qs : List spec.SchemaPlace). EachAccepted w refuses (own_document w qs draft p)) are itself in
+      refuses_more root (f (place_of x)) _ (λ d i.
+      let left : Follows r refuses (flat_map f (map place_of (drop k items))) d = subst (λ (ds : List (Document w)). Follows r refuses ds d) (sym (next_place f items k x l at)) (follows_left r refuses _ _ d i) in
+      let all : Follows r refuses (flat_map f (cuts_of r draft p)) d = subst (λ (qs : List spec.SchemaPlace). Follows r refuses (flat_map f qs) d) are (so_far n (omega arith) d left) in
+      follows_right r refuses (own_document w (cuts_of r draft p) draft p) (flat_map f (cuts_of r draft p)) d accepted all) e here
 
   -- so far each document is accepted
   abbrev pub AcceptedFrom : Draft → spec.SchemaPlace → List SchemaPlace → ℕ → Type 0
