@@ -75,7 +75,10 @@ pub(crate) fn tell_names(alloc: Global, row: &Value, log: &mut String) -> Result
     }
 }
 
-// Whether the map has the name, schema, name. What requires the vocabulary is a subschema, and no reference leads there.
+// Whether the map has the name, schema, name. What requires the vocabulary is a subschema; where no reference leads there it is in the
+// map, and what refers to it is not.
 pub(crate) const VOCABULARIES: &str = r##"[
-["yes", {"$defs":{"a":{"$schema":"https://json-schema.org/draft/2019-09/schema"}}}, "#/$defs/a"]
+["yes", {"$defs":{"a":{"$schema":"https://json-schema.org/draft/2019-09/schema"}}}, "#/$defs/a"],
+["yes", {"$defs":{"a":{"$schema":"https://json-schema.org/draft/2019-09/schema"},"b":{"$ref":"#/$defs/a"}}}, "#/$defs/a"],
+["no", {"$defs":{"a":{"$schema":"https://json-schema.org/draft/2019-09/schema"},"b":{"$ref":"#/$defs/a"}}}, "#/$defs/b"]
 ]"##;

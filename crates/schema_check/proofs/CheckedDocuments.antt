@@ -17,13 +17,12 @@ use Rattle.schema_reports.specs.declared.reports.OwnedError.{OwnedError}
 use Rattle.schema_meaning.proofs.Falls.{path_falls}
 use Rattle.schema_parts.specs.ResolverViews.{IsInside, Placed, StandsBelow, SubschemasStandBelow, place_of, placed_in, placed_of}
 use Rattle.schema_parts.specs.declared.resolver.PlacedSchema.{PlacedSchema}
-use Rattle.schema_keys.specs.Compiling.{Each, In, resolving_parts}
-use Rattle.schema_check.specs.Checking.{EachAccepted, IsAccepted, IsErrorBelow, MetaChecks, RefusesOne, location_from, own_document, without_text}
+use Rattle.schema_keys.specs.Compiling.{Each, resolving_parts}
+use Rattle.schema_check.specs.Checking.{EachAccepted, FollowsAccepted, IsAccepted, IsErrorBelow, MetaChecks, RefusesOne, location_from, own_document, without_text}
 use Rattle.schema_check.specs.CutViews.{cut_of}
 use Rattle.schema_check.specs.declared.check.cuts.Cut as code
 use Rattle.schema_keys.specs.declared.error.BuildError.{BuildError}
 use Rattle.schema_keys.specs.declared.error.BuildError.TheVariants.{KeywordRefused, Lookup, MetaSchema, MissingRoot, NodeLimit, NotASchema, OutOfMemory, ReferenceNotText, UnsupportedVocabulary}
-use Rattle.schema_keys.proofs.Lists.{in_left, in_right}
 
 -- ---- lists
 
@@ -81,16 +80,6 @@ no_more {A} v f items k l = ap (λ (xs : List A). flat_map f (map v xs)) (drop_a
 
 pub turned : {A : Type 0} (old new x rest next whole : List A) → old ++ rest ≡ whole → rest ≡ x ++ next → new ≡ old ++ x → new ++ next ≡ whole
 turned old new x rest next whole so_far one_more added = ap (λ ys. ys ++ next) added ∙ append_assoc old x next ∙ ap (λ ys. old ++ ys) (sym one_more) ∙ so_far
-
-in_flat : {A B : Type 0} (f : A → List B) (xs : List A) (x : A) (y : B) → In xs x → In (f x) y → In (flat_map f xs) y
-in_flat f [] x y i j = absurd i
-in_flat f (z ∷ xs) x y (inl e) j = in_left (f z) (flat_map f xs) y (subst (λ u. In (f u) y) (sym e) j)
-in_flat f (z ∷ xs) x y (inr i) j = in_right (f z) (flat_map f xs) y (in_flat f xs x y i j)
-
-pub in_at_index : {A B : Type 0} (v : A → B) (items : List A) (k : ℕ) (x : A) → k < length items → x ≡ get_or items k x → In (map v items) (v x)
-in_at_index v [] k x l at = absurd (omega arith)
-in_at_index v (y ∷ items) zero x l at = inl (ap v (sym at))
-in_at_index v (y ∷ items) (suc k) x l at = inr (in_at_index v items k x (omega arith) at)
 
 -- ---- the way inwards
 
@@ -179,6 +168,21 @@ module _ {S : Type 0} (r : Resolver S) where
     cuts_lower zero document draft p = tt
     cuts_lower (suc n) document draft p = lower_in n document draft p (λ own q. cuts_lower n document own q) (r.subresources_of draft p) (subschemas_lower draft p)
 
+-- ---- documents after accepted ones
+
+module _ {S : Type 0} (r : Resolver S) (refuses : MetaChecks) where
+  abbrev Follows : List (Document (resolving_parts r)) → Document (resolving_parts r) → Type 0
+  Follows = FollowsAccepted (resolving_parts r) refuses
+
+  follows_left : (ds es : List (Document (resolving_parts r))) (d : Document (resolving_parts r)) → Follows ds d → Follows (ds ++ es) d
+  follows_left [] es d f = absurd f
+  follows_left (x ∷ ds) es d (inl e) = inl e
+  follows_left (x ∷ ds) es d (inr f) = inr (f.0, follows_left ds es d f.1)
+
+  follows_right : (ds es : List (Document (resolving_parts r))) (d : Document (resolving_parts r)) → EachAccepted (resolving_parts r) refuses ds → Follows es d → Follows (ds ++ es) d
+  follows_right [] es d a f = f
+  follows_right (x ∷ ds) es d a f = inr (a.0, follows_right ds es d a.1 f)
+
 -- ---- what a check says
 
 module _ {S : Type 0} (r : Resolver S) (refuses : MetaChecks) where
@@ -190,7 +194,7 @@ module _ {S : Type 0} (r : Resolver S) (refuses : MetaChecks) where
       → documents (resolving_parts r) (suc n) draft p ≡ own_document (resolving_parts r) (cuts_of r draft p) draft p ++ flat_map (inner_documents n) (cuts_of r draft p)
   documents_are n draft p = refl
 
-  pub refuses_more : (root : spec.SchemaPlace) (ds es : List (Document (resolving_parts r))) → ((d : Document (resolving_parts r)) → In ds d → In es d) → (e : BuildError)
+  pub refuses_more : (root : spec.SchemaPlace) (ds es : List (Document (resolving_parts r))) → ((d : Document (resolving_parts r)) → Follows r refuses ds d → Follows r refuses es d) → (e : BuildError)
       → RefusesOne (resolving_parts r) refuses root ds e → RefusesOne (resolving_parts r) refuses root es e
   refuses_more root ds es among (MetaSchema e) h = (h.0, among h.0 h.1, h.2)
   refuses_more root ds es among OutOfMemory h = tt
@@ -212,7 +216,7 @@ module _ {S : Type 0} (r : Resolver S) (refuses : MetaChecks) where
       let value = blanked w qs p (schema_at w p) in
       let d : Document w = record { place = p; draft = draft; value = value } in
       let unseen : passes_unseen w (schema_at w p) ≡ false = ap (passes_unseen w) (sym read) ∙ seen in
-      let there : In (own_document w qs draft p) d = subst (λ (b : Bool). In (if b then [] else d ∷ []) d) (sym unseen) (inl refl) in
+      let there : Follows r refuses (own_document w qs draft p) d = subst (λ (b : Bool). Follows r refuses (if b then [] else d ∷ []) d) (sym unseen) (inl refl) in
       let here : IsErrorBelow refuses [] draft value error = subst (λ (x : Option OwnedError). MatchOption x (refuses draft value ≡ None) (IsErrorBelow refuses [] draft value)) is
       (subst (λ (v : Data). MatchOption o (refuses draft (blanked w qs p v) ≡ None) (IsErrorBelow refuses [] draft (blanked w qs p v))) read refused) in
       (d, there, (here.0, here.1, here.2, here.3, ap without_text located ∙ ap (prefixed (location_from root p)) here.4))
@@ -222,18 +226,36 @@ module _ {S : Type 0} (r : Resolver S) (refuses : MetaChecks) where
       → RefusesOne (resolving_parts r) refuses root (own_document (resolving_parts r) qs draft p) e
       → (n : ℕ) → height r p < n → RefusesOne (resolving_parts r) refuses root (documents (resolving_parts r) n draft p) e
   refused_itself root p draft qs e are h zero l = absurd (omega arith)
-  refused_itself root p draft qs e are h (suc n) l = refuses_more root (own_document (resolving_parts r) (cuts_of r draft p) draft p) _ (λ d i. in_left _ _ d i) e
+  refused_itself root p draft qs e are h (suc n) l = refuses_more root (own_document (resolving_parts r) (cuts_of r draft p) draft p) _ (λ d i. follows_left r refuses _ _ d i) e
       (subst (λ (ps : List Cut). RefusesOne (resolving_parts r) refuses root (own_document (resolving_parts r) ps draft p) e) are h)
 
-  -- a refusal inside one of the embedded resources
+  -- so far each document is accepted, so one after accepted ones among those that are left is so among all
+  abbrev pub FollowsFrom : spec.SchemaPlace → List code.Cut → ℕ → Type 0
+  FollowsFrom p items k = (n : ℕ) → height r p ≤ n → (d : Document (resolving_parts r)) → Follows r refuses (flat_map (inner_documents n) (map cut_of (drop k items))) d
+      → Follows r refuses (flat_map (inner_documents n) (map cut_of items)) d
+
+  pub follows_next : (p : spec.SchemaPlace) (items : List code.Cut) (k : ℕ) (x : code.Cut) → k < length items → x ≡ get_or items k x → IsLowerCut r p (cut_of x)
+      → ((n : ℕ) → height r (place_of x.place) < n → EachAccepted (resolving_parts r) refuses (inner_documents n (cut_of x)))
+      → FollowsFrom p items k → FollowsFrom p items (k + 1)
+  follows_next p items k x l at low inner so_far n less d rest =
+      so_far n less d (subst (λ (ds : List (Document (resolving_parts r))). Follows r refuses ds d) (sym (next_one cut_of (inner_documents n) items k x l at))
+      (follows_right r refuses (inner_documents n (cut_of x)) (flat_map (inner_documents n) (map cut_of (drop (k + 1) items))) d (inner n (omega arith)) rest))
+
+  -- a refusal inside one of the embedded resources, those before it being accepted
   pub refused_inside : (root p : spec.SchemaPlace) (draft : Draft) (items : List code.Cut) (k : ℕ) (x : code.Cut) (e : BuildError)
       → map cut_of items ≡ cuts_of r draft p → k < length items → x ≡ get_or items k x → IsLowerCut r p (cut_of x)
+      → EachAccepted (resolving_parts r) refuses (own_document (resolving_parts r) (map cut_of items) draft p) → FollowsFrom p items k
       → ((n : ℕ) → height r (place_of x.place) < n → RefusesOne (resolving_parts r) refuses root (inner_documents n (cut_of x)) e)
       → (n : ℕ) → height r p < n → RefusesOne (resolving_parts r) refuses root (documents (resolving_parts r) n draft p) e
-  refused_inside root p draft items k x e are l at low inner zero less = absurd (omega arith)
-  refused_inside root p draft items k x e are l at low inner (suc n) less =
-      let there : In (cuts_of r draft p) (cut_of x) = subst (λ (qs : List Cut). In qs (cut_of x)) are (in_at_index cut_of items k x l at) in
-      refuses_more root (inner_documents n (cut_of x)) _ (λ d i. in_right _ _ d (in_flat (inner_documents n) (cuts_of r draft p) (cut_of x) d there i)) e (inner n (omega arith))
+  refused_inside root p draft items k x e are l at low itself so_far inner zero less = absurd (omega arith)
+  refused_inside root p draft items k x e are l at low itself so_far inner (suc n) less =
+      let w = resolving_parts r in
+      let f = inner_documents n in
+      let accepted : EachAccepted w refuses (own_document w (cuts_of r draft p) draft p) = subst (λ (qs : List Cut). EachAccepted w refuses (own_document w qs draft p)) are itself in
+      refuses_more root (f (cut_of x)) _ (λ d i.
+      let left : Follows r refuses (flat_map f (map cut_of (drop k items))) d = subst (λ (ds : List (Document w)). Follows r refuses ds d) (sym (next_one cut_of f items k x l at)) (follows_left r refuses _ _ d i) in
+      let all : Follows r refuses (flat_map f (cuts_of r draft p)) d = subst (λ (qs : List Cut). Follows r refuses (flat_map f qs) d) are (so_far n (omega arith) d left) in
+      follows_right r refuses (own_document w (cuts_of r draft p) draft p) (flat_map f (cuts_of r draft p)) d accepted all) e (inner n (omega arith))
 
   -- so far each document is accepted
   abbrev pub AcceptedFrom : spec.SchemaPlace → List code.Cut → ℕ → Type 0

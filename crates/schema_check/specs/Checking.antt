@@ -1,6 +1,7 @@
--- What the check of a schema by meta-schemas answers: each of the schema's documents is accepted, or one of them is refused.
+-- What the check of a schema by meta-schemas answers: each of the schema's documents is accepted, or the first that is not is
+-- named.
 -- (Core 2020-12, 8.1.1 and 9.3.3)
-use Rattle.std.specs.Prelude.{List, None, Option, Some, [], if◌then◌else◌, ◌∷◌, ◌≡◌}
+use Rattle.std.specs.Prelude.{List, None, Option, Some, [], if◌then◌else◌, ◌∷◌, ◌≡◌, ◌⊎◌}
 use Rattle.serde_json.specs.Data.{Data}
 use Rattle.schema_definitions.specs.Instance.{Subject, Text, subject_at}
 use Rattle.schema_definitions.specs.Pointer.{pointer_to}
@@ -14,7 +15,7 @@ use Rattle.schema_definitions.specs.Resolving.{Resolver}
 use Rattle.schema_definitions.specs.Parts.{Parts}
 use Rattle.schema_definitions.specs.Plan.{schema_at, without_prefix}
 use Rattle.schema_meaning.specs.Documents.{Cut, Document, blanked, checked, passes_unseen}
-use Rattle.schema_keys.specs.Compiling.{Each, In, resolving_parts}
+use Rattle.schema_keys.specs.Compiling.{Each, resolving_parts}
 use Rattle.schema_keys.specs.declared.error.BuildError.{BuildError}
 use Rattle.schema_keys.specs.declared.error.BuildError.TheVariants.{KeywordRefused, Lookup, MetaSchema, MissingRoot, NodeLimit, NotASchema, OutOfMemory, ReferenceNotText, UnsupportedVocabulary}
 
@@ -42,9 +43,14 @@ module _ {S K R : Type 0} (w : Parts S K R) (refuses : MetaChecks) where
   abbrev pub EachAccepted : List (Document w) → Type 0
   EachAccepted = Each IsAccepted
 
-  -- a refusal has the error of one of the documents; want of memory says nothing
+  -- one of the documents, each before it being accepted
+  abbrev pub FollowsAccepted : List (Document w) → Document w → Type 0
+  FollowsAccepted [] d = ⊥
+  FollowsAccepted (x ∷ xs) d = (x ≡ d) ⊎ (IsAccepted x × FollowsAccepted xs d)
+
+  -- a refusal has the error of the first of the documents that is not accepted; want of memory says nothing
   abbrev pub RefusesOne : SchemaPlace → List (Document w) → BuildError → Type 0
-  RefusesOne root ds (MetaSchema e) = (d : Document w) × In ds d × IsErrorBelow refuses (location_from root d.place) d.draft d.value e
+  RefusesOne root ds (MetaSchema e) = (d : Document w) × FollowsAccepted ds d × IsErrorBelow refuses (location_from root d.place) d.draft d.value e
   RefusesOne root ds OutOfMemory = Unit {0}
   RefusesOne root ds (NotASchema location) = ⊥
   RefusesOne root ds (ReferenceNotText location) = ⊥
@@ -66,6 +72,6 @@ documents_at resolver draft p = checked (resolving_parts resolver) draft p
 abbrev pub AcceptsSchema : {S : Type 0} → Resolver S → MetaChecks → Draft → SchemaPlace → Type 0
 AcceptsSchema resolver refuses draft p = EachAccepted (resolving_parts resolver) refuses (documents_at resolver draft p)
 
--- one of them is refused by this error, its instance path counted from the place
+-- the first of them that is not accepted is refused by this error, its instance path counted from the place
 abbrev pub RefusesSchema : {S : Type 0} → Resolver S → MetaChecks → Draft → SchemaPlace → BuildError → Type 0
 RefusesSchema resolver refuses draft p = RefusesOne (resolving_parts resolver) refuses p (documents_at resolver draft p)

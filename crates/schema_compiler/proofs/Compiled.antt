@@ -24,14 +24,14 @@ use Rattle.schema_meaning.specs.Numbered.{IsNumber, Ranked, SameEdge, SameForm, 
 use Rattle.schema_nodes.specs.NodeTable.{IsOrdered, NodeEntry, absolute_in, numbered, shaped, shaped_form, plan_in}
 use Rattle.schema_nodes.proofs.RankedTable.{ranked_table}
 use Rattle.schema_keys.specs.Compiling.{Each, In, Settled, StandsBelow, parts_of}
-use Rattle.schema_keys.specs.Refusing.{AreDistinct, IsRefusal, Names}
+use Rattle.schema_keys.specs.Refusing.{AreDistinct, IsRefusal}
 use Rattle.schema_compiler.specs.Finding.{FindsAll, GuardsByStanding, standing_of}
 use Rattle.schema_compiler.specs.UnderWay.{EdgesWithin}
 use Rattle.schema_compiler.proofs.OtherCourses.{finds_all_too}
 use Rattle.schema_compiler.proofs.GuardsAgree.{guards_agree}
 use Rattle.schema_keys.specs.ShownBases.{shown_base}
 use Rattle.schema_compiler.specs.Filling.{AreChildren, AreParts, IsForm, IsGrown, IsNode, IsPlan, IsPlanned, IsTable, LeadsTo}
-use Rattle.schema_keys.specs.Alone.{RefusesVocabularies}
+use Rattle.schema_keys.specs.Alone.{NamesFirst, RefusesVocabularies}
 use Rattle.schema_compiler.specs.Compilation.{IsCompilation, IsCompilationAlone, RefusesAlone, RefusesRoot, all_parts}
 use Rattle.schema_keys.specs.declared.error.BuildError.{BuildError}
 use Rattle.schema_keys.specs.declared.error.BuildError.TheVariants.{KeywordRefused, Lookup, MetaSchema, MissingRoot, NodeLimit, NotASchema, OutOfMemory, ReferenceNotText, UnsupportedVocabulary}
@@ -68,23 +68,12 @@ distinct_differ {S} w law keys d i j x lt within =
     ] in
     go (same_key w a b) refl
 
--- ---- the causes of vocabularies
-
-abbrev IsUnsupported : Cause → Type 0
-IsUnsupported (unsupported_vocabulary uri) = Unit {0}
-IsUnsupported _ = ⊥
-
-module _ {S K R : Type 0} (w : Parts S K R) where
-  each_unsupported : (us : List Text) → Each IsUnsupported (flat_map (undeclared w) (map custom_vocabulary us))
-  each_unsupported [] = tt
-  each_unsupported (u ∷ us) =
-      let go : (b : Bool) → Each IsUnsupported (cond b [] (unsupported_vocabulary u ∷ [])) = elim [ true ↦ tt | false ↦ (tt, tt) ] in
-      each_append IsUnsupported (undeclared w (custom_vocabulary u)) (flat_map (undeclared w) (map custom_vocabulary us)) (go (list_any (bytes_eq u) w.declared)) (each_unsupported us)
-
-  unsupported : (vs : Vocabularies) (cause : Cause) → In (flat_map (undeclared w) vs) cause → IsUnsupported cause
-  unsupported vs cause i = each_in IsUnsupported _ cause (each_unsupported (custom_of vs)) (subst (λ cs. In cs cause) (of_custom w vs) i)
-
 -- ---- a root and a subschema that is compiled by itself
+
+-- the first element is in the list
+front : {A : Type 0} (xs : List A) (x : A) → slice_get xs 0 ≡ Some x → In xs x
+front [] x e = absurd cc
+front (y ∷ ys) x e = inl cc
 
 module _ {S K R : Type 0} (w : Parts S K R) where
   -- a cause that stands below stands at a root too, whose vocabularies are asked for besides
@@ -130,7 +119,7 @@ module _ {S K R : Type 0} (w : Parts S K R) where
   vocabularies_refuse limit root (ReferenceNotText l) h = absurd h
   vocabularies_refuse limit root (Lookup t) h = absurd h
   vocabularies_refuse limit root (KeywordRefused x) h = absurd h
-  vocabularies_refuse limit root (UnsupportedVocabulary u) h = is_required root the_root h
+  vocabularies_refuse limit root (UnsupportedVocabulary u) h = is_required root the_root (contains_of _ _ (front _ _ h))
   vocabularies_refuse limit root (MetaSchema x) h = h
   vocabularies_refuse limit root (MissingRoot u) h = h
   vocabularies_refuse limit root (NodeLimit n) h = absurd h
@@ -170,16 +159,8 @@ module _ {S K R : Type 0} (resolver : Resolver S) (table : Table K) (formats : O
   refuses_alone law limit root OutOfMemory h = tt
 
   -- a root's own vocabularies
-  pub vocabulary_refuses : (root : Key S) (e : BuildError) → Names (flat_map (undeclared w) root.target.vocabularies) e → RefusesVocabularies whole root e
-  vocabulary_refuses root (NotASchema l) h = unsupported w root.target.vocabularies _ h
-  vocabulary_refuses root (ReferenceNotText l) h = unsupported w root.target.vocabularies _ h
-  vocabulary_refuses root (Lookup t) h = unsupported w root.target.vocabularies _ h
-  vocabulary_refuses root (KeywordRefused x) h = unsupported w root.target.vocabularies _ h.1
-  vocabulary_refuses root (UnsupportedVocabulary u) h = contains_of _ _ h
-  vocabulary_refuses root (MetaSchema x) h = h
-  vocabulary_refuses root (MissingRoot u) h = h
-  vocabulary_refuses root (NodeLimit n) h = h
-  vocabulary_refuses root OutOfMemory h = tt
+  pub vocabulary_refuses : (root : Key S) (e : BuildError) → NamesFirst (flat_map (undeclared w) root.target.vocabularies) e → RefusesVocabularies whole root e
+  vocabulary_refuses root e h = h
 
   -- ---- numbers
 

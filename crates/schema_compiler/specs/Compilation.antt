@@ -1,7 +1,7 @@
 -- What a compilation gives: a number for each key that the root reaches, whose node is the key's plan; and what its
 -- refusal says. The root is a schema's, or a subschema that is compiled by itself: then a vocabulary is asked for only where a
 -- reference leads.
-use Rattle.std.specs.Prelude.{All, Bool, List, Option, Some, length, map, slice_get, string_bytes, ℕ, ◌≡◌, ◌≤◌}
+use Rattle.std.specs.Prelude.{All, Bool, List, Option, Some, [], flat_map, length, map, slice_get, string_bytes, ℕ, ◌≡◌, ◌≤◌, ◌⊎◌}
 use Rattle.schema_definitions.specs.Instance.{Text}
 use Rattle.schema_definitions.specs.Drafts.{Draft}
 use Rattle.schema_definitions.specs.Resolving.{Resolver}
@@ -13,12 +13,13 @@ use Rattle.schema_definitions.specs.Reports.{told_error}
 use Rattle.schema_definitions.specs.Plan.{Key}
 use Rattle.schema_meaning.specs.Reach.{Reached, ReachesMoreThan}
 use Rattle.schema_meaning.specs.MapPointers.{StandsBelow}
-use Rattle.schema_meaning.specs.Refusals.{Cause, Stands, keyword_refused, lookup_refuses, not_a_schema, reference_not_text, unsupported_vocabulary}
+use Rattle.schema_meaning.specs.Refusals.{Cause, Stands, keyword_refused, lookup_refuses, not_a_schema, reference_not_text, undeclared, unsupported_vocabulary}
 use Rattle.schema_reports.specs.ReportViews.{owned_error_of}
 use Rattle.schema_definitions.specs.Guarded.{NodePlan}
 use Rattle.schema_meaning.specs.Numbered.{AreNumbered, Ranked}
 use Rattle.schema_nodes.specs.NodeTable.{NodeEntry, numbered}
 use Rattle.schema_compiler.specs.Finding.{FindsAll, GuardsByStanding, standing_of}
+use Rattle.schema_keys.specs.Alone.{RefusesVocabularies}
 use Rattle.schema_keys.specs.declared.error.BuildError.{BuildError}
 use Rattle.schema_keys.specs.declared.error.BuildError.TheVariants.{KeywordRefused, Lookup, MetaSchema, MissingRoot, NodeLimit, NotASchema, OutOfMemory, ReferenceNotText, UnsupportedVocabulary}
 
@@ -82,3 +83,7 @@ module _ {S K R : Type 0} (w : Parts S K R) where
 
   abbrev pub RefusesAlone : ℕ → Key S → BuildError → Type 0
   RefusesAlone limit root e = RefusesBy (StandsBelow w root) limit root e
+
+  -- what a refusal of a schema's root names first: the first of its own vocabularies that is not declared; and where all are declared, what refuses it as a subschema by itself
+  abbrev pub RefusesInOrder : ℕ → Key S → BuildError → Type 0
+  RefusesInOrder limit root e = RefusesVocabularies w root e ⊎ ((flat_map (undeclared w) root.target.vocabularies ≡ []) × RefusesAlone limit root e)

@@ -20,7 +20,7 @@ ghost use Rattle.schema_keys.specs.Builtins.{builtin};
 ghost use Rattle.schema_keys.specs.Readings.{IsReading};
 ghost use Rattle.schema_meaning.specs.Refusals.{undeclared};
 ghost use Rattle.schema_keys.specs.Alone.{RefusesVocabularies};
-ghost use Rattle.schema_compiler.specs.Compilation.{IsCompilation, IsCompilationAlone, RefusesAlone, RefusesRoot, all_parts};
+ghost use Rattle.schema_compiler.specs.Compilation.{IsCompilation, IsCompilationAlone, RefusesAlone, RefusesInOrder, RefusesRoot, all_parts};
 ghost use Rattle.schema_compiler.specs.Carried.{AnswersChild, AnswersReference, IsWell, LeadsToKey};
 ghost use Rattle.schema_compiler.specs.Carried.{MakesKeyword, MakesMember, MakesMembers};
 ghost use Rattle.schema_compiler.specs.Carried.{Numbers, PlansNode, PlansObject, RefusesChild, RefusesEdge};
@@ -80,7 +80,8 @@ pub use schema_keys::{context, error, key};
 ///
 /// Fails if a schema that is reached cannot be compiled: it is neither an object nor a boolean, a reference in it is no
 /// string or is refused by the resolver, a keyword refuses it, or a vocabulary that it requires is not declared. Fails also
-/// if more keys are reached than the limit, or out of memory.
+/// if more keys are reached than the limit, or out of memory. What the root itself requires comes first, of that the first that is not
+/// declared.
 pub fn compile<R: Resolver, K: Validate, T: KeywordTable<K>>(
     alloc: Global,
     resolver: &R,
@@ -103,12 +104,18 @@ pub fn compile<R: Resolver, K: Validate, T: KeywordTable<K>>(
         (record { owns = T.owned table.now; builtin = builtin; script = T.script table.now })
         options.now.formats (map string_bytes options.now.declared.items)
         matcher keywords draft base) options.now.node_limit (key_of R.point root) e) }
+    ensures first { IfErr result (λ e. (matcher : matching.Matcher)
+        (keywords : words.Keywords K.Shape (K.Run × words.Answer)) (draft : Option drafts.Draft)
+        (base : Option Text) → RefusesInOrder (all_parts (R.resolving resolver.now)
+        (record { owns = T.owned table.now; builtin = builtin; script = T.script table.now })
+        options.now.formats (map string_bytes options.now.declared.items)
+        matcher keywords draft base) options.now.node_limit (key_of R.point root) e) }
 {
     check_vocabularies::<R, K, T>(alloc, resolver, table, options, &root)?;
     Ok(compile_subschema(alloc, resolver, table, options, nested_limit, root)?)
 }
 
-/// Refuses the key of a schema's root whose vocabularies hold a custom one that is not declared.
+/// Refuses the key of a schema's root whose vocabularies hold a custom one that is not declared: the first of these is named.
 ///
 /// # Errors
 ///

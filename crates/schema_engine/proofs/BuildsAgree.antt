@@ -1,6 +1,6 @@
 -- A schema that builds and passes the check is refused by no build but for want of memory: each other refusal names a cause that
 -- stands, says that more keys are reached than there are, or has the error of a document that is not accepted.
-use Rattle.std.proofs.Common.{ap, arith, inl, inr, length, refl, subst, sym, true, List, ℕ, ◌∙◌, ◌≡◌}
+use Rattle.std.proofs.Common.{ap, arith, inl, inr, length, refl, subst, sym, true, [], List, ℕ, ◌∙◌, ◌∷◌, ◌≡◌}
 use Rattle.std.specs.Prelude.{All, AllPairs, Decides, Err, Ok, Result, string_bytes, ◌≤◌}
 use Rattle.std.specs.Cmp.{IsEquivalence, both_ways}
 use Rattle.std.proofs.lemmas.List.Elements.{All-contains}
@@ -17,9 +17,8 @@ use Rattle.schema_meaning.specs.Reach.{IsReach, Reached, ReachesMoreThan, differ
 use Rattle.schema_meaning.specs.Refusals.{Cause, Stands}
 use Rattle.schema_definitions.specs.Resolving.{Resolver}
 use Rattle.schema_meaning.specs.Root.{base_of, root_draft}
-use Rattle.schema_check.specs.Checking.{EachAccepted, IsAccepted, MetaChecks, RefusesOne, documents_at}
+use Rattle.schema_check.specs.Checking.{EachAccepted, FollowsAccepted, IsAccepted, MetaChecks, RefusesOne, documents_at}
 use Rattle.schema_keys.specs.Compiling.{resolving_parts}
-use Rattle.schema_keys.proofs.Lists.{each_in}
 use Rattle.schema_keys.specs.declared.error.BuildError.{BuildError}
 use Rattle.schema_keys.specs.declared.error.BuildError.TheVariants.{KeywordRefused, Lookup, MetaSchema, MissingRoot}
 use Rattle.schema_keys.specs.declared.error.BuildError.TheVariants.{NodeLimit, NotASchema, OutOfMemory, ReferenceNotText}
@@ -96,9 +95,14 @@ module _ {S K R : Type 0} (w : Parts S K R) (law : (a b : S) → Decides (w.reso
 -- ---- what is accepted is not refused
 
 module _ {S K R : Type 0} (w : Parts S K R) (refuses : MetaChecks) where
+  accepted_there : (ds : List (Document w)) (d : Document w) → EachAccepted w refuses ds → FollowsAccepted w refuses ds d → IsAccepted w refuses d
+  accepted_there [] d accepted among = absurd among
+  accepted_there (x ∷ ds) d accepted (inl same) = subst (IsAccepted w refuses) same accepted.0
+  accepted_there (x ∷ ds) d accepted (inr among) = accepted_there ds d accepted.1 among.1
+
   not_both : (root : SchemaPlace) (ds : List (Document w)) (e : BuildError) → EachAccepted w refuses ds → RefusesOne w refuses root ds e → e ≡ OutOfMemory
   not_both root ds (MetaSchema x) accepted (d, among, below) =
-      let passes = each_in (IsAccepted w refuses) ds d accepted among in
+      let passes = accepted_there ds d accepted among in
       let (error, instance, refused, there, same) = below in
       absurd (cc (sym passes ∙ refused))
   not_both root ds OutOfMemory accepted refused = refl

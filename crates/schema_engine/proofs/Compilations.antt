@@ -18,7 +18,7 @@ use Rattle.schema_meaning.specs.Root.{IsRoot}
 use Rattle.schema_meaning.specs.Numbered.{Ranked}
 use Rattle.schema_nodes.specs.NodeTable.{NodeEntry, numbered}
 use Rattle.schema_keys.specs.Builtins.{builtin}
-use Rattle.schema_compiler.specs.Compilation.{IsCompilation, IsCompilationBy, RefusesRoot, all_parts}
+use Rattle.schema_compiler.specs.Compilation.{IsCompilation, IsCompilationBy, RefusesInOrder, RefusesRoot, all_parts}
 use Rattle.schema_keys.specs.Compiling.{no_keywords, no_matcher, no_table}
 use Rattle.schema_keys.specs.declared.error.BuildError.{BuildError}
 use Rattle.schema_engine.specs.Handed.{Options, parts_of, table_of}
@@ -108,6 +108,9 @@ module _ {S K R : Type 0} (resolver : Resolver S) (owns : Text → Bool) (script
 
   pub refuses_in : (limit : ℕ) (root : Key S) (e : BuildError) → RefusesRoot given limit root e → RefusesRoot (over builtin_in) limit root e
   refuses_in limit root e h = subst (λ row. RefusesRoot (over row) limit root e) builtin_is h
+
+  pub in_order_in : (limit : ℕ) (root : Key S) (e : BuildError) → RefusesInOrder given limit root e → RefusesInOrder (over builtin_in) limit root e
+  in_order_in limit root e h = subst (λ row. RefusesInOrder (over row) limit root e) builtin_is h
 
   -- the nodes are compiled from each root key of a schema, whatever matcher and words go with the parts: there is but one
   pub compiled_from_roots : {C : Type 0} {stands : Cause → Type 0} (schema : Data) (shape : C → K) (limit nested : ℕ) (root : Key S) (keys : List (Key S)) (nodes : List (NodeEntry C)) → IsCompilationBy given stands shape limit nested root keys nodes

@@ -3,6 +3,7 @@ pub mod PlaceNames
 pub mod HeldPlaces
 pub mod DocumentMap
 pub mod MapAnswers
+pub mod FirstCauses
 mod OtherParts
 pub mod Remembers
 pub mod Searches

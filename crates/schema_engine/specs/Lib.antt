@@ -17,5 +17,6 @@ pub mod FreeCalls
 pub mod MapViews
 pub mod DocumentSchemas
 pub mod Mapped
+pub mod FirstCauses
 pub mod Entries
 pub mod SharedErrors

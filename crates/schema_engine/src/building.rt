@@ -3,6 +3,7 @@ ghost use Rattle.std.specs.Prelude.{◌≡◌, IfOk, IfErr};
 ghost use Rattle.serde_json.specs.View.{view};
 ghost use Rattle.schema_engine.specs.Called.{HasPlainUnits, IsCompiledFrom, MeansPlainly, PointsPlainly, SchemaBuilds, BuildRefused};
 ghost use Rattle.schema_engine.specs.Checked.{PassesCheck};
+ghost use Rattle.schema_engine.specs.FirstCauses.{FirstOfBuild};
 ghost use Rattle.schema_engine.specs.Handed.{default_nested, default_options, handed};
 
 use crate::options::ValidationOptions;
@@ -30,7 +31,7 @@ impl<K: Validate, M: Matcher> Validator<K, M> {
     /// # Errors
     ///
     /// Fails if the schema, or one that it reaches, is refused, if the meta validators refuse it, if more keys are reached than the
-    /// limit, or out of memory.
+    /// limit, or out of memory. Of several causes the first is named, as by `ValidationOptions::build`.
     pub fn new<S: Resolver, T: KeywordTable<K>, V: MetaValidators>(
         alloc: Global,
         schema: &Value,
@@ -57,6 +58,9 @@ impl<K: Validate, M: Matcher> Validator<K, M> {
         ensures passed { IfOk result (λ _. PassesCheck (S.resolving resolver.now) (V.checked metas.now)
             default_options (view schema.now)) }
         ensures refused { IfErr result (λ e. BuildRefused
+            (handed S.Resolver T.KeywordTable K.Validate M.Matcher.own resolver.now table.now matcher.now)
+            (V.checked metas.now) default_options (view schema.now) e) }
+        ensures first { IfErr result (λ e. FirstOfBuild
             (handed S.Resolver T.KeywordTable K.Validate M.Matcher.own resolver.now table.now matcher.now)
             (V.checked metas.now) default_options (view schema.now) e) }
     {

@@ -8,6 +8,7 @@ ghost use Rattle.schema_engine.specs.Called.{DecidesGuardedly, DecidesPlainly, B
 ghost use Rattle.schema_engine.specs.Called.{EvaluatesGuardedly, EvaluatesPlainly, UnitsGuardedly, UnitsPlainly};
 ghost use Rattle.schema_engine.specs.Called.{ErrorsPlainly, ErrorsGuardedly, EachLeads, FirstPlainly, FirstGuardedly, FirstLeads};
 ghost use Rattle.schema_engine.specs.Called.{UnitsLead};
+ghost use Rattle.schema_engine.specs.FirstCauses.{FirstOfBuild};
 ghost use Rattle.schema_engine.specs.Handed.{default_options, handed};
 
 use crate::validator::Validator;
@@ -51,6 +52,9 @@ pub fn is_valid<S: Resolver, T: KeywordTable<K>, K: Validate, M: Matcher, V: Met
     ensures refused { IfErr result (λ e. BuildRefused
         (handed S.Resolver T.KeywordTable K.Validate M.Matcher.own resolver.now table.now matcher.now)
         (V.checked metas.now) default_options (view schema.now) e) }
+    ensures first { IfErr result (λ e. FirstOfBuild
+        (handed S.Resolver T.KeywordTable K.Validate M.Matcher.own resolver.now table.now matcher.now)
+        (V.checked metas.now) default_options (view schema.now) e) }
 {
     let built = Validator::<K, M>::new(alloc, schema, table, resolver, matcher, metas)?;
     Ok(built.is_valid(alloc, instance)?)
@@ -87,6 +91,9 @@ pub fn validate<'i, S: Resolver, T: KeywordTable<K>, K: Validate, M: Matcher, V:
     ensures passed { IfOk result (λ _. PassesCheck (S.resolving resolver.now) (V.checked metas.now)
         default_options (view schema.now)) }
     ensures refused { IfErr result (λ e. BuildRefused
+        (handed S.Resolver T.KeywordTable K.Validate M.Matcher.own resolver.now table.now matcher.now)
+        (V.checked metas.now) default_options (view schema.now) e) }
+    ensures first { IfErr result (λ e. FirstOfBuild
         (handed S.Resolver T.KeywordTable K.Validate M.Matcher.own resolver.now table.now matcher.now)
         (V.checked metas.now) default_options (view schema.now) e) }
 {
@@ -126,6 +133,9 @@ pub fn iter_errors<'i, S: Resolver, T: KeywordTable<K>, K: Validate, M: Matcher,
     ensures passed { IfOk result (λ _. PassesCheck (S.resolving resolver.now) (V.checked metas.now)
         default_options (view schema.now)) }
     ensures refused { IfErr result (λ e. BuildRefused
+        (handed S.Resolver T.KeywordTable K.Validate M.Matcher.own resolver.now table.now matcher.now)
+        (V.checked metas.now) default_options (view schema.now) e) }
+    ensures first { IfErr result (λ e. FirstOfBuild
         (handed S.Resolver T.KeywordTable K.Validate M.Matcher.own resolver.now table.now matcher.now)
         (V.checked metas.now) default_options (view schema.now) e) }
 {
@@ -173,6 +183,9 @@ pub fn evaluate<S: Resolver, T: KeywordTable<K>, K: Validate, M: Matcher, V: Met
     ensures passed { IfOk result (λ _. PassesCheck (S.resolving resolver.now) (V.checked metas.now)
         default_options (view schema.now)) }
     ensures refused { IfErr result (λ e. BuildRefused
+        (handed S.Resolver T.KeywordTable K.Validate M.Matcher.own resolver.now table.now matcher.now)
+        (V.checked metas.now) default_options (view schema.now) e) }
+    ensures first { IfErr result (λ e. FirstOfBuild
         (handed S.Resolver T.KeywordTable K.Validate M.Matcher.own resolver.now table.now matcher.now)
         (V.checked metas.now) default_options (view schema.now) e) }
 {

@@ -1,9 +1,9 @@
 -- A subschema that is compiled by itself: its key, why it has none, and what is said of its root's own vocabularies.
-use Rattle.std.specs.Prelude.{Contains, None, Option, [], flat_map, option_map, string_bytes, ◌≡◌}
+use Rattle.std.specs.Prelude.{List, None, Option, Some, [], flat_map, option_map, slice_get, string_bytes, ◌≡◌}
 use Rattle.schema_definitions.specs.Instance.{Place}
 use Rattle.schema_definitions.specs.Parts.{Parts}
 use Rattle.schema_definitions.specs.Plan.{Key, subschema}
-use Rattle.schema_meaning.specs.Refusals.{undeclared, unsupported_vocabulary}
+use Rattle.schema_meaning.specs.Refusals.{Cause, undeclared, unsupported_vocabulary}
 use Rattle.schema_keys.specs.declared.error.BuildError.{BuildError}
 use Rattle.schema_keys.specs.declared.error.BuildError.TheVariants.{KeywordRefused, Lookup, MetaSchema, MissingRoot, NodeLimit, NotASchema, OutOfMemory, ReferenceNotText, UnsupportedVocabulary}
 
@@ -19,19 +19,23 @@ RefusesKeyAlone o (MissingRoot uri) = ⊥
 RefusesKeyAlone o (NodeLimit n) = ⊥
 RefusesKeyAlone o OutOfMemory = Unit {0}
 
+-- a refusal for vocabularies of which these causes stand names the first of these; want of memory says nothing
+abbrev pub NamesFirst : List Cause → BuildError → Type 0
+NamesFirst cs (NotASchema location) = ⊥
+NamesFirst cs (ReferenceNotText location) = ⊥
+NamesFirst cs (Lookup text) = ⊥
+NamesFirst cs (KeywordRefused error) = ⊥
+NamesFirst cs (UnsupportedVocabulary uri) = slice_get cs 0 ≡ Some (unsupported_vocabulary (string_bytes uri))
+NamesFirst cs (MetaSchema error) = ⊥
+NamesFirst cs (MissingRoot uri) = ⊥
+NamesFirst cs (NodeLimit n) = ⊥
+NamesFirst cs OutOfMemory = Unit {0}
+
 module _ {S K R : Type 0} (w : Parts S K R) where
   -- the key of the subschema at a path below a root, at the empty location
   abbrev pub key_alone : Key S → Place → Option (Key S)
   key_alone root path = option_map (λ edge. record edge.key { location = []; base = []; start = 0 }) (subschema w root path)
 
-  -- why a root's own vocabularies are refused: one of them is not declared; want of memory says nothing
+  -- why a root's own vocabularies are refused: the first of them that is not declared is named; want of memory says nothing
   abbrev pub RefusesVocabularies : Key S → BuildError → Type 0
-  RefusesVocabularies root (NotASchema location) = ⊥
-  RefusesVocabularies root (ReferenceNotText location) = ⊥
-  RefusesVocabularies root (Lookup text) = ⊥
-  RefusesVocabularies root (KeywordRefused error) = ⊥
-  RefusesVocabularies root (UnsupportedVocabulary uri) = Contains (flat_map (undeclared w) root.target.vocabularies) (unsupported_vocabulary (string_bytes uri))
-  RefusesVocabularies root (MetaSchema error) = ⊥
-  RefusesVocabularies root (MissingRoot uri) = ⊥
-  RefusesVocabularies root (NodeLimit n) = ⊥
-  RefusesVocabularies root OutOfMemory = Unit {0}
+  RefusesVocabularies root e = NamesFirst (flat_map (undeclared w) root.target.vocabularies) e

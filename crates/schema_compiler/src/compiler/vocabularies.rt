@@ -3,6 +3,7 @@ ghost use Rattle.std.specs.Prelude.{◌≡◌, [], IfOk, IfErr, map, string_byte
 ghost use Rattle.std.specs.List.{list_any};
 ghost use Rattle.schema_definitions.specs.Drafts.{custom_vocabulary};
 ghost use Rattle.schema_compiler.specs.Carried.{lacking, task};
+ghost use Rattle.schema_keys.specs.Alone.{NamesFirst};
 ghost use Rattle.schema_keys.specs.Refusing.{Names};
 
 use crate::compiler::given::Given;
@@ -20,7 +21,7 @@ fn is_declared(declared: &[String], uri: &str) -> bool
 }
 
 impl<'p, R: Resolver, T> Given<'p, R, T> {
-    // Refuses a vocabulary of one of these URIs that is not declared.
+    // Refuses the first vocabulary of these URIs that is not declared.
     fn check_each<K: Validate>(&self, uris: &[String]) -> Result<(), BuildError>
     where
         T: KeywordTable<K>,
@@ -28,6 +29,9 @@ impl<'p, R: Resolver, T> Given<'p, R, T> {
             (task R.resolving T.owned T.script K.shape self.now)
             (map custom_vocabulary (map string_bytes uris.now)) ≡ []) }
         ensures refused { IfErr result (Names (lacking
+            (task R.resolving T.owned T.script K.shape self.now)
+            (map custom_vocabulary (map string_bytes uris.now)))) }
+        ensures first { IfErr result (NamesFirst (lacking
             (task R.resolving T.owned T.script K.shape self.now)
             (map custom_vocabulary (map string_bytes uris.now)))) }
     {
@@ -39,7 +43,7 @@ impl<'p, R: Resolver, T> Given<'p, R, T> {
         Ok(())
     }
 
-    /// Refuses a custom vocabulary that is not declared.
+    /// Refuses the first custom vocabulary that is not declared.
     pub(crate) fn check_declared<K: Validate>(
         &self,
         vocabularies: &VocabularySet,
@@ -49,6 +53,8 @@ impl<'p, R: Resolver, T> Given<'p, R, T> {
         ensures declared { IfOk result (λ _. lacking
             (task R.resolving T.owned T.script K.shape self.now) vocabularies.now ≡ []) }
         ensures refused { IfErr result (Names (lacking
+            (task R.resolving T.owned T.script K.shape self.now) vocabularies.now)) }
+        ensures first { IfErr result (NamesFirst (lacking
             (task R.resolving T.owned T.script K.shape self.now) vocabularies.now)) }
     {
         self.check_each(vocabularies.custom())

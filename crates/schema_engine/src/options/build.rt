@@ -6,6 +6,7 @@ ghost use Rattle.schema_keywords.specs.KeywordViews.{draft_of};
 ghost use Rattle.schema_parts.specs.ResolverViews.{place_of};
 ghost use Rattle.schema_check.specs.Checking.{AcceptsSchema, RefusesSchema};
 ghost use Rattle.schema_engine.specs.Checked.{PassesCheck};
+ghost use Rattle.schema_engine.specs.FirstCauses.{FirstOfBuild};
 ghost use Rattle.schema_engine.specs.Handed.{default_nested, handed};
 
 use crate::compiled::of_compiled;
@@ -39,7 +40,8 @@ impl ValidationOptions {
     ///
     /// Fails if the schema's root, or a schema that it reaches, is refused, if more keys are reached than the limit, or out of
     /// memory. The error names a cause of that refusal. Where the schema is checked, fails also with the error of a document of
-    /// it that the meta validators refuse.
+    /// it that the meta validators refuse. Of several causes the first is named: the draft, the base, the first document that is
+    /// refused, the first vocabulary of the root that is not declared, and then what is compiled.
     pub fn build<S: Resolver, T: KeywordTable<K>, K: Validate, M: Matcher, V: MetaValidators>(
         &self,
         alloc: Global,
@@ -67,6 +69,9 @@ impl ValidationOptions {
         ensures passed { IfOk result (λ _. PassesCheck (S.resolving resolver.now) (V.checked metas.now)
             self.now (view schema.now)) }
         ensures refused { IfErr result (λ e. BuildRefused
+            (handed S.Resolver T.KeywordTable K.Validate M.Matcher.own resolver.now table.now matcher.now)
+            (V.checked metas.now) self.now (view schema.now) e) }
+        ensures first { IfErr result (λ e. FirstOfBuild
             (handed S.Resolver T.KeywordTable K.Validate M.Matcher.own resolver.now table.now matcher.now)
             (V.checked metas.now) self.now (view schema.now) e) }
     {
@@ -114,6 +119,9 @@ impl ValidationOptions {
         ensures passed { IfOk result (λ _. PassesCheck (S.resolving resolver.now) (V.checked metas.now)
             self.now (view schema.now)) }
         ensures refused { IfErr result (λ e. BuildRefused
+            (handed S.Resolver T.KeywordTable K.Validate M.Matcher.own resolver.now table.now matcher.now)
+            (V.checked metas.now) self.now (view schema.now) e) }
+        ensures first { IfErr result (λ e. FirstOfBuild
             (handed S.Resolver T.KeywordTable K.Validate M.Matcher.own resolver.now table.now matcher.now)
             (V.checked metas.now) self.now (view schema.now) e) }
     {

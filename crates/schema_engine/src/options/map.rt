@@ -7,6 +7,7 @@ ghost use Rattle.schema_keys.specs.Compiling.{resolving_parts};
 ghost use Rattle.schema_keys.specs.KeyViews.{key_of};
 ghost use Rattle.schema_engine.specs.Entries.{FailsEntry, HoldsPlaces, IsCompiledAlone, IsEntry, IsLeftOut, IsMade, IsPut};
 ghost use Rattle.schema_engine.specs.Entries.{RefusesAlone, RefusesEntry, RefusesOneOf};
+ghost use Rattle.schema_engine.specs.FirstCauses.{FirstOfMap};
 ghost use Rattle.schema_engine.specs.Handed.{handed};
 ghost use Rattle.schema_engine.specs.Mapped.{EachHasPlainUnits, EachIsCompiledFrom, EachMeansPlainly, EachPointsPlainly};
 ghost use Rattle.schema_engine.specs.Mapped.{HoldsCompiled, HoldsEach, MapIsBuilt, MapRefused, name_of};
@@ -44,7 +45,8 @@ impl ValidationOptions {
     /// # Errors
     ///
     /// Fails if the root's draft or base is refused, if a meta validator refuses the schema, if the root requires a custom
-    /// vocabulary that is not declared, if one entry reaches more keys than the limit, or out of memory. Then there is no map.
+    /// vocabulary that is not declared, if one entry reaches more keys than the limit, or out of memory. Then there is no map. Of
+    /// several causes the first in this order is named, of documents and vocabularies the first that is refused.
     pub fn build_map<S: Resolver, T: KeywordTable<K>, K: Validate, M: Matcher, V: MetaValidators>(
         &self,
         alloc: Global,
@@ -78,6 +80,9 @@ impl ValidationOptions {
         ensures refused { IfErr result (λ e. MapRefused
             (handed S.Resolver T.KeywordTable K.Validate M.Matcher.own resolver.now table.now matcher.now)
             self.now (view schema.now) (V.checked metas.now) e) }
+        ensures first { IfErr result (λ e. FirstOfMap
+            (handed S.Resolver T.KeywordTable K.Validate M.Matcher.own resolver.now table.now matcher.now)
+            (V.checked metas.now) self.now (view schema.now) e) }
     {
         let root = root_key(alloc, resolver, self, schema)?;
         let building = MapBuilding {
@@ -121,6 +126,9 @@ impl<'p, S: Resolver, T, M: Matcher> MapBuilding<'p, S, T, M> {
         ensures refused { IfErr result (MapRefused
             (handed S.Resolver T.KeywordTable K.Validate M.Matcher.own self.now.resolver.now self.now.table.now self.now.matcher.now)
             self.now.options.now (view self.now.schema.now) (V.checked metas.now)) }
+        ensures first { IfErr result (λ e. FirstOfMap
+            (handed S.Resolver T.KeywordTable K.Validate M.Matcher.own self.now.resolver.now self.now.table.now self.now.matcher.now)
+            (V.checked metas.now) self.now.options.now (view self.now.schema.now) e) }
     {
         let options = self.options;
         validate_schema(

@@ -13,4 +13,4 @@ pub returns-in_err-check_declared-clause-refused : goal.returns-in_err-check_dec
 returns-in_err-check_declared-clause-refused g c =
     let p = err_from_is_err_and c.from_residual.result c.from_residual.ensures.1 in
     rw (p.1, p.2) (λ matcher keywords draft base. vocabulary_refuses (g.R.Resolver.resolving c.args.resolver.now) (record { owns = g.T.KeywordTable.owned c.args.table.now; builtin = builtin; script = g.T.KeywordTable.script c.args.table.now })
-    c.args.options.now.formats (map string_bytes c.args.options.now.declared.items) matcher keywords draft base (key_of g.R.Resolver.point c.args.root.now) _ c.in_err-check_declared.ensures.refused)
+    c.args.options.now.formats (map string_bytes c.args.options.now.declared.items) matcher keywords draft base (key_of g.R.Resolver.point c.args.root.now) _ c.in_err-check_declared.ensures.first)

@@ -1,4 +1,4 @@
-use Rattle.std.proofs.Common.{map}
+use Rattle.std.proofs.Common.{inl, inr, map}
 use Rattle.std.specs.Prelude.{string_bytes}
 use Rattle.std.proofs.lemmas.Result.{err_from_is_err_and}
 use Rattle.schema_keys.specs.KeyViews.{key_of}
@@ -25,3 +25,13 @@ returns-in_err-compile_subschema-clause-refused g c =
     rw (p.1, p.2) (λ matcher keywords draft base. refuses_root (all_parts (g.R.Resolver.resolving c.args.resolver.now) (record { owns = g.T.KeywordTable.owned c.args.table.now; builtin = builtin; script = g.T.KeywordTable.script c.args.table.now })
     c.args.options.now.formats (map string_bytes c.args.options.now.declared.items) matcher keywords draft base)
     c.args.options.now.node_limit (key_of g.R.Resolver.point c.args.root) _ (c.in_err-compile_subschema.ensures.refused matcher keywords draft base))
+
+pub returns-in_err-check_vocabularies-clause-first : goal.returns-in_err-check_vocabularies-clause-first
+returns-in_err-check_vocabularies-clause-first g c =
+    let p = err_from_is_err_and c.from_residual.result c.from_residual.ensures.1 in
+    rw (p.1, p.2) (λ matcher keywords draft base. inl (c.in_err-check_vocabularies.ensures.refused matcher keywords draft base))
+
+pub returns-in_err-compile_subschema-clause-first : goal.returns-in_err-compile_subschema-clause-first
+returns-in_err-compile_subschema-clause-first g c =
+    let p = err_from_is_err_and c.from_residual-in_err-compile_subschema.result c.from_residual-in_err-compile_subschema.ensures.1 in
+    rw (p.1, p.2) (λ matcher keywords draft base. inr (c.in_ok-check_vocabularies.ensures.declared matcher keywords draft base, c.in_err-compile_subschema.ensures.refused matcher keywords draft base))

@@ -20,3 +20,8 @@ pub returns-in_err-built-clause-refused : goal.returns-in_err-built-clause-refus
 returns-in_err-built-clause-refused g c =
     let p = err_from_is_err_and c.from_residual.result c.from_residual.ensures.1 in
     rw (p.1, p.2) c.in_err-built.ensures.refused
+
+pub returns-in_err-built-clause-first : goal.returns-in_err-built-clause-first
+returns-in_err-built-clause-first g c =
+    let p = err_from_is_err_and c.from_residual.result c.from_residual.ensures.1 in
+    rw (p.1, p.2) c.in_err-built.ensures.first

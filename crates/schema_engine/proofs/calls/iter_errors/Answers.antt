@@ -36,3 +36,8 @@ pub returns-in_err-validator-clause-refused : goal.returns-in_err-validator-clau
 returns-in_err-validator-clause-refused g c =
     let p = err_from_is_err_and c.from_residual.result c.from_residual.ensures.1 in
     rw (p.1, p.2) c.in_err-validator.ensures.refused
+
+pub returns-in_err-validator-clause-first : goal.returns-in_err-validator-clause-first
+returns-in_err-validator-clause-first g c =
+    let p = err_from_is_err_and c.from_residual.result c.from_residual.ensures.1 in
+    rw (p.1, p.2) c.in_err-validator.ensures.first

@@ -6,7 +6,7 @@ use Rattle.schema_keys.specs.Compiling.{Each, resolving_parts}
 use Rattle.schema_check.specs.Checking.{EachAccepted, own_document}
 use Rattle.schema_check.specs.CutViews.{cut_of}
 use Rattle.schema_check.specs.declared.check.cuts.Cut as code
-use Rattle.schema_check.proofs.CheckedDocuments.{IsLowerCut, accepted_all, accepted_next, at_index, cuts_lower, cuts_of, height, refused_inside, refused_itself}
+use Rattle.schema_check.proofs.CheckedDocuments.{IsLowerCut, accepted_all, accepted_next, at_index, cuts_lower, cuts_of, follows_next, height, refused_inside, refused_itself}
 use Rattle.schema_check.proofs.check.SchemaCheck.+check_documents.Goals as goal
 
 pub returns-in_err-check_document-clause-refused :
@@ -44,9 +44,11 @@ returns-in_err-check_documents-clause-refused g t c =
     let are : map cut_of items ≡ cuts_of r draft place = ap (map cut_of) c.deref-cut-items.ensures.value ∙ c.in_ok-cuts.ensures.cuts in
     let lower : IsLowerCut r place (cut_of x) = at_index cut_of (IsLowerCut r place) items c.loop-cut.cut-index x
     (subst (Each (IsLowerCut r place)) (sym are) (cuts_lower r (g.met.R.Resolver.inside resolver) (g.met.R.Resolver.below resolver) (suc (height r place)) draft draft place)) c.loop-cut-test.true c.cut-item.is in
+    let one_list = c.as_slice.ensures.value ∙ sym c.deref-cut-items.ensures.value in
+    let itself = subst (λ (xs : List code.Cut). EachAccepted (resolving_parts r) refuses (own_document (resolving_parts r) (map cut_of xs) draft place)) one_list c.in_ok-check_document.ensures.accepted in
     let p = err_from_is_err_and c.from_residual-in_err-check_documents.result c.from_residual-in_err-check_documents.ensures.1 in
     rw (p.1, p.2) (refused_inside r refuses (place_of c.args.self.now.root.now) place draft items c.loop-cut.cut-index x _ are c.loop-cut-test.true c.cut-item.is
-    lower c.in_err-check_documents.ensures.refused)
+    lower itself c.loop-cut.invariant.follows c.in_err-check_documents.ensures.refused)
 
 pub loop-cut-preserved : goal.loop-cut-preserved
 loop-cut-preserved g t c =
@@ -60,8 +62,10 @@ loop-cut-preserved g t c =
     let are : map cut_of items ≡ cuts_of r draft place = ap (map cut_of) c.deref-cut-items.ensures.value ∙ c.in_ok-cuts.ensures.cuts in
     let lower : IsLowerCut r place (cut_of x) = at_index cut_of (IsLowerCut r place) items c.loop-cut.cut-index x
     (subst (Each (IsLowerCut r place)) (sym are) (cuts_lower r (g.met.R.Resolver.inside resolver) (g.met.R.Resolver.below resolver) (suc (height r place)) draft draft place)) c.loop-cut-test.true c.cut-item.is in
-    accepted_next r refuses place items c.loop-cut.cut-index x c.loop-cut-test.true c.cut-item.is lower
-    c.in_ok-check_documents.ensures.accepted c.loop-cut.invariant
+    record {
+      accepted = accepted_next r refuses place items c.loop-cut.cut-index x c.loop-cut-test.true c.cut-item.is lower c.in_ok-check_documents.ensures.accepted c.loop-cut.invariant.accepted;
+      follows = follows_next r refuses place items c.loop-cut.cut-index x c.loop-cut-test.true c.cut-item.is lower c.in_ok-check_documents.ensures.accepted c.loop-cut.invariant.follows;
+    }
 
 pub returns-clause-accepted : goal.returns-clause-accepted
 returns-clause-accepted g t c =
@@ -73,4 +77,4 @@ returns-clause-accepted g t c =
     let are : map cut_of items ≡ cuts_of r draft place = ap (map cut_of) c.deref-cut-items.ensures.value ∙ c.in_ok-cuts.ensures.cuts in
     let one_list = c.as_slice.ensures.value ∙ sym c.deref-cut-items.ensures.value in
     let own = subst (λ (xs : List code.Cut). EachAccepted (resolving_parts r) refuses (own_document (resolving_parts r) (map cut_of xs) draft place)) one_list c.in_ok-check_document.ensures.accepted in
-    accepted_all r refuses draft place items c.loop-cut.cut-index are c.loop-cut-test.false own c.loop-cut.invariant
+    accepted_all r refuses draft place items c.loop-cut.cut-index are c.loop-cut-test.false own c.loop-cut.invariant.accepted

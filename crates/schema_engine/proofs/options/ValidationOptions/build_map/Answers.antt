@@ -24,4 +24,5 @@ returns g c =
       at_each = IfOk-weaker result _ _ (λ m is. is.at_each) all;
       built = IfOk-weaker result _ _ (λ m is. is_built h options schema root key is.declared (g.V.MetaValidators.checked c.args.metas.now) is.accepted) made;
       refused = c.checked_map.ensures.refused;
+      first = c.checked_map.ensures.first;
     }

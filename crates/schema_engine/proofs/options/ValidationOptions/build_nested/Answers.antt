@@ -10,16 +10,17 @@ use Rattle.schema_keys.specs.Builtins.{builtin}
 use Rattle.schema_check.specs.Checking.{AcceptsSchema}
 use Rattle.schema_keys.specs.Compiling.{no_table, no_keywords, no_matcher}
 use Rattle.schema_keys.specs.KeyViews.{key_of}
-use Rattle.schema_compiler.specs.Compilation.{IsCompilation, RefusesRoot, all_parts}
+use Rattle.schema_compiler.specs.Compilation.{IsCompilation, RefusesInOrder, RefusesRoot, all_parts}
 use Rattle.schema_engine.specs.Compiled.{IsWhole}
-use Rattle.schema_engine.specs.Handed.{Options, parts_of, table_of}
+use Rattle.schema_engine.specs.Handed.{Options, handed, parts_of, table_of}
 use Rattle.schema_engine.specs.Roots.{root_parts}
-use Rattle.schema_engine.proofs.Compilations.{compiled_from_roots, compiles_in, reach_in, refuses_in, whole_in, whole_too}
+use Rattle.schema_engine.proofs.Compilations.{compiled_from_roots, compiles_in, in_order_in, reach_in, refuses_in, whole_in, whole_too}
 use Rattle.schema_meaning.specs.ErrorsLead.{EachKeepsAbsorbing}
 use Rattle.schema_meaning.proofs.TurnsGiveRuns.{keeps_of_turns}
 use Rattle.schema_engine.proofs.Pointing.{points_into}
 use Rattle.schema_engine.proofs.OtherParts.{compiles_too}
 use Rattle.schema_engine.proofs.RootKeys.{one_root_key, root_key_too, root_too}
+use Rattle.schema_engine.proofs.FirstCauses.{compiled_first, document_first}
 use Rattle.schema_engine.proofs.options.ValidationOptions.build_nested.Goals as goal
 
 pub of_compiled-requires : goal.of_compiled-requires
@@ -177,3 +178,25 @@ returns-in_err-check-clause-refused g c =
     let p = err_from_is_err_and c.from_residual-in_err-check.result c.from_residual-in_err-check.ensures.1 in
     let fails = c.in_err-check.ensures.refused in
     rw (p.1, p.2) (inr (fails.0, (key_of g.S.Resolver.point c.in_ok-root.root, c.in_ok-root.ensures.key, fails.1)))
+
+pub returns-in_err-check-clause-first : goal.returns-in_err-check-clause-first
+returns-in_err-check-clause-first g c =
+    let h = handed g.S.Resolver g.T.KeywordTable g.K.Validate g.M.Matcher c.args.resolver.now c.args.table.now c.args.matcher.now in
+    let p = err_from_is_err_and c.from_residual-in_err-check.result c.from_residual-in_err-check.ensures.1 in
+    let fails = c.in_err-check.ensures.refused in
+    rw (p.1, p.2) (document_first h (g.V.MetaValidators.checked c.args.metas.now) c.args.self.now (view c.args.schema.now) (key_of g.S.Resolver.point c.in_ok-root.root) c.in_ok-root.ensures.key _ fails.0 fails.1)
+
+pub returns-in_err-compiled-clause-first : goal.returns-in_err-compiled-clause-first
+returns-in_err-compiled-clause-first g c =
+    let h = handed g.S.Resolver g.T.KeywordTable g.K.Validate g.M.Matcher c.args.resolver.now c.args.table.now c.args.matcher.now in
+    let owns = g.T.KeywordTable.owned c.args.table.now in
+    let script = g.T.KeywordTable.script c.args.table.now in
+    let inside = c.self.inside in
+    let options = c.args.self.now in
+    let key = key_of g.S.Resolver.point c.in_ok-root.root in
+    let e = c.in_err-compiled.field-0.0 in
+    let p = err_from_is_err_and c.from_residual-in_err-compiled.result c.from_residual-in_err-compiled.ensures.1 in
+    rw (p.1, p.2) (compiled_first h (g.V.MetaValidators.checked c.args.metas.now) options (view c.args.schema.now) key c.in_ok-root.ensures.key e c.in_ok-check.ensures.accepted
+    (λ texts. in_order_in h.resolver owns script h.matcher (h.words texts) options options.limit key e
+    (subst (λ (o : Options). RefusesInOrder (all_parts h.resolver (record { owns = owns; builtin = builtin; script = script }) o.formats o.declared h.matcher (h.words texts) o.draft o.base) o.limit key e) c.self.view_is
+    (c.in_err-compiled.ensures.first h.matcher (h.words texts) (option_map draft_of inside.draft) (option_map string_bytes inside.base)))))

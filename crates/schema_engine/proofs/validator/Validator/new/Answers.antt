@@ -4,6 +4,7 @@ use Rattle.serde_json.specs.View.{view}
 use Rattle.schema_keywords.specs.KeywordTable.{builtin_in}
 use Rattle.schema_keys.specs.declared.error.BuildError.{BuildError}
 use Rattle.schema_engine.specs.Called.{BuildRefused}
+use Rattle.schema_engine.specs.FirstCauses.{FirstOfBuild}
 use Rattle.schema_engine.specs.Handed.{Options, handed, parts_of, table_of}
 use Rattle.schema_engine.specs.Program.{Program}
 use Rattle.schema_engine.specs.Promised.{HasSchemasUnits, MeansSchema, PointsIntoSchema}
@@ -50,3 +51,9 @@ returns-clause-refused g c =
     subst (λ (o : Options). IfErr c.build-2.result (λ (e : BuildError). BuildRefused (handed g.S.Resolver g.T.KeywordTable g.K.Validate g.M.Matcher c.args.resolver.now c.args.table.now c.args.matcher.now)
     (g.V.MetaValidators.checked c.args.metas.now) o (view c.args.schema.now) e))
     c.options.ensures.defaults c.build-2.ensures.refused
+
+pub returns-clause-first : goal.returns-clause-first
+returns-clause-first g c =
+    subst (λ (o : Options). IfErr c.build-2.result (λ (e : BuildError). FirstOfBuild (handed g.S.Resolver g.T.KeywordTable g.K.Validate g.M.Matcher c.args.resolver.now c.args.table.now c.args.matcher.now)
+    (g.V.MetaValidators.checked c.args.metas.now) o (view c.args.schema.now) e))
+    c.options.ensures.defaults c.build-2.ensures.first

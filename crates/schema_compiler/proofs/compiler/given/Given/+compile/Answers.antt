@@ -579,7 +579,7 @@ made_entry-returns-in-Refuse g t c =
     let es = map (option_map edge_of) c.loop-children.children.items in
     let keys' = map v c.loop-children.compiled.keys in
     maker_refused s.parts s.shape s.limit s.nested k name making waiting waiting' told es old.keys keys' old.nodes c.loop-children.compiled.nodes c.in-Refuse.error c.loop-children.invariant.0
-        (rw c.in-Refuse.is at c.in_ok-path.ensures.takes)
+    (rw c.in-Refuse.is at c.in_ok-path.ensures.takes)
 
 pub planned_object-returns-in_err-entry-in-Some : goal.planned_object-returns-in_err-entry-in-Some
 planned_object-returns-in_err-entry-in-Some g t c =
