@@ -105,7 +105,7 @@ planned_remembers {K = K} q c after nodes i xs r plan h = λ ys is.
 -- ---- a guarded edge whose pair is not in progress
 
 -- what is read is read for the verdict
-read_for_verdict : (mode : Mode) (i : ℕ) (p : Place) (c : Context) (v : Bool) → read_in_mode mode i p c ≡ Some v → (mode ≡ for_verdict) × (read_verdict i p c ≡ Some v)
+pub read_for_verdict : (mode : Mode) (i : ℕ) (p : Place) (c : Context) (v : Bool) → read_in_mode mode i p c ≡ Some v → (mode ≡ for_verdict) × (read_verdict i p c ≡ Some v)
 read_for_verdict for_verdict i p c v h = (refl, h)
 read_for_verdict for_first i p c v h = absurd (cc h)
 read_for_verdict for_all i p c v h = absurd (cc h)

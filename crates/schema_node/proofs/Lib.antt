@@ -11,5 +11,6 @@ pub mod Stamped
 pub mod MeetsAgain
 pub mod RightVerdicts
 pub mod GoesOn
+mod Visits
 mod NodeUnits
 mod UnitsAsked

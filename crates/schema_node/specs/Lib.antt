@@ -24,6 +24,7 @@ pub mod EvaluationPlaces
 pub mod NodeRuns
 pub mod RightVerdicts
 pub mod RunStates
+pub mod Visits
 pub mod Turning
 pub mod NodeUnits
 pub mod UnitStates

@@ -1,5 +1,5 @@
 //! Evaluations of nodes over instances.
-ghost use Rattle.std.specs.Prelude.{◌≤◌, IfOk, map, option_map, string_bytes};
+ghost use Rattle.std.specs.Prelude.{◌≡◌, ◌≤◌, IfOk, map, option_map, string_bytes};
 ghost use Rattle.schema_reports.specs.InstanceViews.{subject_of};
 ghost use Rattle.schema_definitions.specs.Laws.{IsPresent, steps_below};
 ghost use Rattle.schema_parts.specs.KeywordViews.{below_of};
@@ -11,6 +11,7 @@ ghost use Rattle.schema_node.specs.RunStates.{asking, form_at_work, setting};
 ghost use Rattle.schema_node.specs.RunStates.{Keeps, StaysRight};
 ghost use Rattle.schema_node.specs.RunStates.{MeetsChild, MeetsEdge, MeetsForm, MeetsNode, MeetsParts};
 ghost use Rattle.schema_node.specs.UnitStates.{ChildGives, EdgeGives, FormGives, MayEvaluate, NodeGives, PartsGive};
+ghost use Rattle.schema_node.specs.Visits.{LeadsNowhere};
 
 use crate::node::evaluation_place::EvaluationPlace;
 use crate::node::question::{Engine, NamedKeyword, Question};
@@ -190,6 +191,7 @@ pub(crate) fn evaluate_child<'i, K: Validate, M: Matcher>(
     requires present { IsPresent (subject_of question.now.instance) (steps_below (below_of below)) }
     ensures keeps { IfOk result (λ _. Keeps context.old context.new) }
     ensures counts { IfOk result (λ _. context.old.visits ≤ context.new.visits) }
+    ensures quiet { IfOk result (λ _. LeadsNowhere (map (option_map edge_of) children.now) → context.new.visits ≡ context.old.visits) }
     ensures gives { IfOk result (λ u. ChildGives (setting K.words K.is_whole K.shape M.matching engine.now) (asking question.now)
         context.old node.0 (map (option_map edge_of) children.now) (record { child = child; below = below_of below.entry }) u) }
     ensures meets { IfOk result (λ _. MeetsChild (setting K.words K.is_whole K.shape M.matching engine.now) (asking question.now)

@@ -16,6 +16,7 @@ ghost use Rattle.schema_node.specs.RunStates.{Keeps, MayRun};
 ghost use Rattle.schema_node.specs.RunStates.{ChildSays, EdgeSays, FormSays, NodeSays, PartsSay};
 ghost use Rattle.schema_node.specs.RunStates.{MeetsChild, MeetsEdge, MeetsEntry, MeetsForm, MeetsNode, MeetsParts};
 ghost use Rattle.schema_node.specs.RunStates.{EdgeRemembers, FormRemembers, NodeRemembers, PartsRemember, StaysRight};
+ghost use Rattle.schema_node.specs.Visits.{EdgeCounts, FormCounts, LeadsNowhere, NodeCounts, PartsCount};
 
 use crate::node::evaluation_place::EvaluationPlace;
 use crate::node::faults::finished;
@@ -83,6 +84,8 @@ pub(crate) fn run_node<'i, K: Validate, M: Matcher>(
         context.old node.0 }
     ensures keeps { IfOk result (λ _. Keeps context.old context.new) }
     ensures counts { IfOk result (λ _. context.old.visits ≤ context.new.visits) }
+    ensures visits { IfOk result (λ _. NodeCounts (numbered K.shape engine.now.nodes.now)
+        (asking question.now) context.old context.new node.0) }
     ensures says { IfOk result (λ r. NodeSays
         (setting K.words K.is_whole K.shape M.matching engine.now) (asking question.now)
         context.old node.0 r) }
@@ -125,6 +128,8 @@ fn run_entries<'i, K: Validate, M: Matcher>(
     requires parts { HasParts (numbered K.shape engine.now.nodes.now) node.0 (map (shaped_part K.shape) (map entry_of entries.now)) }
     ensures keeps { IfOk result (λ _. Keeps context.old context.new) }
     ensures counts { IfOk result (λ _. context.old.visits ≤ context.new.visits) }
+    ensures visits { IfOk result (λ _. PartsCount (numbered K.shape engine.now.nodes.now)
+        (asking question.now) context.old context.new (map (shaped_part K.shape) (map entry_of entries.now))) }
     ensures says { IfOk result (λ r. PartsSay
         (setting K.words K.is_whole K.shape M.matching engine.now) (asking question.now)
         context.old node.0 (map (shaped_part K.shape) (map entry_of entries.now)) r) }
@@ -161,6 +166,8 @@ fn run_entry<'i, K: Validate, M: Matcher>(
     requires form { HasForm (numbered K.shape engine.now.nodes.now) node.0 (shaped_form K.shape (form_of entry.now.form)) }
     ensures keeps { IfOk result (λ _. Keeps context.old context.new) }
     ensures counts { IfOk result (λ _. context.old.visits ≤ context.new.visits) }
+    ensures visits { IfOk result (λ _. FormCounts (numbered K.shape engine.now.nodes.now)
+        (asking question.now) context.old context.new (shaped_form K.shape (form_of entry.now.form))) }
     ensures says { IfOk result (λ r. FormSays
         (setting K.words K.is_whole K.shape M.matching engine.now) (asking question.now)
         context.old node.0 (string_bytes entry.now.name) (shaped_form K.shape (form_of entry.now.form)) r) }
@@ -202,6 +209,8 @@ fn run_form<'i, K: Validate, M: Matcher>(
     requires form { HasForm (numbered K.shape engine.now.nodes.now) node.0 (shaped_form K.shape (form_of entry.now.form)) }
     ensures keeps { IfOk result (λ _. Keeps context.old context.new) }
     ensures counts { IfOk result (λ _. context.old.visits ≤ context.new.visits) }
+    ensures visits { IfOk result (λ _. FormCounts (numbered K.shape engine.now.nodes.now)
+        (asking question.now) context.old context.new (shaped_form K.shape (form_of entry.now.form))) }
     ensures says { IfOk result (λ r. FormSays
         (setting K.words K.is_whole K.shape M.matching engine.now) (asking question.now)
         context.old node.0 (string_bytes entry.now.name) (shaped_form K.shape (form_of entry.now.form)) r) }
@@ -268,6 +277,8 @@ fn run_keyword<'i, K: Validate, M: Matcher>(
     requires form { HasForm (numbered K.shape engine.now.nodes.now) node.0 (form_at_work K.shape keyword.now) }
     ensures keeps { IfOk result (λ _. Keeps context.old context.new) }
     ensures counts { IfOk result (λ _. context.old.visits ≤ context.new.visits) }
+    ensures visits { IfOk result (λ _. FormCounts (numbered K.shape engine.now.nodes.now)
+        (asking question.now) context.old context.new (form_at_work K.shape keyword.now)) }
     ensures says { IfOk result (λ r. FormSays
         (setting K.words K.is_whole K.shape M.matching engine.now) (asking question.now)
         context.old node.0 (string_bytes keyword.now.name.now) (form_at_work K.shape keyword.now) r) }
@@ -308,6 +319,7 @@ pub(crate) fn run_child<'i, K: Validate, M: Matcher>(
     requires present { IsPresent (subject_of question.now.instance) (steps_below (below_of below)) }
     ensures keeps { IfOk result (λ _. Keeps context.old context.new) }
     ensures counts { IfOk result (λ _. context.old.visits ≤ context.new.visits) }
+    ensures quiet { IfOk result (λ _. LeadsNowhere (map (option_map edge_of) children.now) → context.new.visits ≡ context.old.visits) }
     ensures says { IfOk result (λ r. ChildSays
         (setting K.words K.is_whole K.shape M.matching engine.now) (asking question.now)
         context.old node.0 (map (option_map edge_of) children.now) (record { child = child; below = below_of below.entry }) r) }
@@ -348,6 +360,8 @@ fn run_edge<'i, K: Validate, M: Matcher>(
         context.old edge.now.node.0 }
     ensures keeps { IfOk result (λ _. Keeps context.old context.new) }
     ensures counts { IfOk result (λ _. context.old.visits ≤ context.new.visits) }
+    ensures visits { IfOk result (λ _. EdgeCounts (numbered K.shape engine.now.nodes.now)
+        (asking question.now) context.old context.new (edge_of edge.now)) }
     ensures says { IfOk result (λ r. EdgeSays
         (setting K.words K.is_whole K.shape M.matching engine.now) (asking question.now)
         context.old (edge_of edge.now) r) }

@@ -9,6 +9,7 @@ ghost use Rattle.schema_node.specs.RunStates.{asking_first, setting_over};
 ghost use Rattle.schema_node.specs.RunStates.{RunBorrows, RunMeets, RunRemembers, RunReplies, RunSpeaks};
 ghost use Rattle.schema_node.specs.RunStates.{GoesOn, NodeRemembers, StaysRight, forgotten};
 ghost use Rattle.schema_node.specs.UnitStates.{RunGives, evaluating};
+ghost use Rattle.schema_node.specs.Visits.{NodeCounts};
 
 use crate::node::evaluate::evaluate_node;
 use crate::node::evaluation_place::EvaluationPlace;
@@ -71,7 +72,9 @@ pub trait RunNodes<K: Validate> {
             (setting_over K.words K.is_whole K.shape (table self.now) (M.matching matcher.now)) (asking_first question.now)
             context.new) }
         ensures remembers { IfOk result (λ r. NodeRemembers (asking_first question.now) (forgotten context.old) context.new
-            (numbered K.shape (table self.now)) node.0 r) };
+            (numbered K.shape (table self.now)) node.0 r) }
+        ensures visits { IfOk result (λ _. NodeCounts (numbered K.shape (table self.now)) (asking_first question.now)
+            (forgotten context.old) context.new node.0) };
 
     /// Runs a node as a part of a run that has begun: as `run` does, but verdicts that the run remembers are read, and stay
     /// remembered. For the verdict a node whose one entry is a guarded reference, its target's pair not in progress, gives the
@@ -107,7 +110,9 @@ pub trait RunNodes<K: Validate> {
             (setting_over K.words K.is_whole K.shape (table self.now) (M.matching matcher.now)) (asking_first question.now)
             context.old context.new) }
         ensures remembers { IfOk result (λ r. NodeRemembers (asking_first question.now) context.old context.new
-            (numbered K.shape (table self.now)) node.0 r) };
+            (numbered K.shape (table self.now)) node.0 r) }
+        ensures visits { IfOk result (λ _. NodeCounts (numbered K.shape (table self.now)) (asking_first question.now)
+            context.old context.new node.0) };
 
     /// Evaluates a node over the instance at a place, with the path that led to it: returns the node's unit, with one child for each
     /// of its entries in their order. A match that the matcher leaves unfinished comes out as the context assumes it to, or else

@@ -12,6 +12,7 @@ ghost use Rattle.schema_node.specs.RunStates.{asking, form_at_work, setting};
 ghost use Rattle.schema_node.specs.RunStates.{HasBegun, Keeps, PassesItsOwn, RunBorrows, StaysRight};
 ghost use Rattle.schema_node.specs.RunStates.{MeetsChild, MeetsForm};
 ghost use Rattle.schema_node.specs.UnitStates.{ChildTells, FindsRightly, MayAsk};
+ghost use Rattle.schema_node.specs.Visits.{LeadsNowhere};
 
 use crate::node::evaluate::evaluate_child;
 use crate::node::faults::begun;
@@ -52,6 +53,8 @@ pub(crate) fn keyword_answer<'i, K: Validate, M: Matcher>(
     requires form { HasForm (numbered K.shape engine.now.nodes.now) node.0 (form_at_work K.shape keyword.now) }
     ensures keeps { IfOk result (λ _. Keeps context.old context.new) }
     ensures counts { IfOk result (λ _. context.old.visits ≤ context.new.visits) }
+    ensures quiet { IfOk result (λ _. LeadsNowhere (map (option_map edge_of) keyword.now.children.now)
+        → context.new.visits ≡ context.old.visits) }
     ensures right { IfOk result (λ a. FindsRightly
         (setting K.words K.is_whole K.shape M.matching engine.now) (asking question.now)
         context.old node.0 (map (option_map edge_of) keyword.now.children.now) (K.shape keyword.now.keyword.now) a) }
@@ -101,6 +104,8 @@ fn run_turns<'i, K: Validate, M: Matcher>(
     ensures kept { IfOk result (λ _. context.new.in_progress ≡ context.old.in_progress) }
     ensures assumes { IfOk result (λ _. context.new.remembered.assumptions ≡ context.old.remembered.assumptions) }
     ensures counts { IfOk result (λ _. context.old.visits ≤ context.new.visits) }
+    ensures quiet { IfOk result (λ _. LeadsNowhere (map (option_map edge_of) keyword.now.children.now)
+        → context.new.visits ≡ context.old.visits) }
     ensures right { IfOk result (λ _. FindsRightly
         (setting K.words K.is_whole K.shape M.matching engine.now) (asking question.now)
         context.old node.0 (map (option_map edge_of) keyword.now.children.now) (K.shape keyword.now.keyword.now) answer.new) }
@@ -174,6 +179,7 @@ fn ask_child<'i, K: Validate, M: Matcher>(
     requires present { IsPresent (subject_of question.now.instance) (steps_below (below_of below)) }
     ensures keeps { IfOk result (λ _. Keeps context.old context.new) }
     ensures counts { IfOk result (λ _. context.old.visits ≤ context.new.visits) }
+    ensures quiet { IfOk result (λ _. LeadsNowhere (map (option_map edge_of) children.now) → context.new.visits ≡ context.old.visits) }
     ensures gives { IfOk result (λ u. ChildTells (setting K.words K.is_whole K.shape M.matching engine.now) (asking question.now)
         context.old node.0 (map (option_map edge_of) children.now) (record { child = child; below = below_of below.entry }) u) }
     ensures meets { IfOk result (λ _. MeetsChild (setting K.words K.is_whole K.shape M.matching engine.now) (asking question.now)

@@ -2,7 +2,7 @@ use Rattle.std.proofs.lemmas.List.Elements.{All-nil}
 use Rattle.std.specs.Prelude.{All, option_and_then}
 use Rattle.schema_reports.specs.ReportViews.{BorrowsItsPlace}
 use Rattle.schema_parts.specs.FaultViews.{PassesBorrowed}
-use Rattle.std.proofs.Common.{◌≡◌, ◌∙◌, ◌+◌, ◌*◌, ◌<◌, ◌≤◌, ℕ, Bool, suc, arith, sym, refl, ap, subst, map, option_map, string_bytes, length, Some, false, true≢false, List, [], ◌∷◌, ◌++◌, drop}
+use Rattle.std.proofs.Common.{◌≡◌, ◌∙◌, ◌+◌, ◌*◌, ◌<◌, ◌≤◌, ℕ, Bool, suc, arith, sym, refl, ap, subst, map, option_map, string_bytes, length, Some, false, true≢false, List, None, [], ◌∷◌, ◌++◌, drop}
 use Rattle.schema_reports.specs.InstanceViews.{subject_of, step_of}
 use Rattle.schema_definitions.specs.Instance.{Text}
 use Rattle.schema_definitions.specs.Keywords.{Marked, MatchPoint, Mode, Question, ask, done, ecma, for_verdict, mark, match_text, no_reply, truth, unmark}
@@ -24,10 +24,12 @@ use Rattle.schema_node.specs.NodeRuns.{EdgeReplies, child_says, edge_needs, entr
 use Rattle.schema_contexts.specs.Progress.{Context, NoDeeper, busy_at}
 use Rattle.schema_node.specs.RightVerdicts.{LaysOut}
 use Rattle.schema_node.specs.RunStates.{EdgeRemembers, MeetsNode, NodeSays, RemembersRightly, StaysRight, asking, setting, Asking}
-use Rattle.schema_contexts.specs.Verdicts.{visited_in_mode}
+use Rattle.schema_contexts.specs.Verdicts.{read_in_mode, visited_in_mode}
 use Rattle.schema_parts.specs.declared.keyword.Reply.TheVariants as told
-use Rattle.schema_node.proofs.GoesOn.{alone_remembers, asked_across, computed_meets, computed_remembers, computed_says, computed_stays, ended_remembers, pairs_back, planned_remembers, read_meets_edge, read_remembers, read_says, right_matched, right_same, stamped_remembers}
-use Rattle.schema_node.proofs.RightVerdicts.{laid_below}
+use Rattle.schema_node.proofs.GoesOn.{alone_remembers, asked_across, computed_meets, computed_remembers, computed_says, computed_stays, ended_remembers, pairs_back, planned_remembers, read_for_verdict, read_meets_edge, read_remembers, read_says, right_matched, right_same, stamped_remembers}
+use Rattle.schema_node.proofs.RightVerdicts.{laid_below, read_entered}
+use Rattle.schema_node.proofs.Visits.{always_counts, busy_counts, computed_counts, ended_counts, free_counts, keyword_counts, never_counts, next_counts, planned_counts, read_counts}
+use Rattle.schema_node.specs.Visits.{NodeCounts}
 use Rattle.schema_contexts.proofs.Pairs.{busy-below, busy-pushed, deeper-below, deeper-pushed, entered_new, entered_old}
 use Rattle.schema_node.proofs.KeywordTurns.{falls_turned, faults_lie, keyword_says, right_at_once, right_reply, silent, silent_reads, tells_nothing, asked_on, asks_there, begins_on, can_after, ended_on, mark_taken_on, marked_on, matched_on, matches_there, told_pattern_on}
 use Rattle.schema_meaning.proofs.Alike.{asked_alike}
@@ -223,6 +225,7 @@ run::run_entries-loop-entry-init g t c = record {
   stays = λ layout laid right. right;
   first = λ e. (refl, c.accepted-found.ensures.accepts);
   remembers = λ l. absurd (omega (arith, l));
+  visited = λ l. absurd (omega (arith, l));
   marking = refl;
   kept = refl;
   assumes = refl;
@@ -246,6 +249,7 @@ run::run_entries-loop-entry-preserved g t c = record {
   stays = λ layout laid right. c.in_ok-more.ensures.stays layout laid (c.loop-entry.invariant.stays layout laid right);
   first = λ e. absurd (omega (arith, e));
   remembers = λ l. alone_remembers (asking c.args.question.now) entry_of (shaped_part g.K.Validate.shape) c.args.entries.now c.loop-entry.entry-index c.entry-item.result c.loop-entry-test.true c.entry-item.is c.args.context.now c.loop-entry.context c.run_entry.new.context c.loop-entry.found c.in_ok-more.more c.in_ok-found.found c.loop-entry.invariant.first c.in_ok-found.ensures.both c.in_ok-more.ensures.remembers;
+  visited = λ l. next_counts (numbered g.K.Validate.shape c.args.engine.now.nodes.now) (asking c.args.question.now) entry_of (shaped_part g.K.Validate.shape) c.args.entries.now c.loop-entry.entry-index c.entry-item.result c.loop-entry-test.true c.entry-item.is c.args.context.now c.loop-entry.context c.run_entry.new.context (λ e. (c.loop-entry.invariant.first e).0) c.loop-entry.invariant.visited c.in_ok-more.ensures.visits;
   kept = c.in_ok-more.ensures.keeps.in_progress ∙ c.loop-entry.invariant.kept;
   assumes = c.in_ok-more.ensures.keeps.assumptions ∙ c.loop-entry.invariant.assumes;
   marking = c.in_ok-more.ensures.keeps.marking ∙ c.loop-entry.invariant.marking;
@@ -724,6 +728,7 @@ turns::run_turns-turns-init g t c =
       assumes = refl;
       stays = λ layout laid right. right;
       can = subst (g.K.Validate.can_be false m s) (c.requires.begun false) ((g.met.K.Validate.turn_laws false m).starts s (mode_of c.args.question.now.mode));
+      quiet = λ none. refl;
       counted = as_many c.args.context.now.visits c.args.context.now.visits refl;
       borrows = λ root at_place. (All-nil (BorrowsItsPlace root), subst (All (PassesBorrowed root)) (sym c.requires.no_faults) (All-nil (PassesBorrowed root)));
       leads = λ x reads l. begins_on (g.K.Validate.words x.texts) m (g.K.Validate.absorbed m) (g.K.Validate.remaining m) (g.K.Validate.can_be x.texts m) (g.K.Validate.ends x.texts m) (g.K.Validate.fits x.texts m) (g.met.K.Validate.turn_laws x.texts m) s x (mode_of c.args.question.now.mode) (child_says g.K.Validate.words ns x (path_of c.args.question.now.path.now) p busy es) (child_unit g.K.Validate.words ns x (path_of c.args.question.now.path.now) p busy es) (same_edge es) c.args.context.now.marking (c.args.run.now, answer_of x.texts c.args.answer.now) c.requires.no_marks
@@ -804,6 +809,7 @@ turns::run_turns-turns-preserved-in-Ask g t c =
       stays = λ layout laid right. c.in_ok-reply-in-Ask.ensures.stays layout laid (c.turns.invariant.stays layout laid right);
       can = can_after (g.K.Validate.words false) m (g.K.Validate.absorbed m) (g.K.Validate.remaining m) (g.K.Validate.can_be false m) (g.K.Validate.ends false m) (g.K.Validate.fits false m) (g.met.K.Validate.turn_laws false m) s (c.turns.run, answer_of false c.turns.answer) (c.turn.new.run, answer_of false c.turn.new.answer) told c.turns.invariant.can turn;
       counted = no_fewer c.args.context.now.visits c.turns.context.visits c.ask_child.new.context.visits c.turns.invariant.counted c.in_ok-reply-in-Ask.ensures.counts;
+      quiet = λ none. c.in_ok-reply-in-Ask.ensures.quiet none ∙ c.turns.invariant.quiet none;
       borrows = λ root at_place.
           let i = c.turns.invariant.borrows root at_place in
           (c.in_ok-reply-in-Ask.ensures.borrows root at_place, c.in_ok-child.ensures.borrows root i.0 i.1);
@@ -894,6 +900,7 @@ turns::run_turns-turns-preserved-in-Match g t c =
       stays = λ layout laid right. right_matched (setting g.K.Validate.words g.K.Validate.is_whole g.K.Validate.shape g.M.Matcher.matching c.args.engine.now) layout c.turns.context c.asked_match.new.context _ answer refl c.asked_match.ensures.verdicts c.in_ok-matches-in-Match.ensures.met (c.turns.invariant.stays layout laid right);
       can = can_after (g.K.Validate.words false) m (g.K.Validate.absorbed m) (g.K.Validate.remaining m) (g.K.Validate.can_be false m) (g.K.Validate.ends false m) (g.K.Validate.fits false m) (g.met.K.Validate.turn_laws false m) s (c.turns.run, answer_of false c.turns.answer) (c.turn.new.run, answer_of false c.turn.new.answer) told c.turns.invariant.can turn;
       counted = no_fewer c.args.context.now.visits c.turns.context.visits c.asked_match.new.context.visits c.turns.invariant.counted (as_many _ _ c.asked_match.ensures.visits);
+      quiet = λ none. c.asked_match.ensures.visits ∙ c.turns.invariant.quiet none;
       borrows = λ root at_place.
           let i = c.turns.invariant.borrows root at_place in
           (All-nil (BorrowsItsPlace root), c.in_ok-child.ensures.borrows root i.0 i.1);
@@ -932,6 +939,7 @@ turns::run_turns-turns-preserved-in-Ecma g t c =
       assumes = c.turns.invariant.assumes;
       stays = c.turns.invariant.stays;
       can = can_after (g.K.Validate.words false) m (g.K.Validate.absorbed m) (g.K.Validate.remaining m) (g.K.Validate.can_be false m) (g.K.Validate.ends false m) (g.K.Validate.fits false m) (g.met.K.Validate.turn_laws false m) s (c.turns.run, answer_of false c.turns.answer) (c.turn.new.run, answer_of false c.turn.new.answer) told c.turns.invariant.can turn;
+      quiet = c.turns.invariant.quiet;
       counted = c.turns.invariant.counted;
       borrows = λ root at_place.
           let i = c.turns.invariant.borrows root at_place in
@@ -993,6 +1001,7 @@ turns::run_turns-turns-preserved-in-Mark g t c =
       stays = λ layout laid right. right_same (setting g.K.Validate.words g.K.Validate.is_whole g.K.Validate.shape g.M.Matcher.matching c.args.engine.now) layout c.turns.context c.enter_marking.new.self c.enter_marking.ensures.remembered c.enter_marking.ensures.verdicts (c.turns.invariant.stays layout laid right);
       can = can_after (g.K.Validate.words false) m (g.K.Validate.absorbed m) (g.K.Validate.remaining m) (g.K.Validate.can_be false m) (g.K.Validate.ends false m) (g.K.Validate.fits false m) (g.met.K.Validate.turn_laws false m) s (c.turns.run, answer_of false c.turns.answer) (c.turn.new.run, answer_of false c.turn.new.answer) told c.turns.invariant.can turn;
       counted = no_fewer c.args.context.now.visits c.turns.context.visits c.enter_marking.new.self.visits c.turns.invariant.counted (as_many _ _ c.enter_marking.ensures.visits);
+      quiet = λ none. c.enter_marking.ensures.visits ∙ c.turns.invariant.quiet none;
       borrows = λ root at_place.
           let i = c.turns.invariant.borrows root at_place in
           (All-nil (BorrowsItsPlace root), c.in_ok-child.ensures.borrows root i.0 i.1);
@@ -1036,6 +1045,7 @@ turns::run_turns-turns-preserved g t c =
       stays = λ layout laid right. right_same (setting g.K.Validate.words g.K.Validate.is_whole g.K.Validate.shape g.M.Matcher.matching c.args.engine.now) layout c.turns.context c.exit_marking.new.self c.exit_marking.ensures.remembered c.exit_marking.ensures.verdicts (c.turns.invariant.stays layout laid right);
       can = can_after (g.K.Validate.words false) m (g.K.Validate.absorbed m) (g.K.Validate.remaining m) (g.K.Validate.can_be false m) (g.K.Validate.ends false m) (g.K.Validate.fits false m) (g.met.K.Validate.turn_laws false m) s (c.turns.run, answer_of false c.turns.answer) (c.turn.new.run, answer_of false c.turn.new.answer) told c.turns.invariant.can turn;
       counted = no_fewer c.args.context.now.visits c.turns.context.visits c.exit_marking.new.self.visits c.turns.invariant.counted (as_many _ _ c.exit_marking.ensures.visits);
+      quiet = λ none. c.exit_marking.ensures.visits ∙ c.turns.invariant.quiet none;
       borrows = λ root at_place.
           let i = c.turns.invariant.borrows root at_place in
           (All-nil (BorrowsItsPlace root), c.in_ok-child.ensures.borrows root i.0 i.1);
@@ -1501,3 +1511,103 @@ evaluate::evaluate_edge-returns-then-branch-clause-counts g t c = if_ok_always c
 
 pub evaluate::evaluate_entry-returns-in_ok-unit-in-Reference-clause-counts : goal.evaluate::evaluate_entry-returns-in_ok-unit-in-Reference-clause-counts
 evaluate::evaluate_entry-returns-in_ok-unit-in-Reference-clause-counts g t c = if_ok_always c.units_of_reference.result _ (rw (← c.units_of_reference.ensures.stays) at c.in_ok-unit-in-Reference.ensures.counts)
+
+pub run::run_node-returns-in-None-clause-visits : goal.run::run_node-returns-in-None-clause-visits
+run::run_node-returns-in-None-clause-visits g t c =
+    let plan = plan_none g.K.Validate.shape c.args.engine.now.nodes.now c.args.node.0 (node_of c.node-found.result.now) c.node-found.ensures.found (ap (option_map plan_of) c.in-None.is) in
+    always_counts (numbered g.K.Validate.shape c.args.engine.now.nodes.now) (asking c.args.question.now) c.args.context.now c.args.context.now c.args.node.0 plan refl
+
+pub run::run_node-returns-in-Always-clause-visits : goal.run::run_node-returns-in-Always-clause-visits
+run::run_node-returns-in-Always-clause-visits g t c =
+    let plan = plan_is g.K.Validate.shape c.args.engine.now.nodes.now c.args.node.0 (node_of c.node-found.result.now) _ c.node-found.ensures.found (ap (option_map plan_of) c.in-Some.is ∙ ap (λ f. Some (plan_of f)) c.in-Always.is) in
+    always_counts (numbered g.K.Validate.shape c.args.engine.now.nodes.now) (asking c.args.question.now) c.args.context.now c.args.context.now c.args.node.0 plan refl
+
+pub run::run_node-returns-in-Never-clause-visits : goal.run::run_node-returns-in-Never-clause-visits
+run::run_node-returns-in-Never-clause-visits g t c =
+    let plan = plan_is g.K.Validate.shape c.args.engine.now.nodes.now c.args.node.0 (node_of c.node-found.result.now) _ c.node-found.ensures.found (ap (option_map plan_of) c.in-Some.is ∙ ap (λ f. Some (plan_of f)) c.in-Never.is) in
+    if_ok_always c.refused.result _ (never_counts (numbered g.K.Validate.shape c.args.engine.now.nodes.now) (asking c.args.question.now) c.args.context.now c.args.context.now c.args.node.0 plan refl)
+
+pub run::run_node-returns-in-Keywords-clause-visits : goal.run::run_node-returns-in-Keywords-clause-visits
+run::run_node-returns-in-Keywords-clause-visits g t c =
+    let plan = plan_is g.K.Validate.shape c.args.engine.now.nodes.now c.args.node.0 (node_of c.node-found.result.now) _ c.node-found.ensures.found (ap (option_map plan_of) c.in-Some.is ∙ ap (λ f. Some (plan_of f)) c.in-Keywords.is) in
+    if_ok_mono c.run_entries.result _ _ (λ r counts. planned_counts (numbered g.K.Validate.shape c.args.engine.now.nodes.now) (asking c.args.question.now) c.args.context.now c.run_entries.new.context c.args.node.0 _ plan counts) (rw c.as_slice.ensures.value at c.run_entries.ensures.visits)
+
+pub run::run_entries-returns-then-is_settled-clause-visits : goal.run::run_entries-returns-then-is_settled-clause-visits
+run::run_entries-returns-then-is_settled-clause-visits g t c =
+    next_counts (numbered g.K.Validate.shape c.args.engine.now.nodes.now) (asking c.args.question.now) entry_of (shaped_part g.K.Validate.shape) c.args.entries.now c.loop-entry.entry-index c.entry-item.result c.loop-entry-test.true c.entry-item.is c.args.context.now c.loop-entry.context c.run_entry.new.context (λ e. (c.loop-entry.invariant.first e).0) c.loop-entry.invariant.visited c.in_ok-more.ensures.visits
+
+pub run::run_entries-returns-clause-visits : goal.run::run_entries-returns-clause-visits
+run::run_entries-returns-clause-visits g t c =
+    ended_counts (numbered g.K.Validate.shape c.args.engine.now.nodes.now) (asking c.args.question.now) entry_of (shaped_part g.K.Validate.shape) c.args.entries.now c.loop-entry.entry-index c.loop-entry-test.false c.args.context.now c.loop-entry.context (λ e. (c.loop-entry.invariant.first e).0) c.loop-entry.invariant.visited
+
+pub run::run_form-returns-in-Keyword-clause-visits : goal.run::run_form-returns-in-Keyword-clause-visits
+run::run_form-returns-in-Keyword-clause-visits g t c = rw (c.in-Keyword.is, ← c.as_slice.ensures.value) c.run_keyword.ensures.visits
+
+pub run::run_form-returns-in_ok-reply-in-Reference-clause-visits : goal.run::run_form-returns-in_ok-reply-in-Reference-clause-visits
+run::run_form-returns-in_ok-reply-in-Reference-clause-visits g t c = rw c.in-Reference.is (if_ok_always c.stamped_reply.result _ c.in_ok-reply-in-Reference.ensures.visits)
+
+pub run::run_keyword-returns-in-Some-clause-visits : goal.run::run_keyword-returns-in-Some-clause-visits
+run::run_keyword-returns-in-Some-clause-visits g t c =
+    keyword_counts (numbered g.K.Validate.shape c.args.engine.now.nodes.now) (asking c.args.question.now) c.args.context.now c.args.context.now (g.K.Validate.shape c.args.keyword.now.keyword.now) (map (option_map edge_of) c.args.keyword.now.children.now) (λ none. refl)
+
+pub run::run_keyword-returns-clause-visits : goal.run::run_keyword-returns-clause-visits
+run::run_keyword-returns-clause-visits g t c = if_ok_always c.finished.result _ (
+    keyword_counts (numbered g.K.Validate.shape c.args.engine.now.nodes.now) (asking c.args.question.now) c.args.context.now c.finished.new.context (g.K.Validate.shape c.args.keyword.now.keyword.now) (map (option_map edge_of) c.args.keyword.now.children.now)
+    (λ none. ap (λ (z : Context). z.visits) c.finished.ensures.stays ∙ c.in_ok-answer.ensures.quiet none))
+
+pub turns::keyword_answer-returns-clause-quiet : goal.turns::keyword_answer-returns-clause-quiet
+turns::keyword_answer-returns-clause-quiet g t c = λ none. c.put_back.ensures.visits ∙ c.in_ok-run_turns.ensures.quiet none ∙ c.set_aside-aside.ensures.visits
+
+pub run::run_child-returns-in-None-one_below-clause-quiet : goal.run::run_child-returns-in-None-one_below-clause-quiet
+run::run_child-returns-in-None-one_below-clause-quiet g t c = if_ok_always c.run_edge.result _ (λ none. absurd (none c.args.child (edge_of c.in-Some.edge.now) (sym c.in-Some.ensures.edge)))
+
+pub run::run_child-returns-in-Some-one_below-clause-quiet : goal.run::run_child-returns-in-Some-one_below-clause-quiet
+run::run_child-returns-in-Some-one_below-clause-quiet g t c = if_ok_always c.run_edge-in-Some-one_below.result _ (λ none. absurd (none c.args.child (edge_of c.in-Some.edge.now) (sym c.in-Some.ensures.edge)))
+
+pub evaluate::evaluate_child-returns-in-None-one_below-clause-quiet : goal.evaluate::evaluate_child-returns-in-None-one_below-clause-quiet
+evaluate::evaluate_child-returns-in-None-one_below-clause-quiet g t c = if_ok_always c.evaluate_edge.result _ (λ none. absurd (none c.args.child (edge_of c.in-Some.edge.now) (sym c.in-Some.ensures.edge)))
+
+pub evaluate::evaluate_child-returns-in-Some-one_below-clause-quiet : goal.evaluate::evaluate_child-returns-in-Some-one_below-clause-quiet
+evaluate::evaluate_child-returns-in-Some-one_below-clause-quiet g t c = if_ok_always c.evaluate_edge-in-Some-one_below.result _ (λ none. absurd (none c.args.child (edge_of c.in-Some.edge.now) (sym c.in-Some.ensures.edge)))
+
+pub run::run_edge-returns-then-branch-clause-visits : goal.run::run_edge-returns-then-branch-clause-visits
+run::run_edge-returns-then-branch-clause-visits g t c =
+    let p = steps_to c.args.question.now.place.now in
+    let e = edge_of c.args.edge.now in
+    let old = entered_old e.node p c.args.context.now.in_progress c.in_ok-enter.field-0 c.enter.new.self.in_progress (rw c.in_ok-here.ensures.same at c.in_ok-enter.ensures.enters) c.if-branch.true in
+    busy_counts (numbered g.K.Validate.shape c.args.engine.now.nodes.now) (asking c.args.question.now) c.args.context.now e c.enter.new.self c.if-not-edge.false old.0 c.enter.ensures.visits
+
+pub run::run_edge-returns-in-Some-clause-visits : goal.run::run_edge-returns-in-Some-clause-visits
+run::run_edge-returns-in-Some-clause-visits g t c =
+    let q = asking c.args.question.now in
+    let p = steps_to c.args.question.now.place.now in
+    let e = edge_of c.args.edge.now in
+    let c1 = c.enter.new.self in
+    let entered = entered_new e.node p c.args.context.now.in_progress c.in_ok-enter.field-0 c1.in_progress (rw c.in_ok-here.ensures.same at c.in_ok-enter.ensures.enters) c.if-branch.false in
+    let found = sym (rw c.in_ok-here.ensures.same at c.in-Some.ensures.read) in
+    let read = sym (read_entered e.node p c.args.context.now c1 entered.1 c.enter.ensures.verdicts) ∙ (read_for_verdict q.mode e.node p c1 c.in-Some.valid found).1 in
+    read_counts (numbered g.K.Validate.shape c.args.engine.now.nodes.now) q c.args.context.now e c.exit.new.self c.in-Some.valid c.if-not-edge.false entered.0 read (c.exit.ensures.visits ∙ c.enter.ensures.visits)
+
+pub run::run_edge-returns-clause-visits : goal.run::run_edge-returns-clause-visits
+run::run_edge-returns-clause-visits g t c =
+    let ns = (numbered g.K.Validate.shape c.args.engine.now.nodes.now) in
+    let q = asking c.args.question.now in
+    let p = steps_to c.args.question.now.place.now in
+    let e = edge_of c.args.edge.now in
+    let c1 = c.enter.new.self in
+    let c2 = c.begin_visit-mark.new.context in
+    let c3 = c.run_node-2.new.context in
+    let entered = entered_new e.node p c.args.context.now.in_progress c.in_ok-enter.field-0 c1.in_progress (rw c.in_ok-here.ensures.same at c.in_ok-enter.ensures.enters) c.if-branch.false in
+    let pairs : c2.in_progress ≡ c.args.context.now.in_progress ++ (e.node, p) ∷ [] = ap (λ (z : Context). z.in_progress) c.begin_visit-mark.ensures.counted ∙ entered.1 in
+    let read = ap (λ (z : Context). z.verdicts) c.begin_visit-mark.ensures.counted ∙ c.enter.ensures.verdicts in
+    let counted = ap (λ (z : Context). z.visits) c.begin_visit-mark.ensures.counted ∙ ap (visited_in_mode q.mode) c.enter.ensures.visits in
+    let there : steps_to c.given-place.result ≡ p = c.given-place.ensures.same ∙ c.in_ok-here.ensures.same in
+    let none = sym (rw c.in_ok-here.ensures.same at c.in_default.ensures.read) in
+    let node_counts = subst (λ z. NodeCounts ns (record { subject = q.subject; place = z; path = path_of c.across-whole.result; mode = q.mode }) c2 c3 e.node) there c.in_ok-computed.ensures.visits in
+    let visits = c.exit-2.ensures.visits ∙ ap (λ (z : Context). z.visits) c.kept_reply.ensures.frame in
+    computed_counts ns q c.args.context.now e c2 c3 c.exit-2.new.self c.if-not-edge.false entered.0
+    (λ mode. sym (read_entered e.node p c.args.context.now c1 entered.1 c.enter.ensures.verdicts) ∙ subst (λ m. read_in_mode m e.node p c1 ≡ None) mode none) pairs read
+    (λ mode. subst (λ m. c2.visits ≡ visited_in_mode m c.args.context.now.visits) mode counted) node_counts visits
+
+pub run::run_edge-returns-then-not-edge-clause-visits : goal.run::run_edge-returns-then-not-edge-clause-visits
+run::run_edge-returns-then-not-edge-clause-visits g t c = if_ok_mono c.run_node.result _ _ (λ r counts. free_counts (numbered g.K.Validate.shape c.args.engine.now.nodes.now) (asking c.args.question.now) c.args.context.now (edge_of c.args.edge.now) c.run_node.new.context c.if-not-edge.true counts) c.run_node.ensures.visits

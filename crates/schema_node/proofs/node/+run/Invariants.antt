@@ -20,6 +20,7 @@ use Rattle.schema_contexts.specs.Matches.{MeetsEach, settling}
 use Rattle.schema_node.specs.NodeMeets.{child_run, parts_looked, reading}
 use Rattle.schema_node.specs.NodeRuns.{Reading, Reads, Replies, child_says, edge_needs, parts_say, refuses, reply_by}
 use Rattle.schema_node.specs.RunStates.{PartsRemember, StaysRight, asking, setting}
+use Rattle.schema_node.specs.Visits.{LeadsNowhere, PartsCount}
 use Rattle.schema_node.proofs.KeywordMeets.{MeetsSoFar}
 use Rattle.schema_contexts.specs.Progress.{busy_at}
 use Rattle.schema_node.specs.Turning.{EvaluatesOn}
@@ -74,6 +75,7 @@ invariant-run::run_entries-loop-entry g l =
       stays : StaysRight (setting g.K.Validate.words g.K.Validate.is_whole g.K.Validate.shape g.M.Matcher.matching l.engine) (asking l.question) l.initial.context l.context;
       first : l.entry-index ≡ 0 → (l.context ≡ l.initial.context) × ((texts : Bool) → reply_of texts l.found ≡ reply_by (mode_of l.question.mode) accepted);
       remembers : 0 < l.entry-index → PartsRemember (asking l.question) l.initial.context l.context (map (shaped_part g.K.Validate.shape) (map entry_of l.entries)) l.found;
+      visited : 0 < l.entry-index → PartsCount ns (asking l.question) l.initial.context l.context (map (shaped_part g.K.Validate.shape) (map entry_of l.entries));
       met : (texts : Bool) (root : Data) (depth : ℕ) → Reads g.K.Validate.is_whole ns (length l.engine.nodes.now) w (steps_to l.question.place.now) s (reading w texts root depth) → left ns (length l.engine.nodes.now) l.node.0 s busy ≤ depth
           → (before : List Met) × MeetsEach w.matcher l.initial.context.remembered before l.context.remembered
           × (before ++ plan_met (mode_of l.question.mode) (parts_looked g.K.Validate.words ns w texts root depth l.node.0 (path_of l.question.path.now) (steps_to l.question.place.now) busy (map (shaped_part g.K.Validate.shape) (map entry_of (drop l.entry-index l.entries))))
@@ -92,6 +94,7 @@ invariant-turns::run_turns-turns g l =
       kept : l.context.in_progress ≡ l.initial.context.in_progress;
       assumes : l.context.remembered.assumptions ≡ l.initial.context.remembered.assumptions;
       counted : l.initial.context.visits ≤ l.context.visits;
+      quiet : LeadsNowhere es → l.context.visits ≡ l.initial.context.visits;
       stays : StaysRight (setting g.K.Validate.words g.K.Validate.is_whole g.K.Validate.shape g.M.Matcher.matching l.engine) (asking l.question) l.initial.context l.context;
       can : g.K.Validate.can_be false m s (l.run, answer_of false l.answer);
       borrows : (root : Data) → subject_at root (steps_to l.question.place.now) ≡ Some (subject_of l.question.instance) → All (BorrowsItsPlace root) (errors_in l.reply) × All (PassesBorrowed root) (faults_in l.answer);

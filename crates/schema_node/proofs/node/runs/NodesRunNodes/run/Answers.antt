@@ -46,3 +46,6 @@ returns-clause-right g c = if_ok_mono c.run_further.result _ _ (λ r stays root 
     stays (subject_in root) (root_lays_out root p (subject_of c.args.question.now.instance) at_place)
     (none_right g.K.Validate.words g.K.Validate.is_whole ns (length c.args.self.now) (g.M.Matcher.matching c.args.matcher.now) c1.remembered.assumptions c1.remembered (subject_in root) c1.verdicts (ap (λ (z : Context). z.verdicts) c.forget_verdicts.ensures.forgotten)))
     c.run_further.ensures.stays
+
+pub returns-clause-visits : goal.returns-clause-visits
+returns-clause-visits g c = rw c.forget_verdicts.ensures.forgotten at c.run_further.ensures.visits

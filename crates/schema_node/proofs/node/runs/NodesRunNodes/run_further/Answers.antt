@@ -59,3 +59,6 @@ returns-clause-stays g c = rw c.given-place.ensures.same at c.run_node.ensures.s
 
 pub returns-clause-remembers : goal.returns-clause-remembers
 returns-clause-remembers g c = rw (c.given-path.ensures.same, c.given-place.ensures.same) at c.run_node.ensures.remembers
+
+pub returns-clause-visits : goal.returns-clause-visits
+returns-clause-visits g c = rw c.given-place.ensures.same at c.run_node.ensures.visits
