@@ -10,7 +10,7 @@ pub use schema_parts::keyword::{
 pub use schema_parts::matcher::Matcher;
 pub use schema_parts::meta::MetaValidators;
 pub use schema_parts::numbers::{Edge, PendingSchemaNode, SchemaNode};
-pub use schema_parts::resolver::{LookupError, Resolver, Target};
+pub use schema_parts::resolver::{LookupError, PlacedSchema, Resolver, Target};
 pub use schema_parts::schema_place::{SchemaPath, SchemaPlace, SchemaStep};
 pub use schema_parts::table::{KeywordOrigin, KeywordTable, MakerReply, MakerStep, PendingKind};
 pub use schema_parts::{cloning, keyword, matcher, meta, resolver, schema_place, table};
