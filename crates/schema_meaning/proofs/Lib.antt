@@ -47,3 +47,4 @@ pub mod RowsNumbered
 pub mod SitesInside
 pub mod SamePaths
 pub mod MetAgain
+pub mod PairsDecide
