@@ -48,3 +48,4 @@ pub mod RowsNumbered
 pub mod SitesInside
 pub mod SamePaths
 pub mod MetAgain
+pub mod PairsDecide

@@ -3,8 +3,8 @@ ghost use Rattle.schema_definitions.specs.Keywords.{Keywords};
 ghost use Rattle.schema_definitions.specs.Parts.{Parts};
 ghost use Rattle.schema_meaning.specs.Promises.{NodesFollow, PlainFollows, RunsSpeak, UnitsArePlain};
 ghost use Rattle.schema_meaning.specs.Promises.{ErrorsOfMembers, EvaluationOfMembers, FirstOfMembers, SharedOfMembers, VerdictOfMembers};
-ghost use Rattle.schema_meaning.specs.Promises.{DecidesOrNot, FirstIsHead, NoneListed, NoneWhereAccepted, OneCover, UndecidedPast};
-ghost use Rattle.schema_meaning.specs.Promises.{MembersDiffer, MembersRun, OneMember, PairsDiffer, RunsOfCover};
+ghost use Rattle.schema_meaning.specs.Promises.{DecidesOrNot, FinishedDecides, FirstIsHead, LargerDecides, NoneListed, NoneWhereAccepted, OneCover, UndecidedPast};
+ghost use Rattle.schema_meaning.specs.Promises.{MembersDiffer, MembersRun, OneMember, PairsDecide, PairsDiffer, RunsOfCover};
 
 /// A run under assumptions speaks for every completion that extends them.
 pub fn runs_speak<S, K, R>()
@@ -32,6 +32,9 @@ pub fn calls_agree()
     ensures one { OneCover }
     ensures undecided { UndecidedPast }
     ensures decided { DecidesOrNot }
+    ensures larger { LargerDecides }
+    ensures finished { FinishedDecides }
+    ensures pairs { PairsDecide }
     ensures none { NoneListed }
     ensures accepted { NoneWhereAccepted }
     ensures head { FirstIsHead }
