@@ -49,3 +49,4 @@ pub mod SitesInside
 pub mod SamePaths
 pub mod MetAgain
 pub mod PairsDecide
+pub mod Finishing

@@ -1,10 +1,12 @@
 -- What a cover's members say, and so what the four calls answer where they decide.
-use Rattle.std.specs.Prelude.{Contains, List, None, Option, Some, [], length, map, suc, ℕ, ◌*◌, ◌+◌, ◌++◌, ◌^◌, ◌<◌, ◌↔◌, ◌∷◌, ◌≡◌, ◌≤◌, ◌⊎◌}
+use Rattle.std.specs.Prelude.{All, Contains, List, None, Option, Some, [], length, map, suc, ℕ, ◌*◌, ◌+◌, ◌++◌, ◌^◌, ◌<◌, ◌↔◌, ◌∷◌, ◌≡◌, ◌≤◌, ◌⊎◌}
+use Rattle.serde_json.specs.Data.{Data}
 use Rattle.schema_definitions.specs.Instance.{Place, Subject}
 use Rattle.schema_definitions.specs.Reports.{Error}
 use Rattle.schema_definitions.specs.Matching.{Assumptions, Completion, Extends, Matcher, Pair, completion_of}
 use Rattle.schema_definitions.specs.Keywords.{Keywords}
 use Rattle.schema_definitions.specs.Parts.{Parts}
+use Rattle.schema_definitions.specs.Plan.{Key}
 use Rattle.schema_definitions.specs.Meaning.{unfold_}
 use Rattle.schema_definitions.specs.Units.{plain_units}
 use Rattle.schema_definitions.specs.Runs.{Met, first_error, run}
@@ -14,7 +16,7 @@ use Rattle.schema_definitions.specs.Laws.{EachKeeps}
 use Rattle.schema_definitions.specs.Guarded.{Nodes, guarded_sense}
 use Rattle.schema_meaning.specs.Headline.{ErrorsSay, FirstSays, FirstShared, IsFailure, Lists, VerdictSays}
 use Rattle.schema_meaning.specs.Depths.{AtEachDepth}
-use Rattle.schema_meaning.specs.Members.{BranchesAmong, ExtendsAt, Follows, Partly, RunsAre, Speaks, StandOnce, all_accept, is_nil, listed, shared_with}
+use Rattle.schema_meaning.specs.Members.{BranchesAmong, ExtendsAt, Finishes, Follows, IsUnfinished, Partly, RunsAre, Speaks, StandOnce, all_accept, is_nil, listed, shared_with}
 
 module _ {S K R : Type 0} (w : Parts S K R) where
   -- a plain run under assumptions speaks, in each mode, for every completion that extends them
@@ -81,6 +83,33 @@ LargerDecides = (v : Sense) (limit larger : ℕ) (call : Call) → limit ≤ lar
 -- whatever the limit is
 abbrev pub FinishedDecides : Type 0
 FinishedDecides = (v : Sense) (limit : ℕ) (call : Call) → branch_at v call [] ≡ None → 1 ≤ limit → Decides v limit call
+
+-- each match that a run of the sense meets is one that the matcher leaves unfinished
+abbrev pub MeetsUnfinished : Matcher → Sense → Type 0
+MeetsUnfinished matcher v = (call : Call) (as' : Assumptions) → All (IsUnfinished matcher) (v.meets call as')
+
+-- no run meets a match, and so the first run of a call decides, whatever the limit is
+pub record DecidesAtOnce (v : Sense) : Type 0 where
+  pub meets_none : (call : Call) (as' : Assumptions) → v.meets call as' ≡ []
+  pub decides : (limit : ℕ) (call : Call) → 1 ≤ limit → Decides v limit call
+
+-- where the matcher finishes every match, the plain runs of a schema decide at once
+abbrev pub FinishingDecides : {S K R : Type 0} → Parts S K R → Type 0
+FinishingDecides {S} w = Finishes w.matcher → (instance : Data) (n : ℕ) (root : Key S) → DecidesAtOnce (plain w instance n root)
+
+-- and so do runs over numbered nodes, returns or none
+abbrev pub NodesFinishingDecide : {K R : Type 0} → Keywords K R → Type 0
+NodesFinishingDecide {K} keywords = (matcher : Matcher) → Finishes matcher → (nodes : Nodes K) (subject_of : Place → Subject) (n i : ℕ)
+    → DecidesAtOnce (guarded_sense keywords matcher nodes subject_of n i)
+
+-- whatever the matcher finishes, the plain runs of a schema meet only what it leaves unfinished
+abbrev pub PlainMeetsUnfinished : {S K R : Type 0} → Parts S K R → Type 0
+PlainMeetsUnfinished {S} w = (instance : Data) (n : ℕ) (root : Key S) → MeetsUnfinished w.matcher (plain w instance n root)
+
+-- and so do runs over numbered nodes
+abbrev pub NodesMeetUnfinished : {K R : Type 0} → Keywords K R → Type 0
+NodesMeetUnfinished {K} keywords = (matcher : Matcher) (nodes : Nodes K) (subject_of : Place → Subject) (n i : ℕ)
+    → MeetsUnfinished matcher (guarded_sense keywords matcher nodes subject_of n i)
 
 -- with k pairs that its runs branch on, a call decides where its limit is 2 ^ (k + 1) - 1 or more
 abbrev pub PairsDecide : Type 0
