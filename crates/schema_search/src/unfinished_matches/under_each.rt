@@ -1,5 +1,5 @@
 //! What a call says over a search: of a sense whose runs these are, what every completion says.
-ghost use Rattle.std.specs.Prelude.{Bool, IfOk, IsSome, Ok, true, ◌↔◌, ◌≡◌};
+ghost use Rattle.std.specs.Prelude.{Bool, IfOk, IsSome, Ok, true, ◌↔◌, ◌≡◌, ◌≤◌};
 ghost use Rattle.serde_json.specs.View.{view};
 ghost use Rattle.schema_definitions.specs.Cover.{Call, Decides, Sense, validate};
 ghost use Rattle.schema_meaning.specs.Headline.{ErrorsOf, FirstSays, VerdictSays};
@@ -19,8 +19,8 @@ use serde_json::Value;
 use std::alloc::Global;
 
 /// Returns `true` if the instance is valid however the unfinished matches come out, and `false` if it is not, or if the call
-/// cannot decide within so many runs. The first run has been made, and met an unfinished match. Fails if a run fails, or if memory cannot be
-/// allocated.
+/// cannot decide within so many runs, the first one among them. The first run has been made, and met an unfinished match. Fails if a
+/// run fails, or if memory cannot be allocated.
 pub fn validity_under_each<
     'i,
     F: FnMut(MatchAssumptions<'i>) -> Result<(MatchAssumptions<'i>, bool), OutOfMemory>,
@@ -44,8 +44,8 @@ pub fn validity_under_each<
 }
 
 /// Returns the errors that the instance has however the unfinished matches come out; if there is no such error although the
-/// instance is not always valid, or if the call cannot decide within so many runs, it returns one failure. The first run has been made, and met an
-/// unfinished match. Fails if a run fails, or if memory cannot be allocated.
+/// instance is not always valid, or if the call cannot decide within so many runs, the first one among them, it returns one failure.
+/// The first run has been made, and met an unfinished match. Fails if a run fails, or if memory cannot be allocated.
 pub fn errors_under_each<
     'i,
     F: FnMut(
