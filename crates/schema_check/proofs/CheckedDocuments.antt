@@ -1,24 +1,28 @@
 -- The documents of a schema, by the code's lists of places.
 use Rattle.std.proofs.Common.{◌≡◌, ◌∙◌, ◌<◌, ◌≤◌, ◌+◌, ◌==◌, ◌++◌, ◌∷◌, [], ℕ, zero, suc, Bool, true, false, List, Some, ap, append-nil, inl, inr, append_assoc, arith, drop, get_or, length, map, refl, subst, sym}
-use Rattle.std.specs.Prelude.{MatchOption, None, Option, flat_map, if◌then◌else◌, unwrap_or}
+use Rattle.std.specs.Prelude.{IfSome, MatchOption, None, Option, flat_map, if◌then◌else◌, option_map, unwrap_or}
 use Rattle.std.specs.List.{AllByRecursion}
 use Rattle.std.proofs.lemmas.Bool.{eqb-true}
 use Rattle.std.proofs.lemmas.List.{drop_all, drop_more}
 use Rattle.serde_json.specs.Data.{Data, depth, null}
+use Rattle.serde_json.specs.Written.{has_float}
 use Rattle.schema_definitions.specs.Instance.{a_value}
 use Rattle.schema_definitions.specs.Drafts as spec
 use Rattle.schema_definitions.specs.Drafts.{Draft, at_path}
 use Rattle.schema_definitions.specs.Resolving.{Resolver}
 use Rattle.schema_definitions.specs.Plan.{schema_at}
 use Rattle.schema_meaning.specs.Documents.{Cut, Document, blanked, cuts, documents, embedded, passes_unseen}
-use Rattle.schema_reports.specs.Owned.{prefixed}
-use Rattle.schema_reports.specs.ReportViews.{owned_error_of}
+use Rattle.schema_definitions.specs.Reports as reports
+use Rattle.schema_reports.specs.Owned.{owned, prefixed}
+use Rattle.schema_reports.specs.ReportViews.{BorrowsItsPlace, error_of, owned_error_of, spoken}
+use Rattle.schema_reports.specs.InstanceViews.{subject_of}
+use Rattle.schema_reports.specs.declared.reports.ValidationError.{ValidationError}
 use Rattle.schema_reports.specs.declared.reports.OwnedError.{OwnedError}
 use Rattle.schema_meaning.proofs.Falls.{path_falls}
 use Rattle.schema_parts.specs.ResolverViews.{IsInside, Placed, StandsBelow, SubschemasStandBelow, place_of, placed_in, placed_of}
 use Rattle.schema_parts.specs.declared.resolver.PlacedSchema.{PlacedSchema}
 use Rattle.schema_keys.specs.Compiling.{Each, resolving_parts}
-use Rattle.schema_check.specs.Checking.{EachAccepted, FollowsAccepted, IsAccepted, IsErrorBelow, MetaChecks, RefusesOne, location_from, own_document, without_text}
+use Rattle.schema_check.specs.Checking.{EachAccepted, FollowsAccepted, IsAccepted, IsErrorBelow, MetaChecks, RefusesOne, location_from, own_document}
 use Rattle.schema_check.specs.CutViews.{cut_of}
 use Rattle.schema_check.specs.declared.check.cuts.Cut as code
 use Rattle.schema_keys.specs.declared.error.BuildError.{BuildError}
@@ -185,6 +189,18 @@ module _ {S : Type 0} (r : Resolver S) (refuses : MetaChecks) where
 
 -- ---- what a check says
 
+-- an error of a meta validator, as it is kept
+pub error_kept : (refuses : MetaChecks) (draft : Draft) (value : Data) (o : Option ValidationError) (error : ValidationError) (e : OwnedError) → o ≡ Some error
+    → ((texts : Bool) → (texts ≡ true → has_float value ≡ false) → option_map (error_of texts) o ≡ refuses texts draft value) → IfSome o (BorrowsItsPlace value)
+    → owned_error_of e ≡ owned (subject_of error.instance) (error_of true error) → IsErrorBelow refuses [] draft value e
+error_kept refuses draft value o error e is checked borrows kept texts whole = (
+      error_of texts error,
+      subject_of error.instance,
+      sym (checked texts whole) ∙ ap (option_map (error_of texts)) is,
+      subst (λ (x : Option ValidationError). IfSome x (BorrowsItsPlace value)) is borrows,
+      ap (λ (x : reports.OwnedError). record x { text = spoken texts x.text }) kept,
+    )
+
 module _ {S : Type 0} (r : Resolver S) (refuses : MetaChecks) where
   -- the documents of an embedded resource
   abbrev pub inner_documents : ℕ → Cut → List (Document (resolving_parts r))
@@ -209,7 +225,7 @@ module _ {S : Type 0} (r : Resolver S) (refuses : MetaChecks) where
   -- an error in the document itself, as it is seen from the root
   pub error_located : (root p : spec.SchemaPlace) (draft : Draft) (qs : List Cut) (schema : Data) (o : Option OwnedError) (error e : OwnedError)
       → schema ≡ schema_at (resolving_parts r) p → passes_unseen (resolving_parts r) schema ≡ false → o ≡ Some error
-      → MatchOption o (refuses draft (blanked (resolving_parts r) qs p schema) ≡ None) (IsErrorBelow refuses [] draft (blanked (resolving_parts r) qs p schema))
+      → MatchOption o (refuses false draft (blanked (resolving_parts r) qs p schema) ≡ None) (IsErrorBelow refuses [] draft (blanked (resolving_parts r) qs p schema))
       → owned_error_of e ≡ prefixed (location_from root p) (owned_error_of error) → RefusesOne (resolving_parts r) refuses root (own_document (resolving_parts r) qs draft p) (MetaSchema e)
   error_located root p draft qs schema o error e read seen is refused located =
       let w = resolving_parts r in
@@ -217,9 +233,9 @@ module _ {S : Type 0} (r : Resolver S) (refuses : MetaChecks) where
       let d : Document w = record { place = p; draft = draft; value = value } in
       let unseen : passes_unseen w (schema_at w p) ≡ false = ap (passes_unseen w) (sym read) ∙ seen in
       let there : Follows r refuses (own_document w qs draft p) d = subst (λ (b : Bool). Follows r refuses (if b then [] else d ∷ []) d) (sym unseen) (inl refl) in
-      let here : IsErrorBelow refuses [] draft value error = subst (λ (x : Option OwnedError). MatchOption x (refuses draft value ≡ None) (IsErrorBelow refuses [] draft value)) is
-      (subst (λ (v : Data). MatchOption o (refuses draft (blanked w qs p v) ≡ None) (IsErrorBelow refuses [] draft (blanked w qs p v))) read refused) in
-      (d, there, (here.0, here.1, here.2, here.3, ap without_text located ∙ ap (prefixed (location_from root p)) here.4))
+      let here : IsErrorBelow refuses [] draft value error = subst (λ (x : Option OwnedError). MatchOption x (refuses false draft value ≡ None) (IsErrorBelow refuses [] draft value)) is
+      (subst (λ (v : Data). MatchOption o (refuses false draft (blanked w qs p v) ≡ None) (IsErrorBelow refuses [] draft (blanked w qs p v))) read refused) in
+      (d, there, (λ texts whole. let h = here texts whole in (h.0, h.1, h.2, h.3, ap (λ (x : reports.OwnedError). record x { text = spoken texts x.text }) located ∙ ap (prefixed (location_from root p)) h.4)))
 
   -- a refusal of the document itself
   pub refused_itself : (root p : spec.SchemaPlace) (draft : Draft) (qs : List Cut) (e : BuildError) → qs ≡ cuts_of r draft p

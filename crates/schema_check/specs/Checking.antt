@@ -1,14 +1,15 @@
 -- What the check of a schema by meta-schemas answers: each of the schema's documents is accepted, or the first that is not is
 -- named.
 -- (Core 2020-12, 8.1.1 and 9.3.3)
-use Rattle.std.specs.Prelude.{List, None, Option, Some, [], if◌then◌else◌, ◌∷◌, ◌≡◌, ◌⊎◌}
+use Rattle.std.specs.Prelude.{Bool, List, None, Option, Some, [], false, if◌then◌else◌, true, ◌∷◌, ◌≡◌, ◌⊎◌}
 use Rattle.serde_json.specs.Data.{Data}
+use Rattle.serde_json.specs.Written.{has_float}
 use Rattle.schema_definitions.specs.Instance.{Subject, Text, subject_at}
 use Rattle.schema_definitions.specs.Pointer.{pointer_to}
 use Rattle.schema_definitions.specs.Reports as reports
 use Rattle.schema_definitions.specs.Reports.{Error}
 use Rattle.schema_reports.specs.Owned.{owned, prefixed}
-use Rattle.schema_reports.specs.ReportViews.{owned_error_of}
+use Rattle.schema_reports.specs.ReportViews.{owned_error_of, spoken}
 use Rattle.schema_reports.specs.declared.reports.OwnedError.{OwnedError}
 use Rattle.schema_definitions.specs.Drafts.{Draft, SchemaPlace}
 use Rattle.schema_definitions.specs.Resolving.{Resolver}
@@ -19,26 +20,27 @@ use Rattle.schema_keys.specs.Compiling.{Each, resolving_parts}
 use Rattle.schema_keys.specs.declared.error.BuildError.{BuildError}
 use Rattle.schema_keys.specs.declared.error.BuildError.TheVariants.{KeywordRefused, Lookup, MetaSchema, MissingRoot, NodeLimit, NotASchema, OutOfMemory, ReferenceNotText, UnsupportedVocabulary}
 
--- what the meta validators refuse
+-- what the meta validators refuse; where texts are not spoken of, each counts as empty
 abbrev pub MetaChecks : Type 0
-MetaChecks = Draft → Data → Option Error
+MetaChecks = Bool → Draft → Data → Option Error
 
 -- the location of a place, counted from the one that is checked
 abbrev pub location_from : SchemaPlace → SchemaPlace → Text
 location_from root p = pointer_to (without_prefix p.path root.path)
 
-abbrev pub without_text : reports.OwnedError → reports.OwnedError
-without_text e = record e { text = [] }
+abbrev pub owned_spoken : Bool → OwnedError → reports.OwnedError
+owned_spoken texts e = let shown = owned_error_of e in record shown { text = spoken texts shown.text }
 
--- the error of a value in a draft, seen from above by this location; texts are not spoken of
+-- the error of a value in a draft, seen from above by this location; texts are spoken of where the value holds no fraction
 abbrev pub IsErrorBelow : MetaChecks → Text → Draft → Data → OwnedError → Type 0
-IsErrorBelow refuses location draft value e = (error : Error) × (instance : Subject) × (refuses draft value ≡ Some error)
-    × (subject_at value error.place ≡ Some instance) × (without_text (owned_error_of e) ≡ prefixed location (owned instance error))
+IsErrorBelow refuses location draft value e = (texts : Bool) → (texts ≡ true → has_float value ≡ false)
+    → (error : Error) × (instance : Subject) × (refuses texts draft value ≡ Some error)
+    × (subject_at value error.place ≡ Some instance) × (owned_spoken texts e ≡ prefixed location (owned instance error))
 
 module _ {S K R : Type 0} (w : Parts S K R) (refuses : MetaChecks) where
   -- nothing is refused in a document
   abbrev pub IsAccepted : Document w → Type 0
-  IsAccepted d = refuses d.draft d.value ≡ None
+  IsAccepted d = refuses false d.draft d.value ≡ None
 
   abbrev pub EachAccepted : List (Document w) → Type 0
   EachAccepted = Each IsAccepted

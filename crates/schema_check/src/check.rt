@@ -2,7 +2,7 @@
 //!
 //! An embedded resource of another known draft counts as `{}` in the document around it, and is a document of its own: `cuts`
 //! finds where these resources lie, `blanked` copies a document without them.
-ghost use Rattle.std.specs.Prelude.{◌≡◌, ◌<◌, ℕ, IfErr, IfOk, MatchOption, Some, None, [], map, suc};
+ghost use Rattle.std.specs.Prelude.{◌≡◌, ◌<◌, ℕ, IfErr, IfOk, MatchOption, Some, None, [], false, map, suc};
 ghost use Rattle.serde_json.specs.Data.{depth};
 ghost use Rattle.serde_json.specs.View.{view};
 ghost use Rattle.schema_definitions.specs.Plan.{schema_at};
@@ -47,7 +47,7 @@ pub(crate) struct SchemaCheck<'p, R, V> {
 /// # Errors
 ///
 /// Fails with `BuildError::MetaSchema` if the meta validators refuse one of these documents: with that error, its instance path
-/// counted from the place. Fails also out of memory.
+/// counted from the place, and its text, which is promised where the document holds no fraction. Fails also out of memory.
 pub fn validate_schema<R: Resolver, V: MetaValidators>(
     alloc: Global,
     resolver: &R,
@@ -85,7 +85,7 @@ impl<'p, R: Resolver, V: MetaValidators> SchemaCheck<'p, R, V> {
     /// The error of a document; none where it is accepted.
     fn refusal(&self, draft: Draft, document: &Value) -> Result<Option<OwnedError>, OutOfMemory>
         ensures refusal { IfOk result (λ o. MatchOption o
-            (V.checked self.now.metas.now (draft_of draft) (view document.now) ≡ None)
+            (V.checked self.now.metas.now false (draft_of draft) (view document.now) ≡ None)
             (IsErrorBelow (V.checked self.now.metas.now) [] (draft_of draft) (view document.now))) }
     {
         match self.metas.check(self.alloc, draft, document)? {
@@ -103,7 +103,7 @@ impl<'p, R: Resolver, V: MetaValidators> SchemaCheck<'p, R, V> {
         cuts: &[Cut],
     ) -> Result<Option<OwnedError>, OutOfMemory>
         ensures refusal { IfOk result (λ o. MatchOption o
-            (V.checked self.now.metas.now (draft_of draft)
+            (V.checked self.now.metas.now false (draft_of draft)
             (documents.blanked (resolving_parts (R.resolving self.now.resolver.now))
             (map cut_of cuts.now) (place_of place.now) (view schema.now)) ≡ None)
             (IsErrorBelow (V.checked self.now.metas.now) [] (draft_of draft)

@@ -1,6 +1,6 @@
 -- A schema that builds and passes the check is refused by no build but for want of memory: each other refusal names a cause that
 -- stands, says that more keys are reached than there are, or has the error of a document that is not accepted.
-use Rattle.std.proofs.Common.{ap, arith, inl, inr, length, refl, subst, sym, true, [], List, ℕ, ◌∙◌, ◌∷◌, ◌≡◌}
+use Rattle.std.proofs.Common.{ap, arith, false, inl, inr, length, refl, subst, sym, true, [], List, ℕ, ◌∙◌, ◌∷◌, ◌≡◌}
 use Rattle.std.specs.Prelude.{All, AllPairs, Decides, Err, Ok, Result, string_bytes, ◌≤◌}
 use Rattle.std.specs.Cmp.{IsEquivalence, both_ways}
 use Rattle.std.proofs.lemmas.List.Elements.{All-contains}
@@ -103,7 +103,7 @@ module _ {S K R : Type 0} (w : Parts S K R) (refuses : MetaChecks) where
   not_both : (root : SchemaPlace) (ds : List (Document w)) (e : BuildError) → EachAccepted w refuses ds → RefusesOne w refuses root ds e → e ≡ OutOfMemory
   not_both root ds (MetaSchema x) accepted (d, among, below) =
       let passes = accepted_there ds d accepted among in
-      let (error, instance, refused, there, same) = below in
+      let (error, instance, refused, there, same) = below false (λ (e : false ≡ true). absurd cc) in
       absurd (cc (sym passes ∙ refused))
   not_both root ds OutOfMemory accepted refused = refl
   not_both root ds (NotASchema location) accepted void = absurd void

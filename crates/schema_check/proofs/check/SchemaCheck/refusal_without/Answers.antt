@@ -1,4 +1,4 @@
-use Rattle.std.proofs.Common.{◌≡◌, ◌∙◌, [], List, ap, map, subst, sym}
+use Rattle.std.proofs.Common.{◌≡◌, ◌∙◌, [], List, ap, false, map, subst, sym}
 use Rattle.std.specs.Prelude.{IfOk, MatchOption, None}
 use Rattle.serde_json.specs.Data.{Data}
 use Rattle.serde_json.specs.View.{view}
@@ -20,5 +20,5 @@ returns-then-is_empty g c =
     let d = view c.args.schema.now in
     let same : blanked w (map cut_of c.args.cuts.now) p d ≡ d = ap (λ (qs : List Cut). blanked w qs p d) (no_cuts c.is_empty.result c.args.cuts.now c.is_empty.ensures c.if-is_empty.true) ∙ blanked_nowhere w p d in
     record {
-      refusal = subst (λ (v : Data). IfOk c.refusal.result (λ o. MatchOption o (refuses (draft_of c.args.draft) v ≡ None) (IsErrorBelow refuses [] (draft_of c.args.draft) v))) (sym same) c.refusal.ensures.refusal;
+      refusal = subst (λ (v : Data). IfOk c.refusal.result (λ o. MatchOption o (refuses false (draft_of c.args.draft) v ≡ None) (IsErrorBelow refuses [] (draft_of c.args.draft) v))) (sym same) c.refusal.ensures.refusal;
     }
