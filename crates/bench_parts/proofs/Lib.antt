@@ -1,3 +1,4 @@
 pub mod Pointers
 pub mod TextsWithin
 pub mod BelowPlaces
+pub mod MetaFaults

@@ -1,15 +1,27 @@
 -- What the bench's meta validators refuse of a document: the first fault, members in the order of their names and items in
--- order, a member before what is inside it. Texts are not spoken of. (Core 2020-12, 8.1.1 and 4.3.1; Validation 2020-12, 6.3.2)
+-- order, a member before what is inside it. A text counts as empty where texts are not spoken of. (Core 2020-12, 8.1.1 and 4.3.1; Validation 2020-12, 6.3.2)
 use Rattle.std.specs.Prelude.{Bool, None, Option, Some, [], bytes_eq, codes, false, if◌then◌else◌, is_some, not, true, ℕ, ◌&&◌, ◌++◌, ◌+◌, ◌||◌, ◌∷◌}
 use Rattle.serde_json.specs.Data.{Data, Items, Members, array, boolean, item, member, no_items, no_members, null, number, object, string}
 use Rattle.serde_json.specs.Find.{as_array, as_number}
+use Rattle.serde_json.specs.Written.{compact_text}
 use Rattle.schema_definitions.specs.Instance.{Place, Text, to_item, to_member}
 use Rattle.schema_definitions.specs.Drafts.{Draft, draft_2020_12, draft_unknown}
 use Rattle.schema_definitions.specs.Reports.{Error}
+use Rattle.schema_reports.specs.ReportViews.{spoken}
+
+-- what the text says that a value is not of
+abbrev pub number_type : Text
+number_type = codes "type \"number\""
+
+abbrev pub schema_types : Text
+schema_types = codes "types \"boolean\", \"object\""
+
+abbrev pub type_text : Data → Text → Text
+type_text v types = compact_text v ++ codes " is not of " ++ types
 
 -- the error of a value of another type, at its place
-abbrev pub mistyped : Place → Error
-mistyped place = record { place = place; schema_path = codes "/type"; evaluation_path = codes "/type"; absolute = None; name = codes "type"; text = [] }
+abbrev pub mistyped : Bool → Place → Data → Text → Error
+mistyped texts place v types = record { place = place; schema_path = codes "/type"; evaluation_path = codes "/type"; absolute = None; name = codes "type"; text = spoken texts (type_text v types) }
 
 -- an unknown draft counts as 2020-12
 abbrev pub is_2020_12 : Draft → Bool
@@ -17,12 +29,17 @@ is_2020_12 draft_2020_12 = true
 is_2020_12 draft_unknown = true
 is_2020_12 _ = false
 
--- a `minLength` that is no number, and in 2020-12 an `items` that is a list
-abbrev pub refuses_member : Draft → Text → Data → Bool
-refuses_member d k v = (bytes_eq k (codes "minLength") && not (is_some (as_number v))) || (bytes_eq k (codes "items") && is_2020_12 d && is_some (as_array v))
+-- a `minLength` that is no number
+abbrev pub is_no_length : Text → Data → Bool
+is_no_length k v = bytes_eq k (codes "minLength") && not (is_some (as_number v))
 
-abbrev pub member_fault : Draft → Place → Text → Data → Option Error
-member_fault d place k v = if refuses_member d k v then Some (mistyped place) else None
+-- in 2020-12 an `items` that is a list
+abbrev pub is_list_of_items : Draft → Text → Data → Bool
+is_list_of_items d k v = bytes_eq k (codes "items") && is_2020_12 d && is_some (as_array v)
+
+abbrev pub member_fault : Bool → Draft → Place → Text → Data → Option Error
+member_fault texts d place k v = if is_no_length k v then Some (mistyped texts place v number_type)
+    else (if is_list_of_items d k v then Some (mistyped texts place v schema_types) else None)
 
 abbrev pub earlier : Option Error → Option Error → Option Error
 earlier None o = o
@@ -30,21 +47,22 @@ earlier (Some e) o = Some e
 
 -- the first fault inside what stands at a place
 abbrev mutual
-  pub fault_in : Draft → Place → Data → Option Error
-  fault_in d place null = None
-  fault_in d place (boolean b) = None
-  fault_in d place (number n) = None
-  fault_in d place (string s) = None
-  fault_in d place (array ds) = fault_in_items d place 0 ds
-  fault_in d place (object ms) = fault_in_members d place ms
+  pub fault_in : Bool → Draft → Place → Data → Option Error
+  fault_in texts d place null = None
+  fault_in texts d place (boolean b) = None
+  fault_in texts d place (number n) = None
+  fault_in texts d place (string s) = None
+  fault_in texts d place (array ds) = fault_in_items texts d place 0 ds
+  fault_in texts d place (object ms) = fault_in_members texts d place ms
 
-  pub fault_in_items : Draft → Place → ℕ → Items → Option Error
-  fault_in_items d place n no_items = None
-  fault_in_items d place n (item v ds) = earlier (fault_in d (place ++ to_item n ∷ []) v) (fault_in_items d place (n + 1) ds)
+  pub fault_in_items : Bool → Draft → Place → ℕ → Items → Option Error
+  fault_in_items texts d place n no_items = None
+  fault_in_items texts d place n (item v ds) = earlier (fault_in texts d (place ++ to_item n ∷ []) v) (fault_in_items texts d place (n + 1) ds)
 
-  pub fault_in_members : Draft → Place → Members → Option Error
-  fault_in_members d place no_members = None
-  fault_in_members d place (member k v ms) = earlier (member_fault d (place ++ to_member k ∷ []) k v) (earlier (fault_in d (place ++ to_member k ∷ []) v) (fault_in_members d place ms))
+  pub fault_in_members : Bool → Draft → Place → Members → Option Error
+  fault_in_members texts d place no_members = None
+  fault_in_members texts d place (member k v ms) = earlier (member_fault texts d (place ++ to_member k ∷ []) k v)
+      (earlier (fault_in texts d (place ++ to_member k ∷ []) v) (fault_in_members texts d place ms))
 
 abbrev pub is_schema : Data → Bool
 is_schema (object ms) = true
@@ -55,5 +73,5 @@ is_schema (string t) = false
 is_schema (array ds) = false
 
 -- a document that is neither object nor boolean is refused as a whole
-abbrev pub document_fault : Draft → Data → Option Error
-document_fault d v = if is_schema v then fault_in d [] v else Some (mistyped [])
+abbrev pub document_fault : Bool → Draft → Data → Option Error
+document_fault texts d v = if is_schema v then fault_in texts d [] v else Some (mistyped texts [] v schema_types)

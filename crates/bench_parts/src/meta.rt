@@ -1,12 +1,13 @@
 //! The meta validators.
-ghost use Rattle.std.specs.Prelude.{◌≡◌, ◌++◌, ◌∷◌, [], IfOk, IfSome, Some, false, option_map};
+ghost use Rattle.std.specs.Prelude.{◌≡◌, ◌++◌, ◌∷◌, [], Bool, IfOk, IfSome, Some, true, false, option_map, string_bytes};
 ghost use Rattle.serde_json.specs.Data.{Data, array, object};
+ghost use Rattle.serde_json.specs.Written.{has_float, items_have_float, members_have_float};
 ghost use Rattle.serde_json.specs.View.{items_view, members_view, view};
 ghost use Rattle.schema_definitions.specs.Instance.{a_value, subject_at};
 ghost use Rattle.schema_keywords.specs.KeywordViews.{draft_of};
 ghost use Rattle.schema_reports.specs.ReportViews.{BorrowsItsPlace, error_of};
 ghost use Rattle.bench_parts.specs.BenchMeta.{fault_in, fault_in_items, fault_in_members, is_2020_12, is_schema, member_fault};
-ghost use Rattle.bench_parts.specs.BenchMeta.{mistyped};
+ghost use Rattle.bench_parts.specs.BenchMeta.{is_list_of_items, is_no_length, mistyped, type_text};
 
 use schema_keywords::keywords::Draft;
 use schema_parts::meta::MetaValidators;
@@ -20,6 +21,17 @@ use std::alloc::Global;
 #[derive(Clone, Copy)]
 pub struct BenchMeta {}
 
+/// The text of a value that is not of these types.
+fn type_text(alloc: Global, value: &Value, types: &str) -> Result<String, OutOfMemory>
+    ensures text { IfOk result (λ text. has_float (view value.now) ≡ false
+        → string_bytes text ≡ type_text (view value.now) types.now) }
+{
+    let mut text = Instance::Value(value).text(alloc)?;
+    text.push_str(" is not of ")?;
+    text.push_str(types)?;
+    Ok(text)
+}
+
 /// The error of a value that is not of these types.
 fn mistyped<'v>(
     alloc: Global,
@@ -27,16 +39,14 @@ fn mistyped<'v>(
     value: &'v Value,
     types: &str,
 ) -> Result<ValidationError<'v>, OutOfMemory>
-    ensures error { IfOk result (λ e. error_of false e ≡ mistyped place.entry) }
+    ensures error { IfOk result (λ e. (texts : Bool) → (texts ≡ true → has_float (view value.now) ≡ false)
+        → error_of texts e ≡ mistyped texts place.entry (view value.now) types.now) }
     ensures borrows { IfOk result (λ e. (root : Data) → subject_at root place.entry ≡ Some (a_value (view value.now))
         → BorrowsItsPlace root e) }
 {
-    let instance = Instance::Value(value);
-    let mut text = instance.text(alloc)?;
-    text.push_str(" is not of ")?;
-    text.push_str(types)?;
+    let text = type_text(alloc, value, types)?;
     Ok(ValidationError {
-        instance,
+        instance: Instance::Value(value),
         place,
         schema_path: Location::from_escaped(alloc, "/type")?,
         evaluation_path: Location::from_escaped(alloc, "/type")?,
@@ -60,6 +70,20 @@ fn is_2020_12(draft: Draft) -> bool
     matches!(draft, Draft::Draft202012 | Draft::Unknown)
 }
 
+/// Whether a member is a `minLength` that is no number.
+fn is_no_length(name: &str, member: &Value) -> bool
+    ensures no_length { result ≡ is_no_length name.now (view member.now) }
+{
+    name == "minLength" && !member.is_number()
+}
+
+/// Whether a member is an `items` that is a list, where the draft takes one schema alone.
+fn is_list_of_items(draft: Draft, name: &str, member: &Value) -> bool
+    ensures list { result ≡ is_list_of_items (draft_of draft) name.now (view member.now) }
+{
+    name == "items" && is_2020_12(draft) && member.is_array()
+}
+
 /// The error of a member itself, at its place.
 fn member_fault<'v>(
     alloc: Global,
@@ -68,14 +92,15 @@ fn member_fault<'v>(
     name: &str,
     member: &'v Value,
 ) -> Result<Option<ValidationError<'v>>, OutOfMemory>
-    ensures fault { IfOk result (λ o. option_map (error_of false) o ≡ member_fault (draft_of draft) place.now name.now (view member.now)) }
+    ensures fault { IfOk result (λ o. (texts : Bool) → (texts ≡ true → has_float (view member.now) ≡ false)
+        → option_map (error_of texts) o ≡ member_fault texts (draft_of draft) place.now name.now (view member.now)) }
     ensures borrows { IfOk result (λ o. (root : Data) → subject_at root place.now ≡ Some (a_value (view member.now))
         → IfSome o (BorrowsItsPlace root)) }
 {
-    if name == "minLength" && !member.is_number() {
+    if is_no_length(name, member) {
         return Ok(Some(mistyped(alloc, place.clone()?, member, "type \"number\"")?));
     }
-    if name == "items" && is_2020_12(draft) && member.is_array() {
+    if is_list_of_items(draft, name, member) {
         return Ok(Some(mistyped(
             alloc,
             place.clone()?,
@@ -94,7 +119,8 @@ fn fault_in<'v>(
     place: &Place<'v>,
     value: &'v Value,
 ) -> Result<Option<ValidationError<'v>>, OutOfMemory>
-    ensures fault { IfOk result (λ o. option_map (error_of false) o ≡ fault_in (draft_of draft) place.now (view value.now)) }
+    ensures fault { IfOk result (λ o. (texts : Bool) → (texts ≡ true → has_float (view value.now) ≡ false)
+        → option_map (error_of texts) o ≡ fault_in texts (draft_of draft) place.now (view value.now)) }
     ensures borrows { IfOk result (λ o. (root : Data) → subject_at root place.now ≡ Some (a_value (view value.now))
         → IfSome o (BorrowsItsPlace root)) }
 {
@@ -113,8 +139,8 @@ fn fault_in_items<'v>(
     place: &Place<'v>,
     items: &'v Vec<Value>,
 ) -> Result<Option<ValidationError<'v>>, OutOfMemory>
-    ensures fault { IfOk result (λ o. option_map (error_of false) o
-        ≡ fault_in_items (draft_of draft) place.now 0 (items_view items.now.items)) }
+    ensures fault { IfOk result (λ o. (texts : Bool) → (texts ≡ true → items_have_float (items_view items.now.items) ≡ false)
+        → option_map (error_of texts) o ≡ fault_in_items texts (draft_of draft) place.now 0 (items_view items.now.items)) }
     ensures borrows { IfOk result (λ o. (root : Data)
         → subject_at root place.now ≡ Some (a_value (array (items_view items.now.items))) → IfSome o (BorrowsItsPlace root)) }
 {
@@ -135,8 +161,8 @@ fn fault_in_members<'v>(
     place: &Place<'v>,
     members: &'v Map<String, Value>,
 ) -> Result<Option<ValidationError<'v>>, OutOfMemory>
-    ensures fault { IfOk result (λ o. option_map (error_of false) o
-        ≡ fault_in_members (draft_of draft) place.now (members_view members.now.entries)) }
+    ensures fault { IfOk result (λ o. (texts : Bool) → (texts ≡ true → members_have_float (members_view members.now.entries) ≡ false)
+        → option_map (error_of texts) o ≡ fault_in_members texts (draft_of draft) place.now (members_view members.now.entries)) }
     ensures borrows { IfOk result (λ o. (root : Data)
         → subject_at root place.now ≡ Some (a_value (object (members_view members.now.entries))) → IfSome o (BorrowsItsPlace root)) }
 {
