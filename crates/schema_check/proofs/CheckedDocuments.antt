@@ -194,12 +194,12 @@ pub error_kept : (refuses : MetaChecks) (draft : Draft) (value : Data) (o : Opti
     → ((texts : Bool) → (texts ≡ true → has_float value ≡ false) → option_map (error_of texts) o ≡ refuses texts draft value) → IfSome o (BorrowsItsPlace value)
     → owned_error_of e ≡ owned (subject_of error.instance) (error_of true error) → IsErrorBelow refuses [] draft value e
 error_kept refuses draft value o error e is checked borrows kept texts whole = (
-      error_of texts error,
-      subject_of error.instance,
-      sym (checked texts whole) ∙ ap (option_map (error_of texts)) is,
-      subst (λ (x : Option ValidationError). IfSome x (BorrowsItsPlace value)) is borrows,
-      ap (λ (x : reports.OwnedError). record x { text = spoken texts x.text }) kept,
-    )
+  error_of texts error,
+  subject_of error.instance,
+  sym (checked texts whole) ∙ ap (option_map (error_of texts)) is,
+  subst (λ (x : Option ValidationError). IfSome x (BorrowsItsPlace value)) is borrows,
+  ap (λ (x : reports.OwnedError). record x { text = spoken texts x.text }) kept,
+)
 
 module _ {S : Type 0} (r : Resolver S) (refuses : MetaChecks) where
   -- the documents of an embedded resource

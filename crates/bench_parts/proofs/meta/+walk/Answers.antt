@@ -1,4 +1,4 @@
-use Rattle.std.proofs.Common.{◌≡◌, ◌<◌, ◌+◌, ◌++◌, ◌∷◌, ◌∙◌, [], List, ap, append_assoc, drop, get_or, rules, length, string_bytes, string_cmp, subst, sym}
+use Rattle.std.proofs.Common.{◌≡◌, ◌<◌, ◌+◌, ◌++◌, ◌∷◌, ◌∙◌, [], List, ap, append_assoc, drop, get_or, length, string_bytes, string_cmp, subst, sym}
 use Rattle.std.specs.List.Sorted.{IsStrictlySortedBy}
 use Rattle.std.specs.Map.{keys_of}
 use Rattle.std.proofs.lemmas.List.{drop_more}
@@ -92,5 +92,5 @@ fault_in_members-loop-name-preserved t c =
     let all = so_far.1 ∙ ap (λ (es : List Entry). so_far.0 ++ es) c.in-Some.ensures.steps ∙ sym (append_assoc so_far.0 (member ∷ []) left) in
     let before : MembersLeft d place (members_view entries) (to_members k v (members_view left)) = subst (λ (es : List Entry). MembersLeft d place (members_view entries) (members_view es)) c.in-Some.ensures.steps c.loop-name.invariant.0 in
     let own : Tells c.in_ok-error.field-0 (has_float v) (λ texts. member_fault texts d c.in_ok-below.below k v) =
-        subst (λ (n : Text). Tells c.in_ok-error.field-0 (has_float v) (λ texts. member_fault texts d c.in_ok-below.below n v)) c.as_str-in-loop-name.ensures.value c.in_ok-error.ensures.fault in
+    subst (λ (n : Text). Tells c.in_ok-error.field-0 (has_float v) (λ texts. member_fault texts d c.in_ok-below.below n v)) c.as_str-in-loop-name.ensures.value c.in_ok-error.ensures.fault in
     (next_member d place (members_view entries) k v (members_view left) c.in_ok-below.below c.in_ok-error.field-0 is before own c.in_ok-error-2.field-0 c.in_default.is c.in_ok-error-2.ensures.fault c.in_default-2.is, (so_far.0 ++ member ∷ [], all))
