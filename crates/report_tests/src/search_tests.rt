@@ -1,4 +1,6 @@
 //! What searches over unfinished matches find: worked values from outside, and each public call once.
+ghost use Rattle.std.specs.Prelude.{◌≤◌};
+
 use crate::fixtures::{
     Rows, error_at, errors_at, is_text, is_yes, member_place, pointer, points, wrong,
 };
@@ -8,31 +10,48 @@ use schema_reports::location::OutOfMemory;
 use schema_reports::reports::ValidationError;
 use schema_reports::text::Text;
 use schema_search::unfinished_matches::{
-    Outcomes, assume_each_outcome, errors, errors_under_each, validity, validity_under_each,
+    MAX_ASSUMED_RUNS, Outcomes, assume_each_outcome, errors, errors_under_each, validity,
+    validity_under_each,
 };
 use serde_json::Value;
 use std::alloc::Global;
 use std::process::Abort;
 use test_rows::{column, list_at, text_at};
 
-/// Rows, by what they say first: what each run of a search meets, and its verdict; what the first run of a search meets, whose other
-/// runs meet nothing, the paths of the errors that each of two runs gives, where the search is decided, and the texts of the errors
-/// that it gives; what the first run of a search meets and what its other runs meet, and what is then read of its failure: compiled
-/// pattern, subject, schema path, evaluation path, instance path, pattern as it is written, and limit; or an instance, and the text,
-/// the paths and the instance of the error that a search over it gives, whose runs meet a match as a verdict and then at a place.
+/// Rows, by what they say first: what each run of a search meets, its verdict, and the limit of runs, where that is not the default;
+/// what the first run of a search meets, whose other runs meet nothing, the paths of the errors that each of two runs gives, where
+/// the search is decided, and the texts of the errors that it gives; what the first run of a search meets and what its other runs
+/// meet, and what is then read of its failure: compiled pattern, subject, schema path, evaluation path, instance path, pattern as
+/// it is written, and limit; or an instance, and the text, the paths and the instance of the error that a search over it gives,
+/// whose runs meet a match as a verdict and then at a place, and the limit of runs, where that is not the default. Past the limit
+/// a failure stands at the sites that its runs gave by then.
 /// What a run of the first three meets is a pattern and its path, and then `known` where the match is known to be unfinished, or
 /// the text of the limit that it came to, the way to it where it is met at the member `a`, and the pattern as it is written; a run
 /// accepts where each match that is known comes out as the one before it. A failure without a place takes over the first site of
 /// its match that has one, and keeps its written pattern where that has none.
 const ROWS: &str = r#"[
 ["accepted", [["d", "/anyOf/0/pattern"]], true],
+["accepted", [["d", "/anyOf/0/pattern"]], false, 1],
+["accepted", [["d", "/anyOf/0/pattern"]], false, 2],
+["accepted", [["d", "/anyOf/0/pattern"]], true, 3],
+["accepted", [["d", "/anyOf/0/pattern"]], true, 64],
 ["accepted", [["d", "/anyOf/0/pattern"], ["e", "/anyOf/0/pattern"], ["f", "/anyOf/0/pattern"], ["g", "/anyOf/0/pattern"],
   ["h", "/anyOf/0/pattern"]], true],
 ["accepted", [["d", "/anyOf/0/pattern"], ["e", "/anyOf/0/pattern"], ["f", "/anyOf/0/pattern"], ["g", "/anyOf/0/pattern"],
+  ["h", "/anyOf/0/pattern"]], false, 62],
+["accepted", [["d", "/anyOf/0/pattern"], ["e", "/anyOf/0/pattern"], ["f", "/anyOf/0/pattern"], ["g", "/anyOf/0/pattern"],
+  ["h", "/anyOf/0/pattern"]], true, 63],
+["accepted", [["d", "/anyOf/0/pattern"], ["e", "/anyOf/0/pattern"], ["f", "/anyOf/0/pattern"], ["g", "/anyOf/0/pattern"],
   ["h", "/anyOf/0/pattern"], ["i", "/anyOf/0/pattern"]], false],
+["accepted", [["d", "/anyOf/0/pattern"], ["e", "/anyOf/0/pattern"], ["f", "/anyOf/0/pattern"], ["g", "/anyOf/0/pattern"],
+  ["h", "/anyOf/0/pattern"], ["i", "/anyOf/0/pattern"]], false, 126],
+["accepted", [["d", "/anyOf/0/pattern"], ["e", "/anyOf/0/pattern"], ["f", "/anyOf/0/pattern"], ["g", "/anyOf/0/pattern"],
+  ["h", "/anyOf/0/pattern"], ["i", "/anyOf/0/pattern"]], true, 127],
 ["accepted", [["d", "/anyOf/0/pattern"], ["e", "/anyOf/0/pattern"], ["f", "/anyOf/0/pattern"], ["g", "/anyOf/0/pattern"],
   ["h", "/anyOf/0/pattern"], ["i", "/anyOf/0/pattern"], ["j", "/anyOf/0/pattern"], ["k", "/anyOf/0/pattern"]], false],
 ["accepted", [["p", "/a/pattern"], ["p", "/b/pattern", "known"]], true],
+["accepted", [["p", "/a/pattern"], ["p", "/b/pattern", "known"]], false, 2],
+["accepted", [["p", "/a/pattern"], ["p", "/b/pattern", "known"]], true, 3],
 ["shared", [["compiled", "/pattern"]], [[["/b", "/a"]], [["/a", "/b"]]], ["/a", "/b"]],
 ["shared", [["compiled", "/pattern"]], [[["/b", "/a"]], [["/c", "/d"]]], ["Regex engine failed to evaluate pattern 'compiled'"]],
 ["shared", [["compiled", "/pattern"]], [[[]], [[]]], []],
@@ -45,8 +64,27 @@ const ROWS: &str = r#"[
   ["compiled", "abc", "/$defs/s/pattern", "/properties/a/$ref/pattern", "/a", "source", ""]],
 ["read", [["p", "/a/pattern"], ["q", "/b/pattern", "", "/b/pattern"]], [], ["p", "abc", "/a/pattern", null, null, null, ""]],
 ["located", {"a": "abc"},
-  "Regex engine failed to evaluate pattern 'source'", "/$defs/s/pattern", "/properties/a/$ref/pattern", "/a", "\"abc\""]
+  "Regex engine failed to evaluate pattern 'source'", "/$defs/s/pattern", "/properties/a/$ref/pattern", "/a", "\"abc\""],
+["located", {"a": "abc"},
+  "Regex engine failed to evaluate pattern 'source'", "/$defs/s/pattern", "/properties/a/$ref/pattern", "/a", "\"abc\"", 3],
+["located", {"a": "abc"},
+  "Regex engine failed to evaluate pattern 'source'", "/not/pattern", "/not/pattern", "", "{\"a\":\"abc\"}", 2],
+["located", {"a": "abc"},
+  "Regex engine failed to evaluate pattern 'source'", "/not/pattern", "/not/pattern", "", "{\"a\":\"abc\"}", 1]
 ]"#;
+
+/// The limit of runs that a column says, or the default one where it says none.
+fn limit_at(row: &Value, number: usize) -> u32
+    ensures some { 1 ≤ result }
+{
+    let Some(limit) = column(row, number).as_u64() else {
+        return MAX_ASSUMED_RUNS;
+    };
+    match u32::try_from(limit) {
+        Ok(limit) if limit > 0 => limit,
+        _ => MAX_ASSUMED_RUNS,
+    }
+}
 
 /// The site of a keyword's path.
 fn schema_site<'i>(rt: &impl Abort, alloc: Global, path: &str) -> MatchSite<'i> {
@@ -130,14 +168,21 @@ fn run<'i>(
 }
 
 /// Whether the search accepts whose runs meet these; nothing where the first run meets nothing.
-fn verdict(rt: &impl Abort, alloc: Global, rows: &[Value]) -> Result<Option<bool>, OutOfMemory> {
+fn verdict(
+    rt: &impl Abort,
+    alloc: Global,
+    rows: &[Value],
+    limit: u32,
+) -> Result<Option<bool>, OutOfMemory>
+    requires limit { 1 ≤ limit }
+{
     let first = run(rt, alloc, rows, MatchAssumptions::new(alloc));
     if !first.0.met_unassumed() {
         drop(first);
         return Ok(None);
     }
     let again = |met| Ok(run(rt, alloc, rows, met));
-    Ok(Some(validity_under_each(alloc, again, first)?))
+    Ok(Some(validity_under_each(alloc, again, first, limit)?))
 }
 
 /// What the search finds whose first run meets these, and whose other runs meet those; nothing where the first run meets nothing.
@@ -146,25 +191,29 @@ fn outcomes<'i>(
     alloc: Global,
     first: &[Value],
     later: &[Value],
-) -> Option<Outcomes<'i, bool>> {
+    limit: u32,
+) -> Option<Outcomes<'i, bool>>
+    requires limit { 1 ≤ limit }
+{
     let first = run(rt, alloc, first, MatchAssumptions::new(alloc));
     if !first.0.met_unassumed() {
         drop(first);
         return None;
     }
     let mut again = |met| Ok(run(rt, alloc, later, met));
-    Some(assume_each_outcome(alloc, &mut again, first).expect(rt, "memory"))
+    Some(assume_each_outcome(alloc, &mut again, first, limit).expect(rt, "memory"))
 }
 
 /// Whether the search of a row, and the results of one that is made apart, have its verdict.
 fn is_accepted(rt: &impl Abort, alloc: Global, row: &Value) -> bool {
     let rows = list_at(row, 1);
     let want = Some(is_yes(row, 2));
-    let apart = match outcomes(rt, alloc, rows, rows) {
+    let limit = limit_at(row, 3);
+    let apart = match outcomes(rt, alloc, rows, rows, limit) {
         Some(outcomes) => Some(validity(outcomes)),
         None => None,
     };
-    apart == want && verdict(rt, alloc, rows).expect(rt, "memory") == want
+    apart == want && verdict(rt, alloc, rows, limit).expect(rt, "memory") == want
 }
 
 /// The failure that a search gives, whatever it found.
@@ -210,7 +259,8 @@ fn have_texts(errors: &[ValidationError<'_>], texts: &[Value]) -> bool {
 
 /// Whether the search of a row gives errors with its texts.
 fn is_shared(rt: &impl Abort, alloc: Global, row: &Value) -> bool {
-    let Some(failure) = failure_of(outcomes(rt, alloc, list_at(row, 1), &[])) else {
+    let searched = outcomes(rt, alloc, list_at(row, 1), &[], MAX_ASSUMED_RUNS);
+    let Some(failure) = failure_of(searched) else {
         return false;
     };
     let found = found_by(rt, alloc, row, failure);
@@ -253,7 +303,14 @@ fn limit_of(reason: &Reason) -> &str {
 
 /// Whether what is read of the failure of a row's search is what the row says.
 fn is_read(rt: &impl Abort, alloc: Global, row: &Value) -> bool {
-    let Some(failure) = failure_of(outcomes(rt, alloc, list_at(row, 1), list_at(row, 2))) else {
+    let searched = outcomes(
+        rt,
+        alloc,
+        list_at(row, 1),
+        list_at(row, 2),
+        MAX_ASSUMED_RUNS,
+    );
+    let Some(failure) = failure_of(searched) else {
         return false;
     };
     let want = column(row, 3);
@@ -301,14 +358,17 @@ fn errors_at_place<'i>(
     rt: &impl Abort,
     alloc: Global,
     value: &'i Value,
-) -> Result<Vec<ValidationError<'i>>, OutOfMemory> {
+    limit: u32,
+) -> Result<Vec<ValidationError<'i>>, OutOfMemory>
+    requires limit { 1 ≤ limit }
+{
     let first = run_at_place(rt, alloc, value, MatchAssumptions::new(alloc));
     if !first.0.met_unassumed() {
         drop(first);
         return Ok(Vec::new(alloc));
     }
     let again = |met| Ok(run_at_place(rt, alloc, value, met));
-    errors_under_each(alloc, again, first, value)
+    errors_under_each(alloc, again, first, limit, value)
 }
 
 /// Whether an error has a row's text, paths and instance.
@@ -328,7 +388,7 @@ fn is_of(rt: &impl Abort, alloc: Global, error: &ValidationError<'_>, row: &Valu
 
 /// Whether the search over a row's instance gives the row's error alone.
 fn is_located(rt: &impl Abort, alloc: Global, row: &Value) -> bool {
-    let errors = errors_at_place(rt, alloc, column(row, 1)).expect(rt, "memory");
+    let errors = errors_at_place(rt, alloc, column(row, 1), limit_at(row, 7)).expect(rt, "memory");
     let is_located = match errors.as_slice() {
         [error] => is_of(rt, alloc, error, row),
         _ => false,

@@ -1,6 +1,7 @@
 -- The cover of a call takes the outcomes apart of those unfinished matches that its runs meet; each member assumes enough
--- of them for a run that meets no other. A call decides where its cover has at most 32 members.
-use Rattle.std.specs.Prelude.{Bool, List, None, Option, Some, [], false, find, is_some, length, not, true, ℕ, ◌++◌, ◌∷◌, ◌≡◌, ◌≤◌}
+-- of them for a run that meets no other. A call makes a run for each member and for each branching: for L members 2 L - 1. It
+-- decides where that is within its limit.
+use Rattle.std.specs.Prelude.{Bool, List, None, Option, Some, [], false, find, is_some, length, not, true, ℕ, ◌*◌, ◌+◌, ◌++◌, ◌∷◌, ◌≡◌, ◌≤◌}
 use Rattle.serde_json.specs.Data.{Data}
 use Rattle.schema_definitions.specs.Instance.{Text}
 use Rattle.schema_definitions.specs.Reports.{Outcome}
@@ -51,6 +52,6 @@ module _ (v : Sense) where
     first_run : IsRun call []
     further : {as' : Assumptions} (m : Met) (b : Bool) → IsRun call as' → branch_at call as' ≡ Some m → IsRun call (assuming m b as')
 
-  -- a call decides where its cover has at most 32 members
-  abbrev pub Decides : Call → Type 0
-  Decides call = (members : List Assumptions) × Cover call [] members × (length members ≤ 32)
+  -- a call that makes so many runs at most decides where its cover takes no more: for L members these are 2 L - 1
+  abbrev pub Decides : ℕ → Call → Type 0
+  Decides limit call = (members : List Assumptions) × Cover call [] members × (2 * length members ≤ limit + 1)

@@ -1,5 +1,5 @@
 -- What a search over the nodes' errors answers, is what is said of the calls.
-use Rattle.std.proofs.Common.{◌≡◌, ◌∙◌, ◌&&◌, ◌⊎◌, inl, inr, ℕ, zero, Bool, true, false, List, [], ◌∷◌, refl, sym, ap, subst, arith, map, Some, None}
+use Rattle.std.proofs.Common.{◌≤◌, ◌≡◌, ◌∙◌, ◌&&◌, ◌⊎◌, inl, inr, ℕ, zero, Bool, true, false, List, [], ◌∷◌, refl, sym, ap, subst, arith, map, Some, None}
 use Rattle.std.specs.Prelude.{All, Contains, IfSome, Option, is_none, is_some, option_map, slice_get, unwrap_or}
 use Rattle.std.specs.Global.{Vec}
 use Rattle.std.proofs.lemmas.List.Elements.{All-cons, All-contains, All-contains_itself, All-head, All-nil, All-tail, All-weaker}
@@ -99,7 +99,8 @@ failure_stands instance met inside path place e = go met.site.located refl e
     go None is e' = subst (Stands instance) (sym (ap (λ (l : Text × Place). l.1) e')) refl
     go (Some l) is e' = subst (Stands instance) (sym (ap (λ (x : Text × Place). x.1) e')) (shown_stands instance l.1 (inside l.0 l.1 is))
 
-module _ {K R : Type 0} (keywords : Keywords K R) (each : EachKeeps keywords) (matcher : Matcher) (nodes : Nodes K) (instance : Data) (root n : ℕ) where
+-- of calls that make so many runs at most
+module _ {K R : Type 0} (keywords : Keywords K R) (each : EachKeeps keywords) (matcher : Matcher) (nodes : Nodes K) (instance : Data) (root n most : ℕ) (some_run : 1 ≤ most) where
   abbrev v : Sense
   v = sense keywords each matcher nodes instance root n
 
@@ -121,14 +122,14 @@ module _ {K R : Type 0} (keywords : Keywords K R) (each : EachKeeps keywords) (m
     alone : Cover v call [] ([] ∷ [])
     alone = whole none
 
-    decides : Decides v call
+    decides : Decides v most call
     decides = ([] ∷ [], alone, omega arith)
 
     no_failure : (m : Met) → branch_at v call [] ≡ Some m → IsFailure v call any_error
     no_failure m e = absurd (cc (sym none ∙ e))
 
-    verdict_alone : (b : Bool) → b ≡ verdict_of v [] → VerdictSays v call b
-    verdict_alone b e = subst (VerdictSays v call) (and_true (verdict_of v []) ∙ sym e) (verdict_says v call follows_it ([] ∷ []) alone (omega arith))
+    verdict_alone : (b : Bool) → b ≡ verdict_of v [] → VerdictSays v most call b
+    verdict_alone b e = subst (VerdictSays v most call) (and_true (verdict_of v []) ∙ sym e) (verdict_says v call follows_it ([] ∷ []) alone most (omega arith))
       where
         and_true : (b : Bool) → (b && true) ≡ b
         and_true true = refl
@@ -137,13 +138,13 @@ module _ {K R : Type 0} (keywords : Keywords K R) (each : EachKeeps keywords) (m
   nil_is : (es : List Error) → es ≡ errors_of v [] → is_nil es ≡ verdict_of v []
   nil_is es e = ap is_nil e ∙ nil_agrees (v.says (completion_of [])) (follows_it.agrees (completion_of []))
 
-  errors_alone : branch_at v iter_errors [] ≡ None → (es : List Error) → es ≡ errors_of v [] → ErrorsSay v es
-  errors_alone none es e = subst (ErrorsSay v) (listed_alone v [] any_error ∙ sym e) (errors_say v follows_it [] [] any_error ([] ∷ []) (alone iter_errors none) refl (omega arith) (no_failure iter_errors none))
+  errors_alone : branch_at v iter_errors [] ≡ None → (es : List Error) → es ≡ errors_of v [] → ErrorsSay v most es
+  errors_alone none es e = subst (ErrorsSay v most) (listed_alone v [] any_error ∙ sym e) (errors_say v follows_it [] [] any_error most ([] ∷ []) (alone iter_errors none) refl (omega arith) (no_failure iter_errors none))
 
-  first_alone : branch_at v validate [] ≡ None → (o : Option Error) → o ≡ first_error (errors_of v []) → FirstSays v o
-  first_alone none o e = subst (FirstSays v) (ap first_error (listed_alone v [] any_error) ∙ sym e) (first_says v follows_it [] [] any_error ([] ∷ []) (alone validate none) refl (omega arith) (no_failure validate none))
+  first_alone : branch_at v validate [] ≡ None → (o : Option Error) → o ≡ first_error (errors_of v []) → FirstSays v most o
+  first_alone none o e = subst (FirstSays v most) (ap first_error (listed_alone v [] any_error) ∙ sym e) (first_says v follows_it [] [] any_error most ([] ∷ []) (alone validate none) refl (omega arith) (no_failure validate none))
 
-  pub errors_first : (texts : Bool) (es : List ValidationError) (r : Remembered) → map (error_of texts) es ≡ ((run_under []).outcome tt).errors → MeetsEach matcher (starting []) ((run_under []).met for_all) r → r.unassumed ≡ None → ErrorsAnswered v texts es
+  pub errors_first : (texts : Bool) (es : List ValidationError) (r : Remembered) → map (error_of texts) es ≡ ((run_under []).outcome tt).errors → MeetsEach matcher (starting []) ((run_under []).met for_all) r → r.unassumed ≡ None → ErrorsAnswered v most texts es
   errors_first true es r says met none = errors_alone (no_branch iter_errors r met none) (map (error_of true) es) (told [] _ says)
   errors_first false es r says met none =
       let branch = no_branch iter_errors r met none in
@@ -154,7 +155,7 @@ module _ {K R : Type 0} (keywords : Keywords K R) (each : EachKeeps keywords) (m
         alone = λ e. errors_alone branch (map (error_of false) es) (told [] _ says);
       }
 
-  pub first_first : (texts : Bool) (o : Option ValidationError) (r : Remembered) → option_map (error_of texts) o ≡ first_error ((run_under []).outcome tt).errors → MeetsEach matcher (starting []) ((run_under []).met for_first) r → r.unassumed ≡ None → FirstAnswered v texts o
+  pub first_first : (texts : Bool) (o : Option ValidationError) (r : Remembered) → option_map (error_of texts) o ≡ first_error ((run_under []).outcome tt).errors → MeetsEach matcher (starting []) ((run_under []).met for_first) r → r.unassumed ≡ None → FirstAnswered v most texts o
   first_first texts o r says met none = go texts o (says ∙ ap (λ (o : Outcome). first_error o.errors) (outcome keywords each matcher nodes instance root n []))
     where
       branch : branch_at v validate [] ≡ None
@@ -164,7 +165,7 @@ module _ {K R : Type 0} (keywords : Keywords K R) (each : EachKeeps keywords) (m
       given None e = tt
       given (Some x) e = inl (completion_of [], in_first (errors_of v []) (error_of false x) e)
 
-      go : (texts : Bool) (o : Option ValidationError) → option_map (error_of texts) o ≡ first_error (errors_of v []) → FirstAnswered v texts o
+      go : (texts : Bool) (o : Option ValidationError) → option_map (error_of texts) o ≡ first_error (errors_of v []) → FirstAnswered v most texts o
       go true o e = first_alone branch (option_map (error_of true) o) e
       go false o e = record {
         verdict = verdict_alone validate branch (is_none o) (none_mapped false o ∙ none_first (option_map (error_of false) o) (errors_of v []) e ∙ nil_is (errors_of v []) refl);
@@ -182,10 +183,10 @@ module _ {K R : Type 0} (keywords : Keywords K R) (each : EachKeeps keywords) (m
   unit_verdict : (texts : Bool) (u : EvaluationNode) → unit_of texts u ≡ (run_under []).units tt → (report_of (unit_of texts u)).valid ≡ verdict_of v []
   unit_verdict texts u e = ap (λ u. (report_of u).valid) e ∙ (speaks_for (completion_of [])).run_valid ∙ ap (λ (o : Outcome). o.verdict) (outcome keywords each matcher nodes instance root n [])
 
-  pub evaluated_first : (texts : Bool) (u : EvaluationNode) (r : Remembered) → unit_of texts u ≡ (run_under []).units tt → MeetsEach matcher (starting []) ((run_under []).met for_units) r → r.unassumed ≡ None → EvaluationAnswered v texts u
+  pub evaluated_first : (texts : Bool) (u : EvaluationNode) (r : Remembered) → unit_of texts u ≡ (run_under []).units tt → MeetsEach matcher (starting []) ((run_under []).met for_units) r → r.unassumed ≡ None → EvaluationAnswered v most texts u
   evaluated_first texts u r says met none =
       let branch = no_branch evaluate r met none in
-      record { verdict = verdict_alone evaluate branch (report_of (unit_of texts u)).valid (unit_verdict texts u says); apart = λ some. absurd (some branch) }
+      record { makes_one = some_run; verdict = verdict_alone evaluate branch (report_of (unit_of texts u)).valid (unit_verdict texts u says); apart = λ some. absurd (some branch) }
 
   pub units_first : (texts : Bool) (u : EvaluationNode) → unit_of texts u ≡ (run_under []).units tt → branch_at v evaluate [] ≡ None → (c : Completion)
       → unit_of texts u ≡ guarded_within (yes_unit nodes) (node_unit keywords matcher nodes (subject_in instance) c) n root [] [] []
@@ -233,7 +234,7 @@ module _ {K R : Type 0} (keywords : Keywords K R) (each : EachKeeps keywords) (m
 
       -- every error given borrows what stands at its place, if each run's errors do
       pub borrowed : (texts : Bool) → AreRuns texts → ((as' : Assumptions) (r : Remembered) (es : Vec ValidationError) (end : S) → Step start (starting as') r es end → All (BorrowsItsPlace instance) es.items)
-          → (es : List ValidationError) → ((u : Sense) (call' : Call) → IsRunOf u call' Step first start none_in (λ m. is_nil (errors_of u m)) → GivesErrors u call' Step start instance es) → All (BorrowsItsPlace instance) es
+          → (es : List ValidationError) → ((u : Sense) (call' : Call) → IsRunOf u call' Step first start none_in (λ m. is_nil (errors_of u m)) → GivesErrors u call' most Step start instance es) → All (BorrowsItsPlace instance) es
       borrowed texts runs borrows es gives = elim (gives v call (none_runs texts runs)).each [
         | inl all ↦ All-weaker (OfRun v call Step start) (BorrowsItsPlace instance) (of_run call (BorrowsItsPlace instance) (λ as' r es' end step once. borrows as' r es' end step)) es all
         | inr f ↦ subst (All (BorrowsItsPlace instance)) (sym f.alone) (All-cons (BorrowsItsPlace instance) f.error [] (at_failure f.error f.is f.instance) (All-nil (BorrowsItsPlace instance)))
@@ -249,15 +250,15 @@ module _ {K R : Type 0} (keywords : Keywords K R) (each : EachKeeps keywords) (m
     -- ---- all errors
 
     abbrev pub SaysErrors : Vec ValidationError → Type 0
-    SaysErrors es = (u : Sense) (call : Call) → WantsAllLater call → Follows u → IsRunOf u call Step first start errors_in (errors_of u) → ErrorsOf u call (errors_in es)
+    SaysErrors es = (u : Sense) (call : Call) → WantsAllLater call → Follows u → IsRunOf u call Step first start errors_in (errors_of u) → ErrorsOf u most call (errors_in es)
 
     abbrev pub SaysVerdict : Vec ValidationError → Type 0
-    SaysVerdict es = (u : Sense) (call : Call) → Follows u → IsRunOf u call Step first start none_in (λ m. is_nil (errors_of u m)) → VerdictSays u call (none_in es)
+    SaysVerdict es = (u : Sense) (call : Call) → Follows u → IsRunOf u call Step first start none_in (λ m. is_nil (errors_of u m)) → VerdictSays u most call (none_in es)
 
     abbrev pub Gives : Vec ValidationError → Type 0
-    Gives es = (u : Sense) (call : Call) → IsRunOf u call Step first start none_in (λ m. is_nil (errors_of u m)) → GivesErrors u call Step start instance es.items
+    Gives es = (u : Sense) (call : Call) → IsRunOf u call Step first start none_in (λ m. is_nil (errors_of u m)) → GivesErrors u call most Step start instance es.items
 
-    pub errors_searched : (texts : Bool) → AreRuns texts → MeetsEach matcher (starting []) ((run_under []).met for_all) first → is_some first.unassumed ≡ true → (es : Vec ValidationError) → SaysErrors es → SaysVerdict es → Gives es → ErrorsAnswered v texts es.items
+    pub errors_searched : (texts : Bool) → AreRuns texts → MeetsEach matcher (starting []) ((run_under []).met for_all) first → is_some first.unassumed ≡ true → (es : Vec ValidationError) → SaysErrors es → SaysVerdict es → Gives es → ErrorsAnswered v most texts es.items
     errors_searched true runs met some es says verdict gives = says v iter_errors (λ as' k. refl) follows_it (spoken_runs iter_errors (λ as' k. refl) met runs)
     errors_searched false runs met some es says verdict gives =
         let is = none_runs iter_errors (λ as' k. refl) met false runs in
@@ -279,13 +280,14 @@ module _ {K R : Type 0} (keywords : Keywords K R) (each : EachKeeps keywords) (m
     no_error_valid (e ∷ es) = refl
 
     pub evaluated_searched : (texts : Bool) → AreRuns texts → MeetsEach matcher (starting []) ((run_under []).met for_units) first → (es : Vec ValidationError) → SaysErrors es → SaysVerdict es → Gives es
-        → (u : EvaluationNode) → unit_of texts u ≡ errors_unit (map (error_of texts) es.items) → EvaluationAnswered v texts u
+        → (u : EvaluationNode) → unit_of texts u ≡ errors_unit (map (error_of texts) es.items) → EvaluationAnswered v most texts u
     evaluated_searched texts runs met es says verdict gives u made =
         let is = none_runs evaluate evaluate_later met texts runs in
         let given = gives v evaluate is in
         let valid : is_empty es.items ≡ (report_of (unit_of texts u)).valid = nil_told texts es.items ∙ sym (no_error_valid (map (error_of texts) es.items)) ∙ sym (ap (λ u. (report_of u).valid) made) in
         record {
-          verdict = subst (VerdictSays v evaluate) valid (verdict v evaluate follows_it is);
+          makes_one = some_run;
+          verdict = subst (VerdictSays v most evaluate) valid (verdict v evaluate follows_it is);
           apart = λ some. record {
             errors = es.items;
             made = made;
@@ -301,13 +303,13 @@ module _ {K R : Type 0} (keywords : Keywords K R) (each : EachKeeps keywords) (m
     -- ---- the first one
 
     pub first_searched : (texts : Bool) → AreRuns texts → MeetsEach matcher (starting []) ((run_under []).met for_first) first → is_some first.unassumed ≡ true → (es : Vec ValidationError)
-        → ((u : Sense) → Follows u → IsRunOf u validate Step first start errors_in (errors_of u) → FirstSays u (first_error (errors_in es))) → SaysVerdict es → Gives es → FirstAnswered v texts (slice_get es.items 0)
-    first_searched true runs met some es says verdict gives = subst (FirstSays v) (head_mapped true es.items) (says v follows_it (spoken_runs validate validate_later met runs))
+        → ((u : Sense) → Follows u → IsRunOf u validate Step first start errors_in (errors_of u) → FirstSays u most (first_error (errors_in es))) → SaysVerdict es → Gives es → FirstAnswered v most texts (slice_get es.items 0)
+    first_searched true runs met some es says verdict gives = subst (FirstSays v most) (head_mapped true es.items) (says v follows_it (spoken_runs validate validate_later met runs))
     first_searched false runs met some es says verdict gives =
         let is = none_runs validate validate_later met false runs in
         let given = gives v validate is in
         record {
-          verdict = subst (VerdictSays v validate) (sym (none_head es.items)) (verdict v validate follows_it is);
+          verdict = subst (VerdictSays v most validate) (sym (none_head es.items)) (verdict v validate follows_it is);
           given = elim given.each [ inl all ↦ of_all es.items all | inr f ↦ subst (λ xs. IfSome (slice_get xs 0) (λ e. IsGiven v false e ⊎ IsFailure v validate (error_of true e))) (sym f.alone) (inr f.is) ];
           undecided = λ not. let f = given.undecided not in (error_of true f.error, f.is, ap (λ xs. option_map (error_of true) (slice_get xs 0)) f.alone);
           alone = λ e. absurd (some_branch validate validate_later met some e);

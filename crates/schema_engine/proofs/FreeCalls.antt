@@ -25,7 +25,7 @@ use Rattle.schema_engine.specs.Called.{GuardedlyOf, IsCompiledFrom, UnitsGuarded
 use Rattle.schema_engine.specs.Evaluated.{EvaluationAnswered}
 use Rattle.schema_engine.specs.FreeCalls as calls
 use Rattle.schema_engine.specs.FreeCalls.{OfAllCompiled}
-use Rattle.schema_engine.specs.Handed.{Handed, Options, default_nested}
+use Rattle.schema_engine.specs.Handed.{Handed, Options}
 use Rattle.schema_engine.specs.Nesting.{ErrorsAgree, EvaluationsAgree, FirstsAgree, verdict_in}
 use Rattle.schema_engine.specs.Program.{FromSomeDepth, Program}
 use Rattle.schema_engine.specs.Spoken.{ErrorsAnswered, FirstAnswered}
@@ -58,17 +58,17 @@ one_there : (f : ValidationError → Error) (es : List ValidationError) (e : Err
 one_there f [] e is = absurd (cc is)
 one_there f (x ∷ es) e is = refl
 
-module _ (v : Sense) (follows : Follows v) where
-  first_verdict : (texts : Bool) (o : Option ValidationError) → FirstAnswered v texts o → VerdictSays v validate (is_none o)
+module _ (v : Sense) (most : ℕ) (follows : Follows v) where
+  first_verdict : (texts : Bool) (o : Option ValidationError) → FirstAnswered v most texts o → VerdictSays v most validate (is_none o)
   first_verdict false o says = says.verdict
   first_verdict true o says = (
     λ decides.
-        let none = none_where_accepted v follows (option_map (error_of true) o) says decides in
+        let none = none_where_accepted v follows most (option_map (error_of true) o) says decides in
         (λ e. none.0 (none_mapped (error_of true) o e), λ each. none_from (error_of true) o (none.1 each)),
     λ undecided. let (e, fails, is) = says.1 undecided in some_there (error_of true) o e is,
   )
 
-  errors_verdict : (texts : Bool) (es : List ValidationError) → ErrorsAnswered v texts es → VerdictSays v iter_errors (is_empty es)
+  errors_verdict : (texts : Bool) (es : List ValidationError) → ErrorsAnswered v most texts es → VerdictSays v most iter_errors (is_empty es)
   errors_verdict false es says = says.verdict
   errors_verdict true es says = (
     λ decides.
@@ -78,28 +78,28 @@ module _ (v : Sense) (follows : Follows v) where
   )
 
   -- two calls that decide have one verdict
-  both_decide : (call call' : Call) (b b' : Bool) → VerdictSays v call b → VerdictSays v call' b'
-      → Decides v call → Decides v call' → b ≡ b'
+  both_decide : (call call' : Call) (b b' : Bool) → VerdictSays v most call b → VerdictSays v most call' b'
+      → Decides v most call → Decides v most call' → b ≡ b'
   both_decide call call' b b' says says' d d' = both_ways b b' (λ e. (says'.0 d').1 ((says.0 d).0 e)) (λ e. (says.0 d).1 ((says'.0 d').0 e))
 
 -- ---- two calls speak of one sense
 
 -- what is said by the answers of the calls, texts being spoken of or not
-abbrev Verdict : Bool → Bool → Sense → Type 0
-Verdict b texts v = VerdictSays v is_valid b
+abbrev Verdict : ℕ → Bool → Bool → Sense → Type 0
+Verdict most b texts v = VerdictSays v most is_valid b
 
-abbrev First : Option ValidationError → Bool → Sense → Type 0
-First o texts v = FirstAnswered v texts o
+abbrev First : ℕ → Option ValidationError → Bool → Sense → Type 0
+First most o texts v = FirstAnswered v most texts o
 
-abbrev Errors : List ValidationError → Bool → Sense → Type 0
-Errors es texts v = ErrorsAnswered v texts es
+abbrev Errors : ℕ → List ValidationError → Bool → Sense → Type 0
+Errors most es texts v = ErrorsAnswered v most texts es
 
-abbrev Evaluated : EvaluationNode → Bool → Sense → Type 0
-Evaluated u texts v = EvaluationAnswered v texts u
+abbrev Evaluated : ℕ → EvaluationNode → Bool → Sense → Type 0
+Evaluated most u texts v = EvaluationAnswered v most texts u
 
 -- a fact where both calls decide
-abbrev WhereBoth : Call → Call → Type 0 → Bool → Sense → Type 0
-WhereBoth call call' fact texts v = Decides v call → Decides v call' → fact
+abbrev WhereBoth : ℕ → Call → Call → Type 0 → Bool → Sense → Type 0
+WhereBoth most call call' fact texts v = Decides v most call → Decides v most call' → fact
 
 module _ {S K R C M : Type 0} (h : Handed S K R C M) where
   pub one_sense : calls.OneSense h
@@ -115,11 +115,11 @@ module _ {S K R C M : Type 0} (h : Handed S K R C M) where
     FromSomeDepthAt p fact = (texts : Bool) → calls.SpeaksOf h instance texts p → (deep : ℕ) × ((n : ℕ) → deep ≤ n → fact texts n)
 
     abbrev IsOf : Program C M → Type 0
-    IsOf p = IsCompiledFrom h options schema default_nested p
+    IsOf p = IsCompiledFrom h options schema options.nested p
 
     moved : (fact : Bool → Sense → Type 0) (p p' : Program C M) → IsOf p → IsOf p' → Says p fact → Says p' fact
     moved fact p p' of of' told = λ texts speaks.
-        let alike = speak_alike h options schema default_nested p' p of' of texts instance in
+        let alike = speak_alike h options schema options.nested p' p of' of texts instance in
         let (deep, f) = told texts (alike.speaks speaks) in
         (deep, λ n more. subst (fact texts) (sym (alike.senses n)) (f n more))
 
@@ -131,7 +131,7 @@ module _ {S K R C M : Type 0} (h : Handed S K R C M) where
     units_of_all : (u : EvaluationNode) → UnitsGuardedly h options schema instance u
         → (p : Program C M) → IsOf p → FromSomeDepthAt p (λ texts n. branch_at (calls.sense_of h instance texts p n) evaluate [] ≡ None → unit_of texts u ≡ calls.units_under h instance texts p [] n)
     units_of_all u (p', of', has) p of = λ texts speaks.
-        let alike = speak_alike h options schema default_nested p p' of of' texts instance in
+        let alike = speak_alike h options schema options.nested p p' of of' texts instance in
         let (deep, f) = has texts (alike.speaks speaks) in (
           deep,
           λ n more none. f n more (subst (λ (v : Sense). branch_at v evaluate [] ≡ None) (alike.senses n) none) (completion_of []) ∙ sym (alike.units [] n),
@@ -160,74 +160,74 @@ module _ {S K R C M : Type 0} (h : Handed S K R C M) where
 
     pub one_verdict : calls.OneVerdict h
     one_verdict options schema instance b b' told told' =
-        let all = both_say options schema instance (Verdict b) (Verdict b') (λ texts v. b ≡ b')
-        (λ texts v follows. same_verdict v is_valid b b') told told' in
+        let all = both_say options schema instance (Verdict options.runs b) (Verdict options.runs b') (λ texts v. b ≡ b')
+        (λ texts v follows. same_verdict v options.runs is_valid b b') told told' in
         let (deep, f) = all told.0 told.1 false (λ e. absurd (cc e)) in f deep (omega arith)
 
     pub one_first_error : calls.OneFirstError h
-    one_first_error options schema instance o o' = both_say options schema instance (First o) (First o')
-        (λ texts v. FirstsAgree v texts o o') (λ texts v follows. firsts_agree v texts o o')
+    one_first_error options schema instance o o' = both_say options schema instance (First options.runs o) (First options.runs o')
+        (λ texts v. FirstsAgree v options.runs texts o o') (λ texts v follows. firsts_agree v options.runs texts o o')
 
     pub one_error_list : calls.OneErrorList h
-    one_error_list options schema instance es es' = both_say options schema instance (Errors es) (Errors es')
-        (λ texts v. ErrorsAgree v texts es es') (λ texts v follows. errors_agree v texts es es')
+    one_error_list options schema instance es es' = both_say options schema instance (Errors options.runs es) (Errors options.runs es')
+        (λ texts v. ErrorsAgree v options.runs texts es es') (λ texts v follows. errors_agree v options.runs texts es es')
 
     pub one_evaluation : calls.OneEvaluation h
-    one_evaluation options schema instance u u' = both_say options schema instance (Evaluated u) (Evaluated u')
-        (λ texts v. EvaluationsAgree v texts u u') (λ texts v follows. evaluations_agree v texts u u')
+    one_evaluation options schema instance u u' = both_say options schema instance (Evaluated options.runs u) (Evaluated options.runs u')
+        (λ texts v. EvaluationsAgree v options.runs texts u u') (λ texts v follows. evaluations_agree v options.runs texts u u')
 
     pub true_iff_none : calls.TrueIffNone h
-    true_iff_none options schema instance b o = both_say options schema instance (Verdict b) (First o)
-        (WhereBoth is_valid validate (b ≡ is_none o))
-        (λ texts v follows says first. both_decide v follows is_valid validate b (is_none o) says (first_verdict v follows texts o first))
+    true_iff_none options schema instance b o = both_say options schema instance (Verdict options.runs b) (First options.runs o)
+        (WhereBoth options.runs is_valid validate (b ≡ is_none o))
+        (λ texts v follows says first. both_decide v options.runs follows is_valid validate b (is_none o) says (first_verdict v options.runs follows texts o first))
 
     pub true_iff_empty : calls.TrueIffEmpty h
-    true_iff_empty options schema instance b es = both_say options schema instance (Verdict b) (Errors es)
-        (WhereBoth is_valid iter_errors (b ≡ is_empty es))
+    true_iff_empty options schema instance b es = both_say options schema instance (Verdict options.runs b) (Errors options.runs es)
+        (WhereBoth options.runs is_valid iter_errors (b ≡ is_empty es))
         (λ texts v follows says errors.
-        both_decide v follows is_valid iter_errors b (is_empty es) says (errors_verdict v follows texts es errors))
+        both_decide v options.runs follows is_valid iter_errors b (is_empty es) says (errors_verdict v options.runs follows texts es errors))
 
     pub none_iff_empty : calls.NoneIffEmpty h
-    none_iff_empty options schema instance o es = both_say options schema instance (First o) (Errors es)
-        (WhereBoth validate iter_errors (is_none o ≡ is_empty es))
+    none_iff_empty options schema instance o es = both_say options schema instance (First options.runs o) (Errors options.runs es)
+        (WhereBoth options.runs validate iter_errors (is_none o ≡ is_empty es))
         (λ texts v follows first errors.
-        both_decide v follows validate iter_errors (is_none o) (is_empty es) (first_verdict v follows texts o first)
-        (errors_verdict v follows texts es errors))
+        both_decide v options.runs follows validate iter_errors (is_none o) (is_empty es) (first_verdict v options.runs follows texts o first)
+        (errors_verdict v options.runs follows texts es errors))
 
     pub true_iff_valid : calls.TrueIffValid h
-    true_iff_valid options schema instance b u = both_say options schema instance (Verdict b) (Evaluated u)
-        (λ texts v. WhereBoth is_valid evaluate (b ≡ verdict_in texts u) texts v)
-        (λ texts v follows says evaluated. both_decide v follows is_valid evaluate b (verdict_in texts u) says evaluated.verdict)
+    true_iff_valid options schema instance b u = both_say options schema instance (Verdict options.runs b) (Evaluated options.runs u)
+        (λ texts v. WhereBoth options.runs is_valid evaluate (b ≡ verdict_in texts u) texts v)
+        (λ texts v follows says evaluated. both_decide v options.runs follows is_valid evaluate b (verdict_in texts u) says evaluated.verdict)
 
     pub none_iff_valid : calls.NoneIffValid h
-    none_iff_valid options schema instance o u = both_say options schema instance (First o) (Evaluated u)
-        (λ texts v. WhereBoth validate evaluate (is_none o ≡ verdict_in texts u) texts v)
+    none_iff_valid options schema instance o u = both_say options schema instance (First options.runs o) (Evaluated options.runs u)
+        (λ texts v. WhereBoth options.runs validate evaluate (is_none o ≡ verdict_in texts u) texts v)
         (λ texts v follows first evaluated.
-        both_decide v follows validate evaluate (is_none o) (verdict_in texts u) (first_verdict v follows texts o first) evaluated.verdict)
+        both_decide v options.runs follows validate evaluate (is_none o) (verdict_in texts u) (first_verdict v options.runs follows texts o first) evaluated.verdict)
 
     pub empty_iff_valid : calls.EmptyIffValid h
-    empty_iff_valid options schema instance es u = both_say options schema instance (Errors es) (Evaluated u)
-        (λ texts v. WhereBoth iter_errors evaluate (is_empty es ≡ verdict_in texts u) texts v)
+    empty_iff_valid options schema instance es u = both_say options schema instance (Errors options.runs es) (Evaluated options.runs u)
+        (λ texts v. WhereBoth options.runs iter_errors evaluate (is_empty es ≡ verdict_in texts u) texts v)
         (λ texts v follows errors evaluated.
-        both_decide v follows iter_errors evaluate (is_empty es) (verdict_in texts u) (errors_verdict v follows texts es errors) evaluated.verdict)
+        both_decide v options.runs follows iter_errors evaluate (is_empty es) (verdict_in texts u) (errors_verdict v options.runs follows texts es errors) evaluated.verdict)
 
 -- ---- the four calls of one validator
 
-module _ (v : Sense) (follows : Follows v) where
+module _ (v : Sense) (most : ℕ) (follows : Follows v) where
   all_have_one : (texts : Bool) (b : Bool) (o : Option ValidationError) (es : List ValidationError) (u : EvaluationNode)
-      → VerdictSays v is_valid b → FirstAnswered v texts o → ErrorsAnswered v texts es → EvaluationAnswered v texts u
-      → calls.OneVerdictOfAll v texts b o es u
+      → VerdictSays v most is_valid b → FirstAnswered v most texts o → ErrorsAnswered v most texts es → EvaluationAnswered v most texts u
+      → calls.OneVerdictOfAll v most texts b o es u
   all_have_one texts b o es u says first errors evaluated =
-      let none : VerdictSays v validate (is_none o) = first_verdict v follows texts o first in
-      let empty : VerdictSays v iter_errors (is_empty es) = errors_verdict v follows texts es errors in
-      let yes : VerdictSays v evaluate (verdict_in texts u) = evaluated.verdict in
+      let none : VerdictSays v most validate (is_none o) = first_verdict v most follows texts o first in
+      let empty : VerdictSays v most iter_errors (is_empty es) = errors_verdict v most follows texts es errors in
+      let yes : VerdictSays v most evaluate (verdict_in texts u) = evaluated.verdict in
       record {
-        true_none = both_decide v follows is_valid validate b (is_none o) says none;
-        true_empty = both_decide v follows is_valid iter_errors b (is_empty es) says empty;
-        true_valid = both_decide v follows is_valid evaluate b (verdict_in texts u) says yes;
-        none_empty = both_decide v follows validate iter_errors (is_none o) (is_empty es) none empty;
-        none_valid = both_decide v follows validate evaluate (is_none o) (verdict_in texts u) none yes;
-        empty_valid = both_decide v follows iter_errors evaluate (is_empty es) (verdict_in texts u) empty yes;
+        true_none = both_decide v most follows is_valid validate b (is_none o) says none;
+        true_empty = both_decide v most follows is_valid iter_errors b (is_empty es) says empty;
+        true_valid = both_decide v most follows is_valid evaluate b (verdict_in texts u) says yes;
+        none_empty = both_decide v most follows validate iter_errors (is_none o) (is_empty es) none empty;
+        none_valid = both_decide v most follows validate evaluate (is_none o) (verdict_in texts u) none yes;
+        empty_valid = both_decide v most follows iter_errors evaluate (is_empty es) (verdict_in texts u) empty yes;
       }
 
 module _ {C Run K M : Type 0} (keywords : KeywordMembers C Run K) (matchers : MatcherMembers M) (keeps : (texts : Bool) → EachKeeps (keywords.words texts)) where
@@ -240,7 +240,7 @@ module _ {C Run K M : Type 0} (keywords : KeywordMembers C Run K) (matchers : Ma
       let nodes = numbered keywords.shape p.nodes in
       let follow = all_nodes_follow (keywords.words texts) (keeps texts) (matchers.matching p.matcher) nodes (subject_in instance) in (
         deep1 + deep2 + deep3 + deep4,
-        λ n more. all_have_one _ (follow n p.root) texts b o es u
+        λ n more. all_have_one _ p.runs (follow n p.root) texts b o es u
             (f1 n (omega (arith, more))) (f2 n (omega (arith, more))) (f3 n (omega (arith, more))) (f4 n (omega (arith, more))),
       )
 
@@ -257,17 +257,17 @@ module _ {C Run K M : Type 0} (keywords : KeywordMembers C Run K) (matchers : Ma
 
   pub verdict_again : calls.VerdictAgain keywords matchers
   verdict_again p instance b b' told told' =
-      let all = twice p instance (Verdict b) (Verdict b') (λ texts v. b ≡ b') (λ texts v. same_verdict v is_valid b b') told told' in
+      let all = twice p instance (Verdict p.runs b) (Verdict p.runs b') (λ texts v. b ≡ b') (λ texts v. same_verdict v p.runs is_valid b b') told told' in
       let (deep, f) = all false (λ e. absurd (cc e)) in f deep (omega arith)
 
   pub first_error_again : calls.FirstErrorAgain keywords matchers
-  first_error_again p instance o o' = twice p instance (First o) (First o') (λ texts v. FirstsAgree v texts o o') (λ texts v. firsts_agree v texts o o')
+  first_error_again p instance o o' = twice p instance (First p.runs o) (First p.runs o') (λ texts v. FirstsAgree v p.runs texts o o') (λ texts v. firsts_agree v p.runs texts o o')
 
   pub error_list_again : calls.ErrorListAgain keywords matchers
-  error_list_again p instance es es' = twice p instance (Errors es) (Errors es') (λ texts v. ErrorsAgree v texts es es') (λ texts v. errors_agree v texts es es')
+  error_list_again p instance es es' = twice p instance (Errors p.runs es) (Errors p.runs es') (λ texts v. ErrorsAgree v p.runs texts es es') (λ texts v. errors_agree v p.runs texts es es')
 
   pub evaluation_again : calls.EvaluationAgain keywords matchers
-  evaluation_again p instance u u' = twice p instance (Evaluated u) (Evaluated u') (λ texts v. EvaluationsAgree v texts u u') (λ texts v. evaluations_agree v texts u u')
+  evaluation_again p instance u u' = twice p instance (Evaluated p.runs u) (Evaluated p.runs u') (λ texts v. EvaluationsAgree v p.runs texts u u') (λ texts v. evaluations_agree v p.runs texts u u')
 
   pub units_again : calls.UnitsAgain keywords matchers
   units_again p instance u u' told told' = λ texts speaks.

@@ -1,10 +1,10 @@
 -- One sense determines what each call answers, up to the site of its failure; so two validators that mean the plain meaning of one
 -- schema answer alike.
-use Rattle.std.proofs.Common.{Bool, List, [], ap, arith, false, inl, inr, map, refl, subst, sym, true, ◌∙◌, ◌∷◌, ◌≡◌, ◌⊎◌}
+use Rattle.std.proofs.Common.{◌≤◌, ℕ, Bool, List, [], ap, arith, false, inl, inr, map, refl, subst, sym, true, ◌∙◌, ◌∷◌, ◌≡◌, ◌⊎◌}
 use Rattle.std.specs.Prelude.{None, Option, Some, is_none, option_map}
 use Rattle.serde_json.specs.Data.{Data}
 use Rattle.schema_definitions.specs.Cover.{Call, Decides, Sense, branch_at, evaluate, is_valid, iter_errors, validate, whole}
-use Rattle.schema_meaning.specs.Deciding.{decides_or_not}
+use Rattle.schema_meaning.specs.Deciding.{decides_or_not, larger_decides}
 use Rattle.schema_meaning.specs.Headline as h
 use Rattle.schema_definitions.specs.Keywords.{Answer}
 use Rattle.schema_definitions.specs.Matching.{all_match}
@@ -24,23 +24,23 @@ use Rattle.schema_engine.specs.Asked.{UnitsInEverySense}
 use Rattle.schema_engine.specs.Called.{HasPlainUnits, MeansPlainly, PlainlyOf, UnitsPlainly}
 use Rattle.schema_engine.specs.Evaluated.{EvaluationAnswered}
 use Rattle.schema_engine.specs.Handed.{Handed, Options}
-use Rattle.schema_engine.specs.Nesting.{AllErrorsAgree, ErrorsAgree, EvaluationsAgree, EvaluationsOfBoth, FirstErrorsAgree, FirstsAgree, IsOfFailure, SameErrors, SameFirst, SameUnits, UnitsOfBoth, VerdictsAgree, verdict_in, handed_to_both as both}
+use Rattle.schema_engine.specs.Nesting.{AllErrorsAgree, ErrorsAgree, EvaluationsAgree, EvaluationsOfBoth, FirstErrorsAgree, FirstsAgree, IsOfFailure, LargerErrors, LargerEvaluations, LargerFirstErrors, LargerVerdicts, SameErrors, SameFirst, SameUnits, UnitsOfBoth, VerdictsAgree, verdict_in, handed_to_both as both}
 use Rattle.schema_engine.specs.Program.{OfEverySense, Program}
 use Rattle.schema_engine.specs.Spoken.{ErrorsAnswered, FirstAnswered}
 use Rattle.schema_engine.proofs.PlainAnswers.{plainly_from}
 
-module _ (v : Sense) where
+module _ (v : Sense) (most : ℕ) where
   -- ---- the verdict
 
-  pub same_verdict : (call : Call) (b b' : Bool) → h.VerdictSays v call b → h.VerdictSays v call b' → b ≡ b'
-  same_verdict call b b' says says' = go (decides_or_not v call)
+  pub same_verdict : (call : Call) (b b' : Bool) → h.VerdictSays v most call b → h.VerdictSays v most call b' → b ≡ b'
+  same_verdict call b b' says says' = go (decides_or_not v most call)
     where
       alike : (b b' : Bool) → (b ≡ true → b' ≡ true) → (b' ≡ true → b ≡ true) → b ≡ b'
       alike true b' to from = sym (to refl)
       alike false true to from = from refl
       alike false false to from = refl
 
-      go : Decides v call ⊎ ¬ (Decides v call) → b ≡ b'
+      go : Decides v most call ⊎ ¬ (Decides v most call) → b ≡ b'
       go (inl d) = alike b b' (λ e. (says'.0 d).1 ((says.0 d).0 e)) (λ e. (says.0 d).1 ((says'.0 d).0 e))
       go (inr n) = says.1 n ∙ sym (says'.1 n)
 
@@ -53,7 +53,7 @@ module _ (v : Sense) where
   one_first (h.later n k) (h.here s) = absurd (n s)
   one_first (h.later n k) (h.later n' k') = one_first k k'
 
-  by_shared : (shared shared' o o' : Option Error) → shared ≡ shared' → h.IsFirst v shared o → h.IsFirst v shared' o' → SameFirst v o o'
+  by_shared : (shared shared' o o' : Option Error) → shared ≡ shared' → h.IsFirst v shared o → h.IsFirst v shared' o' → SameFirst v most o o'
   by_shared (Some e) (Some e') o o' same is is' = inl (is ∙ (same ∙ sym is'))
   by_shared (Some e) None o o' same is is' = absurd (cc same)
   by_shared None (Some e) o o' same is is' = absurd (cc same)
@@ -62,19 +62,19 @@ module _ (v : Sense) where
   by_shared None None (Some e) None same is is' = let ((c, nay), fails) = is in absurd (cc (is' c, nay))
   by_shared None None (Some e) (Some e') same is is' = inr ((e, is.1, refl), (e', is'.1, refl))
 
-  pub same_first : (o o' : Option Error) → h.FirstSays v o → h.FirstSays v o' → SameFirst v o o'
-  same_first o o' says says' = go (decides_or_not v validate)
+  pub same_first : (o o' : Option Error) → h.FirstSays v most o → h.FirstSays v most o' → SameFirst v most o o'
+  same_first o o' says says' = go (decides_or_not v most validate)
     where
-      go : Decides v validate ⊎ ¬ (Decides v validate) → SameFirst v o o'
+      go : Decides v most validate ⊎ ¬ (Decides v most validate) → SameFirst v most o o'
       go (inl d) = let (shared, first, is) = says.0 d in let (shared', first', is') = says'.0 d in by_shared shared shared' o o' (one_first first first') is is'
       go (inr n) = inr (says.1 n, says'.1 n)
 
   -- where no match is met there is no failure
-  pub first_alone : (o o' : Option Error) → branch_at v validate [] ≡ None → SameFirst v o o' → o ≡ o'
+  pub first_alone : (o o' : Option Error) → branch_at v validate [] ≡ None → SameFirst v most o o' → o ≡ o'
   first_alone o o' e (inl same) = same
   first_alone o o' e (inr ((x, fails, is), other)) = absurd (cc (e, fails.is_first))
 
-  pub firsts_agree : (texts : Bool) (o o' : Option ValidationError) → FirstAnswered v texts o → FirstAnswered v texts o' → FirstsAgree v texts o o'
+  pub firsts_agree : (texts : Bool) (o o' : Option ValidationError) → FirstAnswered v most texts o → FirstAnswered v most texts o' → FirstsAgree v most texts o o'
   firsts_agree true o o' says says' = same_first (option_map (error_of true) o) (option_map (error_of true) o') says says'
   firsts_agree false o o' says says' = record {
     verdict = same_verdict validate (is_none o) (is_none o') says.verdict says'.verdict;
@@ -93,7 +93,7 @@ module _ (v : Sense) where
   one_kept (leave n k) (leave n' k') = one_kept k k'
 
   module _ (call : Call) where
-    by_kept : (shared shared' es es' : List Error) → shared ≡ shared' → h.IsListed v call shared es → h.IsListed v call shared' es' → SameErrors v call es es'
+    by_kept : (shared shared' es es' : List Error) → shared ≡ shared' → h.IsListed v call shared es → h.IsListed v call shared' es' → SameErrors v most call es es'
     by_kept (f ∷ fs) (f' ∷ fs') es es' same is is' = inl (is ∙ (same ∙ sym is'))
     by_kept (f ∷ fs) [] es es' same is is' = absurd (cc same)
     by_kept [] (f ∷ fs) es es' same is is' = absurd (cc same)
@@ -103,18 +103,18 @@ module _ (v : Sense) where
     by_kept [] [] (e ∷ es) (e' ∷ es') same is is' = let (some, fails, last) = is in let (some', fails', last') = is' in
         inr ((e, fails, ap (λ z. e ∷ z) last), (e', fails', ap (λ z. e' ∷ z) last'))
 
-    pub same_errors : (es es' : List Error) → h.ErrorsOf v call es → h.ErrorsOf v call es' → SameErrors v call es es'
-    same_errors es es' says says' = go (decides_or_not v call)
+    pub same_errors : (es es' : List Error) → h.ErrorsOf v most call es → h.ErrorsOf v most call es' → SameErrors v most call es es'
+    same_errors es es' says says' = go (decides_or_not v most call)
       where
-        go : Decides v call ⊎ ¬ (Decides v call) → SameErrors v call es es'
+        go : Decides v most call ⊎ ¬ (Decides v most call) → SameErrors v most call es es'
         go (inl d) = let (shared, kept, is) = says.0 d in let (shared', kept', is') = says'.0 d in by_kept shared shared' es es' (one_kept kept kept') is is'
         go (inr n) = inr (says.1 n, says'.1 n)
 
-    pub errors_alone : (es es' : List Error) → branch_at v call [] ≡ None → SameErrors v call es es' → es ≡ es'
+    pub errors_alone : (es es' : List Error) → branch_at v call [] ≡ None → SameErrors v most call es es' → es ≡ es'
     errors_alone es es' e (inl same) = same
     errors_alone es es' e (inr ((x, fails, is), other)) = absurd (cc (e, fails.is_first))
 
-  pub errors_agree : (texts : Bool) (es es' : List ValidationError) → ErrorsAnswered v texts es → ErrorsAnswered v texts es' → ErrorsAgree v texts es es'
+  pub errors_agree : (texts : Bool) (es es' : List ValidationError) → ErrorsAnswered v most texts es → ErrorsAnswered v most texts es' → ErrorsAgree v most texts es es'
   errors_agree true es es' says says' = same_errors iter_errors (map (error_of true) es) (map (error_of true) es') says says'
   errors_agree false es es' says says' = record {
     verdict = same_verdict iter_errors (is_empty es) (is_empty es') says.verdict says'.verdict;
@@ -127,7 +127,7 @@ module _ (v : Sense) where
 
   -- the units of errors that are the failure alone
   of_failure : (texts : Bool) (u : Unit_) (errors : List ValidationError) → u ≡ errors_unit (map (error_of texts) errors)
-      → h.OneFailure v evaluate (map (error_of true) errors) → IsOfFailure v texts u
+      → h.OneFailure v evaluate (map (error_of true) errors) → IsOfFailure v most texts u
   of_failure texts u [] made (e, fails, is) = absurd (cc is)
   of_failure texts u (x ∷ (y ∷ more)) made (e, fails, is) = absurd (cc is)
   of_failure texts u (x ∷ []) made (e, fails, is) =
@@ -135,14 +135,14 @@ module _ (v : Sense) where
       record { error = x; fails = subst (h.IsFailure v evaluate) same fails; made = made }
 
   -- an evaluation that doesn't decide meets an unfinished match
-  meets_one : ¬ (Decides v evaluate) → branch_at v evaluate [] ≡ None → ⊥
-  meets_one not e = not ([] ∷ [], whole e, omega arith)
+  meets_one : 1 ≤ most → ¬ (Decides v most evaluate) → branch_at v evaluate [] ≡ None → ⊥
+  meets_one some not e = not ([] ∷ [], whole e, omega arith)
 
-  undecided_units : (texts : Bool) (u : EvaluationNode) → EvaluationAnswered v texts u → ¬ (Decides v evaluate) → IsOfFailure v texts (unit_of texts u)
-  undecided_units texts u says not = let of = says.apart (meets_one not) in of_failure texts (unit_of texts u) of.errors of.made (of.undecided not)
+  undecided_units : (texts : Bool) (u : EvaluationNode) → EvaluationAnswered v most texts u → ¬ (Decides v most evaluate) → IsOfFailure v most texts (unit_of texts u)
+  undecided_units texts u says not = let of = says.apart (meets_one says.makes_one not) in of_failure texts (unit_of texts u) of.errors of.made (of.undecided not)
 
-  units_apart : (texts : Bool) (u u' : EvaluationNode) → EvaluationAnswered v texts u → EvaluationAnswered v texts u'
-      → texts ≡ true → ¬ (branch_at v evaluate [] ≡ None) → SameUnits v (unit_of true u) (unit_of true u')
+  units_apart : (texts : Bool) (u u' : EvaluationNode) → EvaluationAnswered v most texts u → EvaluationAnswered v most texts u'
+      → texts ≡ true → ¬ (branch_at v evaluate [] ≡ None) → SameUnits v most (unit_of true u) (unit_of true u')
   units_apart false u u' says says' e some = absurd (cc e)
   units_apart true u u' says says' e some =
       let of = says.apart some in
@@ -152,12 +152,36 @@ module _ (v : Sense) where
         | inr (one, one') ↦ inr (of_failure true (unit_of true u) of.errors of.made one, of_failure true (unit_of true u') of'.errors of'.made one')
       ]
 
-  pub evaluations_agree : (texts : Bool) (u u' : EvaluationNode) → EvaluationAnswered v texts u → EvaluationAnswered v texts u' → EvaluationsAgree v texts u u'
+  pub evaluations_agree : (texts : Bool) (u u' : EvaluationNode) → EvaluationAnswered v most texts u → EvaluationAnswered v most texts u' → EvaluationsAgree v most texts u u'
   evaluations_agree texts u u' says says' = record {
     verdict = same_verdict evaluate (verdict_in texts u) (verdict_in texts u') says.verdict says'.verdict;
     undecided = λ not. (undecided_units texts u says not, undecided_units texts u' says' not);
     apart = units_apart texts u u' says says';
   }
+
+-- ---- calls with two limits
+
+-- where a call decides within two limits, what it says within the second it says within the first
+module _ (v : Sense) {most most' : ℕ} (call : Call) (here : Decides v most call) (there : Decides v most' call) where
+  within : {P Q : Type 0} → h.Either (Decides v most' call) P Q → h.Either (Decides v most call) P Q
+  within says = (λ decides. says.0 there, λ not. absurd (not here))
+
+first_within : (v : Sense) {most most' : ℕ} → Decides v most validate → Decides v most' validate → (texts : Bool) (o : Option ValidationError) → FirstAnswered v most' texts o → FirstAnswered v most texts o
+first_within v here there true o says = within v validate here there says
+first_within v here there false o says = record { verdict = within v validate here there says.verdict; given = says.given; undecided = λ not. absurd (not here); alone = λ e. within v validate here there (says.alone e) }
+
+errors_within : (v : Sense) {most most' : ℕ} → Decides v most iter_errors → Decides v most' iter_errors → (texts : Bool) (es : List ValidationError) → ErrorsAnswered v most' texts es → ErrorsAnswered v most texts es
+errors_within v here there true es says = within v iter_errors here there says
+errors_within v here there false es says = record { verdict = within v iter_errors here there says.verdict; given = says.given; undecided = λ not. absurd (not here); alone = λ e. within v iter_errors here there (says.alone e) }
+
+evaluation_within : (v : Sense) {most most' : ℕ} → 1 ≤ most → Decides v most evaluate → Decides v most' evaluate → (texts : Bool) (u : EvaluationNode) → EvaluationAnswered v most' texts u → EvaluationAnswered v most texts u
+evaluation_within v some here there texts u says = record {
+  makes_one = some;
+  verdict = within v evaluate here there says.verdict;
+  apart = λ met.
+      let of = says.apart met in
+      record { errors = of.errors; made = of.made; given = of.given; undecided = λ not. absurd (not here); shared = λ spoken. within v evaluate here there (of.shared spoken) };
+}
 
 -- ---- two validators of one schema
 
@@ -184,20 +208,20 @@ module _ {A State S T C Maker Run K M : Type 0} (resolvers : ResolverMembers A S
       (of_plain options schema p' means' instance fact' told' texts root is_root speaks no_return keys reach n deep)
 
   pub verdicts : VerdictsAgree resolvers tables keywords matchers resolver table matcher
-  verdicts options schema p p' means means' instance b b' = both_plainly options schema p p' means means' instance
-      (λ texts v. h.VerdictSays v is_valid b) (λ texts v. h.VerdictSays v is_valid b') (λ texts v. b ≡ b') (λ texts v. same_verdict v is_valid b b')
+  verdicts options schema p p' runs means means' instance b b' = both_plainly options schema p p' means means' instance
+      (λ texts v. h.VerdictSays v p.runs is_valid b) (λ texts v. h.VerdictSays v p'.runs is_valid b') (λ texts v. b ≡ b') (λ texts v says says'. same_verdict v p.runs is_valid b b' says (subst (λ most. h.VerdictSays v most is_valid b') (sym runs) says'))
 
   pub first_errors : FirstErrorsAgree resolvers tables keywords matchers resolver table matcher
-  first_errors options schema p p' means means' instance o o' = both_plainly options schema p p' means means' instance
-      (λ texts v. FirstAnswered v texts o) (λ texts v. FirstAnswered v texts o') (λ texts v. FirstsAgree v texts o o') (λ texts v. firsts_agree v texts o o')
+  first_errors options schema p p' runs means means' instance o o' = both_plainly options schema p p' means means' instance
+      (λ texts v. FirstAnswered v p.runs texts o) (λ texts v. FirstAnswered v p'.runs texts o') (λ texts v. FirstsAgree v p.runs texts o o') (λ texts v says says'. firsts_agree v p.runs texts o o' says (subst (λ most. FirstAnswered v most texts o') (sym runs) says'))
 
   pub all_errors : AllErrorsAgree resolvers tables keywords matchers resolver table matcher
-  all_errors options schema p p' means means' instance es es' = both_plainly options schema p p' means means' instance
-      (λ texts v. ErrorsAnswered v texts es) (λ texts v. ErrorsAnswered v texts es') (λ texts v. ErrorsAgree v texts es es') (λ texts v. errors_agree v texts es es')
+  all_errors options schema p p' runs means means' instance es es' = both_plainly options schema p p' means means' instance
+      (λ texts v. ErrorsAnswered v p.runs texts es) (λ texts v. ErrorsAnswered v p'.runs texts es') (λ texts v. ErrorsAgree v p.runs texts es es') (λ texts v says says'. errors_agree v p.runs texts es es' says (subst (λ most. ErrorsAnswered v most texts es') (sym runs) says'))
 
   pub evaluations : EvaluationsOfBoth resolvers tables keywords matchers resolver table matcher
-  evaluations options schema p p' means means' instance u u' = both_plainly options schema p p' means means' instance
-      (λ texts v. EvaluationAnswered v texts u) (λ texts v. EvaluationAnswered v texts u') (λ texts v. EvaluationsAgree v texts u u') (λ texts v. evaluations_agree v texts u u')
+  evaluations options schema p p' runs means means' instance u u' = both_plainly options schema p p' means means' instance
+      (λ texts v. EvaluationAnswered v p.runs texts u) (λ texts v. EvaluationAnswered v p'.runs texts u') (λ texts v. EvaluationsAgree v p.runs texts u u') (λ texts v says says'. evaluations_agree v p.runs texts u u' says (subst (λ most. EvaluationAnswered v most texts u') (sym runs) says'))
 
   -- the units of an evaluation are those of the plain meaning, where the validator has these
   plain_units : (options : Options) (schema : Data) (p : Program C M) → MeansPlainly parts options schema p → HasPlainUnits parts options schema p
@@ -207,6 +231,26 @@ module _ {A State S T C Maker Run K M : Type 0} (resolvers : ResolverMembers A S
       told texts meant.0 _ (meant.1 no_return keys reach n deep) _ (has instance texts root is_root speaks no_return keys reach n deep)
 
   pub units : UnitsOfBoth resolvers tables keywords matchers resolver table matcher
-  units options schema p p' means means' has has' instance u u' told told' = λ texts root is_root speaks no_return keys reach n deep none.
+  units options schema p p' runs means means' has has' instance u u' told told' = λ texts root is_root speaks no_return keys reach n deep none.
       plain_units options schema p means has instance u told texts root is_root speaks no_return keys reach n deep none all_match
       ∙ sym (plain_units options schema p' means' has' instance u' told' texts root is_root speaks no_return keys reach n deep none all_match)
+
+  pub larger_verdicts : LargerVerdicts resolvers tables keywords matchers resolver table matcher
+  larger_verdicts options schema p p' less means means' instance b b' = both_plainly options schema p p' means means' instance
+      (λ texts v. h.VerdictSays v p.runs is_valid b) (λ texts v. h.VerdictSays v p'.runs is_valid b') (λ texts v. Decides v p.runs is_valid → Decides v p'.runs is_valid × (b ≡ b'))
+      (λ texts v says says' d. let d' = larger_decides v p.runs p'.runs is_valid less d in (d', same_verdict v p.runs is_valid b b' says (within v is_valid d d' says')))
+
+  pub larger_first_errors : LargerFirstErrors resolvers tables keywords matchers resolver table matcher
+  larger_first_errors options schema p p' less means means' instance o o' = both_plainly options schema p p' means means' instance
+      (λ texts v. FirstAnswered v p.runs texts o) (λ texts v. FirstAnswered v p'.runs texts o') (λ texts v. Decides v p.runs validate → Decides v p'.runs validate × FirstsAgree v p.runs texts o o')
+      (λ texts v says says' d. let d' = larger_decides v p.runs p'.runs validate less d in (d', firsts_agree v p.runs texts o o' says (first_within v d d' texts o' says')))
+
+  pub larger_errors : LargerErrors resolvers tables keywords matchers resolver table matcher
+  larger_errors options schema p p' less means means' instance es es' = both_plainly options schema p p' means means' instance
+      (λ texts v. ErrorsAnswered v p.runs texts es) (λ texts v. ErrorsAnswered v p'.runs texts es') (λ texts v. Decides v p.runs iter_errors → Decides v p'.runs iter_errors × ErrorsAgree v p.runs texts es es')
+      (λ texts v says says' d. let d' = larger_decides v p.runs p'.runs iter_errors less d in (d', errors_agree v p.runs texts es es' says (errors_within v d d' texts es' says')))
+
+  pub larger_evaluations : LargerEvaluations resolvers tables keywords matchers resolver table matcher
+  larger_evaluations options schema p p' less means means' instance u u' = both_plainly options schema p p' means means' instance
+      (λ texts v. EvaluationAnswered v p.runs texts u) (λ texts v. EvaluationAnswered v p'.runs texts u') (λ texts v. Decides v p.runs evaluate → Decides v p'.runs evaluate × EvaluationsAgree v p.runs texts u u')
+      (λ texts v says says' d. let d' = larger_decides v p.runs p'.runs evaluate less d in (d', evaluations_agree v p.runs texts u u' says (evaluation_within v says.makes_one d d' texts u' says')))

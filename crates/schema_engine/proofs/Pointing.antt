@@ -55,20 +55,20 @@ module _ (v : Sense) where
   of_mapped P f [] h = All-nil (λ e. P (f e))
   of_mapped P f (e ∷ es) h = All-cons (λ x. P (f x)) e es (All-head P (f e) (map f es) h) (of_mapped P f es (All-tail P (f e) (map f es) h))
 
-  pub each_is_given : (texts : Bool) (es : List ValidationError) → ErrorsAnswered v texts es → EachIsGiven v texts es
-  each_is_given true es says = (
+  pub each_is_given : (most : ℕ) (texts : Bool) (es : List ValidationError) → ErrorsAnswered v most texts es → EachIsGiven v most texts es
+  each_is_given most true es says = (
     λ decides. elim (of_lists Given v iter_errors (map (error_of true) es) all_given (says.0 decides)) [ inl all ↦ inl (of_mapped Given (error_of true) es all) | inr failure ↦ inr failure ],
     says.1,
   )
-  each_is_given false es says = (λ decides. says.given, says.undecided)
+  each_is_given most false es says = (λ decides. says.given, says.undecided)
 
   first_given : (o : Option Error) (e : Error) → FirstShared v (v.says all_match).errors o → IsFirst v o (Some e) → Given e ⊎ IsFailure v validate e
   first_given o e found is = of_found Given v o e (of_first Given v found all_given) is
 
-  pub first_is_given : (texts : Bool) (o : Option ValidationError) → FirstAnswered v texts o → FirstIsGiven v texts o
-  first_is_given texts None says = tt
-  first_is_given true (Some e) says = (λ decides. let f = says.0 decides in first_given f.0 (error_of true e) f.1 f.2, λ not. of_failure Given v (error_of true e) (says.1 not))
-  first_is_given false (Some e) says = (λ decides. says.given, λ not. of_failure Given v (error_of true e) (says.undecided not))
+  pub first_is_given : (most : ℕ) (texts : Bool) (o : Option ValidationError) → FirstAnswered v most texts o → FirstIsGiven v most texts o
+  first_is_given most texts None says = tt
+  first_is_given most true (Some e) says = (λ decides. let f = says.0 decides in first_given f.0 (error_of true e) f.1 f.2, λ not. of_failure Given v (error_of true e) (says.1 not))
+  first_is_given most false (Some e) says = (λ decides. says.given, λ not. of_failure Given v (error_of true e) (says.undecided not))
 
 -- ---- where the errors of compiled nodes point
 
@@ -106,6 +106,7 @@ module _ {S K R C M : Type 0} (resolver : Resolver S) (table : Table K) (matcher
       compiled = subst (λ k. IsWhole w0 shape nested k p.nodes p.root) same program.compiled;
       drafted = program.drafted;
       matcher_is = program.matcher_is;
+      runs_are = program.runs_are;
     }
 
     pub points_into : IsProgramOf resolver table matcher options nested schema shape matching p → PointsIntoSchema resolver table matcher words options schema shape matching p
@@ -140,30 +141,30 @@ module _ {S K R C M : Type 0} (resolver : Resolver S) (table : Table K) (matcher
     each_given : (texts : Bool) (root : Key S) (v : Sense) → EachLeads (w texts) root instance v → (es : List ValidationError) → All (IsGiven v texts) es → All (PointsAt (w texts) root instance) (map (error_of texts) es)
     each_given texts root v lead es all = All-map (PointsAt (w texts) root instance) (error_of texts) es (All-weaker (IsGiven v texts) (λ e. PointsAt (w texts) root instance (error_of texts e)) (given_points texts root v lead) es all)
 
-    each_points_at : (texts : Bool) (root : Key S) (v : Sense) → EachLeads (w texts) root instance v → (es : List ValidationError) → EachIsGiven v texts es → EachPoints (w texts) root instance v texts es
+    each_points_at : (texts : Bool) (root : Key S) (v : Sense) → EachLeads (w texts) root instance v → (es : List ValidationError) → EachIsGiven v p.runs texts es → EachPoints (w texts) root instance v p.runs texts es
     each_points_at texts root v lead es says = (λ decides. elim (says.0 decides) [ inl all ↦ inl (each_given texts root v lead es all) | inr failure ↦ inr failure ], says.1)
 
-    pub each_points : (es : List ValidationError) → FromSomeDepth shape words is_whole matching p instance (λ texts v. EachIsGiven v texts es)
-        → OfSchema resolver table matcher words options schema instance (λ texts w root. means.FromSomeDepth (words texts) (matching p.matcher) (numbered shape p.nodes) p.root instance (λ v. EachPoints w root instance v texts es))
+    pub each_points : (es : List ValidationError) → FromSomeDepth shape words is_whole matching p instance (λ texts v. EachIsGiven v p.runs texts es)
+        → OfSchema resolver table matcher words options schema instance (λ texts w root. means.FromSomeDepth (words texts) (matching p.matcher) (numbered shape p.nodes) p.root instance (λ v. EachPoints w root instance v p.runs texts es))
     each_points es says = λ texts root is_root speaks.
         let deep = says texts (meant instance texts root is_root speaks).0 in
         (deep.0, λ n more. each_points_at texts root (sense_at texts instance (matching p.matcher) n) (points instance texts root is_root speaks n) es (deep.1 n more))
 
-    first_points_at : (texts : Bool) (root : Key S) (v : Sense) → EachLeads (w texts) root instance v → (o : Option ValidationError) → FirstIsGiven v texts o → FirstPoints (w texts) root instance v texts o
+    first_points_at : (texts : Bool) (root : Key S) (v : Sense) → EachLeads (w texts) root instance v → (o : Option ValidationError) → FirstIsGiven v p.runs texts o → FirstPoints (w texts) root instance v p.runs texts o
     first_points_at texts root v lead None says = tt
     first_points_at texts root v lead (Some e) says = (
       λ decides. elim (says.0 decides) [ inl given ↦ inl (given_points texts root v lead e given) | inr failure ↦ inr failure ],
       says.1,
     )
 
-    pub first_points : (o : Option ValidationError) → FromSomeDepth shape words is_whole matching p instance (λ texts v. FirstIsGiven v texts o)
-        → OfSchema resolver table matcher words options schema instance (λ texts w root. means.FromSomeDepth (words texts) (matching p.matcher) (numbered shape p.nodes) p.root instance (λ v. FirstPoints w root instance v texts o))
+    pub first_points : (o : Option ValidationError) → FromSomeDepth shape words is_whole matching p instance (λ texts v. FirstIsGiven v p.runs texts o)
+        → OfSchema resolver table matcher words options schema instance (λ texts w root. means.FromSomeDepth (words texts) (matching p.matcher) (numbered shape p.nodes) p.root instance (λ v. FirstPoints w root instance v p.runs texts o))
     first_points o says = λ texts root is_root speaks.
         let deep = says texts (meant instance texts root is_root speaks).0 in
         (deep.0, λ n more. first_points_at texts root (sense_at texts instance (matching p.matcher) n) (points instance texts root is_root speaks n) o (deep.1 n more))
 
     -- the errors that units are made of
-    made_of_pointing : (texts : Bool) (root : Key S) (v : Sense) → EachLeads (w texts) root instance v → (u : Unit_) → IsOfErrors v texts u → IsOfPointing (w texts) root instance v texts u
+    made_of_pointing : (texts : Bool) (root : Key S) (v : Sense) → EachLeads (w texts) root instance v → (u : Unit_) → IsOfErrors v p.runs texts u → IsOfPointing (w texts) root instance v p.runs texts u
     made_of_pointing texts root v lead u of = record {
       errors = of.errors;
       made = of.made;
@@ -172,8 +173,8 @@ module _ {S K R C M : Type 0} (resolver : Resolver S) (table : Table K) (matcher
 
     module _ (absorbed : K → List Text) (each : (texts : Bool) → EachKeepsAbsorbing (words texts) absorbed) (scripts : EachScript absorbed is_whole table)
         {nested : ℕ} (program : IsProgramOf resolver table matcher options nested schema shape matching p) where
-      pub evaluation_points : (u : EvaluationNode) → FromSomeDepth shape words is_whole matching p instance (λ texts v. EvaluationAnswered v texts u) → HasUnits shape words is_whole matching p instance u
-          → OfSchema resolver table matcher words options schema instance (λ texts w root. means.FromSomeDepth (words texts) (matching p.matcher) (numbered shape p.nodes) p.root instance (λ v. EvaluationPoints w root instance v absorbed texts u))
+      pub evaluation_points : (u : EvaluationNode) → FromSomeDepth shape words is_whole matching p instance (λ texts v. EvaluationAnswered v p.runs texts u) → HasUnits shape words is_whole matching p instance u
+          → OfSchema resolver table matcher words options schema instance (λ texts w root. means.FromSomeDepth (words texts) (matching p.matcher) (numbered shape p.nodes) p.root instance (λ v. EvaluationPoints w root instance v p.runs absorbed texts u))
       evaluation_points u says has = λ texts root is_root speaks.
           let told = (meant instance texts root is_root speaks).0 in
           let (deep, f) = says texts told in

@@ -35,13 +35,13 @@ module _ {K R : Type 0} (keywords : Keywords K R) (each : EachKeeps keywords) (m
   follows = all_nodes_follow keywords each matcher nodes (subject_in instance) n root
 
   -- a first run that meets no unfinished match is the only one
-  pub verdict_first : (b : Bool) (r : Remembered) → b ≡ ((run_with []).outcome tt).verdict → MeetsEach matcher (starting []) ((run_with []).met for_verdict) r → r.unassumed ≡ None → VerdictSays sense is_valid b
-  verdict_first b r says met none =
+  pub verdict_first : (most : ℕ) → 1 ≤ most → (b : Bool) (r : Remembered) → b ≡ ((run_with []).outcome tt).verdict → MeetsEach matcher (starting []) ((run_with []).met for_verdict) r → r.unassumed ≡ None → VerdictSays sense most is_valid b
+  verdict_first most some b r says met none =
       let h = remembers_of matcher sense is_valid [] r refl met in
       let branch : branch_at sense is_valid [] ≡ None = sym h.first ∙ ap (option_map (λ (f : Failure). f.met)) none in
       let alone : Cover sense is_valid [] ([] ∷ []) = whole branch in
-      subst (VerdictSays sense is_valid) (and_true ((sense.says (completion_of [])).verdict) ∙ sym (says ∙ ap (λ (o : Outcome). o.verdict) (outcome [])))
-      (verdict_says sense is_valid follows ([] ∷ []) alone (omega arith))
+      subst (VerdictSays sense most is_valid) (and_true ((sense.says (completion_of [])).verdict) ∙ sym (says ∙ ap (λ (o : Outcome). o.verdict) (outcome [])))
+      (verdict_says sense is_valid follows ([] ∷ []) alone most (omega arith))
     where
       and_true : (b : Bool) → (b && true) ≡ b
       and_true true = refl

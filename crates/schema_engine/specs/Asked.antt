@@ -48,21 +48,21 @@ module _ {C Run K M : Type 0} (keywords : KeywordMembers C Run K) (matchers : Ma
 
   -- ---- a call: what its answer is, by what the nodes say from some depth on, where chains of references return too
 
-  -- the verdict is that of all outcomes of the unfinished matches, and no past the limit of runs
+  -- the verdict is that of all outcomes of the unfinished matches, and no past the validator's limit of runs
   abbrev pub DecidesFromSomeDepth : Bool → Type 0
-  DecidesFromSomeDepth valid = FromSomeDepth keywords.shape keywords.words keywords.is_whole matchers.matching p instance (λ texts v. VerdictSays v is_valid valid)
+  DecidesFromSomeDepth valid = FromSomeDepth keywords.shape keywords.words keywords.is_whole matchers.matching p instance (λ texts v. VerdictSays v p.runs is_valid valid)
 
   -- the error is the first that all outcomes share, or tells of such a match
   abbrev pub FirstFromSomeDepth : Option ValidationError → Type 0
-  FirstFromSomeDepth o = FromSomeDepth keywords.shape keywords.words keywords.is_whole matchers.matching p instance (λ texts v. FirstAnswered v texts o)
+  FirstFromSomeDepth o = FromSomeDepth keywords.shape keywords.words keywords.is_whole matchers.matching p instance (λ texts v. FirstAnswered v p.runs texts o)
 
   -- the errors are those that all outcomes share, or one that tells of such a match
   abbrev pub ErrorsFromSomeDepth : List ValidationError → Type 0
-  ErrorsFromSomeDepth es = FromSomeDepth keywords.shape keywords.words keywords.is_whole matchers.matching p instance (λ texts v. ErrorsAnswered v texts es)
+  ErrorsFromSomeDepth es = FromSomeDepth keywords.shape keywords.words keywords.is_whole matchers.matching p instance (λ texts v. ErrorsAnswered v p.runs texts es)
 
-  -- the verdict is that of all outcomes, and no past the limit of runs; where a match stays unfinished, the units are those of errors
+  -- the verdict is that of all outcomes, and no past the validator's limit of runs; where a match stays unfinished, the units are those of errors
   abbrev pub EvaluatesFromSomeDepth : EvaluationNode → Type 0
-  EvaluatesFromSomeDepth u = FromSomeDepth keywords.shape keywords.words keywords.is_whole matchers.matching p instance (λ texts v. EvaluationAnswered v texts u)
+  EvaluatesFromSomeDepth u = FromSomeDepth keywords.shape keywords.words keywords.is_whole matchers.matching p instance (λ texts v. EvaluationAnswered v p.runs texts u)
 
   -- where no match stays unfinished, the units are those that the nodes have, under every outcome
   abbrev pub UnitsFromSomeDepth : EvaluationNode → Type 0
@@ -70,25 +70,25 @@ module _ {C Run K M : Type 0} (keywords : KeywordMembers C Run K) (matchers : Ma
 
   -- each error is one that the nodes give under some outcome of the unfinished matches, so that it points where these point; or the call gives its one failure
   abbrev pub ErrorsPointAsNodes : List ValidationError → Type 0
-  ErrorsPointAsNodes es = FromSomeDepth keywords.shape keywords.words keywords.is_whole matchers.matching p instance (λ texts v. EachIsGiven v texts es)
+  ErrorsPointAsNodes es = FromSomeDepth keywords.shape keywords.words keywords.is_whole matchers.matching p instance (λ texts v. EachIsGiven v p.runs texts es)
 
   -- so is the first error, where there is one
   abbrev pub FirstPointsAsNodes : Option ValidationError → Type 0
-  FirstPointsAsNodes o = FromSomeDepth keywords.shape keywords.words keywords.is_whole matchers.matching p instance (λ texts v. FirstIsGiven v texts o)
+  FirstPointsAsNodes o = FromSomeDepth keywords.shape keywords.words keywords.is_whole matchers.matching p instance (λ texts v. FirstIsGiven v p.runs texts o)
 
   -- ---- the same of every sense that the nodes mean, which there is where no chain of references returns
 
   -- the verdict is the sense's
   abbrev pub DecidesInEverySense : Bool → Type 0
-  DecidesInEverySense valid = OfEverySense keywords.shape keywords.words keywords.is_whole matchers.matching p instance (λ texts v. VerdictSays v is_valid valid)
+  DecidesInEverySense valid = OfEverySense keywords.shape keywords.words keywords.is_whole matchers.matching p instance (λ texts v. VerdictSays v p.runs is_valid valid)
 
   -- the first error, or none, is the sense's
   abbrev pub FirstInEverySense : Option ValidationError → Type 0
-  FirstInEverySense o = OfEverySense keywords.shape keywords.words keywords.is_whole matchers.matching p instance (λ texts v. FirstAnswered v texts o)
+  FirstInEverySense o = OfEverySense keywords.shape keywords.words keywords.is_whole matchers.matching p instance (λ texts v. FirstAnswered v p.runs texts o)
 
   -- the verdict is the sense's, and so are the errors that units are made of
   abbrev pub EvaluatesInEverySense : EvaluationNode → Type 0
-  EvaluatesInEverySense u = OfEverySense keywords.shape keywords.words keywords.is_whole matchers.matching p instance (λ texts v. EvaluationAnswered v texts u)
+  EvaluatesInEverySense u = OfEverySense keywords.shape keywords.words keywords.is_whole matchers.matching p instance (λ texts v. EvaluationAnswered v p.runs texts u)
 
   -- where no match stays unfinished, the units are those that the nodes have beside the sense, under every outcome
   abbrev pub UnitsInEverySense : EvaluationNode → Type 0
@@ -96,4 +96,4 @@ module _ {C Run K M : Type 0} (keywords : KeywordMembers C Run K) (matchers : Ma
 
   -- the errors are the sense's
   abbrev pub ErrorsInEverySense : List ValidationError → Type 0
-  ErrorsInEverySense es = OfEverySense keywords.shape keywords.words keywords.is_whole matchers.matching p instance (λ texts v. ErrorsAnswered v texts es)
+  ErrorsInEverySense es = OfEverySense keywords.shape keywords.words keywords.is_whole matchers.matching p instance (λ texts v. ErrorsAnswered v p.runs texts es)

@@ -16,7 +16,7 @@ use Rattle.schema_check.specs.Checking.{MetaChecks}
 use Rattle.schema_engine.specs.Checked.{FailsCheck}
 use Rattle.schema_engine.specs.Compiled.{IsCompiled}
 use Rattle.schema_keys.specs.Compiling.{no_keywords, no_matcher}
-use Rattle.schema_engine.specs.Handed.{Handed, Options, default_nested, parts_of}
+use Rattle.schema_engine.specs.Handed.{Handed, Options, parts_of}
 use Rattle.schema_engine.specs.Pointing.{EachPoints, EvaluationPoints, FirstPoints}
 use Rattle.schema_engine.specs.Evaluated.{EvaluationAnswered, UnitsAnswered}
 use Rattle.schema_engine.specs.Program.{FromSomeDepth, HasUnits, Program}
@@ -64,50 +64,50 @@ module _ {S K R C M : Type 0} (h : Handed S K R C M) (options : Options) (schema
 
     -- a fact about what the nodes compiled from the schema say from some depth on, where chains of references return too
     abbrev pub GuardedlyOf : (Bool → Sense → Type 0) → Type 0
-    GuardedlyOf fact = (p : Program C M) × IsProgramOf h.resolver h.table h.matcher options default_nested schema h.shape h.matching p
+    GuardedlyOf fact = (p : Program C M) × IsProgramOf h.resolver h.table h.matcher options options.nested schema h.shape h.matching p
         × FromSomeDepth h.shape h.words h.is_whole h.matching p instance fact
 
     -- a fact about such nodes, and about the root's key under which their errors point
     abbrev pub PointingOf : (Parts S K R → Key S → Sense → Bool → Type 0) → Type 0
-    PointingOf fact = (p : Program C M) × IsProgramOf h.resolver h.table h.matcher options default_nested schema h.shape h.matching p
+    PointingOf fact = (p : Program C M) × IsProgramOf h.resolver h.table h.matcher options options.nested schema h.shape h.matching p
         × OfSchema h.resolver h.table h.matcher h.words options schema instance
         (λ texts w root. means.FromSomeDepth (h.words texts) (h.matching p.matcher) (numbered h.shape p.nodes) p.root instance (λ v. fact w root v texts))
 
     -- the verdict is the plain meaning's
     abbrev pub DecidesPlainly : Bool → Type 0
-    DecidesPlainly valid = OfSchema h.resolver h.table h.matcher h.words options schema instance (λ texts w root. IsValidAnswer w root instance valid)
+    DecidesPlainly valid = OfSchema h.resolver h.table h.matcher h.words options schema instance (λ texts w root. IsValidAnswer w root instance options.runs valid)
 
     -- it is what nodes compiled from the schema say from some depth on
     abbrev pub DecidesGuardedly : Bool → Type 0
-    DecidesGuardedly valid = GuardedlyOf (λ texts v. VerdictSays v is_valid valid)
+    DecidesGuardedly valid = GuardedlyOf (λ texts v. VerdictSays v options.runs is_valid valid)
 
     -- the first error, or none, is the plain meaning's
     abbrev pub FirstPlainly : Option ValidationError → Type 0
-    FirstPlainly o = PlainlyOf (λ texts v. FirstAnswered v texts o)
+    FirstPlainly o = PlainlyOf (λ texts v. FirstAnswered v options.runs texts o)
 
     -- it is what nodes compiled from the schema say from some depth on
     abbrev pub FirstGuardedly : Option ValidationError → Type 0
-    FirstGuardedly o = GuardedlyOf (λ texts v. FirstAnswered v texts o)
+    FirstGuardedly o = GuardedlyOf (λ texts v. FirstAnswered v options.runs texts o)
 
     -- it points at a keyword that its evaluation path leads to, and at a value inside the instance
     abbrev pub FirstLeads : Option ValidationError → Type 0
-    FirstLeads o = PointingOf (λ w root v texts. FirstPoints w root instance v texts o)
+    FirstLeads o = PointingOf (λ w root v texts. FirstPoints w root instance v options.runs texts o)
 
     -- the errors, in order, are the plain meaning's
     abbrev pub ErrorsPlainly : List ValidationError → Type 0
-    ErrorsPlainly es = PlainlyOf (λ texts v. ErrorsAnswered v texts es)
+    ErrorsPlainly es = PlainlyOf (λ texts v. ErrorsAnswered v options.runs texts es)
 
     -- they are what nodes compiled from the schema say from some depth on
     abbrev pub ErrorsGuardedly : List ValidationError → Type 0
-    ErrorsGuardedly es = GuardedlyOf (λ texts v. ErrorsAnswered v texts es)
+    ErrorsGuardedly es = GuardedlyOf (λ texts v. ErrorsAnswered v options.runs texts es)
 
     -- the evaluation's verdict is the plain meaning's, and so are the errors that its units are made of
     abbrev pub EvaluatesPlainly : EvaluationNode → Type 0
-    EvaluatesPlainly u = PlainlyOf (λ texts v. EvaluationAnswered v texts u)
+    EvaluatesPlainly u = PlainlyOf (λ texts v. EvaluationAnswered v options.runs texts u)
 
     -- they are what nodes compiled from the schema say from some depth on
     abbrev pub EvaluatesGuardedly : EvaluationNode → Type 0
-    EvaluatesGuardedly u = GuardedlyOf (λ texts v. EvaluationAnswered v texts u)
+    EvaluatesGuardedly u = GuardedlyOf (λ texts v. EvaluationAnswered v options.runs texts u)
 
     -- where no match stays unfinished, the units are those of the plain meaning, under every outcome
     abbrev pub UnitsPlainly : EvaluationNode → Type 0
@@ -115,16 +115,16 @@ module _ {S K R C M : Type 0} (h : Handed S K R C M) (options : Options) (schema
 
     -- where no match stays unfinished, the units are those of nodes compiled from the schema
     abbrev pub UnitsGuardedly : EvaluationNode → Type 0
-    UnitsGuardedly u = (p : Program C M) × IsProgramOf h.resolver h.table h.matcher options default_nested schema h.shape h.matching p
+    UnitsGuardedly u = (p : Program C M) × IsProgramOf h.resolver h.table h.matcher options options.nested schema h.shape h.matching p
         × HasUnits h.shape h.words h.is_whole h.matching p instance u
 
     -- each points at a keyword that its evaluation path leads to, and at a value inside the instance
     abbrev pub EachLeads : List ValidationError → Type 0
-    EachLeads es = PointingOf (λ w root v texts. EachPoints w root instance v texts es)
+    EachLeads es = PointingOf (λ w root v texts. EachPoints w root instance v options.runs texts es)
 
     -- each error in a unit points at a keyword that the unit's evaluation path leads to, and at a value inside the instance; where no match stays unfinished, if every keyword hands on the units that its questions answer
     abbrev pub UnitsLead : (K → List Text) → EvaluationNode → Type 0
-    UnitsLead absorbs u = PointingOf (λ w root v texts. EvaluationPoints w root instance v absorbs texts u)
+    UnitsLead absorbs u = PointingOf (λ w root v texts. EvaluationPoints w root instance v options.runs absorbs texts u)
 
 -- the error says so of schema and parts, or that a meta validator refuses a document of the schema, where the check is on
 abbrev pub BuildRefused : {S K R C M : Type 0} → Handed S K R C M → MetaChecks → Options → Data → BuildError → Type 0

@@ -18,7 +18,7 @@ use Rattle.schema_parts.specs.declared.keyword.Validate.{Ghosts as KeywordMember
 use Rattle.schema_parts.specs.declared.matcher.Matcher.{Ghosts as MatcherMembers}
 use Rattle.schema_engine.specs.Asked.{DecidesFromSomeDepth, ErrorsFromSomeDepth, EvaluatesFromSomeDepth, FirstFromSomeDepth, UnitsFromSomeDepth}
 use Rattle.schema_engine.specs.Called.{DecidesGuardedly, ErrorsGuardedly, EvaluatesGuardedly, FirstGuardedly, IsCompiledFrom, UnitsGuardedly}
-use Rattle.schema_engine.specs.Handed.{Handed, Options, default_nested}
+use Rattle.schema_engine.specs.Handed.{Handed, Options}
 use Rattle.schema_engine.specs.Nesting.{ErrorsAgree, EvaluationsAgree, FirstsAgree, verdict_in}
 use Rattle.schema_engine.specs.Program.{FromSomeDepth, Program, Speaks}
 
@@ -61,7 +61,7 @@ module _ {S K R C M : Type 0} (h : Handed S K R C M) where
 
   -- a fact about what nodes compiled from the schema say from some depth on, whichever these are
   abbrev pub OfAllCompiled : Options → Data → Data → (Bool → Sense → Type 0) → Type 0
-  OfAllCompiled options schema instance fact = (p : Program C M) → IsCompiledFrom h options schema default_nested p
+  OfAllCompiled options schema instance fact = (p : Program C M) → IsCompiledFrom h options schema options.nested p
       → FromSomeDepth h.shape h.words h.is_whole h.matching p instance fact
 
   -- two verdicts of `is_valid` are equal
@@ -74,14 +74,14 @@ module _ {S K R C M : Type 0} (h : Handed S K R C M) where
   abbrev pub OneFirstError : Type 0
   OneFirstError = OfCalls (λ options schema instance. (o o' : Option ValidationError)
       → FirstGuardedly h options schema instance o → FirstGuardedly h options schema instance o'
-      → OfAllCompiled options schema instance (λ texts v. FirstsAgree v texts o o'))
+      → OfAllCompiled options schema instance (λ texts v. FirstsAgree v options.runs texts o o'))
 
   -- two lists of errors of `iter_errors` agree as those of two validators do: they are equal; or both are the failure alone; and
   -- where texts are not spoken of, what is said then
   abbrev pub OneErrorList : Type 0
   OneErrorList = OfCalls (λ options schema instance. (es es' : List ValidationError)
       → ErrorsGuardedly h options schema instance es → ErrorsGuardedly h options schema instance es'
-      → OfAllCompiled options schema instance (λ texts v. ErrorsAgree v texts es es'))
+      → OfAllCompiled options schema instance (λ texts v. ErrorsAgree v options.runs texts es es'))
 
   -- two evaluations agree as those of two validators do: their verdicts are equal; both are made of the failure where the call
   -- doesn't decide; and where the first run meets an unfinished match and texts are spoken of, the units are equal, or both are made
@@ -89,7 +89,7 @@ module _ {S K R C M : Type 0} (h : Handed S K R C M) where
   abbrev pub OneEvaluation : Type 0
   OneEvaluation = OfCalls (λ options schema instance. (u u' : EvaluationNode)
       → EvaluatesGuardedly h options schema instance u → EvaluatesGuardedly h options schema instance u'
-      → OfAllCompiled options schema instance (λ texts v. EvaluationsAgree v texts u u'))
+      → OfAllCompiled options schema instance (λ texts v. EvaluationsAgree v options.runs texts u u'))
 
   -- two evaluations have the same units where the first run meets no unfinished match
   abbrev pub OneTree : Type 0
@@ -101,55 +101,55 @@ module _ {S K R C M : Type 0} (h : Handed S K R C M) where
   abbrev pub TrueIffNone : Type 0
   TrueIffNone = OfCalls (λ options schema instance. (b : Bool) (o : Option ValidationError)
       → DecidesGuardedly h options schema instance b → FirstGuardedly h options schema instance o
-      → OfAllCompiled options schema instance (λ texts v. Decides v is_valid → Decides v validate → b ≡ is_none o))
+      → OfAllCompiled options schema instance (λ texts v. Decides v options.runs is_valid → Decides v options.runs validate → b ≡ is_none o))
 
   -- where both calls decide, `is_valid` answers true exactly if `iter_errors` gives the empty list
   abbrev pub TrueIffEmpty : Type 0
   TrueIffEmpty = OfCalls (λ options schema instance. (b : Bool) (es : List ValidationError)
       → DecidesGuardedly h options schema instance b → ErrorsGuardedly h options schema instance es
-      → OfAllCompiled options schema instance (λ texts v. Decides v is_valid → Decides v iter_errors → b ≡ is_empty es))
+      → OfAllCompiled options schema instance (λ texts v. Decides v options.runs is_valid → Decides v options.runs iter_errors → b ≡ is_empty es))
 
   -- where both calls decide, `validate` answers none exactly if `iter_errors` gives the empty list
   abbrev pub NoneIffEmpty : Type 0
   NoneIffEmpty = OfCalls (λ options schema instance. (o : Option ValidationError) (es : List ValidationError)
       → FirstGuardedly h options schema instance o → ErrorsGuardedly h options schema instance es
-      → OfAllCompiled options schema instance (λ texts v. Decides v validate → Decides v iter_errors → is_none o ≡ is_empty es))
+      → OfAllCompiled options schema instance (λ texts v. Decides v options.runs validate → Decides v options.runs iter_errors → is_none o ≡ is_empty es))
 
   -- where both calls decide, `is_valid` answers true exactly if the verdict of `evaluate` is yes
   abbrev pub TrueIffValid : Type 0
   TrueIffValid = OfCalls (λ options schema instance. (b : Bool) (u : EvaluationNode)
       → DecidesGuardedly h options schema instance b → EvaluatesGuardedly h options schema instance u
-      → OfAllCompiled options schema instance (λ texts v. Decides v is_valid → Decides v evaluate → b ≡ verdict_in texts u))
+      → OfAllCompiled options schema instance (λ texts v. Decides v options.runs is_valid → Decides v options.runs evaluate → b ≡ verdict_in texts u))
 
   -- where both calls decide, `validate` answers none exactly if the verdict of `evaluate` is yes
   abbrev pub NoneIffValid : Type 0
   NoneIffValid = OfCalls (λ options schema instance. (o : Option ValidationError) (u : EvaluationNode)
       → FirstGuardedly h options schema instance o → EvaluatesGuardedly h options schema instance u
-      → OfAllCompiled options schema instance (λ texts v. Decides v validate → Decides v evaluate → is_none o ≡ verdict_in texts u))
+      → OfAllCompiled options schema instance (λ texts v. Decides v options.runs validate → Decides v options.runs evaluate → is_none o ≡ verdict_in texts u))
 
   -- where both calls decide, `iter_errors` gives the empty list exactly if the verdict of `evaluate` is yes
   abbrev pub EmptyIffValid : Type 0
   EmptyIffValid = OfCalls (λ options schema instance. (es : List ValidationError) (u : EvaluationNode)
       → ErrorsGuardedly h options schema instance es → EvaluatesGuardedly h options schema instance u
-      → OfAllCompiled options schema instance (λ texts v. Decides v iter_errors → Decides v evaluate → is_empty es ≡ verdict_in texts u))
+      → OfAllCompiled options schema instance (λ texts v. Decides v options.runs iter_errors → Decides v options.runs evaluate → is_empty es ≡ verdict_in texts u))
 
 -- ---- the four calls of one validator
 
 -- of what the calls answer, each two that decide have one verdict: true, none, the empty list, and a yes
-pub record OneVerdictOfAll (v : Sense) (texts : Bool) (b : Bool) (o : Option ValidationError) (es : List ValidationError) (u : EvaluationNode) : Type 0 where
-  pub true_none : Decides v is_valid → Decides v validate → b ≡ is_none o
-  pub true_empty : Decides v is_valid → Decides v iter_errors → b ≡ is_empty es
-  pub true_valid : Decides v is_valid → Decides v evaluate → b ≡ verdict_in texts u
-  pub none_empty : Decides v validate → Decides v iter_errors → is_none o ≡ is_empty es
-  pub none_valid : Decides v validate → Decides v evaluate → is_none o ≡ verdict_in texts u
-  pub empty_valid : Decides v iter_errors → Decides v evaluate → is_empty es ≡ verdict_in texts u
+pub record OneVerdictOfAll (v : Sense) (most : ℕ) (texts : Bool) (b : Bool) (o : Option ValidationError) (es : List ValidationError) (u : EvaluationNode) : Type 0 where
+  pub true_none : Decides v most is_valid → Decides v most validate → b ≡ is_none o
+  pub true_empty : Decides v most is_valid → Decides v most iter_errors → b ≡ is_empty es
+  pub true_valid : Decides v most is_valid → Decides v most evaluate → b ≡ verdict_in texts u
+  pub none_empty : Decides v most validate → Decides v most iter_errors → is_none o ≡ is_empty es
+  pub none_valid : Decides v most validate → Decides v most evaluate → is_none o ≡ verdict_in texts u
+  pub empty_valid : Decides v most iter_errors → Decides v most evaluate → is_empty es ≡ verdict_in texts u
 
 -- from some depth on, what the calls of a validator answer of an instance has one verdict
 abbrev pub ValidatorCallsAgree : {C Run K M : Type 0} → KeywordMembers C Run K → MatcherMembers M → Type 0
 ValidatorCallsAgree {C} {Run} {K} {M} keywords matchers = (p : Program C M) (instance : Data) (b : Bool) (o : Option ValidationError) (es : List ValidationError) (u : EvaluationNode)
     → DecidesFromSomeDepth keywords matchers p instance b → FirstFromSomeDepth keywords matchers p instance o
     → ErrorsFromSomeDepth keywords matchers p instance es → EvaluatesFromSomeDepth keywords matchers p instance u
-    → FromSomeDepth keywords.shape keywords.words keywords.is_whole matchers.matching p instance (λ texts v. OneVerdictOfAll v texts b o es u)
+    → FromSomeDepth keywords.shape keywords.words keywords.is_whole matchers.matching p instance (λ texts v. OneVerdictOfAll v p.runs texts b o es u)
 
 -- ---- one call of one validator and one instance, made twice
 
@@ -172,21 +172,21 @@ module _ {C Run K M : Type 0} (keywords : KeywordMembers C Run K) (matchers : Ma
   abbrev pub FirstErrorAgain : Type 0
   FirstErrorAgain = OfValidators (λ p instance. (o o' : Option ValidationError)
       → FirstFromSomeDepth keywords matchers p instance o → FirstFromSomeDepth keywords matchers p instance o'
-      → NodesSay p instance (λ texts v. FirstsAgree v texts o o'))
+      → NodesSay p instance (λ texts v. FirstsAgree v p.runs texts o o'))
 
   -- two lists of errors of `iter_errors` are equal in all of these, in one order; or both are the failure alone, each perhaps at a
   -- site of its own; and where texts are not spoken of, what is said then
   abbrev pub ErrorListAgain : Type 0
   ErrorListAgain = OfValidators (λ p instance. (es es' : List ValidationError)
       → ErrorsFromSomeDepth keywords matchers p instance es → ErrorsFromSomeDepth keywords matchers p instance es'
-      → NodesSay p instance (λ texts v. ErrorsAgree v texts es es'))
+      → NodesSay p instance (λ texts v. ErrorsAgree v p.runs texts es es'))
 
   -- two evaluations have one verdict; both are made of the failure where the call doesn't decide; and where the first run meets an
   -- unfinished match and texts are spoken of, the units are equal, or both are made of the failure
   abbrev pub EvaluationAgain : Type 0
   EvaluationAgain = OfValidators (λ p instance. (u u' : EvaluationNode)
       → EvaluatesFromSomeDepth keywords matchers p instance u → EvaluatesFromSomeDepth keywords matchers p instance u'
-      → NodesSay p instance (λ texts v. EvaluationsAgree v texts u u'))
+      → NodesSay p instance (λ texts v. EvaluationsAgree v p.runs texts u u'))
 
   -- two evaluations have the same units where the first run meets no unfinished match
   abbrev pub UnitsAgain : Type 0

@@ -24,13 +24,21 @@ pub record Options : Type 0 where
   pub limit : ℕ
   -- whether the schema is checked by the meta validators
   pub checks : Bool
+  -- how many runs a call makes at most
+  pub runs : ℕ
+  -- how many targets of references are compiled one inside another
+  pub nested : ℕ
 
-abbrev pub default_options : Options
-default_options = record { draft = None; base = None; formats = None; declared = []; limit = 65536; checks = true }
+-- how many runs a call makes at most, where no option says otherwise
+abbrev pub default_runs : ℕ
+default_runs = 64
 
--- how many targets of references are compiled one inside another, where no call says otherwise
+-- how many targets of references are compiled one inside another, where no option and no call says otherwise
 abbrev pub default_nested : ℕ
 default_nested = 8
+
+abbrev pub default_options : Options
+default_options = record { draft = None; base = None; formats = None; declared = []; limit = 65536; checks = true; runs = default_runs; nested = default_nested }
 
 -- the table that a keyword table and the built-in one make together
 abbrev pub table_of : {K : Type 0} → (Text → Bool) → (Draft → Vocabularies → Text → Option Builtin) → (Bool → Text → Members → Draft → Vocabularies → Bool → Script K) → Table K

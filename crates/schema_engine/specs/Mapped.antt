@@ -15,7 +15,7 @@ use Rattle.schema_check.specs.Checking.{AcceptsSchema, MetaChecks, RefusesSchema
 use Rattle.schema_keys.specs.declared.error.BuildError.{BuildError}
 use Rattle.schema_keys.specs.declared.error.BuildError.TheVariants.{NodeLimit}
 use Rattle.schema_engine.specs.DocumentSchemas.{schemas_in}
-use Rattle.schema_engine.specs.Handed.{Handed, Options, default_nested, parts_of}
+use Rattle.schema_engine.specs.Handed.{Handed, Options, parts_of}
 use Rattle.schema_engine.specs.MapViews.{Entries, at_pointer}
 use Rattle.schema_engine.specs.Program.{Program}
 use Rattle.schema_engine.specs.ProgramOf.{IsProgramFrom}
@@ -65,7 +65,7 @@ module _ {S K R C M : Type 0} (h : Handed S K R C M) (options : Options) (schema
 
   -- its nodes correspond one to one to the keys that this key reaches, which are no more than the limit; its draft is the root's, and its matcher answers as the one that is handed in
   abbrev pub EachIsCompiledFrom : Entries (Program C M) → Type 0
-  EachIsCompiledFrom es = OfEach es (λ key p. (length p.nodes ≤ options.limit) × IsProgramFrom h.resolver h.table h.matcher options default_nested schema h.shape h.matching key p)
+  EachIsCompiledFrom es = OfEach es (λ key p. (length p.nodes ≤ options.limit) × IsProgramFrom h.resolver h.table h.matcher options options.nested schema h.shape h.matching key p)
 
   -- all of this, of a validator and the key that it is compiled from
   pub record IsValidatorOf (key : Key S) (p : Program C M) : Type 0 where
@@ -73,7 +73,7 @@ module _ {S K R C M : Type 0} (h : Handed S K R C M) (options : Options) (schema
     pub units : HasKeysUnits h.resolver h.table h.matcher h.words options key h.shape h.is_whole h.matching p
     pub points : PointsFromKey h.resolver h.table h.matcher h.words options key h.shape h.matching p
     pub within : length p.nodes ≤ options.limit
-    pub program : IsProgramFrom h.resolver h.table h.matcher options default_nested schema h.shape h.matching key p
+    pub program : IsProgramFrom h.resolver h.table h.matcher options options.nested schema h.shape h.matching key p
 
   -- each object or boolean of the document that compiles has a validator of its own key under its own name: no two places have one name
   abbrev pub HoldsEach : Entries (Program C M) → Type 0

@@ -3,9 +3,9 @@
 -- references returns: the verdicts are equal, and so are the errors and the evaluations. Only where both calls give the failure of a
 -- match that stays unfinished may each show it at a site of its own. Nor does the limit change whether a schema builds by the same
 -- meta validators, want of memory aside.
-use Rattle.std.specs.Prelude.{Bool, List, None, Option, Some, [], false, is_none, map, option_map, true, ◌∷◌, ◌≡◌, ◌⊎◌}
+use Rattle.std.specs.Prelude.{Bool, List, None, Option, Some, [], false, is_none, map, option_map, true, ℕ, ◌∷◌, ◌≡◌, ◌≤◌, ◌⊎◌}
 use Rattle.serde_json.specs.Data.{Data}
-use Rattle.schema_definitions.specs.Cover.{Call, Decides, Sense, branch_at, evaluate, iter_errors, validate}
+use Rattle.schema_definitions.specs.Cover.{Call, Decides, Sense, branch_at, evaluate, is_valid, iter_errors, validate}
 use Rattle.schema_meaning.specs.Headline.{IsFailure, OneFailure}
 use Rattle.schema_definitions.specs.Keywords.{Answer}
 use Rattle.schema_reports.specs.ReportViews.{error_of}
@@ -34,7 +34,8 @@ verdict_in texts u = (report_of (unit_of texts u)).valid
 
 -- ---- two answers about one sense
 
-module _ (v : Sense) where
+-- answers of calls that make so many runs at most
+module _ (v : Sense) (most : ℕ) where
   -- there is a first error, and it is the failure
   abbrev pub FirstFails : Option Error → Type 0
   FirstFails o = (e : Error) × IsFailure v validate e × (o ≡ Some e)
@@ -51,13 +52,13 @@ module _ (v : Sense) where
   -- equal but for the texts where the first run meets no unfinished match
   pub record FirstsAgreeUnspoken (o o' : Option ValidationError) : Type 0 where
     pub verdict : is_none o ≡ is_none o'
-    pub undecided : ¬ (Decides v validate) → FirstFails (option_map (error_of true) o) × FirstFails (option_map (error_of true) o')
+    pub undecided : ¬ (Decides v most validate) → FirstFails (option_map (error_of true) o) × FirstFails (option_map (error_of true) o')
     pub alone : branch_at v validate [] ≡ None → option_map (error_of false) o ≡ option_map (error_of false) o'
 
   -- the same of all errors
   pub record ErrorsAgreeUnspoken (es es' : List ValidationError) : Type 0 where
     pub verdict : is_empty es ≡ is_empty es'
-    pub undecided : ¬ (Decides v iter_errors) → OneFailure v iter_errors (map (error_of true) es) × OneFailure v iter_errors (map (error_of true) es')
+    pub undecided : ¬ (Decides v most iter_errors) → OneFailure v iter_errors (map (error_of true) es) × OneFailure v iter_errors (map (error_of true) es')
     pub alone : branch_at v iter_errors [] ≡ None → map (error_of false) es ≡ map (error_of false) es'
 
   -- two first errors agree, texts being spoken of or not
@@ -84,7 +85,7 @@ module _ (v : Sense) where
   -- run meets an unfinished match and texts are spoken of, the units are equal, or both are made of the failure
   pub record EvaluationsAgree (texts : Bool) (u u' : EvaluationNode) : Type 0 where
     pub verdict : verdict_in texts u ≡ verdict_in texts u'
-    pub undecided : ¬ (Decides v evaluate) → IsOfFailure texts (unit_of texts u) × IsOfFailure texts (unit_of texts u')
+    pub undecided : ¬ (Decides v most evaluate) → IsOfFailure texts (unit_of texts u) × IsOfFailure texts (unit_of texts u')
     pub apart : texts ≡ true → ¬ (branch_at v evaluate [] ≡ None) → SameUnits (unit_of true u) (unit_of true u')
 
 -- ---- two validators of one schema
@@ -95,9 +96,9 @@ module _ {A State S T C Maker Run K M : Type 0} (resolvers : ResolverMembers A S
   abbrev pub handed_to_both : Handed S K (Run × Answer) C M
   handed_to_both = handed resolvers tables keywords matchers resolver table matcher
 
-  -- what is said of two validators that mean the plain meaning of one schema
+  -- what is said of two validators that mean the plain meaning of one schema, and whose calls make equally many runs at most
   abbrev OfBoth : (Options → Data → Program C M → Program C M → Type 0) → Type 0
-  OfBoth says = (options : Options) (schema : Data) (p p' : Program C M) → MeansPlainly handed_to_both options schema p → MeansPlainly handed_to_both options schema p' → says options schema p p'
+  OfBoth says = (options : Options) (schema : Data) (p p' : Program C M) → p.runs ≡ p'.runs → MeansPlainly handed_to_both options schema p → MeansPlainly handed_to_both options schema p' → says options schema p p'
 
   -- two verdicts of one instance are equal
   abbrev pub VerdictsAgree : Type 0
@@ -109,25 +110,50 @@ module _ {A State S T C Maker Run K M : Type 0} (resolvers : ResolverMembers A S
   abbrev pub FirstErrorsAgree : Type 0
   FirstErrorsAgree = OfBoth (λ options schema p p'. (instance : Data) (o o' : Option ValidationError)
       → FirstInEverySense keywords matchers p instance o → FirstInEverySense keywords matchers p' instance o'
-      → PlainlyOf handed_to_both options schema instance (λ texts v. FirstsAgree v texts o o'))
+      → PlainlyOf handed_to_both options schema instance (λ texts v. FirstsAgree v p.runs texts o o'))
 
   -- two lists of all errors of one instance agree
   abbrev pub AllErrorsAgree : Type 0
   AllErrorsAgree = OfBoth (λ options schema p p'. (instance : Data) (es es' : List ValidationError)
       → ErrorsInEverySense keywords matchers p instance es → ErrorsInEverySense keywords matchers p' instance es'
-      → PlainlyOf handed_to_both options schema instance (λ texts v. ErrorsAgree v texts es es'))
+      → PlainlyOf handed_to_both options schema instance (λ texts v. ErrorsAgree v p.runs texts es es'))
 
   -- two evaluations of one instance agree
   abbrev pub EvaluationsOfBoth : Type 0
   EvaluationsOfBoth = OfBoth (λ options schema p p'. (instance : Data) (u u' : EvaluationNode)
       → EvaluatesInEverySense keywords matchers p instance u → EvaluatesInEverySense keywords matchers p' instance u'
-      → PlainlyOf handed_to_both options schema instance (λ texts v. EvaluationsAgree v texts u u'))
+      → PlainlyOf handed_to_both options schema instance (λ texts v. EvaluationsAgree v p.runs texts u u'))
 
   -- where both validators have the plain units too, the units of two evaluations are equal where the first run meets no unfinished match
   abbrev pub UnitsOfBoth : Type 0
   UnitsOfBoth = OfBoth (λ options schema p p'. HasPlainUnits handed_to_both options schema p → HasPlainUnits handed_to_both options schema p'
       → (instance : Data) (u u' : EvaluationNode) → UnitsInEverySense keywords matchers p instance u → UnitsInEverySense keywords matchers p' instance u'
       → PlainlyOf handed_to_both options schema instance (λ texts v. branch_at v evaluate [] ≡ None → unit_of texts u ≡ unit_of texts u'))
+
+  -- ---- two validators of one schema, the second of which may make more runs: what the first decides the second decides alike
+
+  abbrev OfSmallerAndLarger : (Options → Data → Program C M → Program C M → Type 0) → Type 0
+  OfSmallerAndLarger says = (options : Options) (schema : Data) (p p' : Program C M) → p.runs ≤ p'.runs → MeansPlainly handed_to_both options schema p → MeansPlainly handed_to_both options schema p' → says options schema p p'
+
+  abbrev pub LargerVerdicts : Type 0
+  LargerVerdicts = OfSmallerAndLarger (λ options schema p p'. (instance : Data) (b b' : Bool)
+      → DecidesInEverySense keywords matchers p instance b → DecidesInEverySense keywords matchers p' instance b'
+      → PlainlyOf handed_to_both options schema instance (λ texts v. Decides v p.runs is_valid → Decides v p'.runs is_valid × (b ≡ b')))
+
+  abbrev pub LargerFirstErrors : Type 0
+  LargerFirstErrors = OfSmallerAndLarger (λ options schema p p'. (instance : Data) (o o' : Option ValidationError)
+      → FirstInEverySense keywords matchers p instance o → FirstInEverySense keywords matchers p' instance o'
+      → PlainlyOf handed_to_both options schema instance (λ texts v. Decides v p.runs validate → Decides v p'.runs validate × FirstsAgree v p.runs texts o o'))
+
+  abbrev pub LargerErrors : Type 0
+  LargerErrors = OfSmallerAndLarger (λ options schema p p'. (instance : Data) (es es' : List ValidationError)
+      → ErrorsInEverySense keywords matchers p instance es → ErrorsInEverySense keywords matchers p' instance es'
+      → PlainlyOf handed_to_both options schema instance (λ texts v. Decides v p.runs iter_errors → Decides v p'.runs iter_errors × ErrorsAgree v p.runs texts es es'))
+
+  abbrev pub LargerEvaluations : Type 0
+  LargerEvaluations = OfSmallerAndLarger (λ options schema p p'. (instance : Data) (u u' : EvaluationNode)
+      → EvaluatesInEverySense keywords matchers p instance u → EvaluatesInEverySense keywords matchers p' instance u'
+      → PlainlyOf handed_to_both options schema instance (λ texts v. Decides v p.runs evaluate → Decides v p'.runs evaluate × EvaluationsAgree v p.runs texts u u'))
 
   -- ---- two builds of one schema
 

@@ -15,12 +15,13 @@ use Rattle.schema_meaning.specs.Means as means
 use Rattle.schema_meaning.specs.Fractions.{AreWhole}
 use Rattle.schema_nodes.specs.NodeTable.{NodeEntry, numbered}
 
--- the nodes, the number of the root's, the root's draft, and the matcher
+-- the nodes, the number of the root's, the root's draft, the matcher, and how many runs a call makes at most
 pub record Program (K M : Type 0) : Type 0 where
   pub nodes : List (NodeEntry K)
   pub root : ℕ
   pub draft : Draft
   pub matcher : M
+  pub runs : ℕ
 
 -- S is what is known of a keyword, R a run with its answer so far
 module _ {K S R M : Type 0} (shape : K → S) (words : Bool → Keywords S R) (is_whole : S → Bool) (matching : M → Matcher) (p : Program K M) (instance : Data) where

@@ -2,7 +2,7 @@
 -- the instance or a keyword holds a fraction, texts are not spoken of, and so it is not known which errors all completions
 -- share: then the verdict is said, where each error comes from, and the sentences where the first run meets no unfinished match.
 -- Where errors come from is said by itself too: what is known of all errors of a sense is then known of those that are given.
-use Rattle.std.specs.Prelude.{All, Bool, Contains, IfSome, List, None, Option, Some, [], false, is_none, map, option_map, true, ◌≡◌, ◌⊎◌}
+use Rattle.std.specs.Prelude.{All, Bool, Contains, IfSome, List, None, Option, Some, [], false, is_none, map, option_map, true, ℕ, ◌≡◌, ◌⊎◌}
 use Rattle.schema_definitions.specs.Reports.{Error}
 use Rattle.schema_definitions.specs.Matching.{Completion}
 use Rattle.schema_definitions.specs.Cover.{Decides, Sense, branch_at, iter_errors, validate}
@@ -16,34 +16,36 @@ module _ (v : Sense) where
   abbrev pub IsGiven : Bool → ValidationError → Type 0
   IsGiven texts e = (c : Completion) × Contains (v.says c).errors (error_of texts e)
 
+-- of a call that makes so many runs at most
+module _ (v : Sense) (most : ℕ) where
   -- errors where texts are not spoken of: each is one of some completion's, or the failure stands alone; the latter where the call doesn't decide
   pub record ErrorsUnspoken (es : List ValidationError) : Type 0 where
-    pub verdict : VerdictSays v iter_errors (is_empty es)
-    pub given : All (IsGiven false) es ⊎ OneFailure v iter_errors (map (error_of true) es)
-    pub undecided : ¬ (Decides v iter_errors) → OneFailure v iter_errors (map (error_of true) es)
-    pub alone : branch_at v iter_errors [] ≡ None → ErrorsSay v (map (error_of false) es)
+    pub verdict : VerdictSays v most iter_errors (is_empty es)
+    pub given : All (IsGiven v false) es ⊎ OneFailure v iter_errors (map (error_of true) es)
+    pub undecided : ¬ (Decides v most iter_errors) → OneFailure v iter_errors (map (error_of true) es)
+    pub alone : branch_at v iter_errors [] ≡ None → ErrorsSay v most (map (error_of false) es)
 
   -- the same of a first error, or of none
   pub record FirstUnspoken (o : Option ValidationError) : Type 0 where
-    pub verdict : VerdictSays v validate (is_none o)
-    pub given : IfSome o (λ e. IsGiven false e ⊎ IsFailure v validate (error_of true e))
-    pub undecided : ¬ (Decides v validate) → (e : Error) × IsFailure v validate e × (option_map (error_of true) o ≡ Some e)
-    pub alone : branch_at v validate [] ≡ None → FirstSays v (option_map (error_of false) o)
+    pub verdict : VerdictSays v most validate (is_none o)
+    pub given : IfSome o (λ e. IsGiven v false e ⊎ IsFailure v validate (error_of true e))
+    pub undecided : ¬ (Decides v most validate) → (e : Error) × IsFailure v validate e × (option_map (error_of true) o ≡ Some e)
+    pub alone : branch_at v validate [] ≡ None → FirstSays v most (option_map (error_of false) o)
 
   -- where errors come from, whatever they point at: each is one that some completion gives, or the call gives its one failure; the latter where it doesn't decide
   abbrev pub EachIsGiven : Bool → List ValidationError → Type 0
-  EachIsGiven texts es = Either (Decides v iter_errors) (All (IsGiven texts) es ⊎ OneFailure v iter_errors (map (error_of true) es)) (OneFailure v iter_errors (map (error_of true) es))
+  EachIsGiven v texts es = Either (Decides v most iter_errors) (All (IsGiven v texts) es ⊎ OneFailure v iter_errors (map (error_of true) es)) (OneFailure v iter_errors (map (error_of true) es))
 
   -- the same of a first error
   abbrev pub FirstIsGiven : Bool → Option ValidationError → Type 0
   FirstIsGiven texts None = Unit {0}
-  FirstIsGiven texts (Some e) = Either (Decides v validate) (IsGiven texts e ⊎ IsFailure v validate (error_of true e)) (IsFailure v validate (error_of true e))
+  FirstIsGiven texts (Some e) = Either (Decides v most validate) (IsGiven v texts e ⊎ IsFailure v validate (error_of true e)) (IsFailure v validate (error_of true e))
 
   -- what the contracts of the two calls cite, texts being spoken of or not
   abbrev pub ErrorsAnswered : Bool → List ValidationError → Type 0
-  ErrorsAnswered true es = ErrorsSay v (map (error_of true) es)
+  ErrorsAnswered true es = ErrorsSay v most (map (error_of true) es)
   ErrorsAnswered false es = ErrorsUnspoken es
 
   abbrev pub FirstAnswered : Bool → Option ValidationError → Type 0
-  FirstAnswered true o = FirstSays v (option_map (error_of true) o)
+  FirstAnswered true o = FirstSays v most (option_map (error_of true) o)
   FirstAnswered false o = FirstUnspoken o

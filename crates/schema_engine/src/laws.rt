@@ -7,18 +7,20 @@ ghost use Rattle.schema_engine.specs.FreeCalls.{ValidatorCallsAgree};
 ghost use Rattle.schema_engine.specs.Handed.{handed};
 ghost use Rattle.schema_engine.specs.Nesting.{AllErrorsAgree, BuildsAgree, FirstErrorsAgree, VerdictsAgree};
 ghost use Rattle.schema_engine.specs.Nesting.{EvaluationsOfBoth, UnitsOfBoth};
+ghost use Rattle.schema_engine.specs.Nesting.{LargerErrors, LargerEvaluations, LargerFirstErrors, LargerVerdicts};
 
 use schema_parts::keyword::Validate;
 use schema_parts::matcher::Matcher;
 use schema_parts::resolver::Resolver;
 use schema_parts::table::KeywordTable;
 
-/// Two validators that mean the plain meaning of one schema answer alike of every instance, where no chain of references
-/// returns. `build` and `build_nested` give such validators whatever their limit on nested targets, so this limit changes no
-/// answer: the verdicts are equal, and so are the first error and all errors. Only where both calls give the failure of a match
-/// that stays unfinished may each show it at a site of its own. Where texts of errors are not spoken of, as the instance or the
-/// schema holds a fraction, it is said that both give an error or neither does, that both give the failure where the call does
-/// not decide, and that the errors are equal but for their texts where the first run meets no unfinished match.
+/// Two validators that mean the plain meaning of one schema, and whose calls make equally many runs at most, answer alike of every
+/// instance, where no chain of references returns. `build` and `build_nested` give such validators whatever their limit on nested
+/// targets, so this limit changes no answer: the verdicts are equal, and so are the first error and all errors. Only where both
+/// calls give the failure of a match that stays unfinished may each show it at a site of its own. Where texts of errors are not
+/// spoken of, as the instance or the schema holds a fraction, it is said that both give an error or neither does, that both
+/// give the failure where the call does not decide, and that the errors are equal but for their texts where the first run meets
+/// no unfinished match.
 ///
 /// Two evaluations have one verdict, and both are made of the failure where the call does not decide. Where the first run meets an
 /// unfinished match and texts are spoken of, their units are equal, or both are made of the failure. Where it meets none, their
@@ -34,6 +36,20 @@ pub fn limits_agree<S: Resolver, T: KeywordTable<K>, K: Validate, M: Matcher>()
         → EvaluationsOfBoth S.Resolver T.KeywordTable K.Validate M.Matcher.own resolver table matcher }
     ensures units { (resolver : S) (table : T) (matcher : M)
         → UnitsOfBoth S.Resolver T.KeywordTable K.Validate M.Matcher.own resolver table matcher }
+{}
+
+/// Of two validators that mean the plain meaning of one schema, the one whose calls may make more runs decides what the other
+/// decides, and answers alike there, where no chain of references returns: the verdicts are equal, and first errors, lists of
+/// errors and evaluations agree as those of two validators do in `limits_agree`.
+pub fn larger_limits_agree<S: Resolver, T: KeywordTable<K>, K: Validate, M: Matcher>()
+    ensures verdict { (resolver : S) (table : T) (matcher : M)
+        → LargerVerdicts S.Resolver T.KeywordTable K.Validate M.Matcher.own resolver table matcher }
+    ensures first { (resolver : S) (table : T) (matcher : M)
+        → LargerFirstErrors S.Resolver T.KeywordTable K.Validate M.Matcher.own resolver table matcher }
+    ensures errors { (resolver : S) (table : T) (matcher : M)
+        → LargerErrors S.Resolver T.KeywordTable K.Validate M.Matcher.own resolver table matcher }
+    ensures evaluation { (resolver : S) (table : T) (matcher : M)
+        → LargerEvaluations S.Resolver T.KeywordTable K.Validate M.Matcher.own resolver table matcher }
 {}
 
 /// One limit on nested targets builds a schema exactly if any other does, want of memory aside. Neither what `build` and

@@ -1,11 +1,12 @@
 //! The options of a build.
-ghost use Rattle.std.specs.Prelude.{◌≡◌, ◌++◌, ◌∷◌, [], Some, IfOk};
+ghost use Rattle.std.specs.Prelude.{◌≡◌, ◌≤◌, ◌++◌, ◌∷◌, [], Some, IfOk};
 ghost use Rattle.schema_keywords.specs.KeywordViews.{draft_of};
 ghost use Rattle.schema_engine.specs.Handed.{default_options};
 
 use schema_keys::options::CompileOptions;
 use schema_keywords::keywords::Draft;
 use schema_reports::location::OutOfMemory;
+use schema_search::unfinished_matches::MAX_ASSUMED_RUNS;
 use std::alloc::Global;
 use std::marker::Model;
 
@@ -16,19 +17,25 @@ pub mod root;
 /// How many keys a schema may reach, where no option says otherwise.
 const DEFAULT_NODE_LIMIT: usize = 65_536;
 
-/// How a schema is compiled: the draft and the base of its root, whether the meta validators check it, whether formats are
-/// checked, which custom vocabularies are declared, and how many keys may be reached. What is not set is left to schema and
-/// resolver.
+/// How many targets of references are compiled one inside another, where no option and no call says otherwise.
+const DEFAULT_NESTED_LIMIT: usize = 8;
+
+/// How a schema is compiled, and how much a call of the validator may do: the draft and the base of its root, whether the meta
+/// validators check it, whether formats are checked, which custom vocabularies are declared, how many keys may be reached, how many
+/// targets of references are compiled one inside another, and how many runs a call makes at most. What is not set is left to schema
+/// and resolver.
 #[derive(Drop)]
 pub struct ValidationOptions {
     draft: Option<Draft>,
     base: Option<String>,
     compiling: CompileOptions,
     checks: bool,
+    run_limit: u32,
+    nested_limit: usize,
 }
 
 impl Model for ValidationOptions {
-    ghost use Rattle.std.specs.Prelude.{map, option_map, string_bytes};
+    ghost use Rattle.std.specs.Prelude.{map, option_map, string_bytes, ◌≤◌};
     ghost use Rattle.schema_keywords.specs.KeywordViews.{draft_of};
     ghost use Rattle.schema_engine.specs.Handed.{Options};
 
@@ -41,12 +48,16 @@ impl Model for ValidationOptions {
       declared = map string_bytes o.compiling.declared.items;
       limit = o.compiling.node_limit;
       checks = o.checks;
+      runs = o.run_limit;
+      nested = o.nested_limit;
     } };
+
+    ghost invariant = { λ o. 1 ≤ o.run_limit };
 }
 
 impl ValidationOptions {
-    /// Returns the default options: schemas are checked, nothing else is set, no vocabulary is declared, and 65,536 keys may be
-    /// reached. Allocates nothing.
+    /// Returns the default options: schemas are checked, nothing else is set, no vocabulary is declared, 65,536 keys may be
+    /// reached, 8 targets of references are compiled one inside another, and a call makes 64 runs at most. Allocates nothing.
     pub fn new(alloc: Global) -> ValidationOptions
         ensures defaults { result ≡ default_options }
     {
@@ -59,6 +70,8 @@ impl ValidationOptions {
                 node_limit: DEFAULT_NODE_LIMIT,
             },
             checks: true,
+            run_limit: MAX_ASSUMED_RUNS,
+            nested_limit: DEFAULT_NESTED_LIMIT,
         }
     }
 
@@ -90,6 +103,28 @@ impl ValidationOptions {
     {
         let mut options = self;
         options.compiling.node_limit = limit;
+        options
+    }
+
+    /// Lets a call of the validator make so many runs at most, the first one among them. Where matches stay unfinished that a run
+    /// meets, it makes further ones; with k such matches it decides where `limit` is 2 ^ (k + 1) - 1 or more. Past the limit
+    /// `is_valid` answers no, and the other calls give the failure. Allocates nothing.
+    pub fn with_run_limit(self, limit: u32) -> ValidationOptions
+        requires some { 1 ≤ limit }
+        ensures runs { result ≡ record self { runs = limit } }
+    {
+        let mut options = self;
+        options.run_limit = limit;
+        options
+    }
+
+    /// Lets so many targets of references be compiled one inside another. Where no chain of references returns, this changes no
+    /// answer; it decides how much stack the build takes, and which edges of a cycle of references are guarded. Allocates nothing.
+    pub fn with_nested_limit(self, limit: usize) -> ValidationOptions
+        ensures nested { result ≡ record self { nested = limit } }
+    {
+        let mut options = self;
+        options.nested_limit = limit;
         options
     }
 

@@ -1,5 +1,5 @@
 //! A validator: what it answers of instances.
-ghost use Rattle.std.specs.Prelude.{◌≡◌, [], false, Bool, Option, IfOk, All, IfSome, IsSome, length, slice_get, ◌<◌};
+ghost use Rattle.std.specs.Prelude.{◌≡◌, [], false, Bool, Option, IfOk, All, IfSome, IsSome, length, slice_get, ◌<◌, ◌≤◌};
 ghost use Rattle.serde_json.specs.View.{view};
 ghost use Rattle.schema_keywords.specs.KeywordViews.{draft_of};
 ghost use Rattle.schema_definitions.specs.Unfinished.{starting};
@@ -15,6 +15,7 @@ ghost use Rattle.schema_engine.specs.Asked.{DecidesInEverySense, ErrorsInEverySe
 ghost use Rattle.schema_engine.specs.Asked.{ErrorsPointAsNodes, FirstPointsAsNodes};
 ghost use Rattle.schema_engine.specs.Asked.{EvaluatesFromSomeDepth, EvaluatesInEverySense};
 ghost use Rattle.schema_engine.specs.Asked.{RunGivesUnit, UnitsFromSomeDepth, UnitsInEverySense};
+ghost use Rattle.schema_engine.specs.Handed.{default_runs};
 ghost use Rattle.schema_engine.specs.SharedErrors.{AreShared};
 ghost use Rattle.schema_engine.specs.Asked.{RunDecides, RunFindsFirst, RunListsErrors, RunMeets, RunReplies};
 
@@ -35,7 +36,7 @@ use schema_reports::evaluation::EvaluationNode;
 use schema_reports::instance::{Instance, Place};
 use schema_reports::location::{Location, OutOfMemory};
 use schema_reports::reports::{ErrorIterator, ValidationError};
-use schema_search::unfinished_matches::{errors_under_each, validity_under_each};
+use schema_search::unfinished_matches::{MAX_ASSUMED_RUNS, errors_under_each, validity_under_each};
 use serde_json::Value;
 use std::alloc::Global;
 use std::marker::Model;
@@ -47,12 +48,13 @@ pub struct Validator<K, M> {
     root: SchemaNode,
     draft: Draft,
     matcher: M,
+    run_limit: u32,
 }
 
 impl<K, M> Model for Validator<K, M> {
     ghost use Rattle.schema_keywords.specs.KeywordViews.{draft_of};
     ghost use Rattle.schema_engine.specs.Program.{Program};
-    ghost use Rattle.std.specs.Prelude.{◌<◌, length};
+    ghost use Rattle.std.specs.Prelude.{◌<◌, ◌≤◌, length};
     ghost use Rattle.serde_json.specs.contracts.value.Value as value;
     ghost use Rattle.std.specs.Coded.{codes};
 
@@ -60,9 +62,9 @@ impl<K, M> Model for Validator<K, M> {
 
     ghost coded = { Prim.hlevel (codes, value.the_row.coded) };
 
-    ghost view = { λ v. record { nodes = v.nodes; root = v.root.0; draft = draft_of v.draft; matcher = v.matcher } };
+    ghost view = { λ v. record { nodes = v.nodes; root = v.root.0; draft = draft_of v.draft; matcher = v.matcher; runs = v.run_limit } };
 
-    ghost invariant = { λ v. v.root.0 < length v.nodes };
+    ghost invariant = { λ v. (v.root.0 < length v.nodes) × (1 ≤ v.run_limit) };
 }
 
 // The first of these errors.
@@ -88,18 +90,41 @@ fn unless_refused<'i>(error: Option<ValidationError<'i>>) -> Result<(), Validati
 }
 
 impl<K: Validate, M: Matcher> Validator<K, M> {
-    /// Makes a validator of compiled nodes, the number of the root's node, the root's draft, and the matcher. Allocates
-    /// nothing.
+    /// Makes a validator of compiled nodes, the number of the root's node, the root's draft, and the matcher. Its calls make 64
+    /// runs at most. Allocates nothing.
     pub fn of_nodes(nodes: Nodes<K>, root: SchemaNode, draft: Draft, matcher: M) -> Validator<K, M>
         requires inside { root.0 < length nodes }
-        ensures made { result ≡ record { nodes = nodes; root = root.0; draft = draft_of draft; matcher = matcher } }
+        ensures made { result ≡ record { nodes = nodes; root = root.0; draft = draft_of draft; matcher = matcher; runs = default_runs } }
+    {
+        Validator::of_nodes_within(nodes, root, draft, matcher, MAX_ASSUMED_RUNS)
+    }
+
+    // Makes a validator of compiled nodes, whose calls make so many runs at most.
+    pub(crate) fn of_nodes_within(
+        nodes: Nodes<K>,
+        root: SchemaNode,
+        draft: Draft,
+        matcher: M,
+        run_limit: u32,
+    ) -> Validator<K, M>
+        requires inside { root.0 < length nodes }
+        requires limit { 1 ≤ run_limit }
+        ensures made { result ≡ record { nodes = nodes; root = root.0; draft = draft_of draft; matcher = matcher; runs = run_limit } }
     {
         Validator {
             nodes,
             root,
             draft,
             matcher,
+            run_limit,
         }
+    }
+
+    /// Returns how many runs a call makes at most.
+    pub fn run_limit(&self) -> u32
+        ensures runs { result ≡ self.now.runs }
+    {
+        self.run_limit
     }
 
     /// Returns the draft of the schema's root.
@@ -196,6 +221,7 @@ impl<K: Validate, M: Matcher> Validator<K, M> {
             alloc,
             |matches| self.verdict(alloc, instance, matches),
             first,
+            self.run_limit,
         )
     }
 
@@ -258,6 +284,7 @@ impl<K: Validate, M: Matcher> Validator<K, M> {
             alloc,
             |matches| self.errors(alloc, instance, matches),
             first,
+            self.run_limit,
             instance,
         )?;
         Ok(shared)

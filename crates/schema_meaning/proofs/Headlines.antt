@@ -22,9 +22,9 @@ module _ {S K R : Type 0} (w : Parts S K R) (keys : Numbers S) (nodes : Nodes K)
       subst fact (numbers_mean_plain w keys nodes laws values makers states numbered ranked instance i root number none reached reach m n (omega arith) enough) (says m (omega arith))
 
 pub guarded_is_plain : {S K R : Type 0} (w : Parts S K R) (keys : Numbers S) (nodes : Nodes K) → GuardedIsPlain w keys nodes
-guarded_is_plain w keys nodes laws values makers states numbered ranked instance i root number = (
-  (λ valid. plainly w keys nodes laws values makers states numbered ranked (λ v. VerdictSays v is_valid valid) instance i root number),
-  (λ first. plainly w keys nodes laws values makers states numbered ranked (λ v. FirstSays v first) instance i root number),
-  (λ errors. plainly w keys nodes laws values makers states numbered ranked (λ v. ErrorsSay v errors) instance i root number),
-  (λ u. plainly w keys nodes laws values makers states numbered ranked (λ v. VerdictSays v evaluate (report_of u).valid) instance i root number),
+guarded_is_plain w keys nodes laws values makers states numbered ranked instance i root number limit = (
+  (λ valid. plainly w keys nodes laws values makers states numbered ranked (λ v. VerdictSays v limit is_valid valid) instance i root number),
+  (λ first. plainly w keys nodes laws values makers states numbered ranked (λ v. FirstSays v limit first) instance i root number),
+  (λ errors. plainly w keys nodes laws values makers states numbered ranked (λ v. ErrorsSay v limit errors) instance i root number),
+  (λ u. plainly w keys nodes laws values makers states numbered ranked (λ v. VerdictSays v limit evaluate (report_of u).valid) instance i root number),
 )

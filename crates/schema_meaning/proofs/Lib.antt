@@ -48,3 +48,5 @@ pub mod RowsNumbered
 pub mod SitesInside
 pub mod SamePaths
 pub mod MetAgain
+pub mod PairsDecide
+pub mod Finishing

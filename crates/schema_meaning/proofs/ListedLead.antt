@@ -49,8 +49,8 @@ module _ (P : Error → Type 0) (v : Sense) where
 
 module _ {S K R : Type 0} (w : Parts S K R) (root : Key S) (instance : Data) where
   pub listed_lead : ListedLead w root instance
-  listed_lead v leads errors says = (λ decides. of_lists (PointsAt w root instance) v iter_errors errors (leads all_match) (says.0 decides), says.1)
+  listed_lead v leads limit errors says = (λ decides. of_lists (PointsAt w root instance) v iter_errors errors (leads all_match) (says.0 decides), says.1)
 
   pub first_leads : FirstLeads w root instance
-  first_leads v leads e says =
+  first_leads v leads limit e says =
       (λ decides. let (o, found, is) = says.0 decides in of_found (PointsAt w root instance) v o e (of_first (PointsAt w root instance) v found (leads all_match)) is, λ undecided. of_failure (PointsAt w root instance) v e (says.1 undecided))

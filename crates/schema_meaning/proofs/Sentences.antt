@@ -1,5 +1,5 @@
 -- The sentences of the four calls, from the members of their covers.
-use Rattle.std.proofs.Common.{◌≡◌, zero, suc, ◌≤◌, List, [], ◌∷◌, ◌++◌, length, refl, ap, ap₂, sym, subst, ◌∙◌, Bool, true, false, cond, ◌&&◌, ◌||◌, arith, inl, inr}
+use Rattle.std.proofs.Common.{◌≡◌, ℕ, zero, suc, ◌*◌, ◌+◌, ◌≤◌, List, [], ◌∷◌, ◌++◌, length, refl, ap, ap₂, sym, subst, ◌∙◌, Bool, true, false, cond, ◌&&◌, ◌||◌, arith, inl, inr}
 use Rattle.std.specs.Prelude.{Option, Some, None, Contains, filter, ◌↔◌}
 use Rattle.std.specs.List.{list_all, list_any}
 use Rattle.std.proofs.lemmas.List.Elements.{All-contains, Contains-append_right, Contains-append_cases}
@@ -120,8 +120,8 @@ module _ (v : Sense) (call : Call) (follows : Follows v) where
   module _ (ms : List Assumptions) (cover : Cover v call [] ms) where
     -- ---- a verdict
 
-    pub verdict_says : length ms ≤ 32 → h.VerdictSays v call (all_accept v ms)
-    verdict_says few = (λ d. all_accept_each v call follows ms cover, λ n. absurd (n (ms, cover, few)))
+    pub verdict_says : (limit : ℕ) → 2 * length ms ≤ limit + 1 → h.VerdictSays v limit call (all_accept v ms)
+    verdict_says limit few = (λ d. all_accept_each v call follows ms cover, λ n. absurd (n (ms, cover, few)))
 
     -- ---- errors, where each member's run wants all of them
 
@@ -214,15 +214,15 @@ split_wants_all v call later {ns} {ys} m s t x in_it =
 -- ---- the four calls
 
 module _ (v : Sense) (follows : Follows v) (others : List Assumptions) (last : Assumptions) (failure : Error) where
-  pub errors_say : (ms : List Assumptions) → Cover v iter_errors [] ms → ms ≡ others ++ last ∷ [] → length ms ≤ 32
-      → ((m : Met) → branch_at v iter_errors [] ≡ Some m → h.IsFailure v iter_errors failure) → h.ErrorsSay v (listed v others last failure)
-  errors_say ms cover is few fails = (λ d. lists v iter_errors follows ms cover (λ m k. refl) others last is failure fails, λ n. absurd (n (ms, cover, few)))
+  pub errors_say : (limit : ℕ) (ms : List Assumptions) → Cover v iter_errors [] ms → ms ≡ others ++ last ∷ [] → 2 * length ms ≤ limit + 1
+      → ((m : Met) → branch_at v iter_errors [] ≡ Some m → h.IsFailure v iter_errors failure) → h.ErrorsSay v limit (listed v others last failure)
+  errors_say limit ms cover is few fails = (λ d. lists v iter_errors follows ms cover (λ m k. refl) others last is failure fails, λ n. absurd (n (ms, cover, few)))
 
   -- so of each call whose further runs want all errors, where its first run meets an unfinished match
-  pub later_errors_say : (call : Call) → WantsAllLater call → (ms : List Assumptions) → Cover v call [] ms → ¬ (branch_at v call [] ≡ None) → ms ≡ others ++ last ∷ [] → length ms ≤ 32
-      → ((m : Met) → branch_at v call [] ≡ Some m → h.IsFailure v call failure) → h.ErrorsOf v call (listed v others last failure)
-  later_errors_say call later _ (whole e) some is few fails = absurd (some e)
-  later_errors_say call later _ (split {no = ns} {yes = ys} m e s t) some is few fails = (
+  pub later_errors_say : (limit : ℕ) (call : Call) → WantsAllLater call → (ms : List Assumptions) → Cover v call [] ms → ¬ (branch_at v call [] ≡ None) → ms ≡ others ++ last ∷ [] → 2 * length ms ≤ limit + 1
+      → ((m : Met) → branch_at v call [] ≡ Some m → h.IsFailure v call failure) → h.ErrorsOf v limit call (listed v others last failure)
+  later_errors_say limit call later _ (whole e) some is few fails = absurd (some e)
+  later_errors_say limit call later _ (split {no = ns} {yes = ys} m e s t) some is few fails = (
     λ d. lists v call follows (ns ++ ys) (split m e s t) (split_wants_all v call later m s t) others last is failure fails,
     λ n. absurd (n (ns ++ ys, split m e s t, few)),
   )
@@ -257,9 +257,9 @@ module _ (v : Sense) (follows : Follows v) (others : List Assumptions) (last : A
       let (shared, is_shared, it) = lists v validate follows (ns ++ ys) (split m e s t) (split_wants_all v validate validate_later m s t) others last is failure fails in
       (first_error shared, kept_first v is_shared, first_listed v validate shared _ it refl)
 
-  pub first_says : (ms : List Assumptions) → Cover v validate [] ms → ms ≡ others ++ last ∷ [] → length ms ≤ 32
-      → ((m : Met) → branch_at v validate [] ≡ Some m → h.IsFailure v validate failure) → h.FirstSays v (first_error (listed v others last failure))
-  first_says ms cover is few fails = (λ d. first_of_members ms cover is fails, λ n. absurd (n (ms, cover, few)))
+  pub first_says : (limit : ℕ) (ms : List Assumptions) → Cover v validate [] ms → ms ≡ others ++ last ∷ [] → 2 * length ms ≤ limit + 1
+      → ((m : Met) → branch_at v validate [] ≡ Some m → h.IsFailure v validate failure) → h.FirstSays v limit (first_error (listed v others last failure))
+  first_says limit ms cover is few fails = (λ d. first_of_members ms cover is fails, λ n. absurd (n (ms, cover, few)))
 
   nil_agrees : (o : Outcome) → Agrees o → (is_nil o.errors ≡ true) ↔ (o.verdict ≡ true)
   nil_agrees o a = (λ e. a.1 (nil_is o.errors e), λ e. ap is_nil (a.0 e))
@@ -277,9 +277,9 @@ module _ (v : Sense) (follows : Follows v) (others : List Assumptions) (last : A
       (λ e'. each.0 (nil_is _ e'), λ k. ap is_nil (each.1 k))
 
   -- an evaluation is valid where nothing is listed
-  pub evaluate_says : (ms : List Assumptions) → Cover v evaluate [] ms → ms ≡ others ++ last ∷ [] → length ms ≤ 32
-      → ((m : Met) → branch_at v evaluate [] ≡ Some m → h.IsFailure v evaluate failure) → h.VerdictSays v evaluate (is_nil (listed v others last failure))
-  evaluate_says ms cover is few fails = (λ d. nil_members ms cover is fails, λ n. absurd (n (ms, cover, few)))
+  pub evaluate_says : (limit : ℕ) (ms : List Assumptions) → Cover v evaluate [] ms → ms ≡ others ++ last ∷ [] → 2 * length ms ≤ limit + 1
+      → ((m : Met) → branch_at v evaluate [] ≡ Some m → h.IsFailure v evaluate failure) → h.VerdictSays v limit evaluate (is_nil (listed v others last failure))
+  evaluate_says limit ms cover is few fails = (λ d. nil_members ms cover is fails, λ n. absurd (n (ms, cover, few)))
 
 -- ---- a list has one cover
 

@@ -1,6 +1,7 @@
--- Laws of deciding. Whether a call decides is itself decided: its cover is grown as far as 32 members, and by then it is whole
--- or goes on. And where `validate` decides, its answer is none exactly where every completion accepts.
-use Rattle.std.proofs.Common.{arith, ap, inl, inr, refl, subst, sym, zero, suc, ℕ, ◌+◌, ◌<◌, ◌∙◌, ◌⊎◌}
+-- Laws of deciding. Whether a call decides is itself decided: its cover is grown as far as its limit allows, and by then it is
+-- whole or goes on. What is decided within a limit is decided within a larger one, and within any where the first run branches on
+-- no match. And where `validate` decides, its answer is none exactly where every completion accepts.
+use Rattle.std.proofs.Common.{arith, ap, inl, inr, refl, subst, sym, zero, suc, ℕ, ◌*◌, ◌+◌, ◌<◌, ◌∙◌, ◌⊎◌}
 use Rattle.std.specs.Prelude.{List, None, Option, Some, [], false, length, true, ◌++◌, ◌↔◌, ◌∷◌, ◌≡◌, ◌≤◌}
 use Rattle.std.proofs.lemmas.Bool.{cases_lt}
 use Rattle.std.proofs.lemmas.List.{length-append}
@@ -27,9 +28,9 @@ module _ (v : Sense) (call : Call) where
       let two : b ≤ length ys = no_less t (subst (λ x. Cover v call (assuming x true as') ys) same t') in
       omega (arith, length-append ns ys)
 
-  -- a call doesn't decide where a part of its cover has more than 32 lists
-  pub undecided_past : (n : ℕ) → Partly v call [] n → 32 < n → ¬ (Decides v call)
-  undecided_past n part many (ms, cover, few) = let least : n ≤ length ms = no_less part cover in absurd (omega arith)
+  -- a call doesn't decide where a part of its cover takes more runs than the limit
+  pub undecided_past : (limit n : ℕ) → Partly v call [] n → limit + 1 < 2 * n → ¬ (Decides v limit call)
+  undecided_past limit n part many (ms, cover, few) = let least : n ≤ length ms = no_less part cover in absurd (omega arith)
 
   -- ---- a cover is grown as far as so many members
 
@@ -65,18 +66,32 @@ module _ (v : Sense) (call : Call) where
       go None e less = inl (as' ∷ [], whole e, omega arith)
       go (Some m) e less = both n as' m e (less (assuming m false as')) (less (assuming m true as'))
 
--- a call's cover has at most 32 members, or it has not
-pub decides_or_not : (v : Sense) (call : Call) → Decides v call ⊎ ¬ (Decides v call)
-decides_or_not v call = go (grown v call 32 [])
+-- half of a number, rounded down
+half : (r : ℕ) → (n : ℕ) × (2 * n ≤ r) × (r < 2 * n + 2)
+half zero = (0, omega arith, omega arith)
+half (suc zero) = (0, omega arith, omega arith)
+half (suc (suc r)) = let (n, no_more, no_less) = half r in (suc n, omega arith, omega arith)
+
+-- a call's cover takes no more runs than the limit, or it takes more
+pub decides_or_not : (v : Sense) (limit : ℕ) (call : Call) → Decides v limit call ⊎ ¬ (Decides v limit call)
+decides_or_not v limit call = let (n, at_most, at_least) = half (limit + 1) in go n at_most at_least (grown v call n [])
   where
-    go : Within v call 32 [] → Decides v call ⊎ ¬ (Decides v call)
-    go (inl d) = inl d
-    go (inr (k, part, many)) = inr (undecided_past v call k part many)
+    go : (n : ℕ) → 2 * n ≤ limit + 1 → limit + 1 < 2 * n + 2 → Within v call n [] → Decides v limit call ⊎ ¬ (Decides v limit call)
+    go n at_most at_least (inl (ms, cover, few)) = inl (ms, cover, omega arith)
+    go n at_most at_least (inr (k, part, many)) = inr (undecided_past v call limit k part (omega arith))
+
+-- a larger limit decides what a smaller one does
+pub larger_decides : (v : Sense) (limit larger : ℕ) (call : Call) → limit ≤ larger → Decides v limit call → Decides v larger call
+larger_decides v limit larger call less (ms, cover, few) = (ms, cover, omega arith)
+
+-- where the first run branches on no match, that run decides, whatever the limit is
+pub finished_decides : (v : Sense) (limit : ℕ) (call : Call) → branch_at v call [] ≡ None → 1 ≤ limit → Decides v limit call
+finished_decides v limit call none some = ([] ∷ [], whole none, omega arith)
 
 -- ---- where `validate` decides, it answers none exactly where every completion accepts
 
-pub none_where_accepted : (v : Sense) → Follows v → (o : Option Error) → h.FirstSays v o → Decides v validate → (o ≡ None) ↔ EachAccepts v
-none_where_accepted v follows o says decides =
+pub none_where_accepted : (v : Sense) → Follows v → (limit : ℕ) (o : Option Error) → h.FirstSays v limit o → Decides v limit validate → (o ≡ None) ↔ EachAccepts v
+none_where_accepted v follows limit o says decides =
     let (shared, is_first, is) = says.0 decides in
     go shared o is_first is
   where

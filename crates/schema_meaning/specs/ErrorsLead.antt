@@ -97,9 +97,9 @@ module _ {S K R : Type 0} (w : Parts S K R) (root : Key S) (instance : Data) whe
 
   -- then so does each error that is listed, or the list is the one failure
   abbrev pub ListedLead : Type 0
-  ListedLead = (v : Sense) → EachLeads v → (errors : List Error) → ErrorsSay v errors
-      → Either (Decides v iter_errors) (All (PointsAt w root instance) errors ⊎ OneFailure v iter_errors errors) (OneFailure v iter_errors errors)
+  ListedLead = (v : Sense) → EachLeads v → (limit : ℕ) (errors : List Error) → ErrorsSay v limit errors
+      → Either (Decides v limit iter_errors) (All (PointsAt w root instance) errors ⊎ OneFailure v iter_errors errors) (OneFailure v iter_errors errors)
 
   -- and so does a first error, or it is the failure
   abbrev pub FirstLeads : Type 0
-  FirstLeads = (v : Sense) → EachLeads v → (e : Error) → FirstSays v (Some e) → Either (Decides v validate) (PointsAt w root instance e ⊎ IsFailure v validate e) (IsFailure v validate e)
+  FirstLeads = (v : Sense) → EachLeads v → (limit : ℕ) (e : Error) → FirstSays v limit (Some e) → Either (Decides v limit validate) (PointsAt w root instance e ⊎ IsFailure v validate e) (IsFailure v validate e)

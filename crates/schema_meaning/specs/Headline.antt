@@ -63,16 +63,16 @@ module _ (v : Sense) where
   abbrev pub OneFailure : Call → List Error → Type 0
   OneFailure call es = (e : Error) × IsFailure call e × (es ≡ e ∷ [])
 
-  -- what a call answers, where it decides and where it doesn't
-  abbrev pub VerdictSays : Call → Bool → Type 0
-  VerdictSays call valid = Either (Decides v call) ((valid ≡ true) ↔ EachAccepts v) (valid ≡ false)
+  -- what a call answers that makes so many runs at most, where it decides and where it doesn't
+  abbrev pub VerdictSays : ℕ → Call → Bool → Type 0
+  VerdictSays most call valid = Either (Decides v most call) ((valid ≡ true) ↔ EachAccepts v) (valid ≡ false)
 
   -- the errors of a call whose further runs want all errors
-  abbrev pub ErrorsOf : Call → List Error → Type 0
-  ErrorsOf call errors = Either (Decides v call) (Lists call errors) (OneFailure call errors)
+  abbrev pub ErrorsOf : ℕ → Call → List Error → Type 0
+  ErrorsOf most call errors = Either (Decides v most call) (Lists call errors) (OneFailure call errors)
 
-  abbrev pub ErrorsSay : List Error → Type 0
-  ErrorsSay = ErrorsOf iter_errors
+  abbrev pub ErrorsSay : ℕ → List Error → Type 0
+  ErrorsSay most = ErrorsOf most iter_errors
 
   -- the first of the shared errors, in the order of a list
   pub data FirstShared : List Error → Option Error → Type 0 where
@@ -86,8 +86,8 @@ module _ (v : Sense) where
   IsFirst None (Some e) = SomeRefuses v × IsFailure validate e
 
   -- the first of what `iter_errors` gives by its sentence, the failure being the call's own
-  abbrev pub FirstSays : Option Error → Type 0
-  FirstSays first = Either (Decides v validate) ((o : Option Error) × FirstShared (v.says all_match).errors o × IsFirst o first) ((e : Error) × IsFailure validate e × (first ≡ Some e))
+  abbrev pub FirstSays : ℕ → Option Error → Type 0
+  FirstSays most first = Either (Decides v most validate) ((o : Option Error) × FirstShared (v.says all_match).errors o × IsFirst o first) ((e : Error) × IsFailure validate e × (first ≡ Some e))
 
 module _ {S K R : Type 0} (w : Parts S K R) (root : Key S) (instance : Data) where
   -- texts are spoken of only where neither the instance nor a schema that is reached holds a fraction
@@ -106,18 +106,18 @@ module _ {S K R : Type 0} (w : Parts S K R) (root : Key S) (instance : Data) whe
   PlainlyWithUnits fact = ¬ (Return w instance at_root) → (keys : List (Key S)) → IsReach w root keys → (n : ℕ) → deep_enough w keys instance ≤ n
       → fact (plain w instance n root) (λ c. plain_units w instance c n root [] [])
 
-  -- what the contracts of the four calls cite
-  abbrev pub IsValidAnswer : Bool → Type 0
-  IsValidAnswer valid = Plainly (λ v. VerdictSays v is_valid valid)
+  -- what the contracts of the four calls cite, which make so many runs at most
+  abbrev pub IsValidAnswer : ℕ → Bool → Type 0
+  IsValidAnswer most valid = Plainly (λ v. VerdictSays v most is_valid valid)
 
-  abbrev pub ValidateAnswer : Option Error → Type 0
-  ValidateAnswer first = Plainly (λ v. FirstSays v first)
+  abbrev pub ValidateAnswer : ℕ → Option Error → Type 0
+  ValidateAnswer most first = Plainly (λ v. FirstSays v most first)
 
-  abbrev pub IterErrorsAnswer : List Error → Type 0
-  IterErrorsAnswer errors = Plainly (λ v. ErrorsSay v errors)
+  abbrev pub IterErrorsAnswer : ℕ → List Error → Type 0
+  IterErrorsAnswer most errors = Plainly (λ v. ErrorsSay v most errors)
 
-  abbrev pub EvaluateAnswer : Unit_ → Type 0
-  EvaluateAnswer u = Plainly (λ v. VerdictSays v evaluate (report_of u).valid)
+  abbrev pub EvaluateAnswer : ℕ → Unit_ → Type 0
+  EvaluateAnswer most u = Plainly (λ v. VerdictSays v most evaluate (report_of u).valid)
 
 -- the same of numbered nodes, returns or none: from some depth on
 abbrev pub Guardedly : {K R : Type 0} → Keywords K R → Matcher → Nodes K → (Place → Subject) → ℕ → (Sense → Type 0) → Type 0

@@ -2,7 +2,8 @@
 use Rattle.std.specs.List.{list_all}
 use Rattle.std.specs.Prelude.{Bool, Contains, List, None, Some, [], false, filter, find, is_some, not, slice_get, true, ℕ, ◌++◌, ◌+◌, ◌∷◌, ◌≡◌}
 use Rattle.schema_definitions.specs.Reports.{Error, Outcome, Unit_, report_of}
-use Rattle.schema_definitions.specs.Matching.{Assumptions, Completion, Extends, assumed, completion_of}
+use Rattle.schema_definitions.specs.Instance.{Text}
+use Rattle.schema_definitions.specs.Matching.{Assumptions, Completion, Extends, Matcher, Pair, Reason, assumed, completion_of, finished, unfinished}
 use Rattle.schema_definitions.specs.Keywords.{Mode, for_all, for_first, for_units, for_verdict}
 use Rattle.schema_definitions.specs.Runs.{Met, Run, first_error}
 use Rattle.schema_definitions.specs.Cover.{Call, IsRun, Sense, assuming, branch_at, mode_of}
@@ -70,6 +71,18 @@ module _ (v : Sense) where
   pub data Partly (call : Call) : Assumptions → ℕ → Type 0 where
     waits : {as' : Assumptions} → Partly call as' 1
     splits : {as' : Assumptions} {a b : ℕ} (m : Met) → branch_at v call as' ≡ Some m → Partly call (assuming m false as') a → Partly call (assuming m true as') b → Partly call as' (a + b)
+
+-- the pairs that the runs of a call branch on are among these
+abbrev pub BranchesAmong : Sense → Call → List Pair → Type 0
+BranchesAmong v call pairs = (as' : Assumptions) (m : Met) → IsRun v call as' → branch_at v call as' ≡ Some m → Contains pairs m.pair
+
+-- the matcher leaves the match unfinished that was met
+abbrev pub IsUnfinished : Matcher → Met → Type 0
+IsUnfinished matcher m = (reason : Reason) × (matcher.is_match m.pair.pattern m.pair.subject ≡ unfinished reason)
+
+-- the matcher finishes every match
+abbrev pub Finishes : Matcher → Type 0
+Finishes matcher = (pattern text : Text) → (b : Bool) × (matcher.is_match pattern text ≡ finished b)
 
 -- ---- positions
 

@@ -181,8 +181,8 @@ NumbersMeanPlain {S} w keys nodes = EachKeeps w.keywords → ValuesInside w → 
 -- so a call that answers the headline's sentence of its nodes answers it of the plain meaning
 abbrev pub GuardedIsPlain : {S K R : Type 0} → Parts S K R → Numbers S → Nodes K → Type 0
 GuardedIsPlain {S} w keys nodes = EachKeeps w.keywords → ValuesInside w → MakersAskBelow w.table → ((a b : S) → Decides (w.resolver.same_state a b) (a ≡ b)) → AreNumbered w keys nodes → Ranked nodes (length keys)
-    → (instance : Data) (i : ℕ) (root : Key S) → IsNumber keys i root
-    → ((valid : Bool) → Guardedly w.keywords w.matcher nodes (subject w instance) i (λ v. VerdictSays v is_valid valid) → IsValidAnswer w root instance valid)
-    × ((first : Option Error) → Guardedly w.keywords w.matcher nodes (subject w instance) i (λ v. FirstSays v first) → ValidateAnswer w root instance first)
-    × ((errors : List Error) → Guardedly w.keywords w.matcher nodes (subject w instance) i (λ v. ErrorsSay v errors) → IterErrorsAnswer w root instance errors)
-    × ((u : Unit_) → Guardedly w.keywords w.matcher nodes (subject w instance) i (λ v. VerdictSays v evaluate (report_of u).valid) → EvaluateAnswer w root instance u)
+    → (instance : Data) (i : ℕ) (root : Key S) → IsNumber keys i root → (limit : ℕ)
+    → ((valid : Bool) → Guardedly w.keywords w.matcher nodes (subject w instance) i (λ v. VerdictSays v limit is_valid valid) → IsValidAnswer w root instance limit valid)
+    × ((first : Option Error) → Guardedly w.keywords w.matcher nodes (subject w instance) i (λ v. FirstSays v limit first) → ValidateAnswer w root instance limit first)
+    × ((errors : List Error) → Guardedly w.keywords w.matcher nodes (subject w instance) i (λ v. ErrorsSay v limit errors) → IterErrorsAnswer w root instance limit errors)
+    × ((u : Unit_) → Guardedly w.keywords w.matcher nodes (subject w instance) i (λ v. VerdictSays v limit evaluate (report_of u).valid) → EvaluateAnswer w root instance limit u)

@@ -1,10 +1,12 @@
 -- What a cover's members say, and so what the four calls answer where they decide.
-use Rattle.std.specs.Prelude.{Contains, List, None, Option, Some, [], length, map, ℕ, ◌*◌, ◌+◌, ◌++◌, ◌<◌, ◌↔◌, ◌∷◌, ◌≡◌, ◌≤◌, ◌⊎◌}
+use Rattle.std.specs.Prelude.{All, Contains, List, None, Option, Some, [], length, map, suc, ℕ, ◌*◌, ◌+◌, ◌++◌, ◌^◌, ◌<◌, ◌↔◌, ◌∷◌, ◌≡◌, ◌≤◌, ◌⊎◌}
+use Rattle.serde_json.specs.Data.{Data}
 use Rattle.schema_definitions.specs.Instance.{Place, Subject}
 use Rattle.schema_definitions.specs.Reports.{Error}
-use Rattle.schema_definitions.specs.Matching.{Assumptions, Completion, Extends, Matcher, completion_of}
+use Rattle.schema_definitions.specs.Matching.{Assumptions, Completion, Extends, Matcher, Pair, completion_of}
 use Rattle.schema_definitions.specs.Keywords.{Keywords}
 use Rattle.schema_definitions.specs.Parts.{Parts}
+use Rattle.schema_definitions.specs.Plan.{Key}
 use Rattle.schema_definitions.specs.Meaning.{unfold_}
 use Rattle.schema_definitions.specs.Units.{plain_units}
 use Rattle.schema_definitions.specs.Runs.{Met, first_error, run}
@@ -14,7 +16,7 @@ use Rattle.schema_definitions.specs.Laws.{EachKeeps}
 use Rattle.schema_definitions.specs.Guarded.{Nodes, guarded_sense}
 use Rattle.schema_meaning.specs.Headline.{ErrorsSay, FirstSays, FirstShared, IsFailure, Lists, VerdictSays}
 use Rattle.schema_meaning.specs.Depths.{AtEachDepth}
-use Rattle.schema_meaning.specs.Members.{ExtendsAt, Follows, Partly, RunsAre, Speaks, StandOnce, all_accept, is_nil, listed, shared_with}
+use Rattle.schema_meaning.specs.Members.{BranchesAmong, ExtendsAt, Finishes, Follows, IsUnfinished, Partly, RunsAre, Speaks, StandOnce, all_accept, is_nil, listed, shared_with}
 
 module _ {S K R : Type 0} (w : Parts S K R) where
   -- a plain run under assumptions speaks, in each mode, for every completion that extends them
@@ -39,43 +41,83 @@ NodesFollow {K} keywords = EachKeeps keywords → (matcher : Matcher) (nodes : N
 abbrev pub FailsWith : Sense → Call → Error → Type 0
 FailsWith v call e = (m : Met) → branch_at v call [] ≡ Some m → IsFailure v call e
 
--- the members of a call that decides, the last of which assumes a yes everywhere
-abbrev pub AreMembers : Sense → Call → List Assumptions → Assumptions → Type 0
-AreMembers v call others last = Cover v call [] (others ++ last ∷ []) × (length (others ++ last ∷ []) ≤ 32)
+-- the members of a call that decides within so many runs, the last of which assumes a yes everywhere
+abbrev pub AreMembers : Sense → ℕ → Call → List Assumptions → Assumptions → Type 0
+AreMembers v limit call others last = Cover v call [] (others ++ last ∷ []) × (2 * length (others ++ last ∷ []) ≤ limit + 1)
 
 abbrev pub VerdictOfMembers : Type 0
-VerdictOfMembers = (v : Sense) → Follows v → (call : Call) (ms : List Assumptions) → Cover v call [] ms → length ms ≤ 32 → VerdictSays v call (all_accept v ms)
+VerdictOfMembers = (v : Sense) → Follows v → (limit : ℕ) (call : Call) (ms : List Assumptions) → Cover v call [] ms → 2 * length ms ≤ limit + 1 → VerdictSays v limit call (all_accept v ms)
 
 abbrev pub SharedOfMembers : Type 0
 SharedOfMembers = (v : Sense) → Follows v → (others : List Assumptions) (last : Assumptions) → Cover v iter_errors [] (others ++ last ∷ []) → Shared v (shared_with v others last)
 
 abbrev pub ErrorsOfMembers : Type 0
-ErrorsOfMembers = (v : Sense) → Follows v → (others : List Assumptions) (last : Assumptions) (failure : Error) → AreMembers v iter_errors others last → FailsWith v iter_errors failure
-    → ErrorsSay v (listed v others last failure)
+ErrorsOfMembers = (v : Sense) → Follows v → (others : List Assumptions) (last : Assumptions) (failure : Error) (limit : ℕ) → AreMembers v limit iter_errors others last → FailsWith v iter_errors failure
+    → ErrorsSay v limit (listed v others last failure)
 
 abbrev pub FirstOfMembers : Type 0
-FirstOfMembers = (v : Sense) → Follows v → (others : List Assumptions) (last : Assumptions) (failure : Error) → AreMembers v validate others last → FailsWith v validate failure
-    → FirstSays v (first_error (listed v others last failure))
+FirstOfMembers = (v : Sense) → Follows v → (others : List Assumptions) (last : Assumptions) (failure : Error) (limit : ℕ) → AreMembers v limit validate others last → FailsWith v validate failure
+    → FirstSays v limit (first_error (listed v others last failure))
 
 abbrev pub EvaluationOfMembers : Type 0
-EvaluationOfMembers = (v : Sense) → Follows v → (others : List Assumptions) (last : Assumptions) (failure : Error) → AreMembers v evaluate others last → FailsWith v evaluate failure
-    → VerdictSays v evaluate (is_nil (listed v others last failure))
+EvaluationOfMembers = (v : Sense) → Follows v → (others : List Assumptions) (last : Assumptions) (failure : Error) (limit : ℕ) → AreMembers v limit evaluate others last → FailsWith v evaluate failure
+    → VerdictSays v limit evaluate (is_nil (listed v others last failure))
 
--- a call has one cover, and so doesn't decide where that has more than 32 members
+-- a call has one cover, and so doesn't decide where that takes more runs than the limit
 abbrev pub OneCover : Type 0
 OneCover = (v : Sense) (call : Call) (ms ns : List Assumptions) → Cover v call [] ms → Cover v call [] ns → ms ≡ ns
 
--- a call doesn't decide where a part of its cover has more than 32 lists
+-- a call doesn't decide where a part of its cover takes more runs than the limit
 abbrev pub UndecidedPast : Type 0
-UndecidedPast = (v : Sense) (call : Call) (n : ℕ) → Partly v call [] n → 32 < n → ¬ (Decides v call)
+UndecidedPast = (v : Sense) (call : Call) (limit n : ℕ) → Partly v call [] n → limit + 1 < 2 * n → ¬ (Decides v limit call)
 
--- a call's cover has at most 32 members, or it has not
+-- a call's cover takes no more runs than the limit, or it takes more
 abbrev pub DecidesOrNot : Type 0
-DecidesOrNot = (v : Sense) (call : Call) → Decides v call ⊎ ¬ (Decides v call)
+DecidesOrNot = (v : Sense) (limit : ℕ) (call : Call) → Decides v limit call ⊎ ¬ (Decides v limit call)
+
+-- a larger limit decides what a smaller one does
+abbrev pub LargerDecides : Type 0
+LargerDecides = (v : Sense) (limit larger : ℕ) (call : Call) → limit ≤ larger → Decides v limit call → Decides v larger call
+
+-- where the first run branches on no match, as it does not where the matcher finishes each that it meets, that run decides,
+-- whatever the limit is
+abbrev pub FinishedDecides : Type 0
+FinishedDecides = (v : Sense) (limit : ℕ) (call : Call) → branch_at v call [] ≡ None → 1 ≤ limit → Decides v limit call
+
+-- each match that a run of the sense meets is one that the matcher leaves unfinished
+abbrev pub MeetsUnfinished : Matcher → Sense → Type 0
+MeetsUnfinished matcher v = (call : Call) (as' : Assumptions) → All (IsUnfinished matcher) (v.meets call as')
+
+-- no run meets a match, and so the first run of a call decides, whatever the limit is
+pub record DecidesAtOnce (v : Sense) : Type 0 where
+  pub meets_none : (call : Call) (as' : Assumptions) → v.meets call as' ≡ []
+  pub decides : (limit : ℕ) (call : Call) → 1 ≤ limit → Decides v limit call
+
+-- where the matcher finishes every match, the plain runs of a schema decide at once
+abbrev pub FinishingDecides : {S K R : Type 0} → Parts S K R → Type 0
+FinishingDecides {S} w = Finishes w.matcher → (instance : Data) (n : ℕ) (root : Key S) → DecidesAtOnce (plain w instance n root)
+
+-- and so do runs over numbered nodes, returns or none
+abbrev pub NodesFinishingDecide : {K R : Type 0} → Keywords K R → Type 0
+NodesFinishingDecide {K} keywords = (matcher : Matcher) → Finishes matcher → (nodes : Nodes K) (subject_of : Place → Subject) (n i : ℕ)
+    → DecidesAtOnce (guarded_sense keywords matcher nodes subject_of n i)
+
+-- whatever the matcher finishes, the plain runs of a schema meet only what it leaves unfinished
+abbrev pub PlainMeetsUnfinished : {S K R : Type 0} → Parts S K R → Type 0
+PlainMeetsUnfinished {S} w = (instance : Data) (n : ℕ) (root : Key S) → MeetsUnfinished w.matcher (plain w instance n root)
+
+-- and so do runs over numbered nodes
+abbrev pub NodesMeetUnfinished : {K R : Type 0} → Keywords K R → Type 0
+NodesMeetUnfinished {K} keywords = (matcher : Matcher) (nodes : Nodes K) (subject_of : Place → Subject) (n i : ℕ)
+    → MeetsUnfinished matcher (guarded_sense keywords matcher nodes subject_of n i)
+
+-- with k pairs that its runs branch on, a call decides where its limit is 2 ^ (k + 1) - 1 or more
+abbrev pub PairsDecide : Type 0
+PairsDecide = (v : Sense) (call : Call) (pairs : List Pair) → BranchesAmong v call pairs → (limit : ℕ) → 2 ^ suc (length pairs) ≤ limit + 1 → Decides v limit call
 
 -- where `validate` decides, its answer is none exactly where every completion accepts
 abbrev pub NoneWhereAccepted : Type 0
-NoneWhereAccepted = (v : Sense) → Follows v → (o : Option Error) → FirstSays v o → Decides v validate → (o ≡ None) ↔ EachAccepts v
+NoneWhereAccepted = (v : Sense) → Follows v → (limit : ℕ) (o : Option Error) → FirstSays v limit o → Decides v limit validate → (o ≡ None) ↔ EachAccepts v
 
 -- no error is listed exactly where every completion accepts
 abbrev pub NoneListed : Type 0

@@ -3,8 +3,10 @@ ghost use Rattle.schema_definitions.specs.Keywords.{Keywords};
 ghost use Rattle.schema_definitions.specs.Parts.{Parts};
 ghost use Rattle.schema_meaning.specs.Promises.{NodesFollow, PlainFollows, RunsSpeak, UnitsArePlain};
 ghost use Rattle.schema_meaning.specs.Promises.{ErrorsOfMembers, EvaluationOfMembers, FirstOfMembers, SharedOfMembers, VerdictOfMembers};
-ghost use Rattle.schema_meaning.specs.Promises.{DecidesOrNot, FirstIsHead, NoneListed, NoneWhereAccepted, OneCover, UndecidedPast};
-ghost use Rattle.schema_meaning.specs.Promises.{MembersDiffer, MembersRun, OneMember, PairsDiffer, RunsOfCover};
+ghost use Rattle.schema_meaning.specs.Promises.{DecidesOrNot, FinishedDecides, FirstIsHead, LargerDecides, NoneListed};
+ghost use Rattle.schema_meaning.specs.Promises.{NoneWhereAccepted, OneCover, UndecidedPast};
+ghost use Rattle.schema_meaning.specs.Promises.{FinishingDecides, NodesFinishingDecide, NodesMeetUnfinished, PlainMeetsUnfinished};
+ghost use Rattle.schema_meaning.specs.Promises.{MembersDiffer, MembersRun, OneMember, PairsDecide, PairsDiffer, RunsOfCover};
 
 /// A run under assumptions speaks for every completion that extends them.
 pub fn runs_speak<S, K, R>()
@@ -32,9 +34,21 @@ pub fn calls_agree()
     ensures one { OneCover }
     ensures undecided { UndecidedPast }
     ensures decided { DecidesOrNot }
+    ensures larger { LargerDecides }
+    ensures finished { FinishedDecides }
+    ensures pairs { PairsDecide }
     ensures none { NoneListed }
     ensures accepted { NoneWhereAccepted }
     ensures head { FirstIsHead }
+{}
+
+/// A run meets no match but those that the matcher leaves unfinished. Where it finishes every match, no run branches, and so the
+/// first run of a call decides, whatever the limit is.
+pub fn finishing_decides<S, K, R>()
+    ensures plain { (w : Parts S K R) → FinishingDecides w }
+    ensures nodes { (keywords : Keywords K R) → NodesFinishingDecide keywords }
+    ensures met { (w : Parts S K R) → PlainMeetsUnfinished w }
+    ensures nodes_met { (keywords : Keywords K R) → NodesMeetUnfinished keywords }
 {}
 
 /// Each completion extends exactly one member of a cover.

@@ -191,47 +191,47 @@ module _ (v : Sense) (call : Call) {S T V : Type 0} (Step : S → Remembered →
       let at : IsAt v call made.unassumed f = subst (IsAt v call made.unassumed) (sym made.located) (at_all v call made.unassumed made.unassumed (sites tree) (call_part v call Step first start view says is tree end made.grows).sited (at_first v call made.unassumed e)) in
       is_failure v call made.unassumed f at e (is.remembers_first.reason made.unassumed made.is_first) (failure_error f) refl
 
-module _ (v : Sense) (follows : Follows v) (root : Data) {S : Type 0} (Step : S → Remembered → Remembered → Vec ValidationError → S → Type 0) (first : Remembered) (start end : S) where
+module _ (v : Sense) (follows : Follows v) (root : Data) {S : Type 0} (Step : S → Remembered → Remembered → Vec ValidationError → S → Type 0) (first : Remembered) (start end : S) (limit : ℕ) where
   told_results : (tree : Tree (Vec ValidationError)) (results : List (Vec ValidationError)) (ms : List Assumptions) → results ≡ results_of tree → map errors_in (results_of tree) ≡ map (errors_of v) ms
       → map told (map (λ (r : Vec ValidationError). r.items) results) ≡ map (errors_of v) ms
   told_results tree results ms e same = map_map told (λ (r : Vec ValidationError). r.items) results ∙ (ap (map errors_in) e ∙ same)
 
   -- what is given is what the call's sentence lists, for each call whose further runs want all errors
-  pub all_errors_say : (call : Call) → WantsAllLater call → IsRunOf v call Step first start errors_in (errors_of v) → (o : Outcomes (Vec ValidationError)) → AreOutcomes Step first start 64 end o → (es : Vec ValidationError) → AreErrors root o es.items → ErrorsOf v call (errors_in es)
+  pub all_errors_say : (call : Call) → WantsAllLater call → IsRunOf v call Step first start errors_in (errors_of v) → (o : Outcomes (Vec ValidationError)) → AreOutcomes Step first start limit end o → (es : Vec ValidationError) → AreErrors root o es.items → ErrorsOf v limit call (errors_in es)
   all_errors_say call later is (Assumed results f) (tree, made, whole, same) es (o, shared, answer) =
-      let m = are_few v call Step first start errors_in (errors_of v) is 64 tree f made whole in
-      let some : ¬ (branch_at v call [] ≡ None) = λ e. absurd (cc (sym e ∙ first_is v call Step first start errors_in (errors_of v) is 64 tree f made)) in
+      let m = are_few v call Step first start errors_in (errors_of v) is limit tree f made whole in
+      let some : ¬ (branch_at v call [] ≡ None) = λ e. absurd (cc (sym e ∙ first_is v call Step first start errors_in (errors_of v) is limit tree f made)) in
       let it = listed_is root f v m.others m.last (map (λ (r : Vec ValidationError). r.items) results.items) o es.items (told_results tree results.items (lists_of [] tree) same m.same ∙ ap (map (errors_of v)) m.split) shared answer in
-      subst (ErrorsOf v call) (sym it) (later_errors_say v follows m.others m.last (failure_error f) call later (lists_of [] tree) m.cover some m.split (omega (arith, m.few)) (λ x e. fails v call Step first start errors_in (errors_of v) is 64 tree f made))
+      subst (ErrorsOf v limit call) (sym it) (later_errors_say v follows m.others m.last (failure_error f) limit call later (lists_of [] tree) m.cover some m.split m.few (λ x e. fails v call Step first start errors_in (errors_of v) is limit tree f made))
   all_errors_say call later is (Undecided f) (tree, made, cut) es one = (
-    λ d. absurd (not_decided v call Step first start errors_in (errors_of v) is tree f made cut d),
-    λ n. (failure_error f, fails v call Step first start errors_in (errors_of v) is 64 tree f made, ap told one.alone ∙ ap (λ z. z ∷ []) one.is),
+    λ d. absurd (not_decided v call Step first start errors_in (errors_of v) is limit tree f made cut d),
+    λ n. (failure_error f, fails v call Step first start errors_in (errors_of v) is limit tree f made, ap told one.alone ∙ ap (λ z. z ∷ []) one.is),
   )
 
-  pub first_error_says : IsRunOf v validate Step first start errors_in (errors_of v) → (o : Outcomes (Vec ValidationError)) → AreOutcomes Step first start 64 end o → (es : Vec ValidationError) → AreErrors root o es.items → FirstSays v (first_error (errors_in es))
+  pub first_error_says : IsRunOf v validate Step first start errors_in (errors_of v) → (o : Outcomes (Vec ValidationError)) → AreOutcomes Step first start limit end o → (es : Vec ValidationError) → AreErrors root o es.items → FirstSays v limit (first_error (errors_in es))
   first_error_says is (Assumed results f) (tree, made, whole, same) es (o, shared, answer) =
-      let m = are_few v validate Step first start errors_in (errors_of v) is 64 tree f made whole in
+      let m = are_few v validate Step first start errors_in (errors_of v) is limit tree f made whole in
       let it = listed_is root f v m.others m.last (map (λ (r : Vec ValidationError). r.items) results.items) o es.items (told_results tree results.items (lists_of [] tree) same m.same ∙ ap (map (errors_of v)) m.split) shared answer in
-      subst (λ z. FirstSays v (first_error z)) (sym it) (first_says v follows m.others m.last (failure_error f) (lists_of [] tree) m.cover m.split (omega (arith, m.few)) (λ x e. fails v validate Step first start errors_in (errors_of v) is 64 tree f made))
+      subst (λ z. FirstSays v limit (first_error z)) (sym it) (first_says v follows m.others m.last (failure_error f) limit (lists_of [] tree) m.cover m.split m.few (λ x e. fails v validate Step first start errors_in (errors_of v) is limit tree f made))
   first_error_says is (Undecided f) (tree, made, cut) es one = (
-    λ d. absurd (not_decided v validate Step first start errors_in (errors_of v) is tree f made cut d),
-    λ n. (failure_error f, fails v validate Step first start errors_in (errors_of v) is 64 tree f made, ap (λ z. first_error (told z)) one.alone ∙ ap Some one.is),
+    λ d. absurd (not_decided v validate Step first start errors_in (errors_of v) is limit tree f made cut d),
+    λ n. (failure_error f, fails v validate Step first start errors_in (errors_of v) is limit tree f made, ap (λ z. first_error (told z)) one.alone ∙ ap Some one.is),
   )
 
   accepts_is : (ms : List Assumptions) → none_has v ms ≡ all_accept v ms
   accepts_is ms = all_same (λ m. is_nil (errors_of v m)) (verdict_of v) ms (λ m. nil_agrees (v.says (completion_of m)) (follows.agrees (completion_of m)))
 
   -- no error is given exactly where the call's sentence says yes
-  pub none_says : (call : Call) → IsRunOf v call Step first start none_in (λ m. is_nil (errors_of v m)) → (o : Outcomes (Vec ValidationError)) → AreOutcomes Step first start 64 end o → (es : Vec ValidationError) → AreErrors root o es.items → VerdictSays v call (none_in es)
+  pub none_says : (call : Call) → IsRunOf v call Step first start none_in (λ m. is_nil (errors_of v m)) → (o : Outcomes (Vec ValidationError)) → AreOutcomes Step first start limit end o → (es : Vec ValidationError) → AreErrors root o es.items → VerdictSays v limit call (none_in es)
   none_says call is (Assumed results f) (tree, made, whole, same) es (o, shared, answer) =
-      let m = are_few v call Step first start none_in (λ x. is_nil (errors_of v x)) is 64 tree f made whole in
+      let m = are_few v call Step first start none_in (λ x. is_nil (errors_of v x)) is limit tree f made whole in
       let it = none_answer root f (map (λ (r : Vec ValidationError). r.items) results.items) o es.items shared answer in
       let none : list_all is_empty (map (λ (r : Vec ValidationError). r.items) results.items) ≡ none_has v (lists_of [] tree) =
       all_map is_empty (λ (r : Vec ValidationError). r.items) results.items ∙ (sym (all_map (λ b. b) none_in results.items) ∙ (ap (λ z. list_all (λ b. b) (map none_in z)) same
       ∙ (ap (list_all (λ b. b)) m.same ∙ all_map (λ b. b) (λ x. is_nil (errors_of v x)) (lists_of [] tree)))) in
-      subst (VerdictSays v call) (sym (accepts_is (lists_of [] tree)) ∙ (sym none ∙ sym it)) (verdict_says v call follows (lists_of [] tree) m.cover (omega (arith, m.few)))
+      subst (VerdictSays v limit call) (sym (accepts_is (lists_of [] tree)) ∙ (sym none ∙ sym it)) (verdict_says v call follows (lists_of [] tree) m.cover limit m.few)
   none_says call is (Undecided f) (tree, made, cut) es one =
-      (λ d. absurd (not_decided v call Step first start none_in (λ x. is_nil (errors_of v x)) is tree f made cut d), λ n. ap is_empty one.alone)
+      (λ d. absurd (not_decided v call Step first start none_in (λ x. is_nil (errors_of v x)) is limit tree f made cut d), λ n. ap is_empty one.alone)
 
 -- ---- which errors are given
 
@@ -245,12 +245,12 @@ shared_each P (r ∷ rs) xs h (front, end, is, shared) =
     kept [] true e = cc
     kept [] false e = absurd (cc e)
 
-module _ (v : Sense) (call : Call) (root : Data) {S : Type 0} (Step : S → Remembered → Remembered → Vec ValidationError → S → Type 0) (first : Remembered) (start end : S) (is : IsRunOf v call Step first start none_in (λ m. is_nil (errors_of v m))) where
-  failure_alone : (tree : Tree (Vec ValidationError)) (f : Failure) → Made Step first start 64 end tree f → (es : List ValidationError) → OneError root f es → FailureAlone v call root es
+module _ (v : Sense) (call : Call) (root : Data) {S : Type 0} (Step : S → Remembered → Remembered → Vec ValidationError → S → Type 0) (first : Remembered) (start end : S) (limit : ℕ) (is : IsRunOf v call Step first start none_in (λ m. is_nil (errors_of v m))) where
+  failure_alone : (tree : Tree (Vec ValidationError)) (f : Failure) → Made Step first start limit end tree f → (es : List ValidationError) → OneError root f es → FailureAlone v call root es
   failure_alone tree f made es one = record {
     error = one.error;
     alone = one.alone;
-    is = subst (IsFailure v call) (sym one.is) (fails v call Step first start none_in (λ m. is_nil (errors_of v m)) is 64 tree f made);
+    is = subst (IsFailure v call) (sym one.is) (fails v call Step first start none_in (λ m. is_nil (errors_of v m)) is limit tree f made);
     instance = one.instance;
   }
 
@@ -262,10 +262,10 @@ module _ (v : Sense) (call : Call) (root : Data) {S : Type 0} (Step : S → Reme
       (λ e inside. record { before = s; assumptions = as'; remembered = r; errors = result; after = end; reaches = at; runs = run; further = some; is_step = step; all_assumed = none; gives = inside })
       result.items (All-contains_itself result.items)
 
-  pub errors_given : (o : Outcomes (Vec ValidationError)) → AreOutcomes Step first start 64 end o → (es : Vec ValidationError) → AreErrors root o es.items → GivesErrors v call Step start root es.items
+  pub errors_given : (o : Outcomes (Vec ValidationError)) → AreOutcomes Step first start limit end o → (es : Vec ValidationError) → AreErrors root o es.items → GivesErrors v call limit Step start root es.items
   errors_given (Assumed results f) (tree, made, whole, same) es (o, shared, answer) = record {
     each = go o shared answer;
-    undecided = λ n. let m = are_few v call Step first start none_in (λ x. is_nil (errors_of v x)) is 64 tree f made whole in absurd (n (lists_of [] tree, m.cover, omega (arith, m.few)));
+    undecided = λ n. let m = are_few v call Step first start none_in (λ x. is_nil (errors_of v x)) is limit tree f made whole in absurd (n (lists_of [] tree, m.cover, m.few));
   }
     where
       lists : All (All (OfRun v call Step start)) (map (λ (r : Vec ValidationError). r.items) results.items)

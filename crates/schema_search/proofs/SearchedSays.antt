@@ -51,26 +51,26 @@ module _ (v : Sense) (call : Call) {S T V : Type 0} (Step : S → Remembered →
         split = subst (λ z. lists_of z tree ≡ whole.others ++ whole.last ∷ []) is.assumes_none whole.lists_are;
       }
 
-  pub not_decided : {end : S} (tree : Tree T) (f : Failure) → Made Step first start 64 end tree f → Cut Step first start 64 tree → ¬ (Decides v call)
-  not_decided {end} tree f made cut = undecided_past v call (ends tree) (call_part v call Step first start view says is tree end made.grows).part (omega (arith, cut.many))
+  pub not_decided : {end : S} (limit : ℕ) (tree : Tree T) (f : Failure) → Made Step first start limit end tree f → Cut Step first start limit tree → ¬ (Decides v limit call)
+  not_decided {end} limit tree f made cut = undecided_past v call limit (ends tree) (call_part v call Step first start view says is tree end made.grows).part cut.many
 
-module _ (v : Sense) (call : Call) (follows : Follows v) {S : Type 0} (Step : S → Remembered → Remembered → Bool → S → Type 0) (first : Remembered) (start end : S) (is : IsRunOf v call Step first start (λ (b : Bool). b) (verdict_of v)) where
+module _ (v : Sense) (call : Call) (follows : Follows v) {S : Type 0} (Step : S → Remembered → Remembered → Bool → S → Type 0) (first : Remembered) (start end : S) (limit : ℕ) (is : IsRunOf v call Step first start (λ (b : Bool). b) (verdict_of v)) where
   yes_is : (tree : Tree Bool) (results : List Bool) → results ≡ results_of tree → map (λ b. b) (results_of tree) ≡ map (verdict_of v) (lists_of [] tree) → list_all (λ b. b) results ≡ all_accept v (lists_of [] tree)
   yes_is tree results e same =
       ap (list_all (λ b. b)) (e ∙ sym (map_same (results_of tree)) ∙ same) ∙ all_map (λ b. b) (verdict_of v) (lists_of [] tree)
 
-  pub validity_says : (o : Outcomes Bool) → AreOutcomes Step first start 64 end o → VerdictSays v call (is_yes o)
+  pub validity_says : (o : Outcomes Bool) → AreOutcomes Step first start limit end o → VerdictSays v limit call (is_yes o)
   validity_says (Assumed results failure) (tree, made, whole, same) =
-      let m = are_few v call Step first start (λ b. b) (verdict_of v) is 64 tree failure made whole in
-      subst (VerdictSays v call) (sym (yes_is tree results.items same m.same)) (verdict_says v call follows (lists_of [] tree) m.cover (omega (arith, m.few)))
+      let m = are_few v call Step first start (λ b. b) (verdict_of v) is limit tree failure made whole in
+      subst (VerdictSays v limit call) (sym (yes_is tree results.items same m.same)) (verdict_says v call follows (lists_of [] tree) m.cover limit m.few)
   validity_says (Undecided failure) (tree, made, cut) =
-      (λ d. absurd (not_decided v call Step first start (λ b. b) (verdict_of v) is tree failure made cut d), λ n. refl)
+      (λ d. absurd (not_decided v call Step first start (λ b. b) (verdict_of v) is limit tree failure made cut d), λ n. refl)
 
-  pub validity_exactly : (o : Outcomes Bool) → AreOutcomes Step first start 64 end o → (is_yes o ≡ true) ↔ (Decides v call × EachAccepts v)
+  pub validity_exactly : (o : Outcomes Bool) → AreOutcomes Step first start limit end o → (is_yes o ≡ true) ↔ (Decides v limit call × EachAccepts v)
   validity_exactly (Assumed results failure) (tree, made, whole, same) =
-      let m = are_few v call Step first start (λ b. b) (verdict_of v) is 64 tree failure made whole in
-      let decides : Decides v call = (lists_of [] tree, m.cover, omega (arith, m.few)) in
+      let m = are_few v call Step first start (λ b. b) (verdict_of v) is limit tree failure made whole in
+      let decides : Decides v limit call = (lists_of [] tree, m.cover, m.few) in
       let says = (validity_says (Assumed results failure) (tree, made, whole, same)).0 decides in
       (λ e. (decides, says.0 e), λ h. says.1 h.1)
   validity_exactly (Undecided failure) (tree, made, cut) =
-      (λ e. absurd (false-true e), λ h. absurd (not_decided v call Step first start (λ b. b) (verdict_of v) is tree failure made cut h.0))
+      (λ e. absurd (false-true e), λ h. absurd (not_decided v call Step first start (λ b. b) (verdict_of v) is limit tree failure made cut h.0))

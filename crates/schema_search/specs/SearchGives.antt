@@ -1,5 +1,5 @@
 -- Which errors a search gives: each is one that a run gave, or the failure stands alone.
-use Rattle.std.specs.Prelude.{All, Contains, List, None, [], true, unwrap_or, ◌∷◌, ◌≡◌, ◌⊎◌}
+use Rattle.std.specs.Prelude.{All, Contains, List, None, [], true, unwrap_or, ℕ, ◌∷◌, ◌≡◌, ◌⊎◌}
 use Rattle.std.specs.Global.{Vec}
 use Rattle.serde_json.specs.Data.{Data}
 use Rattle.schema_definitions.specs.Cover.{Call, Decides, IsRun, Sense}
@@ -34,7 +34,7 @@ module _ (v : Sense) (call : Call) where
     pub is : IsFailure v call (error_of true error)
     pub instance : subject_of error.instance ≡ unwrap_or (subject_at root error.place) (a_value root)
 
-  -- each error is one of a run, or the failure stands alone; the latter where the call doesn't decide
-  pub record GivesErrors {S : Type 0} (Step : S → Remembered → Remembered → Vec ValidationError → S → Type 0) (start : S) (root : Data) (es : List ValidationError) : Type 0 where
+  -- each error is one of a run, or the failure stands alone; the latter where the call doesn't decide within so many runs
+  pub record GivesErrors (limit : ℕ) {S : Type 0} (Step : S → Remembered → Remembered → Vec ValidationError → S → Type 0) (start : S) (root : Data) (es : List ValidationError) : Type 0 where
     pub each : All (OfRun Step start) es ⊎ FailureAlone root es
-    pub undecided : ¬ (Decides v call) → FailureAlone root es
+    pub undecided : ¬ (Decides v limit call) → FailureAlone root es

@@ -7,9 +7,9 @@ ghost use Rattle.schema_parts.specs.ResolverViews.{place_of};
 ghost use Rattle.schema_check.specs.Checking.{AcceptsSchema, RefusesSchema};
 ghost use Rattle.schema_engine.specs.Checked.{PassesCheck};
 ghost use Rattle.schema_engine.specs.FirstCauses.{FirstOfBuild};
-ghost use Rattle.schema_engine.specs.Handed.{default_nested, handed};
+ghost use Rattle.schema_engine.specs.Handed.{handed};
 
-use crate::compiled::of_compiled;
+use crate::compiled::of_compiled_within;
 use crate::options::ValidationOptions;
 use crate::options::root::root_key;
 use crate::validator::Validator;
@@ -26,14 +26,12 @@ use schema_parts::table::KeywordTable;
 use serde_json::Value;
 use std::alloc::Global;
 
-/// How many targets of references are compiled one inside another, where no call says otherwise.
-pub(crate) const NESTED_LIMIT: usize = 8;
-
 impl ValidationOptions {
     /// Builds a validator of a schema. The resolver has to have the schema as the document under the root's base: that is
     /// what is compiled, and what the contract speaks of. Where no chain of references returns, the validator means the plain
     /// meaning of schema and parts, and has its units. Returns or none, each error that it gives points at a keyword of the
-    /// schema and at a value inside the instance. At most 8 targets of references are compiled one inside another. Unless the
+    /// schema and at a value inside the instance. As many targets of references are compiled one inside another as the options
+    /// say, and the validator's calls make as many runs at most as they say. Unless the
     /// options say otherwise, the meta validators check the schema before it is compiled.
     ///
     /// # Errors
@@ -62,7 +60,7 @@ impl ValidationOptions {
             self.now (view schema.now) v) }
         ensures program { IfOk result (λ v. IsCompiledFrom
             (handed S.Resolver T.KeywordTable K.Validate M.Matcher.own resolver.now table.now matcher.now)
-            self.now (view schema.now) default_nested v) }
+            self.now (view schema.now) self.now.nested v) }
         ensures built { IfOk result (λ _. SchemaBuilds
             (handed S.Resolver T.KeywordTable K.Validate M.Matcher.own resolver.now table.now matcher.now)
             self.now (view schema.now)) }
@@ -75,7 +73,15 @@ impl ValidationOptions {
             (handed S.Resolver T.KeywordTable K.Validate M.Matcher.own resolver.now table.now matcher.now)
             (V.checked metas.now) self.now (view schema.now) e) }
     {
-        self.build_nested(alloc, schema, table, resolver, matcher, metas, NESTED_LIMIT)
+        self.build_nested(
+            alloc,
+            schema,
+            table,
+            resolver,
+            matcher,
+            metas,
+            self.nested_limit,
+        )
     }
 
     /// Builds a validator of a schema as `build` does, but with at most `nested` targets of references compiled one inside
@@ -132,7 +138,16 @@ impl ValidationOptions {
         let nodes = compiled.nodes;
         drop(compiled.keys);
         drop(compiled.reservations);
-        let validator = of_compiled(table, resolver, matcher, nodes, SchemaNode(0), draft)?;
+        let runs = self.run_limit;
+        let validator = of_compiled_within(
+            table,
+            resolver,
+            matcher,
+            nodes,
+            SchemaNode(0),
+            draft,
+            runs,
+        )?;
         Ok(validator)
     }
 

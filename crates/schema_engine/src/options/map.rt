@@ -13,11 +13,10 @@ ghost use Rattle.schema_engine.specs.Mapped.{EachHasPlainUnits, EachIsCompiledFr
 ghost use Rattle.schema_engine.specs.Mapped.{HoldsCompiled, HoldsEach, MapIsBuilt, MapRefused, name_of};
 ghost use Rattle.schema_engine.specs.Roots.{IsRootKey, root_parts};
 
-use crate::compiled::of_compiled;
+use crate::compiled::of_compiled_within;
 use crate::map::ValidatorMap;
 use crate::map::schemas::schemas_in;
 use crate::options::ValidationOptions;
-use crate::options::build::NESTED_LIMIT;
 use crate::options::root::root_key;
 use crate::validator::Validator;
 use schema_check::check::validate_schema;
@@ -209,20 +208,21 @@ impl<'p, S: Resolver, T, M: Matcher> MapBuilding<'p, S, T, M> {
             self.resolver,
             self.table,
             &options.compiling,
-            NESTED_LIMIT,
+            options.nested_limit,
             key,
         )?;
         let draft = self.root.draft;
         let nodes = compiled.nodes;
         drop(compiled.keys);
         drop(compiled.reservations);
-        let validator = of_compiled(
+        let validator = of_compiled_within(
             self.table,
             self.resolver,
             self.matcher,
             nodes,
             SchemaNode(0),
             draft,
+            options.run_limit,
         )?;
         Ok(validator)
     }

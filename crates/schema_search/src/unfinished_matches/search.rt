@@ -10,7 +10,8 @@ use schema_matches::site::{MatchFailure, UnfinishedMatch};
 use schema_reports::location::OutOfMemory;
 use std::alloc::Global;
 
-/// How many runs a call makes at most, with the first one: at most 32 combinations of outcomes are told apart by then.
+/// How many runs a call makes at most, with the first one, where nobody says another number: at most 32 combinations of outcomes
+/// are told apart by then.
 pub const MAX_ASSUMED_RUNS: u32 = 64;
 
 /// What a search found: the results of its runs, or that there are more combinations of outcomes than it may try.
@@ -204,8 +205,8 @@ pub fn assume_within<
     Ok(Outcomes::Assumed { results, failure })
 }
 
-/// Runs once for each combination of outcomes of the unfinished matches, and returns the results, or `Undecided` after
-/// `MAX_ASSUMED_RUNS` runs, the first one among them, also where it fails. The first run has been made, and met such a match. Where
+/// Runs once for each combination of outcomes of the unfinished matches, and returns the results, or `Undecided` after so many runs
+/// as the limit says, the first one among them, also where it fails. The first run has been made, and met such a match. Where
 /// it finds outcomes, it used the run for these runs alone, and not once after the last of them. Fails if a run fails, or if memory
 /// cannot be allocated.
 pub fn assume_each_outcome<
@@ -216,14 +217,16 @@ pub fn assume_each_outcome<
     alloc: Global,
     run: &mut F,
     first: (MatchAssumptions<'i>, T),
+    run_limit: u32,
 ) -> Result<Outcomes<'i, T>, OutOfMemory>
     requires callable { F.IsAlwaysCallable run.old }
     requires met { IsSome first.0.unassumed }
+    requires limit { 1 ≤ run_limit }
     ensures outcomes { IfOk result
-        (AreOutcomes (λ s x m t end. F.step s x (Ok (m, t)) end) first.entry.0 run.old MAX_ASSUMED_RUNS run.new) }
-    ensures uses { UsesBelow MAX_ASSUMED_RUNS F.step run.old run.new }
+        (AreOutcomes (λ s x m t end. F.step s x (Ok (m, t)) end) first.entry.0 run.old run_limit run.new) }
+    ensures uses { UsesBelow run_limit F.step run.old run.new }
 {
     let (first, result) = first;
     drop(result);
-    assume_within(alloc, run, first, MAX_ASSUMED_RUNS)
+    assume_within(alloc, run, first, run_limit)
 }

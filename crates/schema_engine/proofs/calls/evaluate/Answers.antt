@@ -5,7 +5,7 @@ use Rattle.schema_keywords.specs.KeywordTable.{builtin_in}
 use Rattle.schema_meaning.specs.ErrorsLead.{EachKeepsAbsorbing}
 use Rattle.schema_meaning.proofs.TurnsGiveRuns.{keeps_of_turns}
 use Rattle.schema_engine.specs.Evaluated.{EvaluationAnswered, UnitsAnswered}
-use Rattle.schema_engine.specs.Handed.{default_options, table_of}
+use Rattle.schema_engine.specs.Handed.{default_options, default_runs, table_of}
 use Rattle.schema_engine.proofs.Pointing.{evaluation_points}
 use Rattle.schema_engine.proofs.PlainAnswers.{plainly_from, plainly_with_units}
 use Rattle.schema_engine.proofs.calls.evaluate.Goals as goal
@@ -17,7 +17,7 @@ returns-clause-answer g c =
     let m = g.M.Matcher.matching c.args.matcher.now in
     let k = g.K.Validate in
     plainly_from r table m k.words default_options (view c.args.schema.now) k.shape k.is_whole g.M.Matcher.matching c.in_ok-validator.validator (view c.args.instance.now)
-    (λ texts v. EvaluationAnswered v texts c.in_ok-answer.field-0) c.in_ok-validator.ensures.means c.in_ok-answer.ensures.senses
+    (λ texts v. EvaluationAnswered v default_runs texts c.in_ok-answer.field-0) c.in_ok-validator.ensures.means (rw c.in_ok-validator.ensures.program.runs_are at c.in_ok-answer.ensures.senses)
 
 pub returns-clause-plain_units : goal.returns-clause-plain_units
 returns-clause-plain_units g c =
@@ -30,7 +30,7 @@ returns-clause-plain_units g c =
     (λ texts v units. UnitsAnswered v texts units c.in_ok-answer.field-0) built.means built.units c.in_ok-answer.ensures.plain
 
 pub returns-clause-guarded : goal.returns-clause-guarded
-returns-clause-guarded g c = (c.in_ok-validator.validator, c.in_ok-validator.ensures.program, c.in_ok-answer.ensures.depth)
+returns-clause-guarded g c = (c.in_ok-validator.validator, c.in_ok-validator.ensures.program, rw c.in_ok-validator.ensures.program.runs_are at c.in_ok-answer.ensures.depth)
 
 pub returns-clause-units : goal.returns-clause-units
 returns-clause-units g c = (c.in_ok-validator.validator, c.in_ok-validator.ensures.program, c.in_ok-answer.ensures.units)

@@ -3,7 +3,7 @@ use Rattle.serde_json.specs.View.{view}
 use Rattle.schema_keywords.specs.KeywordTable.{builtin_in}
 use Rattle.schema_definitions.specs.Cover.{is_valid}
 use Rattle.schema_meaning.specs.Headline.{VerdictSays}
-use Rattle.schema_engine.specs.Handed.{default_options, table_of}
+use Rattle.schema_engine.specs.Handed.{default_options, default_runs, table_of}
 use Rattle.schema_engine.proofs.PlainAnswers.{plainly_from}
 use Rattle.schema_engine.proofs.calls.is_valid.Goals as goal
 
@@ -14,7 +14,7 @@ returns-clause-answer g c =
     let m = g.M.Matcher.matching c.args.matcher.now in
     let k = g.K.Validate in
     plainly_from r table m k.words default_options (view c.args.schema.now) k.shape k.is_whole g.M.Matcher.matching c.in_ok-built.built (view c.args.instance.now)
-    (λ texts v. VerdictSays v is_valid c.in_ok-is_valid.field-0) c.in_ok-built.ensures.means c.in_ok-is_valid.ensures.senses
+    (λ texts v. VerdictSays v default_runs is_valid c.in_ok-is_valid.field-0) c.in_ok-built.ensures.means (rw c.in_ok-built.ensures.program.runs_are at c.in_ok-is_valid.ensures.senses)
 
 pub returns-in_err-built-clause-refused : goal.returns-in_err-built-clause-refused
 returns-in_err-built-clause-refused g c =

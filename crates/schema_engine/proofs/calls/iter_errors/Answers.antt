@@ -2,7 +2,7 @@ use Rattle.std.proofs.lemmas.Result.{err_from_is_err_and}
 use Rattle.serde_json.specs.View.{view}
 use Rattle.schema_keywords.specs.KeywordTable.{builtin_in}
 use Rattle.schema_engine.specs.Spoken.{ErrorsAnswered}
-use Rattle.schema_engine.specs.Handed.{default_options, table_of}
+use Rattle.schema_engine.specs.Handed.{default_options, default_runs, table_of}
 use Rattle.schema_engine.proofs.Pointing.{each_points}
 use Rattle.schema_engine.proofs.PlainAnswers.{plainly_from}
 use Rattle.schema_engine.proofs.calls.iter_errors.Goals as goal
@@ -14,10 +14,10 @@ returns-clause-answer g c =
     let m = g.M.Matcher.matching c.args.matcher.now in
     let k = g.K.Validate in
     plainly_from r table m k.words default_options (view c.args.schema.now) k.shape k.is_whole g.M.Matcher.matching c.in_ok-validator.validator (view c.args.instance.now)
-    (λ texts v. ErrorsAnswered v texts c.in_ok-answer.field-0) c.in_ok-validator.ensures.means c.in_ok-answer.ensures.senses
+    (λ texts v. ErrorsAnswered v default_runs texts c.in_ok-answer.field-0) c.in_ok-validator.ensures.means (rw c.in_ok-validator.ensures.program.runs_are at c.in_ok-answer.ensures.senses)
 
 pub returns-clause-guarded : goal.returns-clause-guarded
-returns-clause-guarded g c = (c.in_ok-validator.validator, c.in_ok-validator.ensures.program, c.in_ok-answer.ensures.depth)
+returns-clause-guarded g c = (c.in_ok-validator.validator, c.in_ok-validator.ensures.program, rw c.in_ok-validator.ensures.program.runs_are at c.in_ok-answer.ensures.depth)
 
 pub returns-clause-leads : goal.returns-clause-leads
 returns-clause-leads g c =
@@ -29,7 +29,7 @@ returns-clause-leads g c =
       c.in_ok-validator.validator,
       built.program,
       each_points r table m k.words default_options (view c.args.schema.now) k.shape g.M.Matcher.matching c.in_ok-validator.validator k.is_whole built.means built.points
-          (view c.args.instance.now) c.in_ok-answer.field-0 c.in_ok-answer.ensures.points,
+          (view c.args.instance.now) c.in_ok-answer.field-0 (rw c.in_ok-validator.ensures.program.runs_are at c.in_ok-answer.ensures.points),
     )
 
 pub returns-in_err-validator-clause-refused : goal.returns-in_err-validator-clause-refused

@@ -1,4 +1,5 @@
-use Rattle.schema_meaning.specs.Deciding.{decides_or_not, none_where_accepted, undecided_past}
+use Rattle.schema_meaning.specs.Deciding.{decides_or_not, finished_decides, larger_decides, none_where_accepted, undecided_past}
+use Rattle.schema_meaning.proofs.PairsDecide.{pairs_decide}
 use Rattle.schema_meaning.proofs.Sentences.{one_cover, listed_none, first_is_head}
 use Rattle.schema_meaning.proofs.covers.calls_agree.Goals as goal
 
@@ -12,10 +13,19 @@ pub returns-clause-head : goal.returns-clause-head
 returns-clause-head c = λ v errors kept o k f. first_is_head v k f
 
 pub returns-clause-undecided : goal.returns-clause-undecided
-returns-clause-undecided c = λ v call n part many. undecided_past v call n part many
+returns-clause-undecided c = λ v call limit n part many. undecided_past v call limit n part many
 
 pub returns-clause-decided : goal.returns-clause-decided
-returns-clause-decided c = λ v call. decides_or_not v call
+returns-clause-decided c = λ v limit call. decides_or_not v limit call
 
 pub returns-clause-accepted : goal.returns-clause-accepted
-returns-clause-accepted c = λ v follows o says decides. none_where_accepted v follows o says decides
+returns-clause-accepted c = λ v follows limit o says decides. none_where_accepted v follows limit o says decides
+
+pub returns-clause-larger : goal.returns-clause-larger
+returns-clause-larger c = λ v limit larger call less decides. larger_decides v limit larger call less decides
+
+pub returns-clause-finished : goal.returns-clause-finished
+returns-clause-finished c = λ v limit call none some. finished_decides v limit call none some
+
+pub returns-clause-pairs : goal.returns-clause-pairs
+returns-clause-pairs c = λ v call pairs among limit enough. pairs_decide v call pairs among limit enough

@@ -23,13 +23,13 @@ use Rattle.schema_engine.proofs.RootKeys.{one_root_key, root_key_too, root_too}
 use Rattle.schema_engine.proofs.FirstCauses.{compiled_first, document_first}
 use Rattle.schema_engine.proofs.options.ValidationOptions.build_nested.Goals as goal
 
-pub of_compiled-requires : goal.of_compiled-requires
-of_compiled-requires g c =
+pub of_compiled_within-requires : goal.of_compiled_within-requires
+of_compiled_within-requires g c =
     let inside = c.self.inside in
     let done = c.in_ok-compiled.ensures.compiled (g.M.Matcher.matching c.args.matcher.now) (g.K.Validate.words true) (option_map draft_of inside.draft) (option_map string_bytes inside.base) in
     let same = done.lengths in
     let within = slice_get_within _ 0 _ done.first in
-    record { inside = omega arith }
+    record { inside = omega arith; limit = omega arith }
 
 pub returns-in_err-compiled-clause-refused : goal.returns-in_err-compiled-clause-refused
 returns-in_err-compiled-clause-refused g c =
@@ -123,6 +123,7 @@ returns-clause-program g c =
           (subst (λ ns. IsWhole (parts_of r table no_matcher no_keywords options) shape c.args.nested key ns 0) (sym made.0) compiled);
       drafted = c.in_ok-root.ensures.drafted ∙ ap Ok (sym made.2);
       matcher_is = c.in_ok-validator.ensures.matcher;
+      runs_are = c.in_ok-validator.ensures.runs ∙ ap (λ (o : Options). o.runs) c.self.view_is;
     }
 
 pub returns-clause-points : goal.returns-clause-points

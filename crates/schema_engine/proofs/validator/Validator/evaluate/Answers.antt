@@ -13,13 +13,13 @@ use Rattle.schema_engine.proofs.validator.Validator.evaluate.Goals as goal
 pub returns-clause-depth : goal.returns-clause-depth
 returns-clause-depth g c = λ texts speaks.
     let p = c.args.self.now in
-    subst (λ (u : EvaluationNode). FromSomeDepth (g.K.Validate.words texts) (g.M.Matcher.matching p.matcher) (numbered g.K.Validate.shape p.nodes) p.root (view c.args.instance.now) (λ (v : Sense). EvaluationAnswered v texts u)) (sym c.new.ensures.root) (c.in_ok-evaluated_under_each.ensures.depth texts speaks)
+    subst (λ (u : EvaluationNode). FromSomeDepth (g.K.Validate.words texts) (g.M.Matcher.matching p.matcher) (numbered g.K.Validate.shape p.nodes) p.root (view c.args.instance.now) (λ (v : Sense). EvaluationAnswered v p.runs texts u)) (sym c.new.ensures.root) (c.in_ok-evaluated_under_each.ensures.depth texts speaks)
 
 pub returns-clause-senses : goal.returns-clause-senses
 returns-clause-senses g c = λ texts speaks.
     let p = c.args.self.now in
-    of_every_sense (g.K.Validate.words texts) (g.M.Matcher.matching p.matcher) (numbered g.K.Validate.shape p.nodes) p.root (view c.args.instance.now) (λ (v : Sense). EvaluationAnswered v texts _)
-    (subst (λ (u : EvaluationNode). FromSomeDepth (g.K.Validate.words texts) (g.M.Matcher.matching p.matcher) (numbered g.K.Validate.shape p.nodes) p.root (view c.args.instance.now) (λ (v : Sense). EvaluationAnswered v texts u)) (sym c.new.ensures.root) (c.in_ok-evaluated_under_each.ensures.depth texts speaks))
+    of_every_sense (g.K.Validate.words texts) (g.M.Matcher.matching p.matcher) (numbered g.K.Validate.shape p.nodes) p.root (view c.args.instance.now) (λ (v : Sense). EvaluationAnswered v p.runs texts _)
+    (subst (λ (u : EvaluationNode). FromSomeDepth (g.K.Validate.words texts) (g.M.Matcher.matching p.matcher) (numbered g.K.Validate.shape p.nodes) p.root (view c.args.instance.now) (λ (v : Sense). EvaluationAnswered v p.runs texts u)) (sym c.new.ensures.root) (c.in_ok-evaluated_under_each.ensures.depth texts speaks))
 
 pub returns-clause-units : goal.returns-clause-units
 returns-clause-units g c =

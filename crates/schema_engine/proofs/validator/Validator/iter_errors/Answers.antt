@@ -16,13 +16,13 @@ use Rattle.schema_engine.proofs.validator.Validator.iter_errors.Goals as goal
 pub returns-clause-depth : goal.returns-clause-depth
 returns-clause-depth g c = λ texts speaks.
     let p = c.args.self.now in
-    subst (λ (es : List ValidationError). FromSomeDepth (g.K.Validate.words texts) (g.M.Matcher.matching p.matcher) (numbered g.K.Validate.shape p.nodes) p.root (view c.args.instance.now) (λ (v : Sense). ErrorsAnswered v texts es)) (sym c.new.ensures.errors) (c.in_ok-all_under_each.ensures.depth texts speaks)
+    subst (λ (es : List ValidationError). FromSomeDepth (g.K.Validate.words texts) (g.M.Matcher.matching p.matcher) (numbered g.K.Validate.shape p.nodes) p.root (view c.args.instance.now) (λ (v : Sense). ErrorsAnswered v p.runs texts es)) (sym c.new.ensures.errors) (c.in_ok-all_under_each.ensures.depth texts speaks)
 
 pub returns-clause-senses : goal.returns-clause-senses
 returns-clause-senses g c = λ texts speaks.
     let p = c.args.self.now in
-    of_every_sense (g.K.Validate.words texts) (g.M.Matcher.matching p.matcher) (numbered g.K.Validate.shape p.nodes) p.root (view c.args.instance.now) (λ (v : Sense). ErrorsAnswered v texts _)
-    (subst (λ (es : List ValidationError). FromSomeDepth (g.K.Validate.words texts) (g.M.Matcher.matching p.matcher) (numbered g.K.Validate.shape p.nodes) p.root (view c.args.instance.now) (λ (v : Sense). ErrorsAnswered v texts es)) (sym c.new.ensures.errors) (c.in_ok-all_under_each.ensures.depth texts speaks))
+    of_every_sense (g.K.Validate.words texts) (g.M.Matcher.matching p.matcher) (numbered g.K.Validate.shape p.nodes) p.root (view c.args.instance.now) (λ (v : Sense). ErrorsAnswered v p.runs texts _)
+    (subst (λ (es : List ValidationError). FromSomeDepth (g.K.Validate.words texts) (g.M.Matcher.matching p.matcher) (numbered g.K.Validate.shape p.nodes) p.root (view c.args.instance.now) (λ (v : Sense). ErrorsAnswered v p.runs texts es)) (sym c.new.ensures.errors) (c.in_ok-all_under_each.ensures.depth texts speaks))
 
 pub returns-clause-borrows : goal.returns-clause-borrows
 returns-clause-borrows g c = subst (λ (es : List ValidationError). All (BorrowsItsPlace (view c.args.instance.now)) es) (sym c.new.ensures.errors) c.in_ok-all_under_each.ensures.borrows
@@ -31,5 +31,5 @@ pub returns-clause-points : goal.returns-clause-points
 returns-clause-points g c = λ texts speaks.
     let p = c.args.self.now in
     let deep = c.in_ok-all_under_each.ensures.depth texts speaks in
-    subst (λ (es : List ValidationError). FromSomeDepth (g.K.Validate.words texts) (g.M.Matcher.matching p.matcher) (numbered g.K.Validate.shape p.nodes) p.root (view c.args.instance.now) (λ (v : Sense). EachIsGiven v texts es)) (sym c.new.ensures.errors)
-    (deep.0, λ n more. each_is_given (guarded_sense (g.K.Validate.words texts) (g.M.Matcher.matching p.matcher) (numbered g.K.Validate.shape p.nodes) (subject_in (view c.args.instance.now)) n p.root) texts c.in_ok-all_under_each.field-0.items (deep.1 n more))
+    subst (λ (es : List ValidationError). FromSomeDepth (g.K.Validate.words texts) (g.M.Matcher.matching p.matcher) (numbered g.K.Validate.shape p.nodes) p.root (view c.args.instance.now) (λ (v : Sense). EachIsGiven v p.runs texts es)) (sym c.new.ensures.errors)
+    (deep.0, λ n more. each_is_given (guarded_sense (g.K.Validate.words texts) (g.M.Matcher.matching p.matcher) (numbered g.K.Validate.shape p.nodes) (subject_in (view c.args.instance.now)) n p.root) p.runs texts c.in_ok-all_under_each.field-0.items (deep.1 n more))

@@ -28,7 +28,7 @@ returns-then-not-met_unassumed g c =
     record {
       depth = λ texts speaks.
           let each : EachKeeps (w.words texts) = λ m. (w.absorbed m, keeps_of_turns (w.words texts) m (w.absorbed m) (w.remaining m) (w.can_be texts m) (w.ends texts m) (w.fits texts m) (g.met.K.Validate.turn_laws texts m) (g.met.K.Validate.function_laws texts m)) in
-          (suc deep, λ n more. verdict_first (w.words texts) each (g.M.Matcher.matching p.matcher) nodes d p.root n c.in_ok-first.first.1 c.in_ok-first.first.0 (says texts speaks nothing_twice n (omega (arith, more))) (meets texts speaks nothing_twice n (omega (arith, more))) none);
+          (suc deep, λ n more. verdict_first (w.words texts) each (g.M.Matcher.matching p.matcher) nodes d p.root n p.runs c.self.invariant.1 c.in_ok-first.first.1 c.in_ok-first.first.0 (says texts speaks nothing_twice n (omega (arith, more))) (meets texts speaks nothing_twice n (omega (arith, more))) none);
     }
 
 pub returns : goal.returns
@@ -42,7 +42,7 @@ returns g c =
     let none : c.in_ok-first.first.0.assumptions ≡ [] = c.in_ok-first.ensures.assumes ∙ ap (λ (r : Remembered). r.assumptions) c.new.ensures.starts in
     record {
       depth = if_ok_mono c.validity_under_each.result _ _ (λ b each texts speaks. (suc deep, λ n more. each (texts, speaks, n, more)))
-          (if_ok_each {A = (texts : Bool) × (Speaks w.shape w.words w.is_whole g.M.Matcher.matching p d texts) × (n : ℕ) × (suc deep ≤ n)} c.validity_under_each.result (λ x b. VerdictSays (sense (w.words x.0) (λ m. (w.absorbed m, keeps_of_turns (w.words x.0) m (w.absorbed m) (w.remaining m) (w.can_be x.0 m) (w.ends x.0 m) (w.fits x.0 m) (g.met.K.Validate.turn_laws x.0 m) (g.met.K.Validate.function_laws x.0 m))) (g.M.Matcher.matching p.matcher) nodes d p.root x.2) is_valid b)
+          (if_ok_each {A = (texts : Bool) × (Speaks w.shape w.words w.is_whole g.M.Matcher.matching p d texts) × (n : ℕ) × (suc deep ≤ n)} c.validity_under_each.result (λ x b. VerdictSays (sense (w.words x.0) (λ m. (w.absorbed m, keeps_of_turns (w.words x.0) m (w.absorbed m) (w.remaining m) (w.can_be x.0 m) (w.ends x.0 m) (w.fits x.0 m) (g.met.K.Validate.turn_laws x.0 m) (g.met.K.Validate.function_laws x.0 m))) (g.M.Matcher.matching p.matcher) nodes d p.root x.2) p.runs is_valid b)
           (λ x.
           let each : EachKeeps (w.words x.0) = λ m. (w.absorbed m, keeps_of_turns (w.words x.0) m (w.absorbed m) (w.remaining m) (w.can_be x.0 m) (w.ends x.0 m) (w.fits x.0 m) (g.met.K.Validate.turn_laws x.0 m) (g.met.K.Validate.function_laws x.0 m)) in
           let enough : deep < x.2 = omega (arith, x.3) in

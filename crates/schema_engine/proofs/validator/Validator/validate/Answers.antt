@@ -16,13 +16,13 @@ use Rattle.schema_engine.proofs.validator.Validator.validate.Goals as goal
 pub returns-clause-depth : goal.returns-clause-depth
 returns-clause-depth g c = λ texts speaks.
     let p = c.args.self.now in
-    subst (λ (o : Option ValidationError). FromSomeDepth (g.K.Validate.words texts) (g.M.Matcher.matching p.matcher) (numbered g.K.Validate.shape p.nodes) p.root (view c.args.instance.now) (λ (v : Sense). FirstAnswered v texts o)) (sym c.unless_refused.ensures.refusal) (c.in_ok-first_under_each.ensures.depth texts speaks)
+    subst (λ (o : Option ValidationError). FromSomeDepth (g.K.Validate.words texts) (g.M.Matcher.matching p.matcher) (numbered g.K.Validate.shape p.nodes) p.root (view c.args.instance.now) (λ (v : Sense). FirstAnswered v p.runs texts o)) (sym c.unless_refused.ensures.refusal) (c.in_ok-first_under_each.ensures.depth texts speaks)
 
 pub returns-clause-senses : goal.returns-clause-senses
 returns-clause-senses g c = λ texts speaks.
     let p = c.args.self.now in
-    of_every_sense (g.K.Validate.words texts) (g.M.Matcher.matching p.matcher) (numbered g.K.Validate.shape p.nodes) p.root (view c.args.instance.now) (λ (v : Sense). FirstAnswered v texts _)
-    (subst (λ (o : Option ValidationError). FromSomeDepth (g.K.Validate.words texts) (g.M.Matcher.matching p.matcher) (numbered g.K.Validate.shape p.nodes) p.root (view c.args.instance.now) (λ (v : Sense). FirstAnswered v texts o)) (sym c.unless_refused.ensures.refusal) (c.in_ok-first_under_each.ensures.depth texts speaks))
+    of_every_sense (g.K.Validate.words texts) (g.M.Matcher.matching p.matcher) (numbered g.K.Validate.shape p.nodes) p.root (view c.args.instance.now) (λ (v : Sense). FirstAnswered v p.runs texts _)
+    (subst (λ (o : Option ValidationError). FromSomeDepth (g.K.Validate.words texts) (g.M.Matcher.matching p.matcher) (numbered g.K.Validate.shape p.nodes) p.root (view c.args.instance.now) (λ (v : Sense). FirstAnswered v p.runs texts o)) (sym c.unless_refused.ensures.refusal) (c.in_ok-first_under_each.ensures.depth texts speaks))
 
 pub returns-clause-borrows : goal.returns-clause-borrows
 returns-clause-borrows g c = subst (λ (o : Option ValidationError). IfSome o (BorrowsItsPlace (view c.args.instance.now))) (sym c.unless_refused.ensures.refusal) c.in_ok-first_under_each.ensures.borrows
@@ -31,5 +31,5 @@ pub returns-clause-points : goal.returns-clause-points
 returns-clause-points g c = λ texts speaks.
     let p = c.args.self.now in
     let deep = c.in_ok-first_under_each.ensures.depth texts speaks in
-    subst (λ (o : Option ValidationError). FromSomeDepth (g.K.Validate.words texts) (g.M.Matcher.matching p.matcher) (numbered g.K.Validate.shape p.nodes) p.root (view c.args.instance.now) (λ (v : Sense). FirstIsGiven v texts o)) (sym c.unless_refused.ensures.refusal)
-    (deep.0, λ n more. first_is_given (guarded_sense (g.K.Validate.words texts) (g.M.Matcher.matching p.matcher) (numbered g.K.Validate.shape p.nodes) (subject_in (view c.args.instance.now)) n p.root) texts c.in_ok-first_under_each.field-0 (deep.1 n more))
+    subst (λ (o : Option ValidationError). FromSomeDepth (g.K.Validate.words texts) (g.M.Matcher.matching p.matcher) (numbered g.K.Validate.shape p.nodes) p.root (view c.args.instance.now) (λ (v : Sense). FirstIsGiven v p.runs texts o)) (sym c.unless_refused.ensures.refusal)
+    (deep.0, λ n more. first_is_given (guarded_sense (g.K.Validate.words texts) (g.M.Matcher.matching p.matcher) (numbered g.K.Validate.shape p.nodes) (subject_in (view c.args.instance.now)) n p.root) p.runs texts c.in_ok-first_under_each.field-0 (deep.1 n more))

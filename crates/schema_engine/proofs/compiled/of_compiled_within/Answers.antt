@@ -9,11 +9,11 @@ use Rattle.schema_meaning.specs.Fractions.{AreWhole}
 use Rattle.schema_engine.specs.Program.{HaveUnits, Program, Means}
 use Rattle.schema_engine.specs.Handed.{table_of, parts_of}
 use Rattle.schema_engine.proofs.Built.{whole_from, means_from, units_from}
-use Rattle.schema_engine.proofs.compiled.of_compiled.Goals as goal
+use Rattle.schema_engine.proofs.compiled.of_compiled_within.Goals as goal
 
 pub returns-clause-made : goal.returns-clause-made
 returns-clause-made g c =
-    let made = c.of_nodes.ensures.made in
+    let made = c.of_nodes_within.ensures.made in
     (ap (λ (p : Program g.row.K.Denot g.row.M.Denot). p.nodes) made, ap (λ (p : Program g.row.K.Denot g.row.M.Denot). p.root) made, ap (λ (p : Program g.row.K.Denot g.row.M.Denot). p.draft) made)
 
 pub returns-clause-means : goal.returns-clause-means
@@ -32,7 +32,7 @@ returns-clause-means g c = λ options root compiled instance texts speaks.
     let whole = whole_from r table options matcher keywords k.absorbed k.is_whole inside same scripts each k.shape nodes number root compiled instance speaks in
     let meant = means_from r table options matcher keywords k.absorbed k.is_whole inside same scripts each k.shape nodes number root compiled instance in
     let equal = g.met.M.Matcher.cloned c.args.matcher.now c.in_ok-matcher.matcher c.in_ok-matcher.ensures.cases in
-    let made = c.of_nodes.ensures.made in
+    let made = c.of_nodes_within.ensures.made in
     let told = g.met.K.Validate.speaks texts in
     let w = parts_of r table matcher keywords options in (
       λ t. ((speaks (told ∙ t)).0, subst (λ (p : Program g.row.K.Denot g.row.M.Denot). AreWhole k.is_whole (numbered k.shape p.nodes) (length p.nodes)) (sym made) (whole (told ∙ t))),
@@ -56,8 +56,8 @@ returns-clause-units g c = λ options root compiled instance texts speaks.
     let had = units_from r table options matcher keywords k.absorbed k.is_whole inside same scripts each k.shape nodes number root compiled instance in
     let equal = g.met.M.Matcher.cloned c.args.matcher.now c.in_ok-matcher.matcher c.in_ok-matcher.ensures.cases in
     let w = parts_of r table matcher keywords options in
-    subst (λ (p : Program g.row.K.Denot g.row.M.Denot). PlainlyWithUnits w root instance (λ v units. HaveUnits k.shape k.words k.is_whole g.M.Matcher.matching p instance texts units)) (sym c.of_nodes.ensures.made)
+    subst (λ (p : Program g.row.K.Denot g.row.M.Denot). PlainlyWithUnits w root instance (λ v units. HaveUnits k.shape k.words k.is_whole g.M.Matcher.matching p instance texts units)) (sym c.of_nodes_within.ensures.made)
     (subst (λ m. PlainlyWithUnits w root instance (λ v units. means.HaveUnits keywords m (numbered k.shape nodes) number instance units)) (sym equal) had)
 
 pub returns-clause-matcher : goal.returns-clause-matcher
-returns-clause-matcher g c = ap (λ (p : Program g.row.K.Denot g.row.M.Denot). g.M.Matcher.matching p.matcher) c.of_nodes.ensures.made ∙ g.met.M.Matcher.cloned c.args.matcher.now c.in_ok-matcher.matcher c.in_ok-matcher.ensures.cases
+returns-clause-matcher g c = ap (λ (p : Program g.row.K.Denot g.row.M.Denot). g.M.Matcher.matching p.matcher) c.of_nodes_within.ensures.made ∙ g.met.M.Matcher.cloned c.args.matcher.now c.in_ok-matcher.matcher c.in_ok-matcher.ensures.cases
