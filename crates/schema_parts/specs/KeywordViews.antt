@@ -1,5 +1,5 @@
 -- What passes between the engine and a keyword, as the definitions have it.
-use Rattle.std.specs.Prelude.{◌≡◌, List, [], ◌∷◌, Bool, true, false, Option, Some, None, string_bytes, map, option_map}
+use Rattle.std.specs.Prelude.{◌≡◌, List, [], ◌∷◌, ◌++◌, Bool, true, false, Option, Some, None, string_bytes, map, option_map}
 use Rattle.schema_definitions.specs.Instance.{Subject, Text, to_member, to_item, to_name}
 use Rattle.schema_reports.specs.InstanceTexts.{subject_has_float}
 use Rattle.schema_reports.specs.InstanceViews.{step_of}
@@ -7,6 +7,7 @@ use Rattle.schema_reports.specs.ReportViews.{spoken, error_of}
 use Rattle.schema_reports.specs.UnitViews.{unit_of}
 use Rattle.schema_reports.specs.EvaluationResults.{gives_with}
 use Rattle.schema_definitions.specs.Keywords as spec
+use Rattle.schema_definitions.specs.Laws.{steps_below}
 use Rattle.schema_parts.specs.declared.keyword.Mode.{Mode}
 use Rattle.schema_parts.specs.declared.keyword.Mode.TheVariants as mode
 use Rattle.schema_parts.specs.declared.keyword.Below.{Below}
@@ -45,6 +46,10 @@ marked_of (marked.Reservation n) = spec.a_reservation n
 abbrev pub spot_of : Spot → spec.Spot
 spot_of s = record { absorbed = option_map string_bytes s.absorbed; path = string_bytes s.path; below = map step_of s.below.items }
 
+-- there, or one step below
+abbrev pub spot_below : spec.Spot → spec.Below → spec.Spot
+spot_below s b = record s { below = s.below ++ steps_below b }
+
 -- where a match of this pattern is asked for
 abbrev pub point_of : Text → MatchPoint → spec.MatchPoint
 point_of pattern (point.AtKeyword located) = record {
@@ -52,8 +57,8 @@ point_of pattern (point.AtKeyword located) = record {
   located = located;
   pattern = Some pattern;
 }
-point_of pattern (point.AtSpot located spot) = record {
-  spot = spot_of spot.now;
+point_of pattern (point.AtSpot located spot below) = record {
+  spot = spot_below (spot_of spot.now) (below_of below);
   located = located;
   pattern = option_map string_bytes spot.now.pattern;
 }

@@ -1,5 +1,5 @@
 //! The keyword type, which puts questions to the engine by turns.
-ghost use Rattle.std.specs.Prelude.{◌≡◌, ℕ, All, Bool, List, IfOk, IfSome};
+ghost use Rattle.std.specs.Prelude.{◌≡◌, ℕ, All, Bool, List, IfOk, IfSome, true};
 ghost use Rattle.serde_json.specs.Data.{Data};
 ghost use Rattle.schema_definitions.specs.Instance.{Text, Subject};
 ghost use Rattle.schema_reports.specs.InstanceViews.{subject_of};
@@ -8,6 +8,8 @@ ghost use Rattle.schema_definitions.specs.Turns.{Standing, TurnLaws, FunctionLaw
 ghost use Rattle.schema_reports.specs.ReportViews.{BorrowsItsPlace};
 ghost use Rattle.schema_reports.specs.EvaluationResults.{gives_with};
 ghost use Rattle.schema_definitions.specs.Remembering.{EachAsksVerdicts};
+ghost use Rattle.schema_meaning.specs.Greatest.{IsMonotone};
+ghost use Rattle.schema_meaning.specs.UnitsLead.{EachHandsUnitsOn};
 ghost use Rattle.schema_parts.specs.AtOnce.{EndsAtOnce};
 ghost use Rattle.schema_parts.specs.FaultViews.{errors_in, faults_in, PassesBorrowed};
 ghost use Rattle.schema_parts.specs.KeywordViews.{mode_of, reply_of, answer_of, fresh, turn_of, Tells};
@@ -56,12 +58,13 @@ pub struct Spot<'s> {
     pub pattern: Option<String>,
 }
 
-/// Where a match is asked for: at the keyword itself, for a pattern that is the schema's own, or at a spot. The truth value
-/// says that evaluation path and place are shown. A point is two words long, so that a step is short.
+/// Where a match is asked for: at the keyword itself, for a pattern that is the schema's own, or at a spot of the keyword's and
+/// there or one step below, by a name of the keyword's or of the instance's. The truth value says that evaluation path and place
+/// are shown.
 #[derive(Clone, Copy)]
 pub enum MatchPoint<'s> {
     AtKeyword(bool),
-    AtSpot(bool, &'s Spot<'s>),
+    AtSpot(bool, &'s Spot<'s>, Below<'s>),
 }
 
 /// What a turn asks for. A child is named by the number of the request that the keyword's maker made.
@@ -159,6 +162,9 @@ pub trait Validate: Drop {
     // whether no text of it holds a fraction of the schema
     ghost is_whole: { Self.Shape → Bool };
 
+    // whether it says of itself that it is monotone
+    ghost says_monotone: { Self.Shape → Bool };
+
     ghost remaining: { Self.Shape → Subject → (Self.Run × spec.Answer) → ℕ };
 
     // which states a run on an instance can be in, with the answer so far, whatever was replied
@@ -201,6 +207,11 @@ pub trait Validate: Drop {
         None
     }
 
+    /// Returns whether the keyword says of itself that it is monotone: a yes more among the verdicts of its questions never turns
+    /// its own from yes to no. `false` says nothing, and is always right. It allocates nothing.
+    fn monotone(&self) -> bool
+        ensures says { result ≡ says_monotone (shape self.now) };
+
     ghost speaks: { (texts : Bool) → (words texts).texts ≡ texts };
 
     ghost answers: { (texts : Bool) (run : Self.Run) (a : spec.Answer) → (words texts).answer (run, a) ≡ a };
@@ -209,6 +220,10 @@ pub trait Validate: Drop {
         → TurnLaws (words texts) m (absorbed m) (remaining m) (can_be texts m) (ends texts m) (fits texts m) };
 
     ghost function_laws: { (texts : Bool) (m : Self.Shape) → FunctionLaws (words texts) m (absorbed m) };
+    // a keyword that says that it is monotone is
+    ghost grows: { (texts : Bool) (m : Self.Shape) → says_monotone m ≡ true → IsMonotone (words texts) m };
+    // the units inside its own, and inside those of the keywords that it absorbs, are what its questions answer
+    ghost hands_units_on: { (texts : Bool) → EachHandsUnitsOn (words texts) absorbed };
     // units are asked for by evaluations alone
     ghost asks_no_units: { (texts : Bool) → AsksNoUnits (words texts) };
     // a run for the verdict asks for verdicts, whatever is replied
