@@ -35,6 +35,8 @@ enum Shape {
     Table,
     /// A whole number from 0.
     Count,
+    /// A whole number from 1, of at most 32 bits.
+    Runs,
     /// The number of a draft.
     Draft,
     Truth,
@@ -44,7 +46,7 @@ enum Shape {
 }
 
 /// The members that a row may have.
-const SHAPES: [(&str, Shape); 18] = [
+const SHAPES: [(&str, Shape); 20] = [
     ("name", Shape::Text),
     ("call", Shape::Call),
     ("schema", Shape::Any),
@@ -55,6 +57,8 @@ const SHAPES: [(&str, Shape); 18] = [
     ("base", Shape::Text),
     ("limit", Shape::Count),
     ("nested", Shape::Count),
+    ("nested_limit", Shape::Count),
+    ("run_limit", Shape::Runs),
     ("check", Shape::Truth),
     ("formats", Shape::Truth),
     ("declares", Shape::Texts),
@@ -110,6 +114,14 @@ fn is_draft(value: &Value) -> bool {
     matches!(value.as_u64(), Some(4 | 6 | 7 | 2019 | 2020))
 }
 
+// Whether a value says how many runs a call may make.
+fn is_run_limit(value: &Value) -> bool {
+    match value.as_u64() {
+        Some(number) => number >= 1 && u32::try_from(number).is_ok(),
+        None => false,
+    }
+}
+
 // Whether a value is the name of a call.
 fn is_call(value: &Value) -> bool {
     match value.as_str() {
@@ -134,6 +146,7 @@ fn has_shape(value: &Value, shape: Shape) -> bool {
         Shape::Call => is_call(value),
         Shape::Table => is_table(value),
         Shape::Count => value.is_u64(),
+        Shape::Runs => is_run_limit(value),
         Shape::Draft => is_draft(value),
         Shape::Truth => value.is_boolean(),
         Shape::Texts => is_texts(value),

@@ -1,5 +1,5 @@
 //! The members of a case.
-ghost use Rattle.std.specs.Prelude.{◌≡◌, IfNone, IfSome, None, Some, codes, option_map, unwrap_or};
+ghost use Rattle.std.specs.Prelude.{◌≡◌, ◌≤◌, IfNone, IfSome, None, Some, codes, option_map, unwrap_or};
 ghost use Rattle.serde_json.specs.Find.{get};
 ghost use Rattle.serde_json.specs.View.{view};
 ghost use Rattle.engine_cases.specs.Calls.{call_in};
@@ -75,6 +75,18 @@ impl<'c> Case<'c> {
     pub(crate) fn count(&self, name: &str) -> Option<usize> {
         let number = self.members.get(name).and_then(Value::as_u64)?;
         usize::try_from(number).ok()
+    }
+
+    // The number of runs that the member of this name is: a whole number from 1.
+    pub(crate) fn runs(&self, name: &str) -> Option<u32>
+        ensures some { IfSome result (λ n. 1 ≤ n) }
+    {
+        let number = self.members.get(name).and_then(Value::as_u64)?;
+        let runs = u32::try_from(number).ok()?;
+        if runs == 0 {
+            return None;
+        }
+        Some(runs)
     }
 
     // The draft whose number the member of this name is.

@@ -10,8 +10,8 @@ use schema_engine::options::ValidationOptions;
 use serde_json::Value;
 use std::alloc::Global;
 
-/// The options, the resolver and the matcher, and how many targets of references are compiled one inside another, where the case
-/// says so.
+/// The options, the resolver and the matcher, and how many targets of references `build_nested` is to compile one inside another,
+/// where the case says so.
 #[derive(Drop)]
 pub(crate) struct Setting<'c> {
     pub options: ValidationOptions,
@@ -52,6 +52,12 @@ fn plain_options_of(alloc: Global, case: &Case<'_>) -> ValidationOptions {
     }
     if let Some(limit) = case.count("limit") {
         options = options.with_node_limit(limit);
+    }
+    if let Some(limit) = case.count("nested_limit") {
+        options = options.with_nested_limit(limit);
+    }
+    if let Some(limit) = case.runs("run_limit") {
+        options = options.with_run_limit(limit);
     }
     if let Some(checked) = case.truth("check") {
         options = options.should_validate_schema(checked);
