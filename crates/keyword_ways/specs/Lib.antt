@@ -17,3 +17,4 @@ pub mod OwnWays
 pub mod WayUnits
 pub mod WayVerdicts
 pub mod Plans
+pub mod WayGrows

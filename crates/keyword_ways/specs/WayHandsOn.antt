@@ -8,6 +8,7 @@ use Rattle.schema_definitions.specs.Keywords.{Named, Question}
 use Rattle.schema_definitions.specs.Reports.{Unit_, report_of}
 use Rattle.schema_meaning.specs.UnitsLead.{EachHandsUnitsOn, IsHandedOn}
 use Rattle.schema_parts.specs.KeywordViews.{option_list}
+use Rattle.keyword_ways.specs.OwnWays.{own_absorbed, own_words, spoken_ways}
 use Rattle.keyword_ways.specs.Somes.{somes}
 use Rattle.keyword_ways.specs.Ways.{Way, asks_match, branch, branches, given, judges, passes_on, passes_some, questions, tells, way_units}
 use Rattle.keyword_ways.specs.WayWords.{nothing_absorbed, words_of}
@@ -52,3 +53,7 @@ ways_hand_units_on way texts m s matching u = record {
   own = hands_on u (way texts m s) matching;
   absorbed = All-same (ByAbsorbed u (way texts m s)) (way_units (way texts m s) matching u).absorbed [] (absorbs_none u (way texts m s) matching) (All-nil (ByAbsorbed u (way texts m s)));
 }
+
+-- and so do an author's own
+pub own_hand_units_on : {M : Type 0} (way : M → Subject → Way) (texts : Bool) → EachHandsUnitsOn (own_words way texts) (own_absorbed way)
+own_hand_units_on way = ways_hand_units_on (spoken_ways way)

@@ -104,6 +104,8 @@ pub struct Leaf<L: LeafKeyword> {
 }
 
 impl<L: LeafKeyword> Validate for Leaf<L> {
+    ghost use Rattle.keyword_ways.specs.WayGrows.{leaves_grow, own_grow};
+    ghost use Rattle.keyword_ways.specs.WayHandsOn.{own_hand_units_on};
     ghost use Rattle.keyword_ways.specs.WayUnits.{own_ask_no_units};
     ghost use Rattle.keyword_ways.specs.WayVerdicts.{own_ask_verdicts};
     ghost use Rattle.std.specs.Prelude.{refl};
@@ -121,6 +123,8 @@ impl<L: LeafKeyword> Validate for Leaf<L> {
     ghost absorbed = { own_absorbed (leaf_ways L.called L.accepts L.error_text) };
 
     ghost is_whole = { λ _. true };
+
+    ghost says_monotone = { λ _. true };
 
     ghost remaining = { own_remaining (leaf_ways L.called L.accepts L.error_text) };
 
@@ -155,6 +159,10 @@ impl<L: LeafKeyword> Validate for Leaf<L> {
         Some(self.leaf.holds(instance))
     }
 
+    fn monotone(&self) -> bool {
+        true
+    }
+
     ghost speaks = { λ texts. refl };
 
     ghost answers = { λ texts run a. refl };
@@ -163,6 +171,10 @@ impl<L: LeafKeyword> Validate for Leaf<L> {
 
     ghost function_laws = { own_function_laws (leaf_ways L.called L.accepts L.error_text)
         (leaf_present L.called L.accepts L.error_text) };
+
+    ghost grows = { own_grow (leaf_ways L.called L.accepts L.error_text) (λ _. true) (leaves_grow L.called L.accepts L.error_text) };
+
+    ghost hands_units_on = { own_hand_units_on (leaf_ways L.called L.accepts L.error_text) };
 
     ghost asks_no_units = { own_ask_no_units (leaf_ways L.called L.accepts L.error_text) };
 

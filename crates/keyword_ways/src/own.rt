@@ -8,6 +8,7 @@ ghost use Rattle.schema_reports.specs.ReportViews.{BorrowsItsPlace};
 ghost use Rattle.schema_parts.specs.FaultViews.{errors_in, faults_in, PassesBorrowed};
 ghost use Rattle.schema_parts.specs.KeywordViews.{answer_of, reply_of, turn_of, Tells};
 ghost use Rattle.keyword_ways.specs.OwnWays.{spoken_way, AlwaysPresent};
+ghost use Rattle.keyword_ways.specs.WayGrows.{EachGrows};
 ghost use Rattle.keyword_ways.specs.Ways.{Way, way_step, way_turn};
 
 use crate::run::Progress;
@@ -32,6 +33,12 @@ pub trait OwnKeyword: Drop {
     // each question is asked at a place that is there
     ghost present: { AlwaysPresent way };
 
+    // whether it says of itself that it is monotone
+    ghost says_monotone: { Self.Shape → Bool };
+
+    // where it does, its way of going about an instance is (`way_grows` of specs/WayGrows tells which ways are)
+    ghost grows: { EachGrows way says_monotone };
+
     /// Takes a turn: by `turn_leaf`, `turn_judge`, `next_number`, `branch_on` or `match_on`, as its way is.
     fn turn<'s, 'i: 's>(
         &'s self,
@@ -49,6 +56,11 @@ pub trait OwnKeyword: Drop {
             (reply_of texts reply.entry) ≡ turn_of step) }
         ensures borrows { IfOk result (λ _. (root : Data) → All (BorrowsItsPlace root) (errors_in reply.entry)
             → All (PassesBorrowed root) (faults_in answer.old) → All (PassesBorrowed root) (faults_in answer.new)) };
+
+    /// Whether the keyword says of itself that it is monotone: a yes more among the answers never turns its own from yes to no.
+    /// `false` says nothing, and is always right.
+    fn monotone(&self) -> bool
+        ensures says { result ≡ says_monotone (shape self.now) };
 }
 
 /// An author's keyword, as the engine takes it.
@@ -58,6 +70,8 @@ pub struct Keyword<K: OwnKeyword> {
 }
 
 impl<K: OwnKeyword> Validate for Keyword<K> {
+    ghost use Rattle.keyword_ways.specs.WayGrows.{own_grow};
+    ghost use Rattle.keyword_ways.specs.WayHandsOn.{own_hand_units_on};
     ghost use Rattle.keyword_ways.specs.WayUnits.{own_ask_no_units};
     ghost use Rattle.keyword_ways.specs.WayVerdicts.{own_ask_verdicts};
     ghost use Rattle.std.specs.Prelude.{refl};
@@ -75,6 +89,8 @@ impl<K: OwnKeyword> Validate for Keyword<K> {
     ghost absorbed = { own_absorbed K.way };
 
     ghost is_whole = { λ m. K.is_whole m };
+
+    ghost says_monotone = { λ m. K.says_monotone m };
 
     ghost remaining = { own_remaining K.way };
 
@@ -104,6 +120,10 @@ impl<K: OwnKeyword> Validate for Keyword<K> {
         self.own.turn(alloc, run, instance, reply, answer)
     }
 
+    fn monotone(&self) -> bool {
+        self.own.monotone()
+    }
+
     ghost speaks = { λ texts. refl };
 
     ghost answers = { λ texts run a. refl };
@@ -111,6 +131,10 @@ impl<K: OwnKeyword> Validate for Keyword<K> {
     ghost turn_laws = { own_turn_laws K.way };
 
     ghost function_laws = { own_function_laws K.way K.present };
+
+    ghost grows = { own_grow K.way K.says_monotone K.grows };
+
+    ghost hands_units_on = { own_hand_units_on K.way };
 
     ghost asks_no_units = { own_ask_no_units K.way };
 

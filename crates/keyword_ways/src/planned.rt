@@ -224,6 +224,8 @@ fn turn_judging<'s, 'i, P: PlannedKeyword>(
 }
 
 impl<P: PlannedKeyword> Validate for Planned<P> {
+    ghost use Rattle.keyword_ways.specs.WayGrows.{own_grow, plans_grow};
+    ghost use Rattle.keyword_ways.specs.WayHandsOn.{own_hand_units_on};
     ghost use Rattle.keyword_ways.specs.WayUnits.{own_ask_no_units};
     ghost use Rattle.keyword_ways.specs.WayVerdicts.{own_ask_verdicts};
     ghost use Rattle.keyword_ways.specs.OwnWays.{own_absorbed, own_ends, own_fits, own_remaining, own_words};
@@ -241,6 +243,8 @@ impl<P: PlannedKeyword> Validate for Planned<P> {
     ghost absorbed = { own_absorbed (plan_ways P.planned P.named P.told) };
 
     ghost is_whole = { P.is_whole };
+
+    ghost says_monotone = { λ _. true };
 
     ghost remaining = { own_remaining (plan_ways P.planned P.named P.told) };
 
@@ -300,6 +304,10 @@ impl<P: PlannedKeyword> Validate for Planned<P> {
         }
     }
 
+    fn monotone(&self) -> bool {
+        true
+    }
+
     ghost speaks = { λ texts. refl };
 
     ghost answers = { λ texts run a. refl };
@@ -307,6 +315,10 @@ impl<P: PlannedKeyword> Validate for Planned<P> {
     ghost turn_laws = { own_turn_laws (plan_ways P.planned P.named P.told) };
 
     ghost function_laws = { own_function_laws (plan_ways P.planned P.named P.told) (plans_present P.planned P.named P.told) };
+
+    ghost grows = { own_grow (plan_ways P.planned P.named P.told) (λ _. true) (plans_grow P.planned P.named P.told) };
+
+    ghost hands_units_on = { own_hand_units_on (plan_ways P.planned P.named P.told) };
 
     ghost asks_no_units = { own_ask_no_units (plan_ways P.planned P.named P.told) };
 
