@@ -1,0 +1,5 @@
+pub mod Sides
+pub mod BothWords
+pub mod BothLaws
+pub mod BothModes
+pub mod Clones
