@@ -1,0 +1,2 @@
+pub mod NodesSay
+pub mod NumbersSay
