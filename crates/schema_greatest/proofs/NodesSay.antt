@@ -102,10 +102,10 @@ module _ {K R : Type 0} (keywords : Keywords K R) (reads : Reads keywords) (matc
   -- ---- a set of pairs of which each rests on others of the set
 
   -- the pair holds where some edges are answered yes, each of which leads to a pair of the set
-  record Rests (A : ℕ → Place → Type 0) (i : ℕ) (p : Place) : Type 0 where
-    answers : NodeEdge → Below → Bool
-    each : (e : NodeEdge) (b : Below) → NodeAsks instance nodes i p e b → answers e b ≡ true → A e.node (place_below p b)
-    holds : node_holds keywords matcher nodes (subject_in instance) c i p answers ≡ true
+  pub record Rests (A : ℕ → Place → Type 0) (i : ℕ) (p : Place) : Type 0 where
+    pub answers : NodeEdge → Below → Bool
+    pub each : (e : NodeEdge) (b : Below) → NodeAsks instance nodes i p e b → answers e b ≡ true → A e.node (place_below p b)
+    pub holds : node_holds keywords matcher nodes (subject_in instance) c i p answers ≡ true
 
   across_true : (g t : Bool) (x y : Outcome) → x.verdict ≡ true → y.verdict ≡ true
       → (let o : Outcome = elim g [ false ↦ x | true ↦ elim t [ true ↦ accepted | false ↦ y ] ] in o.verdict) ≡ true
@@ -130,7 +130,7 @@ module _ {K R : Type 0} (keywords : Keywords K R) (reads : Reads keywords) (matc
     word_monotone i l m is = All-contains (IsMonotone keywords) (node_words (nodes.entries i)) m (monotone i l) is
 
     -- such pairs are accepted, whatever is in progress and however deep
-    accepted_says : (A : ℕ → Place → Type 0) → ((i : ℕ) (p : Place) → i < count → A i p → Rests A i p)
+    pub accepted_says : (A : ℕ → Place → Type 0) → ((i : ℕ) (p : Place) → i < count → A i p → Rests A i p)
         → (n i : ℕ) (path : Text) (p : Place) (busy : List ℕ) → i < count → A i p → (Says n i path p busy).verdict ≡ true
     accepted_says A rests zero i path p busy l a = refl
     accepted_says A rests (suc n) i path p busy l a =

@@ -1,46 +1,53 @@
--- The largest set of pairs of a target and a place that stands by itself: each pair of it accepts where exactly the pairs of
--- the set do. In the words of the plain meaning, with no depth to which references are followed.
-use Rattle.std.specs.List.{list_all}
-use Rattle.std.specs.Prelude.{Bool, None, Option, Some, [], false, true, ◌↔◌, ◌≡◌, ℕ}
+-- The largest set of pairs of a reached target and a place that stands by itself: each pair of it accepts where exactly the
+-- pairs of the set do. In the words of the plain meaning, but with no depth to which references are followed.
+use Rattle.std.specs.Prelude.{All, Bool, List, [], flat_map, true, ℕ, ◌↔◌, ◌∷◌, ◌≡◌}
 use Rattle.serde_json.specs.Data.{Data}
 use Rattle.schema_definitions.specs.Instance.{Place}
-use Rattle.schema_definitions.specs.Matching.{Completion, matching}
+use Rattle.schema_definitions.specs.Matching.{Completion}
 use Rattle.schema_definitions.specs.Parts.{Parts}
-use Rattle.schema_definitions.specs.Plan.{Edge, Key, Part, Target, always, child, keyword, never, plan, reference, reference_edge, these}
-use Rattle.schema_definitions.specs.Meaning.{place_below, subject}
+use Rattle.schema_definitions.specs.Plan.{Form, Key, Plan, Target, always, keyword, never, plan, reference, these}
 use Rattle.schema_definitions.specs.Cover.{Call, Decides, Sense}
+use Rattle.schema_meaning.specs.Greatest.{IsMonotone, accepts_by}
+use Rattle.schema_meaning.specs.Reach.{Reached}
 
-module _ {S K R : Type 0} (w : Parts S K R) (instance : Data) where
-  module _ (c : Completion) where
-    -- a set of pairs; keys that differ in location, base or start alone have one target, and count as one
-    abbrev pub Pairs : Type 0
-    Pairs = Target S → Place → Bool
+-- the keywords of a plan
+abbrev pub form_words : {K : Type 0} → Form K → List K
+form_words (keyword m requests absorbed) = m ∷ []
+form_words (reference kind text) = []
 
-    -- where no key is, as at a reference to the very object, nothing stands against a yes
-    abbrev pub in_set : Pairs → Option (Edge S) → Place → Bool
-    in_set accepts None p = true
-    in_set accepts (Some edge) p = accepts edge.key.target p
+abbrev pub plan_words : {K : Type 0} → Plan K → List K
+plan_words always = []
+plan_words never = []
+plan_words (these xs) = flat_map (λ x. form_words x.form) xs
 
-    abbrev pub part_accepts : Pairs → Key S → Place → Part K → Bool
-    part_accepts accepts k p x = elim x.form [
-      | keyword m requests absorbed ↦ w.keywords.holds m (subject w instance p) (matching w.matcher c) (λ q. in_set accepts (child w k x.name requests q.child) (place_below p q.below))
-      | reference kind text ↦ in_set accepts (reference_edge w k x.name kind text) p
-    ]
+module _ {S K R : Type 0} (w : Parts S K R) (root : Key S) where
+  -- each keyword of what the root reaches is monotone
+  abbrev pub EachIsMonotone : Type 0
+  EachIsMonotone = (k : Key S) → Reached w root k → All (IsMonotone w.keywords) (plan_words (plan w k))
 
-    -- whether the key accepts, where exactly the pairs of the set do
-    abbrev pub accepts_by : Pairs → Key S → Place → Bool
-    accepts_by accepts k p = elim (plan w k) [ always ↦ true | never ↦ false | these xs ↦ list_all (part_accepts accepts k p) xs ]
+  module _ (instance : Data) where
+    module _ (c : Completion) where
+      -- ---- sets of pairs. Keys that differ in location, base or start alone have one target, and count as one
 
-    -- each pair of the set accepts, by whichever key its target is reached
-    abbrev pub IsSolution : Pairs → Type 0
-    IsSolution accepts = (k : Key S) (p : Place) → accepts k.target p ≡ true → accepts_by accepts k p ≡ true
+      abbrev pub Pairs : Type 0
+      Pairs = Target S → Place → Bool
 
-    -- the largest solution has a pair where some solution has it
-    abbrev pub AcceptsGreatest : Key S → Place → Type 0
-    AcceptsGreatest k p = (accepts : Pairs) × IsSolution accepts × (accepts k.target p ≡ true)
+      -- each pair of the set, of a reached target, accepts where exactly the pairs of the set do, by whichever key it is reached
+      abbrev pub StandsByItself : Pairs → Type 0
+      StandsByItself accepts = (k : Key S) → Reached w root k → (p : Place) → accepts k.target p ≡ true → accepts_by w instance c (λ l q. accepts l.target q) k p ≡ true
 
-  module _ (root : Key S) where
-    -- the greatest solution of every completion accepts the root at the root place
+      -- the largest set has a pair where some set that stands by itself has it
+      abbrev pub AcceptsGreatest : Key S → Place → Type 0
+      AcceptsGreatest k p = (accepts : Pairs) × StandsByItself accepts × (accepts k.target p ≡ true)
+
+      -- the set stands by itself, and holds each pair of a reached target that a set holds which does
+      pub record IsLargest (accepts : Pairs) : Type 0 where
+        pub stands : StandsByItself accepts
+        pub largest : (others : Pairs) → StandsByItself others → (k : Key S) → Reached w root k → (p : Place) → others k.target p ≡ true → accepts k.target p ≡ true
+
+    -- ---- the root
+
+    -- the largest set of every completion accepts the root at the root place
     abbrev pub AcceptsEach : Type 0
     AcceptsEach = (c : Completion) → AcceptsGreatest c root []
 

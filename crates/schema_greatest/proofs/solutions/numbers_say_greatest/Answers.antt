@@ -5,6 +5,6 @@ pub returns : goal.returns
 returns g c = record {
   says = λ w keys nodes. lemmas.numbers_say_greatest w keys nodes;
   stands = λ w keys nodes. lemmas.largest_stands w keys nodes;
+  alike = λ w keys nodes. lemmas.keys_accept_alike w keys nodes;
   accept = λ w keys nodes. lemmas.numbers_accept_greatest w keys nodes;
-  answers = λ w keys nodes. lemmas.greatest_answers w keys nodes;
 }
