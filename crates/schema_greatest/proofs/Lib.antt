@@ -1,0 +1,3 @@
+pub mod NodesSay
+pub mod Edges
+pub mod NumbersSay

@@ -1,0 +1,3 @@
+pub mod Solutions
+pub mod NodesSay
+pub mod NumbersSay

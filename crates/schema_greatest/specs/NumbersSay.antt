@@ -1,0 +1,71 @@
+-- Where every keyword is monotone, what a number says under guards is the greatest solution of its key, whichever edges are guarded.
+use Rattle.std.specs.Prelude.{Bool, Decides, List, None, Option, Some, [], length, map, slice_get, true, ℕ, ◌<◌, ◌↔◌, ◌≡◌, ◌≤◌}
+use Rattle.serde_json.specs.Data.{Data}
+use Rattle.schema_definitions.specs.Instance.{Place, Text}
+use Rattle.schema_definitions.specs.Reports.{Error, Unit_, report_of}
+use Rattle.schema_definitions.specs.Matching.{Completion}
+use Rattle.schema_definitions.specs.Parts.{Parts}
+use Rattle.schema_definitions.specs.Plan.{Key}
+use Rattle.schema_definitions.specs.Meaning.{subject}
+use Rattle.schema_definitions.specs.Cover.{evaluate, is_valid, iter_errors, validate}
+use Rattle.schema_definitions.specs.Laws.{EachKeeps}
+use Rattle.schema_definitions.specs.Guarded.{Nodes}
+use Rattle.schema_meaning.specs.Shared.{EachAccepts}
+use Rattle.schema_meaning.specs.Headline.{ErrorsSay, FirstSays, Guardedly, VerdictSays}
+use Rattle.schema_meaning.specs.Greatest as by_keys
+use Rattle.schema_meaning.specs.Members.{Finishes}
+use Rattle.schema_meaning.specs.Reach.{Reached}
+use Rattle.schema_meaning.specs.Numbered.{AreNumbered, IsNumber, Numbers, Ranked, guarded_says, left}
+use Rattle.schema_greatest.specs.Solutions.{AcceptsEach, AcceptsGreatest, EachIsMonotone, IsLargest, Pairs, SaysGreatest}
+use Rattle.schema_greatest.specs.NodesSay.{AreMonotone}
+
+module _ {S K R : Type 0} (w : Parts S K R) (keys : Numbers S) (nodes : Nodes K) where
+  -- numbers stand for keys, unguarded edges fall in rank, and each keyword keeps its laws and is monotone
+  abbrev pub WhereMonotone : Type 0 → Type 0
+  WhereMonotone fact = EachKeeps w.keywords → ((a b : S) → Decides (w.resolver.same_state a b) (a ≡ b)) → AreNumbered w keys nodes → Ranked nodes (length keys) → AreMonotone w.keywords nodes (length keys) → fact
+
+  -- what a number says at a place with no pair in progress, at every depth that is enough, is the greatest solution of its key
+  abbrev pub NumbersSayGreatest : Type 0
+  NumbersSayGreatest = WhereMonotone ((root : Key S) (instance : Data) (c : Completion) (i : ℕ) (k : Key S) (path : Text) (p : Place) → Reached w root k → IsNumber keys i k
+      → (n : ℕ) → left nodes (length keys) i (subject w instance p) [] < n
+      → ((guarded_says w instance nodes (length keys) c n i path p []).verdict ≡ true) ↔ AcceptsGreatest w root instance c k p)
+
+  -- where every key that the root reaches has a number, one of the sets that stand by themselves holds all that any of them does
+  abbrev pub LargestStands : Type 0
+  LargestStands = WhereMonotone ((root : Key S) → ((k : Key S) → Reached w root k → (i : ℕ) × IsNumber keys i k) → (instance : Data) (c : Completion)
+      → (accepts : Pairs w root instance c) × IsLargest w root instance c accepts)
+
+  -- sets of keys, each with its location, base and start, accept no more and no less than sets of targets
+  abbrev pub KeysAcceptAlike : Type 0
+  KeysAcceptAlike = WhereMonotone ((root : Key S) (instance : Data) (c : Completion) (i : ℕ) (k : Key S) (p : Place) → Reached w root k → IsNumber keys i k
+      → by_keys.AcceptsGreatest w instance c k p ↔ AcceptsGreatest w root instance c k p)
+
+  -- from some depth on, nodes accept an instance under every completion exactly where the greatest solutions do
+  abbrev pub NumbersAcceptGreatest : Type 0
+  NumbersAcceptGreatest = WhereMonotone ((instance : Data) (i : ℕ) (root : Key S) → IsNumber keys i root
+      → Guardedly w.keywords w.matcher nodes (subject w instance) i (λ v. EachAccepts v ↔ AcceptsEach w root instance))
+
+  -- so a call that answers the headline's sentence of its nodes, and decides within its limit, answers yes exactly where the greatest solutions accept
+  abbrev pub GreatestAnswers : Type 0
+  GreatestAnswers = WhereMonotone ((instance : Data) (i : ℕ) (root : Key S) → IsNumber keys i root → (limit : ℕ)
+      → ((valid : Bool) → Guardedly w.keywords w.matcher nodes (subject w instance) i (λ v. VerdictSays v limit is_valid valid)
+      → Guardedly w.keywords w.matcher nodes (subject w instance) i (λ v. SaysGreatest w root instance v limit is_valid (valid ≡ true)))
+      × ((first : Option Error) → Guardedly w.keywords w.matcher nodes (subject w instance) i (λ v. FirstSays v limit first)
+      → Guardedly w.keywords w.matcher nodes (subject w instance) i (λ v. SaysGreatest w root instance v limit validate (first ≡ None)))
+      × ((errors : List Error) → Guardedly w.keywords w.matcher nodes (subject w instance) i (λ v. ErrorsSay v limit errors)
+      → Guardedly w.keywords w.matcher nodes (subject w instance) i (λ v. SaysGreatest w root instance v limit iter_errors (errors ≡ [])))
+      × ((u : Unit_) → Guardedly w.keywords w.matcher nodes (subject w instance) i (λ v. VerdictSays v limit evaluate (report_of u).valid)
+      → Guardedly w.keywords w.matcher nodes (subject w instance) i (λ v. SaysGreatest w root instance v limit evaluate ((report_of u).valid ≡ true))))
+
+  -- where the matcher finishes every match, so does every call that makes a run
+  abbrev pub FinishingAnswers : Type 0
+  FinishingAnswers = WhereMonotone (Finishes w.matcher → (instance : Data) (i : ℕ) (root : Key S) → IsNumber keys i root → (limit : ℕ) → 1 ≤ limit
+      → ((valid : Bool) → Guardedly w.keywords w.matcher nodes (subject w instance) i (λ v. VerdictSays v limit is_valid valid) → (valid ≡ true) ↔ AcceptsEach w root instance)
+      × ((first : Option Error) → Guardedly w.keywords w.matcher nodes (subject w instance) i (λ v. FirstSays v limit first) → (first ≡ None) ↔ AcceptsEach w root instance)
+      × ((errors : List Error) → Guardedly w.keywords w.matcher nodes (subject w instance) i (λ v. ErrorsSay v limit errors) → (errors ≡ []) ↔ AcceptsEach w root instance)
+      × ((u : Unit_) → Guardedly w.keywords w.matcher nodes (subject w instance) i (λ v. VerdictSays v limit evaluate (report_of u).valid) → ((report_of u).valid ≡ true) ↔ AcceptsEach w root instance))
+
+-- numbers that stand for keys that a root reaches have monotone keywords where every keyword of what the root reaches is monotone
+abbrev pub NumbersAreMonotone : {S K R : Type 0} → Parts S K R → List (Key S) → Nodes K → Type 0
+NumbersAreMonotone {S} w keys nodes = AreNumbered w (map Some keys) nodes → (root : Key S) → ((i : ℕ) (k : Key S) → slice_get keys i ≡ Some k → Reached w root k)
+    → EachIsMonotone w root → AreMonotone w.keywords nodes (length keys)

@@ -1,0 +1,5 @@
+//! Where every keyword is monotone, what numbered nodes say under guards is the greatest solution: the largest set of pairs of a
+//! target and a place that stands by itself. Each function states laws, and does nothing.
+#![tactic(auto)]
+
+pub mod solutions;

@@ -1,0 +1,36 @@
+//! What is proved of the greatest solution, for every schema and all parts: each function states laws, and does nothing.
+
+ghost use Rattle.std.specs.Prelude.{List};
+ghost use Rattle.schema_definitions.specs.Guarded.{Nodes};
+ghost use Rattle.schema_definitions.specs.Keywords.{Keywords};
+ghost use Rattle.schema_definitions.specs.Parts.{Parts};
+ghost use Rattle.schema_definitions.specs.Plan.{Key};
+ghost use Rattle.schema_greatest.specs.NodesSay.{NodesSayGreatest};
+ghost use Rattle.schema_greatest.specs.NumbersSay.{FinishingAnswers, GreatestAnswers, KeysAcceptAlike, LargestStands};
+ghost use Rattle.schema_greatest.specs.NumbersSay.{NumbersAcceptGreatest, NumbersAreMonotone, NumbersSayGreatest};
+ghost use Rattle.schema_meaning.specs.Numbered.{Numbers};
+
+/// Where every keyword is monotone, what numbered nodes say is their greatest solution, whether questions return or not.
+pub fn nodes_say_greatest<K, R>()
+    ensures greatest { (keywords : Keywords K R) → NodesSayGreatest keywords }
+{}
+
+/// And what a number says is the greatest solution of its key: the largest set of pairs of a reached target and a place that
+/// stands by itself holds the pair. There is such a set, and it may be counted by keys or by targets.
+pub fn numbers_say_greatest<S, K, R>()
+    ensures says { (w : Parts S K R) (keys : Numbers S) (nodes : Nodes K) → NumbersSayGreatest w keys nodes }
+    ensures stands { (w : Parts S K R) (keys : Numbers S) (nodes : Nodes K) → LargestStands w keys nodes }
+    ensures alike { (w : Parts S K R) (keys : Numbers S) (nodes : Nodes K) → KeysAcceptAlike w keys nodes }
+    ensures accept { (w : Parts S K R) (keys : Numbers S) (nodes : Nodes K) → NumbersAcceptGreatest w keys nodes }
+{}
+
+/// So the calls that decide within their limit answer yes exactly where the root is accepted at the root place.
+pub fn calls_say_greatest<S, K, R>()
+    ensures answers { (w : Parts S K R) (keys : Numbers S) (nodes : Nodes K) → GreatestAnswers w keys nodes }
+    ensures finishing { (w : Parts S K R) (keys : Numbers S) (nodes : Nodes K) → FinishingAnswers w keys nodes }
+{}
+
+/// The keywords of numbers are monotone where those of what the root reaches are.
+pub fn numbers_are_monotone<S, K, R>()
+    ensures monotone { (w : Parts S K R) (keys : List (Key S)) (nodes : Nodes K) → NumbersAreMonotone w keys nodes }
+{}
