@@ -103,7 +103,7 @@ module _ {S K R : Type 0} (w : Parts S K R) (refuses : MetaChecks) where
   not_both : (root : SchemaPlace) (ds : List (Document w)) (e : BuildError) → EachAccepted w refuses ds → RefusesOne w refuses root ds e → e ≡ OutOfMemory
   not_both root ds (MetaSchema x) accepted (d, among, below) =
       let passes = accepted_there ds d accepted among in
-      let (error, instance, refused, there, same) = below false (λ (e : false ≡ true). absurd cc) in
+      let (error, instance, refused, there, same) = below false (λ e. absurd (cc e)) in
       absurd (cc (sym passes ∙ refused))
   not_both root ds OutOfMemory accepted refused = refl
   not_both root ds (NotASchema location) accepted void = absurd void

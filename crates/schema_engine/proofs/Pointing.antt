@@ -125,11 +125,11 @@ module _ {S K R C M : Type 0} (resolver : Resolver S) (table : Table K) (matcher
         (numbered_too resolver table no_matcher matcher no_keywords (words texts) options (map Some keys) (numbered shape p.nodes) program.compiled.compiled.numbers)
         instance all_match n p.root key (in_map keys p.root key program.compiled.compiled.is_root))
 
-    units_point_into : IsProgramOf resolver table matcher options nested schema shape matching p → (instance : Data)
-        → OfSchema resolver table matcher words options schema instance (λ texts w root. EachHandsUnitsOn w.keywords absorbed → (n : ℕ) → UnitsPoint w root instance (units_at texts instance (matching p.matcher) n))
-    units_point_into program instance = λ texts root is_root speaks hands n.
+    units_point_into : ((texts : Bool) → EachHandsUnitsOn (words texts) absorbed) → IsProgramOf resolver table matcher options nested schema shape matching p → (instance : Data)
+        → OfSchema resolver table matcher words options schema instance (λ texts w root. (n : ℕ) → UnitsPoint w root instance (units_at texts instance (matching p.matcher) n))
+    units_point_into hands program instance = λ texts root is_root speaks n.
         let same = one_root_key w0 schema program.root root program.is_root (root_key_too resolver table table matcher no_matcher (words texts) no_keywords options schema root (root_key_of (w texts) schema root is_root)) in
-        units_point_from_key root (from_root program root same) instance texts hands n
+        units_point_from_key root (from_root program root same) instance texts (hands texts) n
 
   -- ---- what a build and a call say, together
 
@@ -171,10 +171,10 @@ module _ {S K R C M : Type 0} (resolver : Resolver S) (table : Table K) (matcher
       point = (λ decides. elim of.given [ inl all ↦ inl (each_given texts root v lead of.errors all) | inr failure ↦ inr failure ], of.undecided);
     }
 
-    module _ (absorbed : K → List Text) (each : (texts : Bool) → EachKeepsAbsorbing (words texts) absorbed) (scripts : EachScript absorbed is_whole table)
-        {nested : ℕ} (program : IsProgramOf resolver table matcher options nested schema shape matching p) where
+    module _ (absorbed : K → List Text) (each : (texts : Bool) → EachKeepsAbsorbing (words texts) absorbed) (hands : (texts : Bool) → EachHandsUnitsOn (words texts) absorbed)
+        (scripts : EachScript absorbed is_whole table) {nested : ℕ} (program : IsProgramOf resolver table matcher options nested schema shape matching p) where
       pub evaluation_points : (u : EvaluationNode) → FromSomeDepth shape words is_whole matching p instance (λ texts v. EvaluationAnswered v p.runs texts u) → HasUnits shape words is_whole matching p instance u
-          → OfSchema resolver table matcher words options schema instance (λ texts w root. means.FromSomeDepth (words texts) (matching p.matcher) (numbered shape p.nodes) p.root instance (λ v. EvaluationPoints w root instance v p.runs absorbed texts u))
+          → OfSchema resolver table matcher words options schema instance (λ texts w root. means.FromSomeDepth (words texts) (matching p.matcher) (numbered shape p.nodes) p.root instance (λ v. EvaluationPoints w root instance v p.runs texts u))
       evaluation_points u says has = λ texts root is_root speaks.
           let told = (meant instance texts root is_root speaks).0 in
           let (deep, f) = says texts told in
@@ -182,6 +182,6 @@ module _ {S K R C M : Type 0} (resolver : Resolver S) (table : Table K) (matcher
             deep + deep',
             λ n more. record {
               apart = λ met. made_of_pointing texts root (sense_at texts instance (matching p.matcher) n) (points instance texts root is_root speaks n) (unit_of texts u) ((f n (omega (arith, more))).apart met);
-              alone = λ none hands. subst (UnitsPoint (w texts) root instance) (sym (g n (omega (arith, more)) none all_match)) (units_point_into absorbed is_whole each scripts program instance texts root is_root speaks hands n);
+              alone = λ none. subst (UnitsPoint (w texts) root instance) (sym (g n (omega (arith, more)) none all_match)) (units_point_into absorbed is_whole each scripts hands program instance texts root is_root speaks n);
             },
           )

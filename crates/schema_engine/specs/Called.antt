@@ -122,9 +122,9 @@ module _ {S K R C M : Type 0} (h : Handed S K R C M) (options : Options) (schema
     abbrev pub EachLeads : List ValidationError → Type 0
     EachLeads es = PointingOf (λ w root v texts. EachPoints w root instance v options.runs texts es)
 
-    -- each error in a unit points at a keyword that the unit's evaluation path leads to, and at a value inside the instance; where no match stays unfinished, if every keyword hands on the units that its questions answer
-    abbrev pub UnitsLead : (K → List Text) → EvaluationNode → Type 0
-    UnitsLead absorbs u = PointingOf (λ w root v texts. EvaluationPoints w root instance v options.runs absorbs texts u)
+    -- each error in a unit points at a keyword that the unit's evaluation path leads to, and at a value inside the instance
+    abbrev pub UnitsLead : EvaluationNode → Type 0
+    UnitsLead u = PointingOf (λ w root v texts. EvaluationPoints w root instance v options.runs texts u)
 
 -- the error says so of schema and parts, or that a meta validator refuses a document of the schema, where the check is on
 abbrev pub BuildRefused : {S K R C M : Type 0} → Handed S K R C M → MetaChecks → Options → Data → BuildError → Type 0

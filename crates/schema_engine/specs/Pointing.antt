@@ -3,14 +3,13 @@
 -- stays unfinished. So point the errors in the units of an evaluation, each by its unit. (Core 2020-12, 12.3 and 12.4)
 use Rattle.std.specs.Prelude.{All, Bool, List, None, Option, Some, [], map, true, ℕ, ◌≡◌, ◌⊎◌}
 use Rattle.serde_json.specs.Data.{Data}
-use Rattle.schema_definitions.specs.Instance.{Text}
 use Rattle.schema_definitions.specs.Reports.{Unit_}
 use Rattle.schema_definitions.specs.Parts.{Parts}
 use Rattle.schema_definitions.specs.Plan.{Key}
 use Rattle.schema_definitions.specs.Cover.{Call, Decides, Sense, branch_at, evaluate, iter_errors, validate}
 use Rattle.schema_meaning.specs.Headline.{Either, IsFailure, OneFailure}
 use Rattle.schema_meaning.specs.ErrorsLead.{PointsAt}
-use Rattle.schema_meaning.specs.UnitsLead.{EachHandsUnitsOn, UnitsPoint}
+use Rattle.schema_meaning.specs.UnitsLead.{UnitsPoint}
 use Rattle.schema_reports.specs.ReportViews.{error_of}
 use Rattle.schema_reports.specs.UnitViews.{unit_of}
 use Rattle.schema_reports.specs.declared.evaluation.EvaluationNode.{EvaluationNode}
@@ -36,7 +35,7 @@ module _ {S K R : Type 0} (w : Parts S K R) (root : Key S) (instance : Data) (v 
     pub made : u ≡ errors_unit (map (error_of texts) errors)
     pub point : EachPointsIn evaluate texts errors
 
-  -- where the first run meets an unfinished match, the units are those of errors that point so; where it meets none, and every keyword hands on the units that its questions answer, each unit that has an error of its own points so
-  pub record EvaluationPoints (absorbs : K → List Text) (texts : Bool) (u : EvaluationNode) : Type 0 where
+  -- where the first run meets an unfinished match, the units are those of errors that point so; where it meets none, each unit that has an error of its own points so
+  pub record EvaluationPoints (texts : Bool) (u : EvaluationNode) : Type 0 where
     pub apart : ¬ (branch_at v evaluate [] ≡ None) → IsOfPointing texts (unit_of texts u)
-    pub alone : branch_at v evaluate [] ≡ None → EachHandsUnitsOn w.keywords absorbs → UnitsPoint w root instance (unit_of texts u)
+    pub alone : branch_at v evaluate [] ≡ None → UnitsPoint w root instance (unit_of texts u)

@@ -34,7 +34,7 @@ module _ (v : Sense) (most : ℕ) where
 
   -- where errors come from, whatever they point at: each is one that some completion gives, or the call gives its one failure; the latter where it doesn't decide
   abbrev pub EachIsGiven : Bool → List ValidationError → Type 0
-  EachIsGiven v texts es = Either (Decides v most iter_errors) (All (IsGiven v texts) es ⊎ OneFailure v iter_errors (map (error_of true) es)) (OneFailure v iter_errors (map (error_of true) es))
+  EachIsGiven texts es = Either (Decides v most iter_errors) (All (IsGiven v texts) es ⊎ OneFailure v iter_errors (map (error_of true) es)) (OneFailure v iter_errors (map (error_of true) es))
 
   -- the same of a first error
   abbrev pub FirstIsGiven : Bool → Option ValidationError → Type 0

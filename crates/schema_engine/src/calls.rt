@@ -147,8 +147,8 @@ pub fn iter_errors<'i, S: Resolver, T: KeywordTable<K>, K: Validate, M: Matcher,
 
 /// Returns the evaluation of the instance by a schema, as `Validator::evaluate` does. Where no chain of references returns and
 /// the run meets no unfinished match, its units are the plain ones: those of the schema with each reference looked up anew. Each
-/// error in a unit points at a keyword that the unit's evaluation path leads to, and at a value inside the instance: where the run
-/// meets such a match, as the errors do that the units are made of; else if every keyword hands on the units that its questions answer.
+/// error in a unit points at a keyword that the unit's evaluation path leads to, and at a value inside the instance; where the run
+/// meets such a match, as the errors do that the units are made of.
 ///
 /// # Errors
 ///
@@ -176,7 +176,7 @@ pub fn evaluate<S: Resolver, T: KeywordTable<K>, K: Validate, M: Matcher, V: Met
         default_options (view schema.now) (view instance.now) u) }
     ensures leads { IfOk result (λ u. UnitsLead
         (handed S.Resolver T.KeywordTable K.Validate M.Matcher.own resolver.now table.now matcher.now)
-        default_options (view schema.now) (view instance.now) K.absorbed u) }
+        default_options (view schema.now) (view instance.now) u) }
     ensures built { IfOk result (λ _. SchemaBuilds
         (handed S.Resolver T.KeywordTable K.Validate M.Matcher.own resolver.now table.now matcher.now)
         default_options (view schema.now)) }

@@ -162,6 +162,7 @@ impl<K: Validate, M: Matcher> Validator<K, M> {
         ensures meets { IfOk result (λ r. RunMeets
             K.Validate M.Matcher.own self.now (view instance.now) (mode_of mode) matches.entry r.0) }
         ensures assumes { IfOk result (λ r. r.0.assumptions ≡ matches.entry.assumptions) }
+        ensures makes_one { IfOk result (λ _. 1 ≤ self.now.runs) }
         ensures speaks { IfOk result (λ r. (o : Outcome) × (reply_of false r.1 ≡ reply_by (mode_of mode) o)) }
         ensures borrows { IfOk result (λ r. All (BorrowsItsPlace (view instance.now)) (errors_in r.1)) }
     {
@@ -199,6 +200,7 @@ impl<K: Validate, M: Matcher> Validator<K, M> {
         ensures meets { IfOk result (λ r. RunMeets
             K.Validate M.Matcher.own self.now (view instance.now) for_verdict matches.entry r.0) }
         ensures assumes { IfOk result (λ r. r.0.assumptions ≡ matches.entry.assumptions) }
+        ensures makes_one { IfOk result (λ _. 1 ≤ self.now.runs) }
     {
         let (met, reply) = self.asked(alloc, instance, Mode::Verdict, matches)?;
         match reply {
@@ -236,6 +238,7 @@ impl<K: Validate, M: Matcher> Validator<K, M> {
         ensures meets { IfOk result (λ r. RunMeets
             K.Validate M.Matcher.own self.now (view instance.now) for_first (starting []) r.0) }
         ensures assumes { IfOk result (λ r. r.0.assumptions ≡ []) }
+        ensures makes_one { IfOk result (λ _. 1 ≤ self.now.runs) }
         ensures borrows { IfOk result (λ r. IfSome r.1 (BorrowsItsPlace (view instance.now))) }
     {
         let (met, reply) = self.asked(alloc, instance, Mode::First, MatchAssumptions::new(alloc))?;
@@ -258,6 +261,7 @@ impl<K: Validate, M: Matcher> Validator<K, M> {
         ensures meets { IfOk result (λ r. RunMeets
             K.Validate M.Matcher.own self.now (view instance.now) for_all matches.entry r.0) }
         ensures assumes { IfOk result (λ r. r.0.assumptions ≡ matches.entry.assumptions) }
+        ensures makes_one { IfOk result (λ _. 1 ≤ self.now.runs) }
         ensures borrows { IfOk result (λ r. All (BorrowsItsPlace (view instance.now)) r.1.items) }
     {
         let (met, reply) = self.asked(alloc, instance, Mode::All, matches)?;
@@ -340,6 +344,7 @@ impl<K: Validate, M: Matcher> Validator<K, M> {
         ensures meets { IfOk result (λ r. RunMeets
             K.Validate M.Matcher.own self.now (view instance.now) for_units (starting []) r.0) }
         ensures assumes { IfOk result (λ r. r.0.assumptions ≡ []) }
+        ensures makes_one { IfOk result (λ _. 1 ≤ self.now.runs) }
     {
         let place = Place::root(alloc);
         let path = Location::new(alloc);

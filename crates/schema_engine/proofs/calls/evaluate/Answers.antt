@@ -47,7 +47,7 @@ returns-clause-leads g c =
       c.in_ok-validator.validator,
       built.program,
       evaluation_points r table m k.words default_options (view c.args.schema.now) k.shape g.M.Matcher.matching c.in_ok-validator.validator k.is_whole built.means built.points
-          (view c.args.instance.now) k.absorbed each (g.met.T.KeywordTable.right c.args.table.now) built.program c.in_ok-answer.field-0 c.in_ok-answer.ensures.depth c.in_ok-answer.ensures.units,
+          (view c.args.instance.now) k.absorbed each g.met.K.Validate.hands_units_on (g.met.T.KeywordTable.right c.args.table.now) built.program c.in_ok-answer.field-0 c.in_ok-answer.ensures.depth c.in_ok-answer.ensures.units,
     )
 
 pub returns-in_err-validator-clause-refused : goal.returns-in_err-validator-clause-refused

@@ -16,6 +16,9 @@ returns-clause-answer g c =
     plainly_from r table m k.words default_options (view c.args.schema.now) k.shape k.is_whole g.M.Matcher.matching c.in_ok-built.built (view c.args.instance.now)
     (λ texts v. VerdictSays v default_runs is_valid c.in_ok-is_valid.field-0) c.in_ok-built.ensures.means (rw c.in_ok-built.ensures.program.runs_are at c.in_ok-is_valid.ensures.senses)
 
+pub returns-clause-guarded : goal.returns-clause-guarded
+returns-clause-guarded g c = (c.in_ok-built.built, c.in_ok-built.ensures.program, rw c.in_ok-built.ensures.program.runs_are at c.in_ok-is_valid.ensures.depth)
+
 pub returns-in_err-built-clause-refused : goal.returns-in_err-built-clause-refused
 returns-in_err-built-clause-refused g c =
     let p = err_from_is_err_and c.from_residual.result c.from_residual.ensures.1 in

@@ -1,8 +1,9 @@
-use Rattle.std.proofs.Common.{ap, subst}
+use Rattle.std.proofs.Common.{◌≤◌, ap, subst}
 use Rattle.serde_json.specs.View.{view}
 use Rattle.schema_definitions.specs.Instance.{Place, subject_at}
 use Rattle.schema_parts.specs.KeywordViews.{mode_of}
 use Rattle.schema_engine.specs.Answers.{MeetsMatches, SaysReply}
+use Rattle.schema_engine.specs.Program.{Program}
 use Rattle.schema_engine.proofs.validator.Validator.asked.Goals as goal
 
 pub returns-in-Ok-clause-says : goal.returns-in-Ok-clause-says
@@ -30,3 +31,6 @@ pub returns-in-Ok-clause-borrows : goal.returns-in-Ok-clause-borrows
 returns-in-Ok-clause-borrows g c =
     let d = view c.args.instance.now in
     c.in-Ok.ensures.borrows d (ap (λ (p : Place). subject_at d p) c.root-place.ensures.root)
+
+pub returns-in-Ok-clause-makes_one : goal.returns-in-Ok-clause-makes_one
+returns-in-Ok-clause-makes_one g c = subst (λ (p : Program g.row.K.Denot g.row.M.Denot). 1 ≤ p.runs) c.self.view_is c.self.invariant.1

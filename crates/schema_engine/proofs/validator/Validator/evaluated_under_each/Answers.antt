@@ -23,7 +23,7 @@ returns-then-not-met_unassumed-clause-depth g c = λ texts speaks.
     let meets = c.in_ok-met.ensures.meets in
     let none = none_of c.in_ok-met.met.unassumed (sym c.met_unassumed.ensures.met ∙ c.if-not-met_unassumed.true) in (
       suc deep,
-      λ n more. evaluated_first (w.words texts) each (g.M.Matcher.matching p.matcher) nodes d p.root n texts c.in_ok-met.unit c.in_ok-met.met (says texts speaks nothing_twice n (omega (arith, more))) (meets texts speaks nothing_twice n (omega (arith, more))) none,
+      λ n more. evaluated_first (w.words texts) each (g.M.Matcher.matching p.matcher) nodes d p.root n p.runs c.in_ok-met.ensures.makes_one texts c.in_ok-met.unit c.in_ok-met.met (says texts speaks nothing_twice n (omega (arith, more))) (meets texts speaks nothing_twice n (omega (arith, more))) none,
     )
 
 pub returns-then-not-met_unassumed-clause-units : goal.returns-then-not-met_unassumed-clause-units
@@ -36,7 +36,7 @@ returns-then-not-met_unassumed-clause-units g c = λ texts speaks.
     let each : EachKeeps (w.words texts) = λ m. (w.absorbed m, keeps_of_turns (w.words texts) m (w.absorbed m) (w.remaining m) (w.can_be texts m) (w.ends texts m) (w.fits texts m) (g.met.K.Validate.turn_laws texts m) (g.met.K.Validate.function_laws texts m)) in
     let says = c.in_ok-met.ensures.says in (
       suc deep,
-      λ n more. units_first (w.words texts) each (g.M.Matcher.matching p.matcher) nodes d p.root n texts c.in_ok-met.unit (says texts speaks nothing_twice n (omega (arith, more))),
+      λ n more. units_first (w.words texts) each (g.M.Matcher.matching p.matcher) nodes d p.root n p.runs c.in_ok-met.ensures.makes_one texts c.in_ok-met.unit (says texts speaks nothing_twice n (omega (arith, more))),
     )
 
 pub returns-clause-units : goal.returns-clause-units
@@ -51,7 +51,7 @@ returns-clause-units g c = if_ok_mono c.unit_of_errors.result _ _ (λ u made tex
     let none : c.in_ok-met.met.assumptions ≡ [] = c.in_ok-met.ensures.assumes in
     let some : is_some c.in_ok-met.met.unassumed ≡ true = sym c.met_unassumed.ensures.met ∙ c.if-not-met_unassumed.false in (
       suc deep,
-      λ n more branch completion. absurd (units_searched (w.words texts) each (g.M.Matcher.matching p.matcher) nodes d p.root n c.in_ok-met.met none some (meets texts speaks nothing_twice n (omega (arith, more))) branch),
+      λ n more branch completion. absurd (units_searched (w.words texts) each (g.M.Matcher.matching p.matcher) nodes d p.root n p.runs c.in_ok-met.ensures.makes_one c.in_ok-met.met none some (meets texts speaks nothing_twice n (omega (arith, more))) branch),
     )) c.unit_of_errors.ensures.unit
 
 pub returns-clause-depth : goal.returns-clause-depth

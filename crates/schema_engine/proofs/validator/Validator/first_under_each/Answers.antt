@@ -27,7 +27,7 @@ returns-then-not-met_unassumed-clause-depth g c = λ texts speaks.
     let meets = c.in_ok-met.ensures.meets in
     let none = none_of c.in_ok-met.met.unassumed (sym c.met_unassumed.ensures.met ∙ c.if-not-met_unassumed.true) in (
       suc deep,
-      λ n more. first_first (w.words texts) each (g.M.Matcher.matching p.matcher) nodes d p.root n texts c.in_ok-met.error c.in_ok-met.met (says texts speaks nothing_twice n (omega (arith, more))) (meets texts speaks nothing_twice n (omega (arith, more))) none,
+      λ n more. first_first (w.words texts) each (g.M.Matcher.matching p.matcher) nodes d p.root n p.runs c.in_ok-met.ensures.makes_one texts c.in_ok-met.error c.in_ok-met.met (says texts speaks nothing_twice n (omega (arith, more))) (meets texts speaks nothing_twice n (omega (arith, more))) none,
     )
 
 pub returns-clause-depth : goal.returns-clause-depth
