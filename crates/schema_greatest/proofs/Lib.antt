@@ -1,3 +1,4 @@
 pub mod NodesSay
 pub mod Edges
 pub mod NumbersSay
+mod WorkedRows

@@ -93,7 +93,7 @@ module _ {S K R : Type 0} (w : Parts S K R) (instance : Data) (c : Completion) (
         go never = refl
         go (these xs) = parts_by_target p xs
 
-  one_target_accepts : (k l : Key S) → k.target ≡ l.target → (p : Place) → accepts_by w instance c of_keys k p ≡ accepts_by w instance c of_keys l p
+  pub one_target_accepts : (k l : Key S) → k.target ≡ l.target → (p : Place) → accepts_by w instance c of_keys k p ≡ accepts_by w instance c of_keys l p
   one_target_accepts k l same p = accepts_by_target k p ∙ (ap (λ t. accepts_by w instance c of_keys (key_at t) p) same ∙ sym (accepts_by_target l p))
 
 -- ---- a number holds exactly where its key accepts, by sets that agree on numbers and targets
@@ -159,10 +159,11 @@ agrees keys accepts other i k number p = ap (at_number accepts p (other i p)) nu
 
 -- ---- a set of numbers as one of targets
 
-module _ {S K R : Type 0} (w : Parts S K R) (states : (a b : S) → Decides (w.resolver.same_state a b) (a ≡ b)) (keys : Numbers S) (accepts : ℕ → Place → Bool) where
-  same_target_is : (t u : Target S) → same_target w t u ≡ true → t ≡ u
-  same_target_is t u same = ap (λ k. k.target) (same_key_is w states (key_at t) (key_at u) (both_true _ _ (both_true _ _ (both_true _ _ same refl) refl) refl))
+-- targets that are told to be the same are
+pub same_target_is : {S K R : Type 0} (w : Parts S K R) → ((a b : S) → Decides (w.resolver.same_state a b) (a ≡ b)) → (t u : Target S) → same_target w t u ≡ true → t ≡ u
+same_target_is w states t u same = ap (λ k. k.target) (same_key_is w states (key_at t) (key_at u) (both_true _ _ (both_true _ _ (both_true _ _ same refl) refl) refl))
 
+module _ {S K R : Type 0} (w : Parts S K R) (states : (a b : S) → Decides (w.resolver.same_state a b) (a ≡ b)) (keys : Numbers S) (accepts : ℕ → Place → Bool) where
   abbrev is_target : Target S → Option (Option (Key S)) → Bool
   is_target t (Some (Some k)) = same_target w t k.target
   is_target t (Some None) = false
@@ -188,7 +189,7 @@ module _ {S K R : Type 0} (w : Parts S K R) (states : (a b : S) → Decides (w.r
       (λ h. go (slice_get keys n) refl (both_left _ _ h) (both_right _ _ h)) (some_is n t p) e
     where
       go : (o : Option (Option (Key S))) → slice_get keys n ≡ o → is_target t o ≡ true → accepts n p ≡ true → Accepted t p
-      go (Some (Some k)) at_n same h = record { number = n; key = k; is_number = at_n; of_target = same_target_is t k.target same; said = h }
+      go (Some (Some k)) at_n same h = record { number = n; key = k; is_number = at_n; of_target = same_target_is w states t k.target same; said = h }
       go (Some None) at_n same h = absurd (true≢false (sym same))
       go None at_n same h = absurd (true≢false (sym same))
 
