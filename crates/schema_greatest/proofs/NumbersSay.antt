@@ -15,7 +15,7 @@ use Rattle.schema_definitions.specs.Parts.{Parts}
 use Rattle.schema_definitions.specs.Plan.{Edge, Key, Target, Part, Form, keyword, reference, Plan, always, never, these, plan, child, requested, reference_edge, same_target, inside, ok_of, schema_at}
 use Rattle.schema_definitions.specs.Meaning.{place_below, subject}
 use Rattle.schema_definitions.specs.Laws.{EachKeeps}
-use Rattle.schema_definitions.specs.Cover.{evaluate, is_valid, iter_errors, validate}
+use Rattle.schema_definitions.specs.Cover.{iter_errors, validate}
 use Rattle.schema_definitions.specs.Guarded.{NodeEdge, node_child, NodeForm, node_keyword, node_reference, NodePart, NodePlan, node_always, node_never, node_these, Nodes, guarded_sense}
 use Rattle.schema_meaning.specs.Deciding.{none_where_accepted}
 use Rattle.schema_meaning.specs.Members.{Follows}
@@ -334,20 +334,18 @@ pub greatest_answers : {S K R : Type 0} (w : Parts S K R) (keys : Numbers S) (no
 greatest_answers w keys nodes laws states numbered ranked monotone instance i root number limit =
     let accepts = numbers_accept_greatest w keys nodes laws states numbered ranked monotone instance i root number in
     let follows : (n : ℕ) → Follows (guarded_sense w.keywords w.matcher nodes (subject w instance) n i) = λ n. all_nodes_follow w.keywords laws w.matcher nodes (subject w instance) n i in (
-      (λ valid (deep, says). (deep + accepts.0, λ n l d. through ((says n (omega arith)).0 d) (accepts.1 n (omega arith)))),
+      (λ call valid (deep, says). (deep + accepts.0, λ n l d. through ((says n (omega arith)).0 d) (accepts.1 n (omega arith)))),
       (λ first (deep, says). (deep + accepts.0, λ n l d. through (none_where_accepted _ (follows n) limit first (says n (omega arith)) d) (accepts.1 n (omega arith)))),
       (λ errors (deep, says). (deep + accepts.0, λ n l d. through (listed_none _ iter_errors (follows n) errors ((says n (omega arith)).0 d)) (accepts.1 n (omega arith)))),
-      (λ u (deep, says). (deep + accepts.0, λ n l d. through ((says n (omega arith)).0 d) (accepts.1 n (omega arith)))),
     )
 
 pub finishing_answers : {S K R : Type 0} (w : Parts S K R) (keys : Numbers S) (nodes : Nodes K) → FinishingAnswers w keys nodes
 finishing_answers w keys nodes laws states numbered ranked monotone finishes instance i root number limit some =
     let says = greatest_answers w keys nodes laws states numbered ranked monotone instance i root number limit in
     let decides = λ (n : ℕ). (nodes_decide w.keywords w.matcher finishes nodes (subject w instance) n i).decides limit in (
-      (λ valid h. let (deep, is) = says.0 valid h in is deep (omega arith) (decides deep is_valid some)),
+      (λ call valid h. let (deep, is) = says.0 call valid h in is deep (omega arith) (decides deep call some)),
       (λ first h. let (deep, is) = says.1 first h in is deep (omega arith) (decides deep validate some)),
       (λ errors h. let (deep, is) = says.2 errors h in is deep (omega arith) (decides deep iter_errors some)),
-      (λ u h. let (deep, is) = says.3 u h in is deep (omega arith) (decides deep evaluate some)),
     )
 
 pub plain_is_greatest : {S K R : Type 0} (w : Parts S K R) (keys : Numbers S) (nodes : Nodes K) → PlainIsGreatest w keys nodes

@@ -2,12 +2,12 @@
 use Rattle.std.specs.Prelude.{Bool, Decides, List, None, Option, Some, [], length, map, slice_get, true, ℕ, ◌<◌, ◌↔◌, ◌≡◌, ◌≤◌}
 use Rattle.serde_json.specs.Data.{Data}
 use Rattle.schema_definitions.specs.Instance.{Place, Text}
-use Rattle.schema_definitions.specs.Reports.{Error, Unit_, report_of}
+use Rattle.schema_definitions.specs.Reports.{Error}
 use Rattle.schema_definitions.specs.Matching.{Completion}
 use Rattle.schema_definitions.specs.Parts.{Parts}
 use Rattle.schema_definitions.specs.Plan.{Key}
 use Rattle.schema_definitions.specs.Meaning.{subject}
-use Rattle.schema_definitions.specs.Cover.{Sense, evaluate, is_valid, iter_errors, validate}
+use Rattle.schema_definitions.specs.Cover.{Call, Sense, iter_errors, validate}
 use Rattle.schema_definitions.specs.Laws.{EachKeeps}
 use Rattle.schema_definitions.specs.Guarded.{Nodes}
 use Rattle.schema_meaning.specs.Shared.{EachAccepts}
@@ -25,19 +25,18 @@ module _ {S K R : Type 0} (w : Parts S K R) (nodes : Nodes K) (instance : Data) 
   abbrev pub FromSomeDepth : (Sense → Type 0) → Type 0
   FromSomeDepth fact = Guardedly w.keywords w.matcher nodes (subject w instance) i fact
 
-  -- where they answer the headline's sentences, they answer yes, where they decide, exactly if the greatest solutions accept
+  -- where they answer the headline's sentences, they answer yes, where they decide, exactly if the greatest solutions accept: each by its verdict,
+  -- as that of `is_valid` and the one of an evaluation's units, and `validate` and `iter_errors` by what they give
   abbrev pub CallsSayGreatest : Type 0
-  CallsSayGreatest = ((valid : Bool) → FromSomeDepth (λ v. VerdictSays v limit is_valid valid) → FromSomeDepth (λ v. SaysGreatest w root instance v limit is_valid (valid ≡ true)))
+  CallsSayGreatest = ((call : Call) (valid : Bool) → FromSomeDepth (λ v. VerdictSays v limit call valid) → FromSomeDepth (λ v. SaysGreatest w root instance v limit call (valid ≡ true)))
       × ((first : Option Error) → FromSomeDepth (λ v. FirstSays v limit first) → FromSomeDepth (λ v. SaysGreatest w root instance v limit validate (first ≡ None)))
       × ((errors : List Error) → FromSomeDepth (λ v. ErrorsSay v limit errors) → FromSomeDepth (λ v. SaysGreatest w root instance v limit iter_errors (errors ≡ [])))
-      × ((u : Unit_) → FromSomeDepth (λ v. VerdictSays v limit evaluate (report_of u).valid) → FromSomeDepth (λ v. SaysGreatest w root instance v limit evaluate ((report_of u).valid ≡ true)))
 
   -- the same of calls that decide
   abbrev pub CallsFinish : Type 0
-  CallsFinish = ((valid : Bool) → FromSomeDepth (λ v. VerdictSays v limit is_valid valid) → (valid ≡ true) ↔ AcceptsEach w root instance)
+  CallsFinish = ((call : Call) (valid : Bool) → FromSomeDepth (λ v. VerdictSays v limit call valid) → (valid ≡ true) ↔ AcceptsEach w root instance)
       × ((first : Option Error) → FromSomeDepth (λ v. FirstSays v limit first) → (first ≡ None) ↔ AcceptsEach w root instance)
       × ((errors : List Error) → FromSomeDepth (λ v. ErrorsSay v limit errors) → (errors ≡ []) ↔ AcceptsEach w root instance)
-      × ((u : Unit_) → FromSomeDepth (λ v. VerdictSays v limit evaluate (report_of u).valid) → ((report_of u).valid ≡ true) ↔ AcceptsEach w root instance)
 
 module _ {S K R : Type 0} (w : Parts S K R) (keys : Numbers S) (nodes : Nodes K) where
   -- numbers stand for keys, unguarded edges fall in rank, and each keyword keeps its laws and is monotone
