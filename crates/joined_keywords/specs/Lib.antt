@@ -3,3 +3,5 @@ pub mod BothWords
 pub mod BothLaws
 pub mod BothModes
 pub mod Clones
+pub mod BothScripts
+pub mod BothTables

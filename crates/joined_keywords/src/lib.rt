@@ -3,3 +3,4 @@
 
 pub mod both;
 pub mod cloning;
+pub mod table;
