@@ -149,7 +149,7 @@ fn push_match<'w>(
     point: MatchPoint<'_>,
     log: &mut String,
 ) -> Result<(), OutOfMemory> {
-    let (MatchPoint::AtKeyword(located) | MatchPoint::AtSpot(located, _)) = point;
+    let (MatchPoint::AtKeyword(located) | MatchPoint::AtSpot(located, _, _)) = point;
     let how = if located { " located " } else { " bare " };
     push_all(log, &[pattern, " ", subject, how])
 }

@@ -24,7 +24,7 @@ fn has_place(point: MatchPoint<'_>) -> bool
 {
     match point {
         MatchPoint::AtKeyword(located) => located,
-        MatchPoint::AtSpot(located, _) => located,
+        MatchPoint::AtSpot(located, _, _) => located,
     }
 }
 

@@ -23,7 +23,7 @@ use crate::node::faults::finished;
 use crate::node::question::{Engine, NamedKeyword, Question};
 use crate::node::remembered::{begin_visit, kept_reply, remembered_verdict};
 use crate::node::replies::{accepted, is_settled, is_yes, joined, refused, stamped_reply};
-use crate::node::spots::after;
+use crate::node::spots::{after, step_below};
 use crate::node::turns::keyword_answer;
 use schema_contexts::marks::child_edge;
 use schema_contexts::validation::ValidationContext;
@@ -44,12 +44,7 @@ pub(crate) fn one_below<'i>(
         (λ r. (below_of below.entry ≡ down (step_of r.1))
         × (after_step (step_of r.1) (subject_of instance.entry) ≡ Some (subject_of r.0))) }
 {
-    let step = match below {
-        Below::Here => return None,
-        Below::Member(name) => InstanceStep::Member(name),
-        Below::Item(index) => InstanceStep::Item(index),
-        Below::NameOf(name) => InstanceStep::NameOf(name),
-    };
+    let step = step_below(below)?;
     match after(instance, step) {
         Some(lower) => Some(lower),
         None => unreachable!(),

@@ -4,18 +4,18 @@ ghost use Rattle.schema_reports.specs.InstanceViews.{step_of, subject_of};
 ghost use Rattle.schema_definitions.specs.Laws.{IsPresent};
 ghost use Rattle.schema_definitions.specs.Pointer.{joined};
 ghost use Rattle.schema_definitions.specs.Runs.{site_at};
-ghost use Rattle.schema_parts.specs.KeywordViews.{point_of, spot_of};
+ghost use Rattle.schema_parts.specs.KeywordViews.{below_of, point_of, spot_below, spot_of};
 ghost use Rattle.schema_contexts.specs.EvaluationPaths.{path_of};
 ghost use Rattle.schema_node.specs.EvaluationPlaces.{steps_to};
 ghost use Rattle.schema_node.specs.RunStates.{asking, where_asked};
 ghost use Rattle.schema_nodes.specs.NodeViews.{node_of};
 
 use crate::node::question::Question;
-use crate::node::spots::{own_steps, place_below};
+use crate::node::spots::{own_steps, place_below, step_below};
 use schema_contexts::evaluation_path::path_from;
 use schema_matches::site::MatchSite;
 use schema_nodes::node::Node;
-use schema_parts::keyword::{MatchPoint, Spot};
+use schema_parts::keyword::{Below, MatchPoint, Spot};
 use schema_reports::instance::{InstanceStep, Place};
 use schema_reports::location::{Location, OutOfMemory};
 use std::alloc::Global;
@@ -75,19 +75,35 @@ fn bare_site<'i, K>(
     Ok(MatchSite::located(schema_path, evaluation_path, place))
 }
 
-// The site of a match that is asked for at a spot.
-fn spot_site<'i, K>(
+// The steps of a spot's own, and the one below it.
+fn steps_at<'s>(
+    alloc: Global,
+    spot: &Spot<'s>,
+    below: Below<'s>,
+) -> Result<Vec<InstanceStep<'s>>, OutOfMemory>
+    ensures steps { IfOk result (λ steps. map step_of steps.items ≡ (spot_below (spot_of spot.now) (below_of below.entry)).below) }
+{
+    let mut steps = Vec::from_slice(alloc, spot.below.as_slice())?;
+    if let Some(step) = step_below(below) {
+        steps.push(step)?;
+    }
+    Ok(steps)
+}
+
+// The site of a match that is asked for at a spot, or one step below it.
+fn spot_site<'i, 's, K>(
     alloc: Global,
     node: &Node<K>,
     name: &String,
     question: &Question<'_, 'i>,
     located: bool,
-    spot: &Spot<'_>,
+    spot: &Spot<'s>,
+    below: Below<'s>,
 ) -> Result<MatchSite<'i>, OutOfMemory>
-    requires present { IsPresent (subject_of question.now.instance) (map step_of spot.now.below.items) }
+    requires present { IsPresent (subject_of question.now.instance) (spot_below (spot_of spot.now) (below_of below)).below }
     ensures site { IfOk result (λ s. s
         ≡ site_at (where_asked (node_of node.now) (asking question.now)) (string_bytes name.now) (record {
-          spot = spot_of spot.now;
+          spot = spot_below (spot_of spot.now) (below_of below.entry);
           located = located;
           pattern = option_map string_bytes spot.now.pattern;
         })) }
@@ -97,15 +113,8 @@ fn spot_site<'i, K>(
         None => name.as_str(),
     };
     let path = spot.path.as_str();
-    let site = bare_site(
-        alloc,
-        node,
-        name,
-        question,
-        located,
-        path,
-        spot.below.as_slice(),
-    )?;
+    let steps = steps_at(alloc, spot, below)?;
+    let site = bare_site(alloc, node, name, question, located, path, steps.as_slice())?;
     match &spot.pattern {
         Some(pattern) => Ok(site.pattern(alloc, pattern.as_str())?),
         None => Ok(site),
@@ -131,6 +140,8 @@ pub fn match_site<'i, K>(
             let site = bare_site(alloc, node, name.as_str(), question, located, "", &[])?;
             Ok(site.pattern(alloc, pattern)?)
         }
-        MatchPoint::AtSpot(located, spot) => spot_site(alloc, node, name, question, located, spot),
+        MatchPoint::AtSpot(located, spot, below) => {
+            spot_site(alloc, node, name, question, located, spot, below)
+        }
     }
 }

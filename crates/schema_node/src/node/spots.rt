@@ -1,14 +1,29 @@
 //! Where an error of a keyword, or a match that it asks for, stands: steps below the keyword's place, and a path from it on.
-ghost use Rattle.std.specs.Prelude.{◌≡◌, ◌++◌, IfOk, IfSome, Some, is_some, map, option_map, true};
+ghost use Rattle.std.specs.Prelude.{◌≡◌, ◌++◌, IfOk, IfSome, MatchOption, Some, is_some, map, option_map, true};
 ghost use Rattle.schema_definitions.specs.Instance.{after_step};
 ghost use Rattle.schema_reports.specs.InstanceViews.{step_of, subject_of};
+ghost use Rattle.schema_definitions.specs.Keywords.{down, here};
 ghost use Rattle.schema_definitions.specs.Laws.{IsPresent};
+ghost use Rattle.schema_parts.specs.KeywordViews.{below_of};
 ghost use Rattle.schema_node.specs.EvaluationPlaces.{steps_to};
 
 use crate::node::evaluation_place::EvaluationPlace;
+use schema_parts::keyword::Below;
 use schema_reports::instance::{Instance, InstanceStep, Place};
 use schema_reports::location::OutOfMemory;
 use std::alloc::Global;
+
+/// The one step below, by the same name; none where it is here.
+pub fn step_below<'s>(below: Below<'s>) -> Option<InstanceStep<'s>>
+    ensures step { MatchOption result (below_of below.entry ≡ here) (λ s. below_of below.entry ≡ down (step_of s)) }
+{
+    match below {
+        Below::Here => None,
+        Below::Member(name) => Some(InstanceStep::Member(name)),
+        Below::Item(index) => Some(InstanceStep::Item(index)),
+        Below::NameOf(name) => Some(InstanceStep::NameOf(name)),
+    }
+}
 
 /// What a step leads to, and the step by the instance's own name; none where it leads nowhere.
 pub fn after<'i>(
