@@ -56,7 +56,7 @@ returns-clause-compiled g c =
     let keys = map v c.in_ok-compiled.compiled.keys in
     let nodes = c.in_ok-compiled.compiled.nodes in
     let done : (texts : Bool) → IsCompilationAlone (all_parts r (record { owns = owns; builtin = builtin; script = script }) options.formats options.declared m (k.words texts) options.draft options.base) k.shape options.limit options.nested key keys nodes =
-    λ texts. subst (λ (o : Options). IsCompilationAlone (all_parts r (record { owns = owns; builtin = builtin; script = script }) o.formats o.declared m (k.words texts) o.draft o.base) k.shape o.limit options.nested key keys nodes) c.options.view_is
+    λ texts. subst (λ (o : Options). IsCompilationAlone (all_parts r (record { owns = owns; builtin = builtin; script = script }) o.formats o.declared m (k.words texts) o.draft o.base) k.shape o.limit o.nested key keys nodes) c.options.view_is
     (c.in_ok-compiled.ensures.compiled m (k.words texts) (option_map draft_of inside.draft) (option_map string_bytes inside.base)) in
     let compiled = compiled_alone r owns script m (k.words true) options k.shape options.limit options.nested key keys nodes (done true) in
     let within = within_alone r owns script m (k.words true) options k.shape options.limit options.nested key keys nodes (done true) in
