@@ -5,3 +5,4 @@ pub mod BothModes
 pub mod Clones
 pub mod BothScripts
 pub mod BothTables
+pub mod Always

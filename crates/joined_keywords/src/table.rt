@@ -15,7 +15,8 @@ use std::alloc::Global;
 
 /// Two tables as one. The names of the list, and those that the first table owns, go to the first table, and all others to the
 /// second: whether keywords of a name are a table's own, and what is made of a member, is what the table says that the name goes to.
-/// So a name that neither makes makes nothing. A keyword that absorbs others has their names in its own table.
+/// So a name that neither table makes makes nothing. The names that a keyword absorbs are to go to its own table, or the other
+/// table makes keywords of them as well.
 #[derive(Drop)]
 pub struct BothTable<S, T> {
     pub first: S,
