@@ -1,0 +1,4 @@
+pub mod ApplicatorShape
+pub mod Words
+pub mod Laws
+pub mod Shapes
