@@ -2,3 +2,9 @@ pub mod ApplicatorShape
 pub mod Words
 pub mod Laws
 pub mod Shapes
+pub mod Making
+pub mod MakerViews
+pub mod MakingLaws
+pub mod Makers
+pub mod ListShapes
+pub mod MakerLaws

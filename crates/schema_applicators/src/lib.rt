@@ -9,6 +9,8 @@ pub mod all_of;
 pub mod any_of;
 pub mod applicator;
 mod cloning;
+pub mod making;
 pub mod not;
 pub mod one_of;
+pub mod table;
 pub mod texts;
