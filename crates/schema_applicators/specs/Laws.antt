@@ -1,5 +1,5 @@
 -- The applicators keep the laws.
-use Rattle.std.proofs.Common.{◌≡◌, ◌∷◌, [], Bool, refl, true}
+use Rattle.std.proofs.Common.{◌≡◌, Bool, refl, true}
 use Rattle.std.proofs.lemmas.List.Elements.{All-append, All-cons}
 use Rattle.std.specs.Prelude.{option_map}
 use Rattle.schema_definitions.specs.Instance.{Subject}

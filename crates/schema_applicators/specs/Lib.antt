@@ -8,3 +8,10 @@ pub mod MakingLaws
 pub mod Makers
 pub mod ListShapes
 pub mod MakerLaws
+pub mod OwnErrors
+pub mod AllOf
+pub mod AnyOf
+pub mod OneOf
+pub mod Not
+pub mod If
+pub mod Meanings

@@ -10,6 +10,7 @@ pub mod any_of;
 pub mod applicator;
 mod cloning;
 pub mod making;
+pub mod meanings;
 pub mod not;
 pub mod one_of;
 pub mod table;
