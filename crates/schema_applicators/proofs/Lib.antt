@@ -1,0 +1,3 @@
+mod Pointers
+mod Counting
+mod Meant

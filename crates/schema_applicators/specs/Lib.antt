@@ -1,0 +1,17 @@
+pub mod ApplicatorShape
+pub mod Words
+pub mod Laws
+pub mod Shapes
+pub mod Making
+pub mod MakerViews
+pub mod MakingLaws
+pub mod Makers
+pub mod ListShapes
+pub mod MakerLaws
+pub mod OwnErrors
+pub mod AllOf
+pub mod AnyOf
+pub mod OneOf
+pub mod Not
+pub mod If
+pub mod Meanings

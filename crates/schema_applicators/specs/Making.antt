@@ -1,0 +1,64 @@
+-- What makers do that ask for the values at paths, one after the other, and then end.
+use Rattle.std.specs.Prelude.{List, None, Option, Some, [], codes, drop, suc, true, zero, ℕ, ◌++◌, ◌+◌, ◌∷◌}
+use Rattle.serde_json.specs.Data.{Data, Items, array, item, no_items}
+use Rattle.keyword_ways.specs.Items.{items_count}
+use Rattle.schema_definitions.specs.Instance.{Place, Text, to_item, to_member}
+use Rattle.schema_definitions.specs.Pointer.{pointer_to}
+use Rattle.schema_definitions.specs.Reports.{OwnedError}
+use Rattle.schema_definitions.specs.Making.{Made, Script, a_keyword, refused, then_compile, then_end}
+use Rattle.schema_parts.specs.MakerViews.{Waiting, begun, ended, waits}
+
+-- the children in order, and then the end
+abbrev pub asks_for : {K : Type 0} → List Place → Made K → Script K
+asks_for [] m = then_end m
+asks_for (p ∷ ps) m = then_compile p (asks_for ps m)
+
+abbrev pub makes : {K : Type 0} → K → Script K
+makes m = then_end (a_keyword m [])
+
+-- the keyword's own value is its only schema
+abbrev pub only_child : {K : Type 0} → Text → K → Script K
+only_child name m = asks_for ((to_member name ∷ []) ∷ []) (a_keyword m [])
+
+-- each item of a list, below a keyword
+abbrev pub items_from : Text → ℕ → Items → List Place
+items_from name i no_items = []
+items_from name i (item d ds) = (to_member name ∷ to_item i ∷ []) ∷ items_from name (i + 1) ds
+
+-- the children are the items, in order
+abbrev pub each_item : {K : Type 0} → Text → Items → K → Script K
+each_item name ds m = asks_for (items_from name 0 ds) (a_keyword m [])
+
+-- a value of another shape than the keyword's: the error shows the value, at the keyword
+abbrev pub malformed_text : Text → Text
+malformed_text name = codes "\"" ++ name ++ codes "\" has a value of another shape"
+
+abbrev pub malformed_error : Text → Data → OwnedError
+malformed_error name d = record {
+  instance = d;
+  instance_path = [];
+  schema_path = pointer_to (to_member name ∷ []);
+  evaluation_path = pointer_to (to_member name ∷ []);
+  absolute = None;
+  name = name;
+  text = malformed_text name;
+}
+
+abbrev pub malformed : {K : Type 0} → Text → Data → Script K
+malformed name d = then_end (refused true (malformed_error name d))
+
+abbrev pub makes_if : {K : Type 0} → Text → Data → Option K → Script K
+makes_if name d None = malformed name d
+makes_if name d (Some m) = makes m
+
+-- a list of schemas, of which the keyword knows how many there are
+abbrev pub list_script : {K : Type 0} → (ℕ → K) → Text → Data → Script K
+list_script shape name (array ds) = each_item name ds (shape (items_count ds))
+list_script shape name d = malformed name d
+
+-- ---- a maker that has made so many requests
+
+abbrev pub waiting_in : {K : Type 0} → List Place → ℕ → Option (Made K) → Waiting K
+waiting_in ps n None = ended
+waiting_in ps zero (Some m) = begun (asks_for ps m)
+waiting_in ps (suc n) (Some m) = waits n (asks_for (drop (suc n) ps) m) (asks_for (drop (suc n) ps) m)

@@ -1,0 +1,13 @@
+-- Errors of a keyword's own.
+use Rattle.std.specs.Prelude.{List, None, [], ◌∷◌, ◌≡◌}
+use Rattle.schema_definitions.specs.Instance.{Text}
+use Rattle.schema_definitions.specs.Keywords.{Fault, own}
+
+-- one error, of this name and at the keyword itself, whatever its text
+abbrev pub IsOneOwn : Text → List Fault → Type 0
+IsOneOwn name fs = (text : Text) × (fs ≡ own (record { spot = record { absorbed = None; path = []; below = [] }; name = name; text = text }) ∷ [])
+
+-- none where the keyword holds, and one of its own where it does not
+pub record OneUnless (Holds : Type 0) (name : Text) (fs : List Fault) : Type 0 where
+  pub none : Holds → fs ≡ []
+  pub one : ¬ Holds → IsOneOwn name fs

@@ -1,0 +1,5 @@
+//! What a table of keywords needs whose makers ask for paths, one after the other, and then end.
+
+pub mod maker;
+pub mod paths;
+pub mod refusals;
