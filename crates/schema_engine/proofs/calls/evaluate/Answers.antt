@@ -46,8 +46,8 @@ returns-clause-leads g c =
     λ texts s. keeps_of_turns (k.words texts) s (k.absorbed s) (k.remaining s) (k.can_be texts s) (k.ends texts s) (k.fits texts s) (g.met.K.Validate.turn_laws texts s) (g.met.K.Validate.function_laws texts s) in (
       c.in_ok-validator.validator,
       built.program,
-      evaluation_points r table m k.words default_options (view c.args.schema.now) k.shape g.M.Matcher.matching c.in_ok-validator.validator k.is_whole built.means built.points
-          (view c.args.instance.now) k.absorbed each g.met.K.Validate.hands_units_on (g.met.T.KeywordTable.right c.args.table.now) built.program c.in_ok-answer.field-0 c.in_ok-answer.ensures.depth c.in_ok-answer.ensures.units,
+      rw built.program.runs_are at (evaluation_points r table m k.words default_options (view c.args.schema.now) k.shape g.M.Matcher.matching c.in_ok-validator.validator k.is_whole built.means built.points
+          (view c.args.instance.now) k.absorbed each g.met.K.Validate.hands_units_on (g.met.T.KeywordTable.right c.args.table.now) built.program c.in_ok-answer.field-0 c.in_ok-answer.ensures.depth c.in_ok-answer.ensures.units),
     )
 
 pub returns-in_err-validator-clause-refused : goal.returns-in_err-validator-clause-refused

@@ -29,8 +29,8 @@ returns-clause-leads g c =
     let built = c.in_ok-validator.ensures in (
       c.in_ok-validator.validator,
       built.program,
-      first_points r table m k.words default_options (view c.args.schema.now) k.shape g.M.Matcher.matching c.in_ok-validator.validator k.is_whole built.means built.points
-          (view c.args.instance.now) (refusal_of c.in_ok-answer.field-0) (rw c.in_ok-validator.ensures.program.runs_are at c.in_ok-answer.ensures.points),
+      rw built.program.runs_are at (first_points r table m k.words default_options (view c.args.schema.now) k.shape g.M.Matcher.matching c.in_ok-validator.validator k.is_whole built.means built.points
+          (view c.args.instance.now) (refusal_of c.in_ok-answer.field-0) c.in_ok-answer.ensures.points),
     )
 
 pub returns-in_err-validator-clause-refused : goal.returns-in_err-validator-clause-refused
