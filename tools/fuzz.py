@@ -30,6 +30,7 @@ from fuzz_checks import MODES
 CALL_SECONDS = 5
 CALL_BYTES = 1 << 30
 MOST_SHRINKING_TRIES = 4000
+MOST_SHRINKING_SECONDS = 120
 MOST_SHOWN = 5
 
 
@@ -90,7 +91,9 @@ def smaller_values(value):
     """Values that are a step smaller than this one, the smallest first."""
     if isinstance(value, dict):
         yield from ({}, True)
-        yield from value.values()
+        for member in value.values():
+            yield member
+            yield from member.values() if isinstance(member, dict) else member if isinstance(member, list) else ()
         for name in value:
             yield {other: member for other, member in value.items() if other != name}
     elif isinstance(value, list):
@@ -134,19 +137,29 @@ def size(case):
     return sum(len(json.dumps(it)) for it in (case.schema, case.instance, case.unfinished))
 
 
-def shrunk(caller, case, kind, again):
-    """A small case with a problem of the same kind, and the problem."""
+def is_refused(found):
+    """Whether some mode tells that the schema is refused."""
+    return any(answer[0] == 2 for answer in found[1].values())
+
+
+def shrunk(caller, case, again):
+    """A small case with a problem of the same kind, its schema refused only where it was, and the problem with the answers."""
     tries = 0
+    end = time.monotonic() + MOST_SHRINKING_SECONDS
     best = look(caller, case, again)
+    if best[0] is None:
+        return case, (("gone", "asked once more, the case has no problem"), best[1])
     going = True
-    while going and tries < MOST_SHRINKING_TRIES:
+    while going:
         going = False
         for smaller in smaller_cases(case):
-            tries += 1
-            if size(smaller) >= size(case) or tries > MOST_SHRINKING_TRIES:
+            if size(smaller) >= size(case):
                 continue
+            tries += 1
+            if tries > MOST_SHRINKING_TRIES or time.monotonic() > end:
+                return case, best
             found = look(caller, smaller, again)
-            if found[0] is not None and found[0][0] == kind:
+            if found[0] is not None and found[0][0] == best[0][0] and is_refused(found) <= is_refused(best):
                 case, best, going = smaller, found, True
                 break
     return case, best
@@ -210,7 +223,7 @@ def ask_some(given):
             counts.add("skipped")
         else:
             counts.add("findings")
-            small, (found, answers) = shrunk(caller, case, found[0], again)
+            small, (found, answers) = shrunk(caller, case, again)
             counts.findings.append(f"case {number} of seed {seed}\n{shown(program, small, found, answers)}")
     counts.add("calls", caller.calls)
     for file in (caller.out, caller.err, caller.nothing):
