@@ -52,10 +52,10 @@ pub fn larger_limits_agree<S: Resolver, T: KeywordTable<K>, K: Validate, M: Matc
         → LargerEvaluations S.Resolver T.KeywordTable K.Validate M.Matcher.own resolver table matcher }
 {}
 
-/// One limit on nested targets builds a schema exactly if any other does, want of memory aside. Neither what `build` and
-/// `build_nested` promise of a schema that builds nor what they promise of one that is refused names this limit; so where one
-/// build of a schema succeeded, another by the same options and the same meta validators is refused for want of memory alone,
-/// whether the options have the schema checked or not.
+/// One limit on nested targets builds a schema exactly if any other does, want of memory aside, and so does one limit on runs.
+/// Neither what `build` and `build_nested` promise of a schema that builds nor what they promise of one that is refused names these
+/// limits; so where one build of a schema succeeded, another by options that differ in them alone and the same meta validators is
+/// refused for want of memory alone, whether the options have the schema checked or not.
 pub fn builds_agree<S: Resolver, T: KeywordTable<K>, K: Validate, M: Matcher>()
     ensures memory { (resolver : S) (table : T) (matcher : M)
         → BuildsAgree S.Resolver T.KeywordTable K.Validate M.Matcher.own resolver table matcher }

@@ -65,9 +65,9 @@ returns-clause-answer c =
       };
       builds = λ spoken. subst (λ (ps : List Text). Builds (parts_of (bench_resolving r) bench_table (bench_matcher ps) (words spoken) default_options) schema default_options.limit) same (c.in_ok-validator.ensures.built spoken);
       passes = c.in_ok-validator.ensures.passed;
-      plain = c.in_ok-ask.ensures.means (bench_resolving r) bench_table (bench_matcher unfinished) default_options schema
+      plain = rw c.in_ok-validator.ensures.program.runs_are at (c.in_ok-ask.ensures.means (bench_resolving r) bench_table (bench_matcher unfinished) default_options schema
           (subst (λ (ps : List Text). BenchMeans (bench_resolving r) bench_table (bench_matcher ps) default_options schema validator) same c.in_ok-validator.ensures.means)
-          (subst (λ (ps : List Text). BenchHasUnits (bench_resolving r) bench_table (bench_matcher ps) default_options schema validator) same c.in_ok-validator.ensures.units);
+          (subst (λ (ps : List Text). BenchHasUnits (bench_resolving r) bench_table (bench_matcher ps) default_options schema validator) same c.in_ok-validator.ensures.units));
       program = validator;
       compiled = subst (λ (ps : List Text). IsProgramOf (bench_resolving r) bench_table (bench_matcher ps) default_options default_nested schema shape_of bench_matcher validator) same c.in_ok-validator.ensures.program;
       guarded = c.in_ok-ask.ensures.depth;
