@@ -4,6 +4,7 @@ ghost use Rattle.schema_engine.specs.FreeCalls.{EmptyIffValid, NoneIffEmpty, Non
 ghost use Rattle.schema_engine.specs.FreeCalls.{OneErrorList, OneEvaluation, OneFirstError, OneSense, OneTree, OneVerdict};
 ghost use Rattle.schema_engine.specs.FreeCalls.{ErrorListAgain, EvaluationAgain, FirstErrorAgain, UnitsAgain, VerdictAgain};
 ghost use Rattle.schema_engine.specs.FreeCalls.{ValidatorCallsAgree};
+ghost use Rattle.schema_engine.specs.Greatest.{GreatestAnswersAgree, GreatestVerdictsAgree};
 ghost use Rattle.schema_engine.specs.Handed.{handed};
 ghost use Rattle.schema_engine.specs.Nesting.{AllErrorsAgree, BuildsAgree, FirstErrorsAgree, VerdictsAgree};
 ghost use Rattle.schema_engine.specs.Nesting.{EvaluationsOfBoth, UnitsOfBoth};
@@ -50,6 +51,16 @@ pub fn larger_limits_agree<S: Resolver, T: KeywordTable<K>, K: Validate, M: Matc
         → LargerErrors S.Resolver T.KeywordTable K.Validate M.Matcher.own resolver table matcher }
     ensures evaluation { (resolver : S) (table : T) (matcher : M)
         → LargerEvaluations S.Resolver T.KeywordTable K.Validate M.Matcher.own resolver table matcher }
+{}
+
+/// Two validators that accept as one schema does, as `build` and `build_nested` give them whatever the limit on nested targets,
+/// and the limit of runs, agree on every instance also where chains of references return, if each keyword of what the root reaches
+/// is monotone: of any two calls that both decide, one says yes exactly if the other does, and two verdicts are equal.
+pub fn greatest_agree<S: Resolver, T: KeywordTable<K>, K: Validate, M: Matcher>()
+    ensures answers { (resolver : S) (table : T) (matcher : M)
+        → GreatestAnswersAgree S.Resolver T.KeywordTable K.Validate M.Matcher.own resolver table matcher }
+    ensures verdict { (resolver : S) (table : T) (matcher : M)
+        → GreatestVerdictsAgree S.Resolver T.KeywordTable K.Validate M.Matcher.own resolver table matcher }
 {}
 
 /// One limit on nested targets builds a schema exactly if any other does, want of memory aside, and so does one limit on runs.

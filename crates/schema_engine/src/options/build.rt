@@ -7,6 +7,7 @@ ghost use Rattle.schema_parts.specs.ResolverViews.{place_of};
 ghost use Rattle.schema_check.specs.Checking.{AcceptsSchema, RefusesSchema};
 ghost use Rattle.schema_engine.specs.Checked.{PassesCheck};
 ghost use Rattle.schema_engine.specs.FirstCauses.{FirstOfBuild};
+ghost use Rattle.schema_engine.specs.Greatest.{AcceptsAsSchema};
 ghost use Rattle.schema_engine.specs.Handed.{handed};
 
 use crate::compiled::of_compiled_within;
@@ -56,6 +57,9 @@ impl ValidationOptions {
             (handed S.Resolver T.KeywordTable K.Validate M.Matcher.own resolver.now table.now matcher.now)
             self.now (view schema.now) v) }
         ensures points { IfOk result (λ v. PointsPlainly
+            (handed S.Resolver T.KeywordTable K.Validate M.Matcher.own resolver.now table.now matcher.now)
+            self.now (view schema.now) v) }
+        ensures greatest { IfOk result (λ v. AcceptsAsSchema
             (handed S.Resolver T.KeywordTable K.Validate M.Matcher.own resolver.now table.now matcher.now)
             self.now (view schema.now) v) }
         ensures program { IfOk result (λ v. IsCompiledFrom
@@ -114,6 +118,9 @@ impl ValidationOptions {
             (handed S.Resolver T.KeywordTable K.Validate M.Matcher.own resolver.now table.now matcher.now)
             self.now (view schema.now) v) }
         ensures points { IfOk result (λ v. PointsPlainly
+            (handed S.Resolver T.KeywordTable K.Validate M.Matcher.own resolver.now table.now matcher.now)
+            self.now (view schema.now) v) }
+        ensures greatest { IfOk result (λ v. AcceptsAsSchema
             (handed S.Resolver T.KeywordTable K.Validate M.Matcher.own resolver.now table.now matcher.now)
             self.now (view schema.now) v) }
         ensures program { IfOk result (λ v. IsCompiledFrom

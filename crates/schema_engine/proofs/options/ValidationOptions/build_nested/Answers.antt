@@ -21,6 +21,8 @@ use Rattle.schema_engine.proofs.Pointing.{points_into}
 use Rattle.schema_engine.proofs.OtherParts.{compiles_too}
 use Rattle.schema_engine.proofs.RootKeys.{one_root_key, root_key_too, root_too}
 use Rattle.schema_engine.proofs.FirstCauses.{compiled_first, document_first}
+use Rattle.schema_engine.proofs.Greatest.{accepts_as_schema}
+use Rattle.schema_definitions.specs.Laws.{EachKeeps}
 use Rattle.schema_engine.proofs.options.ValidationOptions.build_nested.Goals as goal
 
 pub of_compiled_within-requires : goal.of_compiled_within-requires
@@ -125,6 +127,13 @@ returns-clause-program g c =
       matcher_is = c.in_ok-validator.ensures.matcher;
       runs_are = c.in_ok-validator.ensures.runs ∙ ap (λ (o : Options). o.runs) c.self.view_is;
     }
+
+pub returns-clause-greatest : goal.returns-clause-greatest
+returns-clause-greatest g c =
+    let h = handed g.S.Resolver g.T.KeywordTable g.K.Validate g.M.Matcher c.args.resolver.now c.args.table.now c.args.matcher.now in
+    let k = g.K.Validate in
+    let keeps : (texts : Bool) → EachKeeps (k.words texts) = λ texts s. (k.absorbed s, keeps_of_turns (k.words texts) s (k.absorbed s) (k.remaining s) (k.can_be texts s) (k.ends texts s) (k.fits texts s) (g.met.K.Validate.turn_laws texts s) (g.met.K.Validate.function_laws texts s)) in
+    accepts_as_schema h keeps (g.met.S.Resolver.same c.args.resolver.now) c.args.self.now (view c.args.schema.now) c.in_ok-validator.validator (returns-clause-program g c)
 
 pub returns-clause-points : goal.returns-clause-points
 returns-clause-points g c =
