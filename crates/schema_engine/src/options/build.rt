@@ -91,8 +91,9 @@ impl ValidationOptions {
     }
 
     /// Builds a validator of a schema as `build` does, but with at most `nested` targets of references compiled one inside
-    /// another. Where no chain of references returns, this limit changes no answer, nor does it change a verdict where each keyword
-    /// is monotone; it decides how much stack the build takes, and which edges of a cycle of references are guarded.
+    /// another. Where no chain of references returns, this limit changes no answer, nor does it change a verdict of a call that
+    /// decides, where each keyword is monotone. It decides how much stack the build takes, and which edges of a cycle of references
+    /// are guarded.
     ///
     /// # Errors
     ///
