@@ -17,6 +17,7 @@ use Rattle.schema_meaning.specs.Members.{Follows}
 use Rattle.schema_meaning.specs.Numbered.{AreNumbered, Ranked, left, subject_in}
 use Rattle.schema_meaning.specs.Reach.{at_first}
 use Rattle.schema_meaning.specs.Shared.{EachAccepts}
+use Rattle.schema_meaning.proofs.Finishing.{nodes_decide}
 use Rattle.schema_meaning.proofs.GuardedSense.{all_nodes_follow}
 use Rattle.schema_greatest.specs.NodesSay.{AreMonotone, NodeAcceptsGreatest}
 use Rattle.schema_greatest.specs.Solutions.{AcceptsEach, EachIsMonotone}
@@ -35,7 +36,7 @@ use Rattle.schema_keys.specs.Compiling.{no_keywords, no_matcher}
 use Rattle.schema_engine.specs.Asked.{DecidesFromSomeDepth, ErrorsFromSomeDepth, EvaluatesFromSomeDepth, FirstFromSomeDepth}
 use Rattle.schema_engine.specs.Called.{IsCompiledFrom, MeansPlainly}
 use Rattle.schema_engine.specs.Compiled.{IsCompiled}
-use Rattle.schema_engine.specs.Greatest.{AcceptAlike, AcceptsAsKey, AcceptsAsSchema, DecidesAccepted, ErrorsAccepted, EvaluatesAccepted, FirstAccepted, GreatestAnswersAgree, GreatestVerdictsAgree, NodesAccept, NodesAreMonotone, SaysAccepted, SaysGreatest}
+use Rattle.schema_engine.specs.Greatest.{AcceptAlike, AcceptsAsKey, AcceptsAsSchema, DecidesAccepted, ErrorsAccepted, EvaluatesAccepted, FinishingAccepts, FinishingGreatest, FirstAccepted, GreatestAnswersAgree, GreatestVerdictsAgree, NodesAccept, NodesAreMonotone, SaysAccepted, SaysGreatest}
 use Rattle.schema_engine.specs.Handed.{Handed, Options, parts_of}
 use Rattle.schema_engine.specs.Nesting.{verdict_in}
 use Rattle.schema_engine.specs.Program.{FromSomeDepth, Program}
@@ -96,6 +97,11 @@ module _ {C Run K M : Type 0} (keywords : KeywordMembers C Run K) (matchers : Ma
 
   pub evaluates_accepted : (u : EvaluationNode) → EvaluatesFromSomeDepth keywords matchers p instance u → EvaluatesAccepted keywords matchers p instance u
   evaluates_accepted u told = says_accepted evaluate (λ texts. verdict_in texts u) (λ texts speaks. let (deep, f) = told texts speaks in (deep, λ n more. (f n more).verdict.0))
+
+pub finishing_accepts : {C Run K M : Type 0} (keywords : KeywordMembers C Run K) (matchers : MatcherMembers M) → FinishingAccepts keywords matchers
+finishing_accepts keywords matchers p instance finishes some call answer says texts speaks monotone =
+    let (deep, f) = says texts speaks in
+    f deep (omega arith) monotone ((nodes_decide (keywords.words texts) (matchers.matching p.matcher) finishes (numbered keywords.shape p.nodes) (subject_in instance) deep p.root).decides p.runs call some)
 
 -- ---- nodes that are compiled from a key
 
@@ -185,3 +191,8 @@ module _ {A State S T C Maker Run K M : Type 0} (resolvers : ResolverMembers A S
 
   pub greatest_verdicts_agree : GreatestVerdictsAgree resolvers tables keywords matchers resolver table matcher
   greatest_verdicts_agree options schema p p' of of' instance b b' = greatest_answers_agree options schema p p' of of' instance is_valid is_valid (λ texts. b) (λ texts. b')
+
+  pub finishing_greatest : FinishingGreatest resolvers tables keywords matchers resolver table matcher
+  finishing_greatest options schema p of instance finishes some call answer says texts root is_root each speaks =
+      let alike = of texts root is_root in
+      through (finishing_accepts keywords matchers p instance finishes some call answer says texts speaks (alike.monotone each)) (alike.accepts (alike.monotone each) instance)

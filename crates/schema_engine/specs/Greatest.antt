@@ -8,6 +8,7 @@ use Rattle.schema_definitions.specs.Parts.{Parts}
 use Rattle.schema_definitions.specs.Plan.{Key}
 use Rattle.schema_definitions.specs.Cover.{Call, Decides, Sense, evaluate, is_valid, iter_errors, validate}
 use Rattle.schema_definitions.specs.Guarded.{guarded_sense}
+use Rattle.schema_meaning.specs.Members.{Finishes}
 use Rattle.schema_meaning.specs.Numbered.{subject_in}
 use Rattle.schema_meaning.specs.Root.{IsRoot}
 use Rattle.schema_greatest.specs.Solutions as by_targets
@@ -66,6 +67,12 @@ module _ {C Run K M : Type 0} (keywords : KeywordMembers C Run K) (matchers : Ma
   -- the evaluation's verdict is a yes
   abbrev pub EvaluatesAccepted : EvaluationNode → Type 0
   EvaluatesAccepted u = SaysAccepted evaluate (λ texts. verdict_in texts u)
+
+-- where the matcher finishes every match, each call decides: then it is so of its answer with no depth
+abbrev pub FinishingAccepts : {C Run K M : Type 0} → KeywordMembers C Run K → MatcherMembers M → Type 0
+FinishingAccepts {C} {M = M} keywords matchers = (p : Program C M) (instance : Data) → Finishes (matchers.matching p.matcher) → 1 ≤ p.runs → (call : Call) (answer : Bool → Bool)
+    → SaysAccepted keywords matchers p instance call answer → (texts : Bool) → Speaks keywords.shape keywords.words keywords.is_whole matchers.matching p instance texts
+    → NodesAreMonotone keywords.shape keywords.words p texts → (answer texts ≡ true) ↔ NodesAccept keywords.shape keywords.words matchers.matching p texts instance
 
 -- ---- a build
 
@@ -140,3 +147,10 @@ module _ {A State S T C Maker Run K M : Type 0} (resolvers : ResolverMembers A S
   GreatestVerdictsAgree = (options : Options) (schema : Data) (p p' : Program C M) → AcceptsAsSchema both options schema p → AcceptsAsSchema both options schema p' → (instance : Data)
       → (b b' : Bool) → DecidesAccepted keywords matchers p instance b → DecidesAccepted keywords matchers p' instance b'
       → WhereBothDecide options schema instance p is_valid p' is_valid (λ texts. b ≡ b')
+
+  -- of one validator whose matcher finishes every match: a call says yes exactly if the greatest solution of the schema accepts
+  abbrev pub FinishingGreatest : Type 0
+  FinishingGreatest = (options : Options) (schema : Data) (p : Program C M) → AcceptsAsSchema both options schema p → (instance : Data) → Finishes (matchers.matching p.matcher) → 1 ≤ p.runs
+      → (call : Call) (answer : Bool → Bool) → SaysAccepted keywords matchers p instance call answer
+      → (texts : Bool) (root : Key S) → IsRoot (parts both options texts) schema root → EachIsMonotone (parts both options texts) root
+      → Speaks keywords.shape keywords.words keywords.is_whole matchers.matching p instance texts → (answer texts ≡ true) ↔ AcceptsEach (parts both options texts) root instance

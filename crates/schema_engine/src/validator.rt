@@ -153,9 +153,10 @@ impl<K: Validate, M: Matcher> Validator<K, M> {
         &self.nodes
     }
 
-    /// Returns whether each keyword of each node says that it is monotone: a yes more among the answers to its questions turns no
-    /// yes of it to a no. References count as monotone. Where it returns true, what the calls answer is the greatest solution, also
-    /// where chains of references return. Allocates nothing.
+    /// Returns whether each keyword of each node says that it is monotone: that a yes more among the answers to its questions turns
+    /// no yes of it to a no. References count as monotone. Where it returns `true`, the calls answer by the greatest solution of the
+    /// nodes: the largest set of numbers and places, each of which accepts where exactly those of the set do; also where chains of
+    /// references return. Allocates nothing.
     pub fn is_monotone(&self) -> bool
         ensures exactly { (result ≡ true) ↔ EachSays K.says_monotone (numbered K.shape self.now.nodes) (length self.now.nodes) }
         ensures monotone { result ≡ true → (texts : Bool) → NodesAreMonotone K.shape K.words self.now texts }
@@ -414,7 +415,8 @@ impl<K: Validate, M: Matcher> Validator<K, M> {
     }
 
     /// Returns whether the instance is valid. Where the matcher leaves matches unfinished, returns whether the instance is valid
-    /// under every outcome of them, and `false` if that takes more runs than a call makes.
+    /// under every outcome of them, and `false` if that takes more runs than a call makes. Where each keyword is monotone, and it
+    /// takes no more runs, returns `true` exactly if the greatest solution of the nodes accepts, also where references return.
     ///
     /// # Errors
     ///
@@ -434,7 +436,8 @@ impl<K: Validate, M: Matcher> Validator<K, M> {
     /// Returns the first error as an inner `Err`, and an inner `Ok` if the instance is valid. Where the matcher leaves matches
     /// unfinished, the error is the first that all outcomes of them share. It tells of such a match instead if some outcome
     /// refuses and they share no error, or if that takes more runs than a call makes. Any other error is one that the nodes give
-    /// under some outcome, so it points at keyword and value as the build promises of these.
+    /// under some outcome, so it points at keyword and value as the build promises of these. Where each keyword is monotone, there
+    /// is no error exactly if the greatest solution of the nodes accepts.
     ///
     /// # Errors
     ///
@@ -461,7 +464,8 @@ impl<K: Validate, M: Matcher> Validator<K, M> {
     /// Returns all errors in order, and none if the instance is valid. Where the matcher leaves matches unfinished, these are the
     /// errors that all outcomes of them share. There is one error, which tells of such a match, if some outcome refuses and
     /// they share no error, or if that takes more runs than a call makes. Any other error is one that the nodes give under some
-    /// outcome, so it points at keyword and value as the build promises of these.
+    /// outcome, so it points at keyword and value as the build promises of these. Where each keyword is monotone, there is no error
+    /// exactly if the greatest solution of the nodes accepts.
     ///
     /// # Errors
     ///
@@ -491,7 +495,7 @@ impl<K: Validate, M: Matcher> Validator<K, M> {
     /// errors that all outcomes of them share instead: it has one unit for each, at its paths, without absolute locations and
     /// annotations, inside one at empty locations. There is one error, which tells of such a match, if some outcome refuses and
     /// they share no error, or if that takes more runs than a call makes. The outermost unit is valid exactly if the instance is
-    /// valid under every outcome.
+    /// valid under every outcome; where each keyword is monotone, exactly if the greatest solution of the nodes accepts.
     ///
     /// # Errors
     ///

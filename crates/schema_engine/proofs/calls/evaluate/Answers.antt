@@ -2,16 +2,16 @@ use Rattle.std.specs.Prelude.{Bool}
 use Rattle.std.proofs.lemmas.Result.{err_from_is_err_and}
 use Rattle.serde_json.specs.View.{view}
 use Rattle.schema_keywords.specs.KeywordTable.{builtin_in}
+use Rattle.schema_definitions.specs.Cover.{evaluate}
+use Rattle.schema_definitions.specs.Laws.{EachKeeps}
 use Rattle.schema_meaning.specs.ErrorsLead.{EachKeepsAbsorbing}
 use Rattle.schema_meaning.proofs.TurnsGiveRuns.{keeps_of_turns}
 use Rattle.schema_engine.specs.Evaluated.{EvaluationAnswered, UnitsAnswered}
 use Rattle.schema_engine.specs.Handed.{default_options, default_runs, handed, table_of}
+use Rattle.schema_engine.specs.Nesting.{verdict_in}
+use Rattle.schema_engine.proofs.Greatest.{says_greatest}
 use Rattle.schema_engine.proofs.Pointing.{evaluation_points}
 use Rattle.schema_engine.proofs.PlainAnswers.{plainly_from, plainly_with_units}
-use Rattle.schema_engine.specs.Nesting.{verdict_in}
-use Rattle.schema_definitions.specs.Cover.{evaluate}
-use Rattle.schema_engine.proofs.Greatest.{says_greatest}
-use Rattle.schema_definitions.specs.Laws.{EachKeeps}
 use Rattle.schema_engine.proofs.calls.evaluate.Goals as goal
 
 pub returns-clause-answer : goal.returns-clause-answer

@@ -6,6 +6,7 @@ use Rattle.serde_json.specs.View.{view}
 use Rattle.schema_keywords.specs.KeywordTable.{builtin_in}
 use Rattle.schema_keywords.specs.KeywordViews.{draft_of}
 use Rattle.schema_definitions.specs.Plan.{Key}
+use Rattle.schema_definitions.specs.Laws.{EachKeeps}
 use Rattle.schema_keys.specs.Builtins.{builtin}
 use Rattle.schema_check.specs.Checking.{AcceptsSchema}
 use Rattle.schema_keys.specs.Compiling.{no_table, no_keywords, no_matcher}
@@ -17,12 +18,11 @@ use Rattle.schema_engine.specs.Roots.{root_parts}
 use Rattle.schema_engine.proofs.Compilations.{compiled_from_roots, compiles_in, in_order_in, reach_in, refuses_in, whole_in, whole_too}
 use Rattle.schema_meaning.specs.ErrorsLead.{EachKeepsAbsorbing}
 use Rattle.schema_meaning.proofs.TurnsGiveRuns.{keeps_of_turns}
+use Rattle.schema_engine.proofs.Greatest.{accepts_as_schema}
 use Rattle.schema_engine.proofs.Pointing.{points_into}
 use Rattle.schema_engine.proofs.OtherParts.{compiles_too}
 use Rattle.schema_engine.proofs.RootKeys.{one_root_key, root_key_too, root_too}
 use Rattle.schema_engine.proofs.FirstCauses.{compiled_first, document_first}
-use Rattle.schema_engine.proofs.Greatest.{accepts_as_schema}
-use Rattle.schema_definitions.specs.Laws.{EachKeeps}
 use Rattle.schema_engine.proofs.options.ValidationOptions.build_nested.Goals as goal
 
 pub of_compiled_within-requires : goal.of_compiled_within-requires

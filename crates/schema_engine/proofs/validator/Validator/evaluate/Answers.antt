@@ -1,16 +1,16 @@
 use Rattle.std.proofs.Common.{Bool, subst, sym}
 use Rattle.serde_json.specs.View.{view}
 use Rattle.schema_definitions.specs.Cover.{Sense}
+use Rattle.schema_definitions.specs.Laws.{EachKeeps}
 use Rattle.schema_meaning.specs.Means.{FromSomeDepth}
 use Rattle.schema_reports.specs.declared.evaluation.EvaluationNode.{EvaluationNode}
 use Rattle.schema_meaning.proofs.SensesMeant.{of_every_sense}
+use Rattle.schema_meaning.proofs.TurnsGiveRuns.{keeps_of_turns}
 use Rattle.schema_nodes.specs.NodeTable.{numbered}
 use Rattle.schema_engine.specs.Evaluated.{EvaluationAnswered}
 use Rattle.schema_engine.specs.Program.{HasUnits}
-use Rattle.schema_engine.proofs.PlainAnswers.{units_in_every_sense}
-use Rattle.schema_definitions.specs.Laws.{EachKeeps}
-use Rattle.schema_meaning.proofs.TurnsGiveRuns.{keeps_of_turns}
 use Rattle.schema_engine.proofs.Greatest.{evaluates_accepted}
+use Rattle.schema_engine.proofs.PlainAnswers.{units_in_every_sense}
 use Rattle.schema_engine.proofs.validator.Validator.evaluate.Goals as goal
 
 pub returns-clause-depth : goal.returns-clause-depth

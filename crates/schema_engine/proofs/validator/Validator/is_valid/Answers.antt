@@ -1,11 +1,11 @@
 use Rattle.std.proofs.Common.{Bool}
 use Rattle.serde_json.specs.View.{view}
 use Rattle.schema_definitions.specs.Cover.{Sense, is_valid}
+use Rattle.schema_definitions.specs.Laws.{EachKeeps}
 use Rattle.schema_meaning.specs.Headline.{VerdictSays}
 use Rattle.schema_meaning.proofs.SensesMeant.{of_every_sense}
-use Rattle.schema_nodes.specs.NodeTable.{numbered}
-use Rattle.schema_definitions.specs.Laws.{EachKeeps}
 use Rattle.schema_meaning.proofs.TurnsGiveRuns.{keeps_of_turns}
+use Rattle.schema_nodes.specs.NodeTable.{numbered}
 use Rattle.schema_engine.proofs.Greatest.{decides_accepted}
 use Rattle.schema_engine.proofs.validator.Validator.is_valid.Goals as goal
 

@@ -1,19 +1,19 @@
 use Rattle.std.proofs.Common.{Bool, List, subst, sym}
 use Rattle.std.specs.Prelude.{All}
 use Rattle.serde_json.specs.View.{view}
-use Rattle.schema_definitions.specs.Cover.{Sense}
 use Rattle.schema_definitions.specs.Guarded.{guarded_sense}
+use Rattle.schema_definitions.specs.Cover.{Sense}
+use Rattle.schema_definitions.specs.Laws.{EachKeeps}
 use Rattle.schema_meaning.specs.Numbered.{subject_in}
 use Rattle.schema_meaning.specs.Means.{FromSomeDepth}
 use Rattle.schema_reports.specs.ReportViews.{BorrowsItsPlace}
 use Rattle.schema_reports.specs.declared.reports.ValidationError.{ValidationError}
 use Rattle.schema_meaning.proofs.SensesMeant.{of_every_sense}
+use Rattle.schema_meaning.proofs.TurnsGiveRuns.{keeps_of_turns}
 use Rattle.schema_nodes.specs.NodeTable.{numbered}
 use Rattle.schema_engine.specs.Spoken.{EachIsGiven, ErrorsAnswered}
-use Rattle.schema_engine.proofs.Pointing.{each_is_given}
-use Rattle.schema_definitions.specs.Laws.{EachKeeps}
-use Rattle.schema_meaning.proofs.TurnsGiveRuns.{keeps_of_turns}
 use Rattle.schema_engine.proofs.Greatest.{errors_accepted}
+use Rattle.schema_engine.proofs.Pointing.{each_is_given}
 use Rattle.schema_engine.proofs.validator.Validator.iter_errors.Goals as goal
 
 pub returns-clause-depth : goal.returns-clause-depth

@@ -5,11 +5,11 @@ use Rattle.schema_keywords.specs.KeywordTable.{builtin_in}
 use Rattle.schema_keys.specs.declared.error.BuildError.{BuildError}
 use Rattle.schema_engine.specs.Called.{BuildRefused, IsCompiledFrom}
 use Rattle.schema_engine.specs.FirstCauses.{FirstOfBuild}
+use Rattle.schema_engine.specs.Greatest.{AcceptsAsSchema}
 use Rattle.schema_engine.specs.Handed.{Options, handed, parts_of, table_of}
 use Rattle.schema_engine.specs.Program.{Program}
 use Rattle.schema_engine.specs.Promised.{HasSchemasUnits, MeansSchema, PointsIntoSchema}
 use Rattle.schema_engine.specs.Roots.{Builds}
-use Rattle.schema_engine.specs.Greatest.{AcceptsAsSchema}
 use Rattle.schema_engine.proofs.validator.Validator.new.Goals as goal
 
 pub returns-clause-means : goal.returns-clause-means

@@ -1,19 +1,19 @@
 use Rattle.std.proofs.Common.{Bool, subst, sym}
 use Rattle.std.specs.Prelude.{Option, IfSome}
 use Rattle.serde_json.specs.View.{view}
-use Rattle.schema_definitions.specs.Cover.{Sense}
 use Rattle.schema_definitions.specs.Guarded.{guarded_sense}
+use Rattle.schema_definitions.specs.Cover.{Sense}
+use Rattle.schema_definitions.specs.Laws.{EachKeeps}
 use Rattle.schema_meaning.specs.Numbered.{subject_in}
 use Rattle.schema_meaning.specs.Means.{FromSomeDepth}
 use Rattle.schema_reports.specs.ReportViews.{BorrowsItsPlace}
 use Rattle.schema_reports.specs.declared.reports.ValidationError.{ValidationError}
 use Rattle.schema_meaning.proofs.SensesMeant.{of_every_sense}
+use Rattle.schema_meaning.proofs.TurnsGiveRuns.{keeps_of_turns}
 use Rattle.schema_nodes.specs.NodeTable.{numbered}
 use Rattle.schema_engine.specs.Spoken.{FirstAnswered, FirstIsGiven}
-use Rattle.schema_engine.proofs.Pointing.{first_is_given}
-use Rattle.schema_definitions.specs.Laws.{EachKeeps}
-use Rattle.schema_meaning.proofs.TurnsGiveRuns.{keeps_of_turns}
 use Rattle.schema_engine.proofs.Greatest.{first_accepted}
+use Rattle.schema_engine.proofs.Pointing.{first_is_given}
 use Rattle.schema_engine.proofs.validator.Validator.validate.Goals as goal
 
 pub returns-clause-depth : goal.returns-clause-depth

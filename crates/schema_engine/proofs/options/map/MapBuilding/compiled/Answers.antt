@@ -6,6 +6,7 @@ use Rattle.serde_json.specs.View.{view}
 use Rattle.schema_meaning.specs.ErrorsLead.{EachKeepsAbsorbing}
 use Rattle.schema_keywords.specs.KeywordTable.{builtin_in}
 use Rattle.schema_keywords.specs.KeywordViews.{draft_of}
+use Rattle.schema_definitions.specs.Laws.{EachKeeps}
 use Rattle.schema_meaning.proofs.TurnsGiveRuns.{keeps_of_turns}
 use Rattle.schema_nodes.specs.NodeTable.{NodeEntry}
 use Rattle.schema_keys.specs.Builtins.{builtin}
@@ -13,9 +14,8 @@ use Rattle.schema_compiler.specs.Compilation.{IsCompilationAlone, RefusesAlone, 
 use Rattle.schema_keys.specs.KeyViews.{key_of}
 use Rattle.schema_engine.specs.Handed.{Options, handed, table_of}
 use Rattle.schema_engine.proofs.CompiledAlone.{alone_in, compiled_alone, program_alone, refuses_alone_in, within_alone}
-use Rattle.schema_engine.proofs.Pointing.{points_from_key}
 use Rattle.schema_engine.proofs.Greatest.{accepts_as_key}
-use Rattle.schema_definitions.specs.Laws.{EachKeeps}
+use Rattle.schema_engine.proofs.Pointing.{points_from_key}
 use Rattle.schema_engine.proofs.options.map.MapBuilding.compiled.Goals as goal
 
 pub of_compiled_within-requires : goal.of_compiled_within-requires
