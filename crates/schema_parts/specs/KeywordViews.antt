@@ -53,16 +53,16 @@ abbrev pub spot_below : spec.Spot → spec.Below → spec.Spot
 spot_below s b = record s { below = s.below ++ steps_below b }
 
 -- a match of this pattern is asked for at the keyword
-abbrev pub at_keyword : Text → Bool → spec.MatchPoint
-at_keyword pattern located = record {
+abbrev pub keyword_point : Text → Bool → spec.MatchPoint
+keyword_point pattern located = record {
   spot = record { absorbed = None; path = []; below = [] };
   located = located;
   pattern = Some pattern;
 }
 
 -- a match is asked for at a spot, or one step below it
-abbrev pub at_spot : Bool → Spot → Below → spec.MatchPoint
-at_spot located spot below = record {
+abbrev pub spot_point : Bool → Spot → Below → spec.MatchPoint
+spot_point located spot below = record {
   spot = spot_below (spot_of spot) (below_of below);
   located = located;
   pattern = option_map string_bytes spot.pattern;
@@ -70,16 +70,16 @@ at_spot located spot below = record {
 
 -- where a match of this pattern is asked for
 abbrev pub point_of : Text → MatchPoint → spec.MatchPoint
-point_of pattern (point.AtKeyword located) = at_keyword pattern located
-point_of pattern (point.AtSpot located spot below) = at_spot located spot.now below
+point_of pattern (point.AtKeyword located) = keyword_point pattern located
+point_of pattern (point.AtSpot located spot below) = spot_point located spot.now below
 
 -- a match that a keyword asks for at a spot, of this subject
 abbrev pub spot_match : SpotMatch → Text → Below → spec.Turn
-spot_match m subject below = spec.match_text (record { pattern = string_bytes m.pattern; subject = subject }) (at_spot m.located m.spot below)
+spot_match m subject below = spec.match_text (record { pattern = string_bytes m.pattern; subject = subject }) (spot_point m.located m.spot below)
 
 abbrev pub turn_of : step_module.Step → spec.Turn
 turn_of (step.Ask child b m) = spec.ask (record { child = child; below = below_of b }) (mode_of m)
-turn_of (step.Match pattern subject located) = spec.match_text (record { pattern = pattern.now; subject = subject.now }) (at_keyword pattern.now located)
+turn_of (step.Match pattern subject located) = spec.match_text (record { pattern = pattern.now; subject = subject.now }) (keyword_point pattern.now located)
 turn_of (step.MatchAt m subject below) = spot_match m.now subject.now below
 turn_of (step.Mark m) = spec.mark (marked_of m)
 turn_of step.Unmark = spec.unmark
@@ -87,13 +87,13 @@ turn_of (step.Ecma text) = spec.ecma text.now
 turn_of step.Done = spec.done
 
 -- the match that a turn asks for, if it asks for one, and where
-abbrev pub asked_in : spec.Turn → Option (Pair × spec.MatchPoint)
-asked_in (spec.ask q mode) = None
-asked_in (spec.match_text a point) = Some (a, point)
-asked_in (spec.mark i) = None
-asked_in spec.unmark = None
-asked_in (spec.ecma text) = None
-asked_in spec.done = None
+abbrev pub match_in : spec.Turn → Option (Pair × spec.MatchPoint)
+match_in (spec.ask q mode) = None
+match_in (spec.match_text a point) = Some (a, point)
+match_in (spec.mark i) = None
+match_in spec.unmark = None
+match_in (spec.ecma text) = None
+match_in spec.done = None
 
 abbrev pub reply_of : Bool → Reply → spec.Reply
 reply_of texts reply.Nothing = spec.no_reply

@@ -12,7 +12,7 @@ ghost use Rattle.schema_meaning.specs.Greatest.{IsMonotone};
 ghost use Rattle.schema_meaning.specs.UnitsLead.{EachHandsUnitsOn};
 ghost use Rattle.schema_parts.specs.AtOnce.{EndsAtOnce};
 ghost use Rattle.schema_parts.specs.FaultViews.{errors_in, faults_in, PassesBorrowed};
-ghost use Rattle.schema_parts.specs.KeywordViews.{mode_of, reply_of, answer_of, asked_in, fresh, point_of, turn_of, Tells};
+ghost use Rattle.schema_parts.specs.KeywordViews.{mode_of, reply_of, answer_of, match_in, fresh, point_of, turn_of, Tells};
 ghost use Rattle.schema_parts.specs.UnitQuestions.{AsksNoUnits};
 
 use schema_reports::evaluation::EvaluationNode;
@@ -94,7 +94,7 @@ impl<'s> Step<'s> {
     /// The match that is asked for, if one is: the compiled pattern, the subject, and where.
     pub fn asked_match(self) -> Option<(&'s str, &'s str, MatchPoint<'s>)>
         ensures asked { option_map (λ r. (record { pattern = r.0.now; subject = r.1.now }, point_of r.0.now r.2)) result
-            ≡ asked_in (turn_of self.entry) }
+            ≡ match_in (turn_of self.entry) }
     {
         match self {
             Step::Match(pattern, subject, located) => {
