@@ -87,7 +87,7 @@ impl Validate for EachName {
 
     ghost words = { name_words };
 
-    ghost shape = { λ k. string_bytes k.names.at.pattern };
+    ghost shape = { λ k. string_bytes k.names.asked.pattern };
 
     ghost absorbed = { name_absorbed };
 

@@ -10,14 +10,14 @@ use std::alloc::Global;
 /// A match at the keyword itself, shown with evaluation path and place. Its spot owns all that it holds.
 #[derive(Drop)]
 pub struct OwnSpot {
-    at: SpotMatch<'static>,
-    ghost plain: { is_plain at ≡ true },
+    asked: SpotMatch<'static>,
+    ghost plain: { is_plain asked ≡ true },
 }
 
 impl OwnSpot {
     /// The match of this pattern.
     pub fn new(alloc: Global, pattern: String) -> OwnSpot
-        ensures held { string_bytes result.at.pattern ≡ string_bytes pattern }
+        ensures held { string_bytes result.asked.pattern ≡ string_bytes pattern }
     {
         let spot = Spot {
             absorbed: None,
@@ -26,7 +26,7 @@ impl OwnSpot {
             pattern: None,
         };
         OwnSpot {
-            at: SpotMatch {
+            asked: SpotMatch {
                 spot,
                 pattern,
                 located: true,
@@ -38,8 +38,8 @@ impl OwnSpot {
     #[tactic(auto, using(crate::specs::OwnSpot::below_plain))]
     pub fn at_name<'s>(&'s self, name: &'s str) -> Step<'s>
         ensures step { turn_of result
-            ≡ match_text (record { pattern = string_bytes self.now.at.pattern; subject = name.now }) (name_point name.now) }
+            ≡ match_text (record { pattern = string_bytes self.now.asked.pattern; subject = name.now }) (name_point name.now) }
     {
-        Step::MatchAt(&self.at, name, Below::NameOf(name))
+        Step::MatchAt(&self.asked, name, Below::NameOf(name))
     }
 }

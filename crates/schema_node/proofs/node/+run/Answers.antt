@@ -36,6 +36,7 @@ use Rattle.schema_meaning.proofs.Alike.{asked_alike}
 use Rattle.schema_parts.proofs.Replies.{if_ok_always, if_ok_both, if_ok_mono}
 use Rattle.schema_node.proofs.NodeRuns.{agrees_answers, agrees_says, child_below, child_here, edge_busy, falls_below, falls_here, form_reference, leaf_accepts, needs_of_entered, node_by_plan, one_entry, settled_entries, stands_in, start_entries, where_is}
 use Rattle.schema_contexts.proofs.Matches.{after_assumes, moved, meets_append, meets_same}
+use Rattle.schema_node.proofs.AskedMatches.{step_asks}
 use Rattle.schema_node.proofs.KeywordMeets.{meets_all, meets_asked, meets_at_once, meets_begun, meets_mark_taken, meets_marked, meets_matched, meets_nothing}
 use Rattle.schema_node.proofs.NodeMeets.{end_met, last_met, leaf_holds, leaf_no, leaf_yes, meets_below, meets_busy, meets_here, meets_never, meets_reference, meets_these, next_met, nothing_refused, other_entry, stops_at, meets_by_plan, stops}
 use Rattle.schema_parts.proofs.Drops.{drop_at, drop_past}
@@ -889,7 +890,7 @@ turns::run_turns-turns-preserved-in-Match g t c =
     let asked = step_asks c.in_ok-step.step c.in-Match.is in
     let a = asked.0 in
     let point = asked.1.0 in
-    let n = node_of c.node.result.now in
+    let n = node_of c.node-node.result.now in
     let answer = (w.matcher).is_match a.pattern a.subject in
     let step = c.in_ok-step.ensures.steps false (tells_nothing (g.K.Validate.is_whole m) s) ∙ asked.1.1 in
     let out = rw c.turns.invariant.assumes at (c.in_ok-matches-in-Match.ensures.answer a point asked.1.1) in
@@ -915,7 +916,7 @@ turns::run_turns-turns-preserved-in-Match g t c =
           let turn' = c.in_ok-step.ensures.turns texts tells in
           let falls = falls_turned (g.K.Validate.words texts) m (g.K.Validate.absorbed m) (g.K.Validate.remaining m) (g.K.Validate.can_be texts m) (g.K.Validate.ends texts m) (g.K.Validate.fits texts m) (g.met.K.Validate.turn_laws texts m) s (c.turns.run, answer_of texts c.turns.answer) (c.turn.new.run, answer_of texts c.turn.new.answer) (reply_of texts c.turns.reply) (match_text a point) (c.turns.invariant.leads (reading w texts root depth) reads l).can turn' step' (match_goes_on a point) in
           let is = ap truth (out ∙ ap (λ b. settled b answer) (sym (reads.completes a))) in
-          let there = where_is g.K.Validate.shape c.args.engine.now.nodes.now (g.K.Validate.words texts) w.matcher (subject_in root) c.args.node.0 n (path_of c.args.question.now.path.now) p c.node.ensures.found in
+          let there = where_is g.K.Validate.shape c.args.engine.now.nodes.now (g.K.Validate.words texts) w.matcher (subject_in root) c.args.node.0 n (path_of c.args.question.now.path.now) p c.node-node.ensures.found in
           let new = met ∙ ap (λ (v : Where). after_match c.turns.context.remembered (record { pair = a; site = site_at v name point }) answer) (sym there) in
           meets_matched (g.K.Validate.words texts) w.matcher w.assumptions (node_at (g.K.Validate.words texts) w.matcher ns (subject_in root) c.args.node.0 (path_of c.args.question.now.path.now) p) s (child_run g.K.Validate.words ns w texts root depth (path_of c.args.question.now.path.now) p busy es) (same_edge es) name m (g.K.Validate.remaining m s) _ _ _ _ _ _ _ _ _ _ a point c.step_match.ensures.marking turn' step' falls is new (c.turns.invariant.met texts root depth reads l);
     }
