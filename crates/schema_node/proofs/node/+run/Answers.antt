@@ -842,8 +842,8 @@ turns::run_turns-turns-smaller-in-Match g t c =
     let turn = c.in_ok-step.ensures.turns false (tells_nothing (g.K.Validate.is_whole m) s) in
     let asked = step_asks c.in_ok-step.step c.in-Match.is in
     let a = asked.0 in
-    let point = asked.1.0 in
-    let step = c.in_ok-step.ensures.steps false (tells_nothing (g.K.Validate.is_whole m) s) ∙ asked.1.1 in
+    let point = asked.1 in
+    let step = c.in_ok-step.ensures.steps false (tells_nothing (g.K.Validate.is_whole m) s) ∙ asked.2 in
     falls_turned (g.K.Validate.words false) m (g.K.Validate.absorbed m) (g.K.Validate.remaining m) (g.K.Validate.can_be false m) (g.K.Validate.ends false m) (g.K.Validate.fits false m) (g.met.K.Validate.turn_laws false m) s (c.turns.run, answer_of false c.turns.answer) (c.turn.new.run, answer_of false c.turn.new.answer) told (match_text a point) c.turns.invariant.can turn step (match_goes_on a point)
 
 pub turns::run_turns-turns-smaller-in-Ecma : goal.turns::run_turns-turns-smaller-in-Ecma
@@ -889,12 +889,12 @@ turns::run_turns-turns-preserved-in-Match g t c =
     let turn = c.in_ok-step.ensures.turns false (tells_nothing (g.K.Validate.is_whole m) s) in
     let asked = step_asks c.in_ok-step.step c.in-Match.is in
     let a = asked.0 in
-    let point = asked.1.0 in
+    let point = asked.1 in
     let n = node_of c.node-node.result.now in
     let answer = (w.matcher).is_match a.pattern a.subject in
-    let step = c.in_ok-step.ensures.steps false (tells_nothing (g.K.Validate.is_whole m) s) ∙ asked.1.1 in
-    let out = rw c.turns.invariant.assumes at (c.in_ok-matches-in-Match.ensures.answer a point asked.1.1) in
-    let met = c.in_ok-matches-in-Match.ensures.met a point asked.1.1 in
+    let step = c.in_ok-step.ensures.steps false (tells_nothing (g.K.Validate.is_whole m) s) ∙ asked.2 in
+    let out = rw c.turns.invariant.assumes at (c.in_ok-matches-in-Match.ensures.answer a point asked.2) in
+    let met = c.in_ok-matches-in-Match.ensures.met a point asked.2 in
     record {
       kept = c.step_match.ensures.in_progress ∙ c.turns.invariant.kept;
       assumes = ap (λ (r : Remembered). r.assumptions) met ∙ after_assumes _ _ answer ∙ c.turns.invariant.assumes;
@@ -909,10 +909,10 @@ turns::run_turns-turns-preserved-in-Match g t c =
           let tells = tells_keyword g.K.Validate.is_whole ns (length c.args.engine.now.nodes.now) w p s x c.args.node.0 m es c.requires.may.known reads c.requires.form in
           let is = ap truth (out ∙ ap (λ b. settled b answer) (sym (reads.completes a)) ∙ ap (λ (o : Matcher). settled (completed x.completion a) (o.is_match a.pattern a.subject)) (sym reads.matcher)) in
           matched_on (g.K.Validate.words x.texts) m (g.K.Validate.absorbed m) (g.K.Validate.remaining m) (g.K.Validate.can_be x.texts m) (g.K.Validate.ends x.texts m) (g.K.Validate.fits x.texts m) (g.met.K.Validate.turn_laws x.texts m) s x (mode_of c.args.question.now.mode) (child_says g.K.Validate.words ns x (path_of c.args.question.now.path.now) p busy es) (child_unit g.K.Validate.words ns x (path_of c.args.question.now.path.now) p busy es) (same_edge es) c.turns.context.marking c.step_match.new.context.marking (c.turns.run, answer_of x.texts c.turns.answer) (c.turn.new.run, answer_of x.texts c.turn.new.answer)
-          (reply_of x.texts c.turns.reply) (truth c.in_ok-matches-in-Match.matches) a point c.step_match.ensures.marking (c.turns.invariant.leads x reads l) (c.in_ok-step.ensures.turns x.texts tells) (c.in_ok-step.ensures.steps x.texts tells ∙ asked.1.1) is;
+          (reply_of x.texts c.turns.reply) (truth c.in_ok-matches-in-Match.matches) a point c.step_match.ensures.marking (c.turns.invariant.leads x reads l) (c.in_ok-step.ensures.turns x.texts tells) (c.in_ok-step.ensures.steps x.texts tells ∙ asked.2) is;
       met = λ texts root depth reads l.
           let tells = tells_keyword g.K.Validate.is_whole ns (length c.args.engine.now.nodes.now) w p s (reading w texts root depth) c.args.node.0 m es c.requires.may.known reads c.requires.form in
-          let step' = c.in_ok-step.ensures.steps texts tells ∙ asked.1.1 in
+          let step' = c.in_ok-step.ensures.steps texts tells ∙ asked.2 in
           let turn' = c.in_ok-step.ensures.turns texts tells in
           let falls = falls_turned (g.K.Validate.words texts) m (g.K.Validate.absorbed m) (g.K.Validate.remaining m) (g.K.Validate.can_be texts m) (g.K.Validate.ends texts m) (g.K.Validate.fits texts m) (g.met.K.Validate.turn_laws texts m) s (c.turns.run, answer_of texts c.turns.answer) (c.turn.new.run, answer_of texts c.turn.new.answer) (reply_of texts c.turns.reply) (match_text a point) (c.turns.invariant.leads (reading w texts root depth) reads l).can turn' step' (match_goes_on a point) in
           let is = ap truth (out ∙ ap (λ b. settled b answer) (sym (reads.completes a))) in
