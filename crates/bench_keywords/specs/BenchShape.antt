@@ -1,5 +1,5 @@
 -- What is known of a keyword apart from its representation.
-use Rattle.std.specs.Prelude.{Bool, List, Option, not, true, ℕ}
+use Rattle.std.specs.Prelude.{Bool, List, Option, false, not, true, ℕ}
 use Rattle.schema_definitions.specs.Instance.{Text}
 use Rattle.bench_keywords.specs.declared.type_names.TypeName.{TypeName}
 use Rattle.bench_keywords.specs.declared.counts.CountKind.{CountKind}
@@ -33,3 +33,10 @@ pub data BenchShape : Type 0 where
 abbrev pub is_whole : BenchShape → Bool
 is_whole (has_not schema fraction) = not fraction
 is_whole _ = true
+
+-- whether it says of itself that it is monotone
+abbrev pub says_monotone : BenchShape → Bool
+says_monotone (has_one_of n) = false
+says_monotone (has_if accepted refused) = false
+says_monotone (has_not schema fraction) = false
+says_monotone _ = true

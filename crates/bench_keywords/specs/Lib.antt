@@ -6,3 +6,4 @@ pub mod Laws
 pub mod Shapes
 pub mod UnitsAsked
 pub mod VerdictsAsked
+pub mod Grows

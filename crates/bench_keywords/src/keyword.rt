@@ -194,10 +194,11 @@ fn turn_at<'s, 'i: 's>(
 }
 
 impl Validate for BenchKeyword {
+    ghost use Rattle.bench_keywords.specs.Grows.{bench_grows, bench_hands_units_on};
     ghost use Rattle.bench_keywords.specs.UnitsAsked.{bench_asks_no_units};
     ghost use Rattle.bench_keywords.specs.VerdictsAsked.{bench_asks_verdicts};
     ghost use Rattle.std.specs.Prelude.{refl};
-    ghost use Rattle.bench_keywords.specs.BenchShape.{is_whole};
+    ghost use Rattle.bench_keywords.specs.BenchShape.{is_whole, says_monotone};
     ghost use Rattle.bench_keywords.specs.Words.{any_run, ends_in, fits_in, turns_left, words};
     ghost use Rattle.bench_keywords.specs.Laws.{functions_keep, none_absorbed, turns_keep};
 
@@ -212,6 +213,8 @@ impl Validate for BenchKeyword {
     ghost absorbed = { none_absorbed };
 
     ghost is_whole = { is_whole };
+
+    ghost says_monotone = { says_monotone };
 
     ghost remaining = { turns_left };
 
@@ -265,6 +268,13 @@ impl Validate for BenchKeyword {
         }
     }
 
+    fn monotone(&self) -> bool {
+        match self {
+            BenchKeyword::OneOf(_) | BenchKeyword::If(_, _) | BenchKeyword::Not(_) => false,
+            _ => true,
+        }
+    }
+
     ghost speaks = { λ texts. refl };
 
     ghost answers = { λ texts run a. refl };
@@ -272,6 +282,10 @@ impl Validate for BenchKeyword {
     ghost turn_laws = { turns_keep };
 
     ghost function_laws = { functions_keep };
+
+    ghost grows = { bench_grows };
+
+    ghost hands_units_on = { bench_hands_units_on };
 
     ghost asks_no_units = { bench_asks_no_units };
 

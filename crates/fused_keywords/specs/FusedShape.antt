@@ -2,6 +2,7 @@
 use Rattle.std.specs.Prelude.{Bool, List, [], true}
 use Rattle.schema_definitions.specs.Instance.{Text}
 use Rattle.bench_keywords.specs.BenchShape.{BenchShape, is_whole}
+use Rattle.bench_keywords.specs.BenchShape as bench
 use Rattle.fused_keywords.specs.Openings.{absorbs}
 use Rattle.fused_keywords.specs.declared.array.ArrayKeyword.{ArrayKeyword}
 
@@ -18,3 +19,8 @@ absorbed_by (of_array k) = absorbs k
 abbrev pub is_free : FusedShape → Bool
 is_free (of_bench m) = is_whole m
 is_free (of_array k) = true
+
+-- whether it says of itself that it is monotone
+abbrev pub says_monotone : FusedShape → Bool
+says_monotone (of_bench m) = bench.says_monotone m
+says_monotone (of_array k) = true

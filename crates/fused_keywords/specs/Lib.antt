@@ -5,6 +5,7 @@ pub mod FusedShapes
 pub mod FusedWords
 pub mod FusedLaws
 pub mod FusedModes
+pub mod FusedGrows
 pub mod FusedScripts
 pub mod FusedMakers
 pub mod FusedMakerLaws

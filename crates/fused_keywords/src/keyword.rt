@@ -31,7 +31,8 @@ impl Model for Shape {
 
 impl Validate for FusedKeyword {
     ghost use Rattle.std.specs.Prelude.{refl};
-    ghost use Rattle.fused_keywords.specs.FusedShape.{absorbed_by, is_free};
+    ghost use Rattle.fused_keywords.specs.FusedGrows.{fused_grows, fused_hands_units_on};
+    ghost use Rattle.fused_keywords.specs.FusedShape.{absorbed_by, is_free, says_monotone};
     ghost use Rattle.fused_keywords.specs.FusedShapes.{fused_shape};
     ghost use Rattle.fused_keywords.specs.FusedWords.{fused_can_be, fused_ends, fused_fits, fused_left, fused_words};
     ghost use Rattle.fused_keywords.specs.FusedLaws.{fused_functions, fused_turns};
@@ -48,6 +49,8 @@ impl Validate for FusedKeyword {
     ghost absorbed = { absorbed_by };
 
     ghost is_whole = { is_free };
+
+    ghost says_monotone = { says_monotone };
 
     ghost remaining = { fused_left };
 
@@ -95,6 +98,13 @@ impl Validate for FusedKeyword {
         }
     }
 
+    fn monotone(&self) -> bool {
+        match self {
+            FusedKeyword::Bench(keyword) => keyword.monotone(),
+            FusedKeyword::Array(_) => true,
+        }
+    }
+
     ghost speaks = { λ texts. refl };
 
     ghost answers = { λ texts run a. refl };
@@ -102,6 +112,10 @@ impl Validate for FusedKeyword {
     ghost turn_laws = { fused_turns };
 
     ghost function_laws = { fused_functions };
+
+    ghost grows = { fused_grows };
+
+    ghost hands_units_on = { fused_hands_units_on };
 
     ghost asks_no_units = { fused_asks_no_units };
 
