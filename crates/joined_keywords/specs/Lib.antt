@@ -3,3 +3,6 @@ pub mod BothWords
 pub mod BothLaws
 pub mod BothModes
 pub mod Clones
+pub mod BothScripts
+pub mod BothTables
+pub mod Always

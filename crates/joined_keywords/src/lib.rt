@@ -1,5 +1,8 @@
-//! The join of two keyword types, each with what it keeps, and of their tables.
+//! The join of two keyword types, and of two keyword tables. It keeps the laws that each of the two keeps.
 #![tactic(auto)]
 
 pub mod both;
 pub mod cloning;
+pub mod table;
+#[cfg(test)]
+mod tests;
