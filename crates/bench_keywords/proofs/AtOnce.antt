@@ -7,7 +7,7 @@ use Rattle.schema_parts.specs.AtOnce.{EndsAtOnce}
 use Rattle.schema_parts.specs.KeywordViews.{is_nil}
 use Rattle.keyword_ways.specs.Ways.{tells}
 use Rattle.keyword_ways.proofs.AtOnce.{SaysAtOnce, tells_at_once}
-use Rattle.bench_keywords.specs.BenchShape.{requires}
+use Rattle.bench_keywords.specs.PlainShape.{requires}
 use Rattle.bench_keywords.specs.Words.{missing, required_text, words}
 use Rattle.bench_keywords.proofs.MissingNames.{lacks_it, missing_first, missing_later}
 

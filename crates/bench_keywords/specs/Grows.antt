@@ -1,4 +1,4 @@
--- Which keywords say that they are monotone: all but `oneOf`, `not` and `if`. Each hands on the units that its questions answer.
+-- Each of these keywords says that it is monotone, and hands on the units that its questions answer.
 use Rattle.std.proofs.Common.{◌≡◌, Bool, None, Option, Some, refl, true}
 use Rattle.schema_definitions.specs.Instance.{Subject, Text}
 use Rattle.schema_meaning.specs.Greatest.{IsMonotone}
@@ -6,7 +6,7 @@ use Rattle.schema_meaning.specs.UnitsLead.{EachHandsUnitsOn, HandsUnitsOn}
 use Rattle.keyword_ways.specs.WayGrows.{Grows, way_grows}
 use Rattle.keyword_ways.specs.WayHandsOn.{ways_hand_units_on}
 use Rattle.keyword_ways.specs.WayWords.{nothing_absorbed, words_of}
-use Rattle.bench_keywords.specs.BenchShape.{BenchShape, has_all_of, has_any_of, has_count, has_if, has_items, has_not, has_one_of, has_pattern, has_prefix_items, has_properties, has_property_names, has_type, has_types, requires, says_monotone}
+use Rattle.bench_keywords.specs.PlainShape.{PlainShape, has_count, has_items, has_pattern, has_prefix_items, has_properties, has_property_names, has_type, has_types, requires, says_monotone}
 use Rattle.bench_keywords.specs.Counts.{subject_string}
 use Rattle.bench_keywords.specs.Laws.{none_absorbed}
 use Rattle.bench_keywords.specs.Words.{pattern_way, way, words}
@@ -15,26 +15,21 @@ pattern_grows : (texts : Bool) (pattern : Text) (s : Subject) (o : Option Text) 
 pattern_grows texts pattern s None = way_grows (pattern_way texts pattern s None) refl
 pattern_grows texts pattern s (Some text) = way_grows (pattern_way texts pattern s (Some text)) refl
 
-each_way_grows : (texts : Bool) (m : BenchShape) (s : Subject) → says_monotone m ≡ true → Grows (way texts m s)
+each_way_grows : (texts : Bool) (m : PlainShape) (s : Subject) → says_monotone m ≡ true → Grows (way texts m s)
 each_way_grows texts (has_type t) s h = way_grows (way texts (has_type t) s) refl
 each_way_grows texts (has_types ts) s h = way_grows (way texts (has_types ts) s) refl
 each_way_grows texts (requires ks) s h = way_grows (way texts (requires ks) s) refl
 each_way_grows texts (has_properties ks) s h = way_grows (way texts (has_properties ks) s) refl
 each_way_grows texts (has_count kind n) s h = way_grows (way texts (has_count kind n) s) refl
 each_way_grows texts (has_pattern pattern) s h = pattern_grows texts pattern s (subject_string s)
-each_way_grows texts (has_all_of n) s h = way_grows (way texts (has_all_of n) s) refl
 each_way_grows texts (has_prefix_items n) s h = way_grows (way texts (has_prefix_items n) s) refl
 each_way_grows texts (has_items n) s h = way_grows (way texts (has_items n) s) refl
-each_way_grows texts (has_any_of n) s h = way_grows (way texts (has_any_of n) s) refl
-each_way_grows texts (has_one_of n) s h = absurd (cc h)
-each_way_grows texts (has_if one other) s h = absurd (cc h)
 each_way_grows texts has_property_names s h = way_grows (way texts has_property_names s) refl
-each_way_grows texts (has_not schema fraction) s h = absurd (cc h)
 
-pub bench_grows : (texts : Bool) (m : BenchShape) → says_monotone m ≡ true → IsMonotone (words texts) m
-bench_grows texts m h s matches a b where_yes holds = each_way_grows texts m s h matches a b where_yes holds
+pub plain_grows : (texts : Bool) (m : PlainShape) → says_monotone m ≡ true → IsMonotone (words texts) m
+plain_grows texts m h s matches a b where_yes holds = each_way_grows texts m s h matches a b where_yes holds
 
-pub bench_hands_units_on : (texts : Bool) → EachHandsUnitsOn (words texts) none_absorbed
-bench_hands_units_on texts m s matches u =
+pub plain_hands_units_on : (texts : Bool) → EachHandsUnitsOn (words texts) none_absorbed
+plain_hands_units_on texts m s matches u =
     let handed : HandsUnitsOn (words_of way texts) (nothing_absorbed way) m s matches u = ways_hand_units_on way texts m s matches u in
     record { own = handed.own; absorbed = handed.absorbed }

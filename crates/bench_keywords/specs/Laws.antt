@@ -1,8 +1,8 @@
 -- The keywords keep the laws.
 use Rattle.std.proofs.Common.{◌≡◌, ◌∙◌, ◌<◌, ◌∷◌, ℕ, zero, List, [], Bool, true, false, Option, Some, None, refl, sym, ap, subst, arith, min, ◌+◌, ◌-◌, is_some, map}
-use Rattle.std.specs.Prelude.{All, Contains, bytes_eq, if◌then◌else◌, option_map}
+use Rattle.std.specs.Prelude.{All, Contains, bytes_eq, if◌then◌else◌}
 use Rattle.std.proofs.lemmas.List.{length-map}
-use Rattle.std.proofs.lemmas.List.Elements.{All-append, All-nil, All-cons, All-contains, All-head, All-tail, Contains-append_right}
+use Rattle.std.proofs.lemmas.List.Elements.{All-nil, All-cons, All-contains, All-head, All-tail, Contains-append_right}
 use Rattle.std.proofs.lemmas.Slice.Eq.{bytes_eq-Decides}
 use Rattle.serde_json.specs.Data.{Members, member, no_members}
 use Rattle.serde_json.specs.Find.{as_object}
@@ -12,23 +12,22 @@ use Rattle.schema_definitions.specs.Laws.{AsksRightly, IsPresent, IsRight, answe
 use Rattle.schema_definitions.specs.Matching.{Matching}
 use Rattle.schema_definitions.specs.Reports.{Unit_}
 use Rattle.schema_definitions.specs.Turns.{FunctionLaws, Standing, TurnLaws, next, reply_to, step_at}
-use Rattle.schema_parts.specs.KeywordViews.{option_list}
 use Rattle.keyword_ways.specs.declared.run.Progress.{Progress}
-use Rattle.keyword_ways.specs.Items.{child_at_item, child_here, first_at_item, item_count}
+use Rattle.keyword_ways.specs.Items.{child_at_item, first_at_item, item_count}
 use Rattle.keyword_ways.specs.Members.{at_name, names_in, names_of_any, only_if, subject_names}
-use Rattle.keyword_ways.specs.Places.{branch_present, each_named, each_present, item_present, names_present, some_members_present}
+use Rattle.keyword_ways.specs.Places.{each_named, each_present, item_present, names_present, some_members_present}
 use Rattle.keyword_ways.specs.Somes.{somes}
 use Rattle.keyword_ways.specs.WayLaws.{AllPresent, SameQuestions, function_laws, turn_laws}
 use Rattle.keyword_ways.specs.WayRuns.{fits_at}
 use Rattle.keyword_ways.specs.WayWords.{any_state, left_at_most, nothing_absorbed, run_ends, run_fits, run_replies, words_of}
 use Rattle.keyword_ways.specs.Ways.{Way, passes_on, passes_some, places, questions, way_faults, way_holds, way_turn, way_units}
 use Rattle.bench_keywords.specs.declared.names.NamesRun.{NamesRun}
-use Rattle.bench_keywords.specs.BenchShape.{BenchShape, has_all_of, has_any_of, has_count, has_if, has_items, has_not, has_one_of, has_pattern, has_prefix_items, has_properties, has_property_names, has_type, has_types, requires}
+use Rattle.bench_keywords.specs.PlainShape.{PlainShape, has_count, has_items, has_pattern, has_prefix_items, has_properties, has_property_names, has_type, has_types, requires}
 use Rattle.bench_keywords.specs.Counts.{subject_string}
 use Rattle.bench_keywords.specs.Words.{any_run, ends_in, fits_in, has_name, held_way, is_named, name_asked, names_held, pattern_way, run_way, seen, turns_left, way, words}
 
 -- they absorb no other keyword
-abbrev pub none_absorbed : BenchShape → List Text
+abbrev pub none_absorbed : PlainShape → List Text
 none_absorbed m = []
 
 same_asked : (texts : Bool) (pattern : Text) (s : Subject) (o : Option Text)
@@ -92,38 +91,28 @@ same_held texts (requires ns, ks) s = (refl, refl)
 same_held texts (has_properties ns, ks) s = (refl, refl)
 same_held texts (has_count kind n, ks) s = (refl, refl)
 same_held texts (has_pattern pattern, ks) s = same_asked texts pattern s (subject_string s)
-same_held texts (has_all_of n, ks) s = (refl, refl)
 same_held texts (has_prefix_items n, ks) s = (refl, refl)
 same_held texts (has_items n, ks) s = (refl, refl)
-same_held texts (has_any_of n, ks) s = (refl, refl)
-same_held texts (has_one_of n, ks) s = (refl, refl)
-same_held texts (has_if one other, ks) s = (refl, refl)
 same_held texts (has_property_names, ks) s = (refl, refl)
-same_held texts (has_not schema fraction, ks) s = (refl, refl)
 
 -- a keyword whose runs hold no names that count
-abbrev pub HoldsNothing : BenchShape → Type 0
+abbrev pub HoldsNothing : PlainShape → Type 0
 HoldsNothing m = (texts : Bool) (ks : List Text) (s : Subject) → held_way texts ks m s ≡ way texts m s
 
 -- it is the one that asks at names, or one whose runs hold none
-by_names : (P : BenchShape → Type 0) → P has_property_names → ((m : BenchShape) → HoldsNothing m → P m) → (m : BenchShape) → P m
+by_names : (P : PlainShape → Type 0) → P has_property_names → ((m : PlainShape) → HoldsNothing m → P m) → (m : PlainShape) → P m
 by_names P names other (has_type t) = other (has_type t) (λ texts ks s. refl)
 by_names P names other (has_types ts) = other (has_types ts) (λ texts ks s. refl)
 by_names P names other (requires ns) = other (requires ns) (λ texts ks s. refl)
 by_names P names other (has_properties ns) = other (has_properties ns) (λ texts ks s. refl)
 by_names P names other (has_count kind n) = other (has_count kind n) (λ texts ks s. refl)
 by_names P names other (has_pattern pattern) = other (has_pattern pattern) (λ texts ks s. refl)
-by_names P names other (has_all_of n) = other (has_all_of n) (λ texts ks s. refl)
 by_names P names other (has_prefix_items n) = other (has_prefix_items n) (λ texts ks s. refl)
 by_names P names other (has_items n) = other (has_items n) (λ texts ks s. refl)
-by_names P names other (has_any_of n) = other (has_any_of n) (λ texts ks s. refl)
-by_names P names other (has_one_of n) = other (has_one_of n) (λ texts ks s. refl)
-by_names P names other (has_if one other') = other (has_if one other') (λ texts ks s. refl)
 by_names P names other has_property_names = names
-by_names P names other (has_not schema fraction) = other (has_not schema fraction) (λ texts ks s. refl)
 
 -- what a run asks is what the keyword may ask
-may_ask_held : (texts : Bool) (m : BenchShape) (ks : List Text) (s : Subject) (q : Question) → Contains (questions (held_way texts ks m s)) q → Contains (questions (way texts m s)) q
+may_ask_held : (texts : Bool) (m : PlainShape) (ks : List Text) (s : Subject) (q : Question) → Contains (questions (held_way texts ks m s)) q → Contains (questions (way texts m s)) q
 may_ask_held texts m ks s q = by_names (λ m. Contains (questions (held_way texts ks m s)) q → Contains (questions (way texts m s)) q)
     (λ h. All-contains (Contains (map at_name (subject_names s))) (somes (map (name_asked s) ks)) q (asked_known s ks) h)
     (λ m same. subst (λ w. Contains (questions w) q) (same texts ks s)) m
@@ -152,12 +141,12 @@ names_mean s = record {
 }
 
 -- as a run begins, it goes about the instance as the keyword means it
-begins_meant : (texts : Bool) (m : BenchShape) (s : Subject) → MeansSame (held_way texts (names_held m s) m s) (way texts m s)
+begins_meant : (texts : Bool) (m : PlainShape) (s : Subject) → MeansSame (held_way texts (names_held m s) m s) (way texts m s)
 begins_meant texts m s = by_names (λ m. MeansSame (held_way texts (names_held m s) m s) (way texts m s))
     (names_mean s)
     (λ m same. means_itself (held_way texts (names_held m s) m s) (way texts m s) (same texts (names_held m s) s)) m
 
-asks_right : (texts : Bool) (m : BenchShape) (ks : List Text) (s : Subject) (t : Turn) → AsksRightly (words_of run_way texts) (m, ks) s [] t → AsksRightly (words texts) m s [] t
+asks_right : (texts : Bool) (m : PlainShape) (ks : List Text) (s : Subject) (t : Turn) → AsksRightly (words_of run_way texts) (m, ks) s [] t → AsksRightly (words texts) m s [] t
 asks_right texts m ks s (ask q mode') h = may_ask_held texts m ks s q h
 asks_right texts m ks s (match_text a point) h = h
 asks_right texts m ks s (mark i) h = tt
@@ -165,14 +154,14 @@ asks_right texts m ks s unmark h = tt
 asks_right texts m ks s (ecma text) h = tt
 asks_right texts m ks s done h = tt
 
-is_right : (texts : Bool) (m : BenchShape) (s : Subject) (matches : Matching) (a : Answers) (u : Question → Unit_) (same : Marked → Marked → Bool) (mode' : Mode) (answer : Answer)
+is_right : (texts : Bool) (m : PlainShape) (s : Subject) (matches : Matching) (a : Answers) (u : Question → Unit_) (same : Marked → Marked → Bool) (mode' : Mode) (answer : Answer)
     → IsRight (words_of run_way texts) (m, names_held m s) s matches a u same mode' answer → IsRight (words texts) m s matches a u same mode' answer
 is_right texts m s matches a u same for_verdict answer h = h ∙ (begins_meant texts m s).holds_same matches (λ q. (a q).verdict)
 is_right texts m s matches a u same for_first answer h = h ∙ ap first_fault ((begins_meant texts m s).faults_same matches a)
 is_right texts m s matches a u same for_all answer h = h ∙ (begins_meant texts m s).faults_same matches a
 is_right texts m s matches a u same for_units answer h = (h.0 ∙ (begins_meant texts m s).units_same matches u, h.1 ∙ (begins_meant texts m s).holds_same matches (λ q. (a q).verdict))
 
-same_answer : (texts : Bool) (m : BenchShape) (ks : List Text) (x : Standing (NamesRun × Answer)) (mode' : Mode) (q : Question)
+same_answer : (texts : Bool) (m : PlainShape) (ks : List Text) (x : Standing (NamesRun × Answer)) (mode' : Mode) (q : Question)
     → answer_in (words_of run_way texts) (m, ks) x.subject x.matches x.answers x.unit_at x.same mode' q ≡ answer_in (words texts) m x.subject x.matches x.answers x.unit_at x.same mode' q
 same_answer texts m ks x for_verdict q = refl
 same_answer texts m ks x for_first q = refl
@@ -180,7 +169,7 @@ same_answer texts m ks x for_all q = refl
 same_answer texts m ks x for_units q = refl
 
 -- what answers a turn is the same
-same_reply : (texts : Bool) (m : BenchShape) (ks : List Text) (x : Standing (NamesRun × Answer)) (t : Turn)
+same_reply : (texts : Bool) (m : PlainShape) (ks : List Text) (x : Standing (NamesRun × Answer)) (t : Turn)
     → reply_to (words_of run_way texts) (m, ks) x.subject x.matches x.answers x.unit_at x.same x.marks t ≡ reply_to (words texts) m x.subject x.matches x.answers x.unit_at x.same x.marks t
 same_reply texts m ks x (ask q mode') = same_answer texts m ks x mode' q
 same_reply texts m ks x (match_text a point) = refl
@@ -190,14 +179,14 @@ same_reply texts m ks x (ecma text) = refl
 same_reply texts m ks x done = refl
 
 -- the laws of the runs that hold these names
-held_laws : (texts : Bool) (m : BenchShape) (ks : List Text)
+held_laws : (texts : Bool) (m : PlainShape) (ks : List Text)
     → TurnLaws (words_of run_way texts) (m, ks) (nothing_absorbed run_way (m, ks)) (left_at_most run_way (m, ks)) (any_state run_way (m, ks)) (run_ends run_way texts (m, ks)) (run_fits run_way texts (m, ks))
 held_laws texts m ks = turn_laws run_way same_held texts (m, ks)
 
 fewer : (a b c : ℕ) → b ≡ c → a < b + 2 → a < c + 2
 fewer a b c e h = omega arith
 
-keeps : (texts : Bool) (m : BenchShape) (x : Standing (NamesRun × Answer)) → fits_in texts m x → (step_at (words texts) m x ≡ done → ⊥)
+keeps : (texts : Bool) (m : PlainShape) (x : Standing (NamesRun × Answer)) → fits_in texts m x → (step_at (words texts) m x ≡ done → ⊥)
     → fits_in texts m (next (words texts) m x) × (ends_in texts m (next (words texts) m x) ≡ ends_in texts m x)
 keeps texts m x fits h =
     let kept = (held_laws texts m x.state.0.names).keeps (seen x) fits h in
@@ -205,7 +194,7 @@ keeps texts m x fits h =
     let after : Progress × Answer = way_turn w (x.state.0.progress, x.state.1) x.reply in
     (subst (λ r. fits_at w (run_replies (seen x)) after.0.mode after.0.stage r) (same_reply texts m x.state.0.names x (step_at (words texts) m x)) kept.0, kept.1)
 
-pub turns_keep : (texts : Bool) (m : BenchShape) → TurnLaws (words texts) m (none_absorbed m) (turns_left m) (any_run texts m) (ends_in texts m) (fits_in texts m)
+pub turns_keep : (texts : Bool) (m : PlainShape) → TurnLaws (words texts) m (none_absorbed m) (turns_left m) (any_run texts m) (ends_in texts m) (fits_in texts m)
 turns_keep texts m = record {
   bounded = λ s mode'. fewer _ _ _ (begins_meant texts m s).places_same ((held_laws texts m (names_held m s)).bounded s mode');
   starts = λ s mode'. tt;
@@ -230,17 +219,11 @@ present texts (requires ks) s = All-nil _
 present texts (has_properties ks) s = some_members_present 0 ks s
 present texts (has_count kind n) s = All-nil _
 present texts (has_pattern pattern) s = pattern_present texts pattern s (subject_string s)
-present texts (has_all_of n) s = each_present child_here s 0 n (λ k h. refl)
 present texts (has_prefix_items n) s = each_present child_at_item s 0 (min n (item_count s)) (λ k h. item_present s (0 + k) (omega arith))
 present texts (has_items n) s = each_present first_at_item s n (item_count s - n) (λ k h. item_present s (n + k) (omega arith))
-present texts (has_any_of n) s = each_present child_here s 0 n (λ k h. refl)
-present texts (has_one_of n) s = each_present child_here s 0 n (λ k h. refl)
-present texts (has_if one other) s = All-cons (λ q. IsPresent s (steps_below q.below)) (child_here 0) _ refl
-    (All-append (λ q. IsPresent s (steps_below q.below)) (option_list (option_map child_here one)) (option_list (option_map child_here other)) (branch_present s one) (branch_present s other))
 present texts has_property_names s = names_present s
-present texts (has_not schema fraction) s = each_present child_here s 0 1 (λ k h. refl)
 
-pub functions_keep : (texts : Bool) (m : BenchShape) → FunctionLaws (words texts) m (none_absorbed m)
+pub functions_keep : (texts : Bool) (m : PlainShape) → FunctionLaws (words texts) m (none_absorbed m)
 functions_keep texts m = let laws : FunctionLaws (words_of way texts) m (nothing_absorbed way m) = function_laws way present texts m in record {
   present = laws.present;
   agree = laws.agree;

@@ -1,9 +1,10 @@
 pub mod TypeNames
 pub mod Counts
-pub mod BenchShape
+pub mod PlainShape
 pub mod Words
 pub mod Laws
 pub mod Shapes
 pub mod UnitsAsked
 pub mod VerdictsAsked
 pub mod Grows
+pub mod BenchKeywords

@@ -2,34 +2,29 @@
 ghost use Rattle.std.specs.Prelude.{◌≡◌};
 ghost use Rattle.bench_keywords.specs.Shapes.{shape_of};
 
-use crate::keyword::BenchKeyword;
+use crate::keyword::PlainKeyword;
 use schema_parts::cloning::CloneKeyword;
 use std::alloc::AllocError;
 
-impl Clone for BenchKeyword {
+impl Clone for PlainKeyword {
     ghost is_clone = { λ keyword copy. shape_of copy ≡ shape_of keyword };
 
     /// Returns a clone of the keyword. Fails only if memory cannot be allocated.
-    fn clone(&self) -> Result<BenchKeyword, AllocError> {
+    fn clone(&self) -> Result<PlainKeyword, AllocError> {
         match self {
-            BenchKeyword::Type(name) => Ok(BenchKeyword::Type(*name)),
-            BenchKeyword::Types(names) => Ok(BenchKeyword::Types(names.clone()?)),
-            BenchKeyword::Required(names) => Ok(BenchKeyword::Required(names.clone()?)),
-            BenchKeyword::Properties(names) => Ok(BenchKeyword::Properties(names.clone()?)),
-            BenchKeyword::Count(kind, limit) => Ok(BenchKeyword::Count(*kind, *limit)),
-            BenchKeyword::Pattern(pattern) => Ok(BenchKeyword::Pattern(pattern.clone()?)),
-            BenchKeyword::AllOf(count) => Ok(BenchKeyword::AllOf(*count)),
-            BenchKeyword::PrefixItems(count) => Ok(BenchKeyword::PrefixItems(*count)),
-            BenchKeyword::Items(before) => Ok(BenchKeyword::Items(*before)),
-            BenchKeyword::AnyOf(count) => Ok(BenchKeyword::AnyOf(*count)),
-            BenchKeyword::OneOf(count) => Ok(BenchKeyword::OneOf(*count)),
-            BenchKeyword::If(accepted, refused) => Ok(BenchKeyword::If(*accepted, *refused)),
-            BenchKeyword::PropertyNames => Ok(BenchKeyword::PropertyNames),
-            BenchKeyword::Not(schema) => Ok(BenchKeyword::Not(schema.clone()?)),
+            PlainKeyword::Type(name) => Ok(PlainKeyword::Type(*name)),
+            PlainKeyword::Types(names) => Ok(PlainKeyword::Types(names.clone()?)),
+            PlainKeyword::Required(names) => Ok(PlainKeyword::Required(names.clone()?)),
+            PlainKeyword::Properties(names) => Ok(PlainKeyword::Properties(names.clone()?)),
+            PlainKeyword::Count(kind, limit) => Ok(PlainKeyword::Count(*kind, *limit)),
+            PlainKeyword::Pattern(pattern) => Ok(PlainKeyword::Pattern(pattern.clone()?)),
+            PlainKeyword::PrefixItems(count) => Ok(PlainKeyword::PrefixItems(*count)),
+            PlainKeyword::Items(before) => Ok(PlainKeyword::Items(*before)),
+            PlainKeyword::PropertyNames => Ok(PlainKeyword::PropertyNames),
         }
     }
 }
 
-impl CloneKeyword for BenchKeyword {
+impl CloneKeyword for PlainKeyword {
     ghost cloned = { λ keyword copy same. same };
 }

@@ -9,35 +9,35 @@ ghost use Rattle.schema_reports.specs.ReportViews.{BorrowsItsPlace};
 ghost use Rattle.keyword_ways.specs.declared.run.Stage.TheVariants.{Ended};
 ghost use Rattle.keyword_ways.specs.Members.{subject_names};
 ghost use Rattle.keyword_ways.specs.Ways.{at_first, told_at_once, way_begin, way_step, way_turn};
-ghost use Rattle.bench_keywords.specs.BenchShape.{is_whole};
+ghost use Rattle.bench_keywords.specs.PlainShape.{is_whole};
 ghost use Rattle.bench_keywords.specs.Words.{held_way, way};
 ghost use Rattle.bench_keywords.specs.Shapes.{shape_of};
 
-use crate::any_of::turn_any_of;
 use crate::counts::{CountKind, count_fits, tell_count};
-use crate::each::{turn_all_of, turn_items, turn_prefix_items};
+use crate::each::{turn_items, turn_prefix_items};
 use crate::names::{Names, NamesRun};
-use crate::not::turn_not;
-use crate::one_of::turn_one_of;
 use crate::pattern::turn_pattern;
 use crate::properties::turn_properties;
 use crate::property_names::turn_property_names;
 use crate::required::{lacks_one, tell_required};
 use crate::type_names::TypeName;
 use crate::types::{fits_one, tell_type, tell_types};
-use keyword_ways::branching::branch_on;
+use joined_keywords::both::Both;
 use keyword_ways::run::Progress;
 use keyword_ways::telling::tell_on;
+use schema_applicators::applicator::Applicator;
 use schema_parts::keyword::{Answer, Mode, Reply, Step, Validate};
 use schema_reports::instance::Instance;
 use schema_reports::location::OutOfMemory;
-use serde_json::Value;
 use std::alloc::Global;
 use std::marker::Model;
 
-/// A keyword. Its children are named by the numbers of the requests that its maker made.
+/// A keyword of the bench's: an applicator, or one of the others.
+pub type BenchKeyword = Both<Applicator, PlainKeyword>;
+
+/// A keyword of the bench's that is no applicator. Its children are named by the numbers of the requests that its maker made.
 #[derive(Drop)]
-pub enum BenchKeyword {
+pub enum PlainKeyword {
     /// `type` with one name.
     Type(TypeName),
     /// `type` with a list of names.
@@ -50,20 +50,10 @@ pub enum BenchKeyword {
     /// `pattern`, with its text.
     Pattern(String),
     /// How many schemas there are.
-    AllOf(usize),
-    /// How many schemas there are.
     PrefixItems(usize),
     /// How many items come before.
     Items(usize),
-    /// How many schemas there are.
-    AnyOf(usize),
-    /// How many schemas there are.
-    OneOf(usize),
-    /// The number of the child under `then`, and of that under `else`, where there is one.
-    If(Option<usize>, Option<usize>),
     PropertyNames,
-    /// The schema.
-    Not(Value),
 }
 
 /// What is known of a keyword apart from its representation; it holds no value.
@@ -72,16 +62,16 @@ pub struct Shape {}
 
 impl Model for Shape {
     ghost use Rattle.std.specs.Prelude.{[]};
-    ghost use Rattle.bench_keywords.specs.BenchShape.{BenchShape, requires};
+    ghost use Rattle.bench_keywords.specs.PlainShape.{PlainShape, requires};
 
-    ghost Value = { BenchShape };
+    ghost Value = { PlainShape };
 
     ghost view = { λ _. requires [] };
 }
 
 /// Notes the errors of a keyword's own.
 fn tell<'i>(
-    keyword: &BenchKeyword,
+    keyword: &PlainKeyword,
     alloc: Global,
     mode: Mode,
     instance: Instance<'i>,
@@ -93,12 +83,12 @@ fn tell<'i>(
         → All (PassesBorrowed root) (faults_in answer.new)) }
 {
     match keyword {
-        BenchKeyword::Type(name) => tell_type(alloc, *name, mode, instance, answer),
-        BenchKeyword::Types(names) => tell_types(alloc, names.as_slice(), mode, instance, answer),
-        BenchKeyword::Required(names) => {
+        PlainKeyword::Type(name) => tell_type(alloc, *name, mode, instance, answer),
+        PlainKeyword::Types(names) => tell_types(alloc, names.as_slice(), mode, instance, answer),
+        PlainKeyword::Required(names) => {
             tell_required(alloc, names.as_slice(), mode, instance, answer)
         }
-        BenchKeyword::Count(kind, limit) => {
+        PlainKeyword::Count(kind, limit) => {
             tell_count(alloc, *kind, *limit, mode, instance, answer)
         }
         _ => Ok(()),
@@ -107,7 +97,7 @@ fn tell<'i>(
 
 /// The turn of a keyword that asks nothing: the first one tells its errors.
 fn turn_telling<'s, 'i>(
-    keyword: &BenchKeyword,
+    keyword: &PlainKeyword,
     alloc: Global,
     run: &mut Progress,
     instance: Instance<'i>,
@@ -148,7 +138,7 @@ fn begin_at_names(
 
 /// Takes a turn of a run that holds these names.
 fn turn_at<'s, 'i: 's>(
-    keyword: &'s BenchKeyword,
+    keyword: &'s PlainKeyword,
     alloc: Global,
     names: &Names,
     run: &mut Progress,
@@ -166,39 +156,32 @@ fn turn_at<'s, 'i: 's>(
         → All (PassesBorrowed root) (faults_in answer.old) → All (PassesBorrowed root) (faults_in answer.new)) }
 {
     match keyword {
-        BenchKeyword::Type(_)
-        | BenchKeyword::Types(_)
-        | BenchKeyword::Required(_)
-        | BenchKeyword::Count(_, _) => turn_telling(keyword, alloc, run, instance, reply, answer),
-        BenchKeyword::Properties(children) => {
+        PlainKeyword::Type(_)
+        | PlainKeyword::Types(_)
+        | PlainKeyword::Required(_)
+        | PlainKeyword::Count(_, _) => turn_telling(keyword, alloc, run, instance, reply, answer),
+        PlainKeyword::Properties(children) => {
             turn_properties(alloc, children.as_slice(), run, instance, reply, answer)
         }
-        BenchKeyword::Pattern(pattern) => {
+        PlainKeyword::Pattern(pattern) => {
             turn_pattern(alloc, pattern.as_str(), run, instance, reply, answer)
         }
-        BenchKeyword::AllOf(count) => turn_all_of(alloc, *count, run, reply, answer),
-        BenchKeyword::PrefixItems(count) => {
+        PlainKeyword::PrefixItems(count) => {
             turn_prefix_items(alloc, *count, run, instance, reply, answer)
         }
-        BenchKeyword::Items(before) => turn_items(alloc, *before, run, instance, reply, answer),
-        BenchKeyword::AnyOf(count) => turn_any_of(alloc, *count, run, instance, reply, answer),
-        BenchKeyword::OneOf(count) => turn_one_of(alloc, *count, run, instance, reply, answer),
-        BenchKeyword::If(accepted, refused) => {
-            branch_on(alloc, *accepted, *refused, run, reply, answer)
-        }
-        BenchKeyword::PropertyNames => {
+        PlainKeyword::Items(before) => turn_items(alloc, *before, run, instance, reply, answer),
+        PlainKeyword::PropertyNames => {
             turn_property_names(alloc, names.as_slice(), run, instance, reply, answer)
         }
-        BenchKeyword::Not(schema) => turn_not(alloc, schema, run, instance, reply, answer),
     }
 }
 
-impl Validate for BenchKeyword {
-    ghost use Rattle.bench_keywords.specs.Grows.{bench_grows, bench_hands_units_on};
-    ghost use Rattle.bench_keywords.specs.UnitsAsked.{bench_asks_no_units};
-    ghost use Rattle.bench_keywords.specs.VerdictsAsked.{bench_asks_verdicts};
+impl Validate for PlainKeyword {
+    ghost use Rattle.bench_keywords.specs.Grows.{plain_grows, plain_hands_units_on};
+    ghost use Rattle.bench_keywords.specs.UnitsAsked.{plain_asks_no_units};
+    ghost use Rattle.bench_keywords.specs.VerdictsAsked.{plain_asks_verdicts};
     ghost use Rattle.std.specs.Prelude.{refl};
-    ghost use Rattle.bench_keywords.specs.BenchShape.{is_whole, says_monotone};
+    ghost use Rattle.bench_keywords.specs.PlainShape.{is_whole, says_monotone};
     ghost use Rattle.bench_keywords.specs.Words.{any_run, ends_in, fits_in, turns_left, words};
     ghost use Rattle.bench_keywords.specs.Laws.{functions_keep, none_absorbed, turns_keep};
 
@@ -231,7 +214,7 @@ impl Validate for BenchKeyword {
         mode: Mode,
     ) -> Result<NamesRun, OutOfMemory> {
         match self {
-            BenchKeyword::PropertyNames => begin_at_names(alloc, instance, mode),
+            PlainKeyword::PropertyNames => begin_at_names(alloc, instance, mode),
             _ => Ok(NamesRun {
                 progress: Progress::begin(mode),
                 names: Names::none(alloc),
@@ -260,17 +243,16 @@ impl Validate for BenchKeyword {
 
     fn is_valid_at_once(&self, instance: Instance<'_>) -> Option<bool> {
         match self {
-            BenchKeyword::Type(name) => Some(name.fits(instance)),
-            BenchKeyword::Types(names) => Some(fits_one(names.as_slice(), instance)),
-            BenchKeyword::Required(names) => Some(!lacks_one(names.as_slice(), instance)),
-            BenchKeyword::Count(kind, limit) => Some(count_fits(*kind, *limit, instance)),
+            PlainKeyword::Type(name) => Some(name.fits(instance)),
+            PlainKeyword::Types(names) => Some(fits_one(names.as_slice(), instance)),
+            PlainKeyword::Required(names) => Some(!lacks_one(names.as_slice(), instance)),
+            PlainKeyword::Count(kind, limit) => Some(count_fits(*kind, *limit, instance)),
             _ => None,
         }
     }
 
     fn monotone(&self) -> bool {
         match self {
-            BenchKeyword::OneOf(_) | BenchKeyword::If(_, _) | BenchKeyword::Not(_) => false,
             _ => true,
         }
     }
@@ -283,11 +265,11 @@ impl Validate for BenchKeyword {
 
     ghost function_laws = { functions_keep };
 
-    ghost grows = { bench_grows };
+    ghost grows = { plain_grows };
 
-    ghost hands_units_on = { bench_hands_units_on };
+    ghost hands_units_on = { plain_hands_units_on };
 
-    ghost asks_no_units = { bench_asks_no_units };
+    ghost asks_no_units = { plain_asks_no_units };
 
-    ghost asks_verdicts = { bench_asks_verdicts };
+    ghost asks_verdicts = { plain_asks_verdicts };
 }

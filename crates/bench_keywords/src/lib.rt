@@ -1,14 +1,11 @@
-//! The bench's keywords. Each goes about an instance in one of the ways.
+//! The bench's keywords: the applicators, and ten others, each of which goes about an instance in one of the ways.
 #![tactic(auto)]
 
-pub mod any_of;
 mod cloning;
 pub mod counts;
 pub mod each;
 pub mod keyword;
 pub mod names;
-pub mod not;
-pub mod one_of;
 pub mod pattern;
 pub mod properties;
 pub mod property_names;

@@ -2,13 +2,13 @@ use Rattle.std.proofs.Common.{◌≡◌, map, not, rules, string_bytes, subst, s
 use Rattle.std.specs.List.{list_any}
 use Rattle.schema_reports.specs.InstanceViews.{subject_of}
 use Rattle.schema_parts.specs.AtOnce.{EndsAtOnce}
-use Rattle.bench_keywords.specs.BenchShape.{requires}
+use Rattle.bench_keywords.specs.PlainShape.{requires}
 use Rattle.bench_keywords.specs.Shapes.{shape_of}
 use Rattle.bench_keywords.specs.Words.{words}
-use Rattle.bench_keywords.specs.declared.keyword.BenchKeyword.TheVariants as keyword
+use Rattle.bench_keywords.specs.declared.keyword.PlainKeyword.TheVariants as keyword
 use Rattle.bench_keywords.proofs.AtOnce.{required_ends}
 use Rattle.bench_keywords.proofs.MissingNames.{lacks_it}
-use Rattle.bench_keywords.proofs.keyword.BenchKeywordValidate.is_valid_at_once.Goals as goal
+use Rattle.bench_keywords.proofs.keyword.PlainKeywordValidate.is_valid_at_once.Goals as goal
 
 pub returns-in-Required : goal.returns-in-Required
 returns-in-Required c = record {
