@@ -1,6 +1,6 @@
 pub mod Makers
-pub mod MakerViews
 pub mod MakerLaws
 pub mod ByValue
 pub mod BenchMatching
 pub mod BenchMeta
+pub mod BenchTables

@@ -1,3 +1,4 @@
 mod ErrorLists
 mod BuildFaults
 mod MeantAnswers
+mod AsHanded

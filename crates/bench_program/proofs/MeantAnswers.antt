@@ -11,19 +11,16 @@ use Rattle.schema_engine.specs.Handed.{Options}
 use Rattle.schema_engine.specs.Program.{OfEverySense, Program}
 use Rattle.bench_parts.specs.BenchMatching.{bench_matcher}
 use Rattle.bench_resolver.specs.BenchStates.{Point}
-use Rattle.bench_keywords.specs.BenchShape.{BenchShape, is_whole}
+use Rattle.bench_keywords.specs.BenchKeywords.{BenchKeyword, BenchShape, bench_is_whole, bench_shape, bench_words}
 use Rattle.schema_engine.specs.Evaluated.{UnitsAnswered}
 use Rattle.schema_engine.proofs.PlainAnswers.{plainly_with_units}
 use Rattle.bench_program.specs.ProgramMeaning.{AnswersInEverySense, AnswersPlainly, BenchHasUnits, BenchMeans, OfPlainMeaning}
-use Rattle.bench_keywords.specs.Shapes.{shape_of}
-use Rattle.bench_keywords.specs.Words.{words}
-use Rattle.bench_keywords.specs.declared.keyword.BenchKeyword.{BenchKeyword}
 use Rattle.bench_program.specs.declared.program.answers.Answer.{Answer}
 use Rattle.bench_program.specs.declared.program.requests.Call.{Call}
 use Rattle.bench_program.specs.declared.program.requests.Call.TheVariants.{Evaluate, IsValid, IterErrors, Validate}
 
 said_plainly : (resolver : Resolver Point) (table : Table BenchShape) (matcher : Matcher) (options : Options) (schema : Data) (p : Program BenchKeyword (List Text)) (instance : Data) (fact : Bool → Sense → Type 0)
-    → BenchMeans resolver table matcher options schema p → OfEverySense shape_of words is_whole bench_matcher p instance fact
+    → BenchMeans resolver table matcher options schema p → OfEverySense bench_shape bench_words bench_is_whole bench_matcher p instance fact
     → OfPlainMeaning resolver table matcher options schema instance fact
 said_plainly resolver table matcher options schema p instance fact means said = λ spoken root is_root rightly.
     let m = means instance spoken root is_root rightly in
@@ -41,7 +38,7 @@ answers_plainly resolver table matcher options schema p instance IterErrors acce
 answers_plainly resolver table matcher options schema p instance Evaluate accepted text answered means units = record {
   evaluation = answered.evaluation;
   said = said_plainly resolver table matcher options schema p instance _ means answered.said;
-  units = plainly_with_units resolver table matcher words options schema shape_of is_whole bench_matcher p instance (λ spoken v units. UnitsAnswered v spoken units answered.evaluation) means units answered.units;
+  units = plainly_with_units resolver table matcher bench_words options schema bench_shape bench_is_whole bench_matcher p instance (λ spoken v units. UnitsAnswered v spoken units answered.evaluation) means units answered.units;
   verdict = answered.verdict;
   listed = answered.listed;
 }

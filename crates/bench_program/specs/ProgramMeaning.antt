@@ -25,45 +25,42 @@ use Rattle.bench_resolver.specs.BenchDocuments.{BenchDocument, HasCustom, HasDra
 use Rattle.bench_parts.specs.BenchMatching.{bench_matcher}
 use Rattle.bench_parts.specs.BenchMeta.{document_fault}
 use Rattle.bench_resolver.specs.BenchStates.{Point}
-use Rattle.bench_parts.specs.Makers.{bench_script}
-use Rattle.bench_keywords.specs.BenchShape.{BenchShape, is_whole}
+use Rattle.bench_parts.specs.BenchTables.{bench_script}
+use Rattle.bench_keywords.specs.BenchKeywords.{BenchKeyword, BenchShape, bench_is_whole, bench_shape, bench_words}
 use Rattle.bench_program.specs.ProgramAnswers.{Answers}
 use Rattle.bench_program.specs.ProgramWords.{Holds}
-use Rattle.bench_keywords.specs.Shapes.{shape_of}
-use Rattle.bench_keywords.specs.Words.{words}
-use Rattle.bench_keywords.specs.declared.keyword.BenchKeyword.{BenchKeyword}
 use Rattle.bench_program.specs.declared.program.requests.Call.{Call}
 
 module _ (resolver : Resolver Point) (table : Table BenchShape) (matcher : Matcher) (options : Options) (schema : Data) where
   -- said of the plain meaning for each root key of the schema, of texts too where they are spoken rightly
   abbrev pub OfPlainMeaning : Data → (Bool → Sense → Type 0) → Type 0
-  OfPlainMeaning instance fact = OfSchema resolver table matcher words options schema instance (λ spoken w root. Plainly w root instance (fact spoken))
+  OfPlainMeaning instance fact = OfSchema resolver table matcher bench_words options schema instance (λ spoken w root. Plainly w root instance (fact spoken))
 
   -- where no match stays unfinished, the units are those of the plain meaning, under every outcome
   abbrev pub PlainUnitsOf : Data → EvaluationNode → Type 0
-  PlainUnitsOf instance u = OfSchema resolver table matcher words options schema instance (λ spoken w root. PlainlyWithUnits w root instance (λ v units. UnitsAnswered v spoken units u))
+  PlainUnitsOf instance u = OfSchema resolver table matcher bench_words options schema instance (λ spoken w root. PlainlyWithUnits w root instance (λ v units. UnitsAnswered v spoken units u))
 
   abbrev pub AnswersPlainly : Data → Call → Bool → Text → Type 0
   AnswersPlainly instance call accepted text = Answers (OfPlainMeaning instance) (PlainUnitsOf instance) call accepted text
 
   -- the validator means schema and parts
   abbrev pub BenchMeans : Program BenchKeyword (List Text) → Type 0
-  BenchMeans p = MeansSchema resolver table matcher words options schema shape_of is_whole bench_matcher p
+  BenchMeans p = MeansSchema resolver table matcher bench_words options schema bench_shape bench_is_whole bench_matcher p
 
   -- it has the units of their plain meaning
   abbrev pub BenchHasUnits : Program BenchKeyword (List Text) → Type 0
-  BenchHasUnits p = HasSchemasUnits resolver table matcher words options schema shape_of is_whole bench_matcher p
+  BenchHasUnits p = HasSchemasUnits resolver table matcher bench_words options schema bench_shape bench_is_whole bench_matcher p
 
 -- what a validator's nodes say of an instance
 module _ (p : Program BenchKeyword (List Text)) (instance : Data) where
   -- in every sense that they mean, with all units that they have
   abbrev pub AnswersInEverySense : Call → Bool → Text → Type 0
-  AnswersInEverySense = Answers (OfEverySense shape_of words is_whole bench_matcher p instance)
-      (λ u. OfEveryEvaluation shape_of words is_whole bench_matcher p instance (λ spoken v units. UnitsAnswered v spoken units u))
+  AnswersInEverySense = Answers (OfEverySense bench_shape bench_words bench_is_whole bench_matcher p instance)
+      (λ u. OfEveryEvaluation bench_shape bench_words bench_is_whole bench_matcher p instance (λ spoken v units. UnitsAnswered v spoken units u))
 
   -- from some depth on, where chains of references return too
   abbrev pub AnswersFromSomeDepth : Call → Bool → Text → Type 0
-  AnswersFromSomeDepth = Answers (FromSomeDepth shape_of words is_whole bench_matcher p instance) (HasUnits shape_of words is_whole bench_matcher p instance)
+  AnswersFromSomeDepth = Answers (FromSomeDepth bench_shape bench_words bench_is_whole bench_matcher p instance) (HasUnits bench_shape bench_words bench_is_whole bench_matcher p instance)
 
 -- the bench table with the standard's names
 abbrev pub bench_table : Table BenchShape
@@ -91,7 +88,7 @@ pub record Asked (ts : List Text) : Type 0 where
 module _ {ts : List Text} (a : Asked ts) where
   -- the schema builds with the bench's parts and default options
   abbrev pub IsBuilt : Type 0
-  IsBuilt = (texts : Bool) → Builds (parts_of (bench_resolving a.resolver) bench_table (bench_matcher a.unfinished) (words texts) default_options) a.schema default_options.limit
+  IsBuilt = (texts : Bool) → Builds (parts_of (bench_resolving a.resolver) bench_table (bench_matcher a.unfinished) (bench_words texts) default_options) a.schema default_options.limit
 
   -- each of its documents is accepted by the bench's meta validators
   abbrev pub IsPassed : Type 0
@@ -99,12 +96,12 @@ module _ {ts : List Text} (a : Asked ts) where
 
   -- it is refused, by a cause that stands, or as the meta validators refuse one of its documents
   abbrev pub IsRefused : BuildError → Type 0
-  IsRefused e = ((texts : Bool) → RefusesBuild (parts_of (bench_resolving a.resolver) bench_table (bench_matcher a.unfinished) (words texts) default_options) a.schema default_options.limit e)
+  IsRefused e = ((texts : Bool) → RefusesBuild (parts_of (bench_resolving a.resolver) bench_table (bench_matcher a.unfinished) (bench_words texts) default_options) a.schema default_options.limit e)
       ⊎ FailsCheck (bench_resolving a.resolver) document_fault default_options a.schema e
 
   -- a validator is compiled from it
   abbrev pub IsCompiledFrom : Program BenchKeyword (List Text) → Type 0
-  IsCompiledFrom p = IsProgramOf (bench_resolving a.resolver) bench_table (bench_matcher a.unfinished) default_options default_nested a.schema shape_of bench_matcher p
+  IsCompiledFrom p = IsProgramOf (bench_resolving a.resolver) bench_table (bench_matcher a.unfinished) default_options default_nested a.schema bench_shape bench_matcher p
 
 -- what the words ask for, of a schema that builds and that the meta validators accept: answered by the plain meaning of their
 -- schema with the bench's parts and default options, and, where chains of references return, by what the nodes compiled from it

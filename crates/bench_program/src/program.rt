@@ -20,7 +20,7 @@ use crate::program::requests::{Request, request_in};
 use bench_keywords::keyword::BenchKeyword;
 use bench_parts::matcher::BenchMatcher;
 use bench_parts::meta::BenchMeta;
-use bench_parts::table::BenchTable;
+use bench_parts::table::bench_table;
 use bench_resolver::resolver::BenchResolver;
 use schema_engine::validator::Validator;
 use schema_keywords::keywords::VocabularySet;
@@ -79,7 +79,7 @@ fn answer_to(alloc: Global, words: &[Vec<u8>]) -> Result<Answer, Fault>
     let validator = Validator::<BenchKeyword, BenchMatcher>::new(
         alloc,
         &schema,
-        &BenchTable {},
+        &bench_table(),
         &resolver,
         &matcher,
         &BenchMeta {},

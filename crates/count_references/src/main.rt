@@ -7,7 +7,7 @@
 use bench_keywords::keyword::BenchKeyword;
 use bench_parts::matcher::BenchMatcher;
 use bench_parts::meta::BenchMeta;
-use bench_parts::table::BenchTable;
+use bench_parts::table::bench_table;
 use bench_resolver::resolver::BenchResolver;
 use schema_engine::compiler::BuildError;
 use schema_engine::keywords::VocabularySet;
@@ -154,7 +154,7 @@ fn built(
     options.build(
         alloc,
         schema,
-        &BenchTable {},
+        &bench_table(),
         &resolver,
         &matcher,
         &BenchMeta {},
@@ -172,7 +172,7 @@ fn mapped(
     options.build_map(
         alloc,
         schema,
-        &BenchTable {},
+        &bench_table(),
         &resolver,
         &matcher,
         &BenchMeta {},

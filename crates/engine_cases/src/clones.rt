@@ -7,7 +7,7 @@ use crate::case::Case;
 use crate::refusals::refusal;
 use bench_keywords::keyword::BenchKeyword;
 use bench_parts::matcher::BenchMatcher;
-use bench_parts::table::BenchTable;
+use bench_parts::table::bench_table;
 use schema_engine::location::OutOfMemory;
 use schema_engine::validator::Validator;
 use serde_json::{Value, json};
@@ -76,7 +76,7 @@ pub(crate) fn answered_alike(
     case: &Case<'_>,
     question: Question,
 ) -> Result<Value, OutOfMemory> {
-    match built(alloc, case, &BenchTable {}) {
+    match built(alloc, case, &bench_table()) {
         Ok(source) => alike(alloc, source, question, case.instance),
         Err(error) => refusal(alloc, &error),
     }

@@ -12,7 +12,7 @@ use Rattle.schema_definitions.specs.Turns.{FunctionLaws, Standing, TurnLaws, nex
 use Rattle.schema_parts.specs.KeywordViews.{fresh}
 use Rattle.schema_parts.specs.declared.keyword.Mode.TheVariants as mode
 use Rattle.keyword_ways.specs.declared.run.Stage.TheVariants.{Begun}
-use Rattle.bench_keywords.specs.BenchShape.{BenchShape}
+use Rattle.bench_keywords.specs.PlainShape.{PlainShape}
 use Rattle.bench_keywords.specs.declared.names.NamesRun.{NamesRun}
 use Rattle.bench_keywords.specs.Counts.{subject_string}
 use Rattle.keyword_ways.specs.Ways.{match_point}
@@ -22,7 +22,7 @@ use Rattle.bench_keywords.specs.Laws.{functions_keep, none_absorbed, turns_keep}
 
 -- the patterns of the detour, and the keyword that it stands for
 abbrev pub Detour : Type 0
-Detour = List Text × BenchShape
+Detour = List Text × PlainShape
 
 -- how many matches of the detour are left, and the keyword's own run
 abbrev pub Detouring : Type 0

@@ -2,7 +2,7 @@
 use crate::asking::push_refusal;
 use bench_keywords::keyword::BenchKeyword;
 use bench_parts::meta::BenchMeta;
-use bench_parts::table::BenchTable;
+use bench_parts::table::{BenchTable, bench_table};
 use bench_resolver::resolver::BenchResolver;
 use schema_engine::validate;
 use schema_keywords::keywords::VocabularySet;
@@ -86,7 +86,7 @@ pub(crate) fn tell_failure(
     let resolver = BenchResolver::new(alloc, column(row, 1), VocabularySet::new(alloc))?;
     let told = tell_first::<BenchKeyword, BenchTable, BenchResolver, FailingMatcher>(
         alloc,
-        &BenchTable {},
+        &bench_table(),
         &resolver,
         &FailingMatcher {},
         row,

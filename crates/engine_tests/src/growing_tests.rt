@@ -7,7 +7,7 @@ ghost use Rattle.engine_tests.specs.Growing.{next};
 use crate::asking::{Parts, parts_of, tell_with};
 use bench_keywords::keyword::BenchKeyword;
 use bench_parts::matcher::BenchMatcher;
-use bench_parts::table::BenchTable;
+use bench_parts::table::{BenchTable, bench_table};
 use bench_resolver::resolver::BenchResolver;
 use bench_resolver::resolver::places::root_place;
 use schema_engine::keywords::{Draft, VocabularySet};
@@ -160,7 +160,7 @@ pub(crate) fn tell_growing(
     let resolver = GrowingResolver { document: resolver };
     let told = tell_with::<BenchKeyword, BenchTable, GrowingResolver, BenchMatcher>(
         alloc,
-        &BenchTable {},
+        &bench_table(),
         &resolver,
         &matcher,
         row,

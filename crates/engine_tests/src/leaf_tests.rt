@@ -6,7 +6,7 @@ ghost use Rattle.schema_parts.specs.KeywordViews.{mode_of, turn_of};
 ghost use Rattle.engine_tests.specs.Detours.{match_at, matches_before, pattern_at, text_in};
 
 use crate::asking::{push_answers_again, texts_of};
-use bench_keywords::keyword::BenchKeyword;
+use bench_keywords::keyword::PlainKeyword;
 use bench_keywords::names::NamesRun;
 use bench_keywords::texts::text_of;
 use bench_parts::matcher::BenchMatcher;
@@ -26,7 +26,7 @@ use test_rows::{column, list_at, text_at};
 #[derive(Drop)]
 struct DetourKeyword {
     patterns: Vec<String>,
-    keyword: BenchKeyword,
+    keyword: PlainKeyword,
 }
 
 /// What is known of a keyword apart from its representation; it holds no value.
@@ -35,7 +35,7 @@ struct DetourShape {}
 
 impl Model for DetourShape {
     ghost use Rattle.std.specs.Prelude.{[]};
-    ghost use Rattle.bench_keywords.specs.BenchShape.{requires};
+    ghost use Rattle.bench_keywords.specs.PlainShape.{requires};
     ghost use Rattle.engine_tests.specs.Detours.{Detour};
 
     ghost Value = { Detour };
@@ -87,7 +87,7 @@ impl Validate for DetourKeyword {
     ghost use Rattle.engine_tests.specs.DetourUnits.{detour_asks_no_units};
     ghost use Rattle.engine_tests.specs.DetourVerdicts.{detour_asks_verdicts};
     ghost use Rattle.std.specs.Prelude.{map, refl, string_bytes};
-    ghost use Rattle.bench_keywords.specs.BenchShape.{is_whole};
+    ghost use Rattle.bench_keywords.specs.PlainShape.{is_whole};
     ghost use Rattle.bench_keywords.specs.Shapes.{shape_of};
     ghost use Rattle.engine_tests.specs.Detours.{detour_ends, detour_fits, detour_functions, detour_left, detour_turns, detour_words};
     ghost use Rattle.engine_tests.specs.Detours.{detour_can, nothing_absorbed};
@@ -159,7 +159,7 @@ fn keyword_of(alloc: Global, row: &Value) -> Result<DetourKeyword, OutOfMemory> 
     let own = String::from_str(alloc, text_at(row, 1))?;
     Ok(DetourKeyword {
         patterns,
-        keyword: BenchKeyword::Pattern(own),
+        keyword: PlainKeyword::Pattern(own),
     })
 }
 

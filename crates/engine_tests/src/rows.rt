@@ -9,7 +9,7 @@ use crate::reservation_tests::{RESERVATIONS, tell_numbers};
 use crate::vocabulary_tests::{VOCABULARIES, tell_names};
 use bench_keywords::keyword::BenchKeyword;
 use bench_parts::by_value::TableByValue;
-use bench_parts::table::BenchTable;
+use bench_parts::table::{BenchTable, bench_table};
 use law_tests::both_once::BothOnce;
 use law_tests::items::ItemsKeyword;
 use law_tests::items_table::ItemsTable;
@@ -49,7 +49,7 @@ fn tell(alloc: Global, rows: Rows, row: &Value, log: &mut String) -> Result<(), 
         Rows::Reservations => {
             tell_numbers::<ItemsKeyword, ItemsTable>(alloc, &ItemsTable {}, row, log)
         }
-        Rows::Retries => tell_by::<BenchKeyword, BenchTable>(alloc, &BenchTable {}, row, log),
+        Rows::Retries => tell_by::<BenchKeyword, BenchTable>(alloc, &bench_table(), row, log),
         Rows::Vocabularies => tell_names(alloc, row, log),
     }
 }

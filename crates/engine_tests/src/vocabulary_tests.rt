@@ -3,7 +3,7 @@ use crate::asking::push_refusal;
 use bench_keywords::keyword::BenchKeyword;
 use bench_parts::matcher::BenchMatcher;
 use bench_parts::meta::BenchMeta;
-use bench_parts::table::BenchTable;
+use bench_parts::table::{BenchTable, bench_table};
 use bench_resolver::resolver::BenchResolver;
 use bench_resolver::resolver::vocabularies::DraftVocabularies;
 use schema_engine::keywords::{Vocabulary, VocabularySet};
@@ -62,7 +62,7 @@ pub(crate) fn tell_names(alloc: Global, row: &Value, log: &mut String) -> Result
     match BenchResolver::new(alloc, column(row, 1), VocabularySet::new(alloc)) {
         Ok(plain) => tell_name::<BenchKeyword, BenchTable, BenchResolver, BenchMatcher>(
             alloc,
-            &BenchTable {},
+            &bench_table(),
             &plain.with_draft_vocabularies(by_draft),
             &BenchMatcher::new(Vec::new(alloc)),
             row,

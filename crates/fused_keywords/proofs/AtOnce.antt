@@ -7,14 +7,14 @@ use Rattle.schema_parts.specs.KeywordViews.{Tells}
 use Rattle.schema_parts.specs.declared.keyword.Mode.TheVariants as mode
 use Rattle.keyword_ways.specs.Items.{each_from, first_at_item}
 use Rattle.keyword_ways.specs.Ways.{asked, nth}
-use Rattle.bench_keywords.specs.BenchShape.{BenchShape, is_whole}
+use Rattle.bench_keywords.specs.PlainShape.{PlainShape, is_whole}
 use Rattle.bench_keywords.specs.Words.{words}
 use Rattle.fused_keywords.specs.FusedShape.{is_free, of_array, of_bench}
 use Rattle.fused_keywords.specs.FusedWords.{fused_words}
 use Rattle.fused_keywords.specs.Openings.{asked_count, before_of, checks_hold}
 use Rattle.fused_keywords.specs.declared.array.ArrayKeyword.{ArrayKeyword}
 
-bench_ends : (texts : Bool) (m : BenchShape) (s : Subject) (valid : Bool) → EndsAtOnce (words texts) m s valid → EndsAtOnce (fused_words texts) (of_bench m) s valid
+bench_ends : (texts : Bool) (m : PlainShape) (s : Subject) (valid : Bool) → EndsAtOnce (words texts) m s valid → EndsAtOnce (fused_words texts) (of_bench m) s valid
 bench_ends texts m s valid h = record { asks_nothing = h.asks_nothing; says = h.says }
 
 array_ends : (texts : Bool) (k : ArrayKeyword) (s : Subject) (valid : Bool) → asked_count mode.Verdict k s ≡ 0 → checks_hold k s ≡ valid
@@ -24,7 +24,7 @@ array_ends texts k s valid none holds = record {
   says = holds;
 }
 
-pub bench_at_once : (m : BenchShape) (s : Subject) (o : Option Bool)
+pub bench_at_once : (m : PlainShape) (s : Subject) (o : Option Bool)
     → IfSome o (λ valid. (texts : Bool) → Tells texts (is_whole m) s → EndsAtOnce (words texts) m s valid)
     → IfSome o (λ valid. (texts : Bool) → Tells texts (is_free (of_bench m)) s → EndsAtOnce (fused_words texts) (of_bench m) s valid)
 bench_at_once m s None h = h

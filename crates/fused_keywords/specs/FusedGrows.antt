@@ -13,7 +13,7 @@ use Rattle.schema_meaning.specs.UnitsLead.{EachHandsUnitsOn, HandsUnitsOn, IsHan
 use Rattle.keyword_ways.specs.WayGrows.{way_grows}
 use Rattle.keyword_ways.specs.WayHandsOn.{ways_hand_units_on}
 use Rattle.keyword_ways.specs.Ways.{Way, passes_on}
-use Rattle.bench_keywords.specs.Grows.{bench_grows, bench_hands_units_on}
+use Rattle.bench_keywords.specs.Grows.{plain_grows, plain_hands_units_on}
 use Rattle.bench_keywords.specs.Laws.{none_absorbed}
 use Rattle.bench_keywords.specs.Words as bench
 use Rattle.fused_keywords.specs.Checks.{absorbed_unit}
@@ -30,7 +30,7 @@ checked true x y rest h = rest h
 checked false x y rest h = h
 
 pub fused_grows : (texts : Bool) (m : FusedShape) → says_monotone m ≡ true → IsMonotone (fused_words texts) m
-fused_grows texts (of_bench m) h s matches a b where_yes holds = bench_grows texts m h s matches a b where_yes holds
+fused_grows texts (of_bench m) h s matches a b where_yes holds = plain_grows texts m h s matches a b where_yes holds
 fused_grows texts (of_array k) h s matches a b where_yes holds =
     checked (checks_hold k s) _ _ (way_grows (passes_on (questions_of k s)) refl matches a b where_yes) holds
 
@@ -56,6 +56,6 @@ module _ (texts : Bool) (s : Subject) (u : Question → Unit_) where
 
 pub fused_hands_units_on : (texts : Bool) → EachHandsUnitsOn (fused_words texts) absorbed_by
 fused_hands_units_on texts (of_bench m) s matches u =
-    let handed : HandsUnitsOn (bench.words texts) none_absorbed m s matches u = bench_hands_units_on texts m s matches u in
+    let handed : HandsUnitsOn (bench.words texts) none_absorbed m s matches u = plain_hands_units_on texts m s matches u in
     record { own = handed.own; absorbed = handed.absorbed }
 fused_hands_units_on texts (of_array k) s matches u = record { own = all_own texts s u matches k; absorbed = all_absorbed texts s u k }

@@ -23,7 +23,7 @@ use Rattle.keyword_ways.specs.Ways.{Way, asked, at_first, goes_on, mode_from, ne
 use Rattle.keyword_ways.specs.Ways as ways
 use Rattle.keyword_ways.specs.declared.run.Stage.{Stage}
 use Rattle.keyword_ways.specs.declared.run.Stage.TheVariants.{Asked, Begun, Counted, Ended}
-use Rattle.bench_keywords.specs.BenchShape.{BenchShape}
+use Rattle.bench_keywords.specs.PlainShape.{PlainShape}
 use Rattle.bench_keywords.specs.Laws.{functions_keep, turns_keep}
 use Rattle.bench_keywords.specs.Words as bench
 use Rattle.bench_keywords.specs.declared.names.NamesRun.{NamesRun}
@@ -37,7 +37,7 @@ use Rattle.fused_keywords.specs.declared.checks.Check.TheVariants.{HasLeast, IsA
 
 -- ---- those of the bench
 
-module _ (texts : Bool) (m : BenchShape) where
+module _ (texts : Bool) (m : PlainShape) where
   bench_asks : (s : Subject) (t : Turn) → AsksRightly (bench.words texts) m s [] t → AsksRightly (fused_words texts) (of_bench m) s [] t
   bench_asks s (ask q mode') h = h
   bench_asks s (match_text a point) h = h

@@ -8,12 +8,13 @@ use Rattle.schema_definitions.specs.Instance.{Place, Text}
 use Rattle.schema_definitions.specs.Drafts.{Draft, Vocabularies}
 use Rattle.schema_definitions.specs.Making.{Made, Making, Script, a_keyword, after_request, followed, nothing, refused, then_compile, then_end, then_pending, then_refer, then_reserve, compile, refer}
 use Rattle.schema_parts.specs.MakerViews.{MakesRightly, begun, waits}
-use Rattle.bench_keywords.specs.BenchShape.{BenchShape, is_whole}
+use Rattle.bench_keywords.specs.PlainShape.{PlainShape, is_whole}
 use Rattle.bench_keywords.specs.Laws.{none_absorbed}
 use Rattle.bench_parts.specs.ByValue.{IsRightMember, makes_by_value}
 use Rattle.bench_parts.specs.MakerLaws.{makes_rightly}
 use Rattle.bench_parts.specs.declared.by_value.MemberKeyword.TheVariants.{Nothing}
-use Rattle.bench_parts.specs.Makers.{asks_for, bench_script, waiting_in}
+use Rattle.bench_parts.specs.Makers as bench
+use Rattle.schema_applicators.specs.Making.{asks_for, waiting_in}
 use Rattle.fused_keywords.specs.FusedScripts.{are_known, fused_limit, fused_script, is_absorbed, least_in, least_keyword, least_made, limit_of, made_among, plain_script, script_among, script_by, waiting_among}
 use Rattle.fused_keywords.specs.FusedShape.{FusedShape, absorbed_by, is_free, of_bench}
 
@@ -38,12 +39,12 @@ followed_among f is_self (then_pending purpose free held) = followed_among f is_
 followed_among f is_self (then_reserve purpose s) = followed_among f is_self s
 followed_among f is_self (then_end m) = refl
 
-made_rightly : (owner : Members) (m : Made BenchShape) → MakesRightly none_absorbed is_whole owner (then_end m) → Rightly owner (then_end (made_among of_bench m))
+made_rightly : (owner : Members) (m : Made PlainShape) → MakesRightly none_absorbed is_whole owner (then_end m) → Rightly owner (then_end (made_among of_bench m))
 made_rightly owner (a_keyword m names) h = h
 made_rightly owner nothing h = tt
 made_rightly owner (refused told e) h = h
 
-among_rightly : (owner : Members) (s : Script BenchShape) → MakesRightly none_absorbed is_whole owner s → Rightly owner (script_among of_bench s)
+among_rightly : (owner : Members) (s : Script PlainShape) → MakesRightly none_absorbed is_whole owner s → Rightly owner (script_among of_bench s)
 among_rightly owner (then_compile path s) h = (h.0, among_rightly owner s h.1)
 among_rightly owner (then_refer text s skipped) h = (among_rightly owner s h.0, among_rightly owner skipped h.1)
 among_rightly owner (then_pending purpose free held) h = (
@@ -101,7 +102,7 @@ where_known false o n h = cc
 plain_rightly : (name : Text) (owner : Members) (draft : Draft) (vocabularies : Vocabularies) (formats : Bool) → Rightly owner (plain_script name owner draft vocabularies formats)
 plain_rightly name owner draft vocabularies formats = one_of owner (bytes_eq name (codes "minItems")) _ _
     (makes_by_value absorbed_by is_free least_made least_rightly false name owner draft vocabularies formats)
-    (among_rightly owner (bench_script false name owner draft vocabularies formats) (makes_rightly false name owner draft vocabularies formats))
+    (among_rightly owner (bench.plain_script false name owner draft vocabularies formats) (makes_rightly false name owner draft vocabularies formats))
 
 fused_rightly : (name : Text) (owner : Members) (draft : Draft) (vocabularies : Vocabularies) (formats : Bool) (o : Option ℕ) → fused_limit draft vocabularies owner ≡ o
     → Rightly owner (script_by o name owner draft vocabularies formats)

@@ -6,9 +6,9 @@ use Rattle.schema_definitions.specs.Remembering.{AlwaysAsksVerdict, EachAsksVerd
 use Rattle.schema_parts.specs.UnitQuestions.{AlwaysAsksForLess, AsksNoUnits}
 use Rattle.keyword_ways.specs.WayUnits.{WantsNone, mode-kept, step_for_less}
 use Rattle.keyword_ways.specs.WayVerdicts.{WantsVerdict, step_for_verdict}
-use Rattle.bench_keywords.specs.BenchShape.{BenchShape}
-use Rattle.bench_keywords.specs.UnitsAsked.{bench_asks_no_units}
-use Rattle.bench_keywords.specs.VerdictsAsked.{bench_asks_verdicts}
+use Rattle.bench_keywords.specs.PlainShape.{PlainShape}
+use Rattle.bench_keywords.specs.UnitsAsked.{plain_asks_no_units}
+use Rattle.bench_keywords.specs.VerdictsAsked.{plain_asks_verdicts}
 use Rattle.bench_keywords.specs.Words.{words}
 use Rattle.bench_keywords.specs.declared.names.NamesRun.{NamesRun}
 use Rattle.fused_keywords.specs.FusedShape.{of_array, of_bench}
@@ -17,11 +17,11 @@ use Rattle.fused_keywords.specs.declared.array.ArrayKeyword.{ArrayKeyword}
 
 module _ (texts : Bool) (s : Subject) where
   -- a run of the bench's goes as in the bench
-  bench_for_less : (m : BenchShape) (n : ℕ) (r : NamesRun × Answer) (reply : Reply) → AlwaysAsksForLess (words texts) m s n r reply → AlwaysAsksForLess (fused_words texts) (of_bench m) s n r reply
+  bench_for_less : (m : PlainShape) (n : ℕ) (r : NamesRun × Answer) (reply : Reply) → AlwaysAsksForLess (words texts) m s n r reply → AlwaysAsksForLess (fused_words texts) (of_bench m) s n r reply
   bench_for_less m zero r reply h = tt
   bench_for_less m (suc n) r reply h = (h.0, λ next. bench_for_less m n ((words texts).turn m s r reply) next (h.1 next))
 
-  bench_for_verdict : (m : BenchShape) (n : ℕ) (r : NamesRun × Answer) (reply : Reply) → AlwaysAsksVerdict (words texts) m s n r reply → AlwaysAsksVerdict (fused_words texts) (of_bench m) s n r reply
+  bench_for_verdict : (m : PlainShape) (n : ℕ) (r : NamesRun × Answer) (reply : Reply) → AlwaysAsksVerdict (words texts) m s n r reply → AlwaysAsksVerdict (fused_words texts) (of_bench m) s n r reply
   bench_for_verdict m zero r reply h = tt
   bench_for_verdict m (suc n) r reply h = (h.0, λ next. bench_for_verdict m n ((words texts).turn m s r reply) next (h.1 next))
 
@@ -37,11 +37,11 @@ module _ (texts : Bool) (s : Subject) where
       (step_for_verdict (run_way k s r) r.0.progress.mode r.0.progress.stage reply wants, λ next. array_for_verdict k n ((fused_words texts).turn (of_array k) s r reply) next wants)
 
 pub fused_asks_no_units : (texts : Bool) → AsksNoUnits (fused_words texts)
-fused_asks_no_units texts (of_bench m) s mode none = bench_for_less texts s m _ _ no_reply (bench_asks_no_units texts m s mode none)
+fused_asks_no_units texts (of_bench m) s mode none = bench_for_less texts s m _ _ no_reply (plain_asks_no_units texts m s mode none)
 fused_asks_no_units texts (of_array k) s mode none =
     array_for_less texts s k ((fused_words texts).most_turns (of_array k) s) ((fused_words texts).begin (of_array k) s mode) no_reply (λ e. none (sym (mode-kept mode) ∙ e))
 
 pub fused_asks_verdicts : (texts : Bool) → EachAsksVerdicts (fused_words texts)
-fused_asks_verdicts texts (of_bench m) s = bench_for_verdict texts s m _ _ no_reply (bench_asks_verdicts texts m s)
+fused_asks_verdicts texts (of_bench m) s = bench_for_verdict texts s m _ _ no_reply (plain_asks_verdicts texts m s)
 fused_asks_verdicts texts (of_array k) s =
     array_for_verdict texts s k ((fused_words texts).most_turns (of_array k) s) ((fused_words texts).begin (of_array k) s for_verdict) no_reply refl

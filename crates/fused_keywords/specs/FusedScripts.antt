@@ -9,7 +9,8 @@ use Rattle.schema_keywords.specs.KeywordTable.{builtin_in}
 use Rattle.schema_definitions.specs.Making.{Made, Script, a_keyword, nothing, refused, then_compile, then_end, then_pending, then_refer, then_reserve}
 use Rattle.schema_parts.specs.MakerViews.{Waiting, begun, ended, wants_pending, wants_reserved, waits}
 use Rattle.bench_parts.specs.ByValue.{script_at}
-use Rattle.bench_parts.specs.Makers.{bench_script, items_before}
+use Rattle.bench_parts.specs.Makers.{items_before}
+use Rattle.bench_parts.specs.Makers as bench
 use Rattle.bench_parts.specs.declared.by_value.Children.TheVariants as children
 use Rattle.bench_parts.specs.declared.by_value.MemberKeyword.{MemberKeyword}
 use Rattle.bench_parts.specs.declared.by_value.MemberKeyword.TheVariants.{Keyword, Malformed, Nothing}
@@ -88,7 +89,7 @@ asks_fused k = then_compile items_place (ends_fused k)
 
 abbrev pub plain_script : Text → Members → Draft → Vocabularies → Bool → Script FusedShape
 plain_script name ms draft vocabularies formats =
-    if bytes_eq name (codes "minItems") then script_at least_made name (get_member name ms) else script_among of_bench (bench_script false name ms draft vocabularies formats)
+    if bytes_eq name (codes "minItems") then script_at least_made name (get_member name ms) else script_among of_bench (bench.plain_script false name ms draft vocabularies formats)
 
 abbrev pub is_absorbed : Text → Bool
 is_absorbed name = bytes_eq name (codes "type") || bytes_eq name (codes "minItems")

@@ -1,13 +1,13 @@
 -- What is known of a keyword apart from its representation.
 use Rattle.std.specs.Prelude.{Bool, List, [], true}
 use Rattle.schema_definitions.specs.Instance.{Text}
-use Rattle.bench_keywords.specs.BenchShape.{BenchShape, is_whole}
-use Rattle.bench_keywords.specs.BenchShape as bench
+use Rattle.bench_keywords.specs.PlainShape.{PlainShape, is_whole}
+use Rattle.bench_keywords.specs.PlainShape as bench
 use Rattle.fused_keywords.specs.Openings.{absorbs}
 use Rattle.fused_keywords.specs.declared.array.ArrayKeyword.{ArrayKeyword}
 
 pub data FusedShape : Type 0 where
-  of_bench : BenchShape → FusedShape
+  of_bench : PlainShape → FusedShape
   of_array : ArrayKeyword → FusedShape
 
 -- the names of the keywords that it absorbs

@@ -1,18 +1,23 @@
 //! The keywords.
 use crate::array::ArrayKeyword;
-use bench_keywords::keyword::BenchKeyword;
+use bench_keywords::keyword::PlainKeyword;
 use bench_keywords::names::{Names, NamesRun};
+use joined_keywords::both::Both;
 use keyword_ways::run::Progress;
+use schema_applicators::applicator::Applicator;
 use schema_parts::keyword::{Answer, Mode, Reply, Step, Validate};
 use schema_reports::instance::Instance;
 use schema_reports::location::OutOfMemory;
 use std::alloc::Global;
 use std::marker::Model;
 
-/// A keyword: one of the bench's, or one of an array.
+/// A keyword: an applicator, or one of the others.
+pub type FusedKeyword = Both<Applicator, PlainFused>;
+
+/// A keyword that is no applicator: one of the bench's, or one of an array.
 #[derive(Drop)]
-pub enum FusedKeyword {
-    Bench(BenchKeyword),
+pub enum PlainFused {
+    Bench(PlainKeyword),
     Array(ArrayKeyword),
 }
 
@@ -29,7 +34,7 @@ impl Model for Shape {
     ghost view = { λ _. of_array (MinItems 0) };
 }
 
-impl Validate for FusedKeyword {
+impl Validate for PlainFused {
     ghost use Rattle.std.specs.Prelude.{refl};
     ghost use Rattle.fused_keywords.specs.FusedGrows.{fused_grows, fused_hands_units_on};
     ghost use Rattle.fused_keywords.specs.FusedShape.{absorbed_by, is_free, says_monotone};
@@ -67,8 +72,8 @@ impl Validate for FusedKeyword {
         mode: Mode,
     ) -> Result<NamesRun, OutOfMemory> {
         match self {
-            FusedKeyword::Bench(keyword) => keyword.begin(alloc, instance, mode),
-            FusedKeyword::Array(_) => Ok(NamesRun {
+            PlainFused::Bench(keyword) => keyword.begin(alloc, instance, mode),
+            PlainFused::Array(_) => Ok(NamesRun {
                 progress: Progress::begin(mode),
                 names: Names::none(alloc),
             }),
@@ -84,8 +89,8 @@ impl Validate for FusedKeyword {
         answer: &mut Answer<'i>,
     ) -> Result<Step<'s>, OutOfMemory> {
         match self {
-            FusedKeyword::Bench(keyword) => keyword.turn(alloc, run, instance, reply, answer),
-            FusedKeyword::Array(keyword) => {
+            PlainFused::Bench(keyword) => keyword.turn(alloc, run, instance, reply, answer),
+            PlainFused::Array(keyword) => {
                 keyword.turn(alloc, &mut run.progress, instance, reply, answer)
             }
         }
@@ -93,15 +98,15 @@ impl Validate for FusedKeyword {
 
     fn is_valid_at_once(&self, instance: Instance<'_>) -> Option<bool> {
         match self {
-            FusedKeyword::Bench(keyword) => keyword.is_valid_at_once(instance),
-            FusedKeyword::Array(keyword) => keyword.holds_at_once(instance),
+            PlainFused::Bench(keyword) => keyword.is_valid_at_once(instance),
+            PlainFused::Array(keyword) => keyword.holds_at_once(instance),
         }
     }
 
     fn monotone(&self) -> bool {
         match self {
-            FusedKeyword::Bench(keyword) => keyword.monotone(),
-            FusedKeyword::Array(_) => true,
+            PlainFused::Bench(keyword) => keyword.monotone(),
+            PlainFused::Array(_) => true,
         }
     }
 

@@ -4,8 +4,9 @@ ghost use Rattle.serde_json.specs.Find.{get_member};
 ghost use Rattle.serde_json.specs.View.{members_view, view};
 ghost use Rattle.schema_keywords.specs.KeywordViews.{draft_of};
 ghost use Rattle.schema_parts.specs.MakerViews as makers;
-ghost use Rattle.bench_parts.specs.MakerViews.{made_of, waiting_of};
+ghost use Rattle.schema_applicators.specs.MakerViews.{made_of, waiting_of};
 ghost use Rattle.bench_keywords.specs.Shapes.{shape_of};
+ghost use Rattle.bench_parts.specs.BenchTables.{HasNames};
 ghost use Rattle.fused_keywords.specs.FusedMakers.{fused_waiting};
 ghost use Rattle.fused_keywords.specs.FusedScripts.{fused_limit, is_known, least_in, limit_of};
 ghost use Rattle.fused_keywords.specs.FusedScripts.{made_among, plain_script, says_array, script_by};
@@ -14,12 +15,15 @@ ghost use Rattle.fused_keywords.specs.FusedShape.{of_bench};
 ghost use Rattle.fused_keywords.specs.FusedShapes.{fused_shape};
 
 use crate::array::ArrayKeyword;
-use crate::keyword::FusedKeyword;
-use bench_keywords::keyword::BenchKeyword;
+use crate::keyword::PlainFused;
+use bench_keywords::keyword::PlainKeyword;
 use bench_parts::by_value::{Children, MakesByValue, MemberKeyword, TableByValue};
-use bench_parts::table::BenchTable;
-use bench_parts::table::maker::{Ending, PathsMaker, ends};
-use bench_parts::table::schema_values::{items_before, value_in, value_of};
+use bench_parts::table::schema_values::items_before;
+use bench_parts::table::{PlainTable, with_applicators};
+use joined_keywords::table::BothTable;
+use schema_applicators::making::maker::{Ending, PathsMaker, ends};
+use schema_applicators::making::paths::{value_in, value_of};
+use schema_applicators::table::ApplicatorTable;
 use schema_keywords::keywords::{Draft, VocabularySet, builtin_row};
 use schema_parts::table::{KeywordOrigin, KeywordTable, MakerReply, MakerStep};
 use schema_reports::location::OutOfMemory;
@@ -27,15 +31,18 @@ use serde_json::{Map, Value};
 use std::alloc::Global;
 
 /// The bench's table, with `minItems`, and with `items` that absorbs `minItems` and `type` where an object has the three, `type`
-/// with "array" and `items` with one schema. No name is its own.
+/// with "array" and `items` with one schema.
+pub type FusedTable = BothTable<ApplicatorTable, PlainFusedTable>;
+
+/// What that table makes that is no applicator. No name is its own.
 #[derive(Drop)]
-pub struct FusedTable {}
+pub struct PlainFusedTable {}
 
 /// A maker: one that asks for paths, or that of `items` where it absorbs two others, by how many items come before its own and by
 /// the limit, before it asks for its schema and after.
 #[derive(Drop)]
 pub enum FusedMaker {
-    Plain(PathsMaker<FusedKeyword>),
+    Plain(PathsMaker<PlainFused>),
     AsksItems(usize, u64),
     HasItems(usize, u64),
     Over,
@@ -45,7 +52,7 @@ pub enum FusedMaker {
 #[derive(Drop)]
 struct LeastTable {}
 
-impl MakesByValue<FusedKeyword> for LeastTable {
+impl MakesByValue<PlainFused> for LeastTable {
     ghost use Rattle.fused_keywords.specs.FusedMakerLaws.{least_rightly};
     ghost use Rattle.fused_keywords.specs.FusedScripts.{least_made};
 
@@ -56,12 +63,12 @@ impl MakesByValue<FusedKeyword> for LeastTable {
         _alloc: Global,
         name: &str,
         value: &Value,
-    ) -> Result<MemberKeyword<FusedKeyword>, OutOfMemory> {
+    ) -> Result<MemberKeyword<PlainFused>, OutOfMemory> {
         if name == "minItems" {
             let Some(limit) = value.as_u64() else {
                 return Ok(MemberKeyword::Malformed);
             };
-            let keyword = FusedKeyword::Array(ArrayKeyword::MinItems(limit));
+            let keyword = PlainFused::Array(ArrayKeyword::MinItems(limit));
             return Ok(MemberKeyword::Keyword(keyword, Children::Childless));
         }
         Ok(MemberKeyword::Nothing)
@@ -132,11 +139,11 @@ fn fused_limit(
 }
 
 /// How a maker of the bench ends, among all.
-fn ending_of(ending: Ending<BenchKeyword>) -> Ending<FusedKeyword>
+fn ending_of(ending: Ending<PlainKeyword>) -> Ending<PlainFused>
     ensures ending { made_of fused_shape result ≡ made_among of_bench (made_of shape_of ending) }
 {
     match ending {
-        Ending::Keyword(keyword) => Ending::Keyword(FusedKeyword::Bench(keyword)),
+        Ending::Keyword(keyword) => Ending::Keyword(PlainFused::Bench(keyword)),
         Ending::Nothing => Ending::Nothing,
         Ending::Refused(error) => Ending::Refused(error),
     }
@@ -144,7 +151,7 @@ fn ending_of(ending: Ending<BenchKeyword>) -> Ending<FusedKeyword>
 
 /// A maker of the bench, as one of all.
 #[tactic(auto, using(crate::specs::FusedMakerLaws::waits_among))]
-fn among(maker: PathsMaker<BenchKeyword>) -> PathsMaker<FusedKeyword>
+fn among(maker: PathsMaker<PlainKeyword>) -> PathsMaker<PlainFused>
     ensures maker { waiting_of fused_shape result ≡ waiting_among of_bench (waiting_of shape_of maker) }
 {
     let PathsMaker { paths, asked, ends } = maker;
@@ -163,7 +170,7 @@ fn plain_maker(
     draft: Draft,
     vocabularies: &VocabularySet,
     formats: bool,
-) -> Result<PathsMaker<FusedKeyword>, OutOfMemory>
+) -> Result<PathsMaker<PlainFused>, OutOfMemory>
     ensures maker { IfOk result (λ m. waiting_of fused_shape m ≡ makers.begun (plain_script name.now (members_view object.now.entries)
         (draft_of draft) vocabularies.now formats)) }
 {
@@ -174,7 +181,7 @@ fn plain_maker(
         };
         return table.begin(alloc, origin, object, draft, vocabularies, formats);
     }
-    let table = BenchTable {};
+    let table = PlainTable {};
     let maker = table.begin(alloc, origin, object, draft, vocabularies, formats)?;
     Ok(among(maker))
 }
@@ -213,7 +220,7 @@ fn absorbed_names(alloc: Global) -> Result<Vec<String>, OutOfMemory>
     Ok(names)
 }
 
-impl KeywordTable<FusedKeyword> for FusedTable {
+impl KeywordTable<PlainFused> for PlainFusedTable {
     ghost use Rattle.std.specs.Prelude.{false};
     ghost use Rattle.fused_keywords.specs.FusedMakerLaws.{fused_makes_rightly};
     ghost use Rattle.fused_keywords.specs.FusedMakers.{fused_waiting};
@@ -253,7 +260,7 @@ impl KeywordTable<FusedKeyword> for FusedTable {
         alloc: Global,
         maker: &mut FusedMaker,
         reply: MakerReply,
-    ) -> Result<MakerStep<FusedKeyword>, OutOfMemory> {
+    ) -> Result<MakerStep<PlainFused>, OutOfMemory> {
         match maker {
             FusedMaker::Plain(paths) => paths.turn(alloc, reply),
             FusedMaker::AsksItems(before, least) => {
@@ -262,7 +269,7 @@ impl KeywordTable<FusedKeyword> for FusedTable {
                 Ok(MakerStep::Compile(path))
             }
             FusedMaker::HasItems(before, least) => {
-                let keyword = FusedKeyword::Array(ArrayKeyword::ArrayShape(*before, *least));
+                let keyword = PlainFused::Array(ArrayKeyword::ArrayShape(*before, *least));
                 *maker = FusedMaker::Over;
                 Ok(MakerStep::Keyword(keyword, absorbed_names(alloc)?))
             }
@@ -271,4 +278,11 @@ impl KeywordTable<FusedKeyword> for FusedTable {
     }
 
     ghost right = { λ _. fused_makes_rightly };
+}
+
+/// Returns the table.
+pub fn fused_table() -> FusedTable
+    ensures names { HasNames result }
+{
+    with_applicators(PlainFusedTable {})
 }

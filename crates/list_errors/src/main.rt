@@ -4,7 +4,7 @@
 use bench_keywords::keyword::BenchKeyword;
 use bench_parts::matcher::BenchMatcher;
 use bench_parts::meta::BenchMeta;
-use bench_parts::table::BenchTable;
+use bench_parts::table::bench_table;
 use bench_resolver::resolver::BenchResolver;
 use schema_engine::keywords::VocabularySet;
 use schema_engine::validator::Validator;
@@ -30,7 +30,7 @@ fn main(rt: HostRuntime) -> anyhow::Result<()> {
 
 /// Builds a validator of the schema, and prints the errors of the instance, or why the schema is refused.
 fn check(rt: &impl Print, alloc: Global, schema: &Value, instance: &Value) -> anyhow::Result<()> {
-    let table = BenchTable {};
+    let table = bench_table();
     let resolver = BenchResolver::new(alloc, schema, VocabularySet::new(alloc))?;
     let matcher = BenchMatcher::new(Vec::new(alloc));
     match Validator::<BenchKeyword, BenchMatcher>::new(

@@ -1,7 +1,7 @@
 //! Texts of errors, made and run through the traits' bounds.
 use crate::words::{Rows, draft_named, push_all, push_path, wrong};
 use bench_keywords::keyword::BenchKeyword;
-use bench_parts::table::BenchTable;
+use bench_parts::table::bench_table;
 use schema_keywords::keywords::{Draft, VocabularySet};
 use schema_parts::keyword::{Answer, Fault, Found, MatchPoint, Mode, Reply, Step, Validate};
 use schema_parts::table::{KeywordOrigin, KeywordTable, MakerReply, MakerStep};
@@ -324,7 +324,7 @@ fn push_log(alloc: Global, row: &Value, log: &mut String) -> Result<(), OutOfMem
     let mut made: Option<BenchKeyword> = None;
     let asked = make(
         alloc,
-        &BenchTable {},
+        &bench_table(),
         column(row, 1),
         draft,
         text_at(row, 2),

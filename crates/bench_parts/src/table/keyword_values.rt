@@ -1,15 +1,15 @@
 //! The values of keywords.
 ghost use Rattle.std.specs.Prelude.{◌≡◌, ◌++◌, ◌∷◌, [], IfOk, map, option_map, string_bytes};
 ghost use Rattle.serde_json.specs.View.{items_view, members_view, view};
-ghost use Rattle.schema_definitions.specs.Instance.{to_item, to_member};
-ghost use Rattle.bench_parts.specs.Makers.{count_shape, items_from, names_of, pattern_shape, required_shape, texts_of, type_named, type_of};
+ghost use Rattle.schema_definitions.specs.Instance.{to_member};
+ghost use Rattle.bench_parts.specs.Makers.{count_shape, names_of, pattern_shape, required_shape, texts_of, type_named, type_of};
 ghost use Rattle.bench_parts.specs.Makers.{type_shape, types_of, values_below};
 ghost use Rattle.bench_keywords.specs.Shapes.{shape_of};
 
-use crate::table::schema_values::value_of;
 use bench_keywords::counts::CountKind;
-use bench_keywords::keyword::BenchKeyword;
+use bench_keywords::keyword::PlainKeyword;
 use bench_keywords::type_names::TypeName;
+use schema_applicators::making::paths::value_of;
 use schema_parts::schema_place::{SchemaPath, SchemaStep};
 use schema_reports::location::OutOfMemory;
 use serde_json::{Map, Value};
@@ -64,16 +64,16 @@ fn types_of(alloc: Global, values: &[Value]) -> Result<Option<Vec<TypeName>>, Ou
 }
 
 /// `type`.
-pub fn type_keyword(alloc: Global, value: &Value) -> Result<Option<BenchKeyword>, OutOfMemory>
+pub fn type_keyword(alloc: Global, value: &Value) -> Result<Option<PlainKeyword>, OutOfMemory>
     ensures shaped { IfOk result (λ keyword. option_map shape_of keyword ≡ type_shape (view value.now)) }
 {
     match value {
         Value::String(name) => match type_named(name.as_str()) {
-            Some(name) => Ok(Some(BenchKeyword::Type(name))),
+            Some(name) => Ok(Some(PlainKeyword::Type(name))),
             None => Ok(None),
         },
         Value::Array(values) => match types_of(alloc, values.as_slice())? {
-            Some(names) => Ok(Some(BenchKeyword::Types(names))),
+            Some(names) => Ok(Some(PlainKeyword::Types(names))),
             None => Ok(None),
         },
         _ => Ok(None),
@@ -103,12 +103,12 @@ pub fn texts_of(alloc: Global, values: &[Value]) -> Result<Option<Vec<String>>, 
 }
 
 /// `required`.
-pub fn required_keyword(alloc: Global, value: &Value) -> Result<Option<BenchKeyword>, OutOfMemory>
+pub fn required_keyword(alloc: Global, value: &Value) -> Result<Option<PlainKeyword>, OutOfMemory>
     ensures shaped { IfOk result (λ keyword. option_map shape_of keyword ≡ required_shape (view value.now)) }
 {
     match value {
         Value::Array(values) => match texts_of(alloc, values.as_slice())? {
-            Some(names) => Ok(Some(BenchKeyword::Required(names))),
+            Some(names) => Ok(Some(PlainKeyword::Required(names))),
             None => Ok(None),
         },
         _ => Ok(None),
@@ -116,13 +116,13 @@ pub fn required_keyword(alloc: Global, value: &Value) -> Result<Option<BenchKeyw
 }
 
 /// `pattern`.
-pub fn pattern_keyword(alloc: Global, value: &Value) -> Result<Option<BenchKeyword>, OutOfMemory>
+pub fn pattern_keyword(alloc: Global, value: &Value) -> Result<Option<PlainKeyword>, OutOfMemory>
     ensures shaped { IfOk result (λ keyword. option_map shape_of keyword ≡ pattern_shape (view value.now)) }
 {
     match value {
         Value::String(text) => {
             let pattern = String::from_str(alloc, text.as_str())?;
-            Ok(Some(BenchKeyword::Pattern(pattern)))
+            Ok(Some(PlainKeyword::Pattern(pattern)))
         }
         _ => Ok(None),
     }
@@ -165,35 +165,11 @@ fn member_below(alloc: Global, keyword: &str, name: &str) -> Result<SchemaPath, 
 }
 
 /// A keyword that counts.
-pub fn count_keyword(kind: CountKind, value: &Value) -> Option<BenchKeyword>
+pub fn count_keyword(kind: CountKind, value: &Value) -> Option<PlainKeyword>
     ensures shaped { option_map shape_of result ≡ count_shape kind (view value.now) }
 {
     match value.as_u64() {
-        Some(limit) => Some(BenchKeyword::Count(kind, limit)),
+        Some(limit) => Some(PlainKeyword::Count(kind, limit)),
         None => None,
     }
-}
-
-/// The places of the items of a list, below a keyword.
-pub fn items_below(
-    alloc: Global,
-    keyword: &str,
-    items: &[Value],
-) -> Result<Vec<SchemaPath>, OutOfMemory>
-    ensures paths { IfOk result (λ paths. paths.items ≡ items_from keyword.now 0 (items_view items.now)) }
-{
-    let mut paths = Vec::new(alloc);
-    for (index, _item) in items.iter().enumerate() {
-        paths.push(item_below(alloc, keyword, index)?)?;
-    }
-    Ok(paths)
-}
-
-/// The place of an item, below a keyword.
-fn item_below(alloc: Global, keyword: &str, index: usize) -> Result<SchemaPath, OutOfMemory>
-    ensures path { IfOk result (λ path. path ≡ to_member keyword.now ∷ to_item index ∷ []) }
-{
-    let mut path = value_of(alloc, keyword)?;
-    path.push(SchemaStep::Item(index))?;
-    Ok(path)
 }

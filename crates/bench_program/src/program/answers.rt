@@ -8,7 +8,7 @@ ghost use Rattle.schema_definitions.specs.Resolving.{Resolver};
 ghost use Rattle.schema_reports.specs.ReportViews.{error_of};
 ghost use Rattle.schema_engine.specs.Handed.{Options};
 ghost use Rattle.bench_resolver.specs.BenchStates.{Point};
-ghost use Rattle.bench_keywords.specs.BenchShape.{BenchShape};
+ghost use Rattle.bench_keywords.specs.BenchKeywords.{BenchShape};
 ghost use Rattle.bench_program.specs.ProgramMeaning.{AnswersFromSomeDepth, AnswersInEverySense, AnswersPlainly, BenchHasUnits, BenchMeans};
 ghost use Rattle.bench_program.specs.ProgramRuns.{answer_status};
 ghost use Rattle.bench_program.specs.ProgramTexts.{IsJsonLine, error_line, verdict_text};

@@ -1,5 +1,4 @@
-use Rattle.std.proofs.Common.{List, ap, inl, inr, map, string_bytes, subst}
-use Rattle.schema_definitions.specs.Instance.{Text}
+use Rattle.std.proofs.Common.{ap, inl, inr, map, string_bytes}
 use Rattle.std.proofs.lemmas.Result.{err_from_is_err_and}
 use Rattle.serde_json.specs.View.{view}
 use Rattle.schema_engine.specs.Handed.{default_nested, default_options, parts_of}
@@ -9,8 +8,9 @@ use Rattle.bench_resolver.specs.BenchAnswers.{bench_resolving}
 use Rattle.bench_parts.specs.BenchMatching.{bench_matcher}
 use Rattle.bench_program.specs.ProgramMeaning.{Asked, BenchHasUnits, BenchMeans, IsRefused, bench_table}
 use Rattle.bench_program.specs.ProgramViews.{texts}
-use Rattle.bench_keywords.specs.Shapes.{shape_of}
-use Rattle.bench_keywords.specs.Words.{words}
+use Rattle.bench_keywords.specs.BenchKeywords.{bench_shape, bench_words}
+use Rattle.bench_parts.specs.BenchTables.{owned_in, script_in}
+use Rattle.bench_program.proofs.AsHanded.{as_handed}
 use Rattle.bench_program.proofs.BuildFaults.{build_fault}
 use Rattle.bench_program.proofs.program.answer_to.Goals as goal
 
@@ -33,8 +33,8 @@ returns-in_err-validator-clause-fault c =
     } in
     let refused : IsRefused asked e = elim c.in_err-validator.ensures.refused [
       | inl cause ↦ inl (λ spoken.
-          subst (λ (ps : List Text). RefusesBuild (parts_of (bench_resolving r) bench_table (bench_matcher ps) (words spoken) default_options) schema default_options.limit e)
-          c.new-matcher.ensures.patterns (cause spoken))
+          as_handed (λ table ps. RefusesBuild (parts_of (bench_resolving r) table (bench_matcher ps) (bench_words spoken) default_options) schema default_options.limit e)
+          c.bench_table.result c.bench_table.ensures.owned c.bench_table.ensures.script c.new-matcher.ensures.patterns (cause spoken))
       | inr fails ↦ inr fails
     ] in
     rw (p.1, p.2) (build_fault (texts c.args.words.now) asked e refused)
@@ -52,6 +52,9 @@ returns-clause-answer c =
     let unfinished = map string_bytes request.unfinished.items in
     let schema = view request.schema in
     let validator = c.in_ok-validator.validator in
+    let t = c.bench_table.result in
+    let owned = c.bench_table.ensures.owned in
+    let script = c.bench_table.ensures.script in
     let same = c.new-matcher.ensures.patterns in
     record {
       asked = record {
@@ -63,12 +66,12 @@ returns-clause-answer c =
         resolver = r;
         resolves = record { document = ap view given.document; uri = given.uri; alone = given.alone; draft = given.draft; drafts = rw c.new.ensures.empty at given.drafts; custom = rw c.new.ensures.empty at given.custom };
       };
-      builds = λ spoken. subst (λ (ps : List Text). Builds (parts_of (bench_resolving r) bench_table (bench_matcher ps) (words spoken) default_options) schema default_options.limit) same (c.in_ok-validator.ensures.built spoken);
+      builds = λ spoken. as_handed (λ table ps. Builds (parts_of (bench_resolving r) table (bench_matcher ps) (bench_words spoken) default_options) schema default_options.limit) t owned script same (c.in_ok-validator.ensures.built spoken);
       passes = c.in_ok-validator.ensures.passed;
       plain = c.in_ok-ask.ensures.means (bench_resolving r) bench_table (bench_matcher unfinished) default_options schema
-          (subst (λ (ps : List Text). BenchMeans (bench_resolving r) bench_table (bench_matcher ps) default_options schema validator) same c.in_ok-validator.ensures.means)
-          (subst (λ (ps : List Text). BenchHasUnits (bench_resolving r) bench_table (bench_matcher ps) default_options schema validator) same c.in_ok-validator.ensures.units);
+          (as_handed (λ table ps. BenchMeans (bench_resolving r) table (bench_matcher ps) default_options schema validator) t owned script same c.in_ok-validator.ensures.means)
+          (as_handed (λ table ps. BenchHasUnits (bench_resolving r) table (bench_matcher ps) default_options schema validator) t owned script same c.in_ok-validator.ensures.units);
       program = validator;
-      compiled = subst (λ (ps : List Text). IsProgramOf (bench_resolving r) bench_table (bench_matcher ps) default_options default_nested schema shape_of bench_matcher validator) same c.in_ok-validator.ensures.program;
+      compiled = as_handed (λ table ps. IsProgramOf (bench_resolving r) table (bench_matcher ps) default_options default_nested schema bench_shape bench_matcher validator) t owned script same c.in_ok-validator.ensures.program;
       guarded = c.in_ok-ask.ensures.depth;
     }

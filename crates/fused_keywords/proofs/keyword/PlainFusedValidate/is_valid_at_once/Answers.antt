@@ -1,7 +1,7 @@
 use Rattle.schema_reports.specs.InstanceViews.{subject_of}
 use Rattle.bench_keywords.specs.Shapes.{shape_of}
 use Rattle.fused_keywords.proofs.AtOnce.{array_at_once, bench_at_once}
-use Rattle.fused_keywords.proofs.keyword.FusedKeywordValidate.is_valid_at_once.Goals as goal
+use Rattle.fused_keywords.proofs.keyword.PlainFusedValidate.is_valid_at_once.Goals as goal
 
 pub returns-in-Bench : goal.returns-in-Bench
 returns-in-Bench c = record {
