@@ -28,7 +28,7 @@ said_plainly resolver table matcher options schema p instance fact means said = 
 
 pub answers_plainly : (resolver : Resolver Point) (table : Table BenchShape) (matcher : Matcher) (options : Options) (schema : Data) (p : Program BenchKeyword (List Text)) (instance : Data)
     (call : Call) (accepted : Bool) (text : Text) → AnswersInEverySense p instance call accepted text
-    → BenchMeans resolver table matcher options schema p → BenchHasUnits resolver table matcher options schema p → AnswersPlainly resolver table matcher options schema instance call accepted text
+    → BenchMeans resolver table matcher options schema p → BenchHasUnits resolver table matcher options schema p → AnswersPlainly resolver table matcher options schema p.runs instance call accepted text
 answers_plainly resolver table matcher options schema p instance IsValid accepted text (said, is_text) means units =
     (said_plainly resolver table matcher options schema p instance _ means said, is_text)
 answers_plainly resolver table matcher options schema p instance Validate accepted text (first, said, is_accepted, is_text) means units =
@@ -47,7 +47,7 @@ answers_plainly resolver table matcher options schema p instance Evaluate accept
 pub answered_plainly : {E : Type 0} (p : Program BenchKeyword (List Text)) (instance : Data) (asked call : Call) (r : Result Answer E) → asked ≡ call
     → IfOk r (λ a. AnswersInEverySense p instance call a.accepted (string_bytes a.text))
     → IfOk r (λ a. (resolver : Resolver Point) (table : Table BenchShape) (matcher : Matcher) (options : Options) (schema : Data)
-    → BenchMeans resolver table matcher options schema p → BenchHasUnits resolver table matcher options schema p → AnswersPlainly resolver table matcher options schema instance asked a.accepted (string_bytes a.text))
+    → BenchMeans resolver table matcher options schema p → BenchHasUnits resolver table matcher options schema p → AnswersPlainly resolver table matcher options schema p.runs instance asked a.accepted (string_bytes a.text))
 answered_plainly p instance asked call r same said = IfOk-weaker r _ _
     (λ a h resolver table matcher options schema means units.
     answers_plainly resolver table matcher options schema p instance asked a.accepted (string_bytes a.text)

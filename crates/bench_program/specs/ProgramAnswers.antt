@@ -1,5 +1,5 @@
 -- What the program prints of an instance, and what that says by what the validator's nodes mean.
-use Rattle.std.specs.Prelude.{Bool, List, Option, is_none, map, option_map, true, ◌≡◌}
+use Rattle.std.specs.Prelude.{Bool, List, Option, is_none, map, option_map, true, ℕ, ◌≡◌}
 use Rattle.schema_definitions.specs.Instance.{Text}
 use Rattle.schema_definitions.specs.Cover.{Sense, is_valid}
 use Rattle.schema_meaning.specs.Headline.{VerdictSays}
@@ -16,20 +16,20 @@ use Rattle.bench_program.specs.ProgramTexts.{IsJsonLine, errors_text, first_text
 use Rattle.bench_program.specs.declared.program.requests.Call.{Call}
 use Rattle.bench_program.specs.declared.program.requests.Call.TheVariants.{Evaluate, IsValid, IterErrors, Validate}
 
--- an evaluation of which its sentence is said, and that it has the units that are said of it, its verdict, and the line of its list
-pub record AnswersEvaluate (Of : (Bool → Sense → Type 0) → Type 0) (HasUnits : EvaluationNode → Type 0) (accepted : Bool) (text : Text) : Type 0 where
+-- an evaluation by a call that makes so many runs at most, of which its sentence is said, and that it has the units that are said of it, its verdict, and the line of its list
+pub record AnswersEvaluate (most : ℕ) (Of : (Bool → Sense → Type 0) → Type 0) (HasUnits : EvaluationNode → Type 0) (accepted : Bool) (text : Text) : Type 0 where
   pub evaluation : EvaluationNode
-  pub said : Of (λ spoken v. EvaluationAnswered v spoken evaluation)
+  pub said : Of (λ spoken v. EvaluationAnswered v most spoken evaluation)
   pub units : HasUnits evaluation
   pub verdict : accepted ≡ (report_of (unit_of true evaluation)).valid
   pub listed : IsJsonLine (output_list (unit_of true evaluation)) text
 
 -- a verdict, a first error, a list of errors or an evaluation of which the sentence of its call is said, and its text; of an
 -- evaluation it is said too that it has the units
-abbrev pub Answers : ((Bool → Sense → Type 0) → Type 0) → (EvaluationNode → Type 0) → Call → Bool → Text → Type 0
-Answers Of HasUnits IsValid accepted text = Of (λ spoken v. VerdictSays v is_valid accepted) × (text ≡ verdict_text accepted)
-Answers Of HasUnits Validate accepted text = (first : Option ValidationError) × Of (λ spoken v. FirstAnswered v spoken first)
+abbrev pub Answers : ℕ → ((Bool → Sense → Type 0) → Type 0) → (EvaluationNode → Type 0) → Call → Bool → Text → Type 0
+Answers most Of HasUnits IsValid accepted text = Of (λ spoken v. VerdictSays v most is_valid accepted) × (text ≡ verdict_text accepted)
+Answers most Of HasUnits Validate accepted text = (first : Option ValidationError) × Of (λ spoken v. FirstAnswered v most spoken first)
     × (accepted ≡ is_none first) × (text ≡ first_text (option_map (error_of true) first))
-Answers Of HasUnits IterErrors accepted text = (errors : List ValidationError) × Of (λ spoken v. ErrorsAnswered v spoken errors)
+Answers most Of HasUnits IterErrors accepted text = (errors : List ValidationError) × Of (λ spoken v. ErrorsAnswered v most spoken errors)
     × (accepted ≡ is_nil errors) × (text ≡ errors_text (map (error_of true) errors))
-Answers Of HasUnits Evaluate accepted text = AnswersEvaluate Of HasUnits accepted text
+Answers most Of HasUnits Evaluate accepted text = AnswersEvaluate most Of HasUnits accepted text

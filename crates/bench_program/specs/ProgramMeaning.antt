@@ -1,5 +1,5 @@
 -- What the program prints, by the plain meaning of schema and parts.
-use Rattle.std.specs.Prelude.{Bool, List, [], false, ◌≡◌, ◌⊎◌}
+use Rattle.std.specs.Prelude.{Bool, List, [], false, ℕ, ◌≡◌, ◌⊎◌}
 use Rattle.serde_json.specs.Data.{Data}
 use Rattle.serde_json.specs.View.{view}
 use Rattle.schema_definitions.specs.Drafts.{draft_2020_12}
@@ -13,7 +13,7 @@ use Rattle.schema_definitions.specs.Resolving.{Resolver}
 use Rattle.schema_reports.specs.declared.evaluation.EvaluationNode.{EvaluationNode}
 use Rattle.schema_keys.specs.declared.error.BuildError.{BuildError}
 use Rattle.schema_engine.specs.Checked.{FailsCheck, PassesCheck}
-use Rattle.schema_engine.specs.Handed.{default_nested, Options, default_options, parts_of, table_of}
+use Rattle.schema_engine.specs.Handed.{default_nested, default_runs, Options, default_options, parts_of, table_of}
 use Rattle.schema_engine.specs.Evaluated.{UnitsAnswered}
 use Rattle.schema_engine.specs.Program.{FromSomeDepth, HasUnits, OfEveryEvaluation, OfEverySense, Program}
 use Rattle.schema_engine.specs.ProgramOf.{IsProgramOf}
@@ -40,8 +40,9 @@ module _ (resolver : Resolver Point) (table : Table BenchShape) (matcher : Match
   abbrev pub PlainUnitsOf : Data → EvaluationNode → Type 0
   PlainUnitsOf instance u = OfSchema resolver table matcher bench_words options schema instance (λ spoken w root. PlainlyWithUnits w root instance (λ v units. UnitsAnswered v spoken units u))
 
-  abbrev pub AnswersPlainly : Data → Call → Bool → Text → Type 0
-  AnswersPlainly instance call accepted text = Answers (OfPlainMeaning instance) (PlainUnitsOf instance) call accepted text
+  -- what calls answer that make so many runs at most
+  abbrev pub AnswersPlainly : ℕ → Data → Call → Bool → Text → Type 0
+  AnswersPlainly most instance call accepted text = Answers most (OfPlainMeaning instance) (PlainUnitsOf instance) call accepted text
 
   -- the validator means schema and parts
   abbrev pub BenchMeans : Program BenchKeyword (List Text) → Type 0
@@ -55,12 +56,12 @@ module _ (resolver : Resolver Point) (table : Table BenchShape) (matcher : Match
 module _ (p : Program BenchKeyword (List Text)) (instance : Data) where
   -- in every sense that they mean, with all units that they have
   abbrev pub AnswersInEverySense : Call → Bool → Text → Type 0
-  AnswersInEverySense = Answers (OfEverySense bench_shape bench_words bench_is_whole bench_matcher p instance)
+  AnswersInEverySense = Answers p.runs (OfEverySense bench_shape bench_words bench_is_whole bench_matcher p instance)
       (λ u. OfEveryEvaluation bench_shape bench_words bench_is_whole bench_matcher p instance (λ spoken v units. UnitsAnswered v spoken units u))
 
   -- from some depth on, where chains of references return too
   abbrev pub AnswersFromSomeDepth : Call → Bool → Text → Type 0
-  AnswersFromSomeDepth = Answers (FromSomeDepth bench_shape bench_words bench_is_whole bench_matcher p instance) (HasUnits bench_shape bench_words bench_is_whole bench_matcher p instance)
+  AnswersFromSomeDepth = Answers p.runs (FromSomeDepth bench_shape bench_words bench_is_whole bench_matcher p instance) (HasUnits bench_shape bench_words bench_is_whole bench_matcher p instance)
 
 -- the bench table with the standard's names
 abbrev pub bench_table : Table BenchShape
@@ -110,7 +111,7 @@ pub record AnswersWords (ts : List Text) (accepted : Bool) (text : Text) : Type 
   pub asked : Asked ts
   pub builds : IsBuilt asked
   pub passes : IsPassed asked
-  pub plain : AnswersPlainly (bench_resolving asked.resolver) bench_table (bench_matcher asked.unfinished) default_options asked.schema asked.instance asked.call accepted text
+  pub plain : AnswersPlainly (bench_resolving asked.resolver) bench_table (bench_matcher asked.unfinished) default_options asked.schema default_runs asked.instance asked.call accepted text
   pub program : Program BenchKeyword (List Text)
   pub compiled : IsCompiledFrom asked program
   pub guarded : AnswersFromSomeDepth program asked.instance asked.call accepted text

@@ -115,6 +115,7 @@ is_answer by_validator.ListCount = is_same
 is_answer by_validator.Build = is_same
 is_answer by_validator.Draft = is_same
 is_answer by_validator.Entries = is_same
+is_answer by_validator.Monotone = is_same
 
 -- what a map answers: names in any order, errors by the columns that are wanted, a draft as the same data
 abbrev pub is_map_answer : MapQuestion → Data → Data → Bool

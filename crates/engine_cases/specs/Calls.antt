@@ -24,7 +24,8 @@ question_named t =
     else (if bytes_eq t (codes "errors_count") then Some by_validator.ErrorsCount
     else (if bytes_eq t (codes "build") then Some by_validator.Build
     else (if bytes_eq t (codes "draft") then Some by_validator.Draft
-    else (if bytes_eq t (codes "entries") then Some by_validator.Entries else None)))))))))))
+    else (if bytes_eq t (codes "entries") then Some by_validator.Entries
+    else (if bytes_eq t (codes "monotone") then Some by_validator.Monotone else None))))))))))))
 
 -- the question of a name to a map
 abbrev pub map_question_named : Text → Option MapQuestion

@@ -129,5 +129,6 @@ pub(crate) fn asked<K: Validate>(
         Question::Build => Ok(Value::Bool(true)),
         Question::Draft => Ok(Value::from(number_of(validator.draft()))),
         Question::Entries => Ok(Value::from(entries(validator))),
+        Question::Monotone => Ok(Value::Bool(validator.is_monotone())),
     }
 }

@@ -25,6 +25,8 @@ pub enum Question {
     Draft,
     /// How many entries the root's node has.
     Entries,
+    /// Whether each keyword of each node says that it is monotone.
+    Monotone,
 }
 
 /// What is asked of a map of validators.
@@ -93,6 +95,8 @@ fn question_named(name: &str) -> Option<Question>
         Some(Question::Draft)
     } else if name == "entries" {
         Some(Question::Entries)
+    } else if name == "monotone" {
+        Some(Question::Monotone)
     } else {
         None
     }

@@ -84,10 +84,11 @@ fn match_at<'s>(patterns: &'s [String], text: &'s str, left: usize) -> Step<'s>
 }
 
 impl Validate for DetourKeyword {
+    ghost use Rattle.engine_tests.specs.DetourGrows.{detour_grows, detour_hands_on};
     ghost use Rattle.engine_tests.specs.DetourUnits.{detour_asks_no_units};
     ghost use Rattle.engine_tests.specs.DetourVerdicts.{detour_asks_verdicts};
     ghost use Rattle.std.specs.Prelude.{map, refl, string_bytes};
-    ghost use Rattle.bench_keywords.specs.PlainShape.{is_whole};
+    ghost use Rattle.bench_keywords.specs.PlainShape.{is_whole, says_monotone};
     ghost use Rattle.bench_keywords.specs.Shapes.{shape_of};
     ghost use Rattle.engine_tests.specs.Detours.{detour_ends, detour_fits, detour_functions, detour_left, detour_turns, detour_words};
     ghost use Rattle.engine_tests.specs.Detours.{detour_can, nothing_absorbed};
@@ -103,6 +104,8 @@ impl Validate for DetourKeyword {
     ghost absorbed = { nothing_absorbed };
 
     ghost is_whole = { λ m. is_whole m.1 };
+
+    ghost says_monotone = { λ m. says_monotone m.1 };
 
     ghost remaining = { detour_left };
 
@@ -140,6 +143,10 @@ impl Validate for DetourKeyword {
         Ok(match_at(self.patterns.as_slice(), text, run.0))
     }
 
+    fn monotone(&self) -> bool {
+        self.keyword.monotone()
+    }
+
     ghost speaks = { λ texts. refl };
 
     ghost answers = { λ texts run a. refl };
@@ -147,6 +154,10 @@ impl Validate for DetourKeyword {
     ghost turn_laws = { detour_turns };
 
     ghost function_laws = { detour_functions };
+
+    ghost grows = { detour_grows };
+
+    ghost hands_units_on = { detour_hands_on };
 
     ghost asks_no_units = { detour_asks_no_units };
 

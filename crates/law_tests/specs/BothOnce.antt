@@ -12,6 +12,8 @@ use Rattle.schema_definitions.specs.Matching.{Matching}
 use Rattle.schema_definitions.specs.Remembering.{AlwaysAsksVerdict, AsksVerdict, EachAsksVerdicts}
 use Rattle.schema_definitions.specs.Runs.{with_mark}
 use Rattle.schema_definitions.specs.Turns.{FunctionLaws, Standing, TurnLaws, marks_after, next, reply_to, step_at, turned}
+use Rattle.schema_meaning.specs.Greatest.{IsMonotone}
+use Rattle.schema_meaning.specs.UnitsLead.{EachHandsUnitsOn}
 use Rattle.schema_parts.specs.KeywordViews.{fresh}
 use Rattle.schema_parts.specs.UnitQuestions.{AlwaysAsksForLess, AsksForLess, AsksNoUnits}
 use Rattle.law_tests.specs.Refusals.{agree, and_true, refusals, refusals_pass, refusals_stand, told, told_all, told_first, told_gives, told_valid, told_verdict, unit_of}
@@ -256,3 +258,16 @@ always_verdicts texts m s (suc n) r reply = (step_for_verdict r.0.0 (says_yes re
 
 pub once_verdicts : (texts : Bool) → EachAsksVerdicts (once_words texts)
 once_verdicts texts m s = always_verdicts texts m s 5 ((stage.MarksFirst, true), fresh for_verdict) no_reply
+
+-- ---- it is monotone, since both have to accept, and hands no units on
+
+both_stay : (x y v w : Bool) → (x ≡ true → v ≡ true) → (y ≡ true → w ≡ true) → (x && y) ≡ true → (v && w) ≡ true
+both_stay true y v w first second h = ap₂ (λ p q. p && q) (first refl) (second h)
+both_stay false y v w first second h = absurd (let f : ⊥ = cc in f)
+
+pub once_grows : (texts : Bool) (m : ⊤) → true ≡ true → IsMonotone (once_words texts) m
+once_grows texts m h s matches a b where_yes holds =
+    both_stay (a (child_at 0)) (a (child_at 1)) (b (child_at 0)) (b (child_at 1)) (where_yes (child_at 0)) (where_yes (child_at 1)) holds
+
+pub once_hands_on : (texts : Bool) → EachHandsUnitsOn (once_words texts) once_absorbed
+once_hands_on texts m s matches u = record { own = All-nil _; absorbed = All-nil _ }

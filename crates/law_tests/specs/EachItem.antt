@@ -11,10 +11,14 @@ use Rattle.schema_definitions.specs.Laws.{AsksRightly, IsPresent, IsRight, steps
 use Rattle.schema_definitions.specs.Matching.{Matching}
 use Rattle.schema_definitions.specs.Remembering.{AlwaysAsksVerdict, AsksVerdict, EachAsksVerdicts}
 use Rattle.schema_definitions.specs.Turns.{FunctionLaws, Standing, TurnLaws, next, step_at, turned}
+use Rattle.schema_meaning.specs.Greatest.{IsMonotone}
+use Rattle.schema_meaning.specs.UnitsLead.{EachHandsUnitsOn}
 use Rattle.schema_parts.specs.KeywordViews.{fresh}
 use Rattle.schema_parts.specs.UnitQuestions.{AlwaysAsksForLess, AsksForLess, AsksNoUnits}
 use Rattle.keyword_ways.specs.Items.{first_at_item, item_count}
 use Rattle.keyword_ways.specs.Places.{item_present}
+use Rattle.keyword_ways.specs.WayGrows.{way_grows}
+use Rattle.keyword_ways.specs.Ways.{passes_on}
 use Rattle.law_tests.specs.Refusals.{agree, and_true, refusals, refusals_pass, refusals_stand, told, told_all, told_first, told_gives, told_valid, told_verdict, unit_of}
 
 -- how many items are left, and whether those before were accepted
@@ -138,7 +142,7 @@ is_right texts m s matches a u same for_units valid = (
 )
 
 -- a true reply refuses where the answer is no
-one_more : (accepted verdict rest : Bool) → ((accepted && not (not verdict)) && rest) ≡ (accepted && (verdict && rest))
+pub one_more : (accepted verdict rest : Bool) → ((accepted && not (not verdict)) && rest) ≡ (accepted && (verdict && rest))
 one_more true true rest = refl
 one_more true false rest = refl
 one_more false verdict rest = refl
@@ -217,3 +221,11 @@ always_verdicts texts m s (suc n) r reply = (step_for_verdict r.0.0, λ next. al
 
 pub each_verdicts : (texts : Bool) → EachAsksVerdicts (each_words texts)
 each_verdicts texts m s = always_verdicts texts m s (item_count s + 1) ((item_count s, true), fresh for_verdict) no_reply
+
+-- ---- it is monotone, since all items have to accept, and hands no units on
+
+pub each_grows : (texts : Bool) (m : ⊤) → true ≡ true → IsMonotone (each_words texts) m
+each_grows texts m h s matches a b where_yes holds = way_grows (passes_on (all_items s)) refl matches a b where_yes holds
+
+pub each_hands_on : (texts : Bool) → EachHandsUnitsOn (each_words texts) each_absorbed
+each_hands_on texts m s matches u = record { own = All-nil _; absorbed = All-nil _ }

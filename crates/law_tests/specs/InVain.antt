@@ -10,6 +10,8 @@ use Rattle.schema_definitions.specs.Laws.{AsksRightly, IsPresent, IsRight, steps
 use Rattle.schema_definitions.specs.Matching.{Matching}
 use Rattle.schema_definitions.specs.Remembering.{AlwaysAsksVerdict, AsksVerdict, EachAsksVerdicts}
 use Rattle.schema_definitions.specs.Turns.{FunctionLaws, Standing, TurnLaws}
+use Rattle.schema_meaning.specs.Greatest.{IsMonotone}
+use Rattle.schema_meaning.specs.UnitsLead.{EachHandsUnitsOn}
 use Rattle.schema_parts.specs.KeywordViews.{fresh, no_gives}
 use Rattle.schema_parts.specs.UnitQuestions.{AlwaysAsksForLess, AsksForLess, AsksNoUnits}
 
@@ -131,3 +133,11 @@ always_verdicts texts m s (suc n) r reply = (step_for_verdict r.0, λ next. alwa
 
 pub vain_verdicts : (texts : Bool) → EachAsksVerdicts (vain_words for_verdict texts)
 vain_verdicts texts m s = always_verdicts texts m s 2 (false, fresh for_verdict) no_reply
+
+-- ---- what it says does not hang on an answer, and it hands no units on
+
+pub vain_grows : (asked : Mode) (texts : Bool) (m : ⊤) → true ≡ true → IsMonotone (vain_words asked texts) m
+vain_grows asked texts m h s matches a b where_yes holds = holds
+
+pub vain_hands_on : (asked : Mode) (texts : Bool) → EachHandsUnitsOn (vain_words asked texts) vain_absorbed
+vain_hands_on asked texts m s matches u = record { own = All-nil _; absorbed = All-nil _ }

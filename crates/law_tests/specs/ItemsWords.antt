@@ -1,13 +1,17 @@
 -- What the laws name of `x-items` and `type`, and that they keep them.
-use Rattle.std.proofs.Common.{◌∙◌, ℕ, Bool, List, refl, sym}
+use Rattle.std.proofs.Common.{◌≡◌, ◌∙◌, ℕ, Bool, List, refl, sym, true}
 use Rattle.schema_definitions.specs.Instance.{Subject, Text}
 use Rattle.schema_definitions.specs.Keywords.{Answer, Keywords}
 use Rattle.schema_definitions.specs.Remembering.{EachAsksVerdicts}
 use Rattle.schema_definitions.specs.Turns.{FunctionLaws, Standing, TurnLaws}
+use Rattle.schema_meaning.specs.Greatest.{IsMonotone}
+use Rattle.schema_meaning.specs.UnitsLead.{EachHandsUnitsOn, HandsUnitsOn}
 use Rattle.schema_parts.specs.UnitQuestions.{AsksNoUnits}
 use Rattle.keyword_ways.specs.OwnWays.{own_absorbed, own_can_be, own_ends, own_fits, own_function_laws, own_remaining, own_turn_laws, own_words, spoken_ways}
 use Rattle.keyword_ways.specs.Plans.{plan_ways, plans_present}
 use Rattle.keyword_ways.specs.Ways.{Way}
+use Rattle.keyword_ways.specs.WayGrows.{own_grow, plans_grow}
+use Rattle.keyword_ways.specs.WayHandsOn.{own_hand_units_on}
 use Rattle.keyword_ways.specs.WayUnits.{WantsNone, mode-kept, step_for_less}
 use Rattle.keyword_ways.specs.WayVerdicts.{WantsVerdict, step_for_verdict}
 use Rattle.keyword_ways.specs.declared.run.Progress.{Progress}
@@ -54,3 +58,12 @@ items_units = marking.asks_no_units marks (own_words ways) (λ (r : Progress × 
 pub items_verdicts : (texts : Bool) → EachAsksVerdicts (items_words texts)
 items_verdicts = marking.asks_verdicts marks (own_words ways) (λ (r : Progress × Answer). WantsVerdict r.0.mode) (λ texts m s r reply h. h)
     (λ texts m s r reply h. step_for_verdict (spoken_ways ways texts m s) r.0.mode r.0.stage reply h) (λ texts m s. refl)
+
+-- each of them passes on or tells, so it is monotone
+pub items_grows : (texts : Bool) (m : ItemsPlan) → true ≡ true → IsMonotone (items_words texts) m
+items_grows texts m h s matches a b where_yes holds = own_grow ways (λ _. true) (plans_grow planned name told) texts m h s matches a b where_yes holds
+
+pub items_hand_on : (texts : Bool) → EachHandsUnitsOn (items_words texts) items_absorbed
+items_hand_on texts m s matches u =
+    let handed : HandsUnitsOn (own_words ways texts) items_absorbed m s matches u = own_hand_units_on ways texts m s matches u in
+    record { own = handed.own; absorbed = handed.absorbed }

@@ -1,6 +1,8 @@
 pub mod Refusals
 pub mod Refusing
 pub mod EachItem
+pub mod OwnSpot
+pub mod EachName
 pub mod BothOnce
 pub mod InVain
 pub mod Marking

@@ -1,5 +1,5 @@
 -- A keyword that refuses every instance. Its run has no state at all: a turn reads the mode off the answer.
-use Rattle.std.proofs.Common.{ℕ, suc, zero, ◌<◌, [], List, Bool, false, refl, arith, inl}
+use Rattle.std.proofs.Common.{◌≡◌, ℕ, suc, zero, ◌<◌, [], List, Bool, false, true, refl, arith, inl}
 use Rattle.std.specs.Prelude.{⊤}
 use Rattle.std.proofs.lemmas.List.Elements.{All-nil, All-cons}
 use Rattle.schema_definitions.specs.Instance.{Subject, Text}
@@ -9,6 +9,8 @@ use Rattle.schema_definitions.specs.Laws.{IsRight, PassesUnchanged, StandsInside
 use Rattle.schema_definitions.specs.Matching.{Matching}
 use Rattle.schema_definitions.specs.Remembering.{AlwaysAsksVerdict, EachAsksVerdicts}
 use Rattle.schema_definitions.specs.Turns.{FunctionLaws, Standing, TurnLaws}
+use Rattle.schema_meaning.specs.Greatest.{IsMonotone}
+use Rattle.schema_meaning.specs.UnitsLead.{EachHandsUnitsOn}
 use Rattle.schema_parts.specs.KeywordViews.{fresh}
 use Rattle.schema_parts.specs.UnitQuestions.{AlwaysAsksForLess, AsksNoUnits}
 use Rattle.law_tests.specs.Refusals.{refusal, refused_in, refusals, unit_of}
@@ -91,3 +93,11 @@ always_verdicts texts m s (suc n) r reply = (tt, λ next. always_verdicts texts 
 
 pub refusing_verdicts : (texts : Bool) → EachAsksVerdicts (refusing_words texts)
 refusing_verdicts texts m s = always_verdicts texts m s 1 (tt, fresh for_verdict) no_reply
+
+-- ---- it does not say that it is monotone, and hands no units on
+
+pub refusing_grows : (texts : Bool) (m : ⊤) → false ≡ true → IsMonotone (refusing_words texts) m
+refusing_grows texts m h = absurd (let f : ⊥ = cc in f)
+
+pub refusing_hands_on : (texts : Bool) → EachHandsUnitsOn (refusing_words texts) refusing_absorbed
+refusing_hands_on texts m s matches u = record { own = All-nil _; absorbed = All-nil _ }

@@ -35,7 +35,7 @@ fn says_yes(reply: Reply<'_>) -> bool
 }
 
 impl Validate for BothOnce {
-    ghost use Rattle.law_tests.specs.BothOnce.{once_units, once_verdicts};
+    ghost use Rattle.law_tests.specs.BothOnce.{once_grows, once_hands_on, once_units, once_verdicts};
     ghost use Rattle.std.specs.Prelude.{refl, true};
     ghost use Rattle.law_tests.specs.BothOnce.{once_absorbed, once_can_be, once_ends, once_fits, once_functions};
     ghost use Rattle.law_tests.specs.BothOnce.{once_left, once_turns, once_words};
@@ -51,6 +51,8 @@ impl Validate for BothOnce {
     ghost absorbed = { once_absorbed };
 
     ghost is_whole = { λ m. true };
+
+    ghost says_monotone = { λ m. true };
 
     ghost remaining = { once_left };
 
@@ -108,6 +110,10 @@ impl Validate for BothOnce {
         }
     }
 
+    fn monotone(&self) -> bool {
+        true
+    }
+
     ghost speaks = { λ texts. refl };
 
     ghost answers = { λ texts run a. refl };
@@ -115,6 +121,10 @@ impl Validate for BothOnce {
     ghost turn_laws = { once_turns };
 
     ghost function_laws = { once_functions };
+
+    ghost grows = { once_grows };
+
+    ghost hands_units_on = { once_hands_on };
 
     ghost asks_no_units = { once_units };
 

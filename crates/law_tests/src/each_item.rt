@@ -16,7 +16,7 @@ use std::alloc::Global;
 pub struct EachItem {}
 
 /// Whether a reply is a verdict that says no.
-fn says_no(reply: Reply<'_>) -> bool
+pub(crate) fn says_no(reply: Reply<'_>) -> bool
     ensures no { (texts : Bool) → result ≡ says_no (reply_of texts reply.entry) }
 {
     match reply {
@@ -26,7 +26,7 @@ fn says_no(reply: Reply<'_>) -> bool
 }
 
 impl Validate for EachItem {
-    ghost use Rattle.law_tests.specs.EachItem.{each_units, each_verdicts};
+    ghost use Rattle.law_tests.specs.EachItem.{each_grows, each_hands_on, each_units, each_verdicts};
     ghost use Rattle.std.specs.Prelude.{refl, true};
     ghost use Rattle.law_tests.specs.EachItem.{each_absorbed, each_can_be, each_ends, each_fits, each_functions};
     ghost use Rattle.law_tests.specs.EachItem.{each_left, each_turns, each_words};
@@ -42,6 +42,8 @@ impl Validate for EachItem {
     ghost absorbed = { each_absorbed };
 
     ghost is_whole = { λ m. true };
+
+    ghost says_monotone = { λ m. true };
 
     ghost remaining = { each_left };
 
@@ -78,6 +80,10 @@ impl Validate for EachItem {
         Ok(Step::Done)
     }
 
+    fn monotone(&self) -> bool {
+        true
+    }
+
     ghost speaks = { λ texts. refl };
 
     ghost answers = { λ texts run a. refl };
@@ -85,6 +91,10 @@ impl Validate for EachItem {
     ghost turn_laws = { each_turns };
 
     ghost function_laws = { each_functions };
+
+    ghost grows = { each_grows };
+
+    ghost hands_units_on = { each_hands_on };
 
     ghost asks_no_units = { each_units };
 

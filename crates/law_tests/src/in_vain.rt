@@ -13,7 +13,7 @@ impl Validate for InVain {
     ghost use Rattle.std.specs.Prelude.{refl, true};
     ghost use Rattle.schema_definitions.specs.Keywords as spec;
     ghost use Rattle.law_tests.specs.InVain.{vain_absorbed, vain_can_be, vain_ends, vain_fits, vain_functions, vain_left};
-    ghost use Rattle.law_tests.specs.InVain.{vain_turns, vain_units, vain_verdicts, vain_words};
+    ghost use Rattle.law_tests.specs.InVain.{vain_grows, vain_hands_on, vain_turns, vain_units, vain_verdicts, vain_words};
 
     /// Whether it has asked.
     type Run = bool;
@@ -27,6 +27,8 @@ impl Validate for InVain {
     ghost absorbed = { vain_absorbed };
 
     ghost is_whole = { λ m. true };
+
+    ghost says_monotone = { λ m. true };
 
     ghost remaining = { vain_left };
 
@@ -56,6 +58,10 @@ impl Validate for InVain {
         Ok(Step::Ask(0, Below::Here, Mode::Verdict))
     }
 
+    fn monotone(&self) -> bool {
+        true
+    }
+
     ghost speaks = { λ texts. refl };
 
     ghost answers = { λ texts run a. refl };
@@ -63,6 +69,10 @@ impl Validate for InVain {
     ghost turn_laws = { vain_turns spec.for_verdict };
 
     ghost function_laws = { vain_functions spec.for_verdict };
+
+    ghost grows = { vain_grows spec.for_verdict };
+
+    ghost hands_units_on = { vain_hands_on spec.for_verdict };
 
     ghost asks_no_units = { vain_units spec.for_verdict tt };
 

@@ -120,7 +120,7 @@ impl ItemsKeyword {
 impl Validate for ItemsKeyword {
     ghost use Rattle.std.specs.Prelude.{refl, true};
     ghost use Rattle.law_tests.specs.ItemsWords.{items_absorbed, items_can_be, items_ends, items_fits, items_functions};
-    ghost use Rattle.law_tests.specs.ItemsWords.{items_remaining, items_turns, items_units, items_verdicts, items_words};
+    ghost use Rattle.law_tests.specs.ItemsWords.{items_grows, items_hand_on, items_remaining, items_turns, items_units, items_verdicts, items_words};
 
     type Run = (Stage, Progress);
 
@@ -133,6 +133,8 @@ impl Validate for ItemsKeyword {
     ghost absorbed = { items_absorbed };
 
     ghost is_whole = { λ m. true };
+
+    ghost says_monotone = { λ m. true };
 
     ghost remaining = { items_remaining };
 
@@ -171,6 +173,10 @@ impl Validate for ItemsKeyword {
         }
     }
 
+    fn monotone(&self) -> bool {
+        self.planned.monotone()
+    }
+
     ghost speaks = { λ texts. refl };
 
     ghost answers = { λ texts run a. refl };
@@ -178,6 +184,10 @@ impl Validate for ItemsKeyword {
     ghost turn_laws = { items_turns };
 
     ghost function_laws = { items_functions };
+
+    ghost grows = { items_grows };
+
+    ghost hands_units_on = { items_hand_on };
 
     ghost asks_no_units = { items_units };
 

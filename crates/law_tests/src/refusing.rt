@@ -10,8 +10,8 @@ use std::alloc::Global;
 pub struct Refusing {}
 
 impl Validate for Refusing {
-    ghost use Rattle.law_tests.specs.Refusing.{refusing_units, refusing_verdicts};
-    ghost use Rattle.std.specs.Prelude.{refl, true};
+    ghost use Rattle.law_tests.specs.Refusing.{refusing_grows, refusing_hands_on, refusing_units, refusing_verdicts};
+    ghost use Rattle.std.specs.Prelude.{false, refl, true};
     ghost use Rattle.law_tests.specs.Refusing.{refusing_absorbed, refusing_can_be, refusing_ends, refusing_fits};
     ghost use Rattle.law_tests.specs.Refusing.{refusing_functions, refusing_left, refusing_turns, refusing_words};
 
@@ -26,6 +26,8 @@ impl Validate for Refusing {
     ghost absorbed = { refusing_absorbed };
 
     ghost is_whole = { λ m. true };
+
+    ghost says_monotone = { λ m. false };
 
     ghost remaining = { refusing_left };
 
@@ -52,6 +54,10 @@ impl Validate for Refusing {
         Ok(Step::Done)
     }
 
+    fn monotone(&self) -> bool {
+        false
+    }
+
     ghost speaks = { λ texts. refl };
 
     ghost answers = { λ texts run a. refl };
@@ -59,6 +65,10 @@ impl Validate for Refusing {
     ghost turn_laws = { refusing_turns };
 
     ghost function_laws = { refusing_functions };
+
+    ghost grows = { refusing_grows };
+
+    ghost hands_units_on = { refusing_hands_on };
 
     ghost asks_no_units = { refusing_units };
 

@@ -4,5 +4,6 @@
 pub mod evaluation_path;
 pub mod kept_paths;
 pub mod marks;
+pub mod shared_place;
 pub mod validation;
 mod verdicts;

@@ -1,7 +1,7 @@
 //! What a run has in progress, what it assumes and remembers of unfinished matches, and what it marks.
 ghost use Rattle.std.specs.Prelude.{◌≡◌, ◌≤◌, ◌++◌, ◌∷◌, [], All, IfOk, IfErr, IfSome, OnErr, OnOk, is_some, length, map, option_map};
 ghost use Rattle.std.specs.List.{list_any};
-ghost use Rattle.std.specs.Prelude.{◌==◌};
+ghost use Rattle.std.specs.Prelude.{◌==◌, false};
 ghost use Rattle.schema_definitions.specs.Guarded.{same_edge};
 ghost use Rattle.schema_definitions.specs.Matching as matching;
 ghost use Rattle.schema_definitions.specs.Matching.{assumed};
@@ -20,6 +20,7 @@ ghost use Rattle.schema_reports.specs.InstanceViews.{subject_of};
 use crate::evaluation_path::EvaluationPath;
 use crate::kept_paths::KeptPaths;
 use crate::marks::Marks;
+use crate::shared_place::SharedPlace;
 use crate::verdicts::Verdicts;
 use schema_matches::assumptions::MatchAssumptions;
 use schema_matches::site::{Match, MatchSite, Reason};
@@ -37,7 +38,7 @@ use std::mem;
 #[derive(Drop)]
 struct InProgress<'i> {
     node: SchemaNode,
-    place: Place<'i>,
+    place: SharedPlace<'i>,
     deepest: usize,
 }
 
@@ -131,6 +132,7 @@ impl<'i> ValidationContext<'i> {
     // deeper place in progress than the one that it asks about, so it sees only the pairs at that depth.
     fn is_in_progress(&self, node: SchemaNode, place: &Place<'i>) -> bool
         ensures found { result ≡ list_any (λ i. i == node.0) (busy_at place.now self.now.in_progress) }
+        ensures distinct { Distinct self.now.in_progress }
     {
         let depth = place.len();
         let mut left = self.pairs.len();
@@ -140,7 +142,7 @@ impl<'i> ValidationContext<'i> {
             if pair.deepest < depth {
                 return false;
             }
-            if pair.node == node && pair.place == *place {
+            if pair.node == node && pair.place.as_place() == place {
                 return true;
             }
         }
@@ -160,14 +162,51 @@ impl<'i> ValidationContext<'i> {
         if self.is_in_progress(node, place) {
             return Ok(true);
         }
-        let place = place.clone()?;
-        let deepest = self.deepest().max(place.len());
+        let shared = SharedPlace::new(*self.pairs.allocator(), place.clone()?)?;
+        self.push_pair(node, shared)?;
+        Ok(false)
+    }
+
+    /// Returns `true` if the pair is already in progress; otherwise records it with the place shared, and returns `false`. On `Err`
+    /// nothing has changed.
+    pub fn enter_shared(
+        &mut self,
+        node: SchemaNode,
+        place: &SharedPlace<'i>,
+    ) -> Result<bool, OutOfMemory>
+        ensures enters { IfOk result (λ b. Enters node.0 place.now self.old.in_progress b self.new.in_progress) }
+        ensures unchanged { IfErr result (λ _. self.new ≡ self.old) }
+        ensures distinct { Distinct self.new.in_progress }
+        ensures remembered { self.new.remembered ≡ self.old.remembered }
+        ensures marking { self.new.marking ≡ self.old.marking }
+        ensures verdicts { self.new.verdicts ≡ self.old.verdicts }
+        ensures visits { self.new.visits ≡ self.old.visits }
+    {
+        if self.is_in_progress(node, place.as_place()) {
+            return Ok(true);
+        }
+        self.push_pair(node, place.share()?)?;
+        Ok(false)
+    }
+
+    // Records a pair that is not in progress.
+    fn push_pair(&mut self, node: SchemaNode, place: SharedPlace<'i>) -> Result<(), OutOfMemory>
+        requires is_new { list_any (λ i. i == node.0) (busy_at place self.old.in_progress) ≡ false }
+        ensures pushed { OnOk result (self.new.in_progress ≡ self.old.in_progress ++ (node.0, place.entry) ∷ []) }
+        ensures unchanged { OnErr result (self.new ≡ self.old) }
+        ensures distinct { Distinct self.new.in_progress }
+        ensures remembered { self.new.remembered ≡ self.old.remembered }
+        ensures marking { self.new.marking ≡ self.old.marking }
+        ensures verdicts { self.new.verdicts ≡ self.old.verdicts }
+        ensures visits { self.new.visits ≡ self.old.visits }
+    {
+        let deepest = self.deepest().max(place.as_place().len());
         self.pairs.push(InProgress {
             node,
             place,
             deepest,
         })?;
-        Ok(false)
+        Ok(())
     }
 
     /// Removes the pair, which must be the last one entered. It allocates nothing.
@@ -316,7 +355,7 @@ impl<'i> ValidationContext<'i> {
             if pair.deepest < depth {
                 return true;
             }
-            if pair.node != node && pair.place == *place {
+            if pair.node != node && pair.place.as_place() == place {
                 return false;
             }
         }

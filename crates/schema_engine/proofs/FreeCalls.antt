@@ -59,7 +59,7 @@ one_there f [] e is = absurd (cc is)
 one_there f (x ∷ es) e is = refl
 
 module _ (v : Sense) (most : ℕ) (follows : Follows v) where
-  first_verdict : (texts : Bool) (o : Option ValidationError) → FirstAnswered v most texts o → VerdictSays v most validate (is_none o)
+  pub first_verdict : (texts : Bool) (o : Option ValidationError) → FirstAnswered v most texts o → VerdictSays v most validate (is_none o)
   first_verdict false o says = says.verdict
   first_verdict true o says = (
     λ decides.
@@ -68,7 +68,7 @@ module _ (v : Sense) (most : ℕ) (follows : Follows v) where
     λ undecided. let (e, fails, is) = says.1 undecided in some_there (error_of true) o e is,
   )
 
-  errors_verdict : (texts : Bool) (es : List ValidationError) → ErrorsAnswered v most texts es → VerdictSays v most iter_errors (is_empty es)
+  pub errors_verdict : (texts : Bool) (es : List ValidationError) → ErrorsAnswered v most texts es → VerdictSays v most iter_errors (is_empty es)
   errors_verdict false es says = says.verdict
   errors_verdict true es says = (
     λ decides.

@@ -23,3 +23,4 @@ mod ClonedValidators
 mod MapEntries
 mod EntryFailures
 mod CompiledAlone
+mod Greatest

@@ -162,25 +162,25 @@ module _ (v : Sense) (most : ℕ) where
 -- ---- calls with two limits
 
 -- where a call decides within two limits, what it says within the second it says within the first
-module _ (v : Sense) {most most' : ℕ} (call : Call) (here : Decides v most call) (there : Decides v most' call) where
+module _ (v : Sense) (most most' : ℕ) (call : Call) (here : Decides v most call) (there : Decides v most' call) where
   within : {P Q : Type 0} → h.Either (Decides v most' call) P Q → h.Either (Decides v most call) P Q
   within says = (λ decides. says.0 there, λ not. absurd (not here))
 
-first_within : (v : Sense) {most most' : ℕ} → Decides v most validate → Decides v most' validate → (texts : Bool) (o : Option ValidationError) → FirstAnswered v most' texts o → FirstAnswered v most texts o
-first_within v here there true o says = within v validate here there says
-first_within v here there false o says = record { verdict = within v validate here there says.verdict; given = says.given; undecided = λ not. absurd (not here); alone = λ e. within v validate here there (says.alone e) }
+first_within : (v : Sense) (most most' : ℕ) → Decides v most validate → Decides v most' validate → (texts : Bool) (o : Option ValidationError) → FirstAnswered v most' texts o → FirstAnswered v most texts o
+first_within v most most' here there true o says = within v most most' validate here there says
+first_within v most most' here there false o says = record { verdict = within v most most' validate here there says.verdict; given = says.given; undecided = λ not. absurd (not here); alone = λ e. within v most most' validate here there (says.alone e) }
 
-errors_within : (v : Sense) {most most' : ℕ} → Decides v most iter_errors → Decides v most' iter_errors → (texts : Bool) (es : List ValidationError) → ErrorsAnswered v most' texts es → ErrorsAnswered v most texts es
-errors_within v here there true es says = within v iter_errors here there says
-errors_within v here there false es says = record { verdict = within v iter_errors here there says.verdict; given = says.given; undecided = λ not. absurd (not here); alone = λ e. within v iter_errors here there (says.alone e) }
+errors_within : (v : Sense) (most most' : ℕ) → Decides v most iter_errors → Decides v most' iter_errors → (texts : Bool) (es : List ValidationError) → ErrorsAnswered v most' texts es → ErrorsAnswered v most texts es
+errors_within v most most' here there true es says = within v most most' iter_errors here there says
+errors_within v most most' here there false es says = record { verdict = within v most most' iter_errors here there says.verdict; given = says.given; undecided = λ not. absurd (not here); alone = λ e. within v most most' iter_errors here there (says.alone e) }
 
-evaluation_within : (v : Sense) {most most' : ℕ} → 1 ≤ most → Decides v most evaluate → Decides v most' evaluate → (texts : Bool) (u : EvaluationNode) → EvaluationAnswered v most' texts u → EvaluationAnswered v most texts u
-evaluation_within v some here there texts u says = record {
+evaluation_within : (v : Sense) (most most' : ℕ) → 1 ≤ most → Decides v most evaluate → Decides v most' evaluate → (texts : Bool) (u : EvaluationNode) → EvaluationAnswered v most' texts u → EvaluationAnswered v most texts u
+evaluation_within v most most' some here there texts u says = record {
   makes_one = some;
-  verdict = within v evaluate here there says.verdict;
+  verdict = within v most most' evaluate here there says.verdict;
   apart = λ met.
       let of = says.apart met in
-      record { errors = of.errors; made = of.made; given = of.given; undecided = λ not. absurd (not here); shared = λ spoken. within v evaluate here there (of.shared spoken) };
+      record { errors = of.errors; made = of.made; given = of.given; undecided = λ not. absurd (not here); shared = λ spoken. within v most most' evaluate here there (of.shared spoken) };
 }
 
 -- ---- two validators of one schema
@@ -208,19 +208,19 @@ module _ {A State S T C Maker Run K M : Type 0} (resolvers : ResolverMembers A S
       (of_plain options schema p' means' instance fact' told' texts root is_root speaks no_return keys reach n deep)
 
   pub verdicts : VerdictsAgree resolvers tables keywords matchers resolver table matcher
-  verdicts options schema p p' runs means means' instance b b' = both_plainly options schema p p' means means' instance
+  verdicts options schema nested nested' p p' runs means means' instance b b' = both_plainly options schema p p' means means' instance
       (λ texts v. h.VerdictSays v p.runs is_valid b) (λ texts v. h.VerdictSays v p'.runs is_valid b') (λ texts v. b ≡ b') (λ texts v says says'. same_verdict v p.runs is_valid b b' says (subst (λ most. h.VerdictSays v most is_valid b') (sym runs) says'))
 
   pub first_errors : FirstErrorsAgree resolvers tables keywords matchers resolver table matcher
-  first_errors options schema p p' runs means means' instance o o' = both_plainly options schema p p' means means' instance
+  first_errors options schema nested nested' p p' runs means means' instance o o' = both_plainly options schema p p' means means' instance
       (λ texts v. FirstAnswered v p.runs texts o) (λ texts v. FirstAnswered v p'.runs texts o') (λ texts v. FirstsAgree v p.runs texts o o') (λ texts v says says'. firsts_agree v p.runs texts o o' says (subst (λ most. FirstAnswered v most texts o') (sym runs) says'))
 
   pub all_errors : AllErrorsAgree resolvers tables keywords matchers resolver table matcher
-  all_errors options schema p p' runs means means' instance es es' = both_plainly options schema p p' means means' instance
+  all_errors options schema nested nested' p p' runs means means' instance es es' = both_plainly options schema p p' means means' instance
       (λ texts v. ErrorsAnswered v p.runs texts es) (λ texts v. ErrorsAnswered v p'.runs texts es') (λ texts v. ErrorsAgree v p.runs texts es es') (λ texts v says says'. errors_agree v p.runs texts es es' says (subst (λ most. ErrorsAnswered v most texts es') (sym runs) says'))
 
   pub evaluations : EvaluationsOfBoth resolvers tables keywords matchers resolver table matcher
-  evaluations options schema p p' runs means means' instance u u' = both_plainly options schema p p' means means' instance
+  evaluations options schema nested nested' p p' runs means means' instance u u' = both_plainly options schema p p' means means' instance
       (λ texts v. EvaluationAnswered v p.runs texts u) (λ texts v. EvaluationAnswered v p'.runs texts u') (λ texts v. EvaluationsAgree v p.runs texts u u') (λ texts v says says'. evaluations_agree v p.runs texts u u' says (subst (λ most. EvaluationAnswered v most texts u') (sym runs) says'))
 
   -- the units of an evaluation are those of the plain meaning, where the validator has these
@@ -231,26 +231,26 @@ module _ {A State S T C Maker Run K M : Type 0} (resolvers : ResolverMembers A S
       told texts meant.0 _ (meant.1 no_return keys reach n deep) _ (has instance texts root is_root speaks no_return keys reach n deep)
 
   pub units : UnitsOfBoth resolvers tables keywords matchers resolver table matcher
-  units options schema p p' runs means means' has has' instance u u' told told' = λ texts root is_root speaks no_return keys reach n deep none.
+  units options schema nested nested' p p' runs means means' has has' instance u u' told told' = λ texts root is_root speaks no_return keys reach n deep none.
       plain_units options schema p means has instance u told texts root is_root speaks no_return keys reach n deep none all_match
       ∙ sym (plain_units options schema p' means' has' instance u' told' texts root is_root speaks no_return keys reach n deep none all_match)
 
   pub larger_verdicts : LargerVerdicts resolvers tables keywords matchers resolver table matcher
-  larger_verdicts options schema p p' less means means' instance b b' = both_plainly options schema p p' means means' instance
+  larger_verdicts options schema nested nested' p p' less means means' instance b b' = both_plainly options schema p p' means means' instance
       (λ texts v. h.VerdictSays v p.runs is_valid b) (λ texts v. h.VerdictSays v p'.runs is_valid b') (λ texts v. Decides v p.runs is_valid → Decides v p'.runs is_valid × (b ≡ b'))
-      (λ texts v says says' d. let d' = larger_decides v p.runs p'.runs is_valid less d in (d', same_verdict v p.runs is_valid b b' says (within v is_valid d d' says')))
+      (λ texts v says says' d. let d' = larger_decides v p.runs p'.runs is_valid less d in (d', same_verdict v p.runs is_valid b b' says (within v p.runs p'.runs is_valid d d' says')))
 
   pub larger_first_errors : LargerFirstErrors resolvers tables keywords matchers resolver table matcher
-  larger_first_errors options schema p p' less means means' instance o o' = both_plainly options schema p p' means means' instance
+  larger_first_errors options schema nested nested' p p' less means means' instance o o' = both_plainly options schema p p' means means' instance
       (λ texts v. FirstAnswered v p.runs texts o) (λ texts v. FirstAnswered v p'.runs texts o') (λ texts v. Decides v p.runs validate → Decides v p'.runs validate × FirstsAgree v p.runs texts o o')
-      (λ texts v says says' d. let d' = larger_decides v p.runs p'.runs validate less d in (d', firsts_agree v p.runs texts o o' says (first_within v d d' texts o' says')))
+      (λ texts v says says' d. let d' = larger_decides v p.runs p'.runs validate less d in (d', firsts_agree v p.runs texts o o' says (first_within v p.runs p'.runs d d' texts o' says')))
 
   pub larger_errors : LargerErrors resolvers tables keywords matchers resolver table matcher
-  larger_errors options schema p p' less means means' instance es es' = both_plainly options schema p p' means means' instance
+  larger_errors options schema nested nested' p p' less means means' instance es es' = both_plainly options schema p p' means means' instance
       (λ texts v. ErrorsAnswered v p.runs texts es) (λ texts v. ErrorsAnswered v p'.runs texts es') (λ texts v. Decides v p.runs iter_errors → Decides v p'.runs iter_errors × ErrorsAgree v p.runs texts es es')
-      (λ texts v says says' d. let d' = larger_decides v p.runs p'.runs iter_errors less d in (d', errors_agree v p.runs texts es es' says (errors_within v d d' texts es' says')))
+      (λ texts v says says' d. let d' = larger_decides v p.runs p'.runs iter_errors less d in (d', errors_agree v p.runs texts es es' says (errors_within v p.runs p'.runs d d' texts es' says')))
 
   pub larger_evaluations : LargerEvaluations resolvers tables keywords matchers resolver table matcher
-  larger_evaluations options schema p p' less means means' instance u u' = both_plainly options schema p p' means means' instance
+  larger_evaluations options schema nested nested' p p' less means means' instance u u' = both_plainly options schema p p' means means' instance
       (λ texts v. EvaluationAnswered v p.runs texts u) (λ texts v. EvaluationAnswered v p'.runs texts u') (λ texts v. Decides v p.runs evaluate → Decides v p'.runs evaluate × EvaluationsAgree v p.runs texts u u')
-      (λ texts v says says' d. let d' = larger_decides v p.runs p'.runs evaluate less d in (d', evaluations_agree v p.runs texts u u' says (evaluation_within v says.makes_one d d' texts u' says')))
+      (λ texts v says says' d. let d' = larger_decides v p.runs p'.runs evaluate less d in (d', evaluations_agree v p.runs texts u u' says (evaluation_within v p.runs p'.runs says.makes_one d d' texts u' says')))

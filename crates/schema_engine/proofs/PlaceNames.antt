@@ -1,5 +1,5 @@
 -- Two places of one document at which values stand are one place where they have one pointer.
-use Rattle.std.proofs.Common.{◌≡◌, ◌≢◌, ◌∙◌, ◌+◌, ◌<◌, ◌^◌, ◌++◌, ◌∷◌, [], ℕ, Bool, true, false, cond, eqb, ap, arith, refl, subst, sym}
+use Rattle.std.proofs.Common.{◌≡◌, ◌≢◌, ◌∙◌, ◌<◌, ◌^◌, ◌++◌, ◌∷◌, [], ℕ, Bool, true, false, cond, eqb, ap, arith, refl, subst, sym}
 use Rattle.std.specs.Fmt.{decimal}
 use Rattle.std.specs.Prelude.{None, Option, Some, option_and_then}
 use Rattle.std.proofs.lemmas.Bool.{eqb-false, eqb-true}

@@ -1,5 +1,5 @@
 -- The runs of a search over unfinished matches are those of the nodes' sense.
-use Rattle.std.proofs.Common.{◌≡◌, ◌∙◌, ℕ, Bool, true, false, ◌&&◌, List, [], ◌∷◌, refl, sym, ap, subst, arith, IfOk, Ok, Err, Result}
+use Rattle.std.proofs.Common.{◌≡◌, ◌≤◌, ◌∙◌, ℕ, Bool, true, false, ◌&&◌, List, [], ◌∷◌, refl, sym, ap, subst, arith, IfOk, Ok, Err, Result}
 use Rattle.std.specs.Prelude.{Option, Some, None, is_some, option_map}
 use Rattle.serde_json.specs.Data.{Data}
 use Rattle.schema_definitions.specs.Reports.{Error, Outcome}

@@ -1,9 +1,9 @@
 -- What a search over the nodes' errors gives, by the call whose first run began it.
-use Rattle.std.proofs.Common.{◌≡◌, ◌<◌, ◌≤◌, ℕ, Bool, true, false, suc, [], arith, length, map}
+use Rattle.std.proofs.Common.{◌≡◌, ◌<◌, ◌≤◌, ℕ, Bool, true, false, suc, [], arith, length}
 use Rattle.std.specs.Prelude.{All, is_some}
 use Rattle.std.specs.Global.{Vec}
 use Rattle.serde_json.specs.Data.{Data}
-use Rattle.schema_definitions.specs.Cover.{Call, Sense, iter_errors, validate}
+use Rattle.schema_definitions.specs.Cover.{Call, Sense, validate}
 use Rattle.schema_definitions.specs.Keywords.{for_all}
 use Rattle.schema_definitions.specs.Laws.{EachKeeps}
 use Rattle.schema_definitions.specs.Matching.{Assumptions}

@@ -3,7 +3,6 @@
 use Rattle.std.specs.Prelude.{Bool, List, Option, ℕ, ◌⊎◌}
 use Rattle.serde_json.specs.Data.{Data}
 use Rattle.schema_definitions.specs.Cover.{Sense, is_valid}
-use Rattle.schema_definitions.specs.Instance.{Text}
 use Rattle.schema_meaning.specs.Headline.{IsValidAnswer, Plainly, PlainlyWithUnits, VerdictSays}
 use Rattle.schema_meaning.specs.Means as means
 use Rattle.schema_definitions.specs.Parts.{Parts}

@@ -14,6 +14,7 @@ use Rattle.schema_keys.specs.Compiling.{Each, In}
 use Rattle.schema_keys.specs.declared.error.BuildError.{BuildError}
 use Rattle.schema_keys.specs.declared.error.BuildError.TheVariants.{OutOfMemory}
 use Rattle.schema_engine.specs.DocumentSchemas.{IndicesFit, schemas_of}
+use Rattle.schema_engine.specs.Greatest.{AcceptsAsKey}
 use Rattle.schema_engine.specs.Handed.{Handed, Options, parts_of}
 use Rattle.schema_engine.specs.MapViews.{Entries, at_pointer}
 use Rattle.schema_engine.specs.Mapped.{RefusesLimit, name_of}
@@ -52,6 +53,7 @@ module _ {S K R C M : Type 0} (h : Handed S K R C M) (options : Options) (schema
     pub means : MeansKey h.resolver h.table h.matcher h.words options key h.shape h.is_whole h.matching p
     pub units : HasKeysUnits h.resolver h.table h.matcher h.words options key h.shape h.is_whole h.matching p
     pub points : PointsFromKey h.resolver h.table h.matcher h.words options key h.shape h.matching p
+    pub greatest : AcceptsAsKey h options key p
     pub program : IsProgramFrom h.resolver h.table h.matcher options options.nested schema h.shape h.matching key p
     pub within : length p.nodes ≤ options.limit
     pub compiles : (texts : Bool) (cause : Cause) → ¬ (StandsBelow (parts h options texts) key cause)

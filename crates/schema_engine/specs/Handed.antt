@@ -40,6 +40,10 @@ default_nested = 8
 abbrev pub default_options : Options
 default_options = record { draft = None; base = None; formats = None; declared = []; limit = 65536; checks = true; runs = default_runs; nested = default_nested }
 
+-- options with these limits on runs and on nested targets, and else the same
+abbrev pub limited : Options → ℕ → ℕ → Options
+limited options runs nested = record options { runs = runs; nested = nested }
+
 -- the table that a keyword table and the built-in one make together
 abbrev pub table_of : {K : Type 0} → (Text → Bool) → (Draft → Vocabularies → Text → Option Builtin) → (Bool → Text → Members → Draft → Vocabularies → Bool → Script K) → Table K
 table_of owns builtin script = record { owns = owns; builtin = builtin; script = script }

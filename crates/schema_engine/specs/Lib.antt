@@ -20,3 +20,4 @@ pub mod Mapped
 pub mod FirstCauses
 pub mod Entries
 pub mod SharedErrors
+pub mod Greatest

@@ -15,6 +15,7 @@ use Rattle.schema_check.specs.Checking.{AcceptsSchema, MetaChecks, RefusesSchema
 use Rattle.schema_keys.specs.declared.error.BuildError.{BuildError}
 use Rattle.schema_keys.specs.declared.error.BuildError.TheVariants.{NodeLimit}
 use Rattle.schema_engine.specs.DocumentSchemas.{schemas_in}
+use Rattle.schema_engine.specs.Greatest.{AcceptsAsKey}
 use Rattle.schema_engine.specs.Handed.{Handed, Options, parts_of}
 use Rattle.schema_engine.specs.MapViews.{Entries, at_pointer}
 use Rattle.schema_engine.specs.Program.{Program}
@@ -63,6 +64,10 @@ module _ {S K R C M : Type 0} (h : Handed S K R C M) (options : Options) (schema
   abbrev pub EachPointsPlainly : Entries (Program C M) → Type 0
   EachPointsPlainly es = OfEach es (λ key p. PointsFromKey h.resolver h.table h.matcher h.words options key h.shape h.matching p)
 
+  -- where each keyword of what this key reaches is monotone, its nodes accept an instance exactly where the largest set of targets and places does
+  abbrev pub EachAcceptsGreatest : Entries (Program C M) → Type 0
+  EachAcceptsGreatest es = OfEach es (λ key p. AcceptsAsKey h options key p)
+
   -- its nodes correspond one to one to the keys that this key reaches, which are no more than the limit; its draft is the root's, and its matcher answers as the one that is handed in
   abbrev pub EachIsCompiledFrom : Entries (Program C M) → Type 0
   EachIsCompiledFrom es = OfEach es (λ key p. (length p.nodes ≤ options.limit) × IsProgramFrom h.resolver h.table h.matcher options options.nested schema h.shape h.matching key p)
@@ -72,6 +77,7 @@ module _ {S K R C M : Type 0} (h : Handed S K R C M) (options : Options) (schema
     pub means : MeansKey h.resolver h.table h.matcher h.words options key h.shape h.is_whole h.matching p
     pub units : HasKeysUnits h.resolver h.table h.matcher h.words options key h.shape h.is_whole h.matching p
     pub points : PointsFromKey h.resolver h.table h.matcher h.words options key h.shape h.matching p
+    pub greatest : AcceptsAsKey h options key p
     pub within : length p.nodes ≤ options.limit
     pub program : IsProgramFrom h.resolver h.table h.matcher options options.nested schema h.shape h.matching key p
 

@@ -1,8 +1,9 @@
 -- The limit on how many targets of references are compiled one inside another changes no answer. Two validators that mean the
--- plain meaning of one schema, as builds with any two limits give them, answer alike of every instance where no chain of
--- references returns: the verdicts are equal, and so are the errors and the evaluations. Only where both calls give the failure of a
--- match that stays unfinished may each show it at a site of its own. Nor does the limit change whether a schema builds by the same
--- meta validators, want of memory aside.
+-- plain meaning of one schema, as builds with any two limits give them, and whose calls make equally many runs at most, answer alike
+-- of every instance where no chain of references returns: the verdicts are equal, and so are the errors and the evaluations. Only
+-- where both calls give the failure of a match that stays unfinished may each show it at a site of its own. Where one may make more
+-- runs than the other, it decides what the other decides, and answers alike there. Nor does either limit change whether a schema
+-- builds by the same meta validators, want of memory aside.
 use Rattle.std.specs.Prelude.{Bool, List, None, Option, Some, [], false, is_none, map, option_map, true, ℕ, ◌∷◌, ◌≡◌, ◌≤◌, ◌⊎◌}
 use Rattle.serde_json.specs.Data.{Data}
 use Rattle.schema_definitions.specs.Cover.{Call, Decides, Sense, branch_at, evaluate, is_valid, iter_errors, validate}
@@ -25,7 +26,7 @@ use Rattle.schema_keys.specs.declared.error.BuildError.TheVariants.{OutOfMemory}
 use Rattle.schema_engine.specs.Asked.{DecidesInEverySense, ErrorsInEverySense, EvaluatesInEverySense, FirstInEverySense, UnitsInEverySense}
 use Rattle.schema_engine.specs.Called.{BuildRefused, HasPlainUnits, MeansPlainly, PlainlyOf, SchemaBuilds}
 use Rattle.schema_engine.specs.Checked.{PassesCheck}
-use Rattle.schema_engine.specs.Handed.{Handed, Options, handed}
+use Rattle.schema_engine.specs.Handed.{Handed, Options, handed, limited}
 use Rattle.schema_engine.specs.Program.{Program}
 
 -- the verdict of an evaluation, which is its outermost unit's
@@ -96,9 +97,10 @@ module _ {A State S T C Maker Run K M : Type 0} (resolvers : ResolverMembers A S
   abbrev pub handed_to_both : Handed S K (Run × Answer) C M
   handed_to_both = handed resolvers tables keywords matchers resolver table matcher
 
-  -- what is said of two validators that mean the plain meaning of one schema, and whose calls make equally many runs at most
+  -- what is said of two validators that mean the plain meaning of one schema, by options that differ in their limits on nested targets alone, and whose calls make equally many runs at most
   abbrev OfBoth : (Options → Data → Program C M → Program C M → Type 0) → Type 0
-  OfBoth says = (options : Options) (schema : Data) (p p' : Program C M) → p.runs ≡ p'.runs → MeansPlainly handed_to_both options schema p → MeansPlainly handed_to_both options schema p' → says options schema p p'
+  OfBoth says = (options : Options) (schema : Data) (nested nested' : ℕ) (p p' : Program C M) → p.runs ≡ p'.runs
+      → MeansPlainly handed_to_both (limited options p.runs nested) schema p → MeansPlainly handed_to_both (limited options p'.runs nested') schema p' → says options schema p p'
 
   -- two verdicts of one instance are equal
   abbrev pub VerdictsAgree : Type 0
@@ -133,7 +135,8 @@ module _ {A State S T C Maker Run K M : Type 0} (resolvers : ResolverMembers A S
   -- ---- two validators of one schema, the second of which may make more runs: what the first decides the second decides alike
 
   abbrev OfSmallerAndLarger : (Options → Data → Program C M → Program C M → Type 0) → Type 0
-  OfSmallerAndLarger says = (options : Options) (schema : Data) (p p' : Program C M) → p.runs ≤ p'.runs → MeansPlainly handed_to_both options schema p → MeansPlainly handed_to_both options schema p' → says options schema p p'
+  OfSmallerAndLarger says = (options : Options) (schema : Data) (nested nested' : ℕ) (p p' : Program C M) → p.runs ≤ p'.runs
+      → MeansPlainly handed_to_both (limited options p.runs nested) schema p → MeansPlainly handed_to_both (limited options p'.runs nested') schema p' → says options schema p p'
 
   abbrev pub LargerVerdicts : Type 0
   LargerVerdicts = OfSmallerAndLarger (λ options schema p p'. (instance : Data) (b b' : Bool)
@@ -157,8 +160,8 @@ module _ {A State S T C Maker Run K M : Type 0} (resolvers : ResolverMembers A S
 
   -- ---- two builds of one schema
 
-  -- where a build succeeds, whatever its limit on nested targets, another by the same options and the same meta validators is refused for want of memory alone
+  -- where a build succeeds, whatever its limits on runs and on nested targets, another by options that differ in these alone and the same meta validators is refused for want of memory alone
   abbrev pub BuildsAgree : Type 0
-  BuildsAgree = (options : Options) (schema : Data) (refuses : MetaChecks) (e : BuildError)
-      → SchemaBuilds handed_to_both options schema → PassesCheck handed_to_both.resolver refuses options schema
-      → BuildRefused handed_to_both refuses options schema e → e ≡ OutOfMemory
+  BuildsAgree = (options : Options) (schema : Data) (runs runs' nested nested' : ℕ) (refuses : MetaChecks) (e : BuildError)
+      → SchemaBuilds handed_to_both (limited options runs nested) schema → PassesCheck handed_to_both.resolver refuses (limited options runs nested) schema
+      → BuildRefused handed_to_both refuses (limited options runs' nested') schema e → e ≡ OutOfMemory

@@ -4,6 +4,7 @@ ghost use Rattle.serde_json.specs.View.{view};
 ghost use Rattle.schema_engine.specs.Called.{HasPlainUnits, IsCompiledFrom, MeansPlainly, PointsPlainly, SchemaBuilds, BuildRefused};
 ghost use Rattle.schema_engine.specs.Checked.{PassesCheck};
 ghost use Rattle.schema_engine.specs.FirstCauses.{FirstOfBuild};
+ghost use Rattle.schema_engine.specs.Greatest.{AcceptsAsSchema};
 ghost use Rattle.schema_engine.specs.Handed.{default_nested, default_options, handed};
 
 use crate::options::ValidationOptions;
@@ -47,6 +48,9 @@ impl<K: Validate, M: Matcher> Validator<K, M> {
             (handed S.Resolver T.KeywordTable K.Validate M.Matcher.own resolver.now table.now matcher.now)
             default_options (view schema.now) v) }
         ensures points { IfOk result (λ v. PointsPlainly
+            (handed S.Resolver T.KeywordTable K.Validate M.Matcher.own resolver.now table.now matcher.now)
+            default_options (view schema.now) v) }
+        ensures greatest { IfOk result (λ v. AcceptsAsSchema
             (handed S.Resolver T.KeywordTable K.Validate M.Matcher.own resolver.now table.now matcher.now)
             default_options (view schema.now) v) }
         ensures program { IfOk result (λ v. IsCompiledFrom

@@ -9,6 +9,7 @@ ghost use Rattle.schema_engine.specs.Called.{EvaluatesGuardedly, EvaluatesPlainl
 ghost use Rattle.schema_engine.specs.Called.{ErrorsPlainly, ErrorsGuardedly, EachLeads, FirstPlainly, FirstGuardedly, FirstLeads};
 ghost use Rattle.schema_engine.specs.Called.{UnitsLead};
 ghost use Rattle.schema_engine.specs.FirstCauses.{FirstOfBuild};
+ghost use Rattle.schema_engine.specs.Greatest.{DecidesGreatest, ErrorsGreatest, EvaluatesGreatest, FirstGreatest};
 ghost use Rattle.schema_engine.specs.Handed.{default_options, handed};
 
 use crate::validator::Validator;
@@ -24,7 +25,8 @@ use serde_json::Value;
 use std::alloc::Global;
 
 /// Returns whether a schema accepts the instance. Where the matcher leaves matches unfinished, the schema has to accept it
-/// under every outcome of them, as with `Validator::is_valid`.
+/// under every outcome of them, as with `Validator::is_valid`. Where each keyword of what the root reaches is monotone, it accepts
+/// exactly where the greatest solution does, also where chains of references return.
 ///
 /// # Errors
 ///
@@ -42,6 +44,9 @@ pub fn is_valid<S: Resolver, T: KeywordTable<K>, K: Validate, M: Matcher, V: Met
         (handed S.Resolver T.KeywordTable K.Validate M.Matcher.own resolver.now table.now matcher.now)
         default_options (view schema.now) (view instance.now) valid) }
     ensures guarded { IfOk result (λ valid. DecidesGuardedly
+        (handed S.Resolver T.KeywordTable K.Validate M.Matcher.own resolver.now table.now matcher.now)
+        default_options (view schema.now) (view instance.now) valid) }
+    ensures greatest { IfOk result (λ valid. DecidesGreatest
         (handed S.Resolver T.KeywordTable K.Validate M.Matcher.own resolver.now table.now matcher.now)
         default_options (view schema.now) (view instance.now) valid) }
     ensures built { IfOk result (λ _. SchemaBuilds
@@ -79,6 +84,9 @@ pub fn validate<'i, S: Resolver, T: KeywordTable<K>, K: Validate, M: Matcher, V:
         (handed S.Resolver T.KeywordTable K.Validate M.Matcher.own resolver.now table.now matcher.now)
         default_options (view schema.now) (view instance.now) (refusal_of r)) }
     ensures guarded { IfOk result (λ r. FirstGuardedly
+        (handed S.Resolver T.KeywordTable K.Validate M.Matcher.own resolver.now table.now matcher.now)
+        default_options (view schema.now) (view instance.now) (refusal_of r)) }
+    ensures greatest { IfOk result (λ r. FirstGreatest
         (handed S.Resolver T.KeywordTable K.Validate M.Matcher.own resolver.now table.now matcher.now)
         default_options (view schema.now) (view instance.now) (refusal_of r)) }
     ensures leads { IfOk result (λ r. FirstLeads
@@ -121,6 +129,9 @@ pub fn iter_errors<'i, S: Resolver, T: KeywordTable<K>, K: Validate, M: Matcher,
         (handed S.Resolver T.KeywordTable K.Validate M.Matcher.own resolver.now table.now matcher.now)
         default_options (view schema.now) (view instance.now) es) }
     ensures guarded { IfOk result (λ es. ErrorsGuardedly
+        (handed S.Resolver T.KeywordTable K.Validate M.Matcher.own resolver.now table.now matcher.now)
+        default_options (view schema.now) (view instance.now) es) }
+    ensures greatest { IfOk result (λ es. ErrorsGreatest
         (handed S.Resolver T.KeywordTable K.Validate M.Matcher.own resolver.now table.now matcher.now)
         default_options (view schema.now) (view instance.now) es) }
     ensures leads { IfOk result (λ es. EachLeads
@@ -166,6 +177,9 @@ pub fn evaluate<S: Resolver, T: KeywordTable<K>, K: Validate, M: Matcher, V: Met
         (handed S.Resolver T.KeywordTable K.Validate M.Matcher.own resolver.now table.now matcher.now)
         default_options (view schema.now) (view instance.now) u) }
     ensures guarded { IfOk result (λ u. EvaluatesGuardedly
+        (handed S.Resolver T.KeywordTable K.Validate M.Matcher.own resolver.now table.now matcher.now)
+        default_options (view schema.now) (view instance.now) u) }
+    ensures greatest { IfOk result (λ u. EvaluatesGreatest
         (handed S.Resolver T.KeywordTable K.Validate M.Matcher.own resolver.now table.now matcher.now)
         default_options (view schema.now) (view instance.now) u) }
     ensures plain_units { IfOk result (λ u. UnitsPlainly

@@ -4,6 +4,7 @@ ghost use Rattle.schema_engine.specs.FreeCalls.{EmptyIffValid, NoneIffEmpty, Non
 ghost use Rattle.schema_engine.specs.FreeCalls.{OneErrorList, OneEvaluation, OneFirstError, OneSense, OneTree, OneVerdict};
 ghost use Rattle.schema_engine.specs.FreeCalls.{ErrorListAgain, EvaluationAgain, FirstErrorAgain, UnitsAgain, VerdictAgain};
 ghost use Rattle.schema_engine.specs.FreeCalls.{ValidatorCallsAgree};
+ghost use Rattle.schema_engine.specs.Greatest.{FinishingAccepts, FinishingGreatest, GreatestAnswersAgree, GreatestVerdictsAgree};
 ghost use Rattle.schema_engine.specs.Handed.{handed};
 ghost use Rattle.schema_engine.specs.Nesting.{AllErrorsAgree, BuildsAgree, FirstErrorsAgree, VerdictsAgree};
 ghost use Rattle.schema_engine.specs.Nesting.{EvaluationsOfBoth, UnitsOfBoth};
@@ -52,10 +53,30 @@ pub fn larger_limits_agree<S: Resolver, T: KeywordTable<K>, K: Validate, M: Matc
         → LargerEvaluations S.Resolver T.KeywordTable K.Validate M.Matcher.own resolver table matcher }
 {}
 
-/// One limit on nested targets builds a schema exactly if any other does, want of memory aside. Neither what `build` and
-/// `build_nested` promise of a schema that builds nor what they promise of one that is refused names this limit; so where one
-/// build of a schema succeeded, another by the same options and the same meta validators is refused for want of memory alone,
-/// whether the options have the schema checked or not.
+/// Two validators that accept as one schema does, as `build` and `build_nested` give them whatever the limit on nested targets,
+/// and the limit of runs, agree on every instance also where chains of references return, if each keyword of what the root reaches
+/// is monotone: of any two calls that both decide, one says yes exactly if the other does, and two verdicts are equal.
+pub fn greatest_agree<S: Resolver, T: KeywordTable<K>, K: Validate, M: Matcher>()
+    ensures answers { (resolver : S) (table : T) (matcher : M)
+        → GreatestAnswersAgree S.Resolver T.KeywordTable K.Validate M.Matcher.own resolver table matcher }
+    ensures verdict { (resolver : S) (table : T) (matcher : M)
+        → GreatestVerdictsAgree S.Resolver T.KeywordTable K.Validate M.Matcher.own resolver table matcher }
+{}
+
+/// Where the matcher finishes every match, each call of a validator decides. So where each keyword is monotone, its answer is a yes
+/// exactly if the nodes accept; and, of a validator that accepts as a schema does, exactly if the greatest solution of the schema
+/// does: under every completion, the largest set of targets and places that stands by itself holds the root's target at the root
+/// place. It is so whatever the limits are, chains of references that return included.
+pub fn finishing_say_greatest<S: Resolver, T: KeywordTable<K>, K: Validate, M: Matcher>()
+    ensures nodes { FinishingAccepts K.Validate M.Matcher.own }
+    ensures schema { (resolver : S) (table : T) (matcher : M)
+        → FinishingGreatest S.Resolver T.KeywordTable K.Validate M.Matcher.own resolver table matcher }
+{}
+
+/// One limit on nested targets builds a schema exactly if any other does, want of memory aside, and so does one limit on runs.
+/// Neither what `build` and `build_nested` promise of a schema that builds nor what they promise of one that is refused names these
+/// limits; so where one build of a schema succeeded, another by options that differ in them alone and the same meta validators is
+/// refused for want of memory alone, whether the options have the schema checked or not.
 pub fn builds_agree<S: Resolver, T: KeywordTable<K>, K: Validate, M: Matcher>()
     ensures memory { (resolver : S) (table : T) (matcher : M)
         → BuildsAgree S.Resolver T.KeywordTable K.Validate M.Matcher.own resolver table matcher }

@@ -1,5 +1,5 @@
 //! A validator: what it answers of instances.
-ghost use Rattle.std.specs.Prelude.{◌≡◌, [], false, Bool, Option, IfOk, All, IfSome, IsSome, length, slice_get, ◌<◌, ◌≤◌};
+ghost use Rattle.std.specs.Prelude.{◌≡◌, ◌↔◌, [], false, true, Bool, Option, IfOk, All, IfSome, IsSome, length, slice_get, ◌<◌, ◌≤◌};
 ghost use Rattle.serde_json.specs.View.{view};
 ghost use Rattle.schema_keywords.specs.KeywordViews.{draft_of};
 ghost use Rattle.schema_definitions.specs.Unfinished.{starting};
@@ -15,15 +15,20 @@ ghost use Rattle.schema_engine.specs.Asked.{DecidesInEverySense, ErrorsInEverySe
 ghost use Rattle.schema_engine.specs.Asked.{ErrorsPointAsNodes, FirstPointsAsNodes};
 ghost use Rattle.schema_engine.specs.Asked.{EvaluatesFromSomeDepth, EvaluatesInEverySense};
 ghost use Rattle.schema_engine.specs.Asked.{RunGivesUnit, UnitsFromSomeDepth, UnitsInEverySense};
+ghost use Rattle.schema_engine.specs.Greatest.{DecidesAccepted, ErrorsAccepted, EvaluatesAccepted, FirstAccepted, NodesAreMonotone};
 ghost use Rattle.schema_engine.specs.Handed.{default_runs};
 ghost use Rattle.schema_engine.specs.SharedErrors.{AreShared};
 ghost use Rattle.schema_engine.specs.Asked.{RunDecides, RunFindsFirst, RunListsErrors, RunMeets, RunReplies};
+ghost use Rattle.schema_meaning.specs.Numbered.{Ranked};
+ghost use Rattle.schema_monotone.specs.Saying.{EachSays};
+ghost use Rattle.schema_nodes.specs.NodeTable.{numbered};
 
 mod cloning;
 
 use schema_contexts::validation::ValidationContext;
 use schema_keywords::keywords::Draft;
 use schema_matches::assumptions::MatchAssumptions;
+use schema_monotone::saying::is_monotone;
 use schema_node::node::RunNodes;
 use schema_node::node::runs::FirstQuestion;
 use schema_nodes::node::Nodes;
@@ -146,6 +151,25 @@ impl<K: Validate, M: Matcher> Validator<K, M> {
         ensures nodes { result.now ≡ self.now.nodes }
     {
         &self.nodes
+    }
+
+    /// Returns whether each keyword of each node says that it is monotone: that a yes more among the answers to its questions turns
+    /// no yes of it to a no. References count as monotone. Where it returns `true`, the calls answer by the greatest solution of the
+    /// nodes: the largest set of numbers and places, each of which accepts where exactly those of the set do; also where chains of
+    /// references return. Allocates nothing.
+    pub fn is_monotone(&self) -> bool
+        ensures exactly { (result ≡ true) ↔ EachSays K.says_monotone (numbered K.shape self.now.nodes) (length self.now.nodes) }
+        ensures monotone { result ≡ true → (texts : Bool) → NodesAreMonotone K.shape K.words self.now texts }
+    {
+        is_monotone(&self.nodes)
+    }
+
+    // How many nodes there are, the root's among them. Edges that nothing guards fall in rank.
+    fn node_count(&self) -> usize
+        ensures inside { self.now.root < length self.now.nodes }
+        ensures ranked { Ranked (numbered K.shape self.now.nodes) (length self.now.nodes) }
+    {
+        self.nodes.len()
     }
 
     // What the root's node says of an instance, under what is assumed of unfinished matches.
@@ -391,7 +415,8 @@ impl<K: Validate, M: Matcher> Validator<K, M> {
     }
 
     /// Returns whether the instance is valid. Where the matcher leaves matches unfinished, returns whether the instance is valid
-    /// under every outcome of them, and `false` if that takes more runs than a call makes.
+    /// under every outcome of them, and `false` if that takes more runs than a call makes. Where each keyword is monotone, and it
+    /// takes no more runs, returns `true` exactly if the greatest solution of the nodes accepts, also where references return.
     ///
     /// # Errors
     ///
@@ -401,14 +426,18 @@ impl<K: Validate, M: Matcher> Validator<K, M> {
             K.Validate M.Matcher.own self.now (view instance.now) valid) }
         ensures senses { IfOk result (λ valid. DecidesInEverySense
             K.Validate M.Matcher.own self.now (view instance.now) valid) }
+        ensures greatest { IfOk result (λ valid. DecidesAccepted
+            K.Validate M.Matcher.own self.now (view instance.now) valid) }
     {
+        let _ranked = self.node_count();
         Ok(self.valid_under_each(alloc, instance)?)
     }
 
     /// Returns the first error as an inner `Err`, and an inner `Ok` if the instance is valid. Where the matcher leaves matches
     /// unfinished, the error is the first that all outcomes of them share. It tells of such a match instead if some outcome
     /// refuses and they share no error, or if that takes more runs than a call makes. Any other error is one that the nodes give
-    /// under some outcome, so it points at keyword and value as the build promises of these.
+    /// under some outcome, so it points at keyword and value as the build promises of these. Where each keyword is monotone, there
+    /// is no error exactly if the greatest solution of the nodes accepts.
     ///
     /// # Errors
     ///
@@ -422,17 +451,21 @@ impl<K: Validate, M: Matcher> Validator<K, M> {
             K.Validate M.Matcher.own self.now (view instance.now) (refusal_of r)) }
         ensures senses { IfOk result (λ r. FirstInEverySense
             K.Validate M.Matcher.own self.now (view instance.now) (refusal_of r)) }
+        ensures greatest { IfOk result (λ r. FirstAccepted
+            K.Validate M.Matcher.own self.now (view instance.now) (refusal_of r)) }
         ensures points { IfOk result (λ r. FirstPointsAsNodes
             K.Validate M.Matcher.own self.now (view instance.now) (refusal_of r)) }
         ensures borrows { IfOk result (λ r. IfSome (refusal_of r) (BorrowsItsPlace (view instance.now))) }
     {
+        let _ranked = self.node_count();
         Ok(unless_refused(self.first_under_each(alloc, instance)?))
     }
 
     /// Returns all errors in order, and none if the instance is valid. Where the matcher leaves matches unfinished, these are the
     /// errors that all outcomes of them share. There is one error, which tells of such a match, if some outcome refuses and
     /// they share no error, or if that takes more runs than a call makes. Any other error is one that the nodes give under some
-    /// outcome, so it points at keyword and value as the build promises of these.
+    /// outcome, so it points at keyword and value as the build promises of these. Where each keyword is monotone, there is no error
+    /// exactly if the greatest solution of the nodes accepts.
     ///
     /// # Errors
     ///
@@ -446,10 +479,13 @@ impl<K: Validate, M: Matcher> Validator<K, M> {
             K.Validate M.Matcher.own self.now (view instance.now) es) }
         ensures senses { IfOk result (λ es. ErrorsInEverySense
             K.Validate M.Matcher.own self.now (view instance.now) es) }
+        ensures greatest { IfOk result (λ es. ErrorsAccepted
+            K.Validate M.Matcher.own self.now (view instance.now) es) }
         ensures points { IfOk result (λ es. ErrorsPointAsNodes
             K.Validate M.Matcher.own self.now (view instance.now) es) }
         ensures borrows { IfOk result (λ es. All (BorrowsItsPlace (view instance.now)) es) }
     {
+        let _ranked = self.node_count();
         Ok(ErrorIterator::new(self.all_under_each(alloc, instance)?))
     }
 
@@ -459,7 +495,7 @@ impl<K: Validate, M: Matcher> Validator<K, M> {
     /// errors that all outcomes of them share instead: it has one unit for each, at its paths, without absolute locations and
     /// annotations, inside one at empty locations. There is one error, which tells of such a match, if some outcome refuses and
     /// they share no error, or if that takes more runs than a call makes. The outermost unit is valid exactly if the instance is
-    /// valid under every outcome.
+    /// valid under every outcome; where each keyword is monotone, exactly if the greatest solution of the nodes accepts.
     ///
     /// # Errors
     ///
@@ -469,11 +505,14 @@ impl<K: Validate, M: Matcher> Validator<K, M> {
             K.Validate M.Matcher.own self.now (view instance.now) u) }
         ensures senses { IfOk result (λ u. EvaluatesInEverySense
             K.Validate M.Matcher.own self.now (view instance.now) u) }
+        ensures greatest { IfOk result (λ u. EvaluatesAccepted
+            K.Validate M.Matcher.own self.now (view instance.now) u) }
         ensures units { IfOk result (λ u. UnitsFromSomeDepth
             K.Validate M.Matcher.own self.now (view instance.now) u) }
         ensures plain { IfOk result (λ u. UnitsInEverySense
             K.Validate M.Matcher.own self.now (view instance.now) u) }
     {
+        let _ranked = self.node_count();
         Ok(Evaluation::new(self.evaluated_under_each(alloc, instance)?))
     }
 }

@@ -127,7 +127,7 @@ there [] i h = absurd (omega arith)
 there (x ∷ xs) zero h = (x, refl)
 there (x ∷ xs) (suc i) h = there xs i (omega arith)
 
-in_map : {A : Type 0} (xs : List A) (i : ℕ) (x : A) → slice_get xs i ≡ Some x → slice_get (map Some xs) i ≡ Some (Some x)
+pub in_map : {A : Type 0} (xs : List A) (i : ℕ) (x : A) → slice_get xs i ≡ Some x → slice_get (map Some xs) i ≡ Some (Some x)
 in_map [] i x e = absurd (let f : ⊥ = cc in f)
 in_map (y ∷ xs) zero x e = let same : y ≡ x = cc in ap (λ z. Some (Some z)) same
 in_map (y ∷ xs) (suc i) x e = in_map xs i x e

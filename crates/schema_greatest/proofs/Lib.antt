@@ -1,3 +1,5 @@
 pub mod NodesSay
 pub mod Edges
 pub mod NumbersSay
+pub mod ReachedSay
+mod WorkedRows

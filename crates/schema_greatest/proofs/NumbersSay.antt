@@ -15,22 +15,24 @@ use Rattle.schema_definitions.specs.Parts.{Parts}
 use Rattle.schema_definitions.specs.Plan.{Edge, Key, Target, Part, Form, keyword, reference, Plan, always, never, these, plan, child, requested, reference_edge, same_target, inside, ok_of, schema_at}
 use Rattle.schema_definitions.specs.Meaning.{place_below, subject}
 use Rattle.schema_definitions.specs.Laws.{EachKeeps}
-use Rattle.schema_definitions.specs.Cover.{evaluate, is_valid, iter_errors, validate}
+use Rattle.schema_definitions.specs.Cover.{iter_errors, validate}
 use Rattle.schema_definitions.specs.Guarded.{NodeEdge, node_child, NodeForm, node_keyword, node_reference, NodePart, NodePlan, node_always, node_never, node_these, Nodes, guarded_sense}
 use Rattle.schema_meaning.specs.Deciding.{none_where_accepted}
 use Rattle.schema_meaning.specs.Members.{Follows}
+use Rattle.schema_meaning.specs.Shared.{EachAccepts}
 use Rattle.schema_meaning.specs.Reach.{Reached, at_first, asked_by, asked_for}
 use Rattle.schema_meaning.specs.Numbered.{Numbers, IsNumber, SameEdge, SameForm, SameParts, SamePlan, AreNumbered, Ranked, left}
 use Rattle.schema_meaning.specs.Greatest.{accepts_by, in_set, part_accepts}
 use Rattle.schema_meaning.specs.Greatest as by_keys
-use Rattle.schema_greatest.specs.Solutions.{AcceptsGreatest, StandsByItself}
+use Rattle.schema_greatest.specs.Solutions.{AcceptsEach, AcceptsGreatest, StandsByItself}
 use Rattle.schema_greatest.specs.NodesSay.{AreMonotone, form_holds, node_holds, IsNodeSolution, NodeAcceptsGreatest}
-use Rattle.schema_greatest.specs.NumbersSay.{NumbersSayGreatest, LargestStands, KeysAcceptAlike, NumbersAcceptGreatest, GreatestAnswers, FinishingAnswers}
+use Rattle.schema_greatest.specs.NumbersSay.{NumbersSayGreatest, LargestStands, KeysAcceptAlike, NumbersAcceptGreatest, GreatestAnswers, FinishingAnswers, PlainIsGreatest}
 use Rattle.schema_definitions.proofs.Products.{both_left, both_right, both_true, in_either, or_left, or_right}
 use Rattle.schema_meaning.proofs.Finishing.{nodes_decide}
 use Rattle.schema_meaning.proofs.GuardedSense.{all_nodes_follow}
 use Rattle.schema_meaning.proofs.Reading.{Reads, reads_of}
 use Rattle.schema_meaning.proofs.SameRun.{same_key_is}
+use Rattle.schema_meaning.proofs.SensesMeant.{numbers_mean}
 use Rattle.schema_meaning.proofs.Sentences.{listed_none}
 use Rattle.schema_meaning.proofs.Simulates.{target_itself}
 use Rattle.schema_greatest.proofs.Edges.{Leads, edges_lead}
@@ -93,7 +95,7 @@ module _ {S K R : Type 0} (w : Parts S K R) (instance : Data) (c : Completion) (
         go never = refl
         go (these xs) = parts_by_target p xs
 
-  one_target_accepts : (k l : Key S) → k.target ≡ l.target → (p : Place) → accepts_by w instance c of_keys k p ≡ accepts_by w instance c of_keys l p
+  pub one_target_accepts : (k l : Key S) → k.target ≡ l.target → (p : Place) → accepts_by w instance c of_keys k p ≡ accepts_by w instance c of_keys l p
   one_target_accepts k l same p = accepts_by_target k p ∙ (ap (λ t. accepts_by w instance c of_keys (key_at t) p) same ∙ sym (accepts_by_target l p))
 
 -- ---- a number holds exactly where its key accepts, by sets that agree on numbers and targets
@@ -159,10 +161,11 @@ agrees keys accepts other i k number p = ap (at_number accepts p (other i p)) nu
 
 -- ---- a set of numbers as one of targets
 
-module _ {S K R : Type 0} (w : Parts S K R) (states : (a b : S) → Decides (w.resolver.same_state a b) (a ≡ b)) (keys : Numbers S) (accepts : ℕ → Place → Bool) where
-  same_target_is : (t u : Target S) → same_target w t u ≡ true → t ≡ u
-  same_target_is t u same = ap (λ k. k.target) (same_key_is w states (key_at t) (key_at u) (both_true _ _ (both_true _ _ (both_true _ _ same refl) refl) refl))
+-- targets that are told to be the same are
+pub same_target_is : {S K R : Type 0} (w : Parts S K R) → ((a b : S) → Decides (w.resolver.same_state a b) (a ≡ b)) → (t u : Target S) → same_target w t u ≡ true → t ≡ u
+same_target_is w states t u same = ap (λ k. k.target) (same_key_is w states (key_at t) (key_at u) (both_true _ _ (both_true _ _ (both_true _ _ same refl) refl) refl))
 
+module _ {S K R : Type 0} (w : Parts S K R) (states : (a b : S) → Decides (w.resolver.same_state a b) (a ≡ b)) (keys : Numbers S) (accepts : ℕ → Place → Bool) where
   abbrev is_target : Target S → Option (Option (Key S)) → Bool
   is_target t (Some (Some k)) = same_target w t k.target
   is_target t (Some None) = false
@@ -188,7 +191,7 @@ module _ {S K R : Type 0} (w : Parts S K R) (states : (a b : S) → Decides (w.r
       (λ h. go (slice_get keys n) refl (both_left _ _ h) (both_right _ _ h)) (some_is n t p) e
     where
       go : (o : Option (Option (Key S))) → slice_get keys n ≡ o → is_target t o ≡ true → accepts n p ≡ true → Accepted t p
-      go (Some (Some k)) at_n same h = record { number = n; key = k; is_number = at_n; of_target = same_target_is t k.target same; said = h }
+      go (Some (Some k)) at_n same h = record { number = n; key = k; is_number = at_n; of_target = same_target_is w states t k.target same; said = h }
       go (Some None) at_n same h = absurd (true≢false (sym same))
       go None at_n same h = absurd (true≢false (sym same))
 
@@ -331,18 +334,22 @@ pub greatest_answers : {S K R : Type 0} (w : Parts S K R) (keys : Numbers S) (no
 greatest_answers w keys nodes laws states numbered ranked monotone instance i root number limit =
     let accepts = numbers_accept_greatest w keys nodes laws states numbered ranked monotone instance i root number in
     let follows : (n : ℕ) → Follows (guarded_sense w.keywords w.matcher nodes (subject w instance) n i) = λ n. all_nodes_follow w.keywords laws w.matcher nodes (subject w instance) n i in (
-      (λ valid (deep, says). (deep + accepts.0, λ n l d. through ((says n (omega arith)).0 d) (accepts.1 n (omega arith)))),
+      (λ call valid (deep, says). (deep + accepts.0, λ n l d. through ((says n (omega arith)).0 d) (accepts.1 n (omega arith)))),
       (λ first (deep, says). (deep + accepts.0, λ n l d. through (none_where_accepted _ (follows n) limit first (says n (omega arith)) d) (accepts.1 n (omega arith)))),
       (λ errors (deep, says). (deep + accepts.0, λ n l d. through (listed_none _ iter_errors (follows n) errors ((says n (omega arith)).0 d)) (accepts.1 n (omega arith)))),
-      (λ u (deep, says). (deep + accepts.0, λ n l d. through ((says n (omega arith)).0 d) (accepts.1 n (omega arith)))),
     )
 
 pub finishing_answers : {S K R : Type 0} (w : Parts S K R) (keys : Numbers S) (nodes : Nodes K) → FinishingAnswers w keys nodes
 finishing_answers w keys nodes laws states numbered ranked monotone finishes instance i root number limit some =
     let says = greatest_answers w keys nodes laws states numbered ranked monotone instance i root number limit in
     let decides = λ (n : ℕ). (nodes_decide w.keywords w.matcher finishes nodes (subject w instance) n i).decides limit in (
-      (λ valid h. let (deep, is) = says.0 valid h in is deep (omega arith) (decides deep is_valid some)),
+      (λ call valid h. let (deep, is) = says.0 call valid h in is deep (omega arith) (decides deep call some)),
       (λ first h. let (deep, is) = says.1 first h in is deep (omega arith) (decides deep validate some)),
       (λ errors h. let (deep, is) = says.2 errors h in is deep (omega arith) (decides deep iter_errors some)),
-      (λ u h. let (deep, is) = says.3 u h in is deep (omega arith) (decides deep evaluate some)),
     )
+
+pub plain_is_greatest : {S K R : Type 0} (w : Parts S K R) (keys : Numbers S) (nodes : Nodes K) → PlainIsGreatest w keys nodes
+plain_is_greatest w keys nodes laws states numbered ranked monotone inside below instance i root number no_return reached reach n enough =
+    let accepts = numbers_accept_greatest w keys nodes laws states numbered ranked monotone instance i root number in
+    let means = numbers_mean w keys nodes laws inside below states numbered ranked instance i root number no_return reached reach n enough in
+    subst (λ v. EachAccepts v ↔ AcceptsEach w root instance) (means.1 (means.0 + accepts.0) (omega arith)) (accepts.1 (means.0 + accepts.0) (omega arith))

@@ -1,3 +1,4 @@
 pub mod Solutions
 pub mod NodesSay
 pub mod NumbersSay
+pub mod Rows

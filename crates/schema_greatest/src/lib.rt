@@ -2,4 +2,5 @@
 //! target and a place that stands by itself. Each function states laws, and does nothing.
 #![tactic(auto)]
 
+pub mod rows;
 pub mod solutions;

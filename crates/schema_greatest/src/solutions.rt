@@ -8,6 +8,7 @@ ghost use Rattle.schema_definitions.specs.Plan.{Key};
 ghost use Rattle.schema_greatest.specs.NodesSay.{NodesSayGreatest};
 ghost use Rattle.schema_greatest.specs.NumbersSay.{FinishingAnswers, GreatestAnswers, KeysAcceptAlike, LargestStands};
 ghost use Rattle.schema_greatest.specs.NumbersSay.{NumbersAcceptGreatest, NumbersAreMonotone, NumbersSayGreatest};
+ghost use Rattle.schema_greatest.specs.NumbersSay.{PlainIsGreatest, ReachedAnswer, ReachedFinish, ReachedStand};
 ghost use Rattle.schema_meaning.specs.Numbered.{Numbers};
 
 /// Where every keyword is monotone, what numbered nodes say is their greatest solution, whether questions return or not.
@@ -22,6 +23,7 @@ pub fn numbers_say_greatest<S, K, R>()
     ensures stands { (w : Parts S K R) (keys : Numbers S) (nodes : Nodes K) → LargestStands w keys nodes }
     ensures alike { (w : Parts S K R) (keys : Numbers S) (nodes : Nodes K) → KeysAcceptAlike w keys nodes }
     ensures accept { (w : Parts S K R) (keys : Numbers S) (nodes : Nodes K) → NumbersAcceptGreatest w keys nodes }
+    ensures plain { (w : Parts S K R) (keys : Numbers S) (nodes : Nodes K) → PlainIsGreatest w keys nodes }
 {}
 
 /// So the calls that decide within their limit answer yes exactly where the root is accepted at the root place.
@@ -33,4 +35,11 @@ pub fn calls_say_greatest<S, K, R>()
 /// The keywords of numbers are monotone where those of what the root reaches are.
 pub fn numbers_are_monotone<S, K, R>()
     ensures monotone { (w : Parts S K R) (keys : List (Key S)) (nodes : Nodes K) → NumbersAreMonotone w keys nodes }
+{}
+
+/// And all this of numbers that stand for the keys that a root reaches, where every keyword of what it reaches is monotone.
+pub fn reached_say_greatest<S, K, R>()
+    ensures answer { (w : Parts S K R) (keys : List (Key S)) (nodes : Nodes K) → ReachedAnswer w keys nodes }
+    ensures finish { (w : Parts S K R) (keys : List (Key S)) (nodes : Nodes K) → ReachedFinish w keys nodes }
+    ensures stand { (w : Parts S K R) (keys : List (Key S)) (nodes : Nodes K) → ReachedStand w keys nodes }
 {}

@@ -7,6 +7,7 @@ ghost use Rattle.schema_parts.specs.ResolverViews.{place_of};
 ghost use Rattle.schema_check.specs.Checking.{AcceptsSchema, RefusesSchema};
 ghost use Rattle.schema_engine.specs.Checked.{PassesCheck};
 ghost use Rattle.schema_engine.specs.FirstCauses.{FirstOfBuild};
+ghost use Rattle.schema_engine.specs.Greatest.{AcceptsAsSchema};
 ghost use Rattle.schema_engine.specs.Handed.{handed};
 
 use crate::compiled::of_compiled_within;
@@ -30,7 +31,9 @@ impl ValidationOptions {
     /// Builds a validator of a schema. The resolver has to have the schema as the document under the root's base: that is
     /// what is compiled, and what the contract speaks of. Where no chain of references returns, the validator means the plain
     /// meaning of schema and parts, and has its units. Returns or none, each error that it gives points at a keyword of the
-    /// schema and at a value inside the instance. As many targets of references are compiled one inside another as the options
+    /// schema and at a value inside the instance. Where each keyword of what the root reaches is monotone, the validator accepts
+    /// exactly where the greatest solution does: the largest set of targets and places, each of which accepts where exactly those
+    /// of the set do. As many targets of references are compiled one inside another as the options
     /// say, and the validator's calls make as many runs at most as they say. Unless the
     /// options say otherwise, the meta validators check the schema before it is compiled.
     ///
@@ -56,6 +59,9 @@ impl ValidationOptions {
             (handed S.Resolver T.KeywordTable K.Validate M.Matcher.own resolver.now table.now matcher.now)
             self.now (view schema.now) v) }
         ensures points { IfOk result (λ v. PointsPlainly
+            (handed S.Resolver T.KeywordTable K.Validate M.Matcher.own resolver.now table.now matcher.now)
+            self.now (view schema.now) v) }
+        ensures greatest { IfOk result (λ v. AcceptsAsSchema
             (handed S.Resolver T.KeywordTable K.Validate M.Matcher.own resolver.now table.now matcher.now)
             self.now (view schema.now) v) }
         ensures program { IfOk result (λ v. IsCompiledFrom
@@ -85,8 +91,9 @@ impl ValidationOptions {
     }
 
     /// Builds a validator of a schema as `build` does, but with at most `nested` targets of references compiled one inside
-    /// another. Where no chain of references returns, this limit changes no answer; it decides how much stack the build takes,
-    /// and which edges of a cycle of references are guarded.
+    /// another. Where no chain of references returns, this limit changes no answer, nor does it change a verdict of a call that
+    /// decides, where each keyword is monotone. It decides how much stack the build takes, and which edges of a cycle of references
+    /// are guarded.
     ///
     /// # Errors
     ///
@@ -114,6 +121,9 @@ impl ValidationOptions {
             (handed S.Resolver T.KeywordTable K.Validate M.Matcher.own resolver.now table.now matcher.now)
             self.now (view schema.now) v) }
         ensures points { IfOk result (λ v. PointsPlainly
+            (handed S.Resolver T.KeywordTable K.Validate M.Matcher.own resolver.now table.now matcher.now)
+            self.now (view schema.now) v) }
+        ensures greatest { IfOk result (λ v. AcceptsAsSchema
             (handed S.Resolver T.KeywordTable K.Validate M.Matcher.own resolver.now table.now matcher.now)
             self.now (view schema.now) v) }
         ensures program { IfOk result (λ v. IsCompiledFrom

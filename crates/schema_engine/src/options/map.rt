@@ -9,7 +9,8 @@ ghost use Rattle.schema_engine.specs.Entries.{FailsEntry, HoldsPlaces, IsCompile
 ghost use Rattle.schema_engine.specs.Entries.{RefusesAlone, RefusesEntry, RefusesOneOf};
 ghost use Rattle.schema_engine.specs.FirstCauses.{FirstOfMap};
 ghost use Rattle.schema_engine.specs.Handed.{handed};
-ghost use Rattle.schema_engine.specs.Mapped.{EachHasPlainUnits, EachIsCompiledFrom, EachMeansPlainly, EachPointsPlainly};
+ghost use Rattle.schema_engine.specs.Mapped.{EachAcceptsGreatest, EachHasPlainUnits, EachIsCompiledFrom, EachMeansPlainly};
+ghost use Rattle.schema_engine.specs.Mapped.{EachPointsPlainly};
 ghost use Rattle.schema_engine.specs.Mapped.{HoldsCompiled, HoldsEach, MapIsBuilt, MapRefused, name_of};
 ghost use Rattle.schema_engine.specs.Roots.{IsRootKey, root_parts};
 
@@ -65,6 +66,9 @@ impl ValidationOptions {
             (handed S.Resolver T.KeywordTable K.Validate M.Matcher.own resolver.now table.now matcher.now)
             self.now (view schema.now) m) }
         ensures points { IfOk result (λ m. EachPointsPlainly
+            (handed S.Resolver T.KeywordTable K.Validate M.Matcher.own resolver.now table.now matcher.now)
+            self.now (view schema.now) m) }
+        ensures greatest { IfOk result (λ m. EachAcceptsGreatest
             (handed S.Resolver T.KeywordTable K.Validate M.Matcher.own resolver.now table.now matcher.now)
             self.now (view schema.now) m) }
         ensures programs { IfOk result (λ m. EachIsCompiledFrom

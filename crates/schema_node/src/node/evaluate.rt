@@ -246,18 +246,19 @@ fn evaluate_edge<'i, K: Validate, M: Matcher>(
         };
         return evaluate_node(engine, edge.node, &asked, context);
     }
-    let here = question.place.made()?;
-    let place = EvaluationPlace::given(&here);
+    let shared = question.place.shared(engine.alloc)?;
+    let here = shared.as_place();
+    let place = EvaluationPlace::given(here);
     let asked = Question {
         instance: question.instance,
         place: &place,
         path: &whole,
         mode: question.mode,
     };
-    if context.enter(edge.node, &here)? {
+    if context.enter_shared(edge.node, &shared)? {
         return accepting_unit(engine.alloc, engine.nodes.node(edge.node), &asked);
     }
     let unit = evaluate_node(engine, edge.node, &asked, context)?;
-    context.exit(edge.node, &here);
+    context.exit(edge.node, here);
     Ok(unit)
 }

@@ -4,6 +4,7 @@ ghost use Rattle.schema_reports.specs.InstanceViews.{step_of};
 ghost use Rattle.schema_definitions.specs.Pointer.{pointer_to};
 ghost use Rattle.schema_node.specs.EvaluationPlaces.{steps_to};
 
+use schema_contexts::shared_place::SharedPlace;
 use schema_reports::instance::{InstanceStep, Place, push_step};
 use schema_reports::location::{Location, OutOfMemory};
 use std::alloc::Global;
@@ -71,5 +72,12 @@ impl<'p, 'i> EvaluationPlace<'p, 'i> {
         ensures same { IfOk result (λ p. p ≡ steps_to self.now) }
     {
         self.with_room(0)
+    }
+
+    /// Returns the place as one that can be shared. Fails only if memory cannot be allocated.
+    pub fn shared(&self, alloc: Global) -> Result<SharedPlace<'i>, OutOfMemory>
+        ensures same { IfOk result (λ p. p ≡ steps_to self.now) }
+    {
+        SharedPlace::new(alloc, self.made()?)
     }
 }

@@ -378,24 +378,25 @@ fn run_edge<'i, K: Validate, M: Matcher>(
         };
         return run_node(engine, edge.node, &asked, context);
     }
-    let here = question.place.made()?;
-    if context.enter(edge.node, &here)? {
+    let shared = question.place.shared(engine.alloc)?;
+    let here = shared.as_place();
+    if context.enter_shared(edge.node, &shared)? {
         return Ok(accepted(engine.alloc, question.mode));
     }
-    let place = EvaluationPlace::given(&here);
+    let place = EvaluationPlace::given(here);
     let asked = Question {
         instance: question.instance,
         place: &place,
         path: &whole,
         mode: question.mode,
     };
-    if let Some(valid) = remembered_verdict(context, edge.node, &here, question.mode) {
-        context.exit(edge.node, &here);
+    if let Some(valid) = remembered_verdict(context, edge.node, here, question.mode) {
+        context.exit(edge.node, here);
         return Ok(Reply::Truth(valid));
     }
     let mark = begin_visit(context, question.mode);
     let computed = run_node(engine, edge.node, &asked, context)?;
-    let reply = kept_reply(context, edge.node, &here, &asked, computed, mark)?;
-    context.exit(edge.node, &here);
+    let reply = kept_reply(context, edge.node, here, &asked, computed, mark)?;
+    context.exit(edge.node, here);
     Ok(reply)
 }

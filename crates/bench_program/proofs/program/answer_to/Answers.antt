@@ -68,9 +68,9 @@ returns-clause-answer c =
       };
       builds = λ spoken. as_handed (λ table ps. Builds (parts_of (bench_resolving r) table (bench_matcher ps) (bench_words spoken) default_options) schema default_options.limit) t owned script same (c.in_ok-validator.ensures.built spoken);
       passes = c.in_ok-validator.ensures.passed;
-      plain = c.in_ok-ask.ensures.means (bench_resolving r) bench_table (bench_matcher unfinished) default_options schema
+      plain = rw c.in_ok-validator.ensures.program.runs_are at (c.in_ok-ask.ensures.means (bench_resolving r) bench_table (bench_matcher unfinished) default_options schema
           (as_handed (λ table ps. BenchMeans (bench_resolving r) table (bench_matcher ps) default_options schema validator) t owned script same c.in_ok-validator.ensures.means)
-          (as_handed (λ table ps. BenchHasUnits (bench_resolving r) table (bench_matcher ps) default_options schema validator) t owned script same c.in_ok-validator.ensures.units);
+          (as_handed (λ table ps. BenchHasUnits (bench_resolving r) table (bench_matcher ps) default_options schema validator) t owned script same c.in_ok-validator.ensures.units));
       program = validator;
       compiled = as_handed (λ table ps. IsProgramOf (bench_resolving r) table (bench_matcher ps) default_options default_nested schema bench_shape bench_matcher validator) t owned script same c.in_ok-validator.ensures.program;
       guarded = c.in_ok-ask.ensures.depth;

@@ -2,10 +2,14 @@ use Rattle.std.specs.Prelude.{Bool}
 use Rattle.std.proofs.lemmas.Result.{err_from_is_err_and}
 use Rattle.serde_json.specs.View.{view}
 use Rattle.schema_keywords.specs.KeywordTable.{builtin_in}
+use Rattle.schema_definitions.specs.Cover.{evaluate}
+use Rattle.schema_definitions.specs.Laws.{EachKeeps}
 use Rattle.schema_meaning.specs.ErrorsLead.{EachKeepsAbsorbing}
 use Rattle.schema_meaning.proofs.TurnsGiveRuns.{keeps_of_turns}
 use Rattle.schema_engine.specs.Evaluated.{EvaluationAnswered, UnitsAnswered}
-use Rattle.schema_engine.specs.Handed.{default_options, default_runs, table_of}
+use Rattle.schema_engine.specs.Handed.{default_options, default_runs, handed, table_of}
+use Rattle.schema_engine.specs.Nesting.{verdict_in}
+use Rattle.schema_engine.proofs.Greatest.{says_greatest}
 use Rattle.schema_engine.proofs.Pointing.{evaluation_points}
 use Rattle.schema_engine.proofs.PlainAnswers.{plainly_from, plainly_with_units}
 use Rattle.schema_engine.proofs.calls.evaluate.Goals as goal
@@ -46,9 +50,18 @@ returns-clause-leads g c =
     λ texts s. keeps_of_turns (k.words texts) s (k.absorbed s) (k.remaining s) (k.can_be texts s) (k.ends texts s) (k.fits texts s) (g.met.K.Validate.turn_laws texts s) (g.met.K.Validate.function_laws texts s) in (
       c.in_ok-validator.validator,
       built.program,
-      evaluation_points r table m k.words default_options (view c.args.schema.now) k.shape g.M.Matcher.matching c.in_ok-validator.validator k.is_whole built.means built.points
-          (view c.args.instance.now) k.absorbed each g.met.K.Validate.hands_units_on (g.met.T.KeywordTable.right c.args.table.now) built.program c.in_ok-answer.field-0 c.in_ok-answer.ensures.depth c.in_ok-answer.ensures.units,
+      rw built.program.runs_are at (evaluation_points r table m k.words default_options (view c.args.schema.now) k.shape g.M.Matcher.matching c.in_ok-validator.validator k.is_whole built.means built.points
+          (view c.args.instance.now) k.absorbed each g.met.K.Validate.hands_units_on (g.met.T.KeywordTable.right c.args.table.now) built.program c.in_ok-answer.field-0 c.in_ok-answer.ensures.depth c.in_ok-answer.ensures.units),
     )
+
+pub returns-clause-greatest : goal.returns-clause-greatest
+returns-clause-greatest g c =
+    let h = handed g.S.Resolver g.T.KeywordTable g.K.Validate g.M.Matcher c.args.resolver.now c.args.table.now c.args.matcher.now in
+    let k = g.K.Validate in
+    let keeps : (texts : Bool) → EachKeeps (k.words texts) = λ texts s. (k.absorbed s, keeps_of_turns (k.words texts) s (k.absorbed s) (k.remaining s) (k.can_be texts s) (k.ends texts s) (k.fits texts s) (g.met.K.Validate.turn_laws texts s) (g.met.K.Validate.function_laws texts s)) in
+    let built = c.in_ok-validator.ensures in
+    says_greatest h keeps (g.met.S.Resolver.same c.args.resolver.now) default_options (view c.args.schema.now) c.in_ok-validator.validator built.program built.means (view c.args.instance.now)
+    evaluate (λ texts. verdict_in texts c.in_ok-answer.field-0) c.in_ok-answer.ensures.greatest
 
 pub returns-in_err-validator-clause-refused : goal.returns-in_err-validator-clause-refused
 returns-in_err-validator-clause-refused g c =

@@ -1,9 +1,13 @@
+use Rattle.std.specs.Prelude.{Bool}
 use Rattle.std.proofs.lemmas.Result.{err_from_is_err_and}
 use Rattle.serde_json.specs.View.{view}
 use Rattle.schema_keywords.specs.KeywordTable.{builtin_in}
 use Rattle.schema_definitions.specs.Cover.{is_valid}
+use Rattle.schema_definitions.specs.Laws.{EachKeeps}
 use Rattle.schema_meaning.specs.Headline.{VerdictSays}
-use Rattle.schema_engine.specs.Handed.{default_options, default_runs, table_of}
+use Rattle.schema_meaning.proofs.TurnsGiveRuns.{keeps_of_turns}
+use Rattle.schema_engine.specs.Handed.{default_options, default_runs, handed, table_of}
+use Rattle.schema_engine.proofs.Greatest.{says_greatest}
 use Rattle.schema_engine.proofs.PlainAnswers.{plainly_from}
 use Rattle.schema_engine.proofs.calls.is_valid.Goals as goal
 
@@ -18,6 +22,15 @@ returns-clause-answer g c =
 
 pub returns-clause-guarded : goal.returns-clause-guarded
 returns-clause-guarded g c = (c.in_ok-built.built, c.in_ok-built.ensures.program, rw c.in_ok-built.ensures.program.runs_are at c.in_ok-is_valid.ensures.depth)
+
+pub returns-clause-greatest : goal.returns-clause-greatest
+returns-clause-greatest g c =
+    let h = handed g.S.Resolver g.T.KeywordTable g.K.Validate g.M.Matcher c.args.resolver.now c.args.table.now c.args.matcher.now in
+    let k = g.K.Validate in
+    let keeps : (texts : Bool) → EachKeeps (k.words texts) = λ texts s. (k.absorbed s, keeps_of_turns (k.words texts) s (k.absorbed s) (k.remaining s) (k.can_be texts s) (k.ends texts s) (k.fits texts s) (g.met.K.Validate.turn_laws texts s) (g.met.K.Validate.function_laws texts s)) in
+    let built = c.in_ok-built.ensures in
+    says_greatest h keeps (g.met.S.Resolver.same c.args.resolver.now) default_options (view c.args.schema.now) c.in_ok-built.built built.program built.means (view c.args.instance.now)
+    is_valid (λ texts. c.in_ok-is_valid.field-0) c.in_ok-is_valid.ensures.greatest
 
 pub returns-in_err-built-clause-refused : goal.returns-in_err-built-clause-refused
 returns-in_err-built-clause-refused g c =

@@ -1,8 +1,14 @@
+use Rattle.std.specs.Prelude.{Bool}
 use Rattle.std.proofs.lemmas.Result.{err_from_is_err_and}
 use Rattle.serde_json.specs.View.{view}
+use Rattle.schema_search.specs.SharedResults.{is_empty}
 use Rattle.schema_keywords.specs.KeywordTable.{builtin_in}
+use Rattle.schema_definitions.specs.Cover.{iter_errors}
+use Rattle.schema_definitions.specs.Laws.{EachKeeps}
+use Rattle.schema_meaning.proofs.TurnsGiveRuns.{keeps_of_turns}
 use Rattle.schema_engine.specs.Spoken.{ErrorsAnswered}
-use Rattle.schema_engine.specs.Handed.{default_options, default_runs, table_of}
+use Rattle.schema_engine.specs.Handed.{default_options, default_runs, handed, table_of}
+use Rattle.schema_engine.proofs.Greatest.{says_greatest}
 use Rattle.schema_engine.proofs.Pointing.{each_points}
 use Rattle.schema_engine.proofs.PlainAnswers.{plainly_from}
 use Rattle.schema_engine.proofs.calls.iter_errors.Goals as goal
@@ -28,9 +34,18 @@ returns-clause-leads g c =
     let built = c.in_ok-validator.ensures in (
       c.in_ok-validator.validator,
       built.program,
-      each_points r table m k.words default_options (view c.args.schema.now) k.shape g.M.Matcher.matching c.in_ok-validator.validator k.is_whole built.means built.points
-          (view c.args.instance.now) c.in_ok-answer.field-0 (rw c.in_ok-validator.ensures.program.runs_are at c.in_ok-answer.ensures.points),
+      rw built.program.runs_are at (each_points r table m k.words default_options (view c.args.schema.now) k.shape g.M.Matcher.matching c.in_ok-validator.validator k.is_whole built.means built.points
+          (view c.args.instance.now) c.in_ok-answer.field-0 c.in_ok-answer.ensures.points),
     )
+
+pub returns-clause-greatest : goal.returns-clause-greatest
+returns-clause-greatest g c =
+    let h = handed g.S.Resolver g.T.KeywordTable g.K.Validate g.M.Matcher c.args.resolver.now c.args.table.now c.args.matcher.now in
+    let k = g.K.Validate in
+    let keeps : (texts : Bool) → EachKeeps (k.words texts) = λ texts s. (k.absorbed s, keeps_of_turns (k.words texts) s (k.absorbed s) (k.remaining s) (k.can_be texts s) (k.ends texts s) (k.fits texts s) (g.met.K.Validate.turn_laws texts s) (g.met.K.Validate.function_laws texts s)) in
+    let built = c.in_ok-validator.ensures in
+    says_greatest h keeps (g.met.S.Resolver.same c.args.resolver.now) default_options (view c.args.schema.now) c.in_ok-validator.validator built.program built.means (view c.args.instance.now)
+    iter_errors (λ texts. is_empty c.in_ok-answer.field-0) c.in_ok-answer.ensures.greatest
 
 pub returns-in_err-validator-clause-refused : goal.returns-in_err-validator-clause-refused
 returns-in_err-validator-clause-refused g c =

@@ -7,7 +7,7 @@ use Rattle.schema_engine.proofs.laws.builds_agree.Goals as goal
 
 pub returns : goal.returns
 returns c s = record {
-  memory = λ resolver table matcher options schema refuses e builds passes refused.
+  memory = λ resolver table matcher options schema runs runs' nested nested' refuses e builds passes refused.
       let h = handed_to_both c.S.Resolver c.T.KeywordTable c.K.Validate c.M.Matcher resolver table matcher in
       let w = parts_of h.resolver h.table h.matcher (h.words true) options in
       elim refused [

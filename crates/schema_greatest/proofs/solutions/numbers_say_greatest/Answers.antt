@@ -7,4 +7,5 @@ returns g c = record {
   stands = λ w keys nodes. lemmas.largest_stands w keys nodes;
   alike = λ w keys nodes. lemmas.keys_accept_alike w keys nodes;
   accept = λ w keys nodes. lemmas.numbers_accept_greatest w keys nodes;
+  plain = λ w keys nodes. lemmas.plain_is_greatest w keys nodes;
 }

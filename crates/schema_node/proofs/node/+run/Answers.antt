@@ -149,7 +149,7 @@ pub run::run_edge-returns-then-branch-clause-says : goal.run::run_edge-returns-t
 run::run_edge-returns-then-branch-clause-says g t c =
     let p = steps_to c.args.question.now.place.now in
     let e = edge_of c.args.edge.now in
-    let old = entered_old e.node p c.args.context.now.in_progress c.in_ok-enter.field-0 c.enter.new.self.in_progress (rw c.in_ok-here.ensures.same at c.in_ok-enter.ensures.enters) c.if-branch.true in
+    let old = entered_old e.node p c.args.context.now.in_progress c.in_ok-enter_shared.field-0 c.enter_shared.new.self.in_progress (rw c.in_ok-shared.ensures.same at c.in_ok-enter_shared.ensures.enters) c.if-branch.true in
     edge_busy g.K.Validate.words g.K.Validate.is_whole (numbered g.K.Validate.shape c.args.engine.now.nodes.now) (length c.args.engine.now.nodes.now) (settling (g.M.Matcher.matching c.args.engine.now.matcher.now) c.args.context.now.remembered.assumptions) (subject_of c.args.question.now.instance) (busy_at p c.args.context.now.in_progress) e (mode_of c.args.question.now.mode) (path_of c.args.question.now.path.now) p c.accepted.result
     c.if-not-edge.false old.0 c.accepted.ensures.accepts c.accepted.ensures.no_errors
 
@@ -159,18 +159,18 @@ run::run_edge-run_node-requires-2 g t c =
     let p = steps_to c.args.question.now.place.now in
     let e = edge_of c.args.edge.now in
     let s = subject_of c.args.question.now.instance in
-    let entered = entered_new e.node p c.args.context.now.in_progress c.in_ok-enter.field-0 c.enter.new.self.in_progress (rw c.in_ok-here.ensures.same at c.in_ok-enter.ensures.enters) c.if-branch.false in
+    let entered = entered_new e.node p c.args.context.now.in_progress c.in_ok-enter_shared.field-0 c.enter_shared.new.self.in_progress (rw c.in_ok-shared.ensures.same at c.in_ok-enter_shared.ensures.enters) c.if-branch.false in
     let pairs = ap (λ (z : Context). z.in_progress) c.begin_visit-mark.ensures.counted in
     let new : c.begin_visit-mark.new.context.in_progress ≡ c.args.context.now.in_progress ++ (e.node, p) ∷ [] = pairs ∙ entered.1 in
     let busy : busy_at p c.begin_visit-mark.new.context.in_progress ≡ e.node ∷ busy_at p c.args.context.now.in_progress = ap (busy_at p) new ∙ busy-pushed p e.node c.args.context.now.in_progress in
     let needs = needs_of_entered g.K.Validate.words g.K.Validate.is_whole ns (length c.args.engine.now.nodes.now) (settling (g.M.Matcher.matching c.args.engine.now.matcher.now) c.args.context.now.remembered.assumptions) s (busy_at p c.args.context.now.in_progress) e c.if-not-edge.false entered.0 in
-    let there : steps_to c.given-place.result ≡ p = c.given-place.ensures.same ∙ c.in_ok-here.ensures.same in
+    let there : steps_to c.given-place.result ≡ p = c.given-place.ensures.same ∙ c.as_place-here.ensures.same ∙ c.in_ok-shared.ensures.same in
     let l = ap (λ q. left ns (length c.args.engine.now.nodes.now) e.node s (busy_at q c.begin_visit-mark.new.context.in_progress)) there ∙ ap (left ns (length c.args.engine.now.nodes.now) e.node s) busy in
     let deeper = subst (λ q. NoDeeper q c.begin_visit-mark.new.context.in_progress) (sym there) (subst (NoDeeper p) (sym new) (deeper-pushed p e.node c.args.context.now.in_progress c.requires.may.above)) in
     let (layout, laid, right) = c.requires.may.goes_on in
     let set = setting g.K.Validate.words g.K.Validate.is_whole g.K.Validate.shape g.M.Matcher.matching c.args.engine.now in
-    let met = ap (λ (z : Context). z.remembered) c.begin_visit-mark.ensures.counted ∙ c.enter.ensures.remembered in
-    let read = ap (λ (z : Context). z.verdicts) c.begin_visit-mark.ensures.counted ∙ c.enter.ensures.verdicts in
+    let met = ap (λ (z : Context). z.remembered) c.begin_visit-mark.ensures.counted ∙ c.enter_shared.ensures.remembered in
+    let read = ap (λ (z : Context). z.verdicts) c.begin_visit-mark.ensures.counted ∙ c.enter_shared.ensures.verdicts in
     let laid' = subst (λ q. LaysOut layout q s) (sym there) laid in
     let right' = right_same set layout c.args.context.now c.begin_visit-mark.new.context met read right in
     λ κs h. (lower_entered _ _ _ t l needs c.decreases, (h.0, (h.1.0, (h.1.1.0, (h.1.1.1, record { known = c.requires.may.known; ranked = c.requires.may.ranked; above = deeper; wanted = c.requires.may.wanted; goes_on = (layout, laid', right') })))))
@@ -404,8 +404,8 @@ run::run_edge-returns-then-branch-clause-meets g t c =
     let s = subject_of c.args.question.now.instance in
     let busy = busy_at p c.args.context.now.in_progress in
     let e = edge_of c.args.edge.now in
-    let old = entered_old e.node p c.args.context.now.in_progress c.in_ok-enter.field-0 c.enter.new.self.in_progress (rw c.in_ok-here.ensures.same at c.in_ok-enter.ensures.enters) c.if-branch.true in
-    meets_busy g.K.Validate.words g.K.Validate.is_whole ns (length c.args.engine.now.nodes.now) w s busy e (mode_of c.args.question.now.mode) (path_of c.args.question.now.path.now) p _ _ c.if-not-edge.false old.0 (sym c.enter.ensures.remembered)
+    let old = entered_old e.node p c.args.context.now.in_progress c.in_ok-enter_shared.field-0 c.enter_shared.new.self.in_progress (rw c.in_ok-shared.ensures.same at c.in_ok-enter_shared.ensures.enters) c.if-branch.true in
+    meets_busy g.K.Validate.words g.K.Validate.is_whole ns (length c.args.engine.now.nodes.now) w s busy e (mode_of c.args.question.now.mode) (path_of c.args.question.now.path.now) p _ _ c.if-not-edge.false old.0 (sym c.enter_shared.ensures.remembered)
 
 pub run::run_entries-returns-then-is_settled-clause-meets : goal.run::run_entries-returns-then-is_settled-clause-meets
 run::run_entries-returns-then-is_settled-clause-meets g t c = λ texts root depth reads l.
@@ -539,7 +539,7 @@ pub run::run_edge-returns-then-branch-clause-remembers : goal.run::run_edge-retu
 run::run_edge-returns-then-branch-clause-remembers g t c = λ mode guarded free.
     let p = steps_to c.args.question.now.place.now in
     let e = edge_of c.args.edge.now in
-    let old = entered_old e.node p c.args.context.now.in_progress c.in_ok-enter.field-0 c.enter.new.self.in_progress (rw c.in_ok-here.ensures.same at c.in_ok-enter.ensures.enters) c.if-branch.true in
+    let old = entered_old e.node p c.args.context.now.in_progress c.in_ok-enter_shared.field-0 c.enter_shared.new.self.in_progress (rw c.in_ok-shared.ensures.same at c.in_ok-enter_shared.ensures.enters) c.if-branch.true in
     absurd (true≢false (sym old.0 ∙ free))
 
 pub run::run_edge-returns-in-Some-clause-says : goal.run::run_edge-returns-in-Some-clause-says
@@ -548,9 +548,9 @@ run::run_edge-returns-in-Some-clause-says g t c =
     let q = asking c.args.question.now in
     let p = steps_to c.args.question.now.place.now in
     let e = edge_of c.args.edge.now in
-    let entered = entered_new e.node p c.args.context.now.in_progress c.in_ok-enter.field-0 c.enter.new.self.in_progress (rw c.in_ok-here.ensures.same at c.in_ok-enter.ensures.enters) c.if-branch.false in
-    let found = sym (rw c.in_ok-here.ensures.same at c.in-Some.ensures.read) in
-    read_says set q e c.args.context.now c.if-not-edge.false entered.0 c.enter.new.self c.exit.new.self c.in-Some.valid (told.Truth c.in-Some.valid) entered.1 c.enter.ensures.verdicts found (λ texts. refl) c.requires.may.goes_on refl
+    let entered = entered_new e.node p c.args.context.now.in_progress c.in_ok-enter_shared.field-0 c.enter_shared.new.self.in_progress (rw c.in_ok-shared.ensures.same at c.in_ok-enter_shared.ensures.enters) c.if-branch.false in
+    let found = sym (rw (c.as_place-here.ensures.same ∙ c.in_ok-shared.ensures.same) at c.in-Some.ensures.read) in
+    read_says set q e c.args.context.now c.if-not-edge.false entered.0 c.enter_shared.new.self c.exit.new.self c.in-Some.valid (told.Truth c.in-Some.valid) entered.1 c.enter_shared.ensures.verdicts found (λ texts. refl) c.requires.may.goes_on refl
 
 pub run::run_edge-returns-in-Some-clause-meets : goal.run::run_edge-returns-in-Some-clause-meets
 run::run_edge-returns-in-Some-clause-meets g t c =
@@ -558,9 +558,9 @@ run::run_edge-returns-in-Some-clause-meets g t c =
     let q = asking c.args.question.now in
     let p = steps_to c.args.question.now.place.now in
     let e = edge_of c.args.edge.now in
-    let entered = entered_new e.node p c.args.context.now.in_progress c.in_ok-enter.field-0 c.enter.new.self.in_progress (rw c.in_ok-here.ensures.same at c.in_ok-enter.ensures.enters) c.if-branch.false in
-    let found = sym (rw c.in_ok-here.ensures.same at c.in-Some.ensures.read) in
-    read_meets_edge set q e c.args.context.now c.if-not-edge.false entered.0 c.enter.new.self c.exit.new.self c.in-Some.valid (told.Truth c.in-Some.valid) entered.1 c.enter.ensures.verdicts found (λ texts. refl) c.requires.may.goes_on (c.exit.ensures.remembered ∙ c.enter.ensures.remembered)
+    let entered = entered_new e.node p c.args.context.now.in_progress c.in_ok-enter_shared.field-0 c.enter_shared.new.self.in_progress (rw c.in_ok-shared.ensures.same at c.in_ok-enter_shared.ensures.enters) c.if-branch.false in
+    let found = sym (rw (c.as_place-here.ensures.same ∙ c.in_ok-shared.ensures.same) at c.in-Some.ensures.read) in
+    read_meets_edge set q e c.args.context.now c.if-not-edge.false entered.0 c.enter_shared.new.self c.exit.new.self c.in-Some.valid (told.Truth c.in-Some.valid) entered.1 c.enter_shared.ensures.verdicts found (λ texts. refl) c.requires.may.goes_on (c.exit.ensures.remembered ∙ c.enter_shared.ensures.remembered)
 
 pub run::run_edge-returns-clause-says : goal.run::run_edge-returns-clause-says
 run::run_edge-returns-clause-says g t c =
@@ -568,18 +568,18 @@ run::run_edge-returns-clause-says g t c =
     let q = asking c.args.question.now in
     let p = steps_to c.args.question.now.place.now in
     let e = edge_of c.args.edge.now in
-    let entered = entered_new e.node p c.args.context.now.in_progress c.in_ok-enter.field-0 c.enter.new.self.in_progress (rw c.in_ok-here.ensures.same at c.in_ok-enter.ensures.enters) c.if-branch.false in
+    let entered = entered_new e.node p c.args.context.now.in_progress c.in_ok-enter_shared.field-0 c.enter_shared.new.self.in_progress (rw c.in_ok-shared.ensures.same at c.in_ok-enter_shared.ensures.enters) c.if-branch.false in
     let c2 = c.begin_visit-mark.new.context in
     let c3 = c.run_node-2.new.context in
     let pairs : c2.in_progress ≡ c.args.context.now.in_progress ++ (e.node, p) ∷ [] = ap (λ (z : Context). z.in_progress) c.begin_visit-mark.ensures.counted ∙ entered.1 in
-    let met : c2.remembered ≡ c.args.context.now.remembered = ap (λ (z : Context). z.remembered) c.begin_visit-mark.ensures.counted ∙ c.enter.ensures.remembered in
-    let there : steps_to c.given-place.result ≡ p = c.given-place.ensures.same ∙ c.in_ok-here.ensures.same in
+    let met : c2.remembered ≡ c.args.context.now.remembered = ap (λ (z : Context). z.remembered) c.begin_visit-mark.ensures.counted ∙ c.enter_shared.ensures.remembered in
+    let there : steps_to c.given-place.result ≡ p = c.given-place.ensures.same ∙ c.as_place-here.ensures.same ∙ c.in_ok-shared.ensures.same in
     let at_asked : (record { subject = q.subject; place = steps_to c.given-place.result; path = path_of c.across-whole.result; mode = q.mode }) ≡ asked_across set q e c.args.context.now c.if-not-edge.false entered.0
     = λ i. record { subject = q.subject; place = there i; path = c.across-whole.ensures.appended i; mode = q.mode } in
     let says = subst (λ z. NodeSays set z c2 e.node c.in_ok-computed.computed) at_asked c.in_ok-computed.ensures.says in
     let meets = subst (λ z. MeetsNode set z c2 c3 e.node) at_asked c.in_ok-computed.ensures.meets in
     let keeps = c.in_ok-computed.ensures.keeps in
-    computed_says set q e c.args.context.now c.if-not-edge.false entered.0 c.enter.new.self c2 c3 c.kept_reply.new.context c.exit-2.new.self c.begin_visit-mark.result c.in_ok-computed.computed c.in_ok-reply.reply pairs met says meets keeps c.in_ok-reply.ensures.same
+    computed_says set q e c.args.context.now c.if-not-edge.false entered.0 c.enter_shared.new.self c2 c3 c.kept_reply.new.context c.exit-2.new.self c.begin_visit-mark.result c.in_ok-computed.computed c.in_ok-reply.reply pairs met says meets keeps c.in_ok-reply.ensures.same
 
 pub run::run_edge-returns-clause-meets : goal.run::run_edge-returns-clause-meets
 run::run_edge-returns-clause-meets g t c =
@@ -587,19 +587,19 @@ run::run_edge-returns-clause-meets g t c =
     let q = asking c.args.question.now in
     let p = steps_to c.args.question.now.place.now in
     let e = edge_of c.args.edge.now in
-    let entered = entered_new e.node p c.args.context.now.in_progress c.in_ok-enter.field-0 c.enter.new.self.in_progress (rw c.in_ok-here.ensures.same at c.in_ok-enter.ensures.enters) c.if-branch.false in
+    let entered = entered_new e.node p c.args.context.now.in_progress c.in_ok-enter_shared.field-0 c.enter_shared.new.self.in_progress (rw c.in_ok-shared.ensures.same at c.in_ok-enter_shared.ensures.enters) c.if-branch.false in
     let c2 = c.begin_visit-mark.new.context in
     let c3 = c.run_node-2.new.context in
     let pairs : c2.in_progress ≡ c.args.context.now.in_progress ++ (e.node, p) ∷ [] = ap (λ (z : Context). z.in_progress) c.begin_visit-mark.ensures.counted ∙ entered.1 in
-    let met : c2.remembered ≡ c.args.context.now.remembered = ap (λ (z : Context). z.remembered) c.begin_visit-mark.ensures.counted ∙ c.enter.ensures.remembered in
-    let there : steps_to c.given-place.result ≡ p = c.given-place.ensures.same ∙ c.in_ok-here.ensures.same in
+    let met : c2.remembered ≡ c.args.context.now.remembered = ap (λ (z : Context). z.remembered) c.begin_visit-mark.ensures.counted ∙ c.enter_shared.ensures.remembered in
+    let there : steps_to c.given-place.result ≡ p = c.given-place.ensures.same ∙ c.as_place-here.ensures.same ∙ c.in_ok-shared.ensures.same in
     let at_asked : (record { subject = q.subject; place = steps_to c.given-place.result; path = path_of c.across-whole.result; mode = q.mode }) ≡ asked_across set q e c.args.context.now c.if-not-edge.false entered.0
     = λ i. record { subject = q.subject; place = there i; path = c.across-whole.ensures.appended i; mode = q.mode } in
     let says = subst (λ z. NodeSays set z c2 e.node c.in_ok-computed.computed) at_asked c.in_ok-computed.ensures.says in
     let meets = subst (λ z. MeetsNode set z c2 c3 e.node) at_asked c.in_ok-computed.ensures.meets in
     let keeps = c.in_ok-computed.ensures.keeps in
     let met5 = c.exit-2.ensures.remembered ∙ ap (λ (z : Context). z.remembered) c.kept_reply.ensures.frame in
-    computed_meets set q e c.args.context.now c.if-not-edge.false entered.0 c.enter.new.self c2 c3 c.kept_reply.new.context c.exit-2.new.self c.begin_visit-mark.result c.in_ok-computed.computed c.in_ok-reply.reply pairs met says meets keeps c.in_ok-reply.ensures.same met5
+    computed_meets set q e c.args.context.now c.if-not-edge.false entered.0 c.enter_shared.new.self c2 c3 c.kept_reply.new.context c.exit-2.new.self c.begin_visit-mark.result c.in_ok-computed.computed c.in_ok-reply.reply pairs met says meets keeps c.in_ok-reply.ensures.same met5
 
 pub run::run_edge-returns-clause-stays : goal.run::run_edge-returns-clause-stays
 run::run_edge-returns-clause-stays g t c =
@@ -607,22 +607,22 @@ run::run_edge-returns-clause-stays g t c =
     let q = asking c.args.question.now in
     let p = steps_to c.args.question.now.place.now in
     let e = edge_of c.args.edge.now in
-    let entered = entered_new e.node p c.args.context.now.in_progress c.in_ok-enter.field-0 c.enter.new.self.in_progress (rw c.in_ok-here.ensures.same at c.in_ok-enter.ensures.enters) c.if-branch.false in
+    let entered = entered_new e.node p c.args.context.now.in_progress c.in_ok-enter_shared.field-0 c.enter_shared.new.self.in_progress (rw c.in_ok-shared.ensures.same at c.in_ok-enter_shared.ensures.enters) c.if-branch.false in
     let c2 = c.begin_visit-mark.new.context in
     let c3 = c.run_node-2.new.context in
     let pairs : c2.in_progress ≡ c.args.context.now.in_progress ++ (e.node, p) ∷ [] = ap (λ (z : Context). z.in_progress) c.begin_visit-mark.ensures.counted ∙ entered.1 in
-    let met : c2.remembered ≡ c.args.context.now.remembered = ap (λ (z : Context). z.remembered) c.begin_visit-mark.ensures.counted ∙ c.enter.ensures.remembered in
-    let there : steps_to c.given-place.result ≡ p = c.given-place.ensures.same ∙ c.in_ok-here.ensures.same in
+    let met : c2.remembered ≡ c.args.context.now.remembered = ap (λ (z : Context). z.remembered) c.begin_visit-mark.ensures.counted ∙ c.enter_shared.ensures.remembered in
+    let there : steps_to c.given-place.result ≡ p = c.given-place.ensures.same ∙ c.as_place-here.ensures.same ∙ c.in_ok-shared.ensures.same in
     let at_asked : (record { subject = q.subject; place = steps_to c.given-place.result; path = path_of c.across-whole.result; mode = q.mode }) ≡ asked_across set q e c.args.context.now c.if-not-edge.false entered.0
     = λ i. record { subject = q.subject; place = there i; path = c.across-whole.ensures.appended i; mode = q.mode } in
     let says = subst (λ z. NodeSays set z c2 e.node c.in_ok-computed.computed) at_asked c.in_ok-computed.ensures.says in
     let meets = subst (λ z. MeetsNode set z c2 c3 e.node) at_asked c.in_ok-computed.ensures.meets in
     let keeps = c.in_ok-computed.ensures.keeps in
-    let read = ap (λ (z : Context). z.verdicts) c.begin_visit-mark.ensures.counted ∙ c.enter.ensures.verdicts in
+    let read = ap (λ (z : Context). z.verdicts) c.begin_visit-mark.ensures.counted ∙ c.enter_shared.ensures.verdicts in
     let stays = subst (λ z. StaysRight set z c2 c3) at_asked c.in_ok-computed.ensures.stays in
-    let kept = rw c.in_ok-here.ensures.same at c.in_ok-reply.ensures.kept in
-    let few = rw c.in_ok-here.ensures.same at c.in_ok-reply.ensures.few in
-    computed_stays set q e c.args.context.now c.if-not-edge.false entered.0 c.enter.new.self c2 c3 c.kept_reply.new.context c.exit-2.new.self c.begin_visit-mark.result c.in_ok-computed.computed c.in_ok-reply.reply pairs met says meets keeps c.in_ok-reply.ensures.same
+    let kept = rw (c.as_place-here.ensures.same ∙ c.in_ok-shared.ensures.same) at c.in_ok-reply.ensures.kept in
+    let few = rw (c.as_place-here.ensures.same ∙ c.in_ok-shared.ensures.same) at c.in_ok-reply.ensures.few in
+    computed_stays set q e c.args.context.now c.if-not-edge.false entered.0 c.enter_shared.new.self c2 c3 c.kept_reply.new.context c.exit-2.new.self c.begin_visit-mark.result c.in_ok-computed.computed c.in_ok-reply.reply pairs met says meets keeps c.in_ok-reply.ensures.same
     g.met.K.Validate.asks_verdicts kept read stays few c.kept_reply.ensures.other_modes (ap (λ (z : Context). z.remembered) c.kept_reply.ensures.frame) c.exit-2.ensures.remembered c.exit-2.ensures.verdicts
 
 pub run::run_edge-returns-clause-remembers : goal.run::run_edge-returns-clause-remembers
@@ -631,31 +631,31 @@ run::run_edge-returns-clause-remembers g t c =
     let q = asking c.args.question.now in
     let p = steps_to c.args.question.now.place.now in
     let e = edge_of c.args.edge.now in
-    let entered = entered_new e.node p c.args.context.now.in_progress c.in_ok-enter.field-0 c.enter.new.self.in_progress (rw c.in_ok-here.ensures.same at c.in_ok-enter.ensures.enters) c.if-branch.false in
+    let entered = entered_new e.node p c.args.context.now.in_progress c.in_ok-enter_shared.field-0 c.enter_shared.new.self.in_progress (rw c.in_ok-shared.ensures.same at c.in_ok-enter_shared.ensures.enters) c.if-branch.false in
     let c2 = c.begin_visit-mark.new.context in
     let c3 = c.run_node-2.new.context in
     let pairs : c2.in_progress ≡ c.args.context.now.in_progress ++ (e.node, p) ∷ [] = ap (λ (z : Context). z.in_progress) c.begin_visit-mark.ensures.counted ∙ entered.1 in
-    let met : c2.remembered ≡ c.args.context.now.remembered = ap (λ (z : Context). z.remembered) c.begin_visit-mark.ensures.counted ∙ c.enter.ensures.remembered in
-    let there : steps_to c.given-place.result ≡ p = c.given-place.ensures.same ∙ c.in_ok-here.ensures.same in
+    let met : c2.remembered ≡ c.args.context.now.remembered = ap (λ (z : Context). z.remembered) c.begin_visit-mark.ensures.counted ∙ c.enter_shared.ensures.remembered in
+    let there : steps_to c.given-place.result ≡ p = c.given-place.ensures.same ∙ c.as_place-here.ensures.same ∙ c.in_ok-shared.ensures.same in
     let at_asked : (record { subject = q.subject; place = steps_to c.given-place.result; path = path_of c.across-whole.result; mode = q.mode }) ≡ asked_across set q e c.args.context.now c.if-not-edge.false entered.0
     = λ i. record { subject = q.subject; place = there i; path = c.across-whole.ensures.appended i; mode = q.mode } in
     let says = subst (λ z. NodeSays set z c2 e.node c.in_ok-computed.computed) at_asked c.in_ok-computed.ensures.says in
     let meets = subst (λ z. MeetsNode set z c2 c3 e.node) at_asked c.in_ok-computed.ensures.meets in
     let keeps = c.in_ok-computed.ensures.keeps in
-    let kept = rw c.in_ok-here.ensures.same at c.in_ok-reply.ensures.kept in
-    let none = sym (rw c.in_ok-here.ensures.same at c.in_default.ensures.read) in
+    let kept = rw (c.as_place-here.ensures.same ∙ c.in_ok-shared.ensures.same) at c.in_ok-reply.ensures.kept in
+    let none = sym (rw (c.as_place-here.ensures.same ∙ c.in_ok-shared.ensures.same) at c.in_default.ensures.read) in
     let left = ap (λ (z : Context). z.in_progress) c.kept_reply.ensures.frame ∙ keeps.in_progress in
-    let back = pairs_back set q e c.args.context.now c.if-not-edge.false entered.0 c2 c.exit-2.new.self pairs (sym left ∙ rw c.in_ok-here.ensures.same at c.exit-2.ensures.left) in
+    let back = pairs_back set q e c.args.context.now c.if-not-edge.false entered.0 c2 c.exit-2.new.self pairs (sym left ∙ rw (c.as_place-here.ensures.same ∙ c.in_ok-shared.ensures.same) at c.exit-2.ensures.left) in
     let visits = c.exit-2.ensures.visits ∙ ap (λ (z : Context). z.visits) c.kept_reply.ensures.frame in
-    let counted = ap (λ (z : Context). z.visits) c.begin_visit-mark.ensures.counted ∙ ap (visited_in_mode q.mode) c.enter.ensures.visits in
+    let counted = ap (λ (z : Context). z.visits) c.begin_visit-mark.ensures.counted ∙ ap (visited_in_mode q.mode) c.enter_shared.ensures.visits in
     let more = subst (λ z. z ≤ c3.visits) counted c.in_ok-computed.ensures.counts in
-    computed_remembers set q e c.args.context.now c.if-not-edge.false entered.0 c.enter.new.self c2 c3 c.kept_reply.new.context c.exit-2.new.self c.begin_visit-mark.result c.in_ok-computed.computed c.in_ok-reply.reply pairs met says meets keeps c.in_ok-reply.ensures.same
-    g.met.K.Validate.asks_verdicts kept entered.1 c.enter.ensures.verdicts none (c.begin_visit-mark.ensures.mark ∙ c.enter.ensures.visits) back visits more c.exit-2.ensures.verdicts
+    computed_remembers set q e c.args.context.now c.if-not-edge.false entered.0 c.enter_shared.new.self c2 c3 c.kept_reply.new.context c.exit-2.new.self c.begin_visit-mark.result c.in_ok-computed.computed c.in_ok-reply.reply pairs met says meets keeps c.in_ok-reply.ensures.same
+    g.met.K.Validate.asks_verdicts kept entered.1 c.enter_shared.ensures.verdicts none (c.begin_visit-mark.ensures.mark ∙ c.enter_shared.ensures.visits) back visits more c.exit-2.ensures.verdicts
 
 pub run::run_edge-returns-clause-counts : goal.run::run_edge-returns-clause-counts
 run::run_edge-returns-clause-counts g t c =
     let visits = c.exit-2.ensures.visits ∙ ap (λ (z : Context). z.visits) c.kept_reply.ensures.frame in
-    let before = subst (λ z. z ≤ c.begin_visit-mark.new.context.visits) c.enter.ensures.visits c.begin_visit-mark.ensures.more in
+    let before = subst (λ z. z ≤ c.begin_visit-mark.new.context.visits) c.enter_shared.ensures.visits c.begin_visit-mark.ensures.more in
     let after = subst (λ z. c.begin_visit-mark.new.context.visits ≤ z) (sym visits) c.in_ok-computed.ensures.counts in
     no_fewer c.args.context.now.visits c.begin_visit-mark.new.context.visits c.exit-2.new.self.visits before after
 
@@ -665,13 +665,13 @@ run::run_edge-returns-in-Some-clause-remembers g t c =
     let q = asking c.args.question.now in
     let p = steps_to c.args.question.now.place.now in
     let e = edge_of c.args.edge.now in
-    let c1 = c.enter.new.self in
+    let c1 = c.enter_shared.new.self in
     let c5 = c.exit.new.self in
-    let entered = entered_new e.node p c.args.context.now.in_progress c.in_ok-enter.field-0 c1.in_progress (rw c.in_ok-here.ensures.same at c.in_ok-enter.ensures.enters) c.if-branch.false in
-    let found = sym (rw c.in_ok-here.ensures.same at c.in-Some.ensures.read) in
-    let back = pairs_back set q e c.args.context.now c.if-not-edge.false entered.0 c1 c5 entered.1 (rw c.in_ok-here.ensures.same at c.exit.ensures.left) in
-    let same = same_context c.args.context.now c5 back (c.exit.ensures.remembered ∙ c.enter.ensures.remembered) (c.exit.ensures.marking ∙ c.enter.ensures.marking) (c.exit.ensures.verdicts ∙ c.enter.ensures.verdicts) (c.exit.ensures.visits ∙ c.enter.ensures.visits) in
-    read_remembers set q e c.args.context.now c.if-not-edge.false entered.0 c1 c5 c.in-Some.valid (told.Truth c.in-Some.valid) entered.1 c.enter.ensures.verdicts found (λ texts. refl) same
+    let entered = entered_new e.node p c.args.context.now.in_progress c.in_ok-enter_shared.field-0 c1.in_progress (rw c.in_ok-shared.ensures.same at c.in_ok-enter_shared.ensures.enters) c.if-branch.false in
+    let found = sym (rw (c.as_place-here.ensures.same ∙ c.in_ok-shared.ensures.same) at c.in-Some.ensures.read) in
+    let back = pairs_back set q e c.args.context.now c.if-not-edge.false entered.0 c1 c5 entered.1 (rw (c.as_place-here.ensures.same ∙ c.in_ok-shared.ensures.same) at c.exit.ensures.left) in
+    let same = same_context c.args.context.now c5 back (c.exit.ensures.remembered ∙ c.enter_shared.ensures.remembered) (c.exit.ensures.marking ∙ c.enter_shared.ensures.marking) (c.exit.ensures.verdicts ∙ c.enter_shared.ensures.verdicts) (c.exit.ensures.visits ∙ c.enter_shared.ensures.visits) in
+    read_remembers set q e c.args.context.now c.if-not-edge.false entered.0 c1 c5 c.in-Some.valid (told.Truth c.in-Some.valid) entered.1 c.enter_shared.ensures.verdicts found (λ texts. refl) same
 
 pub run::run_entries-returns-then-is_settled-clause-counts : goal.run::run_entries-returns-then-is_settled-clause-counts
 run::run_entries-returns-then-is_settled-clause-counts g t c = no_fewer c.args.context.now.visits c.loop-entry.context.visits c.run_entry.new.context.visits c.loop-entry.invariant.counted c.in_ok-more.ensures.counts
@@ -1177,8 +1177,8 @@ evaluate::evaluate_edge-returns-then-branch-clause-gives g t c =
     let p = steps_to c.args.question.now.place.now in
     let s = subject_of c.args.question.now.instance in
     let e = edge_of c.args.edge.now in
-    let old = entered_old e.node p c.args.context.now.in_progress c.in_ok-enter.field-0 c.enter.new.self.in_progress (rw c.in_ok-here.ensures.same at c.in_ok-enter.ensures.enters) c.if-branch.true in
-    let there : steps_to c.given-place.result ≡ p = c.given-place.ensures.same ∙ c.in_ok-here.ensures.same in
+    let old = entered_old e.node p c.args.context.now.in_progress c.in_ok-enter_shared.field-0 c.enter_shared.new.self.in_progress (rw c.in_ok-shared.ensures.same at c.in_ok-enter_shared.ensures.enters) c.if-branch.true in
+    let there : steps_to c.given-place.result ≡ p = c.given-place.ensures.same ∙ c.as_place-here.ensures.same ∙ c.in_ok-shared.ensures.same in
     let n = node_of c.node.result.now in
     let at_node = where_is g.K.Validate.shape c.args.engine.now.nodes.now (g.K.Validate.words false) (g.M.Matcher.matching c.args.engine.now.matcher.now) (λ place. s) e.node n (path_of c.args.question.now.path.now ++ e.path) p c.node.ensures.found in
     if_ok_mono c.accepting_unit.result _ _ (λ u is. gives_busy set q c.args.context.now e u c.if-not-edge.false old.0 (λ texts. is texts
@@ -1194,8 +1194,8 @@ evaluate::evaluate_edge-returns-then-branch-clause-meets g t c =
     let s = subject_of c.args.question.now.instance in
     let busy = busy_at p c.args.context.now.in_progress in
     let e = edge_of c.args.edge.now in
-    let old = entered_old e.node p c.args.context.now.in_progress c.in_ok-enter.field-0 c.enter.new.self.in_progress (rw c.in_ok-here.ensures.same at c.in_ok-enter.ensures.enters) c.if-branch.true in
-    if_ok_always c.accepting_unit.result _ (meets_busy g.K.Validate.words g.K.Validate.is_whole ns (length c.args.engine.now.nodes.now) w s busy e (mode_of c.args.question.now.mode) (path_of c.args.question.now.path.now) p _ _ c.if-not-edge.false old.0 (sym c.enter.ensures.remembered))
+    let old = entered_old e.node p c.args.context.now.in_progress c.in_ok-enter_shared.field-0 c.enter_shared.new.self.in_progress (rw c.in_ok-shared.ensures.same at c.in_ok-enter_shared.ensures.enters) c.if-branch.true in
+    if_ok_always c.accepting_unit.result _ (meets_busy g.K.Validate.words g.K.Validate.is_whole ns (length c.args.engine.now.nodes.now) w s busy e (mode_of c.args.question.now.mode) (path_of c.args.question.now.path.now) p _ _ c.if-not-edge.false old.0 (sym c.enter_shared.ensures.remembered))
 
 pub evaluate::evaluate_edge-evaluate_node-requires-2 : goal.evaluate::evaluate_edge-evaluate_node-requires-2
 evaluate::evaluate_edge-evaluate_node-requires-2 g t c =
@@ -1205,15 +1205,15 @@ evaluate::evaluate_edge-evaluate_node-requires-2 g t c =
     let p = steps_to c.args.question.now.place.now in
     let s = subject_of c.args.question.now.instance in
     let e = edge_of c.args.edge.now in
-    let entered = entered_new e.node p c.args.context.now.in_progress c.in_ok-enter.field-0 c.enter.new.self.in_progress (rw c.in_ok-here.ensures.same at c.in_ok-enter.ensures.enters) c.if-branch.false in
-    let pushed : busy_at p c.enter.new.self.in_progress ≡ e.node ∷ busy_at p c.args.context.now.in_progress = ap (busy_at p) entered.1 ∙ busy-pushed p e.node c.args.context.now.in_progress in
-    let there : steps_to c.given-place.result ≡ p = c.given-place.ensures.same ∙ c.in_ok-here.ensures.same in
+    let entered = entered_new e.node p c.args.context.now.in_progress c.in_ok-enter_shared.field-0 c.enter_shared.new.self.in_progress (rw c.in_ok-shared.ensures.same at c.in_ok-enter_shared.ensures.enters) c.if-branch.false in
+    let pushed : busy_at p c.enter_shared.new.self.in_progress ≡ e.node ∷ busy_at p c.args.context.now.in_progress = ap (busy_at p) entered.1 ∙ busy-pushed p e.node c.args.context.now.in_progress in
+    let there : steps_to c.given-place.result ≡ p = c.given-place.ensures.same ∙ c.as_place-here.ensures.same ∙ c.in_ok-shared.ensures.same in
     let needs = needs_of_entered g.K.Validate.words g.K.Validate.is_whole ns (length c.args.engine.now.nodes.now) w s (busy_at p c.args.context.now.in_progress) e c.if-not-edge.false entered.0 in
-    let l = ap (λ q. left ns (length c.args.engine.now.nodes.now) e.node s (busy_at q c.enter.new.self.in_progress)) there ∙ ap (left ns (length c.args.engine.now.nodes.now) e.node s) pushed in
-    let deeper = subst (λ q. NoDeeper q c.enter.new.self.in_progress) (sym there) (subst (NoDeeper p) (sym entered.1) (deeper-pushed p e.node c.args.context.now.in_progress c.requires.may.above)) in
+    let l = ap (λ q. left ns (length c.args.engine.now.nodes.now) e.node s (busy_at q c.enter_shared.new.self.in_progress)) there ∙ ap (left ns (length c.args.engine.now.nodes.now) e.node s) pushed in
+    let deeper = subst (λ q. NoDeeper q c.enter_shared.new.self.in_progress) (sym there) (subst (NoDeeper p) (sym entered.1) (deeper-pushed p e.node c.args.context.now.in_progress c.requires.may.above)) in
     let (layout, laid, right) = c.requires.may.goes_on in
     let laid' = subst (λ q. LaysOut layout q s) (sym there) laid in
-    let right' = right_same set layout c.args.context.now c.enter.new.self c.enter.ensures.remembered c.enter.ensures.verdicts right in
+    let right' = right_same set layout c.args.context.now c.enter_shared.new.self c.enter_shared.ensures.remembered c.enter_shared.ensures.verdicts right in
     λ κs h. (lower_entered _ _ _ t l needs c.decreases, (h.0, (h.1.0, (h.1.1.0, (h.1.1.1, record { known = c.requires.may.known; ranked = c.requires.may.ranked; above = deeper; wanted = c.requires.may.wanted; goes_on = (layout, laid', right') })))))
 
 pub evaluate::evaluate_edge-returns-clause-gives : goal.evaluate::evaluate_edge-returns-clause-gives
@@ -1222,12 +1222,12 @@ evaluate::evaluate_edge-returns-clause-gives g t c =
     let q = asking c.args.question.now in
     let p = steps_to c.args.question.now.place.now in
     let e = edge_of c.args.edge.now in
-    let entered = entered_new e.node p c.args.context.now.in_progress c.in_ok-enter.field-0 c.enter.new.self.in_progress (rw c.in_ok-here.ensures.same at c.in_ok-enter.ensures.enters) c.if-branch.false in
-    let pushed : busy_at p c.enter.new.self.in_progress ≡ e.node ∷ busy_at p c.args.context.now.in_progress = ap (busy_at p) entered.1 ∙ busy-pushed p e.node c.args.context.now.in_progress in
-    let there : steps_to c.given-place.result ≡ p = c.given-place.ensures.same ∙ c.in_ok-here.ensures.same in
+    let entered = entered_new e.node p c.args.context.now.in_progress c.in_ok-enter_shared.field-0 c.enter_shared.new.self.in_progress (rw c.in_ok-shared.ensures.same at c.in_ok-enter_shared.ensures.enters) c.if-branch.false in
+    let pushed : busy_at p c.enter_shared.new.self.in_progress ≡ e.node ∷ busy_at p c.args.context.now.in_progress = ap (busy_at p) entered.1 ∙ busy-pushed p e.node c.args.context.now.in_progress in
+    let there : steps_to c.given-place.result ≡ p = c.given-place.ensures.same ∙ c.as_place-here.ensures.same ∙ c.in_ok-shared.ensures.same in
     let asked : Asking = record { subject = q.subject; place = steps_to c.given-place.result; path = path_of c.across-whole.result; mode = q.mode } in
     let is : asked ≡ record q { path = q.path ++ e.path } = λ i. record { subject = q.subject; place = there i; path = c.across-whole.ensures.appended i; mode = q.mode } in
-    gives_entered set q c.args.context.now e c.in_ok-unit.unit c.if-not-edge.false entered.0 asked c.enter.new.self is pushed c.enter.ensures.remembered c.in_ok-unit.ensures.gives
+    gives_entered set q c.args.context.now e c.in_ok-unit.unit c.if-not-edge.false entered.0 asked c.enter_shared.new.self is pushed c.enter_shared.ensures.remembered c.in_ok-unit.ensures.gives
 
 pub evaluate::evaluate_edge-returns-clause-meets : goal.evaluate::evaluate_edge-returns-clause-meets
 evaluate::evaluate_edge-returns-clause-meets g t c =
@@ -1239,12 +1239,12 @@ evaluate::evaluate_edge-returns-clause-meets g t c =
     let s = subject_of c.args.question.now.instance in
     let busy = busy_at p c.args.context.now.in_progress in
     let e = edge_of c.args.edge.now in
-    let entered = entered_new e.node p c.args.context.now.in_progress c.in_ok-enter.field-0 c.enter.new.self.in_progress (rw c.in_ok-here.ensures.same at c.in_ok-enter.ensures.enters) c.if-branch.false in
-    let pushed : busy_at p c.enter.new.self.in_progress ≡ e.node ∷ busy_at p c.args.context.now.in_progress = ap (busy_at p) entered.1 ∙ busy-pushed p e.node c.args.context.now.in_progress in
-    let there : steps_to c.given-place.result ≡ p = c.given-place.ensures.same ∙ c.in_ok-here.ensures.same in
+    let entered = entered_new e.node p c.args.context.now.in_progress c.in_ok-enter_shared.field-0 c.enter_shared.new.self.in_progress (rw c.in_ok-shared.ensures.same at c.in_ok-enter_shared.ensures.enters) c.if-branch.false in
+    let pushed : busy_at p c.enter_shared.new.self.in_progress ≡ e.node ∷ busy_at p c.args.context.now.in_progress = ap (busy_at p) entered.1 ∙ busy-pushed p e.node c.args.context.now.in_progress in
+    let there : steps_to c.given-place.result ≡ p = c.given-place.ensures.same ∙ c.as_place-here.ensures.same ∙ c.in_ok-shared.ensures.same in
     let asked : Asking = record { subject = q.subject; place = steps_to c.given-place.result; path = path_of c.across-whole.result; mode = q.mode } in
     let is : asked ≡ record q { path = q.path ++ e.path } = λ i. record { subject = q.subject; place = there i; path = c.across-whole.ensures.appended i; mode = q.mode } in
-    let met = entered_meets set q c.args.context.now e c.in_ok-unit.unit c.if-not-edge.false entered.0 asked c.enter.new.self c.evaluate_node-2.new.context is pushed c.enter.ensures.remembered c.in_ok-unit.ensures.meets in
+    let met = entered_meets set q c.args.context.now e c.in_ok-unit.unit c.if-not-edge.false entered.0 asked c.enter_shared.new.self c.evaluate_node-2.new.context is pushed c.enter_shared.ensures.remembered c.in_ok-unit.ensures.meets in
     subst (λ r. EdgeMeets g.K.Validate.words g.K.Validate.is_whole ns (length c.args.engine.now.nodes.now) w (mode_of c.args.question.now.mode) (path_of c.args.question.now.path.now) p busy s c.args.context.now.remembered r e) (sym c.exit.ensures.remembered) met
 
 pub evaluate::evaluate_edge-returns-clause-stays : goal.evaluate::evaluate_edge-returns-clause-stays
@@ -1252,9 +1252,9 @@ evaluate::evaluate_edge-returns-clause-stays g t c =
     let set = setting g.K.Validate.words g.K.Validate.is_whole g.K.Validate.shape g.M.Matcher.matching c.args.engine.now in
     let p = steps_to c.args.question.now.place.now in
     let s = subject_of c.args.question.now.instance in
-    let there : steps_to c.given-place.result ≡ p = c.given-place.ensures.same ∙ c.in_ok-here.ensures.same in
+    let there : steps_to c.given-place.result ≡ p = c.given-place.ensures.same ∙ c.as_place-here.ensures.same ∙ c.in_ok-shared.ensures.same in
     λ layout laid right.
-    let right1 = right_same set layout c.args.context.now c.enter.new.self c.enter.ensures.remembered c.enter.ensures.verdicts right in
+    let right1 = right_same set layout c.args.context.now c.enter_shared.new.self c.enter_shared.ensures.remembered c.enter_shared.ensures.verdicts right in
     let laid' = subst (λ q. LaysOut layout q s) (sym there) laid in
     right_same set layout c.evaluate_node-2.new.context c.exit.new.self c.exit.ensures.remembered c.exit.ensures.verdicts (c.in_ok-unit.ensures.stays layout laid' right1)
 
@@ -1504,10 +1504,10 @@ pub evaluate::evaluate_entries-returns-clause-counts : goal.evaluate::evaluate_e
 evaluate::evaluate_entries-returns-clause-counts g t c = if_ok_always c.into_children.result _ c.loop-entry.invariant.counted
 
 pub evaluate::evaluate_edge-returns-clause-counts : goal.evaluate::evaluate_edge-returns-clause-counts
-evaluate::evaluate_edge-returns-clause-counts g t c = rw (c.enter.ensures.visits, ← c.exit.ensures.visits) at c.in_ok-unit.ensures.counts
+evaluate::evaluate_edge-returns-clause-counts g t c = rw (c.enter_shared.ensures.visits, ← c.exit.ensures.visits) at c.in_ok-unit.ensures.counts
 
 pub evaluate::evaluate_edge-returns-then-branch-clause-counts : goal.evaluate::evaluate_edge-returns-then-branch-clause-counts
-evaluate::evaluate_edge-returns-then-branch-clause-counts g t c = if_ok_always c.accepting_unit.result _ (as_many _ _ c.enter.ensures.visits)
+evaluate::evaluate_edge-returns-then-branch-clause-counts g t c = if_ok_always c.accepting_unit.result _ (as_many _ _ c.enter_shared.ensures.visits)
 
 pub evaluate::evaluate_entry-returns-in_ok-unit-in-Reference-clause-counts : goal.evaluate::evaluate_entry-returns-in_ok-unit-in-Reference-clause-counts
 evaluate::evaluate_entry-returns-in_ok-unit-in-Reference-clause-counts g t c = if_ok_always c.units_of_reference.result _ (rw (← c.units_of_reference.ensures.stays) at c.in_ok-unit-in-Reference.ensures.counts)
@@ -1574,19 +1574,19 @@ pub run::run_edge-returns-then-branch-clause-visits : goal.run::run_edge-returns
 run::run_edge-returns-then-branch-clause-visits g t c =
     let p = steps_to c.args.question.now.place.now in
     let e = edge_of c.args.edge.now in
-    let old = entered_old e.node p c.args.context.now.in_progress c.in_ok-enter.field-0 c.enter.new.self.in_progress (rw c.in_ok-here.ensures.same at c.in_ok-enter.ensures.enters) c.if-branch.true in
-    busy_counts (numbered g.K.Validate.shape c.args.engine.now.nodes.now) (asking c.args.question.now) c.args.context.now e c.enter.new.self c.if-not-edge.false old.0 c.enter.ensures.visits
+    let old = entered_old e.node p c.args.context.now.in_progress c.in_ok-enter_shared.field-0 c.enter_shared.new.self.in_progress (rw c.in_ok-shared.ensures.same at c.in_ok-enter_shared.ensures.enters) c.if-branch.true in
+    busy_counts (numbered g.K.Validate.shape c.args.engine.now.nodes.now) (asking c.args.question.now) c.args.context.now e c.enter_shared.new.self c.if-not-edge.false old.0 c.enter_shared.ensures.visits
 
 pub run::run_edge-returns-in-Some-clause-visits : goal.run::run_edge-returns-in-Some-clause-visits
 run::run_edge-returns-in-Some-clause-visits g t c =
     let q = asking c.args.question.now in
     let p = steps_to c.args.question.now.place.now in
     let e = edge_of c.args.edge.now in
-    let c1 = c.enter.new.self in
-    let entered = entered_new e.node p c.args.context.now.in_progress c.in_ok-enter.field-0 c1.in_progress (rw c.in_ok-here.ensures.same at c.in_ok-enter.ensures.enters) c.if-branch.false in
-    let found = sym (rw c.in_ok-here.ensures.same at c.in-Some.ensures.read) in
-    let read = sym (read_entered e.node p c.args.context.now c1 entered.1 c.enter.ensures.verdicts) ∙ (read_for_verdict q.mode e.node p c1 c.in-Some.valid found).1 in
-    read_counts (numbered g.K.Validate.shape c.args.engine.now.nodes.now) q c.args.context.now e c.exit.new.self c.in-Some.valid c.if-not-edge.false entered.0 read (c.exit.ensures.visits ∙ c.enter.ensures.visits)
+    let c1 = c.enter_shared.new.self in
+    let entered = entered_new e.node p c.args.context.now.in_progress c.in_ok-enter_shared.field-0 c1.in_progress (rw c.in_ok-shared.ensures.same at c.in_ok-enter_shared.ensures.enters) c.if-branch.false in
+    let found = sym (rw (c.as_place-here.ensures.same ∙ c.in_ok-shared.ensures.same) at c.in-Some.ensures.read) in
+    let read = sym (read_entered e.node p c.args.context.now c1 entered.1 c.enter_shared.ensures.verdicts) ∙ (read_for_verdict q.mode e.node p c1 c.in-Some.valid found).1 in
+    read_counts (numbered g.K.Validate.shape c.args.engine.now.nodes.now) q c.args.context.now e c.exit.new.self c.in-Some.valid c.if-not-edge.false entered.0 read (c.exit.ensures.visits ∙ c.enter_shared.ensures.visits)
 
 pub run::run_edge-returns-clause-visits : goal.run::run_edge-returns-clause-visits
 run::run_edge-returns-clause-visits g t c =
@@ -1594,19 +1594,19 @@ run::run_edge-returns-clause-visits g t c =
     let q = asking c.args.question.now in
     let p = steps_to c.args.question.now.place.now in
     let e = edge_of c.args.edge.now in
-    let c1 = c.enter.new.self in
+    let c1 = c.enter_shared.new.self in
     let c2 = c.begin_visit-mark.new.context in
     let c3 = c.run_node-2.new.context in
-    let entered = entered_new e.node p c.args.context.now.in_progress c.in_ok-enter.field-0 c1.in_progress (rw c.in_ok-here.ensures.same at c.in_ok-enter.ensures.enters) c.if-branch.false in
+    let entered = entered_new e.node p c.args.context.now.in_progress c.in_ok-enter_shared.field-0 c1.in_progress (rw c.in_ok-shared.ensures.same at c.in_ok-enter_shared.ensures.enters) c.if-branch.false in
     let pairs : c2.in_progress ≡ c.args.context.now.in_progress ++ (e.node, p) ∷ [] = ap (λ (z : Context). z.in_progress) c.begin_visit-mark.ensures.counted ∙ entered.1 in
-    let read = ap (λ (z : Context). z.verdicts) c.begin_visit-mark.ensures.counted ∙ c.enter.ensures.verdicts in
-    let counted = ap (λ (z : Context). z.visits) c.begin_visit-mark.ensures.counted ∙ ap (visited_in_mode q.mode) c.enter.ensures.visits in
-    let there : steps_to c.given-place.result ≡ p = c.given-place.ensures.same ∙ c.in_ok-here.ensures.same in
-    let none = sym (rw c.in_ok-here.ensures.same at c.in_default.ensures.read) in
+    let read = ap (λ (z : Context). z.verdicts) c.begin_visit-mark.ensures.counted ∙ c.enter_shared.ensures.verdicts in
+    let counted = ap (λ (z : Context). z.visits) c.begin_visit-mark.ensures.counted ∙ ap (visited_in_mode q.mode) c.enter_shared.ensures.visits in
+    let there : steps_to c.given-place.result ≡ p = c.given-place.ensures.same ∙ c.as_place-here.ensures.same ∙ c.in_ok-shared.ensures.same in
+    let none = sym (rw (c.as_place-here.ensures.same ∙ c.in_ok-shared.ensures.same) at c.in_default.ensures.read) in
     let node_counts = subst (λ z. NodeCounts ns (record { subject = q.subject; place = z; path = path_of c.across-whole.result; mode = q.mode }) c2 c3 e.node) there c.in_ok-computed.ensures.visits in
     let visits = c.exit-2.ensures.visits ∙ ap (λ (z : Context). z.visits) c.kept_reply.ensures.frame in
     computed_counts ns q c.args.context.now e c2 c3 c.exit-2.new.self c.if-not-edge.false entered.0
-    (λ mode. sym (read_entered e.node p c.args.context.now c1 entered.1 c.enter.ensures.verdicts) ∙ subst (λ m. read_in_mode m e.node p c1 ≡ None) mode none) pairs read
+    (λ mode. sym (read_entered e.node p c.args.context.now c1 entered.1 c.enter_shared.ensures.verdicts) ∙ subst (λ m. read_in_mode m e.node p c1 ≡ None) mode none) pairs read
     (λ mode. subst (λ m. c2.visits ≡ visited_in_mode m c.args.context.now.visits) mode counted) node_counts visits
 
 pub run::run_edge-returns-then-not-edge-clause-visits : goal.run::run_edge-returns-then-not-edge-clause-visits

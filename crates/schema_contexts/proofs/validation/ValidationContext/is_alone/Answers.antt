@@ -15,7 +15,7 @@ loop-left-preserved c =
     let k = m - 1 in
     let here = pair_left m k items e e (omega arith) (omega (arith, c.loop-left.invariant.0)) (sym c.index-pair.ensures) in
     let its_own : (not (e.node.0 == c.args.node.0) && same_place e.place c.args.place.now) ≡ false = elim c.else-ne.branch [
-      | else-ne-via-then-ne+else-eq w ↦ second_differs (not (e.node.0 == c.args.node.0)) (same_place e.place c.args.place.now) w.if-eq.ensures
+      | else-ne-via-then-ne+else-eq w ↦ second_differs (not (e.node.0 == c.args.node.0)) (same_place e.place c.args.place.now) (rw w.as_place.ensures.same at w.if-eq.ensures)
       | else-ne-via-else-ne w ↦ first_differs (not (e.node.0 == c.args.node.0)) (same_place e.place c.args.place.now) w.if-ne.ensures
     ] in
     (omega (arith, c.loop-left.invariant.0), c.loop-left.invariant.1 ∙ alone_before c.args.node.0 c.args.place.now m k items e here its_own)
@@ -37,6 +37,6 @@ returns-then-eq c =
     let m = c.loop-left.left in
     let k = m - 1 in
     let here = pair_left m k items e e (omega arith) (omega (arith, c.loop-left.invariant.0)) (sym c.index-pair.ensures) in
-    let another = both_agree (not (e.node.0 == c.args.node.0)) (same_place e.place c.args.place.now) c.if-ne.ensures c.if-eq.ensures in
+    let another = both_agree (not (e.node.0 == c.args.node.0)) (same_place e.place c.args.place.now) c.if-ne.ensures (rw c.as_place.ensures.same at c.if-eq.ensures) in
     let found = not_alone c.args.node.0 c.args.place.now m k items e here another in
     record { alone = sym (ap (λ (x : Pairs). is_alone c.args.node.0 c.args.place.now x) (sym (ap (λ x. x.in_progress) c.self.view_is)) ∙ c.loop-left.invariant.1 ∙ found) }

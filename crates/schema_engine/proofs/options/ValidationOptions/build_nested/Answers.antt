@@ -6,6 +6,7 @@ use Rattle.serde_json.specs.View.{view}
 use Rattle.schema_keywords.specs.KeywordTable.{builtin_in}
 use Rattle.schema_keywords.specs.KeywordViews.{draft_of}
 use Rattle.schema_definitions.specs.Plan.{Key}
+use Rattle.schema_definitions.specs.Laws.{EachKeeps}
 use Rattle.schema_keys.specs.Builtins.{builtin}
 use Rattle.schema_check.specs.Checking.{AcceptsSchema}
 use Rattle.schema_keys.specs.Compiling.{no_table, no_keywords, no_matcher}
@@ -17,6 +18,7 @@ use Rattle.schema_engine.specs.Roots.{root_parts}
 use Rattle.schema_engine.proofs.Compilations.{compiled_from_roots, compiles_in, in_order_in, reach_in, refuses_in, whole_in, whole_too}
 use Rattle.schema_meaning.specs.ErrorsLead.{EachKeepsAbsorbing}
 use Rattle.schema_meaning.proofs.TurnsGiveRuns.{keeps_of_turns}
+use Rattle.schema_engine.proofs.Greatest.{accepts_as_schema}
 use Rattle.schema_engine.proofs.Pointing.{points_into}
 use Rattle.schema_engine.proofs.OtherParts.{compiles_too}
 use Rattle.schema_engine.proofs.RootKeys.{one_root_key, root_key_too, root_too}
@@ -125,6 +127,13 @@ returns-clause-program g c =
       matcher_is = c.in_ok-validator.ensures.matcher;
       runs_are = c.in_ok-validator.ensures.runs ∙ ap (λ (o : Options). o.runs) c.self.view_is;
     }
+
+pub returns-clause-greatest : goal.returns-clause-greatest
+returns-clause-greatest g c =
+    let h = handed g.S.Resolver g.T.KeywordTable g.K.Validate g.M.Matcher c.args.resolver.now c.args.table.now c.args.matcher.now in
+    let k = g.K.Validate in
+    let keeps : (texts : Bool) → EachKeeps (k.words texts) = λ texts s. (k.absorbed s, keeps_of_turns (k.words texts) s (k.absorbed s) (k.remaining s) (k.can_be texts s) (k.ends texts s) (k.fits texts s) (g.met.K.Validate.turn_laws texts s) (g.met.K.Validate.function_laws texts s)) in
+    accepts_as_schema h keeps (g.met.S.Resolver.same c.args.resolver.now) c.args.self.now (view c.args.schema.now) c.in_ok-validator.validator (returns-clause-program g c)
 
 pub returns-clause-points : goal.returns-clause-points
 returns-clause-points g c =

@@ -1,4 +1,4 @@
-use Rattle.std.proofs.Common.{◌∙◌, true, suc, [], refl, sym, ap, subst, arith, length}
+use Rattle.std.proofs.Common.{◌∙◌, suc, [], refl, sym, ap, subst, arith, length}
 use Rattle.serde_json.specs.View.{view}
 use Rattle.schema_definitions.specs.Cover.{iter_errors}
 use Rattle.schema_definitions.specs.Keywords.{for_all}

@@ -1,12 +1,15 @@
-use Rattle.std.proofs.Common.{subst, sym}
+use Rattle.std.proofs.Common.{Bool, subst, sym}
 use Rattle.serde_json.specs.View.{view}
 use Rattle.schema_definitions.specs.Cover.{Sense}
+use Rattle.schema_definitions.specs.Laws.{EachKeeps}
 use Rattle.schema_meaning.specs.Means.{FromSomeDepth}
 use Rattle.schema_reports.specs.declared.evaluation.EvaluationNode.{EvaluationNode}
 use Rattle.schema_meaning.proofs.SensesMeant.{of_every_sense}
+use Rattle.schema_meaning.proofs.TurnsGiveRuns.{keeps_of_turns}
 use Rattle.schema_nodes.specs.NodeTable.{numbered}
 use Rattle.schema_engine.specs.Evaluated.{EvaluationAnswered}
 use Rattle.schema_engine.specs.Program.{HasUnits}
+use Rattle.schema_engine.proofs.Greatest.{evaluates_accepted}
 use Rattle.schema_engine.proofs.PlainAnswers.{units_in_every_sense}
 use Rattle.schema_engine.proofs.validator.Validator.evaluate.Goals as goal
 
@@ -29,3 +32,9 @@ pub returns-clause-plain : goal.returns-clause-plain
 returns-clause-plain g c =
     let k = g.K.Validate in
     units_in_every_sense k.shape k.words k.is_whole g.M.Matcher.matching c.args.self.now (view c.args.instance.now) _ (returns-clause-units g c)
+
+pub returns-clause-greatest : goal.returns-clause-greatest
+returns-clause-greatest g c =
+    let k = g.K.Validate in
+    let keeps : (texts : Bool) → EachKeeps (k.words texts) = λ texts s. (k.absorbed s, keeps_of_turns (k.words texts) s (k.absorbed s) (k.remaining s) (k.can_be texts s) (k.ends texts s) (k.fits texts s) (g.met.K.Validate.turn_laws texts s) (g.met.K.Validate.function_laws texts s)) in
+    evaluates_accepted k g.M.Matcher keeps c.args.self.now c.node_count-ranked.ensures.ranked c.node_count-ranked.ensures.inside (view c.args.instance.now) _ (returns-clause-depth g c)

@@ -1,4 +1,4 @@
-use Rattle.std.proofs.Common.{◌∙◌, true, suc, [], sym, subst, arith, length}
+use Rattle.std.proofs.Common.{◌∙◌, suc, [], sym, subst, arith, length}
 use Rattle.std.specs.Prelude.{IfSome, Option}
 use Rattle.schema_reports.specs.declared.reports.ValidationError.{ValidationError}
 use Rattle.serde_json.specs.View.{view}

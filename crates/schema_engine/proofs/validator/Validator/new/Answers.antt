@@ -5,6 +5,7 @@ use Rattle.schema_keywords.specs.KeywordTable.{builtin_in}
 use Rattle.schema_keys.specs.declared.error.BuildError.{BuildError}
 use Rattle.schema_engine.specs.Called.{BuildRefused, IsCompiledFrom}
 use Rattle.schema_engine.specs.FirstCauses.{FirstOfBuild}
+use Rattle.schema_engine.specs.Greatest.{AcceptsAsSchema}
 use Rattle.schema_engine.specs.Handed.{Options, handed, parts_of, table_of}
 use Rattle.schema_engine.specs.Program.{Program}
 use Rattle.schema_engine.specs.Promised.{HasSchemasUnits, MeansSchema, PointsIntoSchema}
@@ -37,6 +38,12 @@ returns-clause-points g c =
     let k = g.K.Validate in
     subst (λ (o : Options). IfOk c.build-2.result (λ (v : Program g.row.K.Denot g.row.M.Denot). PointsIntoSchema r table m k.words o (view c.args.schema.now) k.shape g.M.Matcher.matching v))
     c.options.ensures.defaults c.build-2.ensures.points
+
+pub returns-clause-greatest : goal.returns-clause-greatest
+returns-clause-greatest g c =
+    let h = handed g.S.Resolver g.T.KeywordTable g.K.Validate g.M.Matcher c.args.resolver.now c.args.table.now c.args.matcher.now in
+    subst (λ (o : Options). IfOk c.build-2.result (λ (v : Program g.row.K.Denot g.row.M.Denot). AcceptsAsSchema h o (view c.args.schema.now) v))
+    c.options.ensures.defaults c.build-2.ensures.greatest
 
 pub returns-clause-program : goal.returns-clause-program
 returns-clause-program g c =

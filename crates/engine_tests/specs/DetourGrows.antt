@@ -1,0 +1,17 @@
+-- A detour is monotone where the keyword is that it stands for, and hands on the units that that one does.
+use Rattle.std.proofs.Common.{◌≡◌, Bool, true}
+use Rattle.schema_meaning.specs.Greatest.{IsMonotone}
+use Rattle.schema_meaning.specs.UnitsLead.{EachHandsUnitsOn, HandsUnitsOn}
+use Rattle.bench_keywords.specs.PlainShape.{says_monotone}
+use Rattle.bench_keywords.specs.Grows.{plain_grows, plain_hands_units_on}
+use Rattle.bench_keywords.specs.Laws.{none_absorbed}
+use Rattle.bench_keywords.specs.Words.{words}
+use Rattle.engine_tests.specs.Detours.{Detour, detour_words, nothing_absorbed}
+
+pub detour_grows : (texts : Bool) (m : Detour) → says_monotone m.1 ≡ true → IsMonotone (detour_words texts) m
+detour_grows texts m h s matches a b where_yes holds = plain_grows texts m.1 h s matches a b where_yes holds
+
+pub detour_hands_on : (texts : Bool) → EachHandsUnitsOn (detour_words texts) nothing_absorbed
+detour_hands_on texts m s matches u =
+    let handed : HandsUnitsOn (words texts) none_absorbed m.1 s matches u = plain_hands_units_on texts m.1 s matches u in
+    record { own = handed.own; absorbed = handed.absorbed }

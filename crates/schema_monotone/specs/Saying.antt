@@ -1,0 +1,22 @@
+-- Each keyword of each node says of itself that it is monotone. References say nothing against it.
+use Rattle.std.specs.List.{list_all}
+use Rattle.std.specs.Prelude.{All, Bool, List, Some, true, ℕ, ◌<◌, ◌≡◌}
+use Rattle.schema_definitions.specs.Guarded.{NodeForm, Nodes}
+use Rattle.schema_meaning.specs.Fractions.{form_words, node_words}
+use Rattle.schema_nodes.specs.NodeTable.{NodeEntry, plan_in}
+
+-- each keyword of these numbers says so
+abbrev pub EachSays : {S : Type 0} → (S → Bool) → Nodes S → ℕ → Type 0
+EachSays says nodes count = (i : ℕ) → i < count → All (λ m. says m ≡ true) (node_words (nodes.entries i))
+
+module _ {K : Type 0} (says : K → Bool) where
+  -- ---- the same, computed over a table
+
+  abbrev pub form_says : NodeForm K → Bool
+  form_says form = list_all says (form_words form)
+
+  abbrev pub node_says : NodeEntry K → Bool
+  node_says n = list_all says (node_words (plan_in (Some n)))
+
+  abbrev pub table_says : List (NodeEntry K) → Bool
+  table_says ns = list_all node_says ns
