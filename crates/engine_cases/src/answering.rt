@@ -11,8 +11,10 @@ use crate::checking::checked;
 use crate::clones::answered_alike;
 use crate::free_calls::answered_free;
 use crate::maps::answered_by_map;
-use bench_parts::table::bench_table;
-use fused_keywords::table::fused_table;
+use bench_keywords::keyword::BenchKeyword;
+use bench_parts::table::{BenchTable, bench_table};
+use fused_keywords::keyword::FusedKeyword;
+use fused_keywords::table::{FusedTable, fused_table};
 use law_tests::items_table::ItemsTable;
 use schema_engine::context::keyword::Validate;
 use schema_engine::context::table::KeywordTable;
@@ -49,8 +51,8 @@ pub fn answer(alloc: Global, case: &Value) -> Result<Value, OutOfMemory>
         return json!(in alloc; {"fault": "no case"});
     };
     match case.table {
-        Table::Bench => answer_by(alloc, &case, &bench_table()),
-        Table::Fused => answer_by(alloc, &case, &fused_table()),
+        Table::Bench => answer_by::<BenchKeyword, BenchTable>(alloc, &case, &bench_table()),
+        Table::Fused => answer_by::<FusedKeyword, FusedTable>(alloc, &case, &fused_table()),
         Table::Items => answer_by(alloc, &case, &ItemsTable {}),
     }
 }
