@@ -1,5 +1,5 @@
 -- The makers ask for what lies strictly below the object, and end rightly.
-use Rattle.std.specs.Prelude.{All, Bool, List, None, Option, Some, [], bytes_eq, codes, false, if◌then◌else◌, refl, true, ◌≡◌, ◌∷◌}
+use Rattle.std.specs.Prelude.{All, Bool, List, None, Option, Some, [], bytes_eq, codes, false, if◌then◌else◌, refl, true, ◌∷◌}
 use Rattle.std.proofs.lemmas.List.Elements.{All-cons, All-nil}
 use Rattle.serde_json.specs.Data.{Data, Members, array, boolean, null, number, object, string}
 use Rattle.serde_json.specs.Find.{get_member}
