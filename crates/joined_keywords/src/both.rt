@@ -92,7 +92,8 @@ impl<A: Validate, B: Validate> Validate for Both<A, B> {
 
     ghost answers = { λ texts run a. refl };
 
-    ghost turn_laws = { both_turn_laws A.words B.words A.absorbed B.absorbed A.remaining B.remaining A.can_be B.can_be A.ends B.ends A.fits B.fits
+    ghost turn_laws = { both_turn_laws A.words B.words A.absorbed B.absorbed A.remaining B.remaining
+        A.can_be B.can_be A.ends B.ends A.fits B.fits
         A.answers B.answers A.turn_laws B.turn_laws };
 
     ghost function_laws = { both_function_laws A.words B.words A.function_laws B.function_laws };

@@ -177,7 +177,8 @@ pub fn ask(
         (λ a. (resolver : Resolver Point) (table : Table BenchShape) (matcher : Matcher) (options : Options) (schema : Data)
         → BenchMeans resolver table matcher options schema validator.now
         → BenchHasUnits resolver table matcher options schema validator.now
-        → AnswersPlainly resolver table matcher options schema validator.now.runs (view instance.now) call a.accepted (string_bytes a.text)) }
+        → AnswersPlainly resolver table matcher options schema validator.now.runs
+        (view instance.now) call a.accepted (string_bytes a.text)) }
     ensures depth { IfOk result (λ a. AnswersFromSomeDepth
         validator.now (view instance.now) call a.accepted (string_bytes a.text)) }
 {
