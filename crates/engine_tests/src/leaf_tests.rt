@@ -13,7 +13,7 @@ use bench_parts::matcher::BenchMatcher;
 use schema_engine::validator::Validator;
 use schema_keywords::keywords::Draft;
 use schema_nodes::node::{Entry, EntryForm, NodeForm, Nodes};
-use schema_parts::keyword::{Answer, MatchPoint, Mode, Reply, Step, Validate};
+use schema_parts::keyword::{Answer, Mode, Reply, Step, Validate};
 use schema_reports::instance::Instance;
 use schema_reports::location::{Location, OutOfMemory};
 use serde_json::Value;
@@ -80,7 +80,7 @@ fn match_at<'s>(patterns: &'s [String], text: &'s str, left: usize) -> Step<'s>
     ensures asks { turn_of result ≡ match_at (map string_bytes patterns.now) text.now left }
 {
     let pattern = pattern_at(patterns, left);
-    Step::Match(pattern, text, MatchPoint::AtKeyword(true))
+    Step::Match(pattern, text, true)
 }
 
 impl Validate for DetourKeyword {

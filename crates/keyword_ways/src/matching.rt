@@ -3,13 +3,13 @@ ghost use Rattle.std.specs.Prelude.{◌≡◌, Bool};
 ghost use Rattle.schema_definitions.specs.Instance.{Text};
 ghost use Rattle.schema_definitions.specs.Keywords.{Answer as AnswerOfRun, match_text};
 ghost use Rattle.schema_definitions.specs.Matching.{Pair};
-ghost use Rattle.schema_parts.specs.KeywordViews.{point_of, reply_of, turn_of};
+ghost use Rattle.schema_parts.specs.KeywordViews.{reply_of, turn_of};
 ghost use Rattle.keyword_ways.specs.MatchTurns.{match_answer, match_turn};
-ghost use Rattle.keyword_ways.specs.Ways.{asks_match, match_point, way_step, way_turn};
+ghost use Rattle.keyword_ways.specs.Ways.{asks_match, is_located, match_point, way_step, way_turn};
 
 use crate::answers::says_yes;
 use crate::run::{Progress, Stage};
-use schema_parts::keyword::{MatchPoint, Mode, Reply, Step};
+use schema_parts::keyword::{Mode, Reply, Step};
 
 /// What a turn of a run that asks a match does.
 #[derive(Clone, Copy)]
@@ -47,17 +47,17 @@ pub fn match_on(run: &mut Progress, reply: Reply<'_>) -> MatchTurn
     }
 }
 
-/// Asks in a run in this mode whether a pattern matches a text.
+/// Asks in a run in this mode whether a pattern matches a text: at the keyword.
 pub fn ask_match<'s>(pattern: &'s str, text: &'s str, mode: Mode) -> Step<'s>
     ensures step { turn_of result ≡ match_text (record { pattern = pattern.now; subject = text.now }) (match_point mode pattern.now) }
 {
-    Step::Match(pattern, text, match_point(mode))
+    Step::Match(pattern, text, is_located(mode))
 }
 
-/// Where a match is asked for in a run in this mode: at the keyword, and without evaluation path and place where a verdict
-/// alone is wanted.
-fn match_point<'s>(mode: Mode) -> MatchPoint<'s>
-    ensures point { (pattern : Text) → point_of pattern result ≡ match_point mode pattern }
+/// Whether a match that is asked for in a run in this mode is shown with evaluation path and place: not where a verdict alone is
+/// wanted.
+fn is_located(mode: Mode) -> bool
+    ensures located { result ≡ is_located mode }
 {
-    MatchPoint::AtKeyword(mode != Mode::Verdict)
+    mode != Mode::Verdict
 }

@@ -19,8 +19,7 @@ use std::marker::Model;
 /// The keyword.
 #[derive(Drop)]
 pub struct EachName {
-    pub pattern: String,
-    pub spot: OwnSpot,
+    pub names: OwnSpot,
 }
 
 /// What is known of a keyword apart from its representation, which is its pattern; it holds no value.
@@ -88,7 +87,7 @@ impl Validate for EachName {
 
     ghost words = { name_words };
 
-    ghost shape = { λ k. string_bytes k.pattern };
+    ghost shape = { λ k. string_bytes k.names.asked.pattern };
 
     ghost absorbed = { name_absorbed };
 
@@ -126,8 +125,7 @@ impl Validate for EachName {
         match name_in(instance, run.0) {
             Some(name) => {
                 run.0 += 1;
-                let point = self.spot.at_name(name);
-                Ok(Step::Match(self.pattern.as_str(), name, point))
+                Ok(self.names.at_name(name))
             }
             None => {
                 tell(alloc, run.1, answer)?;

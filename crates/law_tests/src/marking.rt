@@ -28,9 +28,10 @@ pub fn after_step<'s>(step: Step<'s>, marks: bool) -> (Stage, Step<'s>)
 {
     match step {
         Step::Ask(child, below, mode) => (Stage::Works, Step::Ask(child, below, mode)),
-        Step::Match(pattern, subject, point) => {
-            (Stage::Works, Step::Match(pattern, subject, point))
+        Step::Match(pattern, subject, located) => {
+            (Stage::Works, Step::Match(pattern, subject, located))
         }
+        Step::MatchAt(at, subject, below) => (Stage::Works, Step::MatchAt(at, subject, below)),
         Step::Mark(marked) => (Stage::Works, Step::Mark(marked)),
         Step::Unmark => (Stage::Works, Step::Unmark),
         Step::Ecma(text) => (Stage::Works, Step::Ecma(text)),

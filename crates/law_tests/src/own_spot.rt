@@ -1,37 +1,45 @@
-//! A spot at a keyword itself, and matches that are asked for one step below it.
-ghost use Rattle.std.specs.Prelude.{◌≡◌, true};
-ghost use Rattle.schema_definitions.specs.Instance.{Text};
-ghost use Rattle.schema_parts.specs.KeywordViews.{point_of};
+//! Matches that are asked for at the keyword itself, one step below it.
+ghost use Rattle.std.specs.Prelude.{◌≡◌, string_bytes, true};
+ghost use Rattle.schema_definitions.specs.Keywords.{match_text};
+ghost use Rattle.schema_parts.specs.KeywordViews.{turn_of};
 ghost use Rattle.law_tests.specs.OwnSpot.{is_plain, name_point};
 
-use schema_node::context::keyword::{Below, MatchPoint, Spot};
+use schema_node::context::keyword::{Below, Spot, SpotMatch, Step};
 use std::alloc::Global;
 
-/// A spot at the keyword itself, which owns all of it.
+/// A match at the keyword itself, shown with evaluation path and place. Its spot owns all that it holds.
 #[derive(Drop)]
 pub struct OwnSpot {
-    spot: Spot<'static>,
-    ghost plain: { is_plain spot ≡ true },
+    asked: SpotMatch<'static>,
+    ghost plain: { is_plain asked ≡ true },
 }
 
 impl OwnSpot {
-    /// The spot.
-    pub fn new(alloc: Global) -> OwnSpot {
+    /// The match of this pattern.
+    pub fn new(alloc: Global, pattern: String) -> OwnSpot
+        ensures held { string_bytes result.asked.pattern ≡ string_bytes pattern }
+    {
+        let spot = Spot {
+            absorbed: None,
+            path: String::new(alloc),
+            below: Vec::new(alloc),
+            pattern: None,
+        };
         OwnSpot {
-            spot: Spot {
-                absorbed: None,
-                path: String::new(alloc),
-                below: Vec::new(alloc),
-                pattern: None,
+            asked: SpotMatch {
+                spot,
+                pattern,
+                located: true,
             },
         }
     }
 
-    /// Where a match is asked for at the name of a member, which is the instance's own.
+    /// Asks whether the pattern matches the name of a member, which is the instance's own, at that name's place.
     #[tactic(auto, using(crate::specs::OwnSpot::below_plain))]
-    pub fn at_name<'s>(&'s self, name: &'s str) -> MatchPoint<'s>
-        ensures point { (pattern : Text) → point_of pattern result ≡ name_point name.now }
+    pub fn at_name<'s>(&'s self, name: &'s str) -> Step<'s>
+        ensures step { turn_of result
+            ≡ match_text (record { pattern = string_bytes self.now.asked.pattern; subject = name.now }) (name_point name.now) }
     {
-        MatchPoint::AtSpot(true, &self.spot, Below::NameOf(name))
+        Step::MatchAt(&self.asked, name, Below::NameOf(name))
     }
 }

@@ -3,7 +3,7 @@ use crate::words::{Rows, draft_named, push_all, push_path, wrong};
 use bench_keywords::keyword::BenchKeyword;
 use bench_parts::table::BenchTable;
 use schema_keywords::keywords::{Draft, VocabularySet};
-use schema_parts::keyword::{Answer, Fault, Found, MatchPoint, Mode, Reply, Step, Validate};
+use schema_parts::keyword::{Answer, Fault, Found, Mode, Reply, Step, Validate};
 use schema_parts::table::{KeywordOrigin, KeywordTable, MakerReply, MakerStep};
 use schema_reports::evaluation::{ErrorDescription, EvaluationNode, UnitReport};
 use schema_reports::evaluation_result::EvaluationResult;
@@ -146,10 +146,9 @@ fn reply_to<'i>(
 fn push_match<'w>(
     pattern: &'w str,
     subject: &'w str,
-    point: MatchPoint<'_>,
+    located: bool,
     log: &mut String,
 ) -> Result<(), OutOfMemory> {
-    let (MatchPoint::AtKeyword(located) | MatchPoint::AtSpot(located, _, _)) = point;
     let how = if located { " located " } else { " bare " };
     push_all(log, &[pattern, " ", subject, how])
 }
@@ -170,8 +169,12 @@ fn asks<'i, K: Validate>(
             log.push_str(if let Mode::Verdict = mode { "!" } else { "?" })?;
             Ok(Some(mode))
         }
-        Step::Match(pattern, subject, point) => {
-            push_match(pattern, subject, point, log)?;
+        Step::Match(pattern, subject, located) => {
+            push_match(pattern, subject, located, log)?;
+            Ok(Some(Mode::Verdict))
+        }
+        Step::MatchAt(at, subject, _) => {
+            push_match(at.pattern.as_str(), subject, at.located, log)?;
             Ok(Some(Mode::Verdict))
         }
         _ => Ok(None),

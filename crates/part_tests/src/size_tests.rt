@@ -12,9 +12,9 @@ const _: () = prove!(size_of::<Reply<'static>>() <= 32);
 // (an enum has a tag of its own, so the result of a reply is a word longer)
 const _: () = prove!(size_of::<Result<Reply<'static>, OutOfMemory>>() <= 40);
 
-// (a match asks with two texts and a point, which is the largest that a step holds. Its point may name a step below a spot by
-// the instance's own name, which is three words of the ten; so no turn allocates a place to ask at)
-const _: () = prove!(size_of::<Step<'static>>() <= 80);
+// (a match at a spot is the largest that a step asks for: what the keyword owns of it, the subject, and a step below the spot by
+// the instance's own name, which is three words of the seven; so no turn allocates a place to ask at)
+const _: () = prove!(size_of::<Step<'static>>() <= 56);
 
 // (the result of a turn is a word longer, too)
-const _: () = prove!(size_of::<Result<Step<'static>, OutOfMemory>>() <= 88);
+const _: () = prove!(size_of::<Result<Step<'static>, OutOfMemory>>() <= 64);

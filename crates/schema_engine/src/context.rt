@@ -5,7 +5,8 @@ pub use schema_contexts::validation::ValidationContext;
 pub use schema_contexts::{kept_paths, validation};
 pub use schema_parts::cloning::CloneKeyword;
 pub use schema_parts::keyword::{
-    Answer, Below, Fault, Found, Marked, MatchPoint, Mode, OwnError, Reply, Spot, Step, Validate,
+    Answer, Below, Fault, Found, Marked, MatchPoint, Mode, OwnError, Reply, Spot, SpotMatch, Step,
+    Validate,
 };
 pub use schema_parts::matcher::Matcher;
 pub use schema_parts::meta::MetaValidators;

@@ -1,5 +1,6 @@
 pub mod PointerSteps
 pub mod MatchSites
+pub mod AskedMatches
 pub mod NodeMeets
 pub mod KeywordMeets
 pub mod Faults

@@ -8,6 +8,7 @@ use Rattle.schema_reports.specs.UnitViews.{unit_of}
 use Rattle.schema_reports.specs.EvaluationResults.{gives_with}
 use Rattle.schema_definitions.specs.Keywords as spec
 use Rattle.schema_definitions.specs.Laws.{steps_below}
+use Rattle.schema_definitions.specs.Matching.{Pair}
 use Rattle.schema_parts.specs.declared.keyword.Mode.{Mode}
 use Rattle.schema_parts.specs.declared.keyword.Mode.TheVariants as mode
 use Rattle.schema_parts.specs.declared.keyword.Below.{Below}
@@ -15,6 +16,7 @@ use Rattle.schema_parts.specs.declared.keyword.Below.TheVariants as below
 use Rattle.schema_parts.specs.declared.keyword.Marked.{Marked}
 use Rattle.schema_parts.specs.declared.keyword.Marked.TheVariants as marked
 use Rattle.schema_parts.specs.declared.keyword.Spot.{Spot}
+use Rattle.schema_parts.specs.declared.keyword.SpotMatch.{SpotMatch}
 use Rattle.schema_parts.specs.declared.keyword.MatchPoint.{MatchPoint}
 use Rattle.schema_parts.specs.declared.keyword.MatchPoint.TheVariants as point
 use Rattle.schema_parts.specs.declared.keyword.Step as step_module
@@ -50,26 +52,48 @@ spot_of s = record { absorbed = option_map string_bytes s.absorbed; path = strin
 abbrev pub spot_below : spec.Spot → spec.Below → spec.Spot
 spot_below s b = record s { below = s.below ++ steps_below b }
 
--- where a match of this pattern is asked for
-abbrev pub point_of : Text → MatchPoint → spec.MatchPoint
-point_of pattern (point.AtKeyword located) = record {
+-- a match of this pattern is asked for at the keyword
+abbrev pub keyword_point : Text → Bool → spec.MatchPoint
+keyword_point pattern located = record {
   spot = record { absorbed = None; path = []; below = [] };
   located = located;
   pattern = Some pattern;
 }
-point_of pattern (point.AtSpot located spot below) = record {
-  spot = spot_below (spot_of spot.now) (below_of below);
+
+-- a match is asked for at a spot, or one step below it
+abbrev pub spot_point : Bool → Spot → Below → spec.MatchPoint
+spot_point located spot below = record {
+  spot = spot_below (spot_of spot) (below_of below);
   located = located;
-  pattern = option_map string_bytes spot.now.pattern;
+  pattern = option_map string_bytes spot.pattern;
 }
+
+-- where a match of this pattern is asked for
+abbrev pub point_of : Text → MatchPoint → spec.MatchPoint
+point_of pattern (point.AtKeyword located) = keyword_point pattern located
+point_of pattern (point.AtSpot located spot below) = spot_point located spot.now below
+
+-- a match that a keyword asks for at a spot, of this subject
+abbrev pub spot_match : SpotMatch → Text → Below → spec.Turn
+spot_match m subject below = spec.match_text (record { pattern = string_bytes m.pattern; subject = subject }) (spot_point m.located m.spot below)
 
 abbrev pub turn_of : step_module.Step → spec.Turn
 turn_of (step.Ask child b m) = spec.ask (record { child = child; below = below_of b }) (mode_of m)
-turn_of (step.Match pattern subject point) = spec.match_text (record { pattern = pattern.now; subject = subject.now }) (point_of pattern.now point)
+turn_of (step.Match pattern subject located) = spec.match_text (record { pattern = pattern.now; subject = subject.now }) (keyword_point pattern.now located)
+turn_of (step.MatchAt m subject below) = spot_match m.now subject.now below
 turn_of (step.Mark m) = spec.mark (marked_of m)
 turn_of step.Unmark = spec.unmark
 turn_of (step.Ecma text) = spec.ecma text.now
 turn_of step.Done = spec.done
+
+-- the match that a turn asks for, if it asks for one, and where
+abbrev pub match_in : spec.Turn → Option (Pair × spec.MatchPoint)
+match_in (spec.ask q mode) = None
+match_in (spec.match_text a point) = Some (a, point)
+match_in (spec.mark i) = None
+match_in spec.unmark = None
+match_in (spec.ecma text) = None
+match_in spec.done = None
 
 abbrev pub reply_of : Bool → Reply → spec.Reply
 reply_of texts reply.Nothing = spec.no_reply

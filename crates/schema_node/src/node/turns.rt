@@ -16,7 +16,7 @@ ghost use Rattle.schema_node.specs.Visits.{LeadsNowhere};
 
 use crate::node::evaluate::evaluate_child;
 use crate::node::faults::begun;
-use crate::node::matches::asked_match;
+use crate::node::matches::step_match;
 use crate::node::question::{Engine, NamedKeyword, Question};
 use crate::node::run::run_child;
 use schema_contexts::validation::ValidationContext;
@@ -119,10 +119,10 @@ fn run_turns<'i, K: Validate, M: Matcher>(
     let children = keyword.children;
     let mut reply = Reply::Nothing;
     'turns: loop {
-        match keyword
+        let step = keyword
             .keyword
-            .turn(engine.alloc, run, question.instance, reply, answer)?
-        {
+            .turn(engine.alloc, run, question.instance, reply, answer)?;
+        match step {
             Step::Ask(child, below, wanted) => {
                 let asked = Question {
                     instance: question.instance,
@@ -133,17 +133,9 @@ fn run_turns<'i, K: Validate, M: Matcher>(
                 reply = ask_child(engine, node, children, child, below, &asked, context)?;
             }
             Step::Done => return Ok(()),
-            Step::Match(pattern, subject, point) => {
-                let matches = asked_match(
-                    engine,
-                    engine.nodes.node(node),
-                    keyword.name,
-                    question,
-                    pattern,
-                    subject,
-                    point,
-                    context,
-                )?;
+            Step::Match(_, _, _) | Step::MatchAt(_, _, _) => {
+                let node = engine.nodes.node(node);
+                let matches = step_match(engine, node, keyword.name, question, step, context)?;
                 reply = Reply::Truth(matches);
             }
             Step::Ecma(text) => {

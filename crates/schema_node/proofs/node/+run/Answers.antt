@@ -14,7 +14,7 @@ use Rattle.schema_definitions.specs.Runs.{keyword_met, plan_met, site_at}
 use Rattle.schema_definitions.specs.Unfinished.{Remembered}
 use Rattle.schema_definitions.specs.Matching.{Matcher, Pair, completed, matching, settled}
 use Rattle.schema_definitions.specs.Guarded.{node_at, node_keyword, node_never, same_edge, node_always, node_reference}
-use Rattle.schema_parts.specs.KeywordViews.{below_of, marked_of, mode_of, reply_of, answer_of, point_of}
+use Rattle.schema_parts.specs.KeywordViews.{below_of, marked_of, mode_of, reply_of, answer_of}
 use Rattle.schema_contexts.specs.Matches.{after_match, settling}
 use Rattle.schema_node.specs.NodeMeets.{ChildMeets, EdgeMeets, EntryMeets, FormMeets, child_run, part_looked, parts_looked, reading}
 use Rattle.schema_nodes.specs.NodeTable.{numbered, shaped_form, shaped_part}
@@ -36,6 +36,7 @@ use Rattle.schema_meaning.proofs.Alike.{asked_alike}
 use Rattle.schema_parts.proofs.Replies.{if_ok_always, if_ok_both, if_ok_mono}
 use Rattle.schema_node.proofs.NodeRuns.{agrees_answers, agrees_says, child_below, child_here, edge_busy, falls_below, falls_here, form_reference, leaf_accepts, needs_of_entered, node_by_plan, one_entry, settled_entries, stands_in, start_entries, where_is}
 use Rattle.schema_contexts.proofs.Matches.{after_assumes, moved, meets_append, meets_same}
+use Rattle.schema_node.proofs.AskedMatches.{step_asks}
 use Rattle.schema_node.proofs.KeywordMeets.{meets_all, meets_asked, meets_at_once, meets_begun, meets_mark_taken, meets_marked, meets_matched, meets_nothing}
 use Rattle.schema_node.proofs.NodeMeets.{end_met, last_met, leaf_holds, leaf_no, leaf_yes, meets_below, meets_busy, meets_here, meets_never, meets_reference, meets_these, next_met, nothing_refused, other_entry, stops_at, meets_by_plan, stops}
 use Rattle.schema_parts.proofs.Drops.{drop_at, drop_past}
@@ -748,8 +749,8 @@ turns::run_turns-ask_child-requires g t c =
     let es = map (option_map edge_of) c.args.keyword.now.children.now in
     let busy = busy_at p c.args.context.now.in_progress in
     let told = reply_of false c.turns.reply in
-    let turn = c.in_ok-child.ensures.turns false (tells_nothing (g.K.Validate.is_whole m) s) in
-    let step = rw c.in-Ask.is at (c.in_ok-child.ensures.steps false (tells_nothing (g.K.Validate.is_whole m) s)) in
+    let turn = c.in_ok-step.ensures.turns false (tells_nothing (g.K.Validate.is_whole m) s) in
+    let step = rw c.in-Ask.is at (c.in_ok-step.ensures.steps false (tells_nothing (g.K.Validate.is_whole m) s)) in
     let kept = c.turns.invariant.kept in
     let l = ap (λ es. left ns (length c.args.engine.now.nodes.now) c.args.node.0 s (busy_at p es)) kept in
     let q : Question = record { child = c.in-Ask.child; below = below_of c.in-Ask.below } in
@@ -767,12 +768,12 @@ turns::run_turns-returns-in-Done-clause-right g t c = λ x reads l.
     let tells = tells_keyword g.K.Validate.is_whole ns (length c.args.engine.now.nodes.now) (settling (g.M.Matcher.matching c.args.engine.now.matcher.now) c.args.context.now.remembered.assumptions) p s x c.args.node.0 m es c.requires.may.known reads c.requires.form in
     let answers = child_says g.K.Validate.words ns x (path_of c.args.question.now.path.now) p busy es in
     let units = child_unit g.K.Validate.words ns x (path_of c.args.question.now.path.now) p busy es in
-    ended_on (g.K.Validate.words x.texts) m (g.K.Validate.absorbed m) (g.K.Validate.remaining m) (g.K.Validate.can_be x.texts m) (g.K.Validate.ends x.texts m) (g.K.Validate.fits x.texts m) (g.met.K.Validate.turn_laws x.texts m) s x (mode_of c.args.question.now.mode) answers units (same_edge es) c.turns.context.marking (c.turns.run, answer_of x.texts c.turns.answer) (c.turn.new.run, answer_of x.texts c.turn.new.answer) (reply_of x.texts c.turns.reply) (answer_of x.texts c.turn.new.answer) (c.turns.invariant.leads x reads l) (c.in_ok-child.ensures.turns x.texts tells) (g.met.K.Validate.answers x.texts c.turn.new.run (answer_of x.texts c.turn.new.answer)) (rw c.in-Done.is at (c.in_ok-child.ensures.steps x.texts tells))
+    ended_on (g.K.Validate.words x.texts) m (g.K.Validate.absorbed m) (g.K.Validate.remaining m) (g.K.Validate.can_be x.texts m) (g.K.Validate.ends x.texts m) (g.K.Validate.fits x.texts m) (g.met.K.Validate.turn_laws x.texts m) s x (mode_of c.args.question.now.mode) answers units (same_edge es) c.turns.context.marking (c.turns.run, answer_of x.texts c.turns.answer) (c.turn.new.run, answer_of x.texts c.turn.new.answer) (reply_of x.texts c.turns.reply) (answer_of x.texts c.turn.new.answer) (c.turns.invariant.leads x reads l) (c.in_ok-step.ensures.turns x.texts tells) (g.met.K.Validate.answers x.texts c.turn.new.run (answer_of x.texts c.turn.new.answer)) (rw c.in-Done.is at (c.in_ok-step.ensures.steps x.texts tells))
 
 pub turns::run_turns-returns-in-Done-clause-passes : goal.turns::run_turns-returns-in-Done-clause-passes
 turns::run_turns-returns-in-Done-clause-passes g t c = λ root at_place.
     let i = c.turns.invariant.borrows root at_place in
-    c.in_ok-child.ensures.borrows root i.0 i.1
+    c.in_ok-step.ensures.borrows root i.0 i.1
 
 pub turns::run_turns-turns-smaller-in-Ask : goal.turns::run_turns-turns-smaller-in-Ask
 turns::run_turns-turns-smaller-in-Ask g t c =
@@ -783,8 +784,8 @@ turns::run_turns-turns-smaller-in-Ask g t c =
     let es = map (option_map edge_of) c.args.keyword.now.children.now in
     let busy = busy_at p c.args.context.now.in_progress in
     let told = reply_of false c.turns.reply in
-    let turn = c.in_ok-child.ensures.turns false (tells_nothing (g.K.Validate.is_whole m) s) in
-    let step = rw c.in-Ask.is at (c.in_ok-child.ensures.steps false (tells_nothing (g.K.Validate.is_whole m) s)) in
+    let turn = c.in_ok-step.ensures.turns false (tells_nothing (g.K.Validate.is_whole m) s) in
+    let step = rw c.in-Ask.is at (c.in_ok-step.ensures.steps false (tells_nothing (g.K.Validate.is_whole m) s)) in
     let q : Question = record { child = c.in-Ask.child; below = below_of c.in-Ask.below } in
     falls_turned (g.K.Validate.words false) m (g.K.Validate.absorbed m) (g.K.Validate.remaining m) (g.K.Validate.can_be false m) (g.K.Validate.ends false m) (g.K.Validate.fits false m) (g.met.K.Validate.turn_laws false m) s (c.turns.run, answer_of false c.turns.answer) (c.turn.new.run, answer_of false c.turn.new.answer) told (ask q (mode_of c.in-Ask.wanted)) c.turns.invariant.can turn step (ask_goes_on q (mode_of c.in-Ask.wanted))
 
@@ -799,8 +800,8 @@ turns::run_turns-turns-preserved-in-Ask g t c =
     let es = map (option_map edge_of) c.args.keyword.now.children.now in
     let busy = busy_at p c.args.context.now.in_progress in
     let told = reply_of false c.turns.reply in
-    let turn = c.in_ok-child.ensures.turns false (tells_nothing (g.K.Validate.is_whole m) s) in
-    let step = rw c.in-Ask.is at (c.in_ok-child.ensures.steps false (tells_nothing (g.K.Validate.is_whole m) s)) in
+    let turn = c.in_ok-step.ensures.turns false (tells_nothing (g.K.Validate.is_whole m) s) in
+    let step = rw c.in-Ask.is at (c.in_ok-step.ensures.steps false (tells_nothing (g.K.Validate.is_whole m) s)) in
     let q : Question = record { child = c.in-Ask.child; below = below_of c.in-Ask.below } in
     let says = tells_moved (setting g.K.Validate.words g.K.Validate.is_whole g.K.Validate.shape g.M.Matcher.matching c.args.engine.now) (record { subject = s; place = p; path = path_of c.args.question.now.path.now; mode = mode_of c.in-Ask.wanted }) c.args.context.now c.turns.context c.turns.invariant.kept c.turns.invariant.assumes c.args.node.0 es q c.in_ok-reply-in-Ask.reply c.in_ok-reply-in-Ask.ensures.gives in
     record {
@@ -812,15 +813,15 @@ turns::run_turns-turns-preserved-in-Ask g t c =
       quiet = λ none. c.in_ok-reply-in-Ask.ensures.quiet none ∙ c.turns.invariant.quiet none;
       borrows = λ root at_place.
           let i = c.turns.invariant.borrows root at_place in
-          (c.in_ok-reply-in-Ask.ensures.borrows root at_place, c.in_ok-child.ensures.borrows root i.0 i.1);
+          (c.in_ok-reply-in-Ask.ensures.borrows root at_place, c.in_ok-step.ensures.borrows root i.0 i.1);
       leads = λ x reads l.
           let tells = tells_keyword g.K.Validate.is_whole ns (length c.args.engine.now.nodes.now) (settling (g.M.Matcher.matching c.args.engine.now.matcher.now) c.args.context.now.remembered.assumptions) p s x c.args.node.0 m es c.requires.may.known reads c.requires.form in
           asked_on (g.K.Validate.words x.texts) m (g.K.Validate.absorbed m) (g.K.Validate.remaining m) (g.K.Validate.can_be x.texts m) (g.K.Validate.ends x.texts m) (g.K.Validate.fits x.texts m) (g.met.K.Validate.turn_laws x.texts m) s x (mode_of c.args.question.now.mode) (child_says g.K.Validate.words ns x (path_of c.args.question.now.path.now) p busy es) (child_unit g.K.Validate.words ns x (path_of c.args.question.now.path.now) p busy es) (same_edge es) c.turns.context.marking c.ask_child.new.context.marking (c.turns.run, answer_of x.texts c.turns.answer) (c.turn.new.run, answer_of x.texts c.turn.new.answer)
-          (reply_of x.texts c.turns.reply) (reply_of x.texts c.in_ok-reply-in-Ask.reply) q (mode_of c.in-Ask.wanted) c.in_ok-reply-in-Ask.ensures.keeps.marking (c.turns.invariant.leads x reads l) (c.in_ok-child.ensures.turns x.texts tells) (rw c.in-Ask.is at (c.in_ok-child.ensures.steps x.texts tells)) (says x reads l ∙ answer_is (g.K.Validate.words x.texts) m s (matching x.matcher x.completion) (child_says g.K.Validate.words ns x (path_of c.args.question.now.path.now) p busy es) (child_unit g.K.Validate.words ns x (path_of c.args.question.now.path.now) p busy es) (same_edge es) (mode_of c.in-Ask.wanted) q);
+          (reply_of x.texts c.turns.reply) (reply_of x.texts c.in_ok-reply-in-Ask.reply) q (mode_of c.in-Ask.wanted) c.in_ok-reply-in-Ask.ensures.keeps.marking (c.turns.invariant.leads x reads l) (c.in_ok-step.ensures.turns x.texts tells) (rw c.in-Ask.is at (c.in_ok-step.ensures.steps x.texts tells)) (says x reads l ∙ answer_is (g.K.Validate.words x.texts) m s (matching x.matcher x.completion) (child_says g.K.Validate.words ns x (path_of c.args.question.now.path.now) p busy es) (child_unit g.K.Validate.words ns x (path_of c.args.question.now.path.now) p busy es) (same_edge es) (mode_of c.in-Ask.wanted) q);
       met = λ texts root depth reads l.
           let tells = tells_keyword g.K.Validate.is_whole ns (length c.args.engine.now.nodes.now) w p s (reading w texts root depth) c.args.node.0 m es c.requires.may.known reads c.requires.form in
-          let step' = rw c.in-Ask.is at (c.in_ok-child.ensures.steps texts tells) in
-          let turn' = c.in_ok-child.ensures.turns texts tells in
+          let step' = rw c.in-Ask.is at (c.in_ok-step.ensures.steps texts tells) in
+          let turn' = c.in_ok-step.ensures.turns texts tells in
           let falls = falls_turned (g.K.Validate.words texts) m (g.K.Validate.absorbed m) (g.K.Validate.remaining m) (g.K.Validate.can_be texts m) (g.K.Validate.ends texts m) (g.K.Validate.fits texts m) (g.met.K.Validate.turn_laws texts m) s (c.turns.run, answer_of texts c.turns.answer) (c.turn.new.run, answer_of texts c.turn.new.answer) (reply_of texts c.turns.reply) (ask q (mode_of c.in-Ask.wanted)) (c.turns.invariant.leads (reading w texts root depth) reads l).can turn' step' (ask_goes_on q (mode_of c.in-Ask.wanted)) in
           let replied = says (reading w texts root depth) reads l ∙ told_is g.K.Validate.words ns w texts root depth (mode_of c.in-Ask.wanted) (path_of c.args.question.now.path.now) p busy es q in
           let met = moved (λ es' as'. ChildMeets g.K.Validate.words g.K.Validate.is_whole ns (length c.args.engine.now.nodes.now) (settling (g.M.Matcher.matching c.args.engine.now.matcher.now) as') (mode_of c.in-Ask.wanted) (path_of c.args.question.now.path.now) p (busy_at p es') s c.turns.context.remembered c.ask_child.new.context.remembered c.args.node.0 es q) c.turns.invariant.kept c.turns.invariant.assumes c.in_ok-reply-in-Ask.ensures.meets texts root depth reads l in
@@ -838,10 +839,11 @@ turns::run_turns-turns-smaller-in-Match g t c =
     let busy = busy_at p c.args.context.now.in_progress in
     let name = string_bytes c.args.keyword.now.name.now in
     let told = reply_of false c.turns.reply in
-    let turn = c.in_ok-child.ensures.turns false (tells_nothing (g.K.Validate.is_whole m) s) in
-    let a : Pair = record { pattern = c.in-Match.pattern.now; subject = c.in-Match.subject.now } in
-    let point = point_of c.in-Match.pattern.now c.in-Match.point in
-    let step = rw c.in-Match.is at (c.in_ok-child.ensures.steps false (tells_nothing (g.K.Validate.is_whole m) s)) in
+    let turn = c.in_ok-step.ensures.turns false (tells_nothing (g.K.Validate.is_whole m) s) in
+    let asked = step_asks c.in_ok-step.step c.in-Match.is in
+    let a = asked.0 in
+    let point = asked.1 in
+    let step = c.in_ok-step.ensures.steps false (tells_nothing (g.K.Validate.is_whole m) s) ∙ asked.2 in
     falls_turned (g.K.Validate.words false) m (g.K.Validate.absorbed m) (g.K.Validate.remaining m) (g.K.Validate.can_be false m) (g.K.Validate.ends false m) (g.K.Validate.fits false m) (g.met.K.Validate.turn_laws false m) s (c.turns.run, answer_of false c.turns.answer) (c.turn.new.run, answer_of false c.turn.new.answer) told (match_text a point) c.turns.invariant.can turn step (match_goes_on a point)
 
 pub turns::run_turns-turns-smaller-in-Ecma : goal.turns::run_turns-turns-smaller-in-Ecma
@@ -855,12 +857,12 @@ turns::run_turns-turns-smaller-in-Ecma g t c =
     let busy = busy_at p c.args.context.now.in_progress in
     let name = string_bytes c.args.keyword.now.name.now in
     let told = reply_of false c.turns.reply in
-    let turn = c.in_ok-child.ensures.turns false (tells_nothing (g.K.Validate.is_whole m) s) in
-    let step = rw c.in-Ecma.is at (c.in_ok-child.ensures.steps false (tells_nothing (g.K.Validate.is_whole m) s)) in
+    let turn = c.in_ok-step.ensures.turns false (tells_nothing (g.K.Validate.is_whole m) s) in
+    let step = rw c.in-Ecma.is at (c.in_ok-step.ensures.steps false (tells_nothing (g.K.Validate.is_whole m) s)) in
     falls_turned (g.K.Validate.words false) m (g.K.Validate.absorbed m) (g.K.Validate.remaining m) (g.K.Validate.can_be false m) (g.K.Validate.ends false m) (g.K.Validate.fits false m) (g.met.K.Validate.turn_laws false m) s (c.turns.run, answer_of false c.turns.answer) (c.turn.new.run, answer_of false c.turn.new.answer) told (ecma c.in-Ecma.text.now) c.turns.invariant.can turn step (ecma_goes_on c.in-Ecma.text.now)
 
-pub turns::run_turns-asked_match-requires : goal.turns::run_turns-asked_match-requires
-turns::run_turns-asked_match-requires g t c =
+pub turns::run_turns-step_match-requires : goal.turns::run_turns-step_match-requires
+turns::run_turns-step_match-requires g t c =
     let ns = numbered g.K.Validate.shape c.args.engine.now.nodes.now in
     let w = settling (g.M.Matcher.matching c.args.engine.now.matcher.now) c.args.context.now.remembered.assumptions in
     let p = steps_to c.args.question.now.place.now in
@@ -870,11 +872,8 @@ turns::run_turns-asked_match-requires g t c =
     let busy = busy_at p c.args.context.now.in_progress in
     let name = string_bytes c.args.keyword.now.name.now in
     let told = reply_of false c.turns.reply in
-    let turn = c.in_ok-child.ensures.turns false (tells_nothing (g.K.Validate.is_whole m) s) in
-    let a : Pair = record { pattern = c.in-Match.pattern.now; subject = c.in-Match.subject.now } in
-    let point = point_of c.in-Match.pattern.now c.in-Match.point in
-    let step = rw c.in-Match.is at (c.in_ok-child.ensures.steps false (tells_nothing (g.K.Validate.is_whole m) s)) in
-    record { present = matches_there (g.K.Validate.words false) m (g.K.Validate.absorbed m) (g.K.Validate.remaining m) (g.K.Validate.can_be false m) (g.K.Validate.ends false m) (g.K.Validate.fits false m) (g.met.K.Validate.turn_laws false m) s (c.turns.run, answer_of false c.turns.answer) told a point c.turns.invariant.can step }
+    let turn = c.in_ok-step.ensures.turns false (tells_nothing (g.K.Validate.is_whole m) s) in
+    record { present = λ a point is. matches_there (g.K.Validate.words false) m (g.K.Validate.absorbed m) (g.K.Validate.remaining m) (g.K.Validate.can_be false m) (g.K.Validate.ends false m) (g.K.Validate.fits false m) (g.met.K.Validate.turn_laws false m) s (c.turns.run, answer_of false c.turns.answer) told a point c.turns.invariant.can (c.in_ok-step.ensures.steps false (tells_nothing (g.K.Validate.is_whole m) s) ∙ is) }
 
 pub turns::run_turns-turns-preserved-in-Match : goal.turns::run_turns-turns-preserved-in-Match
 turns::run_turns-turns-preserved-in-Match g t c =
@@ -887,37 +886,39 @@ turns::run_turns-turns-preserved-in-Match g t c =
     let busy = busy_at p c.args.context.now.in_progress in
     let name = string_bytes c.args.keyword.now.name.now in
     let told = reply_of false c.turns.reply in
-    let turn = c.in_ok-child.ensures.turns false (tells_nothing (g.K.Validate.is_whole m) s) in
-    let a : Pair = record { pattern = c.in-Match.pattern.now; subject = c.in-Match.subject.now } in
-    let point = point_of c.in-Match.pattern.now c.in-Match.point in
-    let n = node_of c.node.result.now in
+    let turn = c.in_ok-step.ensures.turns false (tells_nothing (g.K.Validate.is_whole m) s) in
+    let asked = step_asks c.in_ok-step.step c.in-Match.is in
+    let a = asked.0 in
+    let point = asked.1 in
+    let n = node_of c.node-node.result.now in
     let answer = (w.matcher).is_match a.pattern a.subject in
-    let step = rw c.in-Match.is at (c.in_ok-child.ensures.steps false (tells_nothing (g.K.Validate.is_whole m) s)) in
-    let out = rw c.turns.invariant.assumes at c.in_ok-matches-in-Match.ensures.answer in
+    let step = c.in_ok-step.ensures.steps false (tells_nothing (g.K.Validate.is_whole m) s) ∙ asked.2 in
+    let out = rw c.turns.invariant.assumes at (c.in_ok-matches-in-Match.ensures.answer a point asked.2) in
+    let met = c.in_ok-matches-in-Match.ensures.met a point asked.2 in
     record {
-      kept = c.asked_match.ensures.in_progress ∙ c.turns.invariant.kept;
-      assumes = ap (λ (r : Remembered). r.assumptions) c.in_ok-matches-in-Match.ensures.met ∙ after_assumes _ _ answer ∙ c.turns.invariant.assumes;
-      stays = λ layout laid right. right_matched (setting g.K.Validate.words g.K.Validate.is_whole g.K.Validate.shape g.M.Matcher.matching c.args.engine.now) layout c.turns.context c.asked_match.new.context _ answer refl c.asked_match.ensures.verdicts c.in_ok-matches-in-Match.ensures.met (c.turns.invariant.stays layout laid right);
+      kept = c.step_match.ensures.in_progress ∙ c.turns.invariant.kept;
+      assumes = ap (λ (r : Remembered). r.assumptions) met ∙ after_assumes _ _ answer ∙ c.turns.invariant.assumes;
+      stays = λ layout laid right. right_matched (setting g.K.Validate.words g.K.Validate.is_whole g.K.Validate.shape g.M.Matcher.matching c.args.engine.now) layout c.turns.context c.step_match.new.context _ answer refl c.step_match.ensures.verdicts met (c.turns.invariant.stays layout laid right);
       can = can_after (g.K.Validate.words false) m (g.K.Validate.absorbed m) (g.K.Validate.remaining m) (g.K.Validate.can_be false m) (g.K.Validate.ends false m) (g.K.Validate.fits false m) (g.met.K.Validate.turn_laws false m) s (c.turns.run, answer_of false c.turns.answer) (c.turn.new.run, answer_of false c.turn.new.answer) told c.turns.invariant.can turn;
-      counted = no_fewer c.args.context.now.visits c.turns.context.visits c.asked_match.new.context.visits c.turns.invariant.counted (as_many _ _ c.asked_match.ensures.visits);
-      quiet = λ none. c.asked_match.ensures.visits ∙ c.turns.invariant.quiet none;
+      counted = no_fewer c.args.context.now.visits c.turns.context.visits c.step_match.new.context.visits c.turns.invariant.counted (as_many _ _ c.step_match.ensures.visits);
+      quiet = λ none. c.step_match.ensures.visits ∙ c.turns.invariant.quiet none;
       borrows = λ root at_place.
           let i = c.turns.invariant.borrows root at_place in
-          (All-nil (BorrowsItsPlace root), c.in_ok-child.ensures.borrows root i.0 i.1);
+          (All-nil (BorrowsItsPlace root), c.in_ok-step.ensures.borrows root i.0 i.1);
       leads = λ x reads l.
           let tells = tells_keyword g.K.Validate.is_whole ns (length c.args.engine.now.nodes.now) w p s x c.args.node.0 m es c.requires.may.known reads c.requires.form in
           let is = ap truth (out ∙ ap (λ b. settled b answer) (sym (reads.completes a)) ∙ ap (λ (o : Matcher). settled (completed x.completion a) (o.is_match a.pattern a.subject)) (sym reads.matcher)) in
-          matched_on (g.K.Validate.words x.texts) m (g.K.Validate.absorbed m) (g.K.Validate.remaining m) (g.K.Validate.can_be x.texts m) (g.K.Validate.ends x.texts m) (g.K.Validate.fits x.texts m) (g.met.K.Validate.turn_laws x.texts m) s x (mode_of c.args.question.now.mode) (child_says g.K.Validate.words ns x (path_of c.args.question.now.path.now) p busy es) (child_unit g.K.Validate.words ns x (path_of c.args.question.now.path.now) p busy es) (same_edge es) c.turns.context.marking c.asked_match.new.context.marking (c.turns.run, answer_of x.texts c.turns.answer) (c.turn.new.run, answer_of x.texts c.turn.new.answer)
-          (reply_of x.texts c.turns.reply) (truth c.in_ok-matches-in-Match.matches) a point c.asked_match.ensures.marking (c.turns.invariant.leads x reads l) (c.in_ok-child.ensures.turns x.texts tells) (rw c.in-Match.is at (c.in_ok-child.ensures.steps x.texts tells)) is;
+          matched_on (g.K.Validate.words x.texts) m (g.K.Validate.absorbed m) (g.K.Validate.remaining m) (g.K.Validate.can_be x.texts m) (g.K.Validate.ends x.texts m) (g.K.Validate.fits x.texts m) (g.met.K.Validate.turn_laws x.texts m) s x (mode_of c.args.question.now.mode) (child_says g.K.Validate.words ns x (path_of c.args.question.now.path.now) p busy es) (child_unit g.K.Validate.words ns x (path_of c.args.question.now.path.now) p busy es) (same_edge es) c.turns.context.marking c.step_match.new.context.marking (c.turns.run, answer_of x.texts c.turns.answer) (c.turn.new.run, answer_of x.texts c.turn.new.answer)
+          (reply_of x.texts c.turns.reply) (truth c.in_ok-matches-in-Match.matches) a point c.step_match.ensures.marking (c.turns.invariant.leads x reads l) (c.in_ok-step.ensures.turns x.texts tells) (c.in_ok-step.ensures.steps x.texts tells ∙ asked.2) is;
       met = λ texts root depth reads l.
           let tells = tells_keyword g.K.Validate.is_whole ns (length c.args.engine.now.nodes.now) w p s (reading w texts root depth) c.args.node.0 m es c.requires.may.known reads c.requires.form in
-          let step' = rw c.in-Match.is at (c.in_ok-child.ensures.steps texts tells) in
-          let turn' = c.in_ok-child.ensures.turns texts tells in
+          let step' = c.in_ok-step.ensures.steps texts tells ∙ asked.2 in
+          let turn' = c.in_ok-step.ensures.turns texts tells in
           let falls = falls_turned (g.K.Validate.words texts) m (g.K.Validate.absorbed m) (g.K.Validate.remaining m) (g.K.Validate.can_be texts m) (g.K.Validate.ends texts m) (g.K.Validate.fits texts m) (g.met.K.Validate.turn_laws texts m) s (c.turns.run, answer_of texts c.turns.answer) (c.turn.new.run, answer_of texts c.turn.new.answer) (reply_of texts c.turns.reply) (match_text a point) (c.turns.invariant.leads (reading w texts root depth) reads l).can turn' step' (match_goes_on a point) in
           let is = ap truth (out ∙ ap (λ b. settled b answer) (sym (reads.completes a))) in
-          let there = where_is g.K.Validate.shape c.args.engine.now.nodes.now (g.K.Validate.words texts) w.matcher (subject_in root) c.args.node.0 n (path_of c.args.question.now.path.now) p c.node.ensures.found in
-          let new = c.in_ok-matches-in-Match.ensures.met ∙ ap (λ (v : Where). after_match c.turns.context.remembered (record { pair = a; site = site_at v name point }) answer) (sym there) in
-          meets_matched (g.K.Validate.words texts) w.matcher w.assumptions (node_at (g.K.Validate.words texts) w.matcher ns (subject_in root) c.args.node.0 (path_of c.args.question.now.path.now) p) s (child_run g.K.Validate.words ns w texts root depth (path_of c.args.question.now.path.now) p busy es) (same_edge es) name m (g.K.Validate.remaining m s) _ _ _ _ _ _ _ _ _ _ a point c.asked_match.ensures.marking turn' step' falls is new (c.turns.invariant.met texts root depth reads l);
+          let there = where_is g.K.Validate.shape c.args.engine.now.nodes.now (g.K.Validate.words texts) w.matcher (subject_in root) c.args.node.0 n (path_of c.args.question.now.path.now) p c.node-node.ensures.found in
+          let new = met ∙ ap (λ (v : Where). after_match c.turns.context.remembered (record { pair = a; site = site_at v name point }) answer) (sym there) in
+          meets_matched (g.K.Validate.words texts) w.matcher w.assumptions (node_at (g.K.Validate.words texts) w.matcher ns (subject_in root) c.args.node.0 (path_of c.args.question.now.path.now) p) s (child_run g.K.Validate.words ns w texts root depth (path_of c.args.question.now.path.now) p busy es) (same_edge es) name m (g.K.Validate.remaining m s) _ _ _ _ _ _ _ _ _ _ a point c.step_match.ensures.marking turn' step' falls is new (c.turns.invariant.met texts root depth reads l);
     }
 
 pub turns::run_turns-turns-preserved-in-Ecma : goal.turns::run_turns-turns-preserved-in-Ecma
@@ -931,9 +932,9 @@ turns::run_turns-turns-preserved-in-Ecma g t c =
     let busy = busy_at p c.args.context.now.in_progress in
     let name = string_bytes c.args.keyword.now.name.now in
     let told = reply_of false c.turns.reply in
-    let turn = c.in_ok-child.ensures.turns false (tells_nothing (g.K.Validate.is_whole m) s) in
+    let turn = c.in_ok-step.ensures.turns false (tells_nothing (g.K.Validate.is_whole m) s) in
     let text = c.in-Ecma.text.now in
-    let step = rw c.in-Ecma.is at (c.in_ok-child.ensures.steps false (tells_nothing (g.K.Validate.is_whole m) s)) in
+    let step = rw c.in-Ecma.is at (c.in_ok-step.ensures.steps false (tells_nothing (g.K.Validate.is_whole m) s)) in
     record {
       kept = c.turns.invariant.kept;
       assumes = c.turns.invariant.assumes;
@@ -943,16 +944,16 @@ turns::run_turns-turns-preserved-in-Ecma g t c =
       counted = c.turns.invariant.counted;
       borrows = λ root at_place.
           let i = c.turns.invariant.borrows root at_place in
-          (All-nil (BorrowsItsPlace root), c.in_ok-child.ensures.borrows root i.0 i.1);
+          (All-nil (BorrowsItsPlace root), c.in_ok-step.ensures.borrows root i.0 i.1);
       leads = λ x reads l.
           let tells = tells_keyword g.K.Validate.is_whole ns (length c.args.engine.now.nodes.now) w p s x c.args.node.0 m es c.requires.may.known reads c.requires.form in
           let is = ap truth (c.in_ok-valid-in-Ecma.ensures.valid ∙ ap (λ (o : Matcher). o.is_ecma text) (sym reads.matcher)) in
           told_pattern_on (g.K.Validate.words x.texts) m (g.K.Validate.absorbed m) (g.K.Validate.remaining m) (g.K.Validate.can_be x.texts m) (g.K.Validate.ends x.texts m) (g.K.Validate.fits x.texts m) (g.met.K.Validate.turn_laws x.texts m) s x (mode_of c.args.question.now.mode) (child_says g.K.Validate.words ns x (path_of c.args.question.now.path.now) p busy es) (child_unit g.K.Validate.words ns x (path_of c.args.question.now.path.now) p busy es) (same_edge es) c.turns.context.marking c.turns.context.marking (c.turns.run, answer_of x.texts c.turns.answer) (c.turn.new.run, answer_of x.texts c.turn.new.answer)
-          (reply_of x.texts c.turns.reply) (truth c.in_ok-valid-in-Ecma.valid) text refl (c.turns.invariant.leads x reads l) (c.in_ok-child.ensures.turns x.texts tells) (rw c.in-Ecma.is at (c.in_ok-child.ensures.steps x.texts tells)) is;
+          (reply_of x.texts c.turns.reply) (truth c.in_ok-valid-in-Ecma.valid) text refl (c.turns.invariant.leads x reads l) (c.in_ok-step.ensures.turns x.texts tells) (rw c.in-Ecma.is at (c.in_ok-step.ensures.steps x.texts tells)) is;
       met = λ texts root depth reads l.
           let tells = tells_keyword g.K.Validate.is_whole ns (length c.args.engine.now.nodes.now) w p s (reading w texts root depth) c.args.node.0 m es c.requires.may.known reads c.requires.form in
-          let step' = rw c.in-Ecma.is at (c.in_ok-child.ensures.steps texts tells) in
-          let turn' = c.in_ok-child.ensures.turns texts tells in
+          let step' = rw c.in-Ecma.is at (c.in_ok-step.ensures.steps texts tells) in
+          let turn' = c.in_ok-step.ensures.turns texts tells in
           let falls = falls_turned (g.K.Validate.words texts) m (g.K.Validate.absorbed m) (g.K.Validate.remaining m) (g.K.Validate.can_be texts m) (g.K.Validate.ends texts m) (g.K.Validate.fits texts m) (g.met.K.Validate.turn_laws texts m) s (c.turns.run, answer_of texts c.turns.answer) (c.turn.new.run, answer_of texts c.turn.new.answer) (reply_of texts c.turns.reply) (ecma text) (c.turns.invariant.leads (reading w texts root depth) reads l).can turn' step' (ecma_goes_on text) in
           meets_nothing (g.K.Validate.words texts) w.matcher w.assumptions (node_at (g.K.Validate.words texts) w.matcher ns (subject_in root) c.args.node.0 (path_of c.args.question.now.path.now) p) s (child_run g.K.Validate.words ns w texts root depth (path_of c.args.question.now.path.now) p busy es) (same_edge es) name m (g.K.Validate.remaining m s) _ _ _ _ _ _ _ _ _ _ text refl turn' step' falls (ap truth c.in_ok-valid-in-Ecma.ensures.valid) refl (c.turns.invariant.met texts root depth reads l);
     }
@@ -968,9 +969,9 @@ turns::run_turns-returns-in-Done-clause-meets g t c = λ texts root depth reads 
     let busy = busy_at p c.args.context.now.in_progress in
     let name = string_bytes c.args.keyword.now.name.now in
     let told = reply_of false c.turns.reply in
-    let turn = c.in_ok-child.ensures.turns false (tells_nothing (g.K.Validate.is_whole m) s) in
+    let turn = c.in_ok-step.ensures.turns false (tells_nothing (g.K.Validate.is_whole m) s) in
     let tells = tells_keyword g.K.Validate.is_whole ns (length c.args.engine.now.nodes.now) w p s (reading w texts root depth) c.args.node.0 m es c.requires.may.known reads c.requires.form in
-    let all = meets_all (g.K.Validate.words texts) w.matcher w.assumptions (node_at (g.K.Validate.words texts) w.matcher ns (subject_in root) c.args.node.0 (path_of c.args.question.now.path.now) p) s (child_run g.K.Validate.words ns w texts root depth (path_of c.args.question.now.path.now) p busy es) (same_edge es) name m (g.K.Validate.remaining m s) _ _ c.turns.context.remembered c.turns.context.marking (c.turns.run, answer_of texts c.turns.answer) (reply_of texts c.turns.reply) (rw c.in-Done.is at (c.in_ok-child.ensures.steps texts tells)) (c.turns.invariant.met texts root depth reads l) in
+    let all = meets_all (g.K.Validate.words texts) w.matcher w.assumptions (node_at (g.K.Validate.words texts) w.matcher ns (subject_in root) c.args.node.0 (path_of c.args.question.now.path.now) p) s (child_run g.K.Validate.words ns w texts root depth (path_of c.args.question.now.path.now) p busy es) (same_edge es) name m (g.K.Validate.remaining m s) _ _ c.turns.context.remembered c.turns.context.marking (c.turns.run, answer_of texts c.turns.answer) (reply_of texts c.turns.reply) (rw c.in-Done.is at (c.in_ok-step.ensures.steps texts tells)) (c.turns.invariant.met texts root depth reads l) in
     meets_same w.matcher _ _ _ _ (ap (λ v. keyword_met (g.K.Validate.words texts) w.matcher w.assumptions (node_at (g.K.Validate.words texts) w.matcher ns (subject_in root) c.args.node.0 (path_of c.args.question.now.path.now) p) v (child_run g.K.Validate.words ns w texts root depth (path_of c.args.question.now.path.now) p busy es) (same_edge es) name m (mode_of c.args.question.now.mode)) (sym (stands_in root p s reads.stands))) all
 
 pub turns::run_turns-turns-smaller-in-Mark : goal.turns::run_turns-turns-smaller-in-Mark
@@ -978,8 +979,8 @@ turns::run_turns-turns-smaller-in-Mark g t c =
     let s = subject_of c.args.question.now.instance in
     let m = g.K.Validate.shape c.args.keyword.now.keyword.now in
     let told = reply_of false c.turns.reply in
-    let turn = c.in_ok-child.ensures.turns false (tells_nothing (g.K.Validate.is_whole m) s) in
-    let step = rw c.in-Mark.is at (c.in_ok-child.ensures.steps false (tells_nothing (g.K.Validate.is_whole m) s)) in
+    let turn = c.in_ok-step.ensures.turns false (tells_nothing (g.K.Validate.is_whole m) s) in
+    let step = rw c.in-Mark.is at (c.in_ok-step.ensures.steps false (tells_nothing (g.K.Validate.is_whole m) s)) in
     falls_turned (g.K.Validate.words false) m (g.K.Validate.absorbed m) (g.K.Validate.remaining m) (g.K.Validate.can_be false m) (g.K.Validate.ends false m) (g.K.Validate.fits false m) (g.met.K.Validate.turn_laws false m) s (c.turns.run, answer_of false c.turns.answer) (c.turn.new.run, answer_of false c.turn.new.answer) told (mark (marked_of c.in-Mark.marked)) c.turns.invariant.can turn step (mark_goes_on (marked_of c.in-Mark.marked))
 
 pub turns::run_turns-turns-preserved-in-Mark : goal.turns::run_turns-turns-preserved-in-Mark
@@ -993,8 +994,8 @@ turns::run_turns-turns-preserved-in-Mark g t c =
     let busy = busy_at p c.args.context.now.in_progress in
     let name = string_bytes c.args.keyword.now.name.now in
     let told = reply_of false c.turns.reply in
-    let turn = c.in_ok-child.ensures.turns false (tells_nothing (g.K.Validate.is_whole m) s) in
-    let step = rw c.in-Mark.is at (c.in_ok-child.ensures.steps false (tells_nothing (g.K.Validate.is_whole m) s)) in
+    let turn = c.in_ok-step.ensures.turns false (tells_nothing (g.K.Validate.is_whole m) s) in
+    let step = rw c.in-Mark.is at (c.in_ok-step.ensures.steps false (tells_nothing (g.K.Validate.is_whole m) s)) in
     record {
       kept = c.enter_marking.ensures.in_progress ∙ c.turns.invariant.kept;
       assumes = ap (λ (r : Remembered). r.assumptions) c.enter_marking.ensures.remembered ∙ c.turns.invariant.assumes;
@@ -1004,15 +1005,15 @@ turns::run_turns-turns-preserved-in-Mark g t c =
       quiet = λ none. c.enter_marking.ensures.visits ∙ c.turns.invariant.quiet none;
       borrows = λ root at_place.
           let i = c.turns.invariant.borrows root at_place in
-          (All-nil (BorrowsItsPlace root), c.in_ok-child.ensures.borrows root i.0 i.1);
+          (All-nil (BorrowsItsPlace root), c.in_ok-step.ensures.borrows root i.0 i.1);
       leads = λ x reads l.
           let tells = tells_keyword g.K.Validate.is_whole ns (length c.args.engine.now.nodes.now) w p s x c.args.node.0 m es c.requires.may.known reads c.requires.form in
           marked_on (g.K.Validate.words x.texts) m (g.K.Validate.absorbed m) (g.K.Validate.remaining m) (g.K.Validate.can_be x.texts m) (g.K.Validate.ends x.texts m) (g.K.Validate.fits x.texts m) (g.met.K.Validate.turn_laws x.texts m) s x (mode_of c.args.question.now.mode) (child_says g.K.Validate.words ns x (path_of c.args.question.now.path.now) p busy es) (child_unit g.K.Validate.words ns x (path_of c.args.question.now.path.now) p busy es) (same_edge es) c.turns.context.marking c.enter_marking.new.self.marking (c.turns.run, answer_of x.texts c.turns.answer) (c.turn.new.run, answer_of x.texts c.turn.new.answer)
-          (reply_of x.texts c.turns.reply) (truth c.in_ok-held-in-Mark.held) (marked_of c.in-Mark.marked) c.in_ok-held-in-Mark.ensures.marks (c.turns.invariant.leads x reads l) (c.in_ok-child.ensures.turns x.texts tells) (rw c.in-Mark.is at (c.in_ok-child.ensures.steps x.texts tells)) (ap truth c.in_ok-held-in-Mark.ensures.held);
+          (reply_of x.texts c.turns.reply) (truth c.in_ok-held-in-Mark.held) (marked_of c.in-Mark.marked) c.in_ok-held-in-Mark.ensures.marks (c.turns.invariant.leads x reads l) (c.in_ok-step.ensures.turns x.texts tells) (rw c.in-Mark.is at (c.in_ok-step.ensures.steps x.texts tells)) (ap truth c.in_ok-held-in-Mark.ensures.held);
       met = λ texts root depth reads l.
           let tells = tells_keyword g.K.Validate.is_whole ns (length c.args.engine.now.nodes.now) w p s (reading w texts root depth) c.args.node.0 m es c.requires.may.known reads c.requires.form in
-          let step' = rw c.in-Mark.is at (c.in_ok-child.ensures.steps texts tells) in
-          let turn' = c.in_ok-child.ensures.turns texts tells in
+          let step' = rw c.in-Mark.is at (c.in_ok-step.ensures.steps texts tells) in
+          let turn' = c.in_ok-step.ensures.turns texts tells in
           let falls = falls_turned (g.K.Validate.words texts) m (g.K.Validate.absorbed m) (g.K.Validate.remaining m) (g.K.Validate.can_be texts m) (g.K.Validate.ends texts m) (g.K.Validate.fits texts m) (g.met.K.Validate.turn_laws texts m) s (c.turns.run, answer_of texts c.turns.answer) (c.turn.new.run, answer_of texts c.turn.new.answer) (reply_of texts c.turns.reply) (mark (marked_of c.in-Mark.marked)) (c.turns.invariant.leads (reading w texts root depth) reads l).can turn' step' (mark_goes_on (marked_of c.in-Mark.marked)) in
           meets_marked (g.K.Validate.words texts) w.matcher w.assumptions (node_at (g.K.Validate.words texts) w.matcher ns (subject_in root) c.args.node.0 (path_of c.args.question.now.path.now) p) s (child_run g.K.Validate.words ns w texts root depth (path_of c.args.question.now.path.now) p busy es) (same_edge es) name m (g.K.Validate.remaining m s) _ _ _ _ _ _ _ _ _ _ (marked_of c.in-Mark.marked) c.in_ok-held-in-Mark.ensures.marks turn' step' falls (ap truth c.in_ok-held-in-Mark.ensures.held) c.enter_marking.ensures.remembered (c.turns.invariant.met texts root depth reads l);
     }
@@ -1022,8 +1023,8 @@ turns::run_turns-turns-smaller g t c =
     let s = subject_of c.args.question.now.instance in
     let m = g.K.Validate.shape c.args.keyword.now.keyword.now in
     let told = reply_of false c.turns.reply in
-    let turn = c.in_ok-child.ensures.turns false (tells_nothing (g.K.Validate.is_whole m) s) in
-    let step = rw c.in-Unmark.is at (c.in_ok-child.ensures.steps false (tells_nothing (g.K.Validate.is_whole m) s)) in
+    let turn = c.in_ok-step.ensures.turns false (tells_nothing (g.K.Validate.is_whole m) s) in
+    let step = rw c.in-Unmark.is at (c.in_ok-step.ensures.steps false (tells_nothing (g.K.Validate.is_whole m) s)) in
     falls_turned (g.K.Validate.words false) m (g.K.Validate.absorbed m) (g.K.Validate.remaining m) (g.K.Validate.can_be false m) (g.K.Validate.ends false m) (g.K.Validate.fits false m) (g.met.K.Validate.turn_laws false m) s (c.turns.run, answer_of false c.turns.answer) (c.turn.new.run, answer_of false c.turn.new.answer) told unmark c.turns.invariant.can turn step unmark_goes_on
 
 pub turns::run_turns-turns-preserved : goal.turns::run_turns-turns-preserved
@@ -1037,8 +1038,8 @@ turns::run_turns-turns-preserved g t c =
     let busy = busy_at p c.args.context.now.in_progress in
     let name = string_bytes c.args.keyword.now.name.now in
     let told = reply_of false c.turns.reply in
-    let turn = c.in_ok-child.ensures.turns false (tells_nothing (g.K.Validate.is_whole m) s) in
-    let step = rw c.in-Unmark.is at (c.in_ok-child.ensures.steps false (tells_nothing (g.K.Validate.is_whole m) s)) in
+    let turn = c.in_ok-step.ensures.turns false (tells_nothing (g.K.Validate.is_whole m) s) in
+    let step = rw c.in-Unmark.is at (c.in_ok-step.ensures.steps false (tells_nothing (g.K.Validate.is_whole m) s)) in
     record {
       kept = c.exit_marking.ensures.in_progress ∙ c.turns.invariant.kept;
       assumes = ap (λ (r : Remembered). r.assumptions) c.exit_marking.ensures.remembered ∙ c.turns.invariant.assumes;
@@ -1048,15 +1049,15 @@ turns::run_turns-turns-preserved g t c =
       quiet = λ none. c.exit_marking.ensures.visits ∙ c.turns.invariant.quiet none;
       borrows = λ root at_place.
           let i = c.turns.invariant.borrows root at_place in
-          (All-nil (BorrowsItsPlace root), c.in_ok-child.ensures.borrows root i.0 i.1);
+          (All-nil (BorrowsItsPlace root), c.in_ok-step.ensures.borrows root i.0 i.1);
       leads = λ x reads l.
           let tells = tells_keyword g.K.Validate.is_whole ns (length c.args.engine.now.nodes.now) w p s x c.args.node.0 m es c.requires.may.known reads c.requires.form in
           mark_taken_on (g.K.Validate.words x.texts) m (g.K.Validate.absorbed m) (g.K.Validate.remaining m) (g.K.Validate.can_be x.texts m) (g.K.Validate.ends x.texts m) (g.K.Validate.fits x.texts m) (g.met.K.Validate.turn_laws x.texts m) s x (mode_of c.args.question.now.mode) (child_says g.K.Validate.words ns x (path_of c.args.question.now.path.now) p busy es) (child_unit g.K.Validate.words ns x (path_of c.args.question.now.path.now) p busy es) (same_edge es) c.turns.context.marking c.exit_marking.new.self.marking (c.turns.run, answer_of x.texts c.turns.answer) (c.turn.new.run, answer_of x.texts c.turn.new.answer)
-          (reply_of x.texts c.turns.reply) no_reply c.exit_marking.ensures.left (c.turns.invariant.leads x reads l) (c.in_ok-child.ensures.turns x.texts tells) (rw c.in-Unmark.is at (c.in_ok-child.ensures.steps x.texts tells)) refl;
+          (reply_of x.texts c.turns.reply) no_reply c.exit_marking.ensures.left (c.turns.invariant.leads x reads l) (c.in_ok-step.ensures.turns x.texts tells) (rw c.in-Unmark.is at (c.in_ok-step.ensures.steps x.texts tells)) refl;
       met = λ texts root depth reads l.
           let tells = tells_keyword g.K.Validate.is_whole ns (length c.args.engine.now.nodes.now) w p s (reading w texts root depth) c.args.node.0 m es c.requires.may.known reads c.requires.form in
-          let step' = rw c.in-Unmark.is at (c.in_ok-child.ensures.steps texts tells) in
-          let turn' = c.in_ok-child.ensures.turns texts tells in
+          let step' = rw c.in-Unmark.is at (c.in_ok-step.ensures.steps texts tells) in
+          let turn' = c.in_ok-step.ensures.turns texts tells in
           let falls = falls_turned (g.K.Validate.words texts) m (g.K.Validate.absorbed m) (g.K.Validate.remaining m) (g.K.Validate.can_be texts m) (g.K.Validate.ends texts m) (g.K.Validate.fits texts m) (g.met.K.Validate.turn_laws texts m) s (c.turns.run, answer_of texts c.turns.answer) (c.turn.new.run, answer_of texts c.turn.new.answer) (reply_of texts c.turns.reply) unmark (c.turns.invariant.leads (reading w texts root depth) reads l).can turn' step' unmark_goes_on in
           meets_mark_taken (g.K.Validate.words texts) w.matcher w.assumptions (node_at (g.K.Validate.words texts) w.matcher ns (subject_in root) c.args.node.0 (path_of c.args.question.now.path.now) p) s (child_run g.K.Validate.words ns w texts root depth (path_of c.args.question.now.path.now) p busy es) (same_edge es) name m (g.K.Validate.remaining m s) _ _ _ _ _ _ _ _ _ _ c.exit_marking.ensures.left turn' step' falls refl c.exit_marking.ensures.remembered (c.turns.invariant.met texts root depth reads l);
     }
