@@ -51,6 +51,7 @@ WAYS = [
         [
             "schema_engine",
             "schema_node",
+            "schema_answers",
             "schema_contexts",
             "schema_matches",
             "schema_search",
