@@ -11,7 +11,7 @@ import re
 
 ROOT = pathlib.Path(__file__).resolve().parent.parent
 
-WIDTH = 1200
+WIDTH = 1320
 MARGIN = 14
 ROOM_WIDTH = 178
 ROOM_HEIGHT = 86
@@ -52,6 +52,7 @@ WAYS = [
             "schema_engine",
             "schema_validator",
             "schema_node",
+            "schema_answers",
             "schema_contexts",
             "schema_matches",
             "schema_search",

@@ -6,7 +6,7 @@ ghost use Rattle.schema_definitions.specs.Unfinished.{starting};
 ghost use Rattle.schema_reports.specs.ReportViews.{BorrowsItsPlace};
 ghost use Rattle.schema_parts.specs.FaultViews.{errors_in};
 ghost use Rattle.schema_parts.specs.KeywordViews.{mode_of, reply_of};
-ghost use Rattle.schema_node.specs.NodeRuns.{reply_by};
+ghost use Rattle.schema_answers.specs.ReplyModes.{reply_by};
 ghost use Rattle.schema_definitions.specs.Reports.{Outcome};
 ghost use Rattle.schema_definitions.specs.Keywords.{for_all, for_first, for_units, for_verdict};
 ghost use Rattle.schema_validator.specs.Answers.{refusal_of};
