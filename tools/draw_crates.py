@@ -41,7 +41,7 @@ WAYS = [
             "schema_keys",
             "schema_check",
             "schema_compiler",
-            "schema_engine",
+            "schema_validator",
         ],
     ),
     (
@@ -50,6 +50,7 @@ WAYS = [
         "right",
         [
             "schema_engine",
+            "schema_validator",
             "schema_node",
             "schema_answers",
             "schema_contexts",
