@@ -158,12 +158,8 @@ fn schema_maker(
         return each_schema(alloc, name, value, BenchKeyword::OneOf(list_length(value)));
     }
     if name == "prefixItems" {
-        return each_schema(
-            alloc,
-            name,
-            value,
-            BenchKeyword::PrefixItems(list_length(value)),
-        );
+        let keyword = BenchKeyword::PrefixItems(list_length(value));
+        return each_schema(alloc, name, value, keyword);
     }
     if name == "items" {
         return items_maker(alloc, name, value, object, draft);
