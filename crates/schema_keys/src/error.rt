@@ -67,7 +67,11 @@ impl fmt::Display for BuildError {
                 at.as_str()
             ),
             BuildError::ReferenceNotText(at) => {
-                write!(f, "refusal 2 at '{}': the reference is not a text", at.as_str())
+                write!(
+                    f,
+                    "refusal 2 at '{}': the reference is not a text",
+                    at.as_str()
+                )
             }
             BuildError::Lookup(text) => write!(f, "refusal 3: {text}"),
             BuildError::KeywordRefused(error) => {
@@ -86,7 +90,10 @@ impl fmt::Display for BuildError {
             BuildError::MissingRoot(uri) => {
                 write!(f, "refusal 7: there is no document under '{uri}'")
             }
-            BuildError::NodeLimit(limit) => write!(f, "refusal 8: more than {limit} keys are reached"),
+            BuildError::NodeLimit(limit) => write!(
+                f,
+                "refusal 8: more than {limit} keys are reached"
+            ),
             BuildError::OutOfMemory => write!(f, "refusal 9: memory could not be had"),
         }
     }
