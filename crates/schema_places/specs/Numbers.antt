@@ -5,7 +5,8 @@
 use Rattle.std.specs.Prelude.{Bool, List, None, Option, Some, [], false, if◌then◌else◌, is_some, length, option_map, slice_index_or, true, ℕ, ◌&&◌, ◌||◌, ◌++◌, ◌+◌, ◌∷◌, ◌≡◌, ◌<◌, nat_lt}
 use Rattle.std.specs.Cmp.Lexicographic.{slice_cmp}
 use Rattle.std.specs.Ordering.{is_lt, nat_cmp}
-use Rattle.schema_definitions.specs.Instance.{Place, Step, Text, same_place, same_step, to_item, to_member, to_name}
+use Rattle.serde_json.specs.Data.{Data}
+use Rattle.schema_definitions.specs.Instance.{Place, Step, Text, same_place, same_step, subject_at, to_item, to_member, to_name}
 
 -- the number of a place: how many places stand before it
 abbrev pub number_of : Place → List Place → Option ℕ
@@ -15,6 +16,14 @@ number_of p (q ∷ qs) = if same_place p q then Some 0 else option_map (λ n. n 
 -- the place that has a number
 abbrev pub place_at : List Place → ℕ → Place
 place_at ps n = slice_index_or ps n []
+
+-- a place has a number exactly where something stands there
+abbrev pub NumbersAll : Data → List Place → Type 0
+NumbersAll d ps = (p : Place) → is_some (number_of p ps) ≡ is_some (subject_at d p)
+
+-- each number is that of the place that has it
+abbrev pub OwnNumbers : List Place → Type 0
+OwnNumbers ps = (n : ℕ) → n < length ps → number_of (place_at ps n) ps ≡ Some n
 
 -- the second place is the first, or lies below it
 abbrev pub is_under : Place → Place → Bool

@@ -1,7 +1,7 @@
 //! The places of an instance, each with its number.
-ghost use Rattle.std.specs.Prelude.{◌≡◌, ◌<◌, ◌≤◌, ◌&&◌, ◌++◌, ◌∷◌, [], ℕ, IfOk, Some, is_some, length, map, nat_le};
-ghost use Rattle.schema_definitions.specs.Instance.{Place, places, subject_at};
-ghost use Rattle.schema_places.specs.Numbers.{Ascends, Closed, is_under, number_of, place_at};
+ghost use Rattle.std.specs.Prelude.{◌≡◌, ◌<◌, ◌≤◌, ◌&&◌, ◌++◌, ◌∷◌, [], ℕ, IfOk, length, map, nat_le};
+ghost use Rattle.schema_definitions.specs.Instance.{places};
+ghost use Rattle.schema_places.specs.Numbers.{Ascends, Closed, NumbersAll, OwnNumbers, is_under, number_of, place_at};
 ghost use Rattle.schema_places.specs.Rows.{BeginsWithin, steps_to};
 ghost use Rattle.schema_reports.specs.InstanceViews.{step_of};
 ghost use Rattle.serde_json.specs.View.{view};
@@ -41,11 +41,12 @@ impl<'i> Model for Places<'i> {
 }
 
 impl<'i> Places<'i> {
-    /// Numbers the places of an instance. Fails only if memory cannot be allocated.
+    /// Numbers the places of an instance: each place at which something stands gets a number, and no two get the same. Fails only if
+    /// memory cannot be allocated.
     pub fn number(alloc: Global, value: &'i Value) -> Result<Places<'i>, OutOfMemory>
         ensures places { IfOk result (λ ps. ps ≡ places (view value.now)) }
-        ensures there { IfOk result (λ ps. (p : Place)
-            → is_some (number_of p ps) ≡ is_some (subject_at (view value.now) p)) }
+        ensures there { IfOk result (λ ps. NumbersAll (view value.now) ps) }
+        ensures own { IfOk result (λ ps. OwnNumbers ps) }
         ensures ascend { IfOk result (λ ps. Ascends ps) }
     {
         let mut rows = Vec::new(alloc);
@@ -56,8 +57,7 @@ impl<'i> Places<'i> {
     /// Returns how many places there are. It allocates nothing.
     pub fn len(&self) -> usize
         ensures count { result ≡ length self.now }
-        ensures own { (k : ℕ) → k < length self.now
-            → number_of (place_at self.now k) self.now ≡ Some k }
+        ensures own { OwnNumbers self.now }
         ensures ascend { Ascends self.now }
         ensures closed { Closed self.now }
     {
