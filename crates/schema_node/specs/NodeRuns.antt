@@ -15,6 +15,7 @@ use Rattle.schema_reports.specs.ReportViews.{BorrowsItsPlace}
 use Rattle.schema_contexts.specs.Matches.{Settling}
 use Rattle.schema_parts.specs.KeywordViews.{reply_of}
 use Rattle.schema_parts.specs.FaultViews.{errors_in}
+use Rattle.schema_answers.specs.ReplyModes.{reply_by}
 use Rattle.schema_parts.specs.declared.keyword.Reply as code
 
 -- how a run is read: whether texts are spoken of, the root value, the matcher with a completion, and how deep questions go

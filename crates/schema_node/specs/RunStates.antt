@@ -15,6 +15,7 @@ use Rattle.schema_parts.specs.FaultViews.{PassesBorrowed, errors_in, faults_in}
 use Rattle.schema_parts.specs.KeywordViews.{answer_of, mode_of, reply_of}
 use Rattle.schema_contexts.specs.Matches.{MeetsEach, Settling, settling}
 use Rattle.schema_node.specs.NodeMeets.{ChildMeets, EdgeMeets, EntryMeets, FormMeets, NodeMeets, PartsMeet}
+use Rattle.schema_answers.specs.Askings.{Asking, IsAskedOf}
 use Rattle.schema_answers.specs.ReplyModes.{reply_by}
 use Rattle.schema_node.specs.NodeRuns.{ChildReplies, EdgeReplies, FormReplies, NodeReplies, PartsReply, TellsAll}
 use Rattle.schema_nodes.specs.NodeTable.{NodeEntry, numbered}
