@@ -7,7 +7,7 @@ use Rattle.schema_definitions.specs.Meaning.{subject_text}
 use Rattle.keyword_ways.specs.Items.{is_list, item_count}
 use Rattle.keyword_ways.specs.declared.planned.Asks.TheVariants as asks
 use Rattle.keyword_ways.specs.declared.planned.Plan.{Plan}
-use Rattle.keyword_ways.specs.declared.planned.Plan.TheVariants.{AtLeast, Tells}
+use Rattle.keyword_ways.specs.declared.planned.Plan.TheVariants.{AtLeast, Holds}
 use Rattle.bench_parts.specs.declared.by_value.Children.TheVariants as children
 use Rattle.bench_parts.specs.declared.by_value.MemberKeyword.{MemberKeyword}
 use Rattle.bench_parts.specs.declared.by_value.MemberKeyword.TheVariants.{Keyword, Malformed, Nothing}
@@ -16,8 +16,8 @@ use Rattle.array_keywords.specs.declared.ArrayKeyword.TheVariants.{Contains, Min
 
 -- what is no list is accepted
 abbrev pub planned : ArrayKeyword → Subject → Plan
-planned (MinItems limit) s = if is_list s then Tells (nat_le limit (item_count s)) else Tells true
-planned Contains s = if is_list s then AtLeast asks.Items 1 else Tells true
+planned (MinItems limit) s = if is_list s then Holds (nat_le limit (item_count s)) else Holds true
+planned Contains s = if is_list s then AtLeast asks.Items 1 else Holds true
 
 abbrev pub name : ArrayKeyword → Text
 name (MinItems limit) = codes "minItems"

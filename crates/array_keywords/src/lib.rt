@@ -26,25 +26,25 @@ impl PlannedKeyword for ArrayKeyword {
 
     ghost shape = { λ k. k };
 
-    ghost is_whole = { λ k. true };
+    ghost shows_no_fraction = { λ k. true };
 
     ghost planned = { planned };
 
-    ghost named = { name };
+    ghost called = { name };
 
-    ghost told = { told };
+    ghost error_text = { told };
 
     fn plan(&self, instance: Instance<'_>) -> Plan {
         if !is_list(instance) {
-            return Plan::Tells(true);
+            return Plan::Holds(true);
         }
         match self {
-            ArrayKeyword::MinItems(limit) => Plan::Tells(*limit <= item_count(instance) as u64),
+            ArrayKeyword::MinItems(limit) => Plan::Holds(*limit <= item_count(instance) as u64),
             ArrayKeyword::Contains => Plan::AtLeast(Asks::Items, 1),
         }
     }
 
-    fn name(&self) -> &'static str {
+    fn name(&self) -> &str {
         match self {
             ArrayKeyword::MinItems(_) => "minItems",
             ArrayKeyword::Contains => "contains",

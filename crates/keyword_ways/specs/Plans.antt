@@ -6,7 +6,7 @@ use Rattle.schema_definitions.specs.Keywords.{Question}
 use Rattle.keyword_ways.specs.declared.planned.Asks.{Asks}
 use Rattle.keyword_ways.specs.declared.planned.Asks.TheVariants.{Children, Items}
 use Rattle.keyword_ways.specs.declared.planned.Plan.{Plan}
-use Rattle.keyword_ways.specs.declared.planned.Plan.TheVariants.{AtLeast, PassesOn, Tells}
+use Rattle.keyword_ways.specs.declared.planned.Plan.TheVariants.{AtLeast, PassesOn, Holds}
 use Rattle.keyword_ways.specs.Items.{child_here, each_from, first_at_item, item_count}
 use Rattle.keyword_ways.specs.OwnWays.{AlwaysPresent, judge_way, leaf_way}
 use Rattle.keyword_ways.specs.Places.{AsksPresent, children_present, items_present, nothing_asked}
@@ -30,7 +30,7 @@ abbrev pub least_way : Text → Text → ℕ → List Question → Way
 least_way name text least qs = judge_way name least true (nat_le least) (λ n. text) qs
 
 abbrev pub way_by : Text → Text → Subject → Plan → Way
-way_by name text s (Tells holds) = leaf_way name holds text
+way_by name text s (Holds holds) = leaf_way name holds text
 way_by name text s (PassesOn asks) = passes_on (asks_of asks s)
 way_by name text s (AtLeast asks least) = least_way name text least (asks_of asks s)
 
@@ -39,7 +39,7 @@ asks_present s (Children n) = children_present s n
 asks_present s Items = items_present s
 
 plan_present : (name text : Text) (s : Subject) (p : Plan) → AsksPresent s (questions (way_by name text s p))
-plan_present name text s (Tells holds) = nothing_asked s
+plan_present name text s (Holds holds) = nothing_asked s
 plan_present name text s (PassesOn asks) = asks_present s asks
 plan_present name text s (AtLeast asks least) = asks_present s asks
 

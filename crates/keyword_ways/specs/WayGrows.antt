@@ -13,7 +13,7 @@ use Rattle.schema_reports.specs.ReportViews.{spoken}
 use Rattle.schema_meaning.specs.Greatest.{IsMonotone}
 use Rattle.schema_parts.specs.KeywordViews.{is_nil}
 use Rattle.keyword_ways.specs.declared.planned.Plan.{Plan}
-use Rattle.keyword_ways.specs.declared.planned.Plan.TheVariants.{AtLeast, PassesOn, Tells}
+use Rattle.keyword_ways.specs.declared.planned.Plan.TheVariants.{AtLeast, PassesOn, Holds}
 use Rattle.keyword_ways.specs.OwnWays.{leaf_ways, own_words, spoken_way, spoken_ways}
 use Rattle.keyword_ways.specs.Plans.{asks_of, least_way, plan_ways, way_by}
 use Rattle.keyword_ways.specs.Somes.{somes}
@@ -153,7 +153,7 @@ refuses_fewer text least n less = ap (λ b. is_nil (unless b text)) (lt-leb leas
 
 -- each plan is
 plan_grows : (name text : Text) (s : Subject) (p : Plan) → Grows (way_by name text s p)
-plan_grows name text s (Tells holds) = way_grows (way_by name text s (Tells holds)) refl
+plan_grows name text s (Holds holds) = way_grows (way_by name text s (Holds holds)) refl
 plan_grows name text s (PassesOn asks) = way_grows (passes_on (asks_of asks s)) refl
 plan_grows name text s (AtLeast asks least) = way_grows (least_way name text least (asks_of asks s)) (no_before (λ n. is_nil (unless (nat_le least n) text)) least (refuses_fewer text least))
 

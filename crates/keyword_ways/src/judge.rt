@@ -31,7 +31,7 @@ pub trait JudgeKeyword: Drop {
     ghost called: { Self.Shape → Text };
 
     // how many questions there are of an instance, and the question of each number
-    ghost how_many: { Self.Shape → Subject → ℕ };
+    ghost count: { Self.Shape → Subject → ℕ };
 
     ghost question: { Self.Shape → ℕ → Question };
 
@@ -51,7 +51,7 @@ pub trait JudgeKeyword: Drop {
 
     /// How it judges an instance.
     fn judge(&self, instance: Instance<'_>) -> Judge
-        ensures count { result.count ≡ how_many (shape self.now) (subject_of instance.entry) }
+        ensures count { result.count ≡ count (shape self.now) (subject_of instance.entry) }
         ensures enough { result.enough ≡ enough (shape self.now) }
         ensures shows { result.shows ≡ shows (shape self.now) };
 
@@ -114,13 +114,13 @@ pub fn turn_judge<'s, 'i, J: JudgeKeyword>(
         → way_turn (spoken_way texts (judge_way (J.called (J.shape keyword.now)) (J.enough (J.shape keyword.now))
         (J.shows (J.shape keyword.now)) (J.accepts (J.shape keyword.now) (subject_of instance.entry))
         (J.error_text (J.shape keyword.now) (subject_of instance.entry))
-        (each_from (J.question (J.shape keyword.now)) 0 (J.how_many (J.shape keyword.now) (subject_of instance.entry)))))
+        (each_from (J.question (J.shape keyword.now)) 0 (J.count (J.shape keyword.now) (subject_of instance.entry)))))
         (run.old, answer_of texts answer.old) (reply_of texts reply.entry) ≡ (run.new, answer_of texts answer.new)) }
     ensures steps { IfOk result (λ step. (texts : Bool)
         → way_step (spoken_way texts (judge_way (J.called (J.shape keyword.now)) (J.enough (J.shape keyword.now))
         (J.shows (J.shape keyword.now)) (J.accepts (J.shape keyword.now) (subject_of instance.entry))
         (J.error_text (J.shape keyword.now) (subject_of instance.entry))
-        (each_from (J.question (J.shape keyword.now)) 0 (J.how_many (J.shape keyword.now) (subject_of instance.entry)))))
+        (each_from (J.question (J.shape keyword.now)) 0 (J.count (J.shape keyword.now) (subject_of instance.entry)))))
         (run.old, answer_of texts answer.old) (reply_of texts reply.entry) ≡ turn_of step) }
     ensures borrows { IfOk result (λ _. (root : Data) → All (BorrowsItsPlace root) (errors_in reply.entry)
         → All (PassesBorrowed root) (faults_in answer.old) → All (PassesBorrowed root) (faults_in answer.new)) }

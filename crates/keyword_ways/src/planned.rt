@@ -36,7 +36,7 @@ pub enum Asks {
 #[derive(Clone, Copy)]
 pub enum Plan {
     /// It asks nothing, and tells its error unless this holds.
-    Tells(bool),
+    Holds(bool),
     /// It passes on what its questions answer.
     PassesOn(Asks),
     /// It tells its error unless at least so many of its questions are answered by yes.
@@ -54,21 +54,21 @@ pub trait PlannedKeyword: Drop {
     // the shape of a keyword
     ghost shape: { Self → Self.Shape };
     // whether no text of it holds a fraction of the schema
-    ghost is_whole: { Self.Shape → Bool };
+    ghost shows_no_fraction: { Self.Shape → Bool };
     // its plan for an instance
     ghost planned: { Self.Shape → Subject → Plan };
     // the name that its error goes by
-    ghost named: { Self.Shape → Text };
+    ghost called: { Self.Shape → Text };
     // its error's text
-    ghost told: { Self.Shape → Subject → Text };
+    ghost error_text: { Self.Shape → Subject → Text };
 
     /// Returns the keyword's plan for an instance. It is asked in each turn, so it should be cheap.
     fn plan(&self, instance: Instance<'_>) -> Plan
         ensures plan { result ≡ planned (shape self.now) (subject_of instance.entry) };
 
     /// Returns the keyword's name.
-    fn name(&self) -> &'static str
-        ensures name { result.now ≡ named (shape self.now) };
+    fn name(&self) -> &str
+        ensures name { result.now ≡ called (shape self.now) };
 
     /// Returns the error's text. Nothing is promised of it where the instance or the keyword holds a fraction.
     ///
@@ -76,8 +76,8 @@ pub trait PlannedKeyword: Drop {
     ///
     /// Memory cannot be allocated.
     fn text(&self, alloc: Global, instance: Instance<'_>) -> Result<String, OutOfMemory>
-        ensures text { IfOk result (λ text. is_whole (shape self.now) ≡ true → subject_has_float (subject_of instance.entry) ≡ false
-            → string_bytes text ≡ told (shape self.now) (subject_of instance.entry)) };
+        ensures text { IfOk result (λ text. shows_no_fraction (shape self.now) ≡ true → subject_has_float (subject_of instance.entry) ≡ false
+            → string_bytes text ≡ error_text (shape self.now) (subject_of instance.entry)) };
 }
 
 /// A keyword of the engine, by its plan.
@@ -95,9 +95,9 @@ fn tell<'i, P: PlannedKeyword>(
     answer: &mut Answer<'i>,
 ) -> Result<(), OutOfMemory>
     ensures told { IfOk result (λ _. (texts : Bool)
-        → TellsRightly texts (P.is_whole (P.shape keyword.now)) (subject_of instance.entry) → answer_of texts answer.new
-        ≡ noted mode (P.named (P.shape keyword.now)) (answer_of texts answer.old)
-        (spoken texts (P.told (P.shape keyword.now) (subject_of instance.entry)) ∷ [])) }
+        → TellsRightly texts (P.shows_no_fraction (P.shape keyword.now)) (subject_of instance.entry) → answer_of texts answer.new
+        ≡ noted mode (P.called (P.shape keyword.now)) (answer_of texts answer.old)
+        (spoken texts (P.error_text (P.shape keyword.now) (subject_of instance.entry)) ∷ [])) }
     ensures borrows { IfOk result (λ _. (root : Data) → All (PassesBorrowed root) (faults_in answer.old)
         → All (PassesBorrowed root) (faults_in answer.new)) }
 {
@@ -140,9 +140,9 @@ fn turn_telling<'s, 'i, P: PlannedKeyword>(
     answer: &mut Answer<'i>,
 ) -> Result<Step<'s>, OutOfMemory>
     ensures turns { IfOk result (λ _. (texts : Bool)
-        → TellsRightly texts (P.is_whole (P.shape keyword.now)) (subject_of instance.entry)
-        → way_turn (spoken_way texts (leaf_way (P.named (P.shape keyword.now)) holds
-        (P.told (P.shape keyword.now) (subject_of instance.entry))))
+        → TellsRightly texts (P.shows_no_fraction (P.shape keyword.now)) (subject_of instance.entry)
+        → way_turn (spoken_way texts (leaf_way (P.called (P.shape keyword.now)) holds
+        (P.error_text (P.shape keyword.now) (subject_of instance.entry))))
         (run.old, answer_of texts answer.old) (reply_of texts reply.entry) ≡ (run.new, answer_of texts answer.new)) }
     ensures step { IfOk result (λ step. turn_of step ≡ done) }
     ensures borrows { IfOk result (λ _. (root : Data) → All (BorrowsItsPlace root) (errors_in reply.entry)
@@ -193,13 +193,13 @@ fn turn_judging<'s, 'i, P: PlannedKeyword>(
     answer: &mut Answer<'i>,
 ) -> Result<Step<'s>, OutOfMemory>
     ensures turns { IfOk result (λ _. (texts : Bool)
-        → TellsRightly texts (P.is_whole (P.shape keyword.now)) (subject_of instance.entry)
-        → way_turn (spoken_way texts (least_way (P.named (P.shape keyword.now))
-        (P.told (P.shape keyword.now) (subject_of instance.entry)) least (asks_of asks (subject_of instance.entry))))
+        → TellsRightly texts (P.shows_no_fraction (P.shape keyword.now)) (subject_of instance.entry)
+        → way_turn (spoken_way texts (least_way (P.called (P.shape keyword.now))
+        (P.error_text (P.shape keyword.now) (subject_of instance.entry)) least (asks_of asks (subject_of instance.entry))))
         (run.old, answer_of texts answer.old) (reply_of texts reply.entry) ≡ (run.new, answer_of texts answer.new)) }
     ensures steps { IfOk result (λ step. (texts : Bool)
-        → way_step (spoken_way texts (least_way (P.named (P.shape keyword.now))
-        (P.told (P.shape keyword.now) (subject_of instance.entry)) least (asks_of asks (subject_of instance.entry))))
+        → way_step (spoken_way texts (least_way (P.called (P.shape keyword.now))
+        (P.error_text (P.shape keyword.now) (subject_of instance.entry)) least (asks_of asks (subject_of instance.entry))))
         (run.old, answer_of texts answer.old) (reply_of texts reply.entry) ≡ turn_of step) }
     ensures borrows { IfOk result (λ _. (root : Data) → All (BorrowsItsPlace root) (errors_in reply.entry)
         → All (PassesBorrowed root) (faults_in answer.old) → All (PassesBorrowed root) (faults_in answer.new)) }
@@ -236,23 +236,23 @@ impl<P: PlannedKeyword> Validate for Planned<P> {
 
     type Shape = P::Shape;
 
-    ghost words = { own_words (plan_ways P.planned P.named P.told) };
+    ghost words = { own_words (plan_ways P.planned P.called P.error_text) };
 
     ghost shape = { λ k. P.shape k.keyword };
 
-    ghost absorbed = { own_absorbed (plan_ways P.planned P.named P.told) };
+    ghost absorbed = { own_absorbed (plan_ways P.planned P.called P.error_text) };
 
-    ghost is_whole = { P.is_whole };
+    ghost is_whole = { P.shows_no_fraction };
 
     ghost says_monotone = { λ _. true };
 
-    ghost remaining = { own_remaining (plan_ways P.planned P.named P.told) };
+    ghost remaining = { own_remaining (plan_ways P.planned P.called P.error_text) };
 
-    ghost can_be = { own_can_be (plan_ways P.planned P.named P.told) };
+    ghost can_be = { own_can_be (plan_ways P.planned P.called P.error_text) };
 
-    ghost ends = { own_ends (plan_ways P.planned P.named P.told) };
+    ghost ends = { own_ends (plan_ways P.planned P.called P.error_text) };
 
-    ghost fits = { own_fits (plan_ways P.planned P.named P.told) };
+    ghost fits = { own_fits (plan_ways P.planned P.called P.error_text) };
 
     fn begin(
         &self,
@@ -272,7 +272,7 @@ impl<P: PlannedKeyword> Validate for Planned<P> {
         answer: &mut Answer<'i>,
     ) -> Result<Step<'s>, OutOfMemory> {
         match self.keyword.plan(instance) {
-            Plan::Tells(holds) => turn_telling(
+            Plan::Holds(holds) => turn_telling(
                 &self.keyword,
                 alloc,
                 holds,
@@ -298,7 +298,7 @@ impl<P: PlannedKeyword> Validate for Planned<P> {
     #[tactic(auto, using(crate::proofs::AtOnce::plan_ends))]
     fn is_valid_at_once(&self, instance: Instance<'_>) -> Option<bool> {
         match self.keyword.plan(instance) {
-            Plan::Tells(holds) => Some(holds),
+            Plan::Holds(holds) => Some(holds),
             Plan::PassesOn(_) => None,
             Plan::AtLeast(_, _) => None,
         }
@@ -312,15 +312,15 @@ impl<P: PlannedKeyword> Validate for Planned<P> {
 
     ghost answers = { λ texts run a. refl };
 
-    ghost turn_laws = { own_turn_laws (plan_ways P.planned P.named P.told) };
+    ghost turn_laws = { own_turn_laws (plan_ways P.planned P.called P.error_text) };
 
-    ghost function_laws = { own_function_laws (plan_ways P.planned P.named P.told) (plans_present P.planned P.named P.told) };
+    ghost function_laws = { own_function_laws (plan_ways P.planned P.called P.error_text) (plans_present P.planned P.called P.error_text) };
 
-    ghost grows = { own_grow (plan_ways P.planned P.named P.told) (λ _. true) (plans_grow P.planned P.named P.told) };
+    ghost grows = { own_grow (plan_ways P.planned P.called P.error_text) (λ _. true) (plans_grow P.planned P.called P.error_text) };
 
-    ghost hands_units_on = { own_hand_units_on (plan_ways P.planned P.named P.told) };
+    ghost hands_units_on = { own_hand_units_on (plan_ways P.planned P.called P.error_text) };
 
-    ghost asks_no_units = { own_ask_no_units (plan_ways P.planned P.named P.told) };
+    ghost asks_no_units = { own_ask_no_units (plan_ways P.planned P.called P.error_text) };
 
-    ghost asks_verdicts = { own_ask_verdicts (plan_ways P.planned P.named P.told) };
+    ghost asks_verdicts = { own_ask_verdicts (plan_ways P.planned P.called P.error_text) };
 }

@@ -7,7 +7,7 @@ use Rattle.schema_definitions.specs.Meaning.{subject_text}
 use Rattle.keyword_ways.specs.Items.{is_list}
 use Rattle.keyword_ways.specs.declared.planned.Asks.TheVariants as asks
 use Rattle.keyword_ways.specs.declared.planned.Plan.{Plan}
-use Rattle.keyword_ways.specs.declared.planned.Plan.TheVariants.{PassesOn, Tells}
+use Rattle.keyword_ways.specs.declared.planned.Plan.TheVariants.{PassesOn, Holds}
 use Rattle.keyword_ways.specs.declared.run.Stage.{Stage}
 use Rattle.keyword_ways.specs.declared.run.Stage.TheVariants.{Asked, Begun, Counted, Ended}
 use Rattle.schema_parts.specs.declared.keyword.Mode.{Mode}
@@ -19,7 +19,7 @@ use Rattle.law_tests.specs.declared.items.ItemsPlan.{ItemsPlan}
 use Rattle.law_tests.specs.declared.items.ItemsPlan.TheVariants.{ArrayType, EachItem}
 
 abbrev pub planned : ItemsPlan → Subject → Plan
-planned ArrayType s = Tells (is_list s)
+planned ArrayType s = Holds (is_list s)
 planned EachItem s = PassesOn asks.Items
 
 abbrev pub name : ItemsPlan → Text

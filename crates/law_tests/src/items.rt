@@ -38,22 +38,22 @@ impl PlannedKeyword for ItemsPlan {
 
     ghost shape = { λ k. k };
 
-    ghost is_whole = { λ k. true };
+    ghost shows_no_fraction = { λ k. true };
 
     ghost planned = { planned };
 
-    ghost named = { name };
+    ghost called = { name };
 
-    ghost told = { told };
+    ghost error_text = { told };
 
     fn plan(&self, instance: Instance<'_>) -> Plan {
         match self {
-            ItemsPlan::ArrayType => Plan::Tells(is_list(instance)),
+            ItemsPlan::ArrayType => Plan::Holds(is_list(instance)),
             ItemsPlan::EachItem => Plan::PassesOn(Asks::Items),
         }
     }
 
-    fn name(&self) -> &'static str {
+    fn name(&self) -> &str {
         match self {
             ItemsPlan::ArrayType => "type",
             ItemsPlan::EachItem => "x-items",
