@@ -32,7 +32,7 @@ pub enum ItemsPlan {
 
 impl PlannedKeyword for ItemsPlan {
     ghost use Rattle.std.specs.Prelude.{true};
-    ghost use Rattle.law_tests.specs.Items.{name, planned, told};
+    ghost use Rattle.law_tests.specs.Items.{items_plans_grow, name, planned, told};
 
     type Shape = ItemsPlan;
 
@@ -45,6 +45,8 @@ impl PlannedKeyword for ItemsPlan {
     ghost called = { name };
 
     ghost error_text = { told };
+
+    ghost says_monotone = { λ k. true };
 
     fn plan(&self, instance: Instance<'_>) -> Plan {
         match self {
@@ -60,7 +62,12 @@ impl PlannedKeyword for ItemsPlan {
         }
     }
 
-    fn text(&self, alloc: Global, instance: Instance<'_>) -> Result<String, OutOfMemory> {
+    fn text(
+        &self,
+        alloc: Global,
+        instance: Instance<'_>,
+        _accepted: usize,
+    ) -> Result<String, OutOfMemory> {
         match self {
             ItemsPlan::ArrayType => {
                 let mut text = instance.text(alloc)?;
@@ -70,6 +77,12 @@ impl PlannedKeyword for ItemsPlan {
             ItemsPlan::EachItem => Ok(String::new(alloc)),
         }
     }
+
+    fn monotone(&self) -> bool {
+        true
+    }
+
+    ghost grows = { items_plans_grow };
 }
 
 /// A keyword, and the number that the maker of `x-items` was given.
