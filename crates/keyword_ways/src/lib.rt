@@ -26,4 +26,5 @@ pub mod passing;
 pub mod planned;
 pub mod run;
 pub mod telling;
+pub mod texts;
 mod units;
