@@ -21,6 +21,11 @@ use Rattle.bench_parts.specs.Makers.{names_of, values_below}
 abbrev pub MadeMember : Type 0 → Type 0
 MadeMember K = MemberKeyword K (Children Text)
 
+-- a keyword with its children, where there is one; else the value is malformed
+abbrev pub made_if : {K : Type 0} → Option K → Children Text → MadeMember K
+made_if None c = member_is.Malformed
+made_if (Some m) c = member_is.Keyword m c
+
 -- the names apart from their representation
 abbrev pub named : Children (Bor Text) → Children Text
 named children.Childless = children.Childless

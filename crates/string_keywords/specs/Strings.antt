@@ -1,5 +1,5 @@
 -- `x-suffix`, `x-both` and `x-contains-between`.
-use Rattle.std.specs.Prelude.{Bool, None, Option, Some, bytes_eq, codes, decimal, false, if◌then◌else◌, nat_eq, nat_le, nat_lt, option_and_then, string_bytes, true, ℕ, ◌++◌, ◌==◌, ◌||◌}
+use Rattle.std.specs.Prelude.{Bool, None, Option, Some, bytes_eq, codes, decimal, false, if◌then◌else◌, nat_eq, nat_le, nat_lt, option_and_then, option_map, string_bytes, true, ℕ, ◌++◌, ◌==◌, ◌||◌}
 use Rattle.std.specs.List.{ends_with}
 use Rattle.serde_json.specs.Data.{Data}
 use Rattle.serde_json.specs.Find.{as_number, as_str, as_u64, get}
@@ -10,9 +10,9 @@ use Rattle.keyword_ways.specs.Texts.{as_text}
 use Rattle.keyword_ways.specs.declared.planned.Asks.TheVariants as asks
 use Rattle.keyword_ways.specs.declared.planned.Plan.{Plan}
 use Rattle.keyword_ways.specs.declared.planned.Plan.TheVariants.{Holds, PassesOn, Within}
-use Rattle.bench_parts.specs.ByValue.{MadeMember}
+use Rattle.bench_parts.specs.ByValue.{MadeMember, made_if}
 use Rattle.bench_parts.specs.declared.by_value.Children.TheVariants as children
-use Rattle.bench_parts.specs.declared.by_value.MemberKeyword.TheVariants.{Keyword, Malformed, Nothing}
+use Rattle.bench_parts.specs.declared.by_value.MemberKeyword.TheVariants.{Nothing}
 use Rattle.string_keywords.specs.declared.StringKeyword.{StringKeyword}
 use Rattle.string_keywords.specs.declared.StringKeyword.TheVariants as keyword
 
@@ -54,27 +54,19 @@ error_text (contains_between least most) s n = subject_text s ++ (if nat_lt n le
 abbrev pub owned : Text → Bool
 owned name = bytes_eq name (codes "x-suffix") || bytes_eq name (codes "x-both") || bytes_eq name (codes "x-contains-between")
 
-abbrev pub suffix_of : Option Text → MadeMember Shape
-suffix_of None = Malformed
-suffix_of (Some end) = Keyword (suffix end) children.Childless
-
--- from `min` to `max`, of a value that has a `schema` too
-abbrev pub in_order : Option Data → Option ℕ → Option ℕ → Option (ℕ × ℕ)
-in_order (Some schema) (Some least) (Some most) = if nat_le least most then Some (least, most) else None
-in_order schema least most = None
-
 abbrev pub number : Text → Data → Option ℕ
 number name d = option_and_then (λ v. option_and_then as_u64 (as_number v)) (get name d)
 
-abbrev pub bounds_of : Data → Option (ℕ × ℕ)
-bounds_of d = in_order (get (codes "schema") d) (number (codes "min") d) (number (codes "max") d)
+-- from `min` to `max`, of a value that has a `schema` too
+abbrev pub between : Option Data → Option ℕ → Option ℕ → Option Shape
+between (Some schema) (Some least) (Some most) = if nat_le least most then Some (contains_between least most) else None
+between schema least most = None
 
-abbrev pub between : Option (ℕ × ℕ) → MadeMember Shape
-between None = Malformed
-between (Some bounds) = Keyword (contains_between bounds.0 bounds.1) (children.Member (codes "schema"))
+abbrev pub by_members : Data → Option Shape
+by_members d = between (get (codes "schema") d) (number (codes "min") d) (number (codes "max") d)
 
 abbrev pub made : Text → Data → MadeMember Shape
 made name d =
-    if bytes_eq name (codes "x-suffix") then suffix_of (as_str d)
-    else (if bytes_eq name (codes "x-both") then (if item_count (a_value d) == 2 then Keyword both children.Items else Malformed)
-    else (if bytes_eq name (codes "x-contains-between") then between (bounds_of d) else Nothing))
+    if bytes_eq name (codes "x-suffix") then made_if (option_map suffix (as_str d)) children.Childless
+    else (if bytes_eq name (codes "x-both") then made_if (if item_count (a_value d) == 2 then Some both else None) children.Items
+    else (if bytes_eq name (codes "x-contains-between") then made_if (by_members d) (children.Member (codes "schema")) else Nothing))

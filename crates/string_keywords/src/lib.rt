@@ -1,9 +1,9 @@
 //! `x-suffix`, `x-both` and `x-contains-between`, and the table that makes them: an example of keywords of one's own.
 #![tactic(auto)]
 
-ghost use Rattle.std.specs.Prelude.{◌≡◌};
+ghost use Rattle.std.specs.Prelude.{◌≡◌, option_map};
 ghost use Rattle.serde_json.specs.View.{view};
-ghost use Rattle.string_keywords.specs.Strings.{bounds_of};
+ghost use Rattle.string_keywords.specs.Strings.{by_members, shape_of};
 
 use bench_parts::by_value::{Children, MakesByValue, MemberKeyword};
 use keyword_ways::items::{is_list, item_count};
@@ -27,7 +27,7 @@ pub enum StringKeyword {
 
 impl PlannedKeyword for StringKeyword {
     ghost use Rattle.std.specs.Prelude.{false, true};
-    ghost use Rattle.string_keywords.specs.Strings.{Shape, called, error_text, planned, shape_of};
+    ghost use Rattle.string_keywords.specs.Strings.{Shape, called, error_text, planned};
 
     type Shape = Shape;
 
@@ -50,13 +50,10 @@ impl PlannedKeyword for StringKeyword {
                 None => Plan::Holds(true),
             },
             StringKeyword::Both => Plan::PassesOn(Asks::Children(2)),
-            StringKeyword::ContainsBetween(least, most) => {
-                if is_list(instance) {
-                    Plan::Within(Asks::Items, *least, *most)
-                } else {
-                    Plan::Holds(true)
-                }
+            StringKeyword::ContainsBetween(least, most) if is_list(instance) => {
+                Plan::Within(Asks::Items, *least, *most)
             }
+            StringKeyword::ContainsBetween(_, _) => Plan::Holds(true),
         }
     }
 
@@ -76,21 +73,17 @@ impl PlannedKeyword for StringKeyword {
     ) -> Result<String, OutOfMemory> {
         let mut text = instance.text(alloc)?;
         match self {
-            StringKeyword::Suffix(end) => {
-                write!(text, " does not end with \"{end}\"")?;
-                Ok(text)
+            StringKeyword::Suffix(end) => write!(text, " does not end with \"{end}\"")?,
+            StringKeyword::Both => {}
+            StringKeyword::ContainsBetween(least, _) if accepted < *least => {
+                write!(text, " has {accepted} items that fit, not {least}")?
             }
-            StringKeyword::Both => Ok(text),
-            StringKeyword::ContainsBetween(least, most) => {
-                if accepted < *least {
-                    write!(text, " has {accepted} items that fit, not {least}")?;
-                    Ok(text)
-                } else {
-                    write!(text, " has more than {most} items that fit")?;
-                    Ok(text)
-                }
-            }
+            StringKeyword::ContainsBetween(_, most) => write!(
+                text,
+                " has more than {most} items that fit"
+            )?,
         }
+        Ok(text)
     }
 
     fn monotone(&self) -> bool {
@@ -100,14 +93,18 @@ impl PlannedKeyword for StringKeyword {
     ghost grows = { λ k s h. absurd (cc h) };
 }
 
-/// How many items are to fit, by the members `min` and `max` of a value that has a `schema`.
-fn bounds_of(value: &Value) -> Option<(usize, usize)>
-    ensures bounds { result ≡ bounds_of (view value.now) }
+/// `x-contains-between`, by the members of a value, where they are as they should be.
+fn contains_between(value: &Value) -> Option<StringKeyword>
+    ensures shape { option_map shape_of result ≡ by_members (view value.now) }
 {
     let _schema = value.get("schema")?;
     let least = value.get("min")?.as_u64()?;
     let most = value.get("max")?.as_u64()?;
-    (least <= most).then_some((least as usize, most as usize))
+    if least <= most {
+        Some(StringKeyword::ContainsBetween(least as usize, most as usize))
+    } else {
+        None
+    }
 }
 
 /// What a member of a schema makes.
@@ -146,10 +143,9 @@ impl MakesByValue<Planned<StringKeyword>> for StringTable {
             return Ok(MemberKeyword::Keyword(Planned { keyword }, Children::Items));
         }
         if name == "x-contains-between" {
-            let Some((least, most)) = bounds_of(value) else {
+            let Some(keyword) = contains_between(value) else {
                 return Ok(MemberKeyword::Malformed);
             };
-            let keyword = StringKeyword::ContainsBetween(least, most);
             return Ok(MemberKeyword::Keyword(Planned { keyword }, Children::Member("schema")));
         }
         Ok(MemberKeyword::Nothing)
