@@ -1,5 +1,5 @@
 -- `x-no-text`, `x-one-of` and `x-all-of`.
-use Rattle.std.specs.Prelude.{Bool, bytes_eq, codes, if◌then◌else◌, is_some, not, ℕ, ◌==◌}
+use Rattle.std.specs.Prelude.{Bool, bytes_eq, codes, if◌then◌else◌, is_some, not, ⊤, ℕ, ◌==◌}
 use Rattle.serde_json.specs.Data.{Data}
 use Rattle.schema_definitions.specs.Instance.{Subject, Text, a_value}
 use Rattle.keyword_ways.specs.Items.{child_here, each_from, item_count}
@@ -9,7 +9,6 @@ use Rattle.bench_parts.specs.ByValue.{MadeMember}
 use Rattle.bench_parts.specs.declared.by_value.Children.TheVariants as children
 use Rattle.bench_parts.specs.declared.by_value.MemberKeyword.TheVariants.{Keyword, Nothing}
 use Rattle.wrapped_keywords.specs.declared.AllOf.{AllOf}
-use Rattle.wrapped_keywords.specs.declared.NoText.{NoText}
 use Rattle.wrapped_keywords.specs.declared.OneOf.{OneOf}
 
 abbrev pub is_no_text : Subject → Bool
@@ -29,8 +28,8 @@ all_of_way n = passes_on (each_from child_here 0 n)
 
 -- ---- what a member of a schema makes
 
-abbrev pub no_text_made : Text → Data → MadeMember NoText
-no_text_made name d = if bytes_eq name (codes "x-no-text") then Keyword (record {}) children.Childless else Nothing
+abbrev pub no_text_made : Text → Data → MadeMember ⊤
+no_text_made name d = if bytes_eq name (codes "x-no-text") then Keyword tt children.Childless else Nothing
 
 abbrev pub one_of_made : Text → Data → MadeMember OneOf
 one_of_made name d = if bytes_eq name (codes "x-one-of") then Keyword (record { schemas = item_count (a_value d) }) children.Items else Nothing
