@@ -19,3 +19,4 @@ pub mod WayUnits
 pub mod WayVerdicts
 pub mod Plans
 pub mod WayGrows
+pub mod WantedCounts

@@ -168,7 +168,7 @@ pub plans_grow : {M : Type 0} (plan : M → Subject → Plan) (name : M → Text
 plans_grow plan name text says grows m s h = plan_grows (name m) (text m s) s (plan m s) (grows m s h)
 
 -- what is told is nothing where it holds
-is_told : (b : Bool) (text : Text) → is_nil (unless b text) ≡ b
+pub is_told : (b : Bool) (text : Text) → is_nil (unless b text) ≡ b
 is_told true text = refl
 is_told false text = refl
 
