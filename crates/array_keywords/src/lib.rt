@@ -20,38 +20,45 @@ pub enum ArrayKeyword {
 
 impl PlannedKeyword for ArrayKeyword {
     ghost use Rattle.std.specs.Prelude.{true};
-    ghost use Rattle.array_keywords.specs.Arrays.{name, planned, told};
+    ghost use Rattle.array_keywords.specs.Arrays.{grows, name, planned, told};
 
     type Shape = ArrayKeyword;
 
     ghost shape = { λ k. k };
 
-    ghost is_whole = { λ k. true };
+    ghost shows_no_fraction = { λ k. true };
 
     ghost planned = { planned };
 
-    ghost named = { name };
+    ghost called = { name };
 
-    ghost told = { told };
+    ghost error_text = { told };
+
+    ghost says_monotone = { λ k. true };
 
     fn plan(&self, instance: Instance<'_>) -> Plan {
         if !is_list(instance) {
-            return Plan::Tells(true);
+            return Plan::Holds(true);
         }
         match self {
-            ArrayKeyword::MinItems(limit) => Plan::Tells(*limit <= item_count(instance) as u64),
+            ArrayKeyword::MinItems(limit) => Plan::Holds(*limit <= item_count(instance) as u64),
             ArrayKeyword::Contains => Plan::AtLeast(Asks::Items, 1),
         }
     }
 
-    fn name(&self) -> &'static str {
+    fn name(&self) -> &str {
         match self {
             ArrayKeyword::MinItems(_) => "minItems",
             ArrayKeyword::Contains => "contains",
         }
     }
 
-    fn text(&self, alloc: Global, instance: Instance<'_>) -> Result<String, OutOfMemory> {
+    fn text(
+        &self,
+        alloc: Global,
+        instance: Instance<'_>,
+        _accepted: usize,
+    ) -> Result<String, OutOfMemory> {
         let mut text = instance.text(alloc)?;
         match self {
             ArrayKeyword::MinItems(limit) => {
@@ -64,6 +71,12 @@ impl PlannedKeyword for ArrayKeyword {
             }
         }
     }
+
+    fn monotone(&self) -> bool {
+        true
+    }
+
+    ghost grows = { grows };
 }
 
 /// The keywords of a schema, by name and value.
@@ -71,11 +84,17 @@ impl PlannedKeyword for ArrayKeyword {
 pub struct ArrayTable {}
 
 impl MakesByValue<Planned<ArrayKeyword>> for ArrayTable {
-    ghost use Rattle.std.specs.Prelude.{refl};
+    ghost use Rattle.std.specs.Prelude.{false, refl};
     ghost use Rattle.bench_parts.specs.ByValue.{right_where_whole};
     ghost use Rattle.array_keywords.specs.Arrays.{made};
 
+    ghost owned = { λ t name. false };
+
     ghost made = { λ t. made };
+
+    fn owns(&self, _name: &str) -> bool {
+        false
+    }
 
     fn make(
         &self,

@@ -1,14 +1,14 @@
 //! A table whose keywords follow from a member's name and value: which keyword it is, and which children it has.
-ghost use Rattle.std.specs.Prelude.{◌≡◌, IfOk};
+ghost use Rattle.std.specs.Prelude.{◌≡◌, Bool, IfOk};
 ghost use Rattle.serde_json.specs.Data.{Data};
 ghost use Rattle.serde_json.specs.Find.{get_member};
 ghost use Rattle.serde_json.specs.View.{members_view, view};
 ghost use Rattle.schema_definitions.specs.Instance.{Text};
 ghost use Rattle.schema_parts.specs.MakerViews as makers;
-ghost use Rattle.bench_parts.specs.ByValue.{IsRightMember, children_of, script_at, script_of, shaped};
+ghost use Rattle.bench_parts.specs.ByValue.{IsRightMember, MadeMember, children_of, named, script_at, script_of, shaped};
 ghost use Rattle.schema_applicators.specs.MakerViews.{waiting_of};
 
-use crate::table::keyword_values::{names_of, values_below};
+use crate::table::keyword_values::{member_below, names_of, values_below};
 use schema_applicators::making::maker::{Ending, PathsMaker, asks_for, ends};
 use schema_applicators::making::paths::{items_below, value_in, value_of};
 use schema_applicators::making::refusals::malformed;
@@ -20,9 +20,9 @@ use schema_reports::location::OutOfMemory;
 use serde_json::{Map, Value};
 use std::alloc::Global;
 
-/// The children of a keyword, in the order of their numbers.
+/// The children of a keyword, in the order of their numbers. A member goes by a name.
 #[derive(Clone, Copy)]
-pub enum Children {
+pub enum Children<N = &'static str> {
     Childless,
     /// The keyword's value is the only one.
     Itself,
@@ -30,12 +30,14 @@ pub enum Children {
     Items,
     /// The value of each member of the value, which is an object, in the order of their names.
     Members,
+    /// The value of the member of this name of the value, which is an object that has it, is the only one.
+    Member(N),
 }
 
 /// What a member of a schema makes.
 #[derive(Drop)]
-pub enum MemberKeyword<K> {
-    Keyword(K, Children),
+pub enum MemberKeyword<K, C = Children> {
+    Keyword(K, C),
     Nothing,
     /// The value has another shape than its keyword's; the schema is refused.
     Malformed,
@@ -43,12 +45,18 @@ pub enum MemberKeyword<K> {
 
 /// What keywords the members of a schema make, by name and value. `TableByValue` makes a keyword table of it.
 pub trait MakesByValue<K: Validate> {
-    ghost use Rattle.bench_parts.specs.declared.by_value.MemberKeyword.{MemberKeyword};
+    // which names are its own
+    ghost owned: { Self → Text → Bool };
 
     // what a member makes
-    ghost made: { Self → Text → Data → MemberKeyword K.Shape };
+    ghost made: { Self → Text → Data → MadeMember K.Shape };
 
-    /// Returns what a member of this name and value makes. It is asked for the names that the standard's drafts know.
+    /// Returns whether a name is the table's own: one that the standard's drafts do not know, or make another keyword of.
+    fn owns(&self, name: &str) -> bool
+        ensures owned { result ≡ owned self.now name.now };
+
+    /// Returns what a member of this name and value makes. It is asked for the names that are its own, and for those that the
+    /// standard's drafts know.
     ///
     /// # Errors
     ///
@@ -65,8 +73,8 @@ pub trait MakesByValue<K: Validate> {
     ghost right: { (t : Self) (name : Text) (value : Data) → IsRightMember K.absorbed K.is_whole value (made t name value) };
 }
 
-/// A keyword table of keywords that follow from name and value. No name is its own; a malformed value is refused by an error that
-/// shows it and is located at the keyword.
+/// A keyword table of keywords that follow from name and value. A malformed value is refused by an error that shows it and is
+/// located at the keyword.
 #[derive(Drop)]
 pub struct TableByValue<T> {
     pub keywords: T,
@@ -79,7 +87,7 @@ fn paths_of(
     name: &str,
     value: &Value,
 ) -> Result<Vec<SchemaPath>, OutOfMemory>
-    ensures paths { IfOk result (λ paths. paths.items ≡ children_of children name.now (view value.now)) }
+    ensures paths { IfOk result (λ paths. paths.items ≡ children_of (named children.entry) name.now (view value.now)) }
 {
     match children {
         Children::Childless => Ok(Vec::new(alloc)),
@@ -99,6 +107,11 @@ fn paths_of(
             }
             _ => Ok(Vec::new(alloc)),
         },
+        Children::Member(member) => {
+            let mut paths = Vec::new(alloc);
+            paths.push(member_below(alloc, name, member)?)?;
+            Ok(paths)
+        }
     }
 }
 
@@ -110,7 +123,7 @@ fn maker_of<K: Validate>(
     made: MemberKeyword<K>,
 ) -> Result<PathsMaker<K>, OutOfMemory>
     ensures maker { IfOk result (λ m. waiting_of K.shape m
-        ≡ makers.begun (script_of name.now (view value.now) (shaped K.shape made))) }
+        ≡ makers.begun (script_of name.now (view value.now) (shaped K.shape made.entry))) }
 {
     match made {
         MemberKeyword::Keyword(keyword, children) => {
@@ -142,19 +155,18 @@ fn member_maker<K: Validate, T: MakesByValue<K>>(
 }
 
 impl<K: Validate, T: MakesByValue<K>> KeywordTable<K> for TableByValue<T> {
-    ghost use Rattle.std.specs.Prelude.{false};
     ghost use Rattle.bench_parts.specs.ByValue.{by_value, makes_by_value};
 
     type Maker = PathsMaker<K>;
 
-    ghost owned = { λ _ name. false };
+    ghost owned = { λ t name. T.owned t.keywords name };
 
     ghost script = { λ t. by_value (T.made t.keywords) };
 
     ghost waiting = { waiting_of K.shape };
 
-    fn owns(&self, _name: &str) -> bool {
-        false
+    fn owns(&self, name: &str) -> bool {
+        self.keywords.owns(name)
     }
 
     fn begin(
@@ -167,7 +179,7 @@ impl<K: Validate, T: MakesByValue<K>> KeywordTable<K> for TableByValue<T> {
         _formats: bool,
     ) -> Result<PathsMaker<K>, OutOfMemory> {
         match origin {
-            KeywordOrigin::Own(_) => Ok(ends(alloc, Ending::Nothing)),
+            KeywordOrigin::Own(name) => member_maker(&self.keywords, alloc, name, object),
             KeywordOrigin::Builtin(name) => member_maker(&self.keywords, alloc, name, object),
         }
     }

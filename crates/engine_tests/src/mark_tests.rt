@@ -11,11 +11,17 @@ use std::alloc::Global;
 pub(crate) struct MarkingTable {}
 
 impl MakesByValue<BothOnce> for MarkingTable {
-    ghost use Rattle.std.specs.Prelude.{refl};
+    ghost use Rattle.std.specs.Prelude.{false, refl};
     ghost use Rattle.bench_parts.specs.ByValue.{right_where_whole};
     ghost use Rattle.engine_tests.specs.MarkingTable.{made};
 
+    ghost owned = { λ t name. false };
+
     ghost made = { λ t. made };
+
+    fn owns(&self, _name: &str) -> bool {
+        false
+    }
 
     fn make(
         &self,

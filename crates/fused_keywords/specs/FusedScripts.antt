@@ -8,10 +8,9 @@ use Rattle.schema_definitions.specs.Drafts.{Draft, Vocabularies}
 use Rattle.schema_keywords.specs.KeywordTable.{builtin_in}
 use Rattle.schema_definitions.specs.Making.{Made, Script, a_keyword, nothing, refused, then_compile, then_end, then_pending, then_refer, then_reserve}
 use Rattle.schema_parts.specs.MakerViews.{Waiting, begun, ended, wants_pending, wants_reserved, waits}
-use Rattle.bench_parts.specs.ByValue.{script_at}
+use Rattle.bench_parts.specs.ByValue.{MadeMember, script_at}
 use Rattle.bench_parts.specs.Makers.{bench_script, items_before}
 use Rattle.bench_parts.specs.declared.by_value.Children.TheVariants as children
-use Rattle.bench_parts.specs.declared.by_value.MemberKeyword.{MemberKeyword}
 use Rattle.bench_parts.specs.declared.by_value.MemberKeyword.TheVariants.{Keyword, Malformed, Nothing}
 use Rattle.fused_keywords.specs.FusedShape.{FusedShape, of_array, of_bench}
 use Rattle.fused_keywords.specs.Openings.{absorbs}
@@ -44,11 +43,11 @@ waiting_among f ended = ended
 abbrev pub least_in : Data → Option ℕ
 least_in d = option_and_then as_u64 (as_number d)
 
-abbrev pub least_keyword : Option ℕ → MemberKeyword FusedShape
+abbrev pub least_keyword : Option ℕ → MadeMember FusedShape
 least_keyword None = Malformed
 least_keyword (Some n) = Keyword (of_array (MinItems n)) children.Childless
 
-abbrev pub least_made : Text → Data → MemberKeyword FusedShape
+abbrev pub least_made : Text → Data → MadeMember FusedShape
 least_made name d = if bytes_eq name (codes "minItems") then least_keyword (least_in d) else Nothing
 
 -- ---- the three in one

@@ -47,10 +47,17 @@ pub enum FusedMaker {
 struct LeastTable {}
 
 impl MakesByValue<FusedKeyword> for LeastTable {
+    ghost use Rattle.std.specs.Prelude.{false};
     ghost use Rattle.fused_keywords.specs.FusedMakerLaws.{least_rightly};
     ghost use Rattle.fused_keywords.specs.FusedScripts.{least_made};
 
+    ghost owned = { λ t name. false };
+
     ghost made = { λ t. least_made };
+
+    fn owns(&self, _name: &str) -> bool {
+        false
+    }
 
     fn make(
         &self,

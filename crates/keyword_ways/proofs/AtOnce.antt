@@ -1,5 +1,5 @@
 -- A way that tells asks nothing: a run for the verdict is done at its first turn, and says yes where there is nothing to tell.
-use Rattle.std.proofs.Common.{Bool, List, [], false, map, refl, subst, sym, true, ◌∙◌, ◌≡◌, ◌∷◌}
+use Rattle.std.proofs.Common.{Bool, List, [], false, map, refl, subst, sym, true, ℕ, ◌∙◌, ◌≡◌, ◌∷◌}
 use Rattle.schema_definitions.specs.Instance.{Subject, Text}
 use Rattle.schema_definitions.specs.Keywords.{Answer, done, for_verdict, no_reply}
 use Rattle.schema_reports.specs.ReportViews.{spoken}
@@ -10,7 +10,7 @@ use Rattle.keyword_ways.specs.OwnWays.{leaf_way, leaf_ways, own_words, spoken_wa
 use Rattle.keyword_ways.specs.Plans.{plan_ways, way_by}
 use Rattle.keyword_ways.specs.Ways.{Way, noted, tells, unless, way_begin, way_step, way_turn}
 use Rattle.keyword_ways.specs.declared.planned.Plan.{Plan}
-use Rattle.keyword_ways.specs.declared.planned.Plan.TheVariants.{Tells}
+use Rattle.keyword_ways.specs.declared.planned.Plan.TheVariants.{Holds}
 
 -- what has said no says no
 said_no : (name : Text) (a : Answer) (ts : List Text) → a.verdict ≡ false → (noted mode.Verdict name a ts).verdict ≡ false
@@ -50,8 +50,8 @@ module _ {M : Type 0} (called : M → Text) (accepts : M → Subject → Bool) (
   leaf_ends texts m s = own_ends (leaf_ways called accepts error_text) texts m s (accepts m s)
       (leaf_at_once texts (called m) (accepts m s) (error_text m s))
 
-module _ {M : Type 0} (plan : M → Subject → Plan) (name : M → Text) (text : M → Subject → Text) where
+module _ {M : Type 0} (plan : M → Subject → Plan) (name : M → Text) (text : M → Subject → ℕ → Text) where
   -- a keyword that plans to tell says whether it holds
-  pub plan_ends : (texts : Bool) (m : M) (s : Subject) (holds : Bool) → plan m s ≡ Tells holds → EndsAtOnce (own_words (plan_ways plan name text) texts) m s holds
+  pub plan_ends : (texts : Bool) (m : M) (s : Subject) (holds : Bool) → plan m s ≡ Holds holds → EndsAtOnce (own_words (plan_ways plan name text) texts) m s holds
   plan_ends texts m s holds is = own_ends (plan_ways plan name text) texts m s holds
-      (subst (λ p. SaysAtOnce (spoken_way texts (way_by (name m) (text m s) s p)) holds) (sym is) (leaf_at_once texts (name m) holds (text m s)))
+      (subst (λ p. SaysAtOnce (spoken_way texts (way_by (name m) (text m s) s p)) holds) (sym is) (leaf_at_once texts (name m) holds (text m s 0)))

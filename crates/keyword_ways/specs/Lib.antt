@@ -1,6 +1,7 @@
 pub mod Members
 pub mod Items
 pub mod Tallies
+pub mod Texts
 pub mod Somes
 pub mod Ways
 pub mod Asking
@@ -18,3 +19,4 @@ pub mod WayUnits
 pub mod WayVerdicts
 pub mod Plans
 pub mod WayGrows
+pub mod WantedCounts

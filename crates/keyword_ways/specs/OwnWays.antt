@@ -7,6 +7,7 @@ use Rattle.schema_reports.specs.ReportViews.{spoken}
 use Rattle.schema_definitions.specs.Keywords.{Answer, Keywords, Question}
 use Rattle.schema_definitions.specs.Turns.{FunctionLaws, Standing, TurnLaws}
 use Rattle.keyword_ways.specs.declared.run.Progress.{Progress}
+use Rattle.keyword_ways.specs.Items.{each_from}
 use Rattle.keyword_ways.specs.Places.{AsksPresent}
 use Rattle.keyword_ways.specs.Tallies.{Tally}
 use Rattle.keyword_ways.specs.Ways.{Way, asks_match, branches, judges, passes_on, passes_some, places, questions, tells, unless}
@@ -27,6 +28,11 @@ spoken_way texts (asks_match name p text) = asks_match name p (spoken texts text
 -- a keyword that asks nothing: one error of this name with this text where it does not hold
 abbrev pub leaf_way : Text → Bool → Text → Way
 leaf_way name holds text = tells name (unless holds text)
+
+-- a keyword that judges: one error where so many answers by yes are not what it wants
+abbrev pub judge_way : Text → ℕ → Bool → (ℕ → Bool) → (ℕ → Text) → List Question → Way
+judge_way name enough shows accepts text qs =
+    judges (record { name = name; enough = enough; told = λ n. unless (accepts n) (text n); shows = shows }) qs
 
 pub same_questions : (texts : Bool) (w : Way) → questions (spoken_way texts w) ≡ questions w
 same_questions texts (tells name ts) = refl
@@ -93,7 +99,8 @@ module _ {M : Type 0} (called : M → Text) (accepts : M → Subject → Bool) (
   pub leaf_present : AlwaysPresent leaf_ways
   leaf_present m s = All-nil _
 
--- a keyword that judges: one error where so many answers by yes are not what it wants
-abbrev pub judge_way : Text → ℕ → Bool → (ℕ → Bool) → (ℕ → Text) → List Question → Way
-judge_way name enough shows accepts text qs =
-    judges (record { name = name; enough = enough; told = λ n. unless (accepts n) (text n); shows = shows }) qs
+module _ {M : Type 0} (called : M → Text) (enough : M → ℕ) (shows : M → Bool) (accepts : M → Subject → ℕ → Bool) (error_text : M → Subject → ℕ → Text)
+    (question : M → ℕ → Question) (count : M → Subject → ℕ) where
+  -- each keyword judges by the answers to its numbered questions
+  abbrev pub judge_ways : M → Subject → Way
+  judge_ways m s = judge_way (called m) (enough m) (shows m) (accepts m s) (error_text m s) (each_from (question m) 0 (count m s))

@@ -1,12 +1,12 @@
 -- Keywords that say by a plan how they go about an instance: they tell an error or none, or pass on what their questions answer,
--- or want so many of them answered by yes. The way follows from the plan.
-use Rattle.std.specs.Prelude.{List, nat_le, true, ℕ}
+-- or want so many of them answered by yes, and no more than so many. The way follows from the plan.
+use Rattle.std.specs.Prelude.{Bool, List, None, Option, Some, false, if◌then◌else◌, min, nat_le, true, ℕ, ◌+◌, ◌≡◌}
 use Rattle.schema_definitions.specs.Instance.{Subject, Text}
 use Rattle.schema_definitions.specs.Keywords.{Question}
 use Rattle.keyword_ways.specs.declared.planned.Asks.{Asks}
 use Rattle.keyword_ways.specs.declared.planned.Asks.TheVariants.{Children, Items}
 use Rattle.keyword_ways.specs.declared.planned.Plan.{Plan}
-use Rattle.keyword_ways.specs.declared.planned.Plan.TheVariants.{AtLeast, PassesOn, Tells}
+use Rattle.keyword_ways.specs.declared.planned.Plan.TheVariants.{AtLeast, Holds, PassesOn, Within}
 use Rattle.keyword_ways.specs.Items.{child_here, each_from, first_at_item, item_count}
 use Rattle.keyword_ways.specs.OwnWays.{AlwaysPresent, judge_way, leaf_way}
 use Rattle.keyword_ways.specs.Places.{AsksPresent, children_present, items_present, nothing_asked}
@@ -25,25 +25,55 @@ asks_count Items s = item_count s
 abbrev pub asks_of : Asks → Subject → List Question
 asks_of asks s = each_from (question_of asks) 0 (asks_count asks s)
 
--- an error where fewer than `least` questions are answered by yes
-abbrev pub least_way : Text → Text → ℕ → List Question → Way
-least_way name text least qs = judge_way name least true (nat_le least) (λ n. text) qs
+-- whether a number is no more than the most, where there is one
+abbrev pub is_under : Option ℕ → ℕ → Bool
+is_under None n = true
+is_under (Some most) n = nat_le n most
 
-abbrev pub way_by : Text → Text → Subject → Plan → Way
-way_by name text s (Tells holds) = leaf_way name holds text
+-- whether so many answers by yes are wanted
+abbrev pub is_wanted : ℕ → Option ℕ → ℕ → Bool
+is_wanted least most n = if is_under most n then nat_le least n else false
+
+-- after how many answers by yes further ones change nothing, of so many questions
+abbrev pub enough_of : ℕ → Option ℕ → ℕ → ℕ
+enough_of least None count = least
+enough_of least (Some most) count = min (most + 1) count
+
+-- an error where fewer than `least` questions are answered by yes, or more than the most; its text is given how many are, which
+-- is one more than the most for any number above that
+abbrev pub wanting_way : Text → (ℕ → Text) → ℕ → Option ℕ → ℕ → List Question → Way
+wanting_way name text least most count qs = judge_way name (enough_of least most count) true (is_wanted least most) text qs
+
+-- an error that is told before anything is asked has the text of no answer by yes
+abbrev pub way_by : Text → (ℕ → Text) → Subject → Plan → Way
+way_by name text s (Holds holds) = leaf_way name holds (text 0)
 way_by name text s (PassesOn asks) = passes_on (asks_of asks s)
-way_by name text s (AtLeast asks least) = least_way name text least (asks_of asks s)
+way_by name text s (AtLeast asks least) = wanting_way name text least None (asks_count asks s) (asks_of asks s)
+way_by name text s (Within asks least most) = wanting_way name text least (Some most) (asks_count asks s) (asks_of asks s)
+
+-- whether a yes more among the answers never turns a keyword that goes by this plan from yes to no, whatever it asks
+abbrev pub plan_says_monotone : Plan → Bool
+plan_says_monotone (Holds holds) = true
+plan_says_monotone (PassesOn asks) = true
+plan_says_monotone (AtLeast asks least) = true
+plan_says_monotone (Within asks least most) = false
+
+-- so it is of one of two plans, where it is of both
+pub either_says_monotone : (b : Bool) (p q : Plan) → plan_says_monotone p ≡ true → plan_says_monotone q ≡ true → plan_says_monotone (if b then p else q) ≡ true
+either_says_monotone true p q one other = one
+either_says_monotone false p q one other = other
 
 asks_present : (s : Subject) (asks : Asks) → AsksPresent s (asks_of asks s)
 asks_present s (Children n) = children_present s n
 asks_present s Items = items_present s
 
-plan_present : (name text : Text) (s : Subject) (p : Plan) → AsksPresent s (questions (way_by name text s p))
-plan_present name text s (Tells holds) = nothing_asked s
+plan_present : (name : Text) (text : ℕ → Text) (s : Subject) (p : Plan) → AsksPresent s (questions (way_by name text s p))
+plan_present name text s (Holds holds) = nothing_asked s
 plan_present name text s (PassesOn asks) = asks_present s asks
 plan_present name text s (AtLeast asks least) = asks_present s asks
+plan_present name text s (Within asks least most) = asks_present s asks
 
-module _ {M : Type 0} (plan : M → Subject → Plan) (name : M → Text) (text : M → Subject → Text) where
+module _ {M : Type 0} (plan : M → Subject → Plan) (name : M → Text) (text : M → Subject → ℕ → Text) where
   -- the way of each keyword
   abbrev pub plan_ways : M → Subject → Way
   plan_ways m s = way_by (name m) (text m s) s (plan m s)

@@ -2,7 +2,7 @@
 -- its errors or asks whether a pattern matches hears no answer, and one that passes on holds where all of them are yes. One that
 -- judges is monotone where it still holds with one yes more, wherever it holds. One that branches is not in general, since its
 -- first answer chooses what is asked.
-use Rattle.std.proofs.Common.{◌≡◌, ◌∙◌, ℕ, zero, suc, ◌≤◌, ◌<◌, ◌&&◌, ◌∷◌, [], List, Bool, true, false, ap, arith, inl, inr, map, min, nat_le, refl, subst, sym}
+use Rattle.std.proofs.Common.{◌≡◌, ◌∙◌, ℕ, zero, suc, ◌≤◌, ◌<◌, ◌&&◌, ◌∷◌, [], List, None, Bool, true, false, ap, arith, inl, inr, map, min, nat_le, refl, subst, sym}
 use Rattle.std.proofs.Math.Nat.{eq-or-lt_of_le, le-min, min-le_left, min-le_right}
 use Rattle.std.proofs.lemmas.Bool.{lt-leb}
 use Rattle.std.specs.List.{list_all}
@@ -13,9 +13,9 @@ use Rattle.schema_reports.specs.ReportViews.{spoken}
 use Rattle.schema_meaning.specs.Greatest.{IsMonotone}
 use Rattle.schema_parts.specs.KeywordViews.{is_nil}
 use Rattle.keyword_ways.specs.declared.planned.Plan.{Plan}
-use Rattle.keyword_ways.specs.declared.planned.Plan.TheVariants.{AtLeast, PassesOn, Tells}
-use Rattle.keyword_ways.specs.OwnWays.{leaf_ways, own_words, spoken_way, spoken_ways}
-use Rattle.keyword_ways.specs.Plans.{asks_of, least_way, plan_ways, way_by}
+use Rattle.keyword_ways.specs.declared.planned.Plan.TheVariants.{AtLeast, Holds, PassesOn, Within}
+use Rattle.keyword_ways.specs.OwnWays.{judge_ways, leaf_ways, own_words, spoken_way, spoken_ways}
+use Rattle.keyword_ways.specs.Plans.{asks_count, asks_of, plan_says_monotone, plan_ways, wanting_way, way_by}
 use Rattle.keyword_ways.specs.Somes.{somes}
 use Rattle.keyword_ways.specs.Tallies.{counted, yes_count}
 use Rattle.keyword_ways.specs.Ways.{Way, asks_match, branches, judges, passes_on, passes_some, tells, unless, way_holds}
@@ -148,14 +148,39 @@ pub leaves_grow : {M : Type 0} (called : M → Text) (accepts : M → Subject �
 leaves_grow called accepts error_text m s h = way_grows (leaf_ways called accepts error_text m s) refl
 
 -- one that wants so many yeses refuses fewer
-refuses_fewer : (text : Text) (least n : ℕ) → n < least → is_nil (unless (nat_le least n) text) ≡ false
-refuses_fewer text least n less = ap (λ b. is_nil (unless b text)) (lt-leb least n less)
+refuses_fewer : (text : ℕ → Text) (least n : ℕ) → n < least → is_nil (unless (nat_le least n) (text n)) ≡ false
+refuses_fewer text least n less = ap (λ b. is_nil (unless b (text n))) (lt-leb least n less)
 
--- each plan is
-plan_grows : (name text : Text) (s : Subject) (p : Plan) → Grows (way_by name text s p)
-plan_grows name text s (Tells holds) = way_grows (way_by name text s (Tells holds)) refl
-plan_grows name text s (PassesOn asks) = way_grows (passes_on (asks_of asks s)) refl
-plan_grows name text s (AtLeast asks least) = way_grows (least_way name text least (asks_of asks s)) (no_before (λ n. is_nil (unless (nat_le least n) text)) least (refuses_fewer text least))
+-- each plan is that says so
+plan_grows : (name : Text) (text : ℕ → Text) (s : Subject) (p : Plan) → plan_says_monotone p ≡ true → Grows (way_by name text s p)
+plan_grows name text s (Holds holds) says = way_grows (way_by name text s (Holds holds)) refl
+plan_grows name text s (PassesOn asks) says = way_grows (passes_on (asks_of asks s)) refl
+plan_grows name text s (AtLeast asks least) says = way_grows (wanting_way name text least None (asks_count asks s) (asks_of asks s))
+    (no_before (λ n. is_nil (unless (nat_le least n) (text n))) least (refuses_fewer text least))
+plan_grows name text s (Within asks least most) says = absurd (cc says)
 
-pub plans_grow : {M : Type 0} (plan : M → Subject → Plan) (name : M → Text) (text : M → Subject → Text) → EachGrows (plan_ways plan name text) (λ m. true)
-plans_grow plan name text m s h = plan_grows (name m) (text m s) s (plan m s)
+-- each keyword that says that it is monotone has plans that are
+abbrev pub PlansGrow : {M : Type 0} → (M → Subject → Plan) → (M → Bool) → Type 0
+PlansGrow {M} plan says = (m : M) (s : Subject) → says m ≡ true → plan_says_monotone (plan m s) ≡ true
+
+pub plans_grow : {M : Type 0} (plan : M → Subject → Plan) (name : M → Text) (text : M → Subject → ℕ → Text) (says : M → Bool) → PlansGrow plan says
+    → EachGrows (plan_ways plan name text) says
+plans_grow plan name text says grows m s h = plan_grows (name m) (text m s) s (plan m s) (grows m s h)
+
+-- what is told is nothing where it holds
+pub is_told : (b : Bool) (text : Text) → is_nil (unless b text) ≡ b
+is_told true text = refl
+is_told false text = refl
+
+same_falls : (f g : ℕ → Bool) → ((n : ℕ) → f n ≡ g n) → (n : ℕ) → never_falls f n ≡ never_falls g n
+same_falls f g same zero = refl
+same_falls f g same (suc n) = ap (λ x. x && stays (f n) (f (suc n))) (same_falls f g same n)
+    ∙ (ap (λ x. never_falls g n && stays x (f (suc n))) (same n) ∙ ap (λ x. never_falls g n && stays (g n) x) (same (suc n)))
+
+module _ {M : Type 0} (called : M → Text) (enough : M → ℕ) (shows : M → Bool) (accepts : M → Subject → ℕ → Bool) (error_text : M → Subject → ℕ → Text)
+    (question : M → ℕ → Question) (count : M → Subject → ℕ) (says : M → Bool) where
+  -- one that judges is monotone where no yes of it is followed by a no, up to as many answers as are enough
+  pub judges_grow : ((m : M) (s : Subject) → says m ≡ true → never_falls (accepts m s) (enough m) ≡ true)
+      → EachGrows (judge_ways called enough shows accepts error_text question count) says
+  judges_grow stays_so m s h = way_grows (judge_ways called enough shows accepts error_text question count m s)
+      (same_falls (λ n. is_nil (unless (accepts m s n) (error_text m s n))) (accepts m s) (λ n. is_told (accepts m s n) (error_text m s n)) (enough m) ∙ stays_so m s h)

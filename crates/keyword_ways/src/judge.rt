@@ -1,5 +1,5 @@
 //! Keywords that judge by how many questions are answered by yes. An author says which questions it asks, of how many such answers
-//! it holds, its name and its error's text; its turns follow.
+//! it holds, its name and its error's text; its turns and all laws follow.
 ghost use Rattle.std.specs.Prelude.{All, ◌≡◌, ℕ, Bool, false, IfOk, map, string_bytes, true};
 ghost use Rattle.serde_json.specs.Data.{Data};
 ghost use Rattle.schema_definitions.specs.Instance.{Subject, Text};
@@ -11,12 +11,14 @@ ghost use Rattle.schema_parts.specs.FaultViews.{errors_in, faults_in, PassesBorr
 ghost use Rattle.schema_parts.specs.KeywordViews.{answer_of, mode_of, reply_of, turn_of, Tells};
 ghost use Rattle.keyword_ways.specs.Items.{each_from};
 ghost use Rattle.keyword_ways.specs.OwnWays.{judge_way, spoken_way};
+ghost use Rattle.keyword_ways.specs.Places.{AsksPresent};
+ghost use Rattle.keyword_ways.specs.WayGrows.{never_falls};
 ghost use Rattle.keyword_ways.specs.Ways.{noted, unless, way_step, way_turn};
 
 use crate::answers::{note, refuse};
 use crate::judging::{Judge, Judging, judge_on};
 use crate::run::Progress;
-use schema_parts::keyword::{Answer, Mode, Reply, Step};
+use schema_parts::keyword::{Answer, Mode, Reply, Step, Validate};
 use schema_reports::instance::Instance;
 use schema_reports::location::OutOfMemory;
 use std::alloc::Global;
@@ -31,11 +33,12 @@ pub trait JudgeKeyword: Drop {
     ghost called: { Self.Shape → Text };
 
     // how many questions there are of an instance, and the question of each number
-    ghost how_many: { Self.Shape → Subject → ℕ };
+    ghost count: { Self.Shape → Subject → ℕ };
 
     ghost question: { Self.Shape → ℕ → Question };
 
-    // after how many answers by yes further ones change nothing, and whether it gives the units of its questions
+    // after how many answers by yes further ones change nothing, and whether it gives the units of its questions; it is judged by
+    // how many are answered by yes, or by that number where more are
     ghost enough: { Self.Shape → ℕ };
 
     ghost shows: { Self.Shape → Bool };
@@ -45,13 +48,16 @@ pub trait JudgeKeyword: Drop {
 
     ghost error_text: { Self.Shape → Subject → ℕ → Text };
 
+    // whether it says of itself that it is monotone
+    ghost says_monotone: { Self.Shape → Bool };
+
     /// The keyword's name.
     fn name(&self) -> &str
         ensures name { result.now ≡ called (shape self.now) };
 
     /// How it judges an instance.
     fn judge(&self, instance: Instance<'_>) -> Judge
-        ensures count { result.count ≡ how_many (shape self.now) (subject_of instance.entry) }
+        ensures count { result.count ≡ count (shape self.now) (subject_of instance.entry) }
         ensures enough { result.enough ≡ enough (shape self.now) }
         ensures shows { result.shows ≡ shows (shape self.now) };
 
@@ -72,6 +78,17 @@ pub trait JudgeKeyword: Drop {
     ) -> Result<String, OutOfMemory>
         ensures text { IfOk result (λ text. subject_has_float (subject_of instance.entry) ≡ false → string_bytes text
             ≡ error_text (shape self.now) (subject_of instance.entry) accepted) };
+
+    /// Whether the keyword says of itself that it is monotone: a yes more among the answers never turns its own from yes to no.
+    /// `false` says nothing, and is always right.
+    fn monotone(&self) -> bool
+        ensures says { result ≡ says_monotone (shape self.now) };
+
+    // each question is asked at a place that is there
+    ghost present: { (m : Self.Shape) (s : Subject) → AsksPresent s (each_from (question m) 0 (count m s)) };
+
+    // where it says that it is monotone, no number at which it holds is followed by one at which it does not
+    ghost grows: { (m : Self.Shape) (s : Subject) → says_monotone m ≡ true → never_falls (accepts m s) (enough m) ≡ true };
 }
 
 /// Notes the keyword's error where it does not hold.
@@ -114,13 +131,13 @@ pub fn turn_judge<'s, 'i, J: JudgeKeyword>(
         → way_turn (spoken_way texts (judge_way (J.called (J.shape keyword.now)) (J.enough (J.shape keyword.now))
         (J.shows (J.shape keyword.now)) (J.accepts (J.shape keyword.now) (subject_of instance.entry))
         (J.error_text (J.shape keyword.now) (subject_of instance.entry))
-        (each_from (J.question (J.shape keyword.now)) 0 (J.how_many (J.shape keyword.now) (subject_of instance.entry)))))
+        (each_from (J.question (J.shape keyword.now)) 0 (J.count (J.shape keyword.now) (subject_of instance.entry)))))
         (run.old, answer_of texts answer.old) (reply_of texts reply.entry) ≡ (run.new, answer_of texts answer.new)) }
     ensures steps { IfOk result (λ step. (texts : Bool)
         → way_step (spoken_way texts (judge_way (J.called (J.shape keyword.now)) (J.enough (J.shape keyword.now))
         (J.shows (J.shape keyword.now)) (J.accepts (J.shape keyword.now) (subject_of instance.entry))
         (J.error_text (J.shape keyword.now) (subject_of instance.entry))
-        (each_from (J.question (J.shape keyword.now)) 0 (J.how_many (J.shape keyword.now) (subject_of instance.entry)))))
+        (each_from (J.question (J.shape keyword.now)) 0 (J.count (J.shape keyword.now) (subject_of instance.entry)))))
         (run.old, answer_of texts answer.old) (reply_of texts reply.entry) ≡ turn_of step) }
     ensures borrows { IfOk result (λ _. (root : Data) → All (BorrowsItsPlace root) (errors_in reply.entry)
         → All (PassesBorrowed root) (faults_in answer.old) → All (PassesBorrowed root) (faults_in answer.new)) }
@@ -135,4 +152,84 @@ pub fn turn_judge<'s, 'i, J: JudgeKeyword>(
         }
         Judging::Over => Ok(Step::Done),
     }
+}
+
+/// A keyword that judges, as the engine takes it.
+#[derive(Drop)]
+pub struct Judged<J> {
+    pub keyword: J,
+}
+
+impl<J: JudgeKeyword> Validate for Judged<J> {
+    ghost use Rattle.keyword_ways.specs.WayGrows.{judges_grow, own_grow};
+    ghost use Rattle.keyword_ways.specs.WayHandsOn.{own_hand_units_on};
+    ghost use Rattle.keyword_ways.specs.WayUnits.{own_ask_no_units};
+    ghost use Rattle.keyword_ways.specs.WayVerdicts.{own_ask_verdicts};
+    ghost use Rattle.std.specs.Prelude.{refl};
+    ghost use Rattle.keyword_ways.specs.OwnWays.{judge_ways, own_absorbed, own_can_be, own_ends, own_fits, own_function_laws};
+    ghost use Rattle.keyword_ways.specs.OwnWays.{own_remaining, own_turn_laws, own_words};
+
+    type Run = Progress;
+
+    type Shape = J::Shape;
+
+    ghost words = { own_words (judge_ways J.called J.enough J.shows J.accepts J.error_text J.question J.count) };
+
+    ghost shape = { λ k. J.shape k.keyword };
+
+    ghost absorbed = { own_absorbed (judge_ways J.called J.enough J.shows J.accepts J.error_text J.question J.count) };
+
+    ghost is_whole = { λ _. true };
+
+    ghost says_monotone = { λ m. J.says_monotone m };
+
+    ghost remaining = { own_remaining (judge_ways J.called J.enough J.shows J.accepts J.error_text J.question J.count) };
+
+    ghost can_be = { own_can_be (judge_ways J.called J.enough J.shows J.accepts J.error_text J.question J.count) };
+
+    ghost ends = { own_ends (judge_ways J.called J.enough J.shows J.accepts J.error_text J.question J.count) };
+
+    ghost fits = { own_fits (judge_ways J.called J.enough J.shows J.accepts J.error_text J.question J.count) };
+
+    fn begin(
+        &self,
+        _alloc: Global,
+        _instance: Instance,
+        mode: Mode,
+    ) -> Result<Progress, OutOfMemory> {
+        Ok(Progress::begin(mode))
+    }
+
+    fn turn<'s, 'i: 's>(
+        &'s self,
+        alloc: Global,
+        run: &mut Progress,
+        instance: Instance<'i>,
+        reply: Reply<'i>,
+        answer: &mut Answer<'i>,
+    ) -> Result<Step<'s>, OutOfMemory> {
+        turn_judge(&self.keyword, alloc, run, instance, reply, answer)
+    }
+
+    fn monotone(&self) -> bool {
+        self.keyword.monotone()
+    }
+
+    ghost speaks = { λ texts. refl };
+
+    ghost answers = { λ texts run a. refl };
+
+    ghost turn_laws = { own_turn_laws (judge_ways J.called J.enough J.shows J.accepts J.error_text J.question J.count) };
+
+    ghost function_laws = { own_function_laws (judge_ways J.called J.enough J.shows J.accepts J.error_text J.question J.count)
+        J.present };
+
+    ghost grows = { own_grow (judge_ways J.called J.enough J.shows J.accepts J.error_text J.question J.count)
+        J.says_monotone (judges_grow J.called J.enough J.shows J.accepts J.error_text J.question J.count J.says_monotone J.grows) };
+
+    ghost hands_units_on = { own_hand_units_on (judge_ways J.called J.enough J.shows J.accepts J.error_text J.question J.count) };
+
+    ghost asks_no_units = { own_ask_no_units (judge_ways J.called J.enough J.shows J.accepts J.error_text J.question J.count) };
+
+    ghost asks_verdicts = { own_ask_verdicts (judge_ways J.called J.enough J.shows J.accepts J.error_text J.question J.count) };
 }

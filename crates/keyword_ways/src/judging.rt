@@ -28,12 +28,16 @@ pub enum Judging {
     Over,
 }
 
-/// How a keyword judges: how many questions it has, after how many that are answered by yes further ones change nothing, and
-/// whether it gives their units.
+/// How a keyword judges an instance.
 #[derive(Clone, Copy)]
 pub struct Judge {
+    /// How many questions it has.
     pub count: usize,
+    /// After how many that are answered by yes further ones change nothing. Any number may be answered: the keyword is judged by how
+    /// many are answered by yes, or by this number where more are. One that wants at least so many answers by yes has enough with
+    /// that number, and one that wants at most so many with one more; the number of its questions is always enough.
     pub enough: usize,
+    /// Whether it gives its questions' units.
     pub shows: bool,
 }
 

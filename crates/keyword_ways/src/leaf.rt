@@ -99,8 +99,8 @@ pub fn turn_leaf<'s, 'i, L: LeafKeyword>(
 
 /// A keyword that asks nothing, as the engine takes it.
 #[derive(Drop)]
-pub struct Leaf<L: LeafKeyword> {
-    pub leaf: L,
+pub struct Leaf<L> {
+    pub keyword: L,
 }
 
 impl<L: LeafKeyword> Validate for Leaf<L> {
@@ -118,7 +118,7 @@ impl<L: LeafKeyword> Validate for Leaf<L> {
 
     ghost words = { own_words (leaf_ways L.called L.accepts L.error_text) };
 
-    ghost shape = { λ k. L.shape k.leaf };
+    ghost shape = { λ k. L.shape k.keyword };
 
     ghost absorbed = { own_absorbed (leaf_ways L.called L.accepts L.error_text) };
 
@@ -151,12 +151,12 @@ impl<L: LeafKeyword> Validate for Leaf<L> {
         reply: Reply<'i>,
         answer: &mut Answer<'i>,
     ) -> Result<Step<'s>, OutOfMemory> {
-        turn_leaf(&self.leaf, alloc, run, instance, reply, answer)
+        turn_leaf(&self.keyword, alloc, run, instance, reply, answer)
     }
 
     #[tactic(auto, using(crate::proofs::AtOnce::leaf_ends))]
     fn is_valid_at_once(&self, instance: Instance<'_>) -> Option<bool> {
-        Some(self.leaf.holds(instance))
+        Some(self.keyword.holds(instance))
     }
 
     fn monotone(&self) -> bool {

@@ -28,7 +28,7 @@ pub trait OwnKeyword: Drop {
     ghost way: { Self.Shape → Subject → Way };
 
     // whether no text of an error of it shows a fraction of the schema
-    ghost is_whole: { Self.Shape → Bool };
+    ghost shows_no_fraction: { Self.Shape → Bool };
 
     // each question is asked at a place that is there
     ghost present: { AlwaysPresent way };
@@ -40,7 +40,7 @@ pub trait OwnKeyword: Drop {
     ghost grows: { EachGrows way says_monotone };
 
     /// Takes a turn: by `turn_leaf`, `turn_judge`, `next_number`, `branch_on` or `match_on`, as its way is.
-    fn turn<'s, 'i: 's>(
+    fn take_turn<'s, 'i: 's>(
         &'s self,
         alloc: Global,
         run: &mut Progress,
@@ -48,10 +48,10 @@ pub trait OwnKeyword: Drop {
         reply: Reply<'i>,
         answer: &mut Answer<'i>,
     ) -> Result<Step<'s>, OutOfMemory>
-        ensures turns { IfOk result (λ _. (texts : Bool) → Tells texts (is_whole (shape self.now)) (subject_of instance.entry)
+        ensures turns { IfOk result (λ _. (texts : Bool) → Tells texts (shows_no_fraction (shape self.now)) (subject_of instance.entry)
             → way_turn (spoken_way texts (way (shape self.now) (subject_of instance.entry))) (run.old, answer_of texts answer.old)
             (reply_of texts reply.entry) ≡ (run.new, answer_of texts answer.new)) }
-        ensures steps { IfOk result (λ step. (texts : Bool) → Tells texts (is_whole (shape self.now)) (subject_of instance.entry)
+        ensures steps { IfOk result (λ step. (texts : Bool) → Tells texts (shows_no_fraction (shape self.now)) (subject_of instance.entry)
             → way_step (spoken_way texts (way (shape self.now) (subject_of instance.entry))) (run.old, answer_of texts answer.old)
             (reply_of texts reply.entry) ≡ turn_of step) }
         ensures borrows { IfOk result (λ _. (root : Data) → All (BorrowsItsPlace root) (errors_in reply.entry)
@@ -65,11 +65,11 @@ pub trait OwnKeyword: Drop {
 
 /// An author's keyword, as the engine takes it.
 #[derive(Drop)]
-pub struct Keyword<K: OwnKeyword> {
-    pub own: K,
+pub struct ByTurns<K> {
+    pub keyword: K,
 }
 
-impl<K: OwnKeyword> Validate for Keyword<K> {
+impl<K: OwnKeyword> Validate for ByTurns<K> {
     ghost use Rattle.keyword_ways.specs.WayGrows.{own_grow};
     ghost use Rattle.keyword_ways.specs.WayHandsOn.{own_hand_units_on};
     ghost use Rattle.keyword_ways.specs.WayUnits.{own_ask_no_units};
@@ -84,11 +84,11 @@ impl<K: OwnKeyword> Validate for Keyword<K> {
 
     ghost words = { own_words K.way };
 
-    ghost shape = { λ k. K.shape k.own };
+    ghost shape = { λ k. K.shape k.keyword };
 
     ghost absorbed = { own_absorbed K.way };
 
-    ghost is_whole = { λ m. K.is_whole m };
+    ghost is_whole = { λ m. K.shows_no_fraction m };
 
     ghost says_monotone = { λ m. K.says_monotone m };
 
@@ -117,11 +117,11 @@ impl<K: OwnKeyword> Validate for Keyword<K> {
         reply: Reply<'i>,
         answer: &mut Answer<'i>,
     ) -> Result<Step<'s>, OutOfMemory> {
-        self.own.turn(alloc, run, instance, reply, answer)
+        self.keyword.take_turn(alloc, run, instance, reply, answer)
     }
 
     fn monotone(&self) -> bool {
-        self.own.monotone()
+        self.keyword.monotone()
     }
 
     ghost speaks = { λ texts. refl };

@@ -1,5 +1,5 @@
 //! Keywords that say by a plan how they go about an instance. Their runs and their laws are the same for all of them.
-ghost use Rattle.std.specs.Prelude.{All, ◌≡◌, ◌∷◌, [], Bool, IfOk, Some, false, refl, string_bytes, true};
+ghost use Rattle.std.specs.Prelude.{All, ◌≡◌, ◌∷◌, [], ℕ, Bool, IfOk, Some, false, refl, string_bytes, true};
 ghost use Rattle.serde_json.specs.Data.{Data};
 ghost use Rattle.schema_definitions.specs.Instance.{Subject, Text};
 ghost use Rattle.schema_reports.specs.InstanceTexts.{subject_has_float};
@@ -7,8 +7,8 @@ ghost use Rattle.schema_reports.specs.InstanceViews.{subject_of};
 ghost use Rattle.schema_definitions.specs.Keywords.{done};
 ghost use Rattle.schema_reports.specs.ReportViews.{BorrowsItsPlace, spoken};
 ghost use Rattle.schema_parts.specs.FaultViews.{errors_in, faults_in, PassesBorrowed};
-ghost use Rattle.schema_parts.specs.KeywordViews.{answer_of, reply_of, turn_of, Tells as TellsRightly};
-ghost use Rattle.keyword_ways.specs.Plans.{asks_count, asks_of, least_way, plan_ways, question_of};
+ghost use Rattle.schema_parts.specs.KeywordViews.{answer_of, reply_of, turn_of, Tells};
+ghost use Rattle.keyword_ways.specs.Plans.{asks_count, asks_of, enough_of, is_wanted, plan_ways, question_of, wanting_way};
 ghost use Rattle.keyword_ways.specs.OwnWays.{leaf_way, spoken_way};
 ghost use Rattle.keyword_ways.specs.Ways.{asked, noted, passes_on, way_step, way_turn};
 
@@ -35,12 +35,23 @@ pub enum Asks {
 /// How a keyword goes about an instance.
 #[derive(Clone, Copy)]
 pub enum Plan {
-    /// It asks nothing, and tells its error unless this holds.
-    Tells(bool),
+    /// It asks nothing, and tells its error unless this is true. The error's text is that of no answer by yes.
+    Holds(bool),
     /// It passes on what its questions answer.
     PassesOn(Asks),
-    /// It tells its error unless at least so many of its questions are answered by yes.
+    /// It tells its error unless at least so many of its questions are answered by yes. The error's text is given how many are.
     AtLeast(Asks, usize),
+    /// It tells its error unless at least so many of its questions are answered by yes, and at most so many. The error's text is
+    /// given how many are; it asks no further than one more than the most, so that number stands for any above the most.
+    Within(Asks, usize, usize),
+}
+
+/// How many answers by yes a keyword wants to its questions.
+#[derive(Clone, Copy)]
+struct Wanted {
+    asks: Asks,
+    least: usize,
+    most: Option<usize>,
 }
 
 /// A keyword whose plan, name and error are functions of its shape and of the instance. `Planned` makes a keyword of the engine of
@@ -50,34 +61,52 @@ pub trait PlannedKeyword: Drop {
     type Shape;
 
     ghost use Rattle.keyword_ways.specs.declared.planned.Plan.{Plan};
+    ghost use Rattle.keyword_ways.specs.WayGrows.{PlansGrow};
 
     // the shape of a keyword
     ghost shape: { Self → Self.Shape };
     // whether no text of it holds a fraction of the schema
-    ghost is_whole: { Self.Shape → Bool };
+    ghost shows_no_fraction: { Self.Shape → Bool };
     // its plan for an instance
     ghost planned: { Self.Shape → Subject → Plan };
     // the name that its error goes by
-    ghost named: { Self.Shape → Text };
-    // its error's text
-    ghost told: { Self.Shape → Subject → Text };
+    ghost called: { Self.Shape → Text };
+    // its error's text, by how many of its questions are answered by yes
+    ghost error_text: { Self.Shape → Subject → ℕ → Text };
+
+    // whether it says of itself that it is monotone
+    ghost says_monotone: { Self.Shape → Bool };
 
     /// Returns the keyword's plan for an instance. It is asked in each turn, so it should be cheap.
     fn plan(&self, instance: Instance<'_>) -> Plan
         ensures plan { result ≡ planned (shape self.now) (subject_of instance.entry) };
 
     /// Returns the keyword's name.
-    fn name(&self) -> &'static str
-        ensures name { result.now ≡ named (shape self.now) };
+    fn name(&self) -> &str
+        ensures name { result.now ≡ called (shape self.now) };
 
-    /// Returns the error's text. Nothing is promised of it where the instance or the keyword holds a fraction.
+    /// Returns the error's text, where so many of its questions are answered by yes. Nothing is promised of it where the instance or
+    /// the keyword holds a fraction.
     ///
     /// # Errors
     ///
     /// Memory cannot be allocated.
-    fn text(&self, alloc: Global, instance: Instance<'_>) -> Result<String, OutOfMemory>
-        ensures text { IfOk result (λ text. is_whole (shape self.now) ≡ true → subject_has_float (subject_of instance.entry) ≡ false
-            → string_bytes text ≡ told (shape self.now) (subject_of instance.entry)) };
+    fn text(
+        &self,
+        alloc: Global,
+        instance: Instance<'_>,
+        accepted: usize,
+    ) -> Result<String, OutOfMemory>
+        ensures text { IfOk result (λ text. shows_no_fraction (shape self.now) ≡ true → subject_has_float (subject_of instance.entry) ≡ false
+            → string_bytes text ≡ error_text (shape self.now) (subject_of instance.entry) accepted) };
+
+    /// Returns whether the keyword says of itself that it is monotone: a yes more among the answers never turns its own from yes to
+    /// no. So it is where none of its plans has a most. `false` says nothing, and is always right.
+    fn monotone(&self) -> bool
+        ensures says { result ≡ says_monotone (shape self.now) };
+
+    // where it does, each of its plans is
+    ghost grows: { PlansGrow planned says_monotone };
 }
 
 /// A keyword of the engine, by its plan.
@@ -92,12 +121,13 @@ fn tell<'i, P: PlannedKeyword>(
     alloc: Global,
     mode: Mode,
     instance: Instance<'i>,
+    accepted: usize,
     answer: &mut Answer<'i>,
 ) -> Result<(), OutOfMemory>
     ensures told { IfOk result (λ _. (texts : Bool)
-        → TellsRightly texts (P.is_whole (P.shape keyword.now)) (subject_of instance.entry) → answer_of texts answer.new
-        ≡ noted mode (P.named (P.shape keyword.now)) (answer_of texts answer.old)
-        (spoken texts (P.told (P.shape keyword.now) (subject_of instance.entry)) ∷ [])) }
+        → Tells texts (P.shows_no_fraction (P.shape keyword.now)) (subject_of instance.entry) → answer_of texts answer.new
+        ≡ noted mode (P.called (P.shape keyword.now)) (answer_of texts answer.old)
+        (spoken texts (P.error_text (P.shape keyword.now) (subject_of instance.entry) accepted) ∷ [])) }
     ensures borrows { IfOk result (λ _. (root : Data) → All (PassesBorrowed root) (faults_in answer.old)
         → All (PassesBorrowed root) (faults_in answer.new)) }
 {
@@ -105,7 +135,7 @@ fn tell<'i, P: PlannedKeyword>(
         refuse(alloc, answer);
         return Ok(());
     }
-    let text = keyword.text(alloc, instance)?;
+    let text = keyword.text(alloc, instance, accepted)?;
     note(alloc, mode, keyword.name(), text, answer)
 }
 
@@ -140,9 +170,9 @@ fn turn_telling<'s, 'i, P: PlannedKeyword>(
     answer: &mut Answer<'i>,
 ) -> Result<Step<'s>, OutOfMemory>
     ensures turns { IfOk result (λ _. (texts : Bool)
-        → TellsRightly texts (P.is_whole (P.shape keyword.now)) (subject_of instance.entry)
-        → way_turn (spoken_way texts (leaf_way (P.named (P.shape keyword.now)) holds
-        (P.told (P.shape keyword.now) (subject_of instance.entry))))
+        → Tells texts (P.shows_no_fraction (P.shape keyword.now)) (subject_of instance.entry)
+        → way_turn (spoken_way texts (leaf_way (P.called (P.shape keyword.now)) holds
+        (P.error_text (P.shape keyword.now) (subject_of instance.entry) 0)))
         (run.old, answer_of texts answer.old) (reply_of texts reply.entry) ≡ (run.new, answer_of texts answer.new)) }
     ensures step { IfOk result (λ step. turn_of step ≡ done) }
     ensures borrows { IfOk result (λ _. (root : Data) → All (BorrowsItsPlace root) (errors_in reply.entry)
@@ -152,7 +182,7 @@ fn turn_telling<'s, 'i, P: PlannedKeyword>(
     drop(reply);
     let first = tell_on(run);
     if first && !holds {
-        tell(keyword, alloc, run.mode, instance, answer)?;
+        tell(keyword, alloc, run.mode, instance, 0, answer)?;
     }
     Ok(Step::Done)
 }
@@ -181,41 +211,71 @@ fn turn_passing<'s, 'i>(
     }
 }
 
+/// Whether so many answers by yes are what is wanted.
+fn is_wanted(wanted: Wanted, accepted: usize) -> bool
+    ensures wanted { result ≡ is_wanted wanted.least wanted.most accepted }
+{
+    match wanted.most {
+        None => wanted.least <= accepted,
+        Some(most) => accepted <= most && wanted.least <= accepted,
+    }
+}
+
+/// After how many answers by yes further ones change nothing, of so many questions.
+fn enough_of(wanted: Wanted, count: usize) -> usize
+    ensures enough { result ≡ enough_of wanted.least wanted.most count }
+{
+    match wanted.most {
+        None => wanted.least,
+        Some(most) => { if most < count { most + 1 } else { count } }
+    }
+}
+
+/// How a keyword judges that wants so many yeses.
+fn judge_of(wanted: Wanted, instance: Instance<'_>) -> Judge
+    ensures count { result.count ≡ asks_count wanted.asks (subject_of instance.entry) }
+    ensures enough { result.enough ≡ enough_of wanted.least wanted.most (asks_count wanted.asks (subject_of instance.entry)) }
+    ensures shows { result.shows ≡ true }
+{
+    let count = count_of(wanted.asks, instance);
+    Judge {
+        count,
+        enough: enough_of(wanted, count),
+        shows: true,
+    }
+}
+
 /// A turn of a keyword that wants so many yeses.
 fn turn_judging<'s, 'i, P: PlannedKeyword>(
     keyword: &P,
     alloc: Global,
-    asks: Asks,
-    least: usize,
+    wanted: Wanted,
     run: &mut Progress,
     instance: Instance<'i>,
     reply: Reply<'i>,
     answer: &mut Answer<'i>,
 ) -> Result<Step<'s>, OutOfMemory>
     ensures turns { IfOk result (λ _. (texts : Bool)
-        → TellsRightly texts (P.is_whole (P.shape keyword.now)) (subject_of instance.entry)
-        → way_turn (spoken_way texts (least_way (P.named (P.shape keyword.now))
-        (P.told (P.shape keyword.now) (subject_of instance.entry)) least (asks_of asks (subject_of instance.entry))))
+        → Tells texts (P.shows_no_fraction (P.shape keyword.now)) (subject_of instance.entry)
+        → way_turn (spoken_way texts (wanting_way (P.called (P.shape keyword.now))
+        (P.error_text (P.shape keyword.now) (subject_of instance.entry)) wanted.least wanted.most
+        (asks_count wanted.asks (subject_of instance.entry)) (asks_of wanted.asks (subject_of instance.entry))))
         (run.old, answer_of texts answer.old) (reply_of texts reply.entry) ≡ (run.new, answer_of texts answer.new)) }
     ensures steps { IfOk result (λ step. (texts : Bool)
-        → way_step (spoken_way texts (least_way (P.named (P.shape keyword.now))
-        (P.told (P.shape keyword.now) (subject_of instance.entry)) least (asks_of asks (subject_of instance.entry))))
+        → way_step (spoken_way texts (wanting_way (P.called (P.shape keyword.now))
+        (P.error_text (P.shape keyword.now) (subject_of instance.entry)) wanted.least wanted.most
+        (asks_count wanted.asks (subject_of instance.entry)) (asks_of wanted.asks (subject_of instance.entry))))
         (run.old, answer_of texts answer.old) (reply_of texts reply.entry) ≡ turn_of step) }
     ensures borrows { IfOk result (λ _. (root : Data) → All (BorrowsItsPlace root) (errors_in reply.entry)
         → All (PassesBorrowed root) (faults_in answer.old) → All (PassesBorrowed root) (faults_in answer.new)) }
 {
     let mode = run.mode;
-    let judge = Judge {
-        count: count_of(asks, instance),
-        enough: least,
-        shows: true,
-    };
-    let judging = judge_on(alloc, judge, run, reply, answer)?;
+    let judging = judge_on(alloc, judge_of(wanted, instance), run, reply, answer)?;
     match judging {
-        Judging::Asks(number, asked) => Ok(ask(asks, number, asked)),
+        Judging::Asks(number, asked) => Ok(ask(wanted.asks, number, asked)),
         Judging::Judged(accepted) => {
-            if accepted < least {
-                tell(keyword, alloc, mode, instance, answer)?;
+            if !is_wanted(wanted, accepted) {
+                tell(keyword, alloc, mode, instance, accepted, answer)?;
             }
             Ok(Step::Done)
         }
@@ -236,23 +296,23 @@ impl<P: PlannedKeyword> Validate for Planned<P> {
 
     type Shape = P::Shape;
 
-    ghost words = { own_words (plan_ways P.planned P.named P.told) };
+    ghost words = { own_words (plan_ways P.planned P.called P.error_text) };
 
     ghost shape = { λ k. P.shape k.keyword };
 
-    ghost absorbed = { own_absorbed (plan_ways P.planned P.named P.told) };
+    ghost absorbed = { own_absorbed (plan_ways P.planned P.called P.error_text) };
 
-    ghost is_whole = { P.is_whole };
+    ghost is_whole = { P.shows_no_fraction };
 
-    ghost says_monotone = { λ _. true };
+    ghost says_monotone = { P.says_monotone };
 
-    ghost remaining = { own_remaining (plan_ways P.planned P.named P.told) };
+    ghost remaining = { own_remaining (plan_ways P.planned P.called P.error_text) };
 
-    ghost can_be = { own_can_be (plan_ways P.planned P.named P.told) };
+    ghost can_be = { own_can_be (plan_ways P.planned P.called P.error_text) };
 
-    ghost ends = { own_ends (plan_ways P.planned P.named P.told) };
+    ghost ends = { own_ends (plan_ways P.planned P.called P.error_text) };
 
-    ghost fits = { own_fits (plan_ways P.planned P.named P.told) };
+    ghost fits = { own_fits (plan_ways P.planned P.called P.error_text) };
 
     fn begin(
         &self,
@@ -271,56 +331,57 @@ impl<P: PlannedKeyword> Validate for Planned<P> {
         reply: Reply<'i>,
         answer: &mut Answer<'i>,
     ) -> Result<Step<'s>, OutOfMemory> {
-        match self.keyword.plan(instance) {
-            Plan::Tells(holds) => turn_telling(
-                &self.keyword,
-                alloc,
-                holds,
-                run,
-                instance,
-                reply,
-                answer,
-            ),
+        let keyword = &self.keyword;
+        match keyword.plan(instance) {
+            Plan::Holds(holds) => turn_telling(keyword, alloc, holds, run, instance, reply, answer),
             Plan::PassesOn(asks) => turn_passing(alloc, asks, run, instance, reply, answer),
-            Plan::AtLeast(asks, least) => turn_judging(
-                &self.keyword,
-                alloc,
-                asks,
-                least,
-                run,
-                instance,
-                reply,
-                answer,
-            ),
+            Plan::AtLeast(asks, least) => {
+                let wanted = Wanted {
+                    asks,
+                    least,
+                    most: None,
+                };
+                turn_judging(keyword, alloc, wanted, run, instance, reply, answer)
+            }
+            Plan::Within(asks, least, most) => {
+                let wanted = Wanted {
+                    asks,
+                    least,
+                    most: Some(most),
+                };
+                turn_judging(keyword, alloc, wanted, run, instance, reply, answer)
+            }
         }
     }
 
     #[tactic(auto, using(crate::proofs::AtOnce::plan_ends))]
     fn is_valid_at_once(&self, instance: Instance<'_>) -> Option<bool> {
         match self.keyword.plan(instance) {
-            Plan::Tells(holds) => Some(holds),
+            Plan::Holds(holds) => Some(holds),
             Plan::PassesOn(_) => None,
             Plan::AtLeast(_, _) => None,
+            Plan::Within(_, _, _) => None,
         }
     }
 
     fn monotone(&self) -> bool {
-        true
+        self.keyword.monotone()
     }
 
     ghost speaks = { λ texts. refl };
 
     ghost answers = { λ texts run a. refl };
 
-    ghost turn_laws = { own_turn_laws (plan_ways P.planned P.named P.told) };
+    ghost turn_laws = { own_turn_laws (plan_ways P.planned P.called P.error_text) };
 
-    ghost function_laws = { own_function_laws (plan_ways P.planned P.named P.told) (plans_present P.planned P.named P.told) };
+    ghost function_laws = { own_function_laws (plan_ways P.planned P.called P.error_text) (plans_present P.planned P.called P.error_text) };
 
-    ghost grows = { own_grow (plan_ways P.planned P.named P.told) (λ _. true) (plans_grow P.planned P.named P.told) };
+    ghost grows = { own_grow (plan_ways P.planned P.called P.error_text) P.says_monotone
+        (plans_grow P.planned P.called P.error_text P.says_monotone P.grows) };
 
-    ghost hands_units_on = { own_hand_units_on (plan_ways P.planned P.named P.told) };
+    ghost hands_units_on = { own_hand_units_on (plan_ways P.planned P.called P.error_text) };
 
-    ghost asks_no_units = { own_ask_no_units (plan_ways P.planned P.named P.told) };
+    ghost asks_no_units = { own_ask_no_units (plan_ways P.planned P.called P.error_text) };
 
-    ghost asks_verdicts = { own_ask_verdicts (plan_ways P.planned P.named P.told) };
+    ghost asks_verdicts = { own_ask_verdicts (plan_ways P.planned P.called P.error_text) };
 }

@@ -1,13 +1,14 @@
 -- `x-items` and `type` with the value "array": each item accepts, by the run's mode; and an instance is an array.
-use Rattle.std.proofs.Common.{◌+◌, zero, suc, Bool, true, false, [], None, Option, Some}
+use Rattle.std.proofs.Common.{ℕ, ◌+◌, zero, suc, Bool, true, false, [], None, Option, Some, refl}
 use Rattle.std.specs.Prelude.{codes, ◌++◌}
 use Rattle.schema_definitions.specs.Instance.{Subject, Text}
 use Rattle.schema_definitions.specs.Keywords.{Question, Reply}
 use Rattle.schema_definitions.specs.Meaning.{subject_text}
 use Rattle.keyword_ways.specs.Items.{is_list}
+use Rattle.keyword_ways.specs.WayGrows.{PlansGrow}
 use Rattle.keyword_ways.specs.declared.planned.Asks.TheVariants as asks
 use Rattle.keyword_ways.specs.declared.planned.Plan.{Plan}
-use Rattle.keyword_ways.specs.declared.planned.Plan.TheVariants.{PassesOn, Tells}
+use Rattle.keyword_ways.specs.declared.planned.Plan.TheVariants.{PassesOn, Holds}
 use Rattle.keyword_ways.specs.declared.run.Stage.{Stage}
 use Rattle.keyword_ways.specs.declared.run.Stage.TheVariants.{Asked, Begun, Counted, Ended}
 use Rattle.schema_parts.specs.declared.keyword.Mode.{Mode}
@@ -19,16 +20,21 @@ use Rattle.law_tests.specs.declared.items.ItemsPlan.{ItemsPlan}
 use Rattle.law_tests.specs.declared.items.ItemsPlan.TheVariants.{ArrayType, EachItem}
 
 abbrev pub planned : ItemsPlan → Subject → Plan
-planned ArrayType s = Tells (is_list s)
+planned ArrayType s = Holds (is_list s)
 planned EachItem s = PassesOn asks.Items
 
 abbrev pub name : ItemsPlan → Text
 name ArrayType = codes "type"
 name EachItem = codes "x-items"
 
-abbrev pub told : ItemsPlan → Subject → Text
-told ArrayType s = subject_text s ++ codes " is not of type \"array\""
-told EachItem s = []
+abbrev pub told : ItemsPlan → Subject → ℕ → Text
+told ArrayType s accepted = subject_text s ++ codes " is not of type \"array\""
+told EachItem s accepted = []
+
+-- neither plan has a most
+pub items_plans_grow : PlansGrow planned (λ k. true)
+items_plans_grow ArrayType s h = refl
+items_plans_grow EachItem s h = refl
 
 -- `x-items` alone marks
 abbrev pub marks : ItemsPlan → Bool

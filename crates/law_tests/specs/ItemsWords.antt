@@ -15,7 +15,7 @@ use Rattle.keyword_ways.specs.WayHandsOn.{own_hand_units_on}
 use Rattle.keyword_ways.specs.WayUnits.{WantsNone, mode-kept, step_for_less}
 use Rattle.keyword_ways.specs.WayVerdicts.{WantsVerdict, step_for_verdict}
 use Rattle.keyword_ways.specs.declared.run.Progress.{Progress}
-use Rattle.law_tests.specs.Items.{marks, name, planned, told, way_marks}
+use Rattle.law_tests.specs.Items.{items_plans_grow, marks, name, planned, told, way_marks}
 use Rattle.law_tests.specs.Marking as marking
 use Rattle.law_tests.specs.declared.items.ItemsPlan.{ItemsPlan}
 
@@ -61,7 +61,7 @@ items_verdicts = marking.asks_verdicts marks (own_words ways) (λ (r : Progress 
 
 -- each of them passes on or tells, so it is monotone
 pub items_grows : (texts : Bool) (m : ItemsPlan) → true ≡ true → IsMonotone (items_words texts) m
-items_grows texts m h s matches a b where_yes holds = own_grow ways (λ _. true) (plans_grow planned name told) texts m h s matches a b where_yes holds
+items_grows texts m h s matches a b where_yes holds = own_grow ways (λ _. true) (plans_grow planned name told (λ _. true) items_plans_grow) texts m h s matches a b where_yes holds
 
 pub items_hand_on : (texts : Bool) → EachHandsUnitsOn (items_words texts) items_absorbed
 items_hand_on texts m s matches u =

@@ -32,35 +32,42 @@ pub enum ItemsPlan {
 
 impl PlannedKeyword for ItemsPlan {
     ghost use Rattle.std.specs.Prelude.{true};
-    ghost use Rattle.law_tests.specs.Items.{name, planned, told};
+    ghost use Rattle.law_tests.specs.Items.{items_plans_grow, name, planned, told};
 
     type Shape = ItemsPlan;
 
     ghost shape = { λ k. k };
 
-    ghost is_whole = { λ k. true };
+    ghost shows_no_fraction = { λ k. true };
 
     ghost planned = { planned };
 
-    ghost named = { name };
+    ghost called = { name };
 
-    ghost told = { told };
+    ghost error_text = { told };
+
+    ghost says_monotone = { λ k. true };
 
     fn plan(&self, instance: Instance<'_>) -> Plan {
         match self {
-            ItemsPlan::ArrayType => Plan::Tells(is_list(instance)),
+            ItemsPlan::ArrayType => Plan::Holds(is_list(instance)),
             ItemsPlan::EachItem => Plan::PassesOn(Asks::Items),
         }
     }
 
-    fn name(&self) -> &'static str {
+    fn name(&self) -> &str {
         match self {
             ItemsPlan::ArrayType => "type",
             ItemsPlan::EachItem => "x-items",
         }
     }
 
-    fn text(&self, alloc: Global, instance: Instance<'_>) -> Result<String, OutOfMemory> {
+    fn text(
+        &self,
+        alloc: Global,
+        instance: Instance<'_>,
+        _accepted: usize,
+    ) -> Result<String, OutOfMemory> {
         match self {
             ItemsPlan::ArrayType => {
                 let mut text = instance.text(alloc)?;
@@ -70,6 +77,12 @@ impl PlannedKeyword for ItemsPlan {
             ItemsPlan::EachItem => Ok(String::new(alloc)),
         }
     }
+
+    fn monotone(&self) -> bool {
+        true
+    }
+
+    ghost grows = { items_plans_grow };
 }
 
 /// A keyword, and the number that the maker of `x-items` was given.

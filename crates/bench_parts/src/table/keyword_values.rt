@@ -155,7 +155,7 @@ pub fn values_below(
 }
 
 /// The place of the value of a name, below a keyword.
-fn member_below(alloc: Global, keyword: &str, name: &str) -> Result<SchemaPath, OutOfMemory>
+pub fn member_below(alloc: Global, keyword: &str, name: &str) -> Result<SchemaPath, OutOfMemory>
     ensures path { IfOk result (λ path. path ≡ to_member keyword.now ∷ to_member name.now ∷ []) }
 {
     let step = SchemaStep::Member(RcStr::from_str(alloc, name)?);
