@@ -1,16 +1,15 @@
 -- What the plans say that count: the number of questions that are answered by yes is wanted, though a run counts no further than
 -- is enough.
-use Rattle.std.proofs.Common.{◌≡◌, ◌∙◌, ℕ, zero, suc, ◌+◌, ◌≤◌, ◌<◌, ◌⊎◌, ◌∷◌, [], Bool, List, None, Some, true, false, ap, arith, inl, inr, length, min, nat_le, refl, sym}
+use Rattle.std.proofs.Common.{◌≡◌, ◌∙◌, ℕ, suc, ◌+◌, ◌≤◌, ◌<◌, ◌⊎◌, ◌∷◌, [], Bool, List, None, Some, true, false, ap, arith, inl, inr, length, min, nat_le, refl, sym}
 use Rattle.std.specs.Prelude.{if◌then◌else◌}
-use Rattle.std.proofs.Math.Nat.{le-min, min-eq_left, min-eq_right}
+use Rattle.std.proofs.Math.Nat.{le-min, min-eq_right}
 use Rattle.std.proofs.lemmas.Bool.{le-leb, leb-false, leb-true, lt-leb}
 use Rattle.schema_definitions.specs.Instance.{Text}
 use Rattle.schema_definitions.specs.Matching.{Matching}
 use Rattle.schema_definitions.specs.Keywords.{Question}
-use Rattle.schema_parts.specs.KeywordViews.{is_nil}
-use Rattle.keyword_ways.specs.Plans.{enough_of, is_wanted, wanting_way}
+use Rattle.keyword_ways.specs.Plans.{is_wanted, wanting_way}
 use Rattle.keyword_ways.specs.Tallies.{counted, yes_count}
-use Rattle.keyword_ways.specs.Ways.{unless, way_holds}
+use Rattle.keyword_ways.specs.Ways.{way_holds}
 use Rattle.keyword_ways.specs.WayGrows.{is_told}
 
 one_more_at_most : (b : Bool) (n most : ℕ) → n ≤ most → counted b n ≤ suc most
