@@ -6,7 +6,8 @@ use Rattle.schema_meaning.specs.UnitsLead.{EachHandsUnitsOn, HandsUnitsOn}
 use Rattle.keyword_ways.specs.WayGrows.{Grows, way_grows}
 use Rattle.keyword_ways.specs.WayHandsOn.{ways_hand_units_on}
 use Rattle.keyword_ways.specs.WayWords.{nothing_absorbed, words_of}
-use Rattle.bench_keywords.specs.BenchShape.{BenchShape, has_all_of, has_any_of, has_count, has_if, has_items, has_not, has_one_of, has_pattern, has_prefix_items, has_properties, has_property_names, has_type, has_types, requires, says_monotone}
+use Rattle.schema_applicators.specs.Laws.{each_grows}
+use Rattle.bench_keywords.specs.BenchShape.{BenchShape, applies, has_count, has_items, has_pattern, has_prefix_items, has_properties, has_property_names, has_type, has_types, requires, says_monotone}
 use Rattle.bench_keywords.specs.Counts.{subject_string}
 use Rattle.bench_keywords.specs.Laws.{none_absorbed}
 use Rattle.bench_keywords.specs.Words.{pattern_way, way, words}
@@ -22,14 +23,10 @@ each_way_grows texts (requires ks) s h = way_grows (way texts (requires ks) s) r
 each_way_grows texts (has_properties ks) s h = way_grows (way texts (has_properties ks) s) refl
 each_way_grows texts (has_count kind n) s h = way_grows (way texts (has_count kind n) s) refl
 each_way_grows texts (has_pattern pattern) s h = pattern_grows texts pattern s (subject_string s)
-each_way_grows texts (has_all_of n) s h = way_grows (way texts (has_all_of n) s) refl
 each_way_grows texts (has_prefix_items n) s h = way_grows (way texts (has_prefix_items n) s) refl
 each_way_grows texts (has_items n) s h = way_grows (way texts (has_items n) s) refl
-each_way_grows texts (has_any_of n) s h = way_grows (way texts (has_any_of n) s) refl
-each_way_grows texts (has_one_of n) s h = absurd (cc h)
-each_way_grows texts (has_if one other) s h = absurd (cc h)
 each_way_grows texts has_property_names s h = way_grows (way texts has_property_names s) refl
-each_way_grows texts (has_not schema fraction) s h = absurd (cc h)
+each_way_grows texts (applies a) s h = each_grows texts a s h
 
 pub bench_grows : (texts : Bool) (m : BenchShape) → says_monotone m ≡ true → IsMonotone (words texts) m
 bench_grows texts m h s matches a b where_yes holds = each_way_grows texts m s h matches a b where_yes holds

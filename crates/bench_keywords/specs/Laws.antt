@@ -1,8 +1,8 @@
 -- The keywords keep the laws.
 use Rattle.std.proofs.Common.{◌≡◌, ◌∙◌, ◌<◌, ◌∷◌, ℕ, zero, List, [], Bool, true, false, Option, Some, None, refl, sym, ap, subst, arith, min, ◌+◌, ◌-◌, is_some, map}
-use Rattle.std.specs.Prelude.{All, Contains, bytes_eq, if◌then◌else◌, option_map}
+use Rattle.std.specs.Prelude.{All, Contains, bytes_eq, if◌then◌else◌}
 use Rattle.std.proofs.lemmas.List.{length-map}
-use Rattle.std.proofs.lemmas.List.Elements.{All-append, All-nil, All-cons, All-contains, All-head, All-tail, Contains-append_right}
+use Rattle.std.proofs.lemmas.List.Elements.{All-nil, All-cons, All-contains, All-head, All-tail, Contains-append_right}
 use Rattle.std.proofs.lemmas.Slice.Eq.{bytes_eq-Decides}
 use Rattle.serde_json.specs.Data.{Members, member, no_members}
 use Rattle.serde_json.specs.Find.{as_object}
@@ -12,18 +12,18 @@ use Rattle.schema_definitions.specs.Laws.{AsksRightly, IsPresent, IsRight, answe
 use Rattle.schema_definitions.specs.Matching.{Matching}
 use Rattle.schema_definitions.specs.Reports.{Unit_}
 use Rattle.schema_definitions.specs.Turns.{FunctionLaws, Standing, TurnLaws, next, reply_to, step_at}
-use Rattle.schema_parts.specs.KeywordViews.{option_list}
 use Rattle.keyword_ways.specs.declared.run.Progress.{Progress}
-use Rattle.keyword_ways.specs.Items.{child_at_item, child_here, first_at_item, item_count}
+use Rattle.keyword_ways.specs.Items.{child_at_item, first_at_item, item_count}
 use Rattle.keyword_ways.specs.Members.{at_name, names_in, names_of_any, only_if, subject_names}
-use Rattle.keyword_ways.specs.Places.{branch_present, each_named, each_present, item_present, names_present, some_members_present}
+use Rattle.keyword_ways.specs.Places.{each_named, each_present, item_present, names_present, some_members_present}
 use Rattle.keyword_ways.specs.Somes.{somes}
 use Rattle.keyword_ways.specs.WayLaws.{AllPresent, SameQuestions, function_laws, turn_laws}
 use Rattle.keyword_ways.specs.WayRuns.{fits_at}
 use Rattle.keyword_ways.specs.WayWords.{any_state, left_at_most, nothing_absorbed, run_ends, run_fits, run_replies, words_of}
 use Rattle.keyword_ways.specs.Ways.{Way, passes_on, passes_some, places, questions, way_faults, way_holds, way_turn, way_units}
+use Rattle.schema_applicators.specs.Laws as applicators
 use Rattle.bench_keywords.specs.declared.names.NamesRun.{NamesRun}
-use Rattle.bench_keywords.specs.BenchShape.{BenchShape, has_all_of, has_any_of, has_count, has_if, has_items, has_not, has_one_of, has_pattern, has_prefix_items, has_properties, has_property_names, has_type, has_types, requires}
+use Rattle.bench_keywords.specs.BenchShape.{BenchShape, applies, has_count, has_items, has_pattern, has_prefix_items, has_properties, has_property_names, has_type, has_types, requires}
 use Rattle.bench_keywords.specs.Counts.{subject_string}
 use Rattle.bench_keywords.specs.Words.{any_run, ends_in, fits_in, has_name, held_way, is_named, name_asked, names_held, pattern_way, run_way, seen, turns_left, way, words}
 
@@ -92,14 +92,10 @@ same_held texts (requires ns, ks) s = (refl, refl)
 same_held texts (has_properties ns, ks) s = (refl, refl)
 same_held texts (has_count kind n, ks) s = (refl, refl)
 same_held texts (has_pattern pattern, ks) s = same_asked texts pattern s (subject_string s)
-same_held texts (has_all_of n, ks) s = (refl, refl)
 same_held texts (has_prefix_items n, ks) s = (refl, refl)
 same_held texts (has_items n, ks) s = (refl, refl)
-same_held texts (has_any_of n, ks) s = (refl, refl)
-same_held texts (has_one_of n, ks) s = (refl, refl)
-same_held texts (has_if one other, ks) s = (refl, refl)
 same_held texts (has_property_names, ks) s = (refl, refl)
-same_held texts (has_not schema fraction, ks) s = (refl, refl)
+same_held texts (applies a, ks) s = applicators.same_questions texts a s
 
 -- a keyword whose runs hold no names that count
 abbrev pub HoldsNothing : BenchShape → Type 0
@@ -113,14 +109,10 @@ by_names P names other (requires ns) = other (requires ns) (λ texts ks s. refl)
 by_names P names other (has_properties ns) = other (has_properties ns) (λ texts ks s. refl)
 by_names P names other (has_count kind n) = other (has_count kind n) (λ texts ks s. refl)
 by_names P names other (has_pattern pattern) = other (has_pattern pattern) (λ texts ks s. refl)
-by_names P names other (has_all_of n) = other (has_all_of n) (λ texts ks s. refl)
 by_names P names other (has_prefix_items n) = other (has_prefix_items n) (λ texts ks s. refl)
 by_names P names other (has_items n) = other (has_items n) (λ texts ks s. refl)
-by_names P names other (has_any_of n) = other (has_any_of n) (λ texts ks s. refl)
-by_names P names other (has_one_of n) = other (has_one_of n) (λ texts ks s. refl)
-by_names P names other (has_if one other') = other (has_if one other') (λ texts ks s. refl)
 by_names P names other has_property_names = names
-by_names P names other (has_not schema fraction) = other (has_not schema fraction) (λ texts ks s. refl)
+by_names P names other (applies a) = other (applies a) (λ texts ks s. refl)
 
 -- what a run asks is what the keyword may ask
 may_ask_held : (texts : Bool) (m : BenchShape) (ks : List Text) (s : Subject) (q : Question) → Contains (questions (held_way texts ks m s)) q → Contains (questions (way texts m s)) q
@@ -230,15 +222,10 @@ present texts (requires ks) s = All-nil _
 present texts (has_properties ks) s = some_members_present 0 ks s
 present texts (has_count kind n) s = All-nil _
 present texts (has_pattern pattern) s = pattern_present texts pattern s (subject_string s)
-present texts (has_all_of n) s = each_present child_here s 0 n (λ k h. refl)
 present texts (has_prefix_items n) s = each_present child_at_item s 0 (min n (item_count s)) (λ k h. item_present s (0 + k) (omega arith))
 present texts (has_items n) s = each_present first_at_item s n (item_count s - n) (λ k h. item_present s (n + k) (omega arith))
-present texts (has_any_of n) s = each_present child_here s 0 n (λ k h. refl)
-present texts (has_one_of n) s = each_present child_here s 0 n (λ k h. refl)
-present texts (has_if one other) s = All-cons (λ q. IsPresent s (steps_below q.below)) (child_here 0) _ refl
-    (All-append (λ q. IsPresent s (steps_below q.below)) (option_list (option_map child_here one)) (option_list (option_map child_here other)) (branch_present s one) (branch_present s other))
 present texts has_property_names s = names_present s
-present texts (has_not schema fraction) s = each_present child_here s 0 1 (λ k h. refl)
+present texts (applies a) s = applicators.present texts a s
 
 pub functions_keep : (texts : Bool) (m : BenchShape) → FunctionLaws (words texts) m (none_absorbed m)
 functions_keep texts m = let laws : FunctionLaws (words_of way texts) m (nothing_absorbed way m) = function_laws way present texts m in record {

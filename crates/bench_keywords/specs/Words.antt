@@ -1,6 +1,6 @@
 -- What each keyword says of an instance.
 use Rattle.std.specs.List.{list_any}
-use Rattle.std.specs.Prelude.{Bool, List, None, Option, Some, [], codes, false, filter, is_some, map, min, not, option_map, suc, true, zero, ℕ, ◌++◌, ◌-◌, ◌&&◌, ◌∷◌}
+use Rattle.std.specs.Prelude.{Bool, List, None, Option, Some, [], codes, false, filter, is_some, map, min, not, true, ℕ, ◌++◌, ◌-◌, ◌&&◌, ◌∷◌}
 use Rattle.serde_json.specs.Data.{Members}
 use Rattle.serde_json.specs.Find.{as_object}
 use Rattle.schema_definitions.specs.Instance.{Subject, Text, a_name, a_value, member_of}
@@ -14,12 +14,12 @@ use Rattle.bench_keywords.specs.declared.type_names.TypeName.{TypeName}
 use Rattle.keyword_ways.specs.declared.run.Progress.{Progress}
 use Rattle.bench_keywords.specs.TypeNames.{fits, type_name}
 use Rattle.keyword_ways.specs.Members.{at_name, has_member, is_object, members_from, only_if, subject_names}
-use Rattle.bench_keywords.specs.BenchShape.{BenchShape, has_all_of, has_any_of, has_count, has_if, has_items, has_not, has_one_of, has_pattern, has_prefix_items, has_properties, has_property_names, has_type, has_types, requires}
+use Rattle.bench_keywords.specs.BenchShape.{BenchShape, applies, has_count, has_items, has_pattern, has_prefix_items, has_properties, has_property_names, has_type, has_types, requires}
 use Rattle.bench_keywords.specs.Counts.{count_fits, count_name, count_text, subject_string}
-use Rattle.keyword_ways.specs.Items.{child_at_item, child_here, each_from, first_at_item, item_count}
-use Rattle.keyword_ways.specs.Tallies.{Tally}
-use Rattle.keyword_ways.specs.Ways.{Way, asks_match, branches, judges, passes_on, passes_some, questions, tells, unless, way_begin, way_faults, way_holds, way_step, way_turn, way_turns, way_units}
+use Rattle.keyword_ways.specs.Items.{child_at_item, each_from, first_at_item, item_count}
+use Rattle.keyword_ways.specs.Ways.{Way, asks_match, passes_on, passes_some, questions, tells, unless, way_begin, way_faults, way_holds, way_step, way_turn, way_turns, way_units}
 use Rattle.keyword_ways.specs.WayWords.{left_at_most, run_ends, run_fits}
+use Rattle.schema_applicators.specs.Words as applicators
 
 -- ---- type
 
@@ -45,44 +45,6 @@ missing ks s = filter (λ k. is_object s && not (has_member k s)) ks
 abbrev pub required_text : Text → Text
 required_text k = subject_text (a_name k) ++ codes " is a required property"
 
--- ---- not
-
-abbrev pub not_text : Text → Subject → Text
-not_text schema s = schema ++ codes " is not allowed for " ++ subject_text s
-
--- the error where one accepts
-abbrev pub if_any : Text → ℕ → List Text
-if_any text zero = []
-if_any text (suc n) = text ∷ []
-
-abbrev pub not_tally : Bool → Text → Subject → Tally
-not_tally texts schema s = record { name = codes "not"; enough = 1; told = if_any (spoken texts (not_text schema s)); shows = false }
-
--- ---- anyOf, oneOf
-
--- the error where none accepts
-abbrev pub none_text : Text → Subject → Text
-none_text name s = subject_text s ++ codes " is not valid under any of the schemas listed in the '" ++ name ++ codes "' keyword"
-
-abbrev pub if_none : Text → ℕ → List Text
-if_none text zero = text ∷ []
-if_none text (suc n) = []
-
-abbrev pub any_of_tally : Bool → Subject → Tally
-any_of_tally texts s = record { name = codes "anyOf"; enough = 1; told = if_none (spoken texts (none_text (codes "anyOf") s)); shows = true }
-
--- the error where more than one accepts
-abbrev pub many_text : Subject → Text
-many_text s = subject_text s ++ codes " is valid under more than one of the schemas listed in the 'oneOf' keyword"
-
-abbrev pub unless_one : Text → Text → ℕ → List Text
-unless_one none many zero = none ∷ []
-unless_one none many (suc zero) = []
-unless_one none many (suc (suc n)) = many ∷ []
-
-abbrev pub one_of_tally : Bool → Subject → Tally
-one_of_tally texts s = record { name = codes "oneOf"; enough = 2; told = unless_one (spoken texts (none_text (codes "oneOf") s)) (spoken texts (many_text s)); shows = true }
-
 -- ---- pattern (section 6.3.3 of Validation 2020-12)
 
 abbrev pub pattern_text : Text → Subject → Text
@@ -102,14 +64,10 @@ way texts (requires ks) s = tells (codes "required") (map (λ k. spoken texts (r
 way texts (has_properties ks) s = passes_some (members_from 0 ks s)
 way texts (has_count kind n) s = tells (count_name kind) (map (spoken texts) (unless (count_fits kind n s) (count_text kind n s)))
 way texts (has_pattern pattern) s = pattern_way texts pattern s (subject_string s)
-way texts (has_all_of n) s = passes_on (each_from child_here 0 n)
 way texts (has_prefix_items n) s = passes_on (each_from child_at_item 0 (min n (item_count s)))
 way texts (has_items n) s = passes_on (each_from first_at_item n (item_count s - n))
-way texts (has_any_of n) s = judges (any_of_tally texts s) (each_from child_here 0 n)
-way texts (has_one_of n) s = judges (one_of_tally texts s) (each_from child_here 0 n)
-way texts (has_if accepted refused) s = branches (child_here 0) (option_map child_here accepted) (option_map child_here refused)
 way texts has_property_names s = passes_on (map at_name (subject_names s))
-way texts (has_not schema fraction) s = judges (not_tally texts schema s) (each_from child_here 0 1)
+way texts (applies a) s = applicators.way texts a s
 
 -- ---- how the runs go
 

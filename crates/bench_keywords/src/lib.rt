@@ -1,14 +1,12 @@
-//! The bench's keywords. Each goes about an instance in one of the ways.
+//! The bench's keywords. Each goes about an instance in one of the ways; five are the applicators of `schema_applicators`, with their
+//! definitions and turns.
 #![tactic(auto)]
 
-pub mod any_of;
 mod cloning;
 pub mod counts;
 pub mod each;
 pub mod keyword;
 pub mod names;
-pub mod not;
-pub mod one_of;
 pub mod pattern;
 pub mod properties;
 pub mod property_names;

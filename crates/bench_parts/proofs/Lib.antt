@@ -1,4 +1,3 @@
-pub mod Pointers
 pub mod TextsWithin
 pub mod BelowPlaces
 pub mod MetaFaults

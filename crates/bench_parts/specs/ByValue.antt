@@ -1,20 +1,21 @@
 -- A table whose keywords follow from a member's name and value: which children it has, and which keyword it is.
 use Rattle.std.proofs.Common.{refl}
-use Rattle.std.specs.Prelude.{Bool, List, None, Option, Some, [], false, true, ℕ, ◌+◌, ◌≡◌, ◌∷◌, All}
-use Rattle.std.proofs.lemmas.List.Elements.{All-cons, All-head, All-nil, All-tail}
-use Rattle.serde_json.specs.Data.{Data, Items, Members, array, boolean, item, no_items, null, number, object, string}
+use Rattle.std.specs.Prelude.{Bool, List, None, Option, Some, [], false, true, ◌≡◌, ◌∷◌, All}
+use Rattle.std.proofs.lemmas.List.Elements.{All-cons, All-nil}
+use Rattle.serde_json.specs.Data.{Data, Members, array, boolean, null, number, object, string}
 use Rattle.serde_json.specs.Find.{get_member}
 use Rattle.serde_json.specs.Written.{has_float}
 use Rattle.schema_definitions.specs.Instance.{Place, Text, to_member}
 use Rattle.schema_definitions.specs.Drafts.{Draft, Vocabularies}
-use Rattle.schema_definitions.specs.Making.{Made, Script, a_keyword, nothing, then_end}
-use Rattle.schema_parts.specs.MakerViews.{IsMade, IsStrictlyBelow, MakesRightly}
+use Rattle.schema_definitions.specs.Making.{Script, a_keyword, nothing, then_end}
+use Rattle.schema_parts.specs.MakerViews.{IsStrictlyBelow, MakesRightly}
 use Rattle.bench_parts.specs.declared.by_value.Children.{Children}
 use Rattle.bench_parts.specs.declared.by_value.Children.TheVariants as children
 use Rattle.bench_parts.specs.declared.by_value.MemberKeyword.{MemberKeyword}
 use Rattle.bench_parts.specs.declared.by_value.MemberKeyword.TheVariants as member_is
-use Rattle.bench_parts.specs.MakerLaws.{member_whole}
-use Rattle.bench_parts.specs.Makers.{asks_for, items_from, malformed, names_of, values_below}
+use Rattle.schema_applicators.specs.Making.{asks_for, items_from, malformed}
+use Rattle.schema_applicators.specs.MakingLaws.{asked_rightly, items_lie_below, member_whole}
+use Rattle.bench_parts.specs.Makers.{names_of, values_below}
 
 -- with what is known of the keyword apart from its representation
 abbrev pub shaped : {C K : Type 0} → (C → K) → MemberKeyword C → MemberKeyword K
@@ -58,13 +59,9 @@ right_where_whole absorbed is_whole none whole d (member_is.Keyword m c) = (none
 right_where_whole absorbed is_whole none whole d member_is.Nothing = tt
 right_where_whole absorbed is_whole none whole d member_is.Malformed = tt
 
-values_lie_below : (name : Text) (ks : List Text) → All IsStrictlyBelow (values_below name ks)
+pub values_lie_below : (name : Text) (ks : List Text) → All IsStrictlyBelow (values_below name ks)
 values_lie_below name [] = All-nil _
 values_lie_below name (k ∷ ks) = All-cons IsStrictlyBelow (to_member name ∷ to_member k ∷ []) _ tt (values_lie_below name ks)
-
-items_lie_below : (name : Text) (i : ℕ) (ds : Items) → All IsStrictlyBelow (items_from name i ds)
-items_lie_below name i no_items = All-nil _
-items_lie_below name i (item d ds) = All-cons IsStrictlyBelow _ _ tt (items_lie_below name (i + 1) ds)
 
 children_lie_below : (c : Children) (name : Text) (d : Data) → All IsStrictlyBelow (children_of c name d)
 children_lie_below children.Childless name d = All-nil _
@@ -83,11 +80,6 @@ children_lie_below children.Members name (string t) = All-nil _
 children_lie_below children.Members name (array ds) = All-nil _
 
 module _ {K : Type 0} (absorbed : K → List Text) (is_whole : K → Bool) where
-  asked_rightly : (owner : Members) (m : Made K) → IsMade absorbed is_whole owner m → (ps : List Place) → All IsStrictlyBelow ps
-      → MakesRightly absorbed is_whole owner (asks_for ps m)
-  asked_rightly owner m made [] below = made
-  asked_rightly owner m made (p ∷ ps) below = (All-head IsStrictlyBelow p ps below, asked_rightly owner m made ps (All-tail IsStrictlyBelow p ps below))
-
   member_rightly : (owner : Members) (name : Text) (d : Data) → get_member name owner ≡ Some d → (m : MemberKeyword K) → IsRightMember absorbed is_whole d m
       → MakesRightly absorbed is_whole owner (script_of name d m)
   member_rightly owner name d here (member_is.Keyword m c) right = asked_rightly owner (a_keyword m []) (right.0, (λ h. right.1 (member_whole name owner d here h)), tt)

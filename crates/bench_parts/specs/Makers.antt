@@ -1,50 +1,20 @@
 -- What the maker of each keyword asks for, and how it ends.
-use Rattle.std.specs.Prelude.{Bool, List, None, Option, Some, [], bytes_eq, codes, drop, false, if◌then◌else◌, is_some, not, option_and_then, option_map, suc, true, zero, ℕ, ◌&&◌, ◌++◌, ◌+◌, ◌∷◌}
+use Rattle.std.specs.Prelude.{Bool, List, None, Option, Some, [], bytes_eq, codes, false, if◌then◌else◌, is_some, not, option_and_then, option_map, true, ℕ, ◌&&◌, ◌∷◌}
 use Rattle.serde_json.specs.Data.{Data, Items, Members, array, item, member, no_items, no_members, object, string}
 use Rattle.serde_json.specs.Written.{compact_text, has_float}
 use Rattle.serde_json.specs.Find.{as_array, as_number, as_u64, get_member}
-use Rattle.schema_definitions.specs.Instance.{Place, Text, to_item, to_member}
-use Rattle.schema_definitions.specs.Pointer.{pointer_to}
-use Rattle.schema_definitions.specs.Reports.{OwnedError}
+use Rattle.schema_definitions.specs.Instance.{Place, Text, to_member}
 use Rattle.schema_definitions.specs.Drafts.{Draft, Vocabularies, draft_2020_12, draft_unknown}
-use Rattle.schema_definitions.specs.Making.{Made, Script, a_keyword, nothing, refused, then_compile, then_end}
-use Rattle.schema_parts.specs.MakerViews.{Waiting, begun, ended, waits}
+use Rattle.schema_definitions.specs.Making.{Script, a_keyword, nothing, then_end}
+use Rattle.keyword_ways.specs.Items.{count_in}
+use Rattle.schema_applicators.specs.ApplicatorShape.{has_all_of, has_any_of, has_if, has_not, has_one_of}
+use Rattle.schema_applicators.specs.Branches.{has_branch, if_script}
+use Rattle.schema_applicators.specs.Making.{asks_for, list_script, makes_if, malformed, only_child}
 use Rattle.bench_keywords.specs.declared.type_names.TypeName.{TypeName}
 use Rattle.bench_keywords.specs.declared.type_names.TypeName.TheVariants as type
-use Rattle.bench_keywords.specs.BenchShape.{BenchShape, has_all_of, has_any_of, has_count, has_if, has_items, has_not, has_one_of, has_pattern, has_prefix_items, has_properties, has_property_names, has_type, has_types, requires}
-use Rattle.keyword_ways.specs.Items.{count_in, items_count}
+use Rattle.bench_keywords.specs.BenchShape.{BenchShape, applies, has_count, has_items, has_pattern, has_prefix_items, has_properties, has_property_names, has_type, has_types, requires}
 use Rattle.bench_keywords.specs.declared.counts.CountKind.{CountKind}
 use Rattle.bench_keywords.specs.declared.counts.CountKind.TheVariants.{MaxLength, MinLength, MinProperties}
-
--- the children in order, and then the end
-abbrev pub asks_for : {K : Type 0} → List Place → Made K → Script K
-asks_for [] m = then_end m
-asks_for (p ∷ ps) m = then_compile p (asks_for ps m)
-
-abbrev pub makes : BenchShape → Script BenchShape
-makes m = then_end (a_keyword m [])
-
--- a value of another shape than the keyword's: the error shows the value, at the keyword
-abbrev pub malformed_text : Text → Text
-malformed_text name = codes "\"" ++ name ++ codes "\" has a value of another shape"
-
-abbrev pub malformed_error : Text → Data → OwnedError
-malformed_error name d = record {
-  instance = d;
-  instance_path = [];
-  schema_path = pointer_to (to_member name ∷ []);
-  evaluation_path = pointer_to (to_member name ∷ []);
-  absolute = None;
-  name = name;
-  text = malformed_text name;
-}
-
-abbrev pub malformed : {K : Type 0} → Text → Data → Script K
-malformed name d = then_end (refused true (malformed_error name d))
-
-abbrev pub makes_if : Text → Data → Option BenchShape → Script BenchShape
-makes_if name d None = malformed name d
-makes_if name d (Some m) = makes m
 
 -- ---- type
 
@@ -116,17 +86,6 @@ pattern_shape _ = None
 abbrev pub count_shape : CountKind → Data → Option BenchShape
 count_shape kind d = option_map (has_count kind) (option_and_then as_u64 (as_number d))
 
--- ---- allOf, prefixItems
-
--- each item
-abbrev pub items_from : Text → ℕ → Items → List Place
-items_from name i no_items = []
-items_from name i (item d ds) = (to_member name ∷ to_item i ∷ []) ∷ items_from name (i + 1) ds
-
-abbrev pub list_script : (ℕ → BenchShape) → Text → Data → Script BenchShape
-list_script shape name (array ds) = asks_for (items_from name 0 ds) (a_keyword (shape (items_count ds)) [])
-list_script shape name d = malformed name d
-
 -- ---- items
 
 -- the editions in which `items` goes on after `prefixItems` (Core 2020-12, 10.3.1.2)
@@ -143,48 +102,21 @@ items_before draft ms = if has_prefix draft then count_in (option_and_then as_ar
 abbrev pub is_older_list : Draft → Data → Bool
 is_older_list draft d = not (has_prefix draft) && is_some (as_array d)
 
--- the keyword's own value is its only schema
-abbrev pub only_child : Text → BenchShape → Script BenchShape
-only_child name m = asks_for ((to_member name ∷ []) ∷ []) (a_keyword m [])
-
 abbrev pub items_script : Draft → Members → Text → Data → Script BenchShape
 items_script draft ms name d = if is_older_list draft d then then_end nothing else only_child name (has_items (items_before draft ms))
-
--- ---- if
-
--- the values of `if`, `then` and `else` are the children, in this order, as far as they are there (Core 2020-12, 10.2.2)
-abbrev pub has_branch : Text → Members → Bool
-has_branch name ms = is_some (get_member name ms)
-
-abbrev pub branch_places : Bool → Text → List Place
-branch_places true name = (to_member name ∷ []) ∷ []
-branch_places false name = []
-
--- the number of a branch that is there
-abbrev pub branch_child : Bool → ℕ → Option ℕ
-branch_child true n = Some n
-branch_child false n = None
-
-abbrev pub after_branch : Bool → ℕ → ℕ
-after_branch true n = n + 1
-after_branch false n = n
-
-abbrev pub if_script : Text → Bool → Bool → Script BenchShape
-if_script name has_then has_else = asks_for ((to_member name ∷ []) ∷ (branch_places has_then (codes "then") ++ branch_places has_else (codes "else")))
-    (a_keyword (has_if (branch_child has_then 1) (branch_child has_else (after_branch has_then 1))) [])
 
 -- ---- all of them; the object is the one whose member is made
 
 abbrev pub schema_script : Draft → Members → Text → Data → Script BenchShape
 schema_script draft ms name d =
-    if bytes_eq name (codes "allOf") then list_script has_all_of name d
-    else (if bytes_eq name (codes "anyOf") then list_script has_any_of name d
-    else (if bytes_eq name (codes "oneOf") then list_script has_one_of name d
+    if bytes_eq name (codes "allOf") then list_script (λ n. applies (has_all_of n)) name d
+    else (if bytes_eq name (codes "anyOf") then list_script (λ n. applies (has_any_of n)) name d
+    else (if bytes_eq name (codes "oneOf") then list_script (λ n. applies (has_one_of n)) name d
     else (if bytes_eq name (codes "prefixItems") then list_script has_prefix_items name d
     else (if bytes_eq name (codes "items") then items_script draft ms name d
-    else (if bytes_eq name (codes "not") then only_child name (has_not (compact_text d) (has_float d))
+    else (if bytes_eq name (codes "not") then only_child name (applies (has_not (compact_text d) (has_float d)))
     else (if bytes_eq name (codes "propertyNames") then only_child name has_property_names
-    else (if bytes_eq name (codes "if") then if_script name (has_branch (codes "then") ms) (has_branch (codes "else") ms) else then_end nothing)))))))
+    else (if bytes_eq name (codes "if") then if_script (λ accepted refused. applies (has_if accepted refused)) name (has_branch (codes "then") ms) (has_branch (codes "else") ms) else then_end nothing)))))))
 
 abbrev pub later_script : Draft → Members → Text → Data → Script BenchShape
 later_script draft ms name d =
@@ -206,10 +138,3 @@ member_script draft ms name (Some d) = value_script draft ms name d
 abbrev pub bench_script : Bool → Text → Members → Draft → Vocabularies → Bool → Script BenchShape
 bench_script true name ms draft vocabularies formats = then_end nothing
 bench_script false name ms draft vocabularies formats = member_script draft ms name (get_member name ms)
-
--- ---- a maker that has made so many requests
-
-abbrev pub waiting_in : {K : Type 0} → List Place → ℕ → Option (Made K) → Waiting K
-waiting_in ps n None = ended
-waiting_in ps zero (Some m) = begun (asks_for ps m)
-waiting_in ps (suc n) (Some m) = waits n (asks_for (drop (suc n) ps) m) (asks_for (drop (suc n) ps) m)

@@ -6,12 +6,12 @@ ghost use Rattle.serde_json.specs.View.{members_view, view};
 ghost use Rattle.schema_definitions.specs.Instance.{Text};
 ghost use Rattle.schema_parts.specs.MakerViews as makers;
 ghost use Rattle.bench_parts.specs.ByValue.{IsRightMember, children_of, script_at, script_of, shaped};
-ghost use Rattle.bench_parts.specs.MakerViews.{waiting_of};
+ghost use Rattle.schema_applicators.specs.MakerViews.{waiting_of};
 
-use crate::table::keyword_values::{items_below, names_of, values_below};
-use crate::table::maker::{Ending, PathsMaker, ends};
-use crate::table::malformed;
-use crate::table::schema_values::{value_in, value_of};
+use crate::table::keyword_values::{names_of, values_below};
+use schema_applicators::making::maker::{Ending, PathsMaker, asks_for, ends};
+use schema_applicators::making::paths::{items_below, value_in, value_of};
+use schema_applicators::making::refusals::malformed;
 use schema_keywords::keywords::{Draft, VocabularySet};
 use schema_parts::keyword::Validate;
 use schema_parts::schema_place::SchemaPath;
@@ -113,16 +113,12 @@ fn maker_of<K: Validate>(
         ≡ makers.begun (script_of name.now (view value.now) (shaped K.shape made))) }
 {
     match made {
-        MemberKeyword::Keyword(keyword, children) => Ok(PathsMaker {
-            paths: paths_of(alloc, children, name, value)?,
-            asked: 0,
-            ends: Some(Ending::Keyword(keyword)),
-        }),
-        MemberKeyword::Nothing => Ok(ends(alloc, Ending::Nothing)),
-        MemberKeyword::Malformed => {
-            let error = malformed(alloc, name, value)?;
-            Ok(ends(alloc, Ending::Refused(error)))
+        MemberKeyword::Keyword(keyword, children) => {
+            let paths = paths_of(alloc, children, name, value)?;
+            Ok(asks_for(paths, keyword))
         }
+        MemberKeyword::Nothing => Ok(ends(alloc, Ending::Nothing)),
+        MemberKeyword::Malformed => malformed(alloc, name, value),
     }
 }
 

@@ -13,7 +13,9 @@ use Rattle.bench_keywords.specs.Laws.{none_absorbed}
 use Rattle.bench_parts.specs.ByValue.{IsRightMember, makes_by_value}
 use Rattle.bench_parts.specs.MakerLaws.{makes_rightly}
 use Rattle.bench_parts.specs.declared.by_value.MemberKeyword.TheVariants.{Nothing}
-use Rattle.bench_parts.specs.Makers.{asks_for, bench_script, waiting_in}
+use Rattle.bench_parts.specs.Makers.{bench_script}
+use Rattle.schema_applicators.specs.Making.{asks_for, waiting_in}
+use Rattle.schema_applicators.specs.MakingLaws.{either_rightly}
 use Rattle.fused_keywords.specs.FusedScripts.{are_known, fused_limit, fused_script, is_absorbed, least_in, least_keyword, least_made, limit_of, made_among, plain_script, script_among, script_by, waiting_among}
 use Rattle.fused_keywords.specs.FusedShape.{FusedShape, absorbed_by, is_free, of_bench}
 
@@ -80,8 +82,7 @@ least_rightly name d = at (bytes_eq name (codes "minItems"))
 -- ---- the three in one
 
 one_of : (owner : Members) (b : Bool) (x y : Script FusedShape) → Rightly owner x → Rightly owner y → Rightly owner (if b then x else y)
-one_of owner true x y p q = p
-one_of owner false x y p q = q
+one_of = either_rightly absorbed_by is_free
 
 -- the object has what is absorbed
 type_there : (t i l : Option Data) (n : ℕ) → limit_of t i l ≡ Some n → is_some t ≡ true

@@ -15,14 +15,14 @@ use Rattle.keyword_ways.specs.WayWords.{any_state, left_at_most, nothing_absorbe
 use Rattle.schema_applicators.specs.ApplicatorShape.{ApplicatorShape, has_all_of, has_any_of, has_if, has_not, has_one_of, says_monotone}
 use Rattle.schema_applicators.specs.Words.{way, words}
 
-same_questions : SameQuestions way
+pub same_questions : SameQuestions way
 same_questions texts (has_all_of n) s = (refl, refl)
 same_questions texts (has_any_of n) s = (refl, refl)
 same_questions texts (has_one_of n) s = (refl, refl)
 same_questions texts (has_not schema fraction) s = (refl, refl)
 same_questions texts (has_if accepted refused) s = (refl, refl)
 
-present : AllPresent way
+pub present : AllPresent way
 present texts (has_all_of n) s = children_present s n
 present texts (has_any_of n) s = children_present s n
 present texts (has_one_of n) s = children_present s n
@@ -39,7 +39,7 @@ functions_keep = function_laws way present
 
 -- ---- those that say that they are monotone are
 
-each_grows : (texts : Bool) (m : ApplicatorShape) (s : Subject) → says_monotone m ≡ true → Grows (way texts m s)
+pub each_grows : (texts : Bool) (m : ApplicatorShape) (s : Subject) → says_monotone m ≡ true → Grows (way texts m s)
 each_grows texts (has_all_of n) s h = way_grows (way texts (has_all_of n) s) refl
 each_grows texts (has_any_of n) s h = way_grows (way texts (has_any_of n) s) refl
 each_grows texts (has_one_of n) s h = absurd (cc h)

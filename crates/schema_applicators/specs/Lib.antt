@@ -5,8 +5,9 @@ pub mod Shapes
 pub mod Making
 pub mod MakerViews
 pub mod MakingLaws
+pub mod Branches
+pub mod BranchLaws
 pub mod Makers
-pub mod ListShapes
 pub mod MakerLaws
 pub mod OwnErrors
 pub mod AllOf

@@ -9,19 +9,15 @@ use Rattle.schema_definitions.specs.Drafts.{Draft, Vocabularies}
 use Rattle.schema_definitions.specs.Making.{Script}
 use Rattle.schema_parts.specs.MakerViews.{MakesRightly}
 use Rattle.keyword_ways.specs.WayWords.{nothing_absorbed}
-use Rattle.schema_applicators.specs.ApplicatorShape.{ApplicatorShape, has_all_of, has_any_of, has_not, has_one_of, is_whole}
-use Rattle.schema_applicators.specs.Makers.{applicator_script, has_branch, if_script, member_script, value_script}
+use Rattle.schema_applicators.specs.ApplicatorShape.{ApplicatorShape, has_all_of, has_any_of, has_if, has_not, has_one_of, is_whole}
+use Rattle.schema_applicators.specs.Branches.{has_branch}
+use Rattle.schema_applicators.specs.BranchLaws.{if_rightly}
+use Rattle.schema_applicators.specs.Makers.{applicator_script, member_script, value_script}
 use Rattle.schema_applicators.specs.MakingLaws.{either_rightly, list_rightly, member_whole, only_rightly}
 use Rattle.schema_applicators.specs.Words.{way}
 
 abbrev pub Rightly : Members → Script ApplicatorShape → Type 0
 Rightly = MakesRightly (nothing_absorbed way) is_whole
-
-if_rightly : (owner : Members) (name : Text) (has_then has_else : Bool) → Rightly owner (if_script name has_then has_else)
-if_rightly owner name true true = (tt, (tt, (tt, (refl, (λ h. refl), tt))))
-if_rightly owner name true false = (tt, (tt, (refl, (λ h. refl), tt)))
-if_rightly owner name false true = (tt, (tt, (refl, (λ h. refl), tt)))
-if_rightly owner name false false = (tt, (refl, (λ h. refl), tt))
 
 either : (owner : Members) (b : Bool) (x y : Script ApplicatorShape) → Rightly owner x → Rightly owner y → Rightly owner (if b then x else y)
 either = either_rightly (nothing_absorbed way) is_whole
@@ -34,7 +30,7 @@ value_rightly owner name d here =
     (either owner (bytes_eq name (codes "oneOf")) _ _ (list_rightly (nothing_absorbed way) is_whole owner has_one_of name d (λ n. (refl, refl)))
     (either owner (bytes_eq name (codes "not")) _ _
     (only_rightly (nothing_absorbed way) is_whole owner name (has_not (compact_text d) (has_float d)) refl (λ h. ap not (member_whole name owner d here h)))
-    (either owner (bytes_eq name (codes "if")) _ _ (if_rightly owner name (has_branch (codes "then") owner) (has_branch (codes "else") owner)) tt))))
+    (either owner (bytes_eq name (codes "if")) _ _ (if_rightly (nothing_absorbed way) is_whole owner has_if name (λ accepted refused. (refl, refl)) (has_branch (codes "then") owner) (has_branch (codes "else") owner)) tt))))
 
 member_rightly : (owner : Members) (name : Text) (o : Option Data) → get_member name owner ≡ o → Rightly owner (member_script owner name o)
 member_rightly owner name None here = tt

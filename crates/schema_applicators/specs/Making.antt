@@ -1,7 +1,8 @@
 -- What makers do that ask for the values at paths, one after the other, and then end.
 use Rattle.std.specs.Prelude.{List, None, Option, Some, [], codes, drop, suc, true, zero, ℕ, ◌++◌, ◌+◌, ◌∷◌}
 use Rattle.serde_json.specs.Data.{Data, Items, array, item, no_items}
-use Rattle.keyword_ways.specs.Items.{items_count}
+use Rattle.serde_json.specs.Find.{as_array}
+use Rattle.keyword_ways.specs.Items.{count_in}
 use Rattle.schema_definitions.specs.Instance.{Place, Text, to_item, to_member}
 use Rattle.schema_definitions.specs.Pointer.{pointer_to}
 use Rattle.schema_definitions.specs.Reports.{OwnedError}
@@ -51,10 +52,14 @@ abbrev pub makes_if : {K : Type 0} → Text → Data → Option K → Script K
 makes_if name d None = malformed name d
 makes_if name d (Some m) = makes m
 
--- a list of schemas, of which the keyword knows how many there are
+-- each schema of a list
+abbrev pub each_schema : {K : Type 0} → Text → Data → K → Script K
+each_schema name (array ds) m = each_item name ds m
+each_schema name d m = malformed name d
+
+-- the keyword knows how many there are
 abbrev pub list_script : {K : Type 0} → (ℕ → K) → Text → Data → Script K
-list_script shape name (array ds) = each_item name ds (shape (items_count ds))
-list_script shape name d = malformed name d
+list_script shape name d = each_schema name d (shape (count_in (as_array d)))
 
 -- ---- a maker that has made so many requests
 

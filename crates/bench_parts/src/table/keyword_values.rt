@@ -1,15 +1,15 @@
 //! The values of keywords.
 ghost use Rattle.std.specs.Prelude.{◌≡◌, ◌++◌, ◌∷◌, [], IfOk, map, option_map, string_bytes};
 ghost use Rattle.serde_json.specs.View.{items_view, members_view, view};
-ghost use Rattle.schema_definitions.specs.Instance.{to_item, to_member};
-ghost use Rattle.bench_parts.specs.Makers.{count_shape, items_from, names_of, pattern_shape, required_shape, texts_of, type_named, type_of};
+ghost use Rattle.schema_definitions.specs.Instance.{to_member};
+ghost use Rattle.bench_parts.specs.Makers.{count_shape, names_of, pattern_shape, required_shape, texts_of, type_named, type_of};
 ghost use Rattle.bench_parts.specs.Makers.{type_shape, types_of, values_below};
 ghost use Rattle.bench_keywords.specs.Shapes.{shape_of};
 
-use crate::table::schema_values::value_of;
 use bench_keywords::counts::CountKind;
 use bench_keywords::keyword::BenchKeyword;
 use bench_keywords::type_names::TypeName;
+use schema_applicators::making::paths::value_of;
 use schema_parts::schema_place::{SchemaPath, SchemaStep};
 use schema_reports::location::OutOfMemory;
 use serde_json::{Map, Value};
@@ -172,28 +172,4 @@ pub fn count_keyword(kind: CountKind, value: &Value) -> Option<BenchKeyword>
         Some(limit) => Some(BenchKeyword::Count(kind, limit)),
         None => None,
     }
-}
-
-/// The places of the items of a list, below a keyword.
-pub fn items_below(
-    alloc: Global,
-    keyword: &str,
-    items: &[Value],
-) -> Result<Vec<SchemaPath>, OutOfMemory>
-    ensures paths { IfOk result (λ paths. paths.items ≡ items_from keyword.now 0 (items_view items.now)) }
-{
-    let mut paths = Vec::new(alloc);
-    for (index, _item) in items.iter().enumerate() {
-        paths.push(item_below(alloc, keyword, index)?)?;
-    }
-    Ok(paths)
-}
-
-/// The place of an item, below a keyword.
-fn item_below(alloc: Global, keyword: &str, index: usize) -> Result<SchemaPath, OutOfMemory>
-    ensures path { IfOk result (λ path. path ≡ to_member keyword.now ∷ to_item index ∷ []) }
-{
-    let mut path = value_of(alloc, keyword)?;
-    path.push(SchemaStep::Item(index))?;
-    Ok(path)
 }

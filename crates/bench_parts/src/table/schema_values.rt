@@ -1,35 +1,15 @@
-//! The schemas that keywords have for values, and those beside them.
-ghost use Rattle.std.specs.Prelude.{◌≡◌, ◌++◌, ◌∷◌, [], IfOk, codes, option_and_then, option_map};
+//! What `items` reads of the values beside it.
+ghost use Rattle.std.specs.Prelude.{◌≡◌, codes, option_and_then};
 ghost use Rattle.serde_json.specs.Find.{as_array, get_member};
 ghost use Rattle.serde_json.specs.View.{members_view, view};
-ghost use Rattle.schema_definitions.specs.Instance.{to_member};
 ghost use Rattle.schema_keywords.specs.KeywordViews.{draft_of};
 ghost use Rattle.keyword_ways.specs.Items.{count_in};
-ghost use Rattle.bench_parts.specs.Makers.{branch_child, branch_places, has_branch, has_prefix, is_older_list, items_before};
+ghost use Rattle.bench_parts.specs.Makers.{has_prefix, is_older_list, items_before};
 
+use schema_applicators::making::lists::list_length;
+use schema_applicators::making::paths::value_in;
 use schema_keywords::keywords::Draft;
-use schema_parts::schema_place::{SchemaPath, SchemaStep};
-use schema_reports::location::OutOfMemory;
 use serde_json::{Map, Value};
-use std::alloc::Global;
-use std::rc::RcStr;
-
-/// The value of this name in an object.
-pub fn value_in<'o>(object: &'o Map<String, Value>, name: &str) -> Option<&'o Value>
-    ensures value { option_map (λ v. view v.now) result ≡ get_member name.now (members_view object.now.entries) }
-{
-    object.get(name)
-}
-
-/// The place of a keyword's own value.
-pub fn value_of(alloc: Global, keyword: &str) -> Result<SchemaPath, OutOfMemory>
-    ensures path { IfOk result (λ path. path ≡ to_member keyword.now ∷ []) }
-{
-    let name = RcStr::from_str(alloc, keyword)?;
-    let mut path = SchemaPath::root(alloc);
-    path.push(SchemaStep::Member(name))?;
-    Ok(path)
-}
 
 /// Whether `items` goes on after `prefixItems` in this draft.
 fn has_prefix(draft: Draft) -> bool
@@ -67,37 +47,5 @@ fn prefix_length(object: &Map<String, Value>) -> usize
     match value_in(object, "prefixItems") {
         Some(value) => list_length(value),
         None => 0,
-    }
-}
-
-/// How many items a value has, which is none where it is no list.
-#[tactic(auto, using(keyword_ways::proofs::MemberCounts::items_count_length))]
-fn list_length(value: &Value) -> usize
-    ensures length { result ≡ count_in (as_array (view value.now)) }
-{
-    match value.as_array() {
-        Some(items) => items.len(),
-        None => 0,
-    }
-}
-
-/// Adds the place of a member to those of children, where the object has it; and its number, which is the next one.
-pub fn push_branch(
-    alloc: Global,
-    object: &Map<String, Value>,
-    name: &str,
-    paths: &mut Vec<SchemaPath>,
-    number: usize,
-) -> Result<Option<usize>, OutOfMemory>
-    ensures paths { IfOk result (λ _. paths.new.items ≡ paths.old.items
-        ++ branch_places (has_branch name.now (members_view object.now.entries)) name.now) }
-    ensures child { IfOk result (λ child. child ≡ branch_child (has_branch name.now (members_view object.now.entries)) number) }
-{
-    match value_in(object, name) {
-        None => Ok(None),
-        Some(_) => {
-            paths.push(value_of(alloc, name)?)?;
-            Ok(Some(number))
-        }
     }
 }

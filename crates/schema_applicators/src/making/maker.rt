@@ -1,9 +1,9 @@
 //! The makers.
-ghost use Rattle.std.specs.Prelude.{◌≡◌, Some, IfOk};
+ghost use Rattle.std.specs.Prelude.{◌≡◌, [], Some, IfOk};
 ghost use Rattle.serde_json.specs.View.{items_view};
-ghost use Rattle.schema_definitions.specs.Making.{then_end};
+ghost use Rattle.schema_definitions.specs.Making.{a_keyword, then_end};
 ghost use Rattle.schema_parts.specs.MakerViews.{begun, maker_reply_of, TakesTurn};
-ghost use Rattle.schema_applicators.specs.Making.{each_item, only_child};
+ghost use Rattle.schema_applicators.specs.Making.{asks_for, each_item, only_child};
 ghost use Rattle.schema_applicators.specs.MakerViews.{made_of, waiting_of};
 
 use crate::making::paths::{items_below, value_of};
@@ -42,6 +42,17 @@ pub fn ends<K: Validate>(alloc: Global, ending: Ending<K>) -> PathsMaker<K>
     }
 }
 
+/// A maker that asks for what stands at these paths, and ends with a keyword.
+pub fn asks_for<K: Validate>(paths: Vec<SchemaPath>, keyword: K) -> PathsMaker<K>
+    ensures maker { waiting_of K.shape result ≡ begun (asks_for paths.items (a_keyword (K.shape keyword) [])) }
+{
+    PathsMaker {
+        paths,
+        asked: 0,
+        ends: Some(Ending::Keyword(keyword)),
+    }
+}
+
 /// A maker whose keyword has its own value as its only schema.
 pub fn only_child<K: Validate>(
     alloc: Global,
@@ -52,11 +63,7 @@ pub fn only_child<K: Validate>(
 {
     let mut paths = Vec::new(alloc);
     paths.push(value_of(alloc, name)?)?;
-    Ok(PathsMaker {
-        paths,
-        asked: 0,
-        ends: Some(Ending::Keyword(keyword)),
-    })
+    Ok(asks_for(paths, keyword))
 }
 
 /// A maker that asks for each item of a keyword's value, which is a list.
@@ -68,11 +75,8 @@ pub fn each_item<K: Validate>(
 ) -> Result<PathsMaker<K>, OutOfMemory>
     ensures maker { IfOk result (λ m. waiting_of K.shape m ≡ begun (each_item name.now (items_view items.now) (K.shape keyword))) }
 {
-    Ok(PathsMaker {
-        paths: items_below(alloc, name, items)?,
-        asked: 0,
-        ends: Some(Ending::Keyword(keyword)),
-    })
+    let paths = items_below(alloc, name, items)?;
+    Ok(asks_for(paths, keyword))
 }
 
 impl<K: Validate> PathsMaker<K> {
