@@ -71,7 +71,8 @@ impl<'i> Places<'i> {
         ensures from { place ≤ result }
         ensures known { result < length self.now }
         ensures under { (k : ℕ) → k < length self.now
-            → is_under (place_at self.now place) (place_at self.now k) ≡ (nat_le place k && nat_le k result) }
+            → is_under (place_at self.now place) (place_at self.now k)
+            ≡ (nat_le place k && nat_le k result) }
     {
         self.rows[place].last()
     }
@@ -79,7 +80,8 @@ impl<'i> Places<'i> {
     /// Returns the number of the place one step below the place with this number, if there is one. It allocates nothing.
     pub fn child(&self, place: usize, step: InstanceStep<'_>) -> Option<usize>
         requires known { place < length self.now }
-        ensures child { result ≡ number_of (place_at self.now place ++ step_of step.entry ∷ []) self.now }
+        ensures child { result
+            ≡ number_of (place_at self.now place ++ step_of step.entry ∷ []) self.now }
     {
         self.rows[place].child(step)
     }
@@ -88,7 +90,8 @@ impl<'i> Places<'i> {
     /// allocates nothing.
     pub fn find_from(&self, place: usize, steps: &[InstanceStep<'_>]) -> Option<usize>
         requires known { place < length self.now }
-        ensures number { result ≡ number_of (place_at self.now place ++ map step_of steps.now) self.now }
+        ensures number { result
+            ≡ number_of (place_at self.now place ++ map step_of steps.now) self.now }
     {
         // Opens the value, so that what its rows say is known below.
         let _ = &self.rows;

@@ -4,8 +4,10 @@ ghost use Rattle.std.specs.Cmp.Lexicographic.{slice_cmp};
 ghost use Rattle.std.specs.Ordering.{nat_cmp};
 ghost use Rattle.serde_json.specs.View.{items_view, members_view, view};
 ghost use Rattle.schema_reports.specs.InstanceViews.{step_of};
-ghost use Rattle.schema_places.specs.Rows.{NamesAscend, NamesAscendInItems, NamesAscendInMembers, Rising, RisesBelow, below_of, item_numbers, item_rows};
-ghost use Rattle.schema_places.specs.Rows.{leads_of, leads_to_items, leads_to_names, led_by, member_numbers, member_rows, numbered, numbers_of, row_of, rows_at};
+ghost use Rattle.schema_places.specs.Rows.{NamesAscend, NamesAscendInItems, NamesAscendInMembers};
+ghost use Rattle.schema_places.specs.Rows.{Rising, RisesBelow, below_of, leads_of, leads_to_items, leads_to_names, led_by};
+ghost use Rattle.schema_places.specs.Rows.{item_numbers, item_rows, member_numbers, member_rows, row_of, rows_at};
+ghost use Rattle.schema_places.specs.Rows.{numbered, numbers_of};
 
 use schema_reports::instance::InstanceStep;
 use schema_reports::location::OutOfMemory;
@@ -141,7 +143,8 @@ fn push_items<'i>(
     ensures numbers { IfOk result (λ ns. ns.items
         ≡ item_numbers (length rows.old.items) (items_view items.now.items)) }
     ensures rows { IfOk result (λ _. map row_of rows.new.items
-        ≡ map row_of rows.old.items ++ item_rows (length rows.old.items) (items_view items.now.items)) }
+        ≡ map row_of rows.old.items
+        ++ item_rows (length rows.old.items) (items_view items.now.items)) }
     ensures ascend { IfOk result (λ _. NamesAscendInItems (items_view items.now.items)) }
 {
     let mut numbers = Vec::with_capacity(alloc, items.len())?;
@@ -162,7 +165,8 @@ fn push_members<'i>(
     ensures numbers { IfOk result (λ ns. map numbered ns.items
         ≡ member_numbers (length rows.old.items) (members_view members.now.entries)) }
     ensures rows { IfOk result (λ _. map row_of rows.new.items
-        ≡ map row_of rows.old.items ++ member_rows (length rows.old.items) (members_view members.now.entries)) }
+        ≡ map row_of rows.old.items
+        ++ member_rows (length rows.old.items) (members_view members.now.entries)) }
     ensures ascend { IfOk result (λ _. NamesAscendInMembers (members_view members.now.entries)) }
 {
     let mut names = Vec::with_capacity(alloc, members.len())?;
