@@ -1,11 +1,10 @@
-//! `check_file SCHEMA INSTANCE`: checks the instance in one JSON file by the schema in another, by the keywords of `array_keywords`
+//! `check_file SCHEMA INSTANCE`: checks the instance in one JSON file by the schema in another, by the keywords of `string_keywords`
 //! beside those of the bench. It prints a line for each error, with the instance path, the schema path and the text, and a tab between.
 //! It ends with 0 where the instance is accepted, with 1 where it is refused, and with 2 where there is no answer: then a line on
 //! standard error says why.
 #![tactic(auto)]
 
 use anyhow::Context;
-use array_keywords::{ArrayKeyword, ArrayTable};
 use bench_keywords::keyword::BenchKeyword;
 use bench_parts::by_value::TableByValue;
 use bench_parts::matcher::BenchMatcher;
@@ -22,8 +21,9 @@ use serde_json::Value;
 use std::alloc::Global;
 use std::process::ExitCode;
 use std::{env, fs};
+use string_keywords::{StringKeyword, StringTable};
 
-type Checker = Validator<Both<Planned<ArrayKeyword>, BenchKeyword>, BenchMatcher>;
+type Checker = Validator<Both<Planned<StringKeyword>, BenchKeyword>, BenchMatcher>;
 
 /// Returns the value of a JSON file.
 fn read(rt: &HostRuntime, file: &str) -> anyhow::Result<Value> {
@@ -36,9 +36,9 @@ fn read(rt: &HostRuntime, file: &str) -> anyhow::Result<Value> {
 fn build(alloc: Global, schema: &Value) -> Result<Checker, BuildError> {
     let table = BothTable {
         first: TableByValue {
-            keywords: ArrayTable {},
+            keywords: StringTable {},
         },
-        first_names: &["minItems", "contains"],
+        first_names: &[],
         second: BenchTable {},
     };
     let resolver = BenchResolver::new(alloc, schema, VocabularySet::new(alloc))?;
