@@ -100,7 +100,7 @@ children_lie_below (children.Member k) name d = All-cons IsStrictlyBelow (to_mem
 module _ {K : Type 0} (absorbed : K → List Text) (is_whole : K → Bool) where
   member_rightly : (owner : Members) (name : Text) (d : Data) → get_member name owner ≡ Some d → (m : MadeMember K) → IsRightMember absorbed is_whole d m
       → MakesRightly absorbed is_whole owner (script_of name d m)
-  member_rightly owner name d here (member_is.Keyword m c) right = asked_rightly owner (a_keyword m []) (right.0, (λ h. right.1 (member_whole name owner d here h)), tt)
+  member_rightly owner name d here (member_is.Keyword m c) right = asked_rightly absorbed is_whole owner (a_keyword m []) (right.0, (λ h. right.1 (member_whole name owner d here h)), tt)
       (children_of c name d) (children_lie_below c name d)
   member_rightly owner name d here member_is.Nothing right = tt
   member_rightly owner name d here member_is.Malformed right = λ h. refl
