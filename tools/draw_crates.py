@@ -11,7 +11,7 @@ import re
 
 ROOT = pathlib.Path(__file__).resolve().parent.parent
 
-WIDTH = 1200
+WIDTH = 1320
 MARGIN = 14
 ROOM_WIDTH = 178
 ROOM_HEIGHT = 86
@@ -41,7 +41,7 @@ WAYS = [
             "schema_keys",
             "schema_check",
             "schema_compiler",
-            "schema_engine",
+            "schema_validator",
         ],
     ),
     (
@@ -50,7 +50,9 @@ WAYS = [
         "right",
         [
             "schema_engine",
+            "schema_validator",
             "schema_node",
+            "schema_answers",
             "schema_contexts",
             "schema_matches",
             "schema_search",

@@ -7,13 +7,13 @@ use Rattle.schema_definitions.specs.Cover.{Sense}
 use Rattle.schema_definitions.specs.Making.{Table}
 use Rattle.schema_definitions.specs.Matching.{Matcher}
 use Rattle.schema_definitions.specs.Resolving.{Resolver}
-use Rattle.schema_engine.specs.Handed.{Options}
-use Rattle.schema_engine.specs.Program.{OfEverySense, Program}
+use Rattle.schema_validator.specs.Handed.{Options}
+use Rattle.schema_validator.specs.Program.{OfEverySense, Program}
 use Rattle.bench_parts.specs.BenchMatching.{bench_matcher}
 use Rattle.bench_resolver.specs.BenchStates.{Point}
 use Rattle.bench_keywords.specs.BenchShape.{BenchShape, is_whole}
-use Rattle.schema_engine.specs.Evaluated.{UnitsAnswered}
-use Rattle.schema_engine.proofs.PlainAnswers.{plainly_with_units}
+use Rattle.schema_validator.specs.Evaluated.{UnitsAnswered}
+use Rattle.schema_validator.proofs.PlainAnswers.{plainly_with_units}
 use Rattle.bench_program.specs.ProgramMeaning.{AnswersInEverySense, AnswersPlainly, BenchHasUnits, BenchMeans, OfPlainMeaning}
 use Rattle.bench_keywords.specs.Shapes.{shape_of}
 use Rattle.bench_keywords.specs.Words.{words}

@@ -12,13 +12,13 @@ use Rattle.schema_definitions.specs.Matching.{Matcher}
 use Rattle.schema_definitions.specs.Resolving.{Resolver}
 use Rattle.schema_reports.specs.declared.evaluation.EvaluationNode.{EvaluationNode}
 use Rattle.schema_keys.specs.declared.error.BuildError.{BuildError}
-use Rattle.schema_engine.specs.Checked.{FailsCheck, PassesCheck}
-use Rattle.schema_engine.specs.Handed.{default_nested, default_runs, Options, default_options, parts_of, table_of}
-use Rattle.schema_engine.specs.Evaluated.{UnitsAnswered}
-use Rattle.schema_engine.specs.Program.{FromSomeDepth, HasUnits, OfEveryEvaluation, OfEverySense, Program}
-use Rattle.schema_engine.specs.ProgramOf.{IsProgramOf}
-use Rattle.schema_engine.specs.Promised.{HasSchemasUnits, MeansSchema, OfSchema}
-use Rattle.schema_engine.specs.Roots.{Builds, RefusesBuild}
+use Rattle.schema_validator.specs.Checked.{FailsCheck, PassesCheck}
+use Rattle.schema_validator.specs.Handed.{default_nested, default_runs, Options, default_options, parts_of, table_of}
+use Rattle.schema_validator.specs.Evaluated.{UnitsAnswered}
+use Rattle.schema_validator.specs.Program.{FromSomeDepth, HasUnits, OfEveryEvaluation, OfEverySense, Program}
+use Rattle.schema_validator.specs.ProgramOf.{IsProgramOf}
+use Rattle.schema_validator.specs.Promised.{HasSchemasUnits, MeansSchema, OfSchema}
+use Rattle.schema_validator.specs.Roots.{Builds, RefusesBuild}
 use Rattle.bench_resolver.specs.BenchAnswers.{bench_resolving}
 use Rattle.bench_subschemas.specs.BenchResolving.{document_uri}
 use Rattle.bench_resolver.specs.BenchDocuments.{BenchDocument, HasCustom, HasDrafts}

@@ -132,7 +132,7 @@ fn push_errors<K: Validate, M: Matcher>(
 }
 
 /// Adds the verdict, the first error and all errors.
-fn push_answers<K: Validate, M: Matcher>(
+pub(crate) fn push_answers<K: Validate, M: Matcher>(
     alloc: Global,
     validator: &Validator<K, M>,
     instance: &Value,

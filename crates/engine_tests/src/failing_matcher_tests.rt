@@ -1,10 +1,12 @@
-//! A matcher whose engine fails. The matcher of the rows of `check_rows` does not.
-use crate::asking::push_refusal;
+//! A matcher whose engine fails, and which once wants memory, at a question of its own choice. The matcher of the rows of `check_rows`
+//! does neither.
+use crate::asking::{number_at, push_answers, push_refusal};
 use bench_keywords::keyword::BenchKeyword;
 use bench_parts::meta::BenchMeta;
 use bench_parts::table::BenchTable;
 use bench_resolver::resolver::BenchResolver;
 use schema_engine::validate;
+use schema_engine::validator::Validator;
 use schema_keywords::keywords::VocabularySet;
 use schema_matches::site::{Match, Reason};
 use schema_parts::keyword::Validate;
@@ -14,19 +16,35 @@ use schema_parts::table::KeywordTable;
 use schema_reports::location::OutOfMemory;
 use serde_json::Value;
 use std::alloc::{AllocError, Global};
+use std::cell::Cell;
 use test_rows::column;
 
-/// A matcher that leaves every match unfinished, since its engine fails.
+/// A matcher that leaves every match unfinished, since its engine fails. It counts down to the question at which it wants memory, where
+/// that is not 0, and once it has wanted memory it fails as before.
 #[derive(Drop)]
-struct FailingMatcher {}
+struct FailingMatcher {
+    left: Cell<usize>,
+}
+
+impl FailingMatcher {
+    /// Whether memory is wanted at this question.
+    fn wants_memory(&self) -> bool {
+        let left = self.left.get();
+        self.left.set(left.saturating_sub(1));
+        left == 1
+    }
+}
 
 impl Clone for FailingMatcher {
-    ghost use Rattle.std.specs.Prelude.{◌≡◌};
+    ghost use Rattle.std.specs.Prelude.{⊤};
 
-    ghost is_clone = { λ m n. n ≡ m };
+    // (how far it has counted down is nothing that contracts see)
+    ghost is_clone = { λ m n. ⊤ };
 
     fn clone(&self) -> Result<FailingMatcher, AllocError> {
-        Ok(FailingMatcher {})
+        Ok(FailingMatcher {
+            left: Cell::new(self.left.get()),
+        })
     }
 }
 
@@ -42,6 +60,9 @@ impl Matcher for FailingMatcher {
         _pattern: &str,
         _subject: &str,
     ) -> Result<Match, OutOfMemory> {
+        if self.wants_memory() {
+            return Err(AllocError);
+        }
         Ok(Match::Unfinished(Reason::Engine))
     }
 
@@ -88,7 +109,7 @@ pub(crate) fn tell_failure(
         alloc,
         &BenchTable {},
         &resolver,
-        &FailingMatcher {},
+        &FailingMatcher { left: Cell::new(0) },
         row,
         log,
     );
@@ -99,4 +120,84 @@ pub(crate) fn tell_failure(
 // The first error, schema, instance.
 pub(crate) const FAILURES: &str = r##"[
 ["Regex engine failed to evaluate pattern 'q'", {"pattern":"q"}, "abc"]
+]"##;
+
+/// Adds what a validator answers, with the evaluation's verdict.
+fn push_four<K: Validate, M: Matcher>(
+    alloc: Global,
+    validator: &Validator<K, M>,
+    instance: &Value,
+    log: &mut String,
+) -> Result<(), OutOfMemory> {
+    push_answers(alloc, validator, instance, log)?;
+    log.push_str(if validator.evaluate(alloc, instance)?.is_valid() {
+        "; valid"
+    } else {
+        "; invalid"
+    })
+}
+
+/// Adds what a validator answers until memory is wanted, and then, after `!`, what it answers when it is asked again.
+fn push_again<K: Validate, M: Matcher>(
+    alloc: Global,
+    validator: &Validator<K, M>,
+    instance: &Value,
+    log: &mut String,
+) -> Result<(), OutOfMemory> {
+    if push_four(alloc, validator, instance, log).is_ok() {
+        return Ok(());
+    }
+    log.push('!')?;
+    push_four(alloc, validator, instance, log)
+}
+
+/// Adds what the validator of a row's schema answers of its instance, with the matcher that wants memory at the question whose number
+/// is in column 3, and then again.
+pub(crate) fn tell_wanting(
+    alloc: Global,
+    row: &Value,
+    log: &mut String,
+) -> Result<(), OutOfMemory> {
+    let resolver = BenchResolver::new(alloc, column(row, 1), VocabularySet::new(alloc))?;
+    let matcher = FailingMatcher {
+        left: Cell::new(number_at(row, 3).unwrap_or(0)),
+    };
+    let built = Validator::<BenchKeyword, FailingMatcher>::new(
+        alloc,
+        column(row, 1),
+        &BenchTable {},
+        &resolver,
+        &matcher,
+        &BenchMeta {},
+    );
+    let told = match built {
+        Ok(validator) => push_again(alloc, &validator, column(row, 2), log),
+        Err(error) => push_refusal(&error, log),
+    };
+    drop(resolver);
+    told
+}
+
+// What is answered until memory is wanted, and then when it is asked again; schema, instance, and the question at which it is wanted. Of
+// the list the verdict takes 8 questions, the first error 21, all errors 23 and the evaluation 21; of the text each call takes 5.
+pub(crate) const WANTING: &str = r##"[
+["!no: Regex engine failed to evaluate pattern 'q'; Regex engine failed to evaluate pattern 'q'; invalid",
+ {"items":{"pattern":"q"}}, ["a", "b"], 1],
+["!no: Regex engine failed to evaluate pattern 'q'; Regex engine failed to evaluate pattern 'q'; invalid",
+ {"items":{"pattern":"q"}}, ["a", "b"], 8],
+["no!no: Regex engine failed to evaluate pattern 'q'; Regex engine failed to evaluate pattern 'q'; invalid",
+ {"items":{"pattern":"q"}}, ["a", "b"], 9],
+["no!no: Regex engine failed to evaluate pattern 'q'; Regex engine failed to evaluate pattern 'q'; invalid",
+ {"items":{"pattern":"q"}}, ["a", "b"], 29],
+["no: Regex engine failed to evaluate pattern 'q'; Regex engine failed to evaluate pattern 'q'; invalid",
+ {"items":{"pattern":"q"}}, ["a", "b"], 74],
+["!yes; valid", {"anyOf":[{"pattern":"q"},{"not":{"pattern":"q"}}]}, "a", 1],
+["!yes; valid", {"anyOf":[{"pattern":"q"},{"not":{"pattern":"q"}}]}, "a", 5],
+["yes!yes; valid", {"anyOf":[{"pattern":"q"},{"not":{"pattern":"q"}}]}, "a", 6],
+["yes!yes; valid", {"anyOf":[{"pattern":"q"},{"not":{"pattern":"q"}}]}, "a", 10],
+["yes!yes; valid", {"anyOf":[{"pattern":"q"},{"not":{"pattern":"q"}}]}, "a", 11],
+["yes!yes; valid", {"anyOf":[{"pattern":"q"},{"not":{"pattern":"q"}}]}, "a", 15],
+["yes!yes; valid", {"anyOf":[{"pattern":"q"},{"not":{"pattern":"q"}}]}, "a", 16],
+["yes!yes; valid", {"anyOf":[{"pattern":"q"},{"not":{"pattern":"q"}}]}, "a", 20],
+["yes; valid", {"anyOf":[{"pattern":"q"},{"not":{"pattern":"q"}}]}, "a", 21]
 ]"##;

@@ -1,7 +1,7 @@
 //! Tables of rows, and the walk over them: a row is right where what is told of it is the text in its first column.
 use crate::asking::tell_by;
 use crate::context_tests::{CONTEXTS, tell_context};
-use crate::failing_matcher_tests::{FAILURES, tell_failure};
+use crate::failing_matcher_tests::{FAILURES, WANTING, tell_failure, tell_wanting};
 use crate::growing_tests::{GROWING, tell_growing};
 use crate::leaf_tests::{LEAVES, tell_leaf};
 use crate::mark_tests::{MARKS, MarkingTable};
@@ -29,6 +29,7 @@ pub(crate) enum Rows {
     Reservations,
     Retries,
     Vocabularies,
+    Wanting,
 }
 
 /// Adds what is told of a row.
@@ -51,6 +52,7 @@ fn tell(alloc: Global, rows: Rows, row: &Value, log: &mut String) -> Result<(), 
         }
         Rows::Retries => tell_by::<BenchKeyword, BenchTable>(alloc, &BenchTable {}, row, log),
         Rows::Vocabularies => tell_names(alloc, row, log),
+        Rows::Wanting => tell_wanting(alloc, row, log),
     }
 }
 
@@ -74,7 +76,7 @@ pub(crate) fn wrong(
 }
 
 /// The tables, each with what its rows are about, and with its name. Each says why its rows are none of `check_rows`.
-const TABLES: [(Rows, &str, &str); 7] = [
+const TABLES: [(Rows, &str, &str); 8] = [
     (Rows::Contexts, "contexts", CONTEXTS),
     (Rows::Failures, "failures", FAILURES),
     (Rows::Growing, "growing", GROWING),
@@ -82,6 +84,7 @@ const TABLES: [(Rows, &str, &str); 7] = [
     (Rows::Marks, "marks", MARKS),
     (Rows::Reservations, "reservations", RESERVATIONS),
     (Rows::Vocabularies, "vocabularies", VOCABULARIES),
+    (Rows::Wanting, "wanting", WANTING),
 ];
 
 #[test]

@@ -3,6 +3,7 @@ use crate::evaluation_tests::gives;
 use crate::keyword_table_tests::{is_as_published, is_found};
 use crate::location_tests::leads;
 use crate::output_tests::is_shown;
+use crate::place_tests::are_numbered;
 use crate::search_tests::finds;
 use schema_reports::evaluation::{ErrorDescription, EvaluationNode, UnitReport};
 use schema_reports::instance::{Instance, InstanceStep, Place};
@@ -20,6 +21,7 @@ pub(crate) enum Rows {
     Found,
     Keywords,
     Locations,
+    Places,
     Searches,
     Units,
 }
@@ -31,6 +33,7 @@ fn is_right(rt: &impl Abort, alloc: Global, rows: Rows, row: &Value) -> bool {
         Rows::Found => is_found(rt, alloc, row),
         Rows::Keywords => is_as_published(rt, alloc, row),
         Rows::Locations => leads(rt, alloc, row),
+        Rows::Places => are_numbered(rt, alloc, row),
         Rows::Searches => finds(rt, alloc, row),
         Rows::Units => is_shown(rt, alloc, row),
     }

@@ -1,5 +1,5 @@
-//! Tests of the public calls of `schema_keywords`, `schema_reports`, `schema_matches`, `schema_search` and `schema_output`. Nothing
-//! stands on this crate.
+//! Tests of the public calls of `schema_keywords`, `schema_reports`, `schema_places`, `schema_matches`, `schema_search` and
+//! `schema_output`. Nothing stands on this crate.
 #![tactic(auto)]
 
 #[cfg(test)]
@@ -12,5 +12,7 @@ mod keyword_table_tests;
 mod location_tests;
 #[cfg(test)]
 mod output_tests;
+#[cfg(test)]
+mod place_tests;
 #[cfg(test)]
 mod search_tests;

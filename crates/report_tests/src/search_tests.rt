@@ -2,10 +2,11 @@
 ghost use Rattle.std.specs.Prelude.{◌≤◌};
 
 use crate::fixtures::{
-    Rows, error_at, errors_at, is_text, is_yes, member_place, pointer, points, wrong,
+    Rows, error_at, errors_at, is_text, is_yes, member_place, owned, pointer, points, wrong,
 };
 use schema_matches::assumptions::MatchAssumptions;
 use schema_matches::site::{MatchFailure, MatchSite, Reason};
+use schema_reports::instance::{InstanceStep, Place};
 use schema_reports::location::OutOfMemory;
 use schema_reports::reports::ValidationError;
 use schema_reports::text::Text;
@@ -22,9 +23,10 @@ use test_rows::{column, list_at, text_at};
 /// what the first run of a search meets, whose other runs meet nothing, the paths of the errors that each of two runs gives, where
 /// the search is decided, and the texts of the errors that it gives; what the first run of a search meets and what its other runs
 /// meet, and what is then read of its failure: compiled pattern, subject, schema path, evaluation path, instance path, pattern as
-/// it is written, and limit; or an instance, and the text, the paths and the instance of the error that a search over it gives,
-/// whose runs meet a match as a verdict and then at a place, and the limit of runs, where that is not the default. Past the limit
-/// a failure stands at the sites that its runs gave by then.
+/// it is written, and limit; how many items a list has, each of which every run meets as a match of its own, how many runs there are,
+/// and the paths and the instance of the one error; or an instance, and the text, the paths and the instance of the error that a search
+/// over it gives, whose runs meet a match as a verdict and then at a place, and the limit of runs, where that is not the default. Past
+/// the limit a failure stands at the sites that its runs gave by then.
 /// What a run of the first three meets is a pattern and its path, and then `known` where the match is known to be unfinished, or
 /// the text of the limit that it came to, the way to it where it is met at the member `a`, and the pattern as it is written; a run
 /// accepts where each match that is known comes out as the one before it. A failure without a place takes over the first site of
@@ -63,6 +65,8 @@ const ROWS: &str = r#"[
 ["read", [["compiled", "/not/pattern", "", null, "source"]], [["compiled", "/$defs/s/pattern", "", "/properties/a/$ref/pattern"]],
   ["compiled", "abc", "/$defs/s/pattern", "/properties/a/$ref/pattern", "/a", "source", ""]],
 ["read", [["p", "/a/pattern"], ["q", "/b/pattern", "", "/b/pattern"]], [], ["p", "abc", "/a/pattern", null, null, null, ""]],
+["counted", 300, 64, "/items/pattern", "/0", "\"s0\""],
+["counted", 6, 64, "/items/pattern", "/0", "\"s0\""],
 ["located", {"a": "abc"},
   "Regex engine failed to evaluate pattern 'source'", "/$defs/s/pattern", "/properties/a/$ref/pattern", "/a", "\"abc\""],
 ["located", {"a": "abc"},
@@ -397,12 +401,90 @@ fn is_located(rt: &impl Abort, alloc: Global, row: &Value) -> bool {
     is_located
 }
 
+/// A list of so many texts, `s0`, `s1` and so on, and at least the first.
+fn list_of(rt: &impl Abort, alloc: Global, count: u64) -> Value {
+    let mut text = owned(rt, alloc, "[\"s0\"");
+    for number in 1..count {
+        let next = format!(in alloc; ",\"s{number}\"").expect(rt, "memory");
+        text.push_str(next.as_str()).expect(rt, "memory");
+    }
+    text.push(']').expect(rt, "memory");
+    Value::from_str(alloc, text.as_str()).expect(rt, "a list")
+}
+
+/// The site of an item.
+fn item_site<'i>(rt: &impl Abort, alloc: Global, number: usize) -> MatchSite<'i> {
+    let path = pointer(rt, alloc, "/items/pattern");
+    let way = pointer(rt, alloc, "/items/pattern");
+    let root = Place::root(alloc);
+    let place = root.below(InstanceStep::Item(number));
+    drop(root);
+    MatchSite::located(path, way, place.expect(rt, "memory"))
+}
+
+/// A run that meets each item of a list, and gives no error.
+fn run_items<'i>(
+    rt: &impl Abort,
+    alloc: Global,
+    list: &Value,
+    met: MatchAssumptions<'i>,
+) -> (MatchAssumptions<'i>, Vec<ValidationError<'i>>) {
+    let mut met = met;
+    let Some(items) = list.as_array() else {
+        return (met, Vec::new(alloc));
+    };
+    for (number, item) in items.iter().enumerate() {
+        let site = item_site(rt, alloc, number);
+        met.resolve("p", text_at(item, 0), Reason::Engine, site)
+            .expect(rt, "memory");
+    }
+    (met, Vec::new(alloc))
+}
+
+/// Whether a search whose runs meet the items of a list makes as many of them as the row says, and gives the row's error alone.
+fn is_counted(rt: &impl Abort, alloc: Global, row: &Value) -> bool {
+    let list = list_of(rt, alloc, column(row, 1).as_u64().unwrap_or(0));
+    let first = run_items(rt, alloc, &list, MatchAssumptions::new(alloc));
+    if !first.0.met_unassumed() {
+        drop(first);
+        return false;
+    }
+    let mut runs = 1_u64;
+    let again = |met| {
+        runs = runs.saturating_add(1);
+        Ok(run_items(rt, alloc, &list, met))
+    };
+    let errors = errors_under_each(alloc, again, first, MAX_ASSUMED_RUNS, &list).expect(
+        rt, "memory",
+    );
+    let is_counted = match errors.as_slice() {
+        [error] => is_of_item(rt, alloc, error, row),
+        _ => false,
+    };
+    drop(errors);
+    is_counted && Some(runs) == column(row, 2).as_u64()
+}
+
+/// Whether an error has a row's schema path, instance path and instance.
+fn is_of_item(rt: &impl Abort, alloc: Global, error: &ValidationError<'_>, row: &Value) -> bool {
+    error.schema_path.as_str() == text_at(row, 3)
+        && points(
+            error.instance_path(alloc).expect(rt, "memory"),
+            text_at(row, 4),
+        )
+        && is_text(
+            error.instance.text(alloc).expect(rt, "memory"),
+            text_at(row, 5),
+        )
+}
+
 /// Whether a row holds.
 pub(crate) fn finds(rt: &impl Abort, alloc: Global, row: &Value) -> bool {
     match text_at(row, 0) {
         "accepted" => is_accepted(rt, alloc, row),
         "shared" => is_shared(rt, alloc, row),
         "read" => is_read(rt, alloc, row),
+        "counted" => is_counted(rt, alloc, row),
         _ => is_located(rt, alloc, row),
     }
 }

@@ -52,11 +52,12 @@ abbrev pub makes_if : {K : Type 0} → Text → Data → Option K → Script K
 makes_if name d None = malformed name d
 makes_if name d (Some m) = makes m
 
--- a list of schemas, of which the keyword knows how many there are
+-- each schema of a list
 abbrev pub each_schema : {K : Type 0} → Text → Data → K → Script K
 each_schema name (array ds) m = each_item name ds m
 each_schema name d m = malformed name d
 
+-- the keyword knows how many there are
 abbrev pub list_script : {K : Type 0} → (ℕ → K) → Text → Data → Script K
 list_script shape name d = each_schema name d (shape (count_in (as_array d)))
 

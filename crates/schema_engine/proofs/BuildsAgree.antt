@@ -23,10 +23,10 @@ use Rattle.schema_keys.specs.declared.error.BuildError.{BuildError}
 use Rattle.schema_keys.specs.declared.error.BuildError.TheVariants.{KeywordRefused, Lookup, MetaSchema, MissingRoot}
 use Rattle.schema_keys.specs.declared.error.BuildError.TheVariants.{NodeLimit, NotASchema, OutOfMemory, ReferenceNotText}
 use Rattle.schema_keys.specs.declared.error.BuildError.TheVariants.{UnsupportedVocabulary}
-use Rattle.schema_engine.specs.Checked.{FailsCheck, PassesCheck}
-use Rattle.schema_engine.specs.Handed.{Options}
-use Rattle.schema_engine.specs.Roots.{Builds, IsMissingBase, IsRootKey, RefusesBuild}
-use Rattle.schema_engine.proofs.Reaches.{same_itself, same_true}
+use Rattle.schema_validator.specs.Checked.{FailsCheck, PassesCheck}
+use Rattle.schema_validator.specs.Handed.{Options}
+use Rattle.schema_validator.specs.Roots.{Builds, IsMissingBase, IsRootKey, RefusesBuild}
+use Rattle.schema_validator.proofs.Reaches.{same_itself, same_true}
 
 one_ok : {A E : Type 0} (r : Result A E) (a b : A) → r ≡ Ok a → r ≡ Ok b → a ≡ b
 one_ok r a b p q = cc

@@ -1,82 +1,37 @@
 -- Calls of one schema and one instance speak of one sense, and so agree.
-use Rattle.std.proofs.Common.{arith, false, refl, sym, true, Bool, List, [], map, ℕ, ◌+◌, ◌∙◌, ◌∷◌, ◌≡◌, ◌≤◌, subst}
-use Rattle.std.specs.Prelude.{None, Option, Some, is_none, option_map}
+use Rattle.std.proofs.Common.{arith, false, sym, Bool, List, [], ℕ, ◌+◌, ◌∙◌, ◌≡◌, ◌≤◌, subst}
+use Rattle.std.specs.Prelude.{None, Option, is_none}
 use Rattle.std.specs.Cmp.{both_ways}
 use Rattle.serde_json.specs.Data.{Data}
 use Rattle.schema_definitions.specs.Cover.{Call, Decides, Sense, branch_at, evaluate, is_valid, iter_errors, validate}
-use Rattle.schema_meaning.specs.Deciding.{none_where_accepted}
 use Rattle.schema_meaning.specs.Headline.{VerdictSays}
 use Rattle.schema_definitions.specs.Laws.{EachKeeps}
 use Rattle.schema_definitions.specs.Matching.{completion_of}
 use Rattle.schema_meaning.specs.Members.{Follows}
 use Rattle.schema_meaning.specs.Numbered.{subject_in}
-use Rattle.schema_reports.specs.ReportViews.{error_of}
-use Rattle.schema_definitions.specs.Reports.{Error}
 use Rattle.schema_search.specs.SharedResults.{is_empty}
 use Rattle.schema_reports.specs.UnitViews.{unit_of}
 use Rattle.schema_reports.specs.declared.evaluation.EvaluationNode.{EvaluationNode}
 use Rattle.schema_reports.specs.declared.reports.ValidationError.{ValidationError}
 use Rattle.schema_meaning.proofs.GuardedSense.{all_nodes_follow}
-use Rattle.schema_meaning.proofs.Sentences.{listed_none}
 use Rattle.schema_nodes.specs.NodeTable.{numbered}
 use Rattle.schema_parts.specs.declared.keyword.Validate.{Ghosts as KeywordMembers}
 use Rattle.schema_parts.specs.declared.matcher.Matcher.{Ghosts as MatcherMembers}
-use Rattle.schema_engine.specs.Called.{GuardedlyOf, IsCompiledFrom, UnitsGuardedly}
-use Rattle.schema_engine.specs.Evaluated.{EvaluationAnswered}
+use Rattle.schema_validator.specs.Called.{GuardedlyOf, IsCompiledFrom, UnitsGuardedly}
+use Rattle.schema_validator.specs.Evaluated.{EvaluationAnswered, verdict_in}
+use Rattle.schema_validator.specs.Handed.{Handed, Options}
+use Rattle.schema_validator.specs.Program.{FromSomeDepth, Program}
+use Rattle.schema_validator.specs.Spoken.{ErrorsAnswered, FirstAnswered}
 use Rattle.schema_engine.specs.FreeCalls as calls
 use Rattle.schema_engine.specs.FreeCalls.{OfAllCompiled}
-use Rattle.schema_engine.specs.Handed.{Handed, Options}
-use Rattle.schema_engine.specs.Nesting.{ErrorsAgree, EvaluationsAgree, FirstsAgree, verdict_in}
-use Rattle.schema_engine.specs.Program.{FromSomeDepth, Program}
-use Rattle.schema_engine.specs.Spoken.{ErrorsAnswered, FirstAnswered}
+use Rattle.schema_engine.specs.Nesting.{ErrorsAgree, EvaluationsAgree, FirstsAgree}
+use Rattle.schema_validator.proofs.Verdicts.{errors_verdict, first_verdict}
 use Rattle.schema_engine.proofs.Nesting.{errors_agree, evaluations_agree, firsts_agree, same_verdict}
 use Rattle.schema_engine.proofs.OneTable.{speak_alike}
 
 -- ---- the verdict in what is answered
 
-none_mapped : (f : ValidationError → Error) (o : Option ValidationError) → is_none o ≡ true → option_map f o ≡ None
-none_mapped f None e = refl
-none_mapped f (Some x) e = absurd (cc e)
-
-none_from : (f : ValidationError → Error) (o : Option ValidationError) → option_map f o ≡ None → is_none o ≡ true
-none_from f None e = refl
-none_from f (Some x) e = absurd (cc e)
-
-some_there : (f : ValidationError → Error) (o : Option ValidationError) (e : Error) → option_map f o ≡ Some e → is_none o ≡ false
-some_there f None e is = absurd (cc is)
-some_there f (Some x) e is = refl
-
-empty_mapped : (f : ValidationError → Error) (es : List ValidationError) → is_empty es ≡ true → map f es ≡ []
-empty_mapped f [] e = refl
-empty_mapped f (x ∷ es) e = absurd (cc e)
-
-empty_from : (f : ValidationError → Error) (es : List ValidationError) → map f es ≡ [] → is_empty es ≡ true
-empty_from f [] e = refl
-empty_from f (x ∷ es) e = absurd (cc e)
-
-one_there : (f : ValidationError → Error) (es : List ValidationError) (e : Error) → map f es ≡ e ∷ [] → is_empty es ≡ false
-one_there f [] e is = absurd (cc is)
-one_there f (x ∷ es) e is = refl
-
-module _ (v : Sense) (most : ℕ) (follows : Follows v) where
-  pub first_verdict : (texts : Bool) (o : Option ValidationError) → FirstAnswered v most texts o → VerdictSays v most validate (is_none o)
-  first_verdict false o says = says.verdict
-  first_verdict true o says = (
-    λ decides.
-        let none = none_where_accepted v follows most (option_map (error_of true) o) says decides in
-        (λ e. none.0 (none_mapped (error_of true) o e), λ each. none_from (error_of true) o (none.1 each)),
-    λ undecided. let (e, fails, is) = says.1 undecided in some_there (error_of true) o e is,
-  )
-
-  pub errors_verdict : (texts : Bool) (es : List ValidationError) → ErrorsAnswered v most texts es → VerdictSays v most iter_errors (is_empty es)
-  errors_verdict false es says = says.verdict
-  errors_verdict true es says = (
-    λ decides.
-        let none = listed_none v iter_errors follows (map (error_of true) es) (says.0 decides) in
-        (λ e. none.0 (empty_mapped (error_of true) es e), λ each. empty_from (error_of true) es (none.1 each)),
-    λ undecided. let (e, fails, is) = says.1 undecided in one_there (error_of true) es e is,
-  )
-
+module _ (v : Sense) (most : ℕ) where
   -- two calls that decide have one verdict
   both_decide : (call call' : Call) (b b' : Bool) → VerdictSays v most call b → VerdictSays v most call' b'
       → Decides v most call → Decides v most call' → b ≡ b'
@@ -179,37 +134,37 @@ module _ {S K R C M : Type 0} (h : Handed S K R C M) where
     pub true_iff_none : calls.TrueIffNone h
     true_iff_none options schema instance b o = both_say options schema instance (Verdict options.runs b) (First options.runs o)
         (WhereBoth options.runs is_valid validate (b ≡ is_none o))
-        (λ texts v follows says first. both_decide v options.runs follows is_valid validate b (is_none o) says (first_verdict v options.runs follows texts o first))
+        (λ texts v follows says first. both_decide v options.runs is_valid validate b (is_none o) says (first_verdict v options.runs follows texts o first))
 
     pub true_iff_empty : calls.TrueIffEmpty h
     true_iff_empty options schema instance b es = both_say options schema instance (Verdict options.runs b) (Errors options.runs es)
         (WhereBoth options.runs is_valid iter_errors (b ≡ is_empty es))
         (λ texts v follows says errors.
-        both_decide v options.runs follows is_valid iter_errors b (is_empty es) says (errors_verdict v options.runs follows texts es errors))
+        both_decide v options.runs is_valid iter_errors b (is_empty es) says (errors_verdict v options.runs follows texts es errors))
 
     pub none_iff_empty : calls.NoneIffEmpty h
     none_iff_empty options schema instance o es = both_say options schema instance (First options.runs o) (Errors options.runs es)
         (WhereBoth options.runs validate iter_errors (is_none o ≡ is_empty es))
         (λ texts v follows first errors.
-        both_decide v options.runs follows validate iter_errors (is_none o) (is_empty es) (first_verdict v options.runs follows texts o first)
+        both_decide v options.runs validate iter_errors (is_none o) (is_empty es) (first_verdict v options.runs follows texts o first)
         (errors_verdict v options.runs follows texts es errors))
 
     pub true_iff_valid : calls.TrueIffValid h
     true_iff_valid options schema instance b u = both_say options schema instance (Verdict options.runs b) (Evaluated options.runs u)
         (λ texts v. WhereBoth options.runs is_valid evaluate (b ≡ verdict_in texts u) texts v)
-        (λ texts v follows says evaluated. both_decide v options.runs follows is_valid evaluate b (verdict_in texts u) says evaluated.verdict)
+        (λ texts v follows says evaluated. both_decide v options.runs is_valid evaluate b (verdict_in texts u) says evaluated.verdict)
 
     pub none_iff_valid : calls.NoneIffValid h
     none_iff_valid options schema instance o u = both_say options schema instance (First options.runs o) (Evaluated options.runs u)
         (λ texts v. WhereBoth options.runs validate evaluate (is_none o ≡ verdict_in texts u) texts v)
         (λ texts v follows first evaluated.
-        both_decide v options.runs follows validate evaluate (is_none o) (verdict_in texts u) (first_verdict v options.runs follows texts o first) evaluated.verdict)
+        both_decide v options.runs validate evaluate (is_none o) (verdict_in texts u) (first_verdict v options.runs follows texts o first) evaluated.verdict)
 
     pub empty_iff_valid : calls.EmptyIffValid h
     empty_iff_valid options schema instance es u = both_say options schema instance (Errors options.runs es) (Evaluated options.runs u)
         (λ texts v. WhereBoth options.runs iter_errors evaluate (is_empty es ≡ verdict_in texts u) texts v)
         (λ texts v follows errors evaluated.
-        both_decide v options.runs follows iter_errors evaluate (is_empty es) (verdict_in texts u) (errors_verdict v options.runs follows texts es errors) evaluated.verdict)
+        both_decide v options.runs iter_errors evaluate (is_empty es) (verdict_in texts u) (errors_verdict v options.runs follows texts es errors) evaluated.verdict)
 
 -- ---- the four calls of one validator
 
@@ -222,12 +177,12 @@ module _ (v : Sense) (most : ℕ) (follows : Follows v) where
       let empty : VerdictSays v most iter_errors (is_empty es) = errors_verdict v most follows texts es errors in
       let yes : VerdictSays v most evaluate (verdict_in texts u) = evaluated.verdict in
       record {
-        true_none = both_decide v most follows is_valid validate b (is_none o) says none;
-        true_empty = both_decide v most follows is_valid iter_errors b (is_empty es) says empty;
-        true_valid = both_decide v most follows is_valid evaluate b (verdict_in texts u) says yes;
-        none_empty = both_decide v most follows validate iter_errors (is_none o) (is_empty es) none empty;
-        none_valid = both_decide v most follows validate evaluate (is_none o) (verdict_in texts u) none yes;
-        empty_valid = both_decide v most follows iter_errors evaluate (is_empty es) (verdict_in texts u) empty yes;
+        true_none = both_decide v most is_valid validate b (is_none o) says none;
+        true_empty = both_decide v most is_valid iter_errors b (is_empty es) says empty;
+        true_valid = both_decide v most is_valid evaluate b (verdict_in texts u) says yes;
+        none_empty = both_decide v most validate iter_errors (is_none o) (is_empty es) none empty;
+        none_valid = both_decide v most validate evaluate (is_none o) (verdict_in texts u) none yes;
+        empty_valid = both_decide v most iter_errors evaluate (is_empty es) (verdict_in texts u) empty yes;
       }
 
 module _ {C Run K M : Type 0} (keywords : KeywordMembers C Run K) (matchers : MatcherMembers M) (keeps : (texts : Bool) → EachKeeps (keywords.words texts)) where

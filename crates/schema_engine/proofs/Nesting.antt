@@ -20,14 +20,14 @@ use Rattle.schema_parts.specs.declared.matcher.Matcher.{Ghosts as MatcherMembers
 use Rattle.schema_parts.specs.declared.resolver.Resolver.{Ghosts as ResolverMembers}
 use Rattle.schema_parts.specs.declared.table.KeywordTable.{Ghosts as TableMembers}
 use Rattle.schema_output.specs.ErrorUnits.{errors_unit}
-use Rattle.schema_engine.specs.Asked.{UnitsInEverySense}
-use Rattle.schema_engine.specs.Called.{HasPlainUnits, MeansPlainly, PlainlyOf, UnitsPlainly}
-use Rattle.schema_engine.specs.Evaluated.{EvaluationAnswered}
-use Rattle.schema_engine.specs.Handed.{Handed, Options}
-use Rattle.schema_engine.specs.Nesting.{AllErrorsAgree, ErrorsAgree, EvaluationsAgree, EvaluationsOfBoth, FirstErrorsAgree, FirstsAgree, IsOfFailure, LargerErrors, LargerEvaluations, LargerFirstErrors, LargerVerdicts, SameErrors, SameFirst, SameUnits, UnitsOfBoth, VerdictsAgree, verdict_in, handed_to_both as both}
-use Rattle.schema_engine.specs.Program.{OfEverySense, Program}
-use Rattle.schema_engine.specs.Spoken.{ErrorsAnswered, FirstAnswered}
-use Rattle.schema_engine.proofs.PlainAnswers.{plainly_from}
+use Rattle.schema_validator.specs.Asked.{UnitsInEverySense}
+use Rattle.schema_validator.specs.Called.{HasPlainUnits, MeansPlainly, PlainlyOf, UnitsPlainly}
+use Rattle.schema_validator.specs.Evaluated.{EvaluationAnswered, verdict_in}
+use Rattle.schema_validator.specs.Handed.{Handed, Options}
+use Rattle.schema_validator.specs.Program.{OfEverySense, Program}
+use Rattle.schema_validator.specs.Spoken.{ErrorsAnswered, FirstAnswered}
+use Rattle.schema_engine.specs.Nesting.{AllErrorsAgree, ErrorsAgree, EvaluationsAgree, EvaluationsOfBoth, FirstErrorsAgree, FirstsAgree, IsOfFailure, LargerErrors, LargerEvaluations, LargerFirstErrors, LargerVerdicts, SameErrors, SameFirst, SameUnits, UnitsOfBoth, VerdictsAgree, handed_to_both as both}
+use Rattle.schema_validator.proofs.PlainAnswers.{plainly_from}
 
 module _ (v : Sense) (most : ℕ) where
   -- ---- the verdict

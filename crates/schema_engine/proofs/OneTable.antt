@@ -21,16 +21,16 @@ use Rattle.schema_keys.specs.Compiling.{no_keywords, no_matcher}
 use Rattle.schema_compiler.specs.Finding.{Course, FindsAll, Standing, WorksOff, at_end, in_a_round, passes_over, standing_of}
 use Rattle.schema_compiler.proofs.Courses.{finds_go_on}
 use Rattle.schema_compiler.proofs.TablesAgree.{tables_agree}
-use Rattle.schema_engine.specs.Called.{IsCompiledFrom}
-use Rattle.schema_engine.specs.Compiled.{IsWhole}
+use Rattle.schema_validator.specs.Called.{IsCompiledFrom}
+use Rattle.schema_validator.specs.Compiled.{IsWhole}
+use Rattle.schema_validator.specs.Handed.{Handed, Options, parts_of}
+use Rattle.schema_validator.specs.Program.{Program}
 use Rattle.schema_engine.specs.FreeCalls.{SpeakAlike}
-use Rattle.schema_engine.specs.Handed.{Handed, Options, parts_of}
-use Rattle.schema_engine.specs.Program.{Program}
-use Rattle.schema_engine.proofs.Built.{in_map}
-use Rattle.schema_engine.proofs.Compilations.{whole_too}
-use Rattle.schema_engine.proofs.OtherParts.{compiles_too}
-use Rattle.schema_engine.proofs.Reaches.{get_at}
-use Rattle.schema_engine.proofs.RootKeys.{one_root_key}
+use Rattle.schema_validator.proofs.Built.{in_map}
+use Rattle.schema_validator.proofs.Compilations.{whole_too}
+use Rattle.schema_validator.proofs.OtherParts.{compiles_too}
+use Rattle.schema_validator.proofs.Reaches.{get_at}
+use Rattle.schema_validator.proofs.RootKeys.{one_root_key}
 
 -- ---- the root is found first
 

@@ -16,11 +16,12 @@ use Rattle.schema_reports.specs.declared.reports.ValidationError.{ValidationErro
 use Rattle.schema_nodes.specs.NodeTable.{numbered}
 use Rattle.schema_parts.specs.declared.keyword.Validate.{Ghosts as KeywordMembers}
 use Rattle.schema_parts.specs.declared.matcher.Matcher.{Ghosts as MatcherMembers}
-use Rattle.schema_engine.specs.Asked.{DecidesFromSomeDepth, ErrorsFromSomeDepth, EvaluatesFromSomeDepth, FirstFromSomeDepth, UnitsFromSomeDepth}
-use Rattle.schema_engine.specs.Called.{DecidesGuardedly, ErrorsGuardedly, EvaluatesGuardedly, FirstGuardedly, IsCompiledFrom, UnitsGuardedly}
-use Rattle.schema_engine.specs.Handed.{Handed, Options}
-use Rattle.schema_engine.specs.Nesting.{ErrorsAgree, EvaluationsAgree, FirstsAgree, verdict_in}
-use Rattle.schema_engine.specs.Program.{FromSomeDepth, Program, Speaks}
+use Rattle.schema_validator.specs.Asked.{DecidesFromSomeDepth, ErrorsFromSomeDepth, EvaluatesFromSomeDepth, FirstFromSomeDepth, UnitsFromSomeDepth}
+use Rattle.schema_validator.specs.Called.{DecidesGuardedly, ErrorsGuardedly, EvaluatesGuardedly, FirstGuardedly, IsCompiledFrom, UnitsGuardedly}
+use Rattle.schema_validator.specs.Handed.{Handed, Options}
+use Rattle.schema_validator.specs.Evaluated.{verdict_in}
+use Rattle.schema_validator.specs.Program.{FromSomeDepth, Program, Speaks}
+use Rattle.schema_engine.specs.Nesting.{ErrorsAgree, EvaluationsAgree, FirstsAgree}
 
 -- what is handed in
 module _ {S K R C M : Type 0} (h : Handed S K R C M) where

@@ -10,7 +10,7 @@ use Rattle.schema_definitions.specs.Cover.{Call, Decides, Sense, branch_at, eval
 use Rattle.schema_meaning.specs.Headline.{IsFailure, OneFailure}
 use Rattle.schema_definitions.specs.Keywords.{Answer}
 use Rattle.schema_reports.specs.ReportViews.{error_of}
-use Rattle.schema_definitions.specs.Reports.{Error, Unit_, report_of}
+use Rattle.schema_definitions.specs.Reports.{Error, Unit_}
 use Rattle.schema_search.specs.SharedResults.{is_empty}
 use Rattle.schema_reports.specs.UnitViews.{unit_of}
 use Rattle.schema_reports.specs.declared.evaluation.EvaluationNode.{EvaluationNode}
@@ -23,15 +23,12 @@ use Rattle.schema_output.specs.ErrorUnits.{errors_unit}
 use Rattle.schema_check.specs.Checking.{MetaChecks}
 use Rattle.schema_keys.specs.declared.error.BuildError.{BuildError}
 use Rattle.schema_keys.specs.declared.error.BuildError.TheVariants.{OutOfMemory}
-use Rattle.schema_engine.specs.Asked.{DecidesInEverySense, ErrorsInEverySense, EvaluatesInEverySense, FirstInEverySense, UnitsInEverySense}
-use Rattle.schema_engine.specs.Called.{BuildRefused, HasPlainUnits, MeansPlainly, PlainlyOf, SchemaBuilds}
-use Rattle.schema_engine.specs.Checked.{PassesCheck}
-use Rattle.schema_engine.specs.Handed.{Handed, Options, handed, limited}
-use Rattle.schema_engine.specs.Program.{Program}
-
--- the verdict of an evaluation, which is its outermost unit's
-abbrev pub verdict_in : Bool → EvaluationNode → Bool
-verdict_in texts u = (report_of (unit_of texts u)).valid
+use Rattle.schema_validator.specs.Asked.{DecidesInEverySense, ErrorsInEverySense, EvaluatesInEverySense, FirstInEverySense, UnitsInEverySense}
+use Rattle.schema_validator.specs.Called.{BuildRefused, HasPlainUnits, MeansPlainly, PlainlyOf, SchemaBuilds}
+use Rattle.schema_validator.specs.Checked.{PassesCheck}
+use Rattle.schema_validator.specs.Evaluated.{verdict_in}
+use Rattle.schema_validator.specs.Handed.{Handed, Options, handed, limited}
+use Rattle.schema_validator.specs.Program.{Program}
 
 -- ---- two answers about one sense
 

@@ -2,17 +2,16 @@
 ghost use Rattle.std.specs.Prelude.{Bool, IfOk, IfErr, IfSome, All};
 ghost use Rattle.serde_json.specs.View.{view};
 ghost use Rattle.schema_reports.specs.ReportViews.{BorrowsItsPlace};
-ghost use Rattle.schema_engine.specs.Answers.{refusal_of};
-ghost use Rattle.schema_engine.specs.Checked.{PassesCheck};
-ghost use Rattle.schema_engine.specs.Called.{DecidesGuardedly, DecidesPlainly, BuildRefused, SchemaBuilds};
-ghost use Rattle.schema_engine.specs.Called.{EvaluatesGuardedly, EvaluatesPlainly, UnitsGuardedly, UnitsPlainly};
-ghost use Rattle.schema_engine.specs.Called.{ErrorsPlainly, ErrorsGuardedly, EachLeads, FirstPlainly, FirstGuardedly, FirstLeads};
-ghost use Rattle.schema_engine.specs.Called.{UnitsLead};
-ghost use Rattle.schema_engine.specs.FirstCauses.{FirstOfBuild};
-ghost use Rattle.schema_engine.specs.Greatest.{DecidesGreatest, ErrorsGreatest, EvaluatesGreatest, FirstGreatest};
-ghost use Rattle.schema_engine.specs.Handed.{default_options, handed};
+ghost use Rattle.schema_validator.specs.Answers.{refusal_of};
+ghost use Rattle.schema_validator.specs.Checked.{PassesCheck};
+ghost use Rattle.schema_validator.specs.Called.{DecidesGuardedly, DecidesPlainly, BuildRefused, SchemaBuilds};
+ghost use Rattle.schema_validator.specs.Called.{EvaluatesGuardedly, EvaluatesPlainly, UnitsGuardedly, UnitsPlainly};
+ghost use Rattle.schema_validator.specs.Called.{ErrorsPlainly, ErrorsGuardedly, EachLeads, FirstPlainly, FirstGuardedly, FirstLeads};
+ghost use Rattle.schema_validator.specs.Called.{UnitsLead};
+ghost use Rattle.schema_validator.specs.FirstCauses.{FirstOfBuild};
+ghost use Rattle.schema_engine.specs.GreatestCalls.{DecidesGreatest, ErrorsGreatest, EvaluatesGreatest, FirstGreatest};
+ghost use Rattle.schema_validator.specs.Handed.{default_options, handed};
 
-use crate::validator::Validator;
 use schema_keys::error::BuildError;
 use schema_output::evaluation::Evaluation;
 use schema_parts::keyword::Validate;
@@ -21,6 +20,7 @@ use schema_parts::meta::MetaValidators;
 use schema_parts::resolver::Resolver;
 use schema_parts::table::KeywordTable;
 use schema_reports::reports::{ErrorIterator, ValidationError};
+use schema_validator::validator::Validator;
 use serde_json::Value;
 use std::alloc::Global;
 

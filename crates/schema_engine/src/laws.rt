@@ -4,8 +4,8 @@ ghost use Rattle.schema_engine.specs.FreeCalls.{EmptyIffValid, NoneIffEmpty, Non
 ghost use Rattle.schema_engine.specs.FreeCalls.{OneErrorList, OneEvaluation, OneFirstError, OneSense, OneTree, OneVerdict};
 ghost use Rattle.schema_engine.specs.FreeCalls.{ErrorListAgain, EvaluationAgain, FirstErrorAgain, UnitsAgain, VerdictAgain};
 ghost use Rattle.schema_engine.specs.FreeCalls.{ValidatorCallsAgree};
-ghost use Rattle.schema_engine.specs.Greatest.{FinishingAccepts, FinishingGreatest, GreatestAnswersAgree, GreatestVerdictsAgree};
-ghost use Rattle.schema_engine.specs.Handed.{handed};
+ghost use Rattle.schema_engine.specs.GreatestCalls.{FinishingAccepts, FinishingGreatest, GreatestAnswersAgree, GreatestVerdictsAgree};
+ghost use Rattle.schema_validator.specs.Handed.{handed};
 ghost use Rattle.schema_engine.specs.Nesting.{AllErrorsAgree, BuildsAgree, FirstErrorsAgree, VerdictsAgree};
 ghost use Rattle.schema_engine.specs.Nesting.{EvaluationsOfBoth, UnitsOfBoth};
 ghost use Rattle.schema_engine.specs.Nesting.{LargerErrors, LargerEvaluations, LargerFirstErrors, LargerVerdicts};

@@ -1,5 +1,5 @@
 -- What a refusal of the compiler says: a cause that stands, or more keys than the limit.
-use Rattle.std.specs.Prelude.{Bool, List, None, Option, Some, codes, length, slice_get, string_bytes, ℕ, ◌++◌, ◌<◌, ◌≡◌}
+use Rattle.std.specs.Prelude.{Bool, List, Some, codes, decimal, length, slice_get, string_bytes, ℕ, ◌++◌, ◌<◌, ◌≡◌}
 use Rattle.schema_definitions.specs.Parts.{Parts}
 use Rattle.schema_definitions.specs.Reports.{told_error}
 use Rattle.schema_definitions.specs.Plan.{Edge, Key}
@@ -27,17 +27,19 @@ number_of (MissingRoot uri) = 7
 number_of (NodeLimit limit) = 8
 number_of OutOfMemory = 9
 
--- what is printed of a required vocabulary that is not declared; the other texts are for people alone
-abbrev pub refusal_text : BuildError → Option (List ℕ)
-refusal_text (NotASchema location) = None
-refusal_text (ReferenceNotText location) = None
-refusal_text (Lookup text) = None
-refusal_text (KeywordRefused error) = None
-refusal_text (UnsupportedVocabulary uri) = Some (codes "Unknown vocabulary: '" ++ (string_bytes uri ++ codes "' is required by the meta-schema. Adjust configuration to declare support for it"))
-refusal_text (MetaSchema error) = None
-refusal_text (MissingRoot uri) = None
-refusal_text (NodeLimit limit) = None
-refusal_text OutOfMemory = None
+-- what is printed of a refusal: its number, the place where it has one, and the reason, with the texts that it holds as they are. A
+-- keyword's place is the schema path of the table's error. A meta-schema's refusal says where in the schema, and by which keyword of the
+-- meta-schema. That of a vocabulary has the text of the crate that is ported, and no number.
+abbrev pub refusal_text : BuildError → List ℕ
+refusal_text (NotASchema location) = codes "refusal 1 at '" ++ (location ++ codes "': the value is neither an object nor a boolean")
+refusal_text (ReferenceNotText location) = codes "refusal 2 at '" ++ (location ++ codes "': the reference is not a text")
+refusal_text (Lookup text) = codes "refusal 3: " ++ string_bytes text
+refusal_text (KeywordRefused error) = codes "refusal 4 at '" ++ (error.schema_path ++ (codes "': " ++ string_bytes error.text))
+refusal_text (UnsupportedVocabulary uri) = codes "Unknown vocabulary: '" ++ (string_bytes uri ++ codes "' is required by the meta-schema. Adjust configuration to declare support for it")
+refusal_text (MetaSchema error) = codes "refusal 6 at '" ++ (error.instance_path ++ (codes "', by '" ++ (error.schema_path ++ (codes "' of the meta-schema: " ++ string_bytes error.text))))
+refusal_text (MissingRoot uri) = codes "refusal 7: there is no document under '" ++ (string_bytes uri ++ codes "'")
+refusal_text (NodeLimit limit) = codes "refusal 8: more than " ++ (decimal limit ++ codes " keys are reached")
+refusal_text OutOfMemory = codes "refusal 9: memory could not be had"
 
 -- each key once
 abbrev pub AreDistinct : {S : Type 0} → List (Key S) → Type 0

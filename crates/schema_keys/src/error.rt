@@ -1,5 +1,5 @@
 //! Why no validator is built.
-ghost use Rattle.std.specs.Prelude.{◌≡◌};
+ghost use Rattle.std.specs.Prelude.{◌≡◌, Some};
 ghost use Rattle.schema_keys.specs.Refusing.{number_of};
 
 use schema_parts::resolver::LookupError;
@@ -51,33 +51,50 @@ impl BuildError {
     }
 }
 
+/// A line that says where: `refusal`, the variant's number, the place if the refusal has one, and the reason. The place is a
+/// JSON Pointer in the schema; that of `KeywordRefused` is the schema path of the table's error, which may count from the keyword's
+/// own object. `MetaSchema` shows the meta-schema's keyword too. `UnsupportedVocabulary` alone shows no number.
 impl fmt::Display for BuildError {
     ghost use Rattle.schema_keys.specs.Refusing.{refusal_text};
 
-    ghost output = { λ refused. refusal_text refused };
+    ghost output = { λ refused. Some (refusal_text refused) };
 
     fn fmt<W: fmt::Write>(&self, f: &mut fmt::Formatter<W>) -> fmt::Result {
         match self {
-            BuildError::NotASchema(at) => {
+            BuildError::NotASchema(at) => write!(
+                f,
+                "refusal 1 at '{}': the value is neither an object nor a boolean",
+                at.as_str()
+            ),
+            BuildError::ReferenceNotText(at) => {
                 write!(
                     f,
-                    "The value at '{}' is neither an object nor a boolean",
+                    "refusal 2 at '{}': the reference is not a text",
                     at.as_str()
                 )
             }
-            BuildError::ReferenceNotText(at) => {
-                write!(f, "The reference at '{}' is not a text", at.as_str())
+            BuildError::Lookup(text) => write!(f, "refusal 3: {text}"),
+            BuildError::KeywordRefused(error) => {
+                write!(f, "refusal 4 at '{}': {error}", error.schema_path.as_str())
             }
-            BuildError::Lookup(text) => f.write_str(text.as_str()),
-            BuildError::KeywordRefused(error) => f.write_str(error.text.as_str()),
             BuildError::UnsupportedVocabulary(uri) => write!(
                 f,
                 "Unknown vocabulary: '{uri}' is required by the meta-schema. Adjust configuration to declare support for it"
             ),
-            BuildError::MetaSchema(error) => f.write_str(error.text.as_str()),
-            BuildError::MissingRoot(base) => write!(f, "There is no document under '{base}'"),
-            BuildError::NodeLimit(limit) => write!(f, "More than {limit} keys are reached"),
-            BuildError::OutOfMemory => f.write_str("Memory could not be had"),
+            BuildError::MetaSchema(error) => write!(
+                f,
+                "refusal 6 at '{}', by '{}' of the meta-schema: {error}",
+                error.instance_path.as_str(),
+                error.schema_path.as_str()
+            ),
+            BuildError::MissingRoot(uri) => {
+                write!(f, "refusal 7: there is no document under '{uri}'")
+            }
+            BuildError::NodeLimit(limit) => write!(
+                f,
+                "refusal 8: more than {limit} keys are reached"
+            ),
+            BuildError::OutOfMemory => write!(f, "refusal 9: memory could not be had"),
         }
     }
 }

@@ -14,10 +14,12 @@ use Rattle.schema_parts.specs.FaultViews.{errors_in}
 use Rattle.schema_parts.specs.KeywordViews.{reply_of}
 use Rattle.schema_contexts.specs.Matches.{after_match, settling}
 use Rattle.schema_node.specs.NodeMeets.{NodeMeets}
-use Rattle.schema_node.specs.NodeRuns.{Joins, NodeReplies, SaysTheSame, Stamps, accepts, reply_by}
+use Rattle.schema_answers.specs.ReplyModes.{Joins, SaysTheSame, Stamps, accepts, reply_by}
+use Rattle.schema_node.specs.NodeRuns.{NodeReplies}
 use Rattle.schema_contexts.specs.Progress.{Context, busy_at}
 use Rattle.schema_node.specs.RightVerdicts.{AreRight, IsRightVerdict, Layout}
-use Rattle.schema_node.specs.RunStates.{Asking, EdgeRemembers, EdgeSays, FormRemembers, GoesOn, Keeps, MeetsEdge, MeetsNode, NodeRemembers, NodeSays, PartsRemember, ReadsOrKeeps, RemembersRightly, Setting, StaysRight}
+use Rattle.schema_answers.specs.Askings.{Asking}
+use Rattle.schema_node.specs.RunStates.{EdgeRemembers, EdgeSays, FormRemembers, GoesOn, Keeps, MeetsEdge, MeetsNode, NodeRemembers, NodeSays, PartsRemember, ReadsOrKeeps, RemembersRightly, Setting, StaysRight}
 use Rattle.schema_contexts.specs.Verdicts.{MayKeep, Remembers, is_alone, least_visits, one_more, read_in_mode, read_verdict, verdict_of, visited_in_mode}
 use Rattle.schema_parts.specs.declared.keyword.Reply as code
 use Rattle.schema_contexts.proofs.Matches.{after_assumes}

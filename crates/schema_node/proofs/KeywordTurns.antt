@@ -21,12 +21,14 @@ use Rattle.schema_parts.specs.KeywordViews.{Tells, answer_of, fault_of}
 use Rattle.schema_parts.specs.FaultViews.{FaultsLieInside, LiesInside, PassesBorrowed, answer_reply, faults_in}
 use Rattle.schema_contexts.specs.Matches.{Settling}
 use Rattle.schema_contexts.proofs.Matches.{decides, deciding}
-use Rattle.schema_node.specs.NodeRuns.{Reading, Reads, entry_where, reply_by}
+use Rattle.schema_answers.specs.Askings.{entry_where}
+use Rattle.schema_answers.specs.ReplyModes.{reply_by}
+use Rattle.schema_node.specs.NodeRuns.{Reading, Reads}
 use Rattle.schema_node.specs.Turning.{EvaluatesOn, stands_at, unit_with}
 use Rattle.schema_parts.specs.declared.keyword.Fault as code
 use Rattle.schema_parts.specs.declared.keyword.Fault.TheVariants as fault
 use Rattle.schema_parts.specs.declared.keyword.Answer as code_answer
-use Rattle.schema_node.proofs.Faults.{errors_of_faults}
+use Rattle.schema_answers.proofs.FaultsFound.{errors_of_faults}
 
 module _ {K R : Type 0} (keywords : Keywords K R) (m : K) (absorbed : List Text) (remaining : Subject → R → ℕ) (can_be : Subject → R → Type 0) (end_of : Standing R → Answer) (Fits : Standing R → Type 0)
     (laws : TurnLaws keywords m absorbed remaining can_be end_of Fits) where

@@ -20,7 +20,9 @@ use Rattle.schema_parts.specs.KeywordViews.{Tells, reply_of}
 use Rattle.schema_nodes.specs.NodeTable.{absolute_in, NodeEntry, numbered, plan_in, shaped}
 use Rattle.schema_meaning.specs.Fractions.{IsWholeWord, form_words, node_words}
 use Rattle.schema_contexts.specs.Matches.{Settling}
-use Rattle.schema_node.specs.NodeRuns.{HasChildren, HasForm, Reading, Reads, Replies, entry_where, reply_by}
+use Rattle.schema_answers.specs.Askings.{entry_where}
+use Rattle.schema_answers.specs.ReplyModes.{reply_by}
+use Rattle.schema_node.specs.NodeRuns.{HasChildren, HasForm, Reading, Reads, Replies}
 
 -- ---- lists
 

@@ -19,7 +19,9 @@ use Rattle.schema_parts.specs.FaultViews.{errors_in}
 use Rattle.schema_parts.specs.KeywordViews.{reply_of}
 use Rattle.schema_contexts.specs.Matches.{Settling}
 use Rattle.schema_nodes.specs.NodeTable.{NodeEntry, absolute_in, numbered}
-use Rattle.schema_node.specs.NodeRuns.{Reading, Reads, Replies, Joins, Stamps, NodeReplies, EdgeReplies, ChildReplies, FormReplies, accepts, child_says, deep, edge_needs, edge_says, entry_where, form_says, node_says, parts_say, refuses, reply_by}
+use Rattle.schema_answers.specs.Askings.{entry_where}
+use Rattle.schema_answers.specs.ReplyModes.{Joins, Stamps, accepts, refuses, reply_by}
+use Rattle.schema_node.specs.NodeRuns.{Reading, Reads, Replies, NodeReplies, EdgeReplies, ChildReplies, FormReplies, child_says, deep, edge_needs, edge_says, form_says, node_says, parts_say}
 use Rattle.schema_parts.specs.declared.keyword.Reply as code
 
 -- ---- where a table's number stands

@@ -25,7 +25,8 @@ use Rattle.schema_contexts.specs.Matches.{settling}
 use Rattle.schema_node.specs.NodeMeets.{NodeMeets}
 use Rattle.schema_node.specs.NodeRuns.{Reading, Reads, child_says, edge_needs}
 use Rattle.schema_contexts.specs.Progress.{Context, Pairs}
-use Rattle.schema_node.specs.RunStates.{Asking, MeetsEdge, MeetsNode, Setting, busy, settled_by}
+use Rattle.schema_answers.specs.Askings.{Asking}
+use Rattle.schema_node.specs.RunStates.{MeetsEdge, MeetsNode, Setting, busy, settled_by}
 use Rattle.schema_node.specs.UnitStates.{ChildGives, ChildTells, EdgeGives, FindsRightly, FindsUnits, FormGives, NodeGives, PartsGive, child_unit, deep_unit, edge_unit, parts_units}
 use Rattle.schema_parts.specs.declared.keyword.Answer as code_answer
 use Rattle.schema_parts.specs.declared.keyword.Reply as code_reply

@@ -20,7 +20,8 @@ use Rattle.schema_parts.specs.FaultViews.{errors_in}
 use Rattle.schema_parts.specs.KeywordViews.{reply_of}
 use Rattle.schema_contexts.specs.Matches.{MeetsEach, Settling, after_match, settling}
 use Rattle.schema_node.specs.NodeMeets.{NodeMeets}
-use Rattle.schema_node.specs.NodeRuns.{NodeReplies, accepts}
+use Rattle.schema_answers.specs.ReplyModes.{accepts}
+use Rattle.schema_node.specs.NodeRuns.{NodeReplies}
 use Rattle.schema_contexts.specs.Progress.{Context, Pairs, Verdicts, busy_at}
 use Rattle.schema_node.specs.RightVerdicts.{AreRight, IsRightVerdict, LaysOut, Layout}
 use Rattle.schema_contexts.specs.Verdicts.{MayKeep, Remembers, is_alone, is_container, is_pair, least_visits, read_verdict, verdict_of}

@@ -1,24 +1,23 @@
--- What a run is made with and does not change, and what it is asked; and what each of its functions answers, over the two.
+-- What a run is made with and does not change; and what each of its functions answers, over this and what is asked.
 use Rattle.std.specs.List.{list_any}
 use Rattle.std.specs.Prelude.{◌≡◌, ◌<◌, ◌≤◌, ◌==◌, ◌∷◌, [], ℕ, Bool, All, List, None, Some, false, length, map, option_map, true}
 use Rattle.serde_json.specs.Data.{Data}
-use Rattle.schema_definitions.specs.Instance.{Place, Subject, Text, subject_at}
+use Rattle.schema_definitions.specs.Instance.{Text}
 use Rattle.schema_reports.specs.InstanceViews.{subject_of}
-use Rattle.schema_definitions.specs.Keywords.{Answer, Keywords, Mode, Question as ChildQuestion, for_units, for_verdict, truth}
-use Rattle.schema_definitions.specs.Meaning.{Where}
+use Rattle.schema_definitions.specs.Keywords.{Answer, Keywords, Question as ChildQuestion, for_units, for_verdict, truth}
 use Rattle.schema_definitions.specs.Matching.{Extends, Matcher, completion_of}
 use Rattle.schema_definitions.specs.Reports.{Outcome}
 use Rattle.schema_reports.specs.ReportViews.{BorrowsItsPlace}
 use Rattle.schema_definitions.specs.Runs.{Run, reply_in}
 use Rattle.schema_definitions.specs.Guarded.{Children, NodeEdge, NodeForm, NodePart, Nodes, guarded_node, guarded_within, node_keyword, node_reference, node_these, yes_run}
 use Rattle.schema_meaning.specs.Numbered.{Ranked, left, subject_in}
-use Rattle.schema_contexts.specs.EvaluationPaths.{path_of}
-use Rattle.schema_node.specs.EvaluationPlaces.{steps_to}
 use Rattle.schema_parts.specs.FaultViews.{PassesBorrowed, errors_in, faults_in}
 use Rattle.schema_parts.specs.KeywordViews.{answer_of, mode_of, reply_of}
 use Rattle.schema_contexts.specs.Matches.{MeetsEach, Settling, settling}
 use Rattle.schema_node.specs.NodeMeets.{ChildMeets, EdgeMeets, EntryMeets, FormMeets, NodeMeets, PartsMeet}
-use Rattle.schema_node.specs.NodeRuns.{ChildReplies, EdgeReplies, FormReplies, NodeReplies, PartsReply, TellsAll, entry_where, reply_by}
+use Rattle.schema_answers.specs.Askings.{Asking, IsAskedOf}
+use Rattle.schema_answers.specs.ReplyModes.{reply_by}
+use Rattle.schema_node.specs.NodeRuns.{ChildReplies, EdgeReplies, FormReplies, NodeReplies, PartsReply, TellsAll}
 use Rattle.schema_nodes.specs.NodeTable.{NodeEntry, numbered}
 use Rattle.schema_parts.specs.EdgeViews.{edge_of}
 use Rattle.schema_contexts.specs.Progress.{Context, NoDeeper, busy_at}
@@ -26,9 +25,8 @@ use Rattle.schema_node.specs.RightVerdicts.{AreRight, LaysOut, Layout}
 use Rattle.schema_contexts.specs.Verdicts.{MayKeep, one_more, read_verdict, verdict_of}
 use Rattle.schema_parts.specs.declared.keyword.Answer as code_answer
 use Rattle.schema_parts.specs.declared.keyword.Reply as code
-use Rattle.schema_node.specs.declared.node.question.Engine.{Engine}
-use Rattle.schema_node.specs.declared.node.question.Question.{Question}
-use Rattle.schema_node.specs.declared.node.question.NamedKeyword.{NamedKeyword}
+use Rattle.schema_answers.specs.declared.question.Engine.{Engine}
+use Rattle.schema_answers.specs.declared.question.NamedKeyword.{NamedKeyword}
 use Rattle.schema_node.specs.declared.node.runs.FirstQuestion.{FirstQuestion}
 
 -- what a run is made with: the keywords as they are read, the numbered nodes and how many there are, and the matcher
@@ -38,13 +36,6 @@ pub record Setting (K R : Type 0) : Type 0 where
   pub nodes : Nodes K
   pub count : ℕ
   pub matcher : Matcher
-
--- what is asked: what stands there, where, by what path, and in which mode
-pub record Asking : Type 0 where
-  pub subject : Subject
-  pub place : Place
-  pub path : Text
-  pub mode : Mode
 
 abbrev pub setting_over : {K R C : Type 0} → (Bool → Keywords K R) → (K → Bool) → (C → K) → List (NodeEntry C) → Matcher → Setting K R
 setting_over words is_whole shape ns matcher = record {
@@ -58,19 +49,8 @@ setting_over words is_whole shape ns matcher = record {
 abbrev pub setting : {K R C M : Type 0} → (Bool → Keywords K R) → (K → Bool) → (C → K) → (M → Matcher) → Engine C M → Setting K R
 setting words is_whole shape matching e = setting_over words is_whole shape e.nodes.now (matching e.matcher.now)
 
-abbrev pub asking : Question → Asking
-asking q = record { subject = subject_of q.instance; place = steps_to q.place.now; path = path_of q.path.now; mode = mode_of q.mode }
-
 abbrev pub asking_first : FirstQuestion → Asking
 asking_first q = record { subject = subject_of q.instance; place = q.place.now; path = q.path.now; mode = mode_of q.mode }
-
--- where a node is at work
-abbrev pub where_asked : {C : Type 0} → NodeEntry C → Asking → Where
-where_asked n q = entry_where n q.path q.place
-
--- in a root value the subject stands at the place
-abbrev pub IsAskedOf : Data → Asking → Type 0
-IsAskedOf root q = subject_at root q.place ≡ Some q.subject
 
 -- the pairs in progress are as before, and what is assumed, and the marks of the keyword's run that is at work
 pub record Keeps (old new : Context) : Type 0 where

@@ -16,7 +16,8 @@ use Rattle.schema_reports.specs.declared.evaluation_order.EntryUnits.{EntryUnits
 use Rattle.schema_parts.specs.KeywordViews.{answer_of, reply_of}
 use Rattle.schema_node.specs.NodeRuns.{Reading, Reads, child_says, edge_needs}
 use Rattle.schema_contexts.specs.Progress.{Context, NoDeeper}
-use Rattle.schema_node.specs.RunStates.{Asking, GoesOn, OfWholeRun, Setting, busy, settled_by}
+use Rattle.schema_answers.specs.Askings.{Asking}
+use Rattle.schema_node.specs.RunStates.{GoesOn, OfWholeRun, Setting, busy, settled_by}
 use Rattle.schema_parts.specs.declared.keyword.Answer as code_answer
 use Rattle.schema_parts.specs.declared.keyword.Reply as code
 

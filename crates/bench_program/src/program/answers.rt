@@ -6,7 +6,7 @@ ghost use Rattle.schema_definitions.specs.Making.{Table};
 ghost use Rattle.schema_definitions.specs.Matching.{Matcher};
 ghost use Rattle.schema_definitions.specs.Resolving.{Resolver};
 ghost use Rattle.schema_reports.specs.ReportViews.{error_of};
-ghost use Rattle.schema_engine.specs.Handed.{Options};
+ghost use Rattle.schema_validator.specs.Handed.{Options};
 ghost use Rattle.bench_resolver.specs.BenchStates.{Point};
 ghost use Rattle.bench_keywords.specs.BenchShape.{BenchShape};
 ghost use Rattle.bench_program.specs.ProgramMeaning.{AnswersFromSomeDepth, AnswersInEverySense, AnswersPlainly, BenchHasUnits, BenchMeans};

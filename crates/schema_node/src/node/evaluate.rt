@@ -7,17 +7,18 @@ ghost use Rattle.schema_nodes.specs.NodeTable.{numbered, shaped_form, shaped_par
 ghost use Rattle.schema_parts.specs.EdgeViews.{edge_of};
 ghost use Rattle.schema_nodes.specs.NodeViews.{entry_of, form_of};
 ghost use Rattle.schema_node.specs.NodeRuns.{HasForm, HasParts, HasChildren};
-ghost use Rattle.schema_node.specs.RunStates.{asking, form_at_work, setting};
+ghost use Rattle.schema_answers.specs.Askings.{asking};
+ghost use Rattle.schema_node.specs.RunStates.{form_at_work, setting};
 ghost use Rattle.schema_node.specs.RunStates.{Keeps, StaysRight};
 ghost use Rattle.schema_node.specs.RunStates.{MeetsChild, MeetsEdge, MeetsForm, MeetsNode, MeetsParts};
 ghost use Rattle.schema_node.specs.UnitStates.{ChildGives, EdgeGives, FormGives, MayEvaluate, NodeGives, PartsGive};
 ghost use Rattle.schema_node.specs.Visits.{LeadsNowhere};
 
-use crate::node::evaluation_place::EvaluationPlace;
-use crate::node::question::{Engine, NamedKeyword, Question};
 use crate::node::run::one_below;
 use crate::node::turns::keyword_answer;
-use crate::node::units::{
+use schema_answers::evaluation_place::EvaluationPlace;
+use schema_answers::question::{Engine, NamedKeyword, Question};
+use schema_answers::units::{
     accepting_unit, entries_unit, refusing_unit, unasked_unit, units_of_keyword, units_of_reference,
 };
 use schema_contexts::marks::child_edge;

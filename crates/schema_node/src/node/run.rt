@@ -11,20 +11,21 @@ ghost use Rattle.schema_nodes.specs.NodeTable.{numbered, shaped_form, shaped_par
 ghost use Rattle.schema_parts.specs.EdgeViews.{edge_of};
 ghost use Rattle.schema_nodes.specs.NodeViews.{entry_of, form_of};
 ghost use Rattle.schema_node.specs.NodeRuns.{HasForm, HasParts, HasChildren};
-ghost use Rattle.schema_node.specs.RunStates.{asking, form_at_work, setting};
+ghost use Rattle.schema_answers.specs.Askings.{asking};
+ghost use Rattle.schema_node.specs.RunStates.{form_at_work, setting};
 ghost use Rattle.schema_node.specs.RunStates.{Keeps, MayRun};
 ghost use Rattle.schema_node.specs.RunStates.{ChildSays, EdgeSays, FormSays, NodeSays, PartsSay};
 ghost use Rattle.schema_node.specs.RunStates.{MeetsChild, MeetsEdge, MeetsEntry, MeetsForm, MeetsNode, MeetsParts};
 ghost use Rattle.schema_node.specs.RunStates.{EdgeRemembers, FormRemembers, NodeRemembers, PartsRemember, StaysRight};
 ghost use Rattle.schema_node.specs.Visits.{EdgeCounts, FormCounts, LeadsNowhere, NodeCounts, PartsCount};
 
-use crate::node::evaluation_place::EvaluationPlace;
-use crate::node::faults::finished;
-use crate::node::question::{Engine, NamedKeyword, Question};
-use crate::node::remembered::{begin_visit, kept_reply, remembered_verdict};
-use crate::node::replies::{accepted, is_settled, is_yes, joined, refused, stamped_reply};
-use crate::node::spots::{after, step_below};
 use crate::node::turns::keyword_answer;
+use schema_answers::evaluation_place::EvaluationPlace;
+use schema_answers::faults::finished;
+use schema_answers::question::{Engine, NamedKeyword, Question};
+use schema_answers::remembered::{begin_visit, kept_reply, remembered_verdict};
+use schema_answers::replies::{accepted, is_settled, is_yes, joined, refused, stamped_reply};
+use schema_answers::spots::{after, step_below};
 use schema_contexts::marks::child_edge;
 use schema_contexts::validation::ValidationContext;
 use schema_nodes::node::{Entry, EntryForm, NodeForm};

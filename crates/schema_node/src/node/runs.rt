@@ -12,9 +12,9 @@ ghost use Rattle.schema_node.specs.UnitStates.{RunGives, evaluating};
 ghost use Rattle.schema_node.specs.Visits.{NodeCounts};
 
 use crate::node::evaluate::evaluate_node;
-use crate::node::evaluation_place::EvaluationPlace;
-use crate::node::question::{Engine, Question};
 use crate::node::run::run_node;
+use schema_answers::evaluation_place::EvaluationPlace;
+use schema_answers::question::{Engine, Question};
 use schema_contexts::evaluation_path::EvaluationPath;
 use schema_contexts::validation::ValidationContext;
 use schema_nodes::node::Nodes;

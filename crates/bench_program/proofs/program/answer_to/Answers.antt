@@ -2,9 +2,9 @@ use Rattle.std.proofs.Common.{List, ap, inl, inr, map, string_bytes, subst}
 use Rattle.schema_definitions.specs.Instance.{Text}
 use Rattle.std.proofs.lemmas.Result.{err_from_is_err_and}
 use Rattle.serde_json.specs.View.{view}
-use Rattle.schema_engine.specs.Handed.{default_nested, default_options, parts_of}
-use Rattle.schema_engine.specs.ProgramOf.{IsProgramOf}
-use Rattle.schema_engine.specs.Roots.{Builds, RefusesBuild}
+use Rattle.schema_validator.specs.Handed.{default_nested, default_options, parts_of}
+use Rattle.schema_validator.specs.ProgramOf.{IsProgramOf}
+use Rattle.schema_validator.specs.Roots.{Builds, RefusesBuild}
 use Rattle.bench_resolver.specs.BenchAnswers.{bench_resolving}
 use Rattle.bench_parts.specs.BenchMatching.{bench_matcher}
 use Rattle.bench_program.specs.ProgramMeaning.{Asked, BenchHasUnits, BenchMeans, IsRefused, bench_table}

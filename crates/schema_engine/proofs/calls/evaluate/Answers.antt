@@ -6,12 +6,11 @@ use Rattle.schema_definitions.specs.Cover.{evaluate}
 use Rattle.schema_definitions.specs.Laws.{EachKeeps}
 use Rattle.schema_meaning.specs.ErrorsLead.{EachKeepsAbsorbing}
 use Rattle.schema_meaning.proofs.TurnsGiveRuns.{keeps_of_turns}
-use Rattle.schema_engine.specs.Evaluated.{EvaluationAnswered, UnitsAnswered}
-use Rattle.schema_engine.specs.Handed.{default_options, default_runs, handed, table_of}
-use Rattle.schema_engine.specs.Nesting.{verdict_in}
-use Rattle.schema_engine.proofs.Greatest.{says_greatest}
-use Rattle.schema_engine.proofs.Pointing.{evaluation_points}
-use Rattle.schema_engine.proofs.PlainAnswers.{plainly_from, plainly_with_units}
+use Rattle.schema_validator.specs.Evaluated.{EvaluationAnswered, UnitsAnswered, verdict_in}
+use Rattle.schema_validator.specs.Handed.{default_options, default_runs, handed, table_of}
+use Rattle.schema_validator.proofs.Pointing.{evaluation_points}
+use Rattle.schema_validator.proofs.PlainAnswers.{plainly_from, plainly_with_units}
+use Rattle.schema_engine.proofs.GreatestCalls.{says_greatest}
 use Rattle.schema_engine.proofs.calls.evaluate.Goals as goal
 
 pub returns-clause-answer : goal.returns-clause-answer

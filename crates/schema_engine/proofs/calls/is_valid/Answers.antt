@@ -6,9 +6,9 @@ use Rattle.schema_definitions.specs.Cover.{is_valid}
 use Rattle.schema_definitions.specs.Laws.{EachKeeps}
 use Rattle.schema_meaning.specs.Headline.{VerdictSays}
 use Rattle.schema_meaning.proofs.TurnsGiveRuns.{keeps_of_turns}
-use Rattle.schema_engine.specs.Handed.{default_options, default_runs, handed, table_of}
-use Rattle.schema_engine.proofs.Greatest.{says_greatest}
-use Rattle.schema_engine.proofs.PlainAnswers.{plainly_from}
+use Rattle.schema_validator.specs.Handed.{default_options, default_runs, handed, table_of}
+use Rattle.schema_validator.proofs.PlainAnswers.{plainly_from}
+use Rattle.schema_engine.proofs.GreatestCalls.{says_greatest}
 use Rattle.schema_engine.proofs.calls.is_valid.Goals as goal
 
 pub returns-clause-answer : goal.returns-clause-answer

@@ -6,11 +6,11 @@ use Rattle.schema_keywords.specs.KeywordTable.{builtin_in}
 use Rattle.schema_definitions.specs.Cover.{iter_errors}
 use Rattle.schema_definitions.specs.Laws.{EachKeeps}
 use Rattle.schema_meaning.proofs.TurnsGiveRuns.{keeps_of_turns}
-use Rattle.schema_engine.specs.Spoken.{ErrorsAnswered}
-use Rattle.schema_engine.specs.Handed.{default_options, default_runs, handed, table_of}
-use Rattle.schema_engine.proofs.Greatest.{says_greatest}
-use Rattle.schema_engine.proofs.Pointing.{each_points}
-use Rattle.schema_engine.proofs.PlainAnswers.{plainly_from}
+use Rattle.schema_validator.specs.Spoken.{ErrorsAnswered}
+use Rattle.schema_validator.specs.Handed.{default_options, default_runs, handed, table_of}
+use Rattle.schema_validator.proofs.Pointing.{each_points}
+use Rattle.schema_validator.proofs.PlainAnswers.{plainly_from}
+use Rattle.schema_engine.proofs.GreatestCalls.{says_greatest}
 use Rattle.schema_engine.proofs.calls.iter_errors.Goals as goal
 
 pub returns-clause-answer : goal.returns-clause-answer

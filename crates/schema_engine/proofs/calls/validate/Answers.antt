@@ -5,12 +5,12 @@ use Rattle.schema_keywords.specs.KeywordTable.{builtin_in}
 use Rattle.schema_definitions.specs.Cover.{validate}
 use Rattle.schema_definitions.specs.Laws.{EachKeeps}
 use Rattle.schema_meaning.proofs.TurnsGiveRuns.{keeps_of_turns}
-use Rattle.schema_engine.specs.Answers.{refusal_of}
-use Rattle.schema_engine.specs.Spoken.{FirstAnswered}
-use Rattle.schema_engine.specs.Handed.{default_options, default_runs, handed, table_of}
-use Rattle.schema_engine.proofs.Greatest.{says_greatest}
-use Rattle.schema_engine.proofs.Pointing.{first_points}
-use Rattle.schema_engine.proofs.PlainAnswers.{plainly_from}
+use Rattle.schema_validator.specs.Answers.{refusal_of}
+use Rattle.schema_validator.specs.Spoken.{FirstAnswered}
+use Rattle.schema_validator.specs.Handed.{default_options, default_runs, handed, table_of}
+use Rattle.schema_validator.proofs.Pointing.{first_points}
+use Rattle.schema_validator.proofs.PlainAnswers.{plainly_from}
+use Rattle.schema_engine.proofs.GreatestCalls.{says_greatest}
 use Rattle.schema_engine.proofs.calls.validate.Goals as goal
 
 pub returns-clause-answer : goal.returns-clause-answer

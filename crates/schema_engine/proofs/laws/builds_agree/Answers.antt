@@ -1,6 +1,6 @@
 use Rattle.std.proofs.Common.{inl, inr}
 use Rattle.std.specs.Prelude.{true}
-use Rattle.schema_engine.specs.Handed.{parts_of}
+use Rattle.schema_validator.specs.Handed.{parts_of}
 use Rattle.schema_engine.specs.Nesting.{handed_to_both}
 use Rattle.schema_engine.proofs.BuildsAgree.{check_fails_for_memory, memory_alone}
 use Rattle.schema_engine.proofs.laws.builds_agree.Goals as goal

@@ -1,4 +1,4 @@
-use Rattle.schema_engine.proofs.Greatest as lemmas
+use Rattle.schema_engine.proofs.GreatestCalls as lemmas
 use Rattle.schema_engine.proofs.laws.finishing_say_greatest.Goals as goal
 
 pub returns-clause-nodes : goal.returns-clause-nodes

@@ -1,4 +1,4 @@
-use Rattle.schema_engine.proofs.Greatest as lemmas
+use Rattle.schema_engine.proofs.GreatestCalls as lemmas
 use Rattle.schema_engine.proofs.laws.greatest_agree.Goals as goal
 
 pub returns-clause-answers : goal.returns-clause-answers

@@ -9,7 +9,7 @@ use Rattle.schema_definitions.specs.Meaning.{both}
 use Rattle.schema_meaning.specs.Numbered.{left, subject_in}
 use Rattle.schema_definitions.specs.Guarded.{node_at, same_edge}
 use Rattle.schema_definitions.specs.Runs.{Met, keyword_met, plan_met}
-use Rattle.schema_node.specs.EvaluationPlaces.{steps_to}
+use Rattle.schema_answers.specs.EvaluationPlaces.{steps_to}
 use Rattle.schema_contexts.specs.EvaluationPaths.{path_of}
 use Rattle.schema_parts.specs.FaultViews.{errors_in, faults_in, PassesBorrowed}
 use Rattle.schema_parts.specs.KeywordViews.{answer_of, mode_of, reply_of}
@@ -18,8 +18,10 @@ use Rattle.schema_parts.specs.EdgeViews.{edge_of}
 use Rattle.schema_nodes.specs.NodeViews.{entry_of}
 use Rattle.schema_contexts.specs.Matches.{MeetsEach, settling}
 use Rattle.schema_node.specs.NodeMeets.{child_run, parts_looked, reading}
-use Rattle.schema_node.specs.NodeRuns.{Reading, Reads, Replies, child_says, edge_needs, parts_say, refuses, reply_by}
-use Rattle.schema_node.specs.RunStates.{PartsRemember, StaysRight, asking, setting}
+use Rattle.schema_answers.specs.ReplyModes.{refuses, reply_by}
+use Rattle.schema_node.specs.NodeRuns.{Reading, Reads, Replies, child_says, edge_needs, parts_say}
+use Rattle.schema_answers.specs.Askings.{asking}
+use Rattle.schema_node.specs.RunStates.{PartsRemember, StaysRight, setting}
 use Rattle.schema_node.specs.Visits.{LeadsNowhere, PartsCount}
 use Rattle.schema_node.proofs.KeywordMeets.{MeetsSoFar}
 use Rattle.schema_contexts.specs.Progress.{busy_at}

@@ -1,0 +1,5 @@
+pub mod AskedMatches
+pub mod FaultsFound
+pub mod MatchSites
+pub mod PointerSteps
+pub mod Stamped

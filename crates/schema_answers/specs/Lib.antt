@@ -1,0 +1,5 @@
+pub mod EvaluationPlaces
+pub mod Askings
+pub mod AnswerModes
+pub mod ReplyModes
+pub mod NodeUnits

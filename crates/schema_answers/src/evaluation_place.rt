@@ -1,0 +1,83 @@
+//! The place at which a node is asked, which allocates nothing until it is asked for.
+ghost use Rattle.std.specs.Prelude.{◌≡◌, ◌++◌, ◌∷◌, [], IfOk};
+ghost use Rattle.schema_reports.specs.InstanceViews.{step_of};
+ghost use Rattle.schema_definitions.specs.Pointer.{pointer_to};
+ghost use Rattle.schema_answers.specs.EvaluationPlaces.{steps_to};
+
+use schema_contexts::shared_place::SharedPlace;
+use schema_reports::instance::{InstanceStep, Place, push_step};
+use schema_reports::location::{Location, OutOfMemory};
+use std::alloc::Global;
+
+/// A place that was given, or the place above a step and the step.
+#[derive(Clone, Copy)]
+pub enum EvaluationPlace<'p, 'i> {
+    Given(&'p Place<'i>),
+    Below(&'p EvaluationPlace<'p, 'i>, InstanceStep<'i>),
+}
+
+impl<'p, 'i> EvaluationPlace<'p, 'i> {
+    /// The place that is given.
+    pub fn given(place: &'p Place<'i>) -> EvaluationPlace<'p, 'i>
+        ensures same { steps_to result ≡ place.now }
+    {
+        EvaluationPlace::Given(place)
+    }
+
+    /// The place one step below.
+    pub fn below(&'p self, step: InstanceStep<'i>) -> EvaluationPlace<'p, 'i>
+        ensures below { steps_to result ≡ steps_to self.now ++ step_of step.entry ∷ [] }
+    {
+        EvaluationPlace::Below(self, step)
+    }
+
+    /// Returns the place as an owned one, with room for so many steps more. Fails only if memory cannot be allocated.
+    pub fn with_room(&self, more: usize) -> Result<Place<'i>, OutOfMemory>
+        ensures same { IfOk result (λ p. p ≡ steps_to self.now) }
+    {
+        match self {
+            EvaluationPlace::Given(place) => place.with_room(more),
+            EvaluationPlace::Below(above, last) => {
+                let mut place = above.with_room(more.saturating_add(1))?;
+                place.push(*last)?;
+                Ok(place)
+            }
+        }
+    }
+
+    // Appends the JSON Pointer of the place to a pointer.
+    fn push_pointer(&self, pointer: &mut Location) -> Result<(), OutOfMemory>
+        ensures pushed { IfOk result (λ _. pointer.new ≡ pointer.old ++ pointer_to (steps_to self.now)) }
+    {
+        match self {
+            EvaluationPlace::Given(place) => place.push_pointer(pointer),
+            EvaluationPlace::Below(above, last) => {
+                above.push_pointer(pointer)?;
+                push_step(pointer, *last)
+            }
+        }
+    }
+
+    /// Returns the JSON Pointer of the place. Fails only if memory cannot be allocated.
+    pub fn pointer(&self, alloc: Global) -> Result<Location, OutOfMemory>
+        ensures pointer { IfOk result (λ l. l ≡ pointer_to (steps_to self.now)) }
+    {
+        let mut pointer = Location::new(alloc);
+        self.push_pointer(&mut pointer)?;
+        Ok(pointer)
+    }
+
+    /// Returns the place as an owned one. Fails only if memory cannot be allocated.
+    pub fn made(&self) -> Result<Place<'i>, OutOfMemory>
+        ensures same { IfOk result (λ p. p ≡ steps_to self.now) }
+    {
+        self.with_room(0)
+    }
+
+    /// Returns the place as one that can be shared. Fails only if memory cannot be allocated.
+    pub fn shared(&self, alloc: Global) -> Result<SharedPlace<'i>, OutOfMemory>
+        ensures same { IfOk result (λ p. p ≡ steps_to self.now) }
+    {
+        SharedPlace::new(alloc, self.made()?)
+    }
+}

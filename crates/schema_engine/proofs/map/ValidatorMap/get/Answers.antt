@@ -1,7 +1,0 @@
-use Rattle.std.proofs.Common.{◌∙◌, ap}
-use Rattle.schema_engine.specs.MapViews.{at_pointer}
-use Rattle.schema_engine.proofs.MapEntries.{found_by}
-use Rattle.schema_engine.proofs.map.ValidatorMap.get.Goals as goal
-
-pub returns : goal.returns
-returns g c = record { found = c.get.ensures.value ∙ found_by c.args.pointer.now c.self.inside.entries.entries ∙ ap (λ es. at_pointer es c.args.pointer.now) c.self.view_is }

@@ -1,0 +1,11 @@
+pub mod Ascending
+pub mod Closing
+pub mod LaidOut
+pub mod Laying
+pub mod Names
+pub mod Numbers
+pub mod Rising
+pub mod Searching
+pub mod Standing
+pub mod Under
+pub mod Walking

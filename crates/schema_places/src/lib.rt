@@ -1,0 +1,5 @@
+//! The places of an instance by number.
+#![tactic(auto)]
+
+pub mod places;
+mod rows;

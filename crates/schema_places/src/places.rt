@@ -1,0 +1,124 @@
+//! The places of an instance, each with its number.
+ghost use Rattle.std.specs.Prelude.{◌≡◌, ◌<◌, ◌≤◌, ◌&&◌, ◌++◌, ◌∷◌, [], ℕ, IfOk, length, map, nat_le};
+ghost use Rattle.schema_definitions.specs.Instance.{places};
+ghost use Rattle.schema_places.specs.Numbers.{Ascends, Closed, NumbersAll, OwnNumbers, is_under, number_of, place_at};
+ghost use Rattle.schema_places.specs.Rows.{BeginsWithin, steps_to};
+ghost use Rattle.schema_reports.specs.InstanceViews.{step_of};
+ghost use Rattle.serde_json.specs.View.{view};
+
+use crate::rows::{Row, push_value};
+use schema_reports::instance::InstanceStep;
+use schema_reports::location::OutOfMemory;
+use serde_json::Value;
+use std::alloc::Global;
+use std::marker::Model;
+
+/// A place by its number, or the place above a step and the step.
+#[derive(Clone, Copy)]
+pub enum NumberedPlace<'p, 'i> {
+    Given(usize),
+    Below(&'p NumberedPlace<'p, 'i>, InstanceStep<'i>),
+}
+
+/// The places of an instance, each with its number: the root is 0; in an object each name comes before its member, in the order of
+/// the names; the items of an array come by index. Contracts see the list of the places, in the order of their numbers.
+#[derive(Drop)]
+pub struct Places<'i> {
+    root: &'i Value,
+    rows: Vec<Row<'i>>,
+}
+
+impl<'i> Model for Places<'i> {
+    ghost use Rattle.std.specs.Prelude.{List};
+    ghost use Rattle.schema_definitions.specs.Instance.{Place};
+    ghost use Rattle.schema_places.specs.Rows.{LaidOut, places_of};
+
+    ghost Value = { List Place };
+
+    ghost view = { λ p. places_of p.root.now };
+
+    ghost invariant = { λ p. LaidOut p.root.now p.rows.items };
+}
+
+impl<'i> Places<'i> {
+    /// Numbers the places of an instance: each place at which something stands gets a number, and no two get the same. Fails only if
+    /// memory cannot be allocated.
+    pub fn number(alloc: Global, value: &'i Value) -> Result<Places<'i>, OutOfMemory>
+        ensures places { IfOk result (λ ps. ps ≡ places (view value.now)) }
+        ensures there { IfOk result (λ ps. NumbersAll (view value.now) ps) }
+        ensures own { IfOk result (λ ps. OwnNumbers ps) }
+        ensures ascend { IfOk result (λ ps. Ascends ps) }
+    {
+        let mut rows = Vec::new(alloc);
+        push_value(alloc, value, &mut rows)?;
+        Ok(Places { root: value, rows })
+    }
+
+    /// Returns how many places there are. It allocates nothing.
+    pub fn len(&self) -> usize
+        ensures count { result ≡ length self.now }
+        ensures own { OwnNumbers self.now }
+        ensures ascend { Ascends self.now }
+        ensures closed { Closed self.now }
+    {
+        self.rows.len()
+    }
+
+    /// Returns the greatest number at or below the place with this number: the places at or below it have the numbers from its own
+    /// to that one, and no others have. It allocates nothing.
+    pub fn last(&self, place: usize) -> usize
+        requires known { place < length self.now }
+        ensures from { place ≤ result }
+        ensures known { result < length self.now }
+        ensures under { (k : ℕ) → k < length self.now
+            → is_under (place_at self.now place) (place_at self.now k)
+            ≡ (nat_le place k && nat_le k result) }
+    {
+        self.rows[place].last()
+    }
+
+    /// Returns the number of the place one step below the place with this number, if there is one. It allocates nothing.
+    pub fn child(&self, place: usize, step: InstanceStep<'_>) -> Option<usize>
+        requires known { place < length self.now }
+        ensures child { result
+            ≡ number_of (place_at self.now place ++ step_of step.entry ∷ []) self.now }
+    {
+        self.rows[place].child(step)
+    }
+
+    /// Returns the number of the place that the steps lead to from the place with this number, if there is such a place. It
+    /// allocates nothing.
+    pub fn find_from(&self, place: usize, steps: &[InstanceStep<'_>]) -> Option<usize>
+        requires known { place < length self.now }
+        ensures number { result
+            ≡ number_of (place_at self.now place ++ map step_of steps.now) self.now }
+    {
+        // Opens the value, so that what its rows say is known below.
+        let _ = &self.rows;
+        let mut number = place;
+        for step in steps {
+            match self.child(number, *step) {
+                Some(below) => number = below,
+                None => return None,
+            }
+        }
+        Some(number)
+    }
+
+    /// Returns the number of a place, if there is such a place, by walking down from the one whose number is given. It allocates
+    /// nothing.
+    pub fn find(&self, place: &NumberedPlace<'_, '_>) -> Option<usize>
+        requires given { BeginsWithin self.now place.now }
+        ensures number { result ≡ number_of (steps_to self.now place.now) self.now }
+    {
+        // Opens the value, so that what its rows say is known below.
+        let _ = &self.rows;
+        match place {
+            NumberedPlace::Given(number) => Some(*number),
+            NumberedPlace::Below(above, step) => match self.find(above) {
+                Some(number) => self.child(number, *step),
+                None => None,
+            },
+        }
+    }
+}

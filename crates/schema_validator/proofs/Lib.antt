@@ -1,0 +1,23 @@
+pub mod DocumentPlaces
+pub mod PlaceNames
+pub mod HeldPlaces
+pub mod DocumentMap
+pub mod MapAnswers
+pub mod FirstCauses
+pub mod OtherParts
+pub mod Remembers
+pub mod Searches
+pub mod ErrorSearches
+mod SharedErrors
+pub mod Built
+pub mod Compilations
+pub mod RootKeys
+pub mod PlainAnswers
+pub mod Reaches
+pub mod Pointing
+mod ClonedValidators
+mod MapEntries
+mod EntryFailures
+mod CompiledAlone
+pub mod Verdicts
+pub mod Greatest

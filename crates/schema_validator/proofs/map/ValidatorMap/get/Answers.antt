@@ -1,0 +1,7 @@
+use Rattle.std.proofs.Common.{◌∙◌, ap}
+use Rattle.schema_validator.specs.MapViews.{at_pointer}
+use Rattle.schema_validator.proofs.MapEntries.{found_by}
+use Rattle.schema_validator.proofs.map.ValidatorMap.get.Goals as goal
+
+pub returns : goal.returns
+returns g c = record { found = c.get.ensures.value ∙ found_by c.args.pointer.now c.self.inside.entries.entries ∙ ap (λ es. at_pointer es c.args.pointer.now) c.self.view_is }

@@ -1,0 +1,103 @@
+use Rattle.std.proofs.Common.{◌≡◌, ◌∙◌, [], Bool, List, subst, sym}
+use Rattle.std.specs.Prelude.{IfErr, IfOk, None, Some, flat_map, option_map, string_bytes}
+use Rattle.std.proofs.lemmas.Result.{IfErr-weaker, IfOk-weaker, err_from_is_err_and}
+use Rattle.serde_json.specs.View.{view}
+use Rattle.schema_definitions.specs.Instance.{Place}
+use Rattle.schema_keywords.specs.KeywordViews.{draft_of}
+use Rattle.schema_meaning.specs.Refusals.{undeclared}
+use Rattle.schema_keys.specs.Alone.{RefusesVocabularies}
+use Rattle.schema_keys.specs.Builtins.{builtin}
+use Rattle.schema_compiler.specs.Compilation.{all_parts}
+use Rattle.schema_keys.specs.Compiling.{Each}
+use Rattle.schema_keys.specs.KeyViews.{key_of}
+use Rattle.schema_validator.specs.DocumentSchemas.{IndicesFit, schemas_of}
+use Rattle.schema_validator.specs.Entries.{HoldsPlaces, RefusesOneOf}
+use Rattle.schema_validator.specs.Handed.{Options, handed}
+use Rattle.schema_validator.proofs.FirstCauses.{document_first_in_map, entry_first, vocabulary_first}
+use Rattle.schema_validator.proofs.MapAnswers.{refuses_entry, refuses_schema, refuses_vocabularies}
+use Rattle.schema_validator.proofs.options.map.MapBuilding.checked_map.Goals as goal
+
+pub returns-in_err-validate_schema-clause-refused :
+    goal.returns-in_err-validate_schema-clause-refused
+returns-in_err-validate_schema-clause-refused g c =
+    let self = c.args.self.now in
+    let h = handed g.S.Resolver g.T.KeywordTable g.K.Validate g.M.Matcher self.resolver.now self.table.now self.matcher.now in
+    let root = key_of g.S.Resolver.point self.root.now in
+    let p = err_from_is_err_and c.from_residual.result c.from_residual.ensures.1 in
+    rw (p.1, p.2) (refuses_schema h self.options.now (view self.schema.now) root c.requires.root (g.V.MetaValidators.checked c.args.metas.now) _ c.in_err-validate_schema.ensures.refused)
+
+pub returns-in_err-validate_schema-clause-first : goal.returns-in_err-validate_schema-clause-first
+returns-in_err-validate_schema-clause-first g c =
+    let self = c.args.self.now in
+    let h = handed g.S.Resolver g.T.KeywordTable g.K.Validate g.M.Matcher self.resolver.now self.table.now self.matcher.now in
+    let root = key_of g.S.Resolver.point self.root.now in
+    let p = err_from_is_err_and c.from_residual.result c.from_residual.ensures.1 in
+    rw (p.1, p.2) (document_first_in_map h (g.V.MetaValidators.checked c.args.metas.now) self.options.now (view self.schema.now) root c.requires.root _ c.in_err-validate_schema.ensures.refused)
+
+pub returns-in_err-check_vocabularies-clause-refused :
+    goal.returns-in_err-check_vocabularies-clause-refused
+returns-in_err-check_vocabularies-clause-refused g c =
+    let self = c.args.self.now in
+    let h = handed g.S.Resolver g.T.KeywordTable g.K.Validate g.M.Matcher self.resolver.now self.table.now self.matcher.now in
+    let root = key_of g.S.Resolver.point self.root.now in
+    let inside = c.options.inside in
+    let e = c.in_err-check_vocabularies.field-0.0 in
+    let why = λ (texts : Bool). subst (λ (o : Options). RefusesVocabularies (all_parts h.resolver (record { owns = h.table.owns; builtin = builtin; script = h.table.script }) o.formats o.declared h.matcher (h.words texts) o.draft o.base) root e) c.options.view_is
+    (c.in_err-check_vocabularies.ensures.refused h.matcher (h.words texts) (option_map draft_of inside.draft) (option_map string_bytes inside.base)) in
+    let p = err_from_is_err_and c.from_residual-in_err-check_vocabularies.result c.from_residual-in_err-check_vocabularies.ensures.1 in
+    rw (p.1, p.2) (refuses_vocabularies h self.options.now (view self.schema.now) root c.requires.root (g.V.MetaValidators.checked c.args.metas.now) e why)
+
+pub returns-in_err-check_vocabularies-clause-first :
+    goal.returns-in_err-check_vocabularies-clause-first
+returns-in_err-check_vocabularies-clause-first g c =
+    let self = c.args.self.now in
+    let h = handed g.S.Resolver g.T.KeywordTable g.K.Validate g.M.Matcher self.resolver.now self.table.now self.matcher.now in
+    let root = key_of g.S.Resolver.point self.root.now in
+    let inside = c.options.inside in
+    let e = c.in_err-check_vocabularies.field-0.0 in
+    let why = λ (texts : Bool). subst (λ (o : Options). RefusesVocabularies (all_parts h.resolver (record { owns = h.table.owns; builtin = builtin; script = h.table.script }) o.formats o.declared h.matcher (h.words texts) o.draft o.base) root e) c.options.view_is
+    (c.in_err-check_vocabularies.ensures.refused h.matcher (h.words texts) (option_map draft_of inside.draft) (option_map string_bytes inside.base)) in
+    let p = err_from_is_err_and c.from_residual-in_err-check_vocabularies.result c.from_residual-in_err-check_vocabularies.ensures.1 in
+    rw (p.1, p.2) (vocabulary_first h (g.V.MetaValidators.checked c.args.metas.now) self.options.now (view self.schema.now) root c.requires.root c.in_ok-validate_schema.ensures.accepted e why)
+
+pub returns-in_ok-paths-in-Some : goal.returns-in_ok-paths-in-Some
+returns-in_ok-paths-in-Some g c =
+    let self = c.args.self.now in
+    let h = handed g.S.Resolver g.T.KeywordTable g.K.Validate g.M.Matcher self.resolver.now self.table.now self.matcher.now in
+    let options = self.options.now in
+    let schema = view self.schema.now in
+    let refuses = g.V.MetaValidators.checked c.args.metas.now in
+    let root = key_of g.S.Resolver.point self.root.now in
+    let inside = c.options.inside in
+    let declared = λ (texts : Bool). subst (λ (o : Options). flat_map (undeclared (all_parts h.resolver (record { owns = h.table.owns; builtin = builtin; script = h.table.script }) o.formats o.declared h.matcher (h.words texts) o.draft o.base)) root.target.vocabularies ≡ []) c.options.view_is
+    (c.in_ok-check_vocabularies.ensures.declared h.matcher (h.words texts) (option_map draft_of inside.draft) (option_map string_bytes inside.base)) in
+    let document = view c.in-Some.document.now in
+    let made = c.map_of.result in
+    let refused : IfErr made (RefusesOneOf h options root (schemas_of (Some document))) =
+    subst (λ (ps : List Place). IfErr made (RefusesOneOf h options root ps)) (c.as_slice.ensures.value ∙ c.in_ok-paths-in-Some.ensures.schemas) c.map_of.ensures.refused in
+    let held : IfOk made (HoldsPlaces h options schema root (schemas_of (Some document))) =
+    subst (λ (ps : List Place). IfOk made (HoldsPlaces h options schema root ps)) (c.as_slice.ensures.value ∙ c.in_ok-paths-in-Some.ensures.schemas) c.map_of.ensures.holds in
+    let fit = subst (Each IndicesFit) c.in_ok-paths-in-Some.ensures.schemas c.in_ok-paths-in-Some.ensures.fit in
+    record {
+      made = IfOk-weaker made _ _ (λ m is. record { accepted = c.in_ok-validate_schema.ensures.accepted; declared = declared; document = Some document; stands = sym c.in-Some.ensures.value; fit = fit; held = is }) held;
+      refused = IfErr-weaker made _ _ (refuses_entry h options schema root c.requires.root refuses (Some document) (sym c.in-Some.ensures.value)) refused;
+      first = IfErr-weaker made _ _ (entry_first h refuses options schema root c.requires.root c.in_ok-validate_schema.ensures.accepted declared (Some document) (sym c.in-Some.ensures.value)) refused;
+    }
+
+pub returns-in-None : goal.returns-in-None
+returns-in-None g c =
+    let self = c.args.self.now in
+    let h = handed g.S.Resolver g.T.KeywordTable g.K.Validate g.M.Matcher self.resolver.now self.table.now self.matcher.now in
+    let options = self.options.now in
+    let schema = view self.schema.now in
+    let refuses = g.V.MetaValidators.checked c.args.metas.now in
+    let root = key_of g.S.Resolver.point self.root.now in
+    let inside = c.options.inside in
+    let declared = λ (texts : Bool). subst (λ (o : Options). flat_map (undeclared (all_parts h.resolver (record { owns = h.table.owns; builtin = builtin; script = h.table.script }) o.formats o.declared h.matcher (h.words texts) o.draft o.base)) root.target.vocabularies ≡ []) c.options.view_is
+    (c.in_ok-check_vocabularies.ensures.declared h.matcher (h.words texts) (option_map draft_of inside.draft) (option_map string_bytes inside.base)) in
+    let made = c.map_of-in-None.result in
+    record {
+      made = IfOk-weaker made _ _ (λ m is. record { accepted = c.in_ok-validate_schema.ensures.accepted; declared = declared; document = None; stands = sym c.in-None.ensures.value; fit = tt; held = is }) c.map_of-in-None.ensures.holds;
+      refused = IfErr-weaker made _ _ (refuses_entry h options schema root c.requires.root refuses None (sym c.in-None.ensures.value)) c.map_of-in-None.ensures.refused;
+      first = IfErr-weaker made _ _ (entry_first h refuses options schema root c.requires.root c.in_ok-validate_schema.ensures.accepted declared None (sym c.in-None.ensures.value)) c.map_of-in-None.ensures.refused;
+    }

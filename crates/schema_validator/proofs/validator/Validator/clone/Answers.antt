@@ -1,0 +1,25 @@
+use Rattle.std.proofs.Common.{◌∙◌, ap, length}
+use Rattle.schema_nodes.specs.NodeTable.{numbered}
+use Rattle.schema_validator.specs.Program.{Program}
+use Rattle.schema_validator.proofs.ClonedValidators.{answer_same, say_same}
+use Rattle.schema_validator.proofs.validator.Validator.clone.Goals as goal
+
+pub returns-clause-says : goal.returns-clause-says
+returns-clause-says g c =
+    let same = c.self.view_is in
+    say_same g.K.Validate g.M.Matcher _ c.args.self.now
+    (c.in_ok-clone.ensures.numbered ∙ ap (λ (p : Program g.row.K.Denot g.row.M.Denot). numbered g.K.Validate.shape p.nodes) same)
+    (c.in_ok-clone.ensures.count ∙ ap (λ (p : Program g.row.K.Denot g.row.M.Denot). length p.nodes) same)
+    (ap (λ (p : Program g.row.K.Denot g.row.M.Denot). p.root) same)
+    (g.met.M.Matcher.cloned c.self.inside.matcher c.in_ok-clone-2.field-0 c.in_ok-clone-2.ensures.cases ∙ ap (λ (p : Program g.row.K.Denot g.row.M.Denot). g.M.Matcher.matching p.matcher) same)
+    (ap (λ (p : Program g.row.K.Denot g.row.M.Denot). p.runs) same)
+
+pub returns-clause-answers : goal.returns-clause-answers
+returns-clause-answers g c =
+    let same = c.self.view_is in
+    answer_same g.K.Validate g.M.Matcher _ c.args.self.now
+    (c.in_ok-clone.ensures.numbered ∙ ap (λ (p : Program g.row.K.Denot g.row.M.Denot). numbered g.K.Validate.shape p.nodes) same)
+    (c.in_ok-clone.ensures.count ∙ ap (λ (p : Program g.row.K.Denot g.row.M.Denot). length p.nodes) same)
+    (ap (λ (p : Program g.row.K.Denot g.row.M.Denot). p.root) same)
+    (g.met.M.Matcher.cloned c.self.inside.matcher c.in_ok-clone-2.field-0 c.in_ok-clone-2.ensures.cases ∙ ap (λ (p : Program g.row.K.Denot g.row.M.Denot). g.M.Matcher.matching p.matcher) same)
+    (ap (λ (p : Program g.row.K.Denot g.row.M.Denot). p.runs) same)

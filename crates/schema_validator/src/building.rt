@@ -1,0 +1,73 @@
+//! Validators by the default options.
+ghost use Rattle.std.specs.Prelude.{◌≡◌, IfOk, IfErr};
+ghost use Rattle.serde_json.specs.View.{view};
+ghost use Rattle.schema_validator.specs.Called.{HasPlainUnits, IsCompiledFrom, MeansPlainly, PointsPlainly, SchemaBuilds, BuildRefused};
+ghost use Rattle.schema_validator.specs.Checked.{PassesCheck};
+ghost use Rattle.schema_validator.specs.FirstCauses.{FirstOfBuild};
+ghost use Rattle.schema_validator.specs.Greatest.{AcceptsAsSchema};
+ghost use Rattle.schema_validator.specs.Handed.{default_nested, default_options, handed};
+
+use crate::options::ValidationOptions;
+use crate::validator::Validator;
+use schema_keys::error::BuildError;
+use schema_parts::keyword::Validate;
+use schema_parts::matcher::Matcher;
+use schema_parts::meta::MetaValidators;
+use schema_parts::resolver::Resolver;
+use schema_parts::table::KeywordTable;
+use serde_json::Value;
+use std::alloc::Global;
+
+impl<K: Validate, M: Matcher> Validator<K, M> {
+    /// Returns the default options: schemas are checked, nothing else is set, no vocabulary is declared, 65,536 keys may be
+    /// reached, 8 targets of references are compiled one inside another, and a call makes 64 runs at most. Allocates nothing.
+    pub fn options(alloc: Global) -> ValidationOptions
+        ensures defaults { result ≡ default_options }
+    {
+        ValidationOptions::new(alloc)
+    }
+
+    /// Builds a validator of a schema by the default options, as `ValidationOptions::build` does.
+    ///
+    /// # Errors
+    ///
+    /// Fails if the schema, or one that it reaches, is refused, if the meta validators refuse it, if more keys are reached than the
+    /// limit, or out of memory. Of several causes the first is named, as by `ValidationOptions::build`.
+    pub fn new<S: Resolver, T: KeywordTable<K>, V: MetaValidators>(
+        alloc: Global,
+        schema: &Value,
+        table: &T,
+        resolver: &S,
+        matcher: &M,
+        metas: &V,
+    ) -> Result<Validator<K, M>, BuildError>
+        ensures means { IfOk result (λ v. MeansPlainly
+            (handed S.Resolver T.KeywordTable K.Validate M.Matcher.own resolver.now table.now matcher.now)
+            default_options (view schema.now) v) }
+        ensures units { IfOk result (λ v. HasPlainUnits
+            (handed S.Resolver T.KeywordTable K.Validate M.Matcher.own resolver.now table.now matcher.now)
+            default_options (view schema.now) v) }
+        ensures points { IfOk result (λ v. PointsPlainly
+            (handed S.Resolver T.KeywordTable K.Validate M.Matcher.own resolver.now table.now matcher.now)
+            default_options (view schema.now) v) }
+        ensures greatest { IfOk result (λ v. AcceptsAsSchema
+            (handed S.Resolver T.KeywordTable K.Validate M.Matcher.own resolver.now table.now matcher.now)
+            default_options (view schema.now) v) }
+        ensures program { IfOk result (λ v. IsCompiledFrom
+            (handed S.Resolver T.KeywordTable K.Validate M.Matcher.own resolver.now table.now matcher.now)
+            default_options (view schema.now) default_nested v) }
+        ensures built { IfOk result (λ _. SchemaBuilds
+            (handed S.Resolver T.KeywordTable K.Validate M.Matcher.own resolver.now table.now matcher.now)
+            default_options (view schema.now)) }
+        ensures passed { IfOk result (λ _. PassesCheck (S.resolving resolver.now) (V.checked metas.now)
+            default_options (view schema.now)) }
+        ensures refused { IfErr result (λ e. BuildRefused
+            (handed S.Resolver T.KeywordTable K.Validate M.Matcher.own resolver.now table.now matcher.now)
+            (V.checked metas.now) default_options (view schema.now) e) }
+        ensures first { IfErr result (λ e. FirstOfBuild
+            (handed S.Resolver T.KeywordTable K.Validate M.Matcher.own resolver.now table.now matcher.now)
+            (V.checked metas.now) default_options (view schema.now) e) }
+    {
+        Validator::<K, M>::options(alloc).build(alloc, schema, table, resolver, matcher, metas)
+    }
+}

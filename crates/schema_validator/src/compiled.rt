@@ -1,0 +1,80 @@
+//! Validators of compiled nodes.
+ghost use Rattle.std.specs.Prelude.{◌≡◌, ◌<◌, ◌≤◌, IfOk, length};
+ghost use Rattle.schema_keywords.specs.KeywordViews.{draft_of};
+ghost use Rattle.schema_validator.specs.Called.{HasUnitsAsCompiled, MeansAsCompiled};
+ghost use Rattle.schema_validator.specs.Handed.{default_runs, handed};
+
+use crate::validator::Validator;
+use schema_keywords::keywords::Draft;
+use schema_nodes::node::Nodes;
+use schema_parts::keyword::Validate;
+use schema_parts::matcher::Matcher;
+use schema_parts::numbers::SchemaNode;
+use schema_parts::resolver::Resolver;
+use schema_parts::table::KeywordTable;
+use schema_reports::location::OutOfMemory;
+use schema_search::unfinished_matches::MAX_ASSUMED_RUNS;
+use std::alloc::Global;
+
+/// Builds a validator from compiled nodes, the number of a key's node and the root's draft. Where the nodes are compiled from
+/// this key and no chain of references returns, the validator means the key's plain meaning and has its units. The matcher is
+/// cloned. Its calls make 64 runs at most.
+///
+/// # Errors
+///
+/// Fails out of memory, for the matcher's clone.
+pub fn of_compiled<S: Resolver, T: KeywordTable<K>, K: Validate, M: Matcher>(
+    table: &T,
+    resolver: &S,
+    matcher: &M,
+    nodes: Nodes<K>,
+    root: SchemaNode,
+    draft: Draft,
+) -> Result<Validator<K, M>, OutOfMemory>
+    requires inside { root.0 < length nodes }
+    ensures made { IfOk result (λ v. (v.nodes ≡ nodes) × (v.root ≡ root.0) × (v.draft ≡ draft_of draft)) }
+    ensures runs { IfOk result (λ v. v.runs ≡ default_runs) }
+    ensures matcher { IfOk result (λ v. M.matching v.matcher ≡ M.matching matcher.now) }
+    ensures means { IfOk result (λ v. MeansAsCompiled
+        (handed S.Resolver T.KeywordTable K.Validate M.Matcher.own resolver.now table.now matcher.now)
+        nodes root.0 v) }
+    ensures units { IfOk result (λ v. HasUnitsAsCompiled
+        (handed S.Resolver T.KeywordTable K.Validate M.Matcher.own resolver.now table.now matcher.now)
+        nodes root.0 v) }
+{
+    of_compiled_within(
+        table,
+        resolver,
+        matcher,
+        nodes,
+        root,
+        draft,
+        MAX_ASSUMED_RUNS,
+    )
+}
+
+/// Builds a validator as `of_compiled` does, whose calls make so many runs at most.
+pub(crate) fn of_compiled_within<S: Resolver, T: KeywordTable<K>, K: Validate, M: Matcher>(
+    table: &T,
+    resolver: &S,
+    matcher: &M,
+    nodes: Nodes<K>,
+    root: SchemaNode,
+    draft: Draft,
+    run_limit: u32,
+) -> Result<Validator<K, M>, OutOfMemory>
+    requires inside { root.0 < length nodes }
+    requires limit { 1 ≤ run_limit }
+    ensures made { IfOk result (λ v. (v.nodes ≡ nodes) × (v.root ≡ root.0) × (v.draft ≡ draft_of draft)) }
+    ensures runs { IfOk result (λ v. v.runs ≡ run_limit) }
+    ensures matcher { IfOk result (λ v. M.matching v.matcher ≡ M.matching matcher.now) }
+    ensures means { IfOk result (λ v. MeansAsCompiled
+        (handed S.Resolver T.KeywordTable K.Validate M.Matcher.own resolver.now table.now matcher.now)
+        nodes root.0 v) }
+    ensures units { IfOk result (λ v. HasUnitsAsCompiled
+        (handed S.Resolver T.KeywordTable K.Validate M.Matcher.own resolver.now table.now matcher.now)
+        nodes root.0 v) }
+{
+    let matcher = matcher.clone()?;
+    Ok(Validator::of_nodes_within(nodes, root, draft, matcher, run_limit))
+}

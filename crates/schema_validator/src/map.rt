@@ -1,0 +1,95 @@
+//! The validators of a document's schemas, by their pointers.
+ghost use Rattle.std.specs.Prelude.{◌≡◌, ◌↔◌, [], OnOk, IsTrue, Some};
+ghost use Rattle.std.specs.Prelude.{bytes_eq, if◌then◌else◌, is_some, length, map, option_copied, string_bytes};
+ghost use Rattle.std.specs.Map.{keys_of};
+ghost use Rattle.schema_definitions.specs.Instance.{Text};
+ghost use Rattle.schema_validator.specs.MapViews.{EachOnce, at_pointer};
+
+pub(crate) mod schemas;
+
+use crate::validator::Validator;
+use schema_reports::location::OutOfMemory;
+use std::alloc::Global;
+use std::collections::BTreeMap;
+use std::collections::btree_map::Keys;
+use std::marker::Model;
+
+/// Validators by pointers. Contracts see the list of the pointers, each with what its validator is made of. A look-up
+/// compares the pointer with about as many others as the logarithm of their number.
+#[derive(Drop)]
+pub struct ValidatorMap<K, M> {
+    entries: BTreeMap<String, Validator<K, M>>,
+}
+
+impl<K, M> Model for ValidatorMap<K, M> {
+    ghost use Rattle.schema_validator.specs.Program.{Program};
+    ghost use Rattle.schema_validator.specs.MapViews.{Entries, entries_of};
+    ghost use Rattle.serde_json.specs.contracts.value.Value as value;
+    ghost use Rattle.std.specs.Coded.{codes};
+
+    ghost Value = { Entries (Program K M) };
+
+    ghost coded = { Prim.hlevel (codes, value.the_row.coded) };
+
+    ghost view = { λ m. entries_of m.entries };
+}
+
+impl<K: Drop, M: Drop> ValidatorMap<K, M> {
+    /// Returns the map with no pointer. It allocates nothing.
+    pub(crate) fn new(alloc: Global) -> ValidatorMap<K, M>
+        ensures empty { result ≡ [] }
+    {
+        ValidatorMap {
+            entries: BTreeMap::new(alloc),
+        }
+    }
+
+    /// Puts a validator at a pointer, in the place of the one that is there. Fails only out of memory.
+    pub(crate) fn insert(
+        &mut self,
+        pointer: String,
+        validator: Validator<K, M>,
+    ) -> Result<(), OutOfMemory>
+        ensures set { OnOk result ((other : Text) → at_pointer self.new other ≡
+            (if bytes_eq (string_bytes pointer) other then Some validator else at_pointer self.old other)) }
+    {
+        self.entries.insert(pointer, validator)?;
+        Ok(())
+    }
+
+    /// Returns the validator at a pointer, if there is one. It allocates nothing.
+    pub fn get(&self, pointer: &str) -> Option<&Validator<K, M>>
+        ensures found { option_copied result ≡ at_pointer self.now pointer.now }
+    {
+        self.entries.get(pointer)
+    }
+
+    /// Returns `true` if there is a validator at the pointer. It allocates nothing.
+    pub fn contains_key(&self, pointer: &str) -> bool
+        ensures found { result ≡ is_some (at_pointer self.now pointer.now) }
+    {
+        self.entries.contains_key(pointer)
+    }
+
+    /// Returns the pointers, each once. It allocates nothing.
+    pub fn keys(&self) -> Keys<'_, String, Validator<K, M>>
+        ensures keys { map string_bytes result ≡ keys_of self.now }
+        ensures once { EachOnce self.now }
+    {
+        self.entries.keys()
+    }
+
+    /// Returns the number of pointers. It allocates nothing.
+    pub fn len(&self) -> usize
+        ensures count { result ≡ length self.now }
+    {
+        self.entries.len()
+    }
+
+    /// Returns `true` if there is no pointer. It allocates nothing.
+    pub fn is_empty(&self) -> bool
+        ensures empty { IsTrue result ↔ (self.now ≡ []) }
+    {
+        self.entries.is_empty()
+    }
+}

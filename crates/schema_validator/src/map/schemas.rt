@@ -1,0 +1,96 @@
+//! The places of a document's schemas: of its objects and booleans.
+ghost use Rattle.std.specs.Prelude.{◌≡◌, ◌++◌, ◌∷◌, [], IfOk};
+ghost use Rattle.serde_json.specs.View.{items_view, members_view, view};
+ghost use Rattle.schema_parts.specs.SchemaViews.{schema_step_of};
+ghost use Rattle.schema_keys.specs.Compiling.{Each};
+ghost use Rattle.schema_validator.specs.DocumentSchemas.{IndicesFit, schemas_in, schemas_in_items, schemas_in_members};
+
+use schema_parts::schema_place::{SchemaPath, SchemaStep};
+use schema_reports::location::OutOfMemory;
+use serde_json::{Map, Value};
+use std::alloc::Global;
+use std::rc::RcStr;
+
+/// Returns the paths of the objects and booleans of a document, in the order of its text, the outer ones first. Fails only out
+/// of memory.
+pub(crate) fn schemas_in(alloc: Global, document: &Value) -> Result<Vec<SchemaPath>, OutOfMemory>
+    ensures schemas { IfOk result (λ v. v.items ≡ schemas_in [] (view document.now)) }
+    ensures fit { IfOk result (λ v. Each IndicesFit v.items) }
+{
+    let mut paths = Vec::new(alloc);
+    push_schemas(alloc, &SchemaPath::root(alloc), document, &mut paths)?;
+    Ok(paths)
+}
+
+/// The path one step below a path.
+fn one_below(path: &SchemaPath, step: SchemaStep) -> Result<SchemaPath, OutOfMemory>
+    ensures below { IfOk result (λ p. p ≡ path.now ++ schema_step_of step ∷ []) }
+{
+    let mut below = path.clone()?;
+    below.push(step)?;
+    Ok(below)
+}
+
+/// Adds the paths of the schemas of the value at a path.
+#[cycle(walk)]
+fn push_schemas(
+    alloc: Global,
+    path: &SchemaPath,
+    value: &Value,
+    paths: &mut Vec<SchemaPath>,
+) -> Result<(), OutOfMemory>
+    ensures added { IfOk result (λ _. paths.new.items ≡ paths.old.items ++ schemas_in path.now (view value.now)) }
+    ensures fit { IfOk result (λ _. IndicesFit path.now → Each IndicesFit paths.old.items → Each IndicesFit paths.new.items) }
+{
+    match value {
+        Value::Bool(_) => {
+            paths.push(path.clone()?)?;
+            Ok(())
+        }
+        Value::Object(members) => {
+            paths.push(path.clone()?)?;
+            push_member_schemas(alloc, path, members, paths)
+        }
+        Value::Array(items) => push_item_schemas(alloc, path, items, paths),
+        _ => Ok(()),
+    }
+}
+
+/// Adds those of the items of the array at a path.
+#[cycle(walk)]
+fn push_item_schemas(
+    alloc: Global,
+    path: &SchemaPath,
+    items: &Vec<Value>,
+    paths: &mut Vec<SchemaPath>,
+) -> Result<(), OutOfMemory>
+    ensures added { IfOk result (λ _. paths.new.items ≡
+        paths.old.items ++ schemas_in_items path.now 0 (items_view items.now.items)) }
+    ensures fit { IfOk result (λ _. IndicesFit path.now → Each IndicesFit paths.old.items → Each IndicesFit paths.new.items) }
+{
+    for (index, item) in items.iter().enumerate() {
+        let below = one_below(path, SchemaStep::Item(index))?;
+        push_schemas(alloc, &below, item, paths)?;
+    }
+    Ok(())
+}
+
+/// Adds those of the members of the object at a path.
+#[cycle(walk)]
+fn push_member_schemas(
+    alloc: Global,
+    path: &SchemaPath,
+    members: &Map<String, Value>,
+    paths: &mut Vec<SchemaPath>,
+) -> Result<(), OutOfMemory>
+    ensures added { IfOk result (λ _. paths.new.items ≡
+        paths.old.items ++ schemas_in_members path.now (members_view members.now.entries)) }
+    ensures fit { IfOk result (λ _. IndicesFit path.now → Each IndicesFit paths.old.items → Each IndicesFit paths.new.items) }
+{
+    for (name, member) in members.iter() {
+        let step = SchemaStep::Member(RcStr::from_str(alloc, name.as_str())?);
+        let below = one_below(path, step)?;
+        push_schemas(alloc, &below, member, paths)?;
+    }
+    Ok(())
+}

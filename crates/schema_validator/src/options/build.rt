@@ -1,0 +1,182 @@
+//! Building a validator.
+ghost use Rattle.std.specs.Prelude.{◌≡◌, IfOk, IfErr, true};
+ghost use Rattle.serde_json.specs.View.{view};
+ghost use Rattle.schema_validator.specs.Called.{HasPlainUnits, IsCompiledFrom, MeansPlainly, PointsPlainly, SchemaBuilds, BuildRefused};
+ghost use Rattle.schema_keywords.specs.KeywordViews.{draft_of};
+ghost use Rattle.schema_parts.specs.ResolverViews.{place_of};
+ghost use Rattle.schema_check.specs.Checking.{AcceptsSchema, RefusesSchema};
+ghost use Rattle.schema_validator.specs.Checked.{PassesCheck};
+ghost use Rattle.schema_validator.specs.FirstCauses.{FirstOfBuild};
+ghost use Rattle.schema_validator.specs.Greatest.{AcceptsAsSchema};
+ghost use Rattle.schema_validator.specs.Handed.{handed};
+
+use crate::compiled::of_compiled_within;
+use crate::options::ValidationOptions;
+use crate::options::root::root_key;
+use crate::validator::Validator;
+use schema_check::check::validate_schema;
+use schema_compiler::compiler::compile;
+use schema_keys::error::BuildError;
+use schema_keys::key::SchemaKey;
+use schema_parts::keyword::Validate;
+use schema_parts::matcher::Matcher;
+use schema_parts::meta::MetaValidators;
+use schema_parts::numbers::SchemaNode;
+use schema_parts::resolver::Resolver;
+use schema_parts::table::KeywordTable;
+use serde_json::Value;
+use std::alloc::Global;
+
+impl ValidationOptions {
+    /// Builds a validator of a schema. The resolver has to have the schema as the document under the root's base: that is
+    /// what is compiled, and what the contract speaks of. Where no chain of references returns, the validator means the plain
+    /// meaning of schema and parts, and has its units. Returns or none, each error that it gives points at a keyword of the
+    /// schema and at a value inside the instance. Where each keyword of what the root reaches is monotone, the validator accepts
+    /// exactly where the greatest solution does: the largest set of targets and places, each of which accepts where exactly those
+    /// of the set do. As many targets of references are compiled one inside another as the options
+    /// say, and the validator's calls make as many runs at most as they say. Unless the
+    /// options say otherwise, the meta validators check the schema before it is compiled.
+    ///
+    /// # Errors
+    ///
+    /// Fails if the schema's root, or a schema that it reaches, is refused, if more keys are reached than the limit, or out of
+    /// memory. The error names a cause of that refusal. Where the schema is checked, fails also with the error of a document of
+    /// it that the meta validators refuse. Of several causes the first is named: the draft, the base, the first document that is
+    /// refused, the first vocabulary of the root that is not declared, and then what is compiled.
+    pub fn build<S: Resolver, T: KeywordTable<K>, K: Validate, M: Matcher, V: MetaValidators>(
+        &self,
+        alloc: Global,
+        schema: &Value,
+        table: &T,
+        resolver: &S,
+        matcher: &M,
+        metas: &V,
+    ) -> Result<Validator<K, M>, BuildError>
+        ensures means { IfOk result (λ v. MeansPlainly
+            (handed S.Resolver T.KeywordTable K.Validate M.Matcher.own resolver.now table.now matcher.now)
+            self.now (view schema.now) v) }
+        ensures units { IfOk result (λ v. HasPlainUnits
+            (handed S.Resolver T.KeywordTable K.Validate M.Matcher.own resolver.now table.now matcher.now)
+            self.now (view schema.now) v) }
+        ensures points { IfOk result (λ v. PointsPlainly
+            (handed S.Resolver T.KeywordTable K.Validate M.Matcher.own resolver.now table.now matcher.now)
+            self.now (view schema.now) v) }
+        ensures greatest { IfOk result (λ v. AcceptsAsSchema
+            (handed S.Resolver T.KeywordTable K.Validate M.Matcher.own resolver.now table.now matcher.now)
+            self.now (view schema.now) v) }
+        ensures program { IfOk result (λ v. IsCompiledFrom
+            (handed S.Resolver T.KeywordTable K.Validate M.Matcher.own resolver.now table.now matcher.now)
+            self.now (view schema.now) self.now.nested v) }
+        ensures built { IfOk result (λ _. SchemaBuilds
+            (handed S.Resolver T.KeywordTable K.Validate M.Matcher.own resolver.now table.now matcher.now)
+            self.now (view schema.now)) }
+        ensures passed { IfOk result (λ _. PassesCheck (S.resolving resolver.now) (V.checked metas.now)
+            self.now (view schema.now)) }
+        ensures refused { IfErr result (λ e. BuildRefused
+            (handed S.Resolver T.KeywordTable K.Validate M.Matcher.own resolver.now table.now matcher.now)
+            (V.checked metas.now) self.now (view schema.now) e) }
+        ensures first { IfErr result (λ e. FirstOfBuild
+            (handed S.Resolver T.KeywordTable K.Validate M.Matcher.own resolver.now table.now matcher.now)
+            (V.checked metas.now) self.now (view schema.now) e) }
+    {
+        self.build_nested(
+            alloc,
+            schema,
+            table,
+            resolver,
+            matcher,
+            metas,
+            self.nested_limit,
+        )
+    }
+
+    /// Builds a validator of a schema as `build` does, but with at most `nested` targets of references compiled one inside
+    /// another. Where no chain of references returns, this limit changes no answer, nor does it change a verdict of a call that
+    /// decides, where each keyword is monotone. It decides how much stack the build takes, and which edges of a cycle of references
+    /// are guarded.
+    ///
+    /// # Errors
+    ///
+    /// Fails where `build` fails: the limit decides nothing of that.
+    pub fn build_nested<
+        S: Resolver,
+        T: KeywordTable<K>,
+        K: Validate,
+        M: Matcher,
+        V: MetaValidators,
+    >(
+        &self,
+        alloc: Global,
+        schema: &Value,
+        table: &T,
+        resolver: &S,
+        matcher: &M,
+        metas: &V,
+        nested: usize,
+    ) -> Result<Validator<K, M>, BuildError>
+        ensures means { IfOk result (λ v. MeansPlainly
+            (handed S.Resolver T.KeywordTable K.Validate M.Matcher.own resolver.now table.now matcher.now)
+            self.now (view schema.now) v) }
+        ensures units { IfOk result (λ v. HasPlainUnits
+            (handed S.Resolver T.KeywordTable K.Validate M.Matcher.own resolver.now table.now matcher.now)
+            self.now (view schema.now) v) }
+        ensures points { IfOk result (λ v. PointsPlainly
+            (handed S.Resolver T.KeywordTable K.Validate M.Matcher.own resolver.now table.now matcher.now)
+            self.now (view schema.now) v) }
+        ensures greatest { IfOk result (λ v. AcceptsAsSchema
+            (handed S.Resolver T.KeywordTable K.Validate M.Matcher.own resolver.now table.now matcher.now)
+            self.now (view schema.now) v) }
+        ensures program { IfOk result (λ v. IsCompiledFrom
+            (handed S.Resolver T.KeywordTable K.Validate M.Matcher.own resolver.now table.now matcher.now)
+            self.now (view schema.now) nested v) }
+        ensures built { IfOk result (λ _. SchemaBuilds
+            (handed S.Resolver T.KeywordTable K.Validate M.Matcher.own resolver.now table.now matcher.now)
+            self.now (view schema.now)) }
+        ensures passed { IfOk result (λ _. PassesCheck (S.resolving resolver.now) (V.checked metas.now)
+            self.now (view schema.now)) }
+        ensures refused { IfErr result (λ e. BuildRefused
+            (handed S.Resolver T.KeywordTable K.Validate M.Matcher.own resolver.now table.now matcher.now)
+            (V.checked metas.now) self.now (view schema.now) e) }
+        ensures first { IfErr result (λ e. FirstOfBuild
+            (handed S.Resolver T.KeywordTable K.Validate M.Matcher.own resolver.now table.now matcher.now)
+            (V.checked metas.now) self.now (view schema.now) e) }
+    {
+        let root = root_key(alloc, resolver, self, schema)?;
+        let draft = root.draft;
+        self.check(alloc, resolver, metas, &root)?;
+        let compiled = compile(alloc, resolver, table, &self.compiling, nested, root)?;
+        let nodes = compiled.nodes;
+        drop(compiled.keys);
+        drop(compiled.reservations);
+        let runs = self.run_limit;
+        let validator = of_compiled_within(
+            table,
+            resolver,
+            matcher,
+            nodes,
+            SchemaNode(0),
+            draft,
+            runs,
+        )?;
+        Ok(validator)
+    }
+
+    // Has the meta validators check the schema of a root's key, where the options ask for it.
+    fn check<S: Resolver, V: MetaValidators>(
+        &self,
+        alloc: Global,
+        resolver: &S,
+        metas: &V,
+        root: &SchemaKey<S::State>,
+    ) -> Result<(), BuildError>
+        ensures accepted { IfOk result (λ _. self.now.checks ≡ true → AcceptsSchema
+            (S.resolving resolver.now) (V.checked metas.now) (draft_of root.now.draft) (place_of root.now.place)) }
+        ensures refused { IfErr result (λ e. (self.now.checks ≡ true) × RefusesSchema
+            (S.resolving resolver.now) (V.checked metas.now) (draft_of root.now.draft) (place_of root.now.place) e) }
+    {
+        if !self.checks {
+            return Ok(());
+        }
+        validate_schema(alloc, resolver, metas, root.draft, &root.place)
+    }
+}

@@ -1,0 +1,334 @@
+//! Building the map of a document's validators.
+ghost use Rattle.std.specs.Prelude.{◌≡◌, IfOk, IfErr, MatchOption, OnOk, Some, string_bytes};
+ghost use Rattle.serde_json.specs.View.{view};
+ghost use Rattle.schema_meaning.specs.MapPointers.{entry_key};
+ghost use Rattle.schema_keys.specs.Alone.{RefusesKeyAlone};
+ghost use Rattle.schema_keys.specs.Compiling.{resolving_parts};
+ghost use Rattle.schema_keys.specs.KeyViews.{key_of};
+ghost use Rattle.schema_validator.specs.Entries.{FailsEntry, HoldsPlaces, IsCompiledAlone, IsEntry, IsLeftOut, IsMade, IsPut};
+ghost use Rattle.schema_validator.specs.Entries.{RefusesAlone, RefusesEntry, RefusesOneOf};
+ghost use Rattle.schema_validator.specs.FirstCauses.{FirstOfMap};
+ghost use Rattle.schema_validator.specs.Handed.{handed};
+ghost use Rattle.schema_validator.specs.Mapped.{EachAcceptsGreatest, EachHasPlainUnits, EachIsCompiledFrom, EachMeansPlainly};
+ghost use Rattle.schema_validator.specs.Mapped.{EachPointsPlainly};
+ghost use Rattle.schema_validator.specs.Mapped.{HoldsCompiled, HoldsEach, MapIsBuilt, MapRefused, name_of};
+ghost use Rattle.schema_validator.specs.Roots.{IsRootKey, root_parts};
+
+use crate::compiled::of_compiled_within;
+use crate::map::ValidatorMap;
+use crate::map::schemas::schemas_in;
+use crate::options::ValidationOptions;
+use crate::options::root::root_key;
+use crate::validator::Validator;
+use schema_check::check::validate_schema;
+use schema_compiler::compiler::{check_vocabularies, compile_subschema};
+use schema_keys::context::Context;
+use schema_keys::error::BuildError;
+use schema_keys::key::SchemaKey;
+use schema_parts::keyword::Validate;
+use schema_parts::matcher::Matcher;
+use schema_parts::meta::MetaValidators;
+use schema_parts::numbers::SchemaNode;
+use schema_parts::resolver::Resolver;
+use schema_parts::schema_place::SchemaPath;
+use schema_parts::table::KeywordTable;
+use schema_reports::location::OutOfMemory;
+use serde_json::Value;
+use std::alloc::Global;
+
+impl ValidationOptions {
+    /// Builds a validator for each object and each boolean of the schema's document that compiles by itself, whatever stands
+    /// there for; it is found under `#` followed by the JSON Pointer of its place. The root is compiled as by `build`, any other
+    /// as a subschema of the root, at the empty location. What does not compile is left out, the root too. Each validator has
+    /// the root's draft. The meta validators check the schema whatever the options say. It takes a compilation for each entry.
+    ///
+    /// # Errors
+    ///
+    /// Fails if the root's draft or base is refused, if a meta validator refuses the schema, if the root requires a custom
+    /// vocabulary that is not declared, if one entry reaches more keys than the limit, or out of memory. Then there is no map. Of
+    /// several causes the first in this order is named, of documents and vocabularies the first that is refused.
+    pub fn build_map<S: Resolver, T: KeywordTable<K>, K: Validate, M: Matcher, V: MetaValidators>(
+        &self,
+        alloc: Global,
+        schema: &Value,
+        table: &T,
+        resolver: &S,
+        matcher: &M,
+        metas: &V,
+    ) -> Result<ValidatorMap<K, M>, BuildError>
+        ensures holds { IfOk result (λ m. HoldsCompiled
+            (handed S.Resolver T.KeywordTable K.Validate M.Matcher.own resolver.now table.now matcher.now)
+            self.now (view schema.now) m) }
+        ensures means { IfOk result (λ m. EachMeansPlainly
+            (handed S.Resolver T.KeywordTable K.Validate M.Matcher.own resolver.now table.now matcher.now)
+            self.now (view schema.now) m) }
+        ensures units { IfOk result (λ m. EachHasPlainUnits
+            (handed S.Resolver T.KeywordTable K.Validate M.Matcher.own resolver.now table.now matcher.now)
+            self.now (view schema.now) m) }
+        ensures points { IfOk result (λ m. EachPointsPlainly
+            (handed S.Resolver T.KeywordTable K.Validate M.Matcher.own resolver.now table.now matcher.now)
+            self.now (view schema.now) m) }
+        ensures greatest { IfOk result (λ m. EachAcceptsGreatest
+            (handed S.Resolver T.KeywordTable K.Validate M.Matcher.own resolver.now table.now matcher.now)
+            self.now (view schema.now) m) }
+        ensures programs { IfOk result (λ m. EachIsCompiledFrom
+            (handed S.Resolver T.KeywordTable K.Validate M.Matcher.own resolver.now table.now matcher.now)
+            self.now (view schema.now) m) }
+        ensures at_each { IfOk result (λ m. HoldsEach
+            (handed S.Resolver T.KeywordTable K.Validate M.Matcher.own resolver.now table.now matcher.now)
+            self.now (view schema.now) m) }
+        ensures built { IfOk result (λ _. MapIsBuilt
+            (handed S.Resolver T.KeywordTable K.Validate M.Matcher.own resolver.now table.now matcher.now)
+            self.now (view schema.now) (V.checked metas.now)) }
+        ensures refused { IfErr result (λ e. MapRefused
+            (handed S.Resolver T.KeywordTable K.Validate M.Matcher.own resolver.now table.now matcher.now)
+            self.now (view schema.now) (V.checked metas.now) e) }
+        ensures first { IfErr result (λ e. FirstOfMap
+            (handed S.Resolver T.KeywordTable K.Validate M.Matcher.own resolver.now table.now matcher.now)
+            (V.checked metas.now) self.now (view schema.now) e) }
+    {
+        let root = root_key(alloc, resolver, self, schema)?;
+        let building = MapBuilding {
+            alloc,
+            schema,
+            options: self,
+            table,
+            resolver,
+            matcher,
+            root: &root,
+        };
+        building.checked_map(metas)
+    }
+}
+
+/// What the entries of a map are built from: the memory, the schema, the options, the parts, and the key of the root.
+#[derive_where(Clone, Copy)]
+struct MapBuilding<'p, S: Resolver, T, M> {
+    alloc: Global,
+    schema: &'p Value,
+    options: &'p ValidationOptions,
+    table: &'p T,
+    resolver: &'p S,
+    matcher: &'p M,
+    root: &'p SchemaKey<S::State>,
+}
+
+impl<'p, S: Resolver, T, M: Matcher> MapBuilding<'p, S, T, M> {
+    /// The map of the document, once the meta validators accept the schema and the root's vocabularies are declared.
+    fn checked_map<K: Validate, V: MetaValidators>(
+        &self,
+        metas: &V,
+    ) -> Result<ValidatorMap<K, M>, BuildError>
+    where
+        T: KeywordTable<K>,
+        requires root { IsRootKey (root_parts (S.resolving self.now.resolver.now) self.now.options.now)
+            (view self.now.schema.now) (key_of S.point self.now.root.now) }
+        ensures made { IfOk result (IsMade
+            (handed S.Resolver T.KeywordTable K.Validate M.Matcher.own self.now.resolver.now self.now.table.now self.now.matcher.now)
+            self.now.options.now (view self.now.schema.now) (key_of S.point self.now.root.now) (V.checked metas.now)) }
+        ensures refused { IfErr result (MapRefused
+            (handed S.Resolver T.KeywordTable K.Validate M.Matcher.own self.now.resolver.now self.now.table.now self.now.matcher.now)
+            self.now.options.now (view self.now.schema.now) (V.checked metas.now)) }
+        ensures first { IfErr result (λ e. FirstOfMap
+            (handed S.Resolver T.KeywordTable K.Validate M.Matcher.own self.now.resolver.now self.now.table.now self.now.matcher.now)
+            (V.checked metas.now) self.now.options.now (view self.now.schema.now) e) }
+    {
+        let options = self.options;
+        validate_schema(
+            self.alloc,
+            self.resolver,
+            metas,
+            self.root.draft,
+            &self.root.place,
+        )?;
+        check_vocabularies::<S, K, T>(
+            self.alloc,
+            self.resolver,
+            self.table,
+            &options.compiling,
+            self.root,
+        )?;
+        match self.resolver.value(&self.root.place) {
+            Some(document) => {
+                let paths = schemas_in(self.alloc, document)?;
+                self.map_of(paths.as_slice())
+            }
+            None => self.map_of(&[]),
+        }
+    }
+
+    /// A copy of the root's key.
+    fn root_again(&self) -> Result<SchemaKey<S::State>, OutOfMemory>
+        ensures key { IfOk result (λ k. key_of S.point k ≡ key_of S.point self.now.root.now) }
+        ensures draft { IfOk result (λ k. k.draft ≡ self.now.root.now.draft) }
+    {
+        Ok(SchemaKey {
+            place: self.root.place.clone()?,
+            state: self.root.state.clone()?,
+            draft: self.root.draft,
+            vocabularies: self.root.vocabularies.clone()?,
+            location: self.root.location.clone()?,
+            base: self.root.base.clone()?,
+            start: self.root.start,
+        })
+    }
+
+    /// The key of the schema at a path below the root: the root's own, or that of a subschema by itself.
+    fn key_at(&self, path: &SchemaPath) -> Result<SchemaKey<S::State>, BuildError>
+        ensures key { IfOk result (λ k. entry_key (resolving_parts (S.resolving self.now.resolver.now))
+            (key_of S.point self.now.root.now) path.now ≡ Some (key_of S.point k)) }
+        ensures refused { IfErr result (RefusesKeyAlone (entry_key (resolving_parts (S.resolving self.now.resolver.now))
+            (key_of S.point self.now.root.now) path.now)) }
+    {
+        if path.len() == 0 {
+            return Ok(self.root_again()?);
+        }
+        let options = self.options;
+        let context = Context {
+            alloc: self.alloc,
+            resolver: self.resolver,
+            options: &options.compiling,
+            key: self.root,
+        };
+        context.subschema_alone(path)
+    }
+
+    /// The validator that is compiled from a key, in the root's draft.
+    fn compiled<K: Validate>(&self, key: SchemaKey<S::State>) -> Result<Validator<K, M>, BuildError>
+    where
+        T: KeywordTable<K>,
+        requires root { IsRootKey (root_parts (S.resolving self.now.resolver.now) self.now.options.now)
+            (view self.now.schema.now) (key_of S.point self.now.root.now) }
+        ensures compiled { IfOk result (λ v. IsCompiledAlone
+            (handed S.Resolver T.KeywordTable K.Validate M.Matcher.own self.now.resolver.now self.now.table.now self.now.matcher.now)
+            self.now.options.now (view self.now.schema.now) (key_of S.point key) v) }
+        ensures refused { IfErr result (λ e. RefusesAlone
+            (handed S.Resolver T.KeywordTable K.Validate M.Matcher.own self.now.resolver.now self.now.table.now self.now.matcher.now)
+            self.now.options.now (key_of S.point key) e) }
+    {
+        let options = self.options;
+        let compiled = compile_subschema(
+            self.alloc,
+            self.resolver,
+            self.table,
+            &options.compiling,
+            options.nested_limit,
+            key,
+        )?;
+        let draft = self.root.draft;
+        let nodes = compiled.nodes;
+        drop(compiled.keys);
+        drop(compiled.reservations);
+        let validator = of_compiled_within(
+            self.table,
+            self.resolver,
+            self.matcher,
+            nodes,
+            SchemaNode(0),
+            draft,
+            options.run_limit,
+        )?;
+        Ok(validator)
+    }
+
+    /// The validator of the schema at a path below the root.
+    fn entry<K: Validate>(&self, path: &SchemaPath) -> Result<Validator<K, M>, BuildError>
+    where
+        T: KeywordTable<K>,
+        requires root { IsRootKey (root_parts (S.resolving self.now.resolver.now) self.now.options.now)
+            (view self.now.schema.now) (key_of S.point self.now.root.now) }
+        ensures entry { IfOk result (λ v. IsEntry
+            (handed S.Resolver T.KeywordTable K.Validate M.Matcher.own self.now.resolver.now self.now.table.now self.now.matcher.now)
+            self.now.options.now (view self.now.schema.now) (key_of S.point self.now.root.now) path.now v) }
+        ensures refused { IfErr result (λ e. FailsEntry
+            (handed S.Resolver T.KeywordTable K.Validate M.Matcher.own self.now.resolver.now self.now.table.now self.now.matcher.now)
+            self.now.options.now (key_of S.point self.now.root.now) path.now e) }
+    {
+        let key = self.key_at(path)?;
+        self.compiled(key)
+    }
+
+    /// The validator at a path; none where what stands there does not compile.
+    fn entry_if_compiled<K: Validate>(
+        &self,
+        path: &SchemaPath,
+    ) -> Result<Option<Validator<K, M>>, BuildError>
+    where
+        T: KeywordTable<K>,
+        requires root { IsRootKey (root_parts (S.resolving self.now.resolver.now) self.now.options.now)
+            (view self.now.schema.now) (key_of S.point self.now.root.now) }
+        ensures entry { IfOk result (λ o. MatchOption o
+            (IsLeftOut
+            (handed S.Resolver T.KeywordTable K.Validate M.Matcher.own self.now.resolver.now self.now.table.now self.now.matcher.now)
+            self.now.options.now (key_of S.point self.now.root.now) path.now)
+            (IsEntry
+            (handed S.Resolver T.KeywordTable K.Validate M.Matcher.own self.now.resolver.now self.now.table.now self.now.matcher.now)
+            self.now.options.now (view self.now.schema.now) (key_of S.point self.now.root.now) path.now)) }
+        ensures refused { IfErr result (RefusesEntry
+            (handed S.Resolver T.KeywordTable K.Validate M.Matcher.own self.now.resolver.now self.now.table.now self.now.matcher.now)
+            self.now.options.now (key_of S.point self.now.root.now) path.now) }
+    {
+        match self.entry(path) {
+            Ok(validator) => Ok(Some(validator)),
+            Err(error) => match error {
+                BuildError::OutOfMemory => Err(BuildError::OutOfMemory),
+                BuildError::NodeLimit(limit) => Err(BuildError::NodeLimit(limit)),
+                _ => Ok(None),
+            },
+        }
+    }
+
+    /// What the place at a path is called: `#` and its pointer.
+    fn name_of(&self, path: &SchemaPath) -> Result<String, OutOfMemory>
+        ensures name { IfOk result (λ t. string_bytes t ≡ name_of path.now) }
+    {
+        let pointer = path.pointer(self.alloc)?;
+        let mut name = String::from_str(self.alloc, "#")?;
+        name.push_str(pointer.as_str())?;
+        Ok(name)
+    }
+
+    /// Puts the validator at a path into the map, or leaves out what does not compile.
+    fn put<K: Validate>(
+        &self,
+        map: &mut ValidatorMap<K, M>,
+        path: &SchemaPath,
+    ) -> Result<(), BuildError>
+    where
+        T: KeywordTable<K>,
+        requires root { IsRootKey (root_parts (S.resolving self.now.resolver.now) self.now.options.now)
+            (view self.now.schema.now) (key_of S.point self.now.root.now) }
+        ensures put { OnOk result (IsPut
+            (handed S.Resolver T.KeywordTable K.Validate M.Matcher.own self.now.resolver.now self.now.table.now self.now.matcher.now)
+            self.now.options.now (view self.now.schema.now) (key_of S.point self.now.root.now) path.now map.old map.new) }
+        ensures refused { IfErr result (RefusesEntry
+            (handed S.Resolver T.KeywordTable K.Validate M.Matcher.own self.now.resolver.now self.now.table.now self.now.matcher.now)
+            self.now.options.now (key_of S.point self.now.root.now) path.now) }
+    {
+        if let Some(validator) = self.entry_if_compiled(path)? {
+            let name = self.name_of(path)?;
+            map.insert(name, validator)?;
+        }
+        Ok(())
+    }
+
+    /// The map of the schemas at these paths.
+    fn map_of<K: Validate>(&self, paths: &[SchemaPath]) -> Result<ValidatorMap<K, M>, BuildError>
+    where
+        T: KeywordTable<K>,
+        requires root { IsRootKey (root_parts (S.resolving self.now.resolver.now) self.now.options.now)
+            (view self.now.schema.now) (key_of S.point self.now.root.now) }
+        ensures holds { IfOk result (λ m. HoldsPlaces
+            (handed S.Resolver T.KeywordTable K.Validate M.Matcher.own self.now.resolver.now self.now.table.now self.now.matcher.now)
+            self.now.options.now (view self.now.schema.now) (key_of S.point self.now.root.now) paths.now m) }
+        ensures refused { IfErr result (RefusesOneOf
+            (handed S.Resolver T.KeywordTable K.Validate M.Matcher.own self.now.resolver.now self.now.table.now self.now.matcher.now)
+            self.now.options.now (key_of S.point self.now.root.now) paths.now) }
+    {
+        let mut map = ValidatorMap::new(self.alloc);
+        for path in paths {
+            self.put(&mut map, path)?;
+        }
+        Ok(map)
+    }
+}

@@ -1,0 +1,106 @@
+//! The key of a schema's root.
+ghost use Rattle.std.specs.Prelude.{◌≡◌, Ok, IfOk, IfErr};
+ghost use Rattle.serde_json.specs.View.{view};
+ghost use Rattle.schema_keywords.specs.KeywordViews.{draft_of};
+ghost use Rattle.schema_meaning.specs.Root.{root_draft, base_of, key_at};
+ghost use Rattle.schema_parts.specs.ResolverViews.{place_of};
+ghost use Rattle.schema_keys.specs.KeyViews.{key_of};
+ghost use Rattle.schema_keys.specs.Compiling as compiling;
+ghost use Rattle.schema_validator.specs.Roots.{IsRootKey, RefusesKey, root_parts};
+
+use crate::options::ValidationOptions;
+use schema_keys::error::BuildError;
+use schema_keys::key::SchemaKey;
+use schema_keywords::keywords::Draft;
+use schema_parts::resolver::Resolver;
+use schema_parts::schema_place::SchemaPlace;
+use schema_reports::location::{Location, OutOfMemory};
+use serde_json::Value;
+use std::alloc::Global;
+
+/// Returns the key of a schema's root: at the place where the resolver's document under the root's base begins, in the
+/// root's draft, at the empty location. The draft is the option's, or else the one that the schema asks for; the base is the
+/// option's, or else the schema's identifier, or else `json-schema:///`.
+///
+/// # Errors
+///
+/// Fails if the resolver refuses the draft that the schema asks for or has no document under the base, or out of memory.
+pub fn root_key<R: Resolver>(
+    alloc: Global,
+    resolver: &R,
+    options: &ValidationOptions,
+    schema: &Value,
+) -> Result<SchemaKey<R::State>, BuildError>
+    ensures key { IfOk result (λ k. IsRootKey
+        (root_parts (R.resolving resolver.now) options.now) (view schema.now) (key_of R.point k)) }
+    ensures drafted { IfOk result (λ k. root_draft
+        (root_parts (R.resolving resolver.now) options.now) (view schema.now) ≡ Ok (draft_of k.draft)) }
+    ensures refused { IfErr result (RefusesKey
+        (root_parts (R.resolving resolver.now) options.now) (view schema.now)) }
+{
+    let draft = options.root_draft(alloc, resolver, schema)?;
+    let base = options.base_of(resolver, draft, schema);
+    match resolver.root(alloc, base)? {
+        Some((state, place)) => Ok(key_at(alloc, resolver, state, place, draft)?),
+        None => Err(BuildError::MissingRoot(String::from_str(alloc, base)?)),
+    }
+}
+
+impl ValidationOptions {
+    // The draft of a schema's root.
+    fn root_draft<R: Resolver>(
+        &self,
+        alloc: Global,
+        resolver: &R,
+        schema: &Value,
+    ) -> Result<Draft, BuildError>
+        ensures drafted { IfOk result (λ d. root_draft
+            (root_parts (R.resolving resolver.now) self.now) (view schema.now) ≡ Ok (draft_of d)) }
+        ensures refused { IfErr result (RefusesKey
+            (root_parts (R.resolving resolver.now) self.now) (view schema.now)) }
+    {
+        match self.draft {
+            Some(draft) => Ok(draft),
+            None => Ok(resolver.draft_for(alloc, schema)?),
+        }
+    }
+
+    // The base of a schema's root.
+    fn base_of<'v, R: Resolver>(&'v self, resolver: &R, draft: Draft, schema: &'v Value) -> &'v str
+        ensures base { result.now ≡ base_of (root_parts (R.resolving resolver.now) self.now)
+            (draft_of draft) (view schema.now) }
+    {
+        if let Some(base) = &self.base {
+            return base.as_str();
+        }
+        match resolver.id(draft, schema) {
+            Some(uri) => uri,
+            None => "json-schema:///",
+        }
+    }
+}
+
+// The key where a document begins.
+fn key_at<R: Resolver>(
+    alloc: Global,
+    resolver: &R,
+    state: R::State,
+    place: SchemaPlace,
+    draft: Draft,
+) -> Result<SchemaKey<R::State>, OutOfMemory>
+    ensures key { IfOk result (λ k. key_of R.point k ≡ key_at
+        (compiling.resolving_parts (R.resolving resolver.now))
+        (record { place = place_of place; state = R.point state }) (draft_of draft)) }
+    ensures draft { IfOk result (λ k. k.draft ≡ draft) }
+{
+    let vocabularies = resolver.find_vocabularies(alloc, &state, draft, &place)?;
+    Ok(SchemaKey {
+        place,
+        state,
+        draft,
+        vocabularies,
+        location: Location::new(alloc),
+        base: Location::new(alloc),
+        start: 0,
+    })
+}

@@ -1,0 +1,36 @@
+//! Clones of validators.
+ghost use Rattle.std.specs.Prelude.{◌≡◌, IfOk};
+ghost use Rattle.schema_nodes.specs.Cloned.{shaped_nodes};
+ghost use Rattle.schema_validator.specs.Cloned.{AnswerSame, SaySame};
+
+use crate::validator::Validator;
+use schema_parts::cloning::CloneKeyword;
+use schema_parts::matcher::Matcher;
+use schema_reports::location::OutOfMemory;
+use std::alloc::Global;
+
+impl<K: CloneKeyword, M: Matcher> Validator<K, M> {
+    /// Returns a clone of the validator: it has the same root, draft, nodes and limit of runs, and its keywords and its matcher are
+    /// clones, so it answers equally.
+    ///
+    /// # Errors
+    ///
+    /// Fails out of memory.
+    pub fn clone(&self, alloc: Global) -> Result<Validator<K, M>, OutOfMemory>
+        ensures root { IfOk result (λ copy. copy.root ≡ self.now.root) }
+        ensures draft { IfOk result (λ copy. copy.draft ≡ self.now.draft) }
+        ensures nodes { IfOk result (λ copy. shaped_nodes K.shape copy.nodes ≡ shaped_nodes K.shape self.now.nodes) }
+        ensures matcher { IfOk result (λ copy. M.matching copy.matcher ≡ M.matching self.now.matcher) }
+        ensures runs { IfOk result (λ copy. copy.runs ≡ self.now.runs) }
+        ensures says { IfOk result (λ copy. SaySame K.Validate M.Matcher.own copy self.now) }
+        ensures answers { IfOk result (λ copy. AnswerSame K.Validate M.Matcher.own copy self.now) }
+    {
+        Ok(Validator {
+            nodes: self.nodes.clone(alloc)?,
+            root: self.root,
+            draft: self.draft,
+            matcher: self.matcher.clone()?,
+            run_limit: self.run_limit,
+        })
+    }
+}
