@@ -1,5 +1,6 @@
 -- `x-suffix`, `x-both` and `x-contains-between`.
-use Rattle.std.specs.Prelude.{Bool, None, Option, Some, bytes_eq, codes, decimal, false, if◌then◌else◌, nat_eq, nat_le, nat_lt, option_and_then, option_map, string_bytes, true, ℕ, ◌++◌, ◌==◌, ◌||◌}
+use Rattle.std.specs.Prelude.{Bool, None, Option, Some, String, bytes_eq, codes, decimal, if◌then◌else◌, nat_eq, nat_le, nat_lt, option_and_then, option_map, string_bytes, true, unwrap_or, ℕ, ◌++◌, ◌==◌, ◌||◌}
+use Rattle.std.specs.declared.alloc.Global.{Global}
 use Rattle.std.specs.List.{ends_with}
 use Rattle.serde_json.specs.Data.{Data}
 use Rattle.serde_json.specs.Find.{as_number, as_str, as_u64, get}
@@ -14,38 +15,33 @@ use Rattle.bench_parts.specs.ByValue.{MadeMember, made_if}
 use Rattle.bench_parts.specs.declared.by_value.Children.TheVariants as children
 use Rattle.bench_parts.specs.declared.by_value.MemberKeyword.TheVariants.{Nothing}
 use Rattle.string_keywords.specs.declared.StringKeyword.{StringKeyword}
-use Rattle.string_keywords.specs.declared.StringKeyword.TheVariants as keyword
+use Rattle.string_keywords.specs.declared.StringKeyword.TheVariants.{Both, ContainsBetween, Suffix}
 
-pub data Shape : Type 0 where
-  suffix : Text → Shape
-  both : Shape
-  contains_between : ℕ → ℕ → Shape
+-- a keyword whose text is known
+abbrev pub Shape : Type 0
+Shape = StringKeyword Text
 
-abbrev pub shape_of : StringKeyword → Shape
-shape_of (keyword.Suffix end) = suffix (string_bytes end)
-shape_of keyword.Both = both
-shape_of (keyword.ContainsBetween least most) = contains_between least most
+abbrev pub shape_of : StringKeyword (String Global) → Shape
+shape_of (Suffix end) = Suffix (string_bytes end)
+shape_of Both = Both
+shape_of (ContainsBetween least most) = ContainsBetween least most
 
 -- what is no text has any end
-abbrev pub has_end : Text → Option Text → Bool
-has_end end None = true
-has_end end (Some text) = ends_with nat_eq text end
-
 abbrev pub planned : Shape → Subject → Plan
-planned (suffix end) s = Holds (has_end end (as_text s))
-planned both s = PassesOn (asks.Children 2)
-planned (contains_between least most) s = if is_list s then Within asks.Items least most else Holds true
+planned (Suffix end) s = Holds (unwrap_or (option_map (λ text. ends_with nat_eq text end) (as_text s)) true)
+planned Both s = PassesOn (asks.Children 2)
+planned (ContainsBetween least most) s = if is_list s then Within asks.Items least most else Holds true
 
 abbrev pub called : Shape → Text
-called (suffix end) = codes "x-suffix"
-called both = codes "x-both"
-called (contains_between least most) = codes "x-contains-between"
+called (Suffix end) = codes "x-suffix"
+called Both = codes "x-both"
+called (ContainsBetween least most) = codes "x-contains-between"
 
 -- `x-both` tells no error of its own
 abbrev pub error_text : Shape → Subject → ℕ → Text
-error_text (suffix end) s n = subject_text s ++ (codes " does not end with \"" ++ (end ++ codes "\""))
-error_text both s n = subject_text s
-error_text (contains_between least most) s n = subject_text s ++ (if nat_lt n least
+error_text (Suffix end) s n = subject_text s ++ (codes " does not end with \"" ++ (end ++ codes "\""))
+error_text Both s n = subject_text s
+error_text (ContainsBetween least most) s n = subject_text s ++ (if nat_lt n least
     then codes " has " ++ (decimal n ++ (codes " items that fit, not " ++ decimal least))
     else codes " has more than " ++ (decimal most ++ codes " items that fit"))
 
@@ -54,19 +50,19 @@ error_text (contains_between least most) s n = subject_text s ++ (if nat_lt n le
 abbrev pub owned : Text → Bool
 owned name = bytes_eq name (codes "x-suffix") || bytes_eq name (codes "x-both") || bytes_eq name (codes "x-contains-between")
 
-abbrev pub number : Text → Data → Option ℕ
-number name d = option_and_then (λ v. option_and_then as_u64 (as_number v)) (get name d)
+abbrev pub number : Data → Option ℕ
+number d = option_and_then as_u64 (as_number d)
 
 -- from `min` to `max`, of a value that has a `schema` too
 abbrev pub between : Option Data → Option ℕ → Option ℕ → Option Shape
-between (Some schema) (Some least) (Some most) = if nat_le least most then Some (contains_between least most) else None
+between (Some schema) (Some least) (Some most) = if nat_le least most then Some (ContainsBetween least most) else None
 between schema least most = None
 
 abbrev pub by_members : Data → Option Shape
-by_members d = between (get (codes "schema") d) (number (codes "min") d) (number (codes "max") d)
+by_members d = between (get (codes "schema") d) (option_and_then number (get (codes "min") d)) (option_and_then number (get (codes "max") d))
 
 abbrev pub made : Text → Data → MadeMember Shape
 made name d =
-    if bytes_eq name (codes "x-suffix") then made_if (option_map suffix (as_str d)) children.Childless
-    else (if bytes_eq name (codes "x-both") then made_if (if item_count (a_value d) == 2 then Some both else None) children.Items
+    if bytes_eq name (codes "x-suffix") then made_if (option_map Suffix (as_str d)) children.Childless
+    else (if bytes_eq name (codes "x-both") then made_if (if item_count (a_value d) == 2 then Some Both else None) children.Items
     else (if bytes_eq name (codes "x-contains-between") then made_if (by_members d) (children.Member (codes "schema")) else Nothing))

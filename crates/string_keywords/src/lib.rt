@@ -13,23 +13,37 @@ use schema_reports::instance::Instance;
 use schema_reports::location::OutOfMemory;
 use serde_json::Value;
 use std::alloc::Global;
+use std::marker::Model;
 
 /// A keyword.
 #[derive(Drop)]
-pub enum StringKeyword {
+pub enum StringKeyword<T = String> {
     /// `x-suffix`, with the end that a text is to have.
-    Suffix(String),
+    Suffix(T),
     /// `x-both`, whose value is a list of two schemas.
     Both,
     /// `x-contains-between`, with how many items are to fit at least and at most.
     ContainsBetween(usize, usize),
 }
 
+/// What is known of a `String` apart from its representation; it holds no value.
+#[derive(Drop)]
+pub struct KnownText {}
+
+impl Model for KnownText {
+    ghost use Rattle.std.specs.Prelude.{[]};
+    ghost use Rattle.schema_definitions.specs.Instance.{Text};
+
+    ghost Value = { Text };
+
+    ghost view = { λ _. [] };
+}
+
 impl PlannedKeyword for StringKeyword {
     ghost use Rattle.std.specs.Prelude.{false, true};
-    ghost use Rattle.string_keywords.specs.Strings.{Shape, called, error_text, planned};
+    ghost use Rattle.string_keywords.specs.Strings.{called, error_text, planned};
 
-    type Shape = Shape;
+    type Shape = StringKeyword<KnownText>;
 
     ghost shape = { shape_of };
 

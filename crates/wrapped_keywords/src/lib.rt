@@ -30,9 +30,9 @@ impl LeafKeyword for NoText {
     ghost use Rattle.std.specs.Prelude.{codes};
     ghost use Rattle.wrapped_keywords.specs.Wrapped.{is_no_text, text_refused};
 
-    type Shape = NoText;
+    type Shape = ();
 
-    ghost shape = { λ k. k };
+    ghost shape = { λ k. tt };
 
     ghost called = { λ k. codes "x-no-text" };
 
