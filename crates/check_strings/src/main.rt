@@ -18,6 +18,7 @@ use schema_engine::keywords::VocabularySet;
 use schema_engine::validator::Validator;
 use serde_json::Value;
 use std::alloc::Global;
+use std::fmt::{Display, Write};
 use std::process::ExitCode;
 use std::{env, fs};
 use string_keywords::{StringKeyword, StringTable};
@@ -38,58 +39,102 @@ fn build(alloc: Global, schema: &Value) -> Result<Checker, BuildError> {
     Checker::new(alloc, schema, &table, &resolver, &matcher, &BenchMeta {})
 }
 
+/// Puts an error's text behind those before it.
+fn put(said: &mut String, error: &impl Display) -> anyhow::Result<()> {
+    said.push_str(if said.is_empty() { "no: " } else { "; " })?;
+    write!(said, "{error}")?;
+    Ok(())
+}
+
 /// Returns the errors' texts in one line, or `yes` where there are none.
 fn verdict(alloc: Global, checker: &Checker, instance: &Value) -> anyhow::Result<String> {
-    let mut said = format!(in alloc; "yes")?;
-    let mut is_first = true;
+    let mut said = String::new(alloc);
     for error in checker.iter_errors(alloc, instance)? {
-        said = if is_first {
-            format!(in alloc; "no: {error}")?
-        } else {
-            format!(in alloc; "{said}; {error}")?
-        };
-        is_first = false;
+        put(&mut said, &error)?;
+    }
+    if said.is_empty() {
+        said.push_str("yes")?;
     }
     Ok(said)
 }
 
+/// Returns the list of the evaluation, as JSON.
+fn units(alloc: Global, checker: &Checker, instance: &Value) -> anyhow::Result<String> {
+    let list = checker.evaluate(alloc, instance)?.list(alloc)?;
+    Ok(list.to_string(alloc)?)
+}
+
+/// Returns what is said of a refused schema.
+fn refused(alloc: Global, refusal: &BuildError) -> anyhow::Result<String> {
+    let text = match refusal {
+        BuildError::KeywordRefused(error) => {
+            let place = error.schema_path.as_str();
+            format!(in alloc; "refused at {place}: {error}")?
+        }
+        _ => format!(in alloc; "{refusal}")?,
+    };
+    Ok(text)
+}
+
 /// Returns what is said of an instance by a schema: the list of its units, if that is wanted.
-fn answer(alloc: Global, row: &[Value], is_list: bool) -> anyhow::Result<String> {
-    let [_, schema, instance] = row else {
+fn answer(
+    alloc: Global,
+    schema: &Value,
+    instance: &Value,
+    is_list: bool,
+) -> anyhow::Result<String> {
+    match build(alloc, schema) {
+        Ok(checker) if is_list => units(alloc, &checker, instance),
+        Ok(checker) => verdict(alloc, &checker, instance),
+        Err(refusal) => refused(alloc, &refusal),
+    }
+}
+
+/// Returns what is said instead, if it is not what a row wants.
+fn said_instead(alloc: Global, row: &Value) -> anyhow::Result<Option<String>> {
+    let parts = row.as_array().context("a row is no list")?;
+    let [want, schema, instance] = parts.as_slice() else {
         return Err(anyhow::anyhow!("a row has three parts"));
     };
-    match build(alloc, schema) {
-        Ok(checker) => {
-            if is_list {
-                let list = checker.evaluate(alloc, instance)?.list(alloc)?;
-                return Ok(list.to_string(alloc)?);
-            }
-            verdict(alloc, &checker, instance)
-        }
-        Err(BuildError::KeywordRefused(error)) => {
-            let place = error.schema_path.as_str();
-            Ok(format!(in alloc; "refused at {place}: {error}")?)
-        }
-        Err(refusal) => Ok(format!(in alloc; "{refusal}")?),
+    let said = answer(alloc, schema, instance, !want.is_string())?;
+    if is_wanted(alloc, want, said.as_str())? {
+        return Ok(None);
+    }
+    Ok(Some(said))
+}
+
+/// Returns whether this is what is wanted: a text, or the list of an evaluation.
+fn is_wanted(alloc: Global, want: &Value, said: &str) -> anyhow::Result<bool> {
+    match want.as_str() {
+        Some(text) => Ok(text == said),
+        None => Ok(want.to_string(alloc)?.as_str() == said),
     }
 }
 
 /// Prints a row that is answered otherwise than it wants, and returns whether it is.
 fn is_wrong(rt: &HostRuntime, line: &str) -> anyhow::Result<bool> {
-    let alloc = rt.alloc();
-    let row = Value::from_str(alloc, line).context("a row is not JSON")?;
-    let parts = row.as_array().context("a row is no list")?;
-    let want = parts.first().context("a row is empty")?;
-    let said = answer(alloc, parts.as_slice(), !want.is_string())?;
-    let wanted = match want.as_str() {
-        Some(text) => format!(in alloc; "{text}")?,
-        None => want.to_string(alloc)?,
-    };
-    if said == wanted {
-        return Ok(false);
+    let row = Value::from_str(rt.alloc(), line).context("a row is not JSON")?;
+    match said_instead(rt.alloc(), &row)? {
+        Some(said) => {
+            println!(rt; "wrong: {line}\n  {said}")?;
+            Ok(true)
+        }
+        None => Ok(false),
     }
-    println!(rt; "wrong: {line}\n  {said}")?;
-    Ok(true)
+}
+
+/// Prints the rows of a text that are answered otherwise than they want, and how many there are, and returns how many are wrong.
+fn check(rt: &HostRuntime, text: &str) -> anyhow::Result<usize> {
+    let mut rows: usize = 0;
+    let mut wrong: usize = 0;
+    for line in text.lines() {
+        rows = rows.saturating_add(1);
+        if is_wrong(rt, line)? {
+            wrong = wrong.saturating_add(1);
+        }
+    }
+    println!(rt; "{rows} rows, {wrong} wrong")?;
+    Ok(wrong)
 }
 
 fn main(rt: HostRuntime) -> anyhow::Result<ExitCode> {
@@ -98,16 +143,7 @@ fn main(rt: HostRuntime) -> anyhow::Result<ExitCode> {
         .next()
         .context("usage: check_strings FILE")?;
     let text = fs::read_to_string(&rt, file.as_str()).context(format_args!("reading {file}"))?;
-    let mut rows: usize = 0;
-    let mut wrong: usize = 0;
-    for line in text.lines() {
-        rows = rows.saturating_add(1);
-        if is_wrong(&rt, line)? {
-            wrong = wrong.saturating_add(1);
-        }
-    }
-    println!(rt; "{rows} rows, {wrong} wrong")?;
-    Ok(if wrong == 0 {
+    Ok(if check(&rt, text.as_str())? == 0 {
         ExitCode::SUCCESS
     } else {
         ExitCode::FAILURE
