@@ -11,6 +11,7 @@ use bench_resolver::resolver::BenchResolver;
 use joined_keywords::both::Both;
 use joined_keywords::table::BothTable;
 use keyword_ways::planned::Planned;
+use schema_engine::compiler::BuildError;
 use schema_engine::keywords::VocabularySet;
 use schema_engine::validator::Validator;
 use serde_json::Value;
@@ -30,8 +31,8 @@ fn main(rt: HostRuntime) -> anyhow::Result<()> {
     check(&rt, alloc, &schema, &instance)
 }
 
-/// Builds a validator of the schema, and prints the errors of the instance, or why the schema is refused.
-fn check(rt: &impl Print, alloc: Global, schema: &Value, instance: &Value) -> anyhow::Result<()> {
+/// Builds a validator of the schema.
+fn build(alloc: Global, schema: &Value) -> Result<JoinedValidator, BuildError> {
     let table = BothTable {
         first: TableByValue {
             keywords: ArrayTable {},
@@ -41,7 +42,12 @@ fn check(rt: &impl Print, alloc: Global, schema: &Value, instance: &Value) -> an
     };
     let resolver = BenchResolver::new(alloc, schema, VocabularySet::new(alloc))?;
     let matcher = BenchMatcher::new(Vec::new(alloc));
-    match JoinedValidator::new(alloc, schema, &table, &resolver, &matcher, &BenchMeta {}) {
+    JoinedValidator::new(alloc, schema, &table, &resolver, &matcher, &BenchMeta {})
+}
+
+/// Prints the errors of the instance, or why the schema is refused.
+fn check(rt: &impl Print, alloc: Global, schema: &Value, instance: &Value) -> anyhow::Result<()> {
+    match build(alloc, schema) {
         Err(refused) => println!(rt; "{refused}")?,
         Ok(validator) => print_errors(rt, alloc, &validator, instance)?,
     }
