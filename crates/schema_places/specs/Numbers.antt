@@ -1,7 +1,7 @@
 -- The numbers of places. The definitions list every place of an instance, `places`, and a place has the number at which it stands
 -- there: the value first, then what is below it; in an object each name before its member, by the bytes of the names; in an array by
--- index. So the list ascends by the order that is said here. (Names and indices are those of RFC 6901, section 4; that the name of a
--- member is a place is `propertyNames`, Core 2020-12, 10.3.2.4.)
+-- index. So the list ascends by the order that is said here. Names and indices are the reference tokens of a JSON Pointer; the name of a
+-- member is a place since `propertyNames` asks about it. (Core 2020-12, 10.3.2.4; sections 3 and 4 of RFC 6901)
 use Rattle.std.specs.Prelude.{Bool, List, None, Option, Some, [], false, if◌then◌else◌, is_some, length, option_map, slice_index_or, true, ℕ, ◌&&◌, ◌||◌, ◌++◌, ◌+◌, ◌∷◌, ◌≡◌, ◌<◌, nat_lt}
 use Rattle.std.specs.Cmp.Lexicographic.{slice_cmp}
 use Rattle.std.specs.Ordering.{is_lt, nat_cmp}
