@@ -10,7 +10,7 @@ ghost use Rattle.schema_reports.specs.ReportViews.{error_of, BorrowsItsPlace};
 ghost use Rattle.schema_answers.specs.AnswerModes.{mode_in};
 ghost use Rattle.schema_parts.specs.FaultViews.{answer_reply, errors_in, faults_in, FaultsLieInside, LiesInside};
 ghost use Rattle.schema_parts.specs.KeywordViews.{answer_of, fault_of, fresh, mode_of, own_of, reply_of};
-ghost use Rattle.schema_definitions.specs.Keywords.{for_all, for_first, own};
+ghost use Rattle.schema_definitions.specs.Keywords.{for_all, for_first, for_units, own};
 ghost use Rattle.schema_contexts.specs.EvaluationPaths.{path_of};
 ghost use Rattle.schema_answers.specs.EvaluationPlaces.{steps_to};
 ghost use Rattle.schema_answers.specs.Askings.{IsAskedOf, asking, where_asked};
@@ -40,13 +40,21 @@ pub fn begun<'i>(alloc: Global, mode: Mode) -> Result<Answer<'i>, OutOfMemory>
         Mode::Verdict => Ok(Answer::Verdict(true)),
         Mode::First => Ok(Answer::First(None)),
         Mode::All => Ok(Answer::All(Vec::new(alloc))),
-        Mode::Evaluate => {
-            let own = EvaluationResult::valid_empty(alloc);
-            let absorbed = Vec::new(alloc);
-            let found = Box::new(alloc, Found { own, absorbed })?;
-            Ok(Answer::Evaluation(found))
-        }
+        Mode::Evaluate => begun_evaluation(alloc),
     }
+}
+
+// That of an evaluation. Its room on the stack is its own, so that a verdict pays nothing for it.
+#[inline(never)]
+fn begun_evaluation<'i>(alloc: Global) -> Result<Answer<'i>, OutOfMemory>
+    ensures fresh { IfOk result (λ a. (texts : Bool) → answer_of texts a ≡ fresh for_units) }
+    ensures no_faults { IfOk result (λ a. faults_in a ≡ []) }
+    ensures form { IfOk result (λ a. mode_in a ≡ for_units) }
+{
+    let own = EvaluationResult::valid_empty(alloc);
+    let absorbed = Vec::new(alloc);
+    let found = Box::new(alloc, Found { own, absorbed })?;
+    Ok(Answer::Evaluation(found))
 }
 
 // What stands some steps below, or the instance itself where the steps lead nowhere.

@@ -99,10 +99,20 @@ pub fn step_match<'i, K, M: Matcher>(
     ensures verdicts { context.new.verdicts ≡ context.old.verdicts }
     ensures visits { context.new.visits ≡ context.old.visits }
 {
-    match step.asked_match() {
-        Some((pattern, subject, point)) => asked_match(
-            engine, node, name, question, pattern, subject, point, context,
-        ),
-        None => Ok(false),
+    match step {
+        Step::Match(pattern, subject, located) => {
+            let point = MatchPoint::AtKeyword(located);
+            asked_match(
+                engine, node, name, question, pattern, subject, point, context,
+            )
+        }
+        Step::MatchAt(at, subject, below) => {
+            let point = MatchPoint::AtSpot(at.located, &at.spot, below);
+            let pattern = at.pattern.as_str();
+            asked_match(
+                engine, node, name, question, pattern, subject, point, context,
+            )
+        }
+        _ => Ok(false),
     }
 }

@@ -1,5 +1,5 @@
 //! The validators of a document's schemas, by their pointers.
-ghost use Rattle.std.specs.Prelude.{◌≡◌, ◌↔◌, [], OnOk, IsTrue, Some};
+ghost use Rattle.std.specs.Prelude.{◌≡◌, ◌↔◌, [], OnErr, OnOk, IsTrue, Some};
 ghost use Rattle.std.specs.Prelude.{bytes_eq, if◌then◌else◌, is_some, length, map, option_copied, string_bytes};
 ghost use Rattle.std.specs.Map.{keys_of};
 ghost use Rattle.schema_definitions.specs.Instance.{Text};
@@ -44,7 +44,7 @@ impl<K: Drop, M: Drop> ValidatorMap<K, M> {
         }
     }
 
-    /// Puts a validator at a pointer, in the place of the one that is there. Fails only out of memory.
+    /// Puts a validator at a pointer, in the place of the one that is there. Fails only out of memory, and then nothing has changed.
     pub(crate) fn insert(
         &mut self,
         pointer: String,
@@ -52,6 +52,7 @@ impl<K: Drop, M: Drop> ValidatorMap<K, M> {
     ) -> Result<(), OutOfMemory>
         ensures set { OnOk result ((other : Text) → at_pointer self.new other ≡
             (if bytes_eq (string_bytes pointer) other then Some validator else at_pointer self.old other)) }
+        ensures unchanged { OnErr result (self.new ≡ self.old) }
     {
         self.entries.insert(pointer, validator)?;
         Ok(())
