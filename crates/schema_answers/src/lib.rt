@@ -1,11 +1,10 @@
-//! What an answer is made of: questions, places, sites of matches, errors, replies, remembered verdicts and units.
+//! What an answer is made of: questions, places, sites of matches, errors, replies and units.
 #![tactic(auto)]
 
 pub mod evaluation_place;
 pub mod faults;
 pub mod matches;
 pub mod question;
-pub mod remembered;
 pub mod replies;
 pub mod sites;
 pub mod spots;

@@ -307,7 +307,6 @@ fn guarded_verdict<'i, K: Validate, M: Matcher>(
     ensures remembers { IfOk result (λ b. EdgeRemembers (asking question.now) context.old context.new
         (edge_of edge.now) (told.Truth b)) }
 {
-    let whole = question.path.across(&edge.path);
     let shared = question.place.shared(engine.alloc)?;
     let here = shared.as_place();
     if context.enter_shared(edge.node, &shared)? {
@@ -318,6 +317,7 @@ fn guarded_verdict<'i, K: Validate, M: Matcher>(
         return Ok(valid);
     }
     let place = EvaluationPlace::given(here);
+    let whole = question.path.across(&edge.path);
     let asked = Question {
         instance: question.instance,
         place: &place,

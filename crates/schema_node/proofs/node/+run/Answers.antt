@@ -2,7 +2,7 @@ use Rattle.std.proofs.lemmas.List.Elements.{All-nil}
 use Rattle.std.specs.Prelude.{All, option_and_then}
 use Rattle.schema_reports.specs.ReportViews.{BorrowsItsPlace}
 use Rattle.schema_parts.specs.FaultViews.{PassesBorrowed}
-use Rattle.std.proofs.Common.{◌≡◌, ◌∙◌, ◌+◌, ◌*◌, ◌<◌, ◌≤◌, ℕ, Bool, suc, arith, sym, refl, ap, subst, map, option_map, string_bytes, length, Some, false, true, true≢false, List, None, [], ◌∷◌, ◌++◌, drop}
+use Rattle.std.proofs.Common.{◌≡◌, ◌∙◌, ◌+◌, ◌*◌, ◌<◌, ◌≤◌, ℕ, Bool, suc, arith, sym, refl, ap, subst, map, option_map, string_bytes, length, Some, false, true, true≢false, List, [], ◌∷◌, ◌++◌, drop}
 use Rattle.schema_reports.specs.InstanceViews.{subject_of, step_of}
 use Rattle.schema_definitions.specs.Instance.{Text}
 use Rattle.schema_definitions.specs.Keywords.{Marked, MatchPoint, Mode, Question, ask, done, ecma, for_verdict, mark, match_text, no_reply, truth, unmark}
@@ -14,7 +14,7 @@ use Rattle.schema_definitions.specs.Laws.{IsRight}
 use Rattle.schema_definitions.specs.Runs.{keyword_met, plan_met, site_at}
 use Rattle.schema_definitions.specs.Unfinished.{Remembered}
 use Rattle.schema_definitions.specs.Matching.{Matcher, Pair, completed, matching, settled}
-use Rattle.schema_definitions.specs.Guarded.{node_at, node_keyword, node_never, same_edge, node_always, node_reference}
+use Rattle.schema_definitions.specs.Guarded.{node_at, node_never, same_edge, node_always, node_reference}
 use Rattle.schema_parts.specs.KeywordViews.{below_of, marked_of, mode_of, reply_of, answer_of}
 use Rattle.schema_contexts.specs.Matches.{after_match, settling}
 use Rattle.schema_node.specs.NodeMeets.{ChildMeets, EdgeMeets, EntryMeets, FormMeets, child_run, part_looked, parts_looked, reading}
@@ -23,14 +23,14 @@ use Rattle.schema_parts.specs.EdgeViews.{edge_of}
 use Rattle.schema_nodes.specs.NodeViews.{entry_of, form_of, node_of, plan_of}
 use Rattle.schema_answers.specs.Askings.{entry_where}
 use Rattle.schema_answers.specs.ReplyModes.{refuses, reply_by}
-use Rattle.schema_node.specs.NodeRuns.{EdgeReplies, child_says, edge_needs, form_says, parts_say}
+use Rattle.schema_node.specs.NodeRuns.{EdgeReplies, child_says, edge_needs, parts_say}
 use Rattle.schema_contexts.specs.Progress.{Context, NoDeeper, busy_at}
 use Rattle.schema_node.specs.RightVerdicts.{LaysOut}
 use Rattle.schema_answers.specs.Askings.{asking, Asking}
 use Rattle.schema_node.specs.RunStates.{EdgeRemembers, FormRemembers, FormSays, MeetsNode, NodeSays, RemembersRightly, StaysRight, setting}
-use Rattle.schema_contexts.specs.Verdicts.{one_more, read_in_mode, visited_in_mode}
+use Rattle.schema_contexts.specs.Verdicts.{one_more}
 use Rattle.schema_parts.specs.declared.keyword.Reply.TheVariants as told
-use Rattle.schema_node.proofs.GoesOn.{alone_remembers, asked_across, computed_meets, computed_remembers, computed_says, computed_stays, ended_remembers, pairs_back, planned_remembers, read_for_verdict, read_meets_edge, read_remembers, read_says, right_matched, right_same, stamped_remembers}
+use Rattle.schema_node.proofs.GoesOn.{alone_remembers, asked_across, computed_meets, computed_says, computed_stays, ended_remembers, kept_remembers, kept_stays, pairs_back, planned_remembers, read_meets_edge, read_remembers, read_says, reference_remembers, right_matched, right_same}
 use Rattle.schema_node.proofs.RightVerdicts.{laid_below, read_entered}
 use Rattle.schema_node.proofs.Visits.{always_counts, busy_counts, computed_counts, ended_counts, free_counts, keyword_counts, never_counts, next_counts, planned_counts, read_counts}
 use Rattle.schema_node.specs.Visits.{NodeCounts}
@@ -54,7 +54,7 @@ use Rattle.schema_meaning.proofs.TurnsGiveRuns.{keeps_of_turns}
 use Rattle.schema_node.specs.UnitStates.{child_unit, parts_units}
 use Rattle.schema_node.proofs.NodeUnits.{entered_meets, finds_moved, finds_units, form_moved, gives_always, gives_below, gives_busy, gives_entered, gives_here, gives_keyword, gives_never, gives_reference, gives_these, placed_last, placed_next, tells_moved}
 use Rattle.schema_node.proofs.UnitsAsked.{answer_is, child_valid, told_is}
-use Rattle.schema_node.proofs.Verdicts.{joins_verdict, keyword_replies, same_verdict, stamps_verdict, verdict_replies, yes_says}
+use Rattle.schema_node.proofs.Verdicts.{joins_verdict, keyword_replies, stamps_verdict, verdict_replies, yes_says}
 use Rattle.schema_node.proofs.node.+run.Goals as goal
 
 -- ---- a call's measure falls
@@ -109,7 +109,7 @@ run::run_child-run_edge-requires g t c =
     let e = edge_of c.in-Some.edge.now in
     let k = c.requires.children c.args.child e (sym c.in-Some.ensures.edge) in
     let l = falls_here g.K.Validate.words g.K.Validate.is_whole ns (length c.args.engine.now.nodes.now) (settling (g.M.Matcher.matching c.args.engine.now.matcher.now) c.args.context.now.remembered.assumptions) c.requires.may.ranked c.args.node.0 (subject_of c.args.question.now.instance) (busy_at (steps_to c.args.question.now.place.now) c.args.context.now.in_progress) e c.requires.may.known k in
-    λ κs h. (lower_edge _ _ _ t 0 refl l c.decreases, (h.0, (h.1.0, (h.1.1.0, (h.1.1.1, record { known = (c.requires.may.ranked c.args.node.0 c.requires.may.known e k).0; ranked = c.requires.may.ranked; above = c.requires.may.above; wanted = c.requires.may.wanted; goes_on = c.requires.may.goes_on })))))
+    λ κs h. (lower_edge _ _ _ t 0 refl l c.decreases, (h.0, (h.1.0, (h.1.1.0, (h.1.1.1, (record { known = (c.requires.may.ranked c.args.node.0 c.requires.may.known e k).0; ranked = c.requires.may.ranked; above = c.requires.may.above; wanted = c.requires.may.wanted; goes_on = c.requires.may.goes_on }, c.requires.more))))))
 
 pub run::run_child-run_edge-requires-in-Some-one_below : goal.run::run_child-run_edge-requires-in-Some-one_below
 run::run_child-run_edge-requires-in-Some-one_below g t c =
@@ -125,7 +125,7 @@ run::run_child-run_edge-requires-in-Some-one_below g t c =
     let n = ap (edge_needs ns (length c.args.engine.now.nodes.now) e (subject_of c.in-Some-one_below.inner)) none in
     let (layout, laid, right) = c.requires.may.goes_on in
     let below = laid_below layout p (subject_of c.args.question.now.instance) (subject_of c.in-Some-one_below.inner) step (steps_to c.below-lower.result) laid c.below-lower.ensures.below c.in-Some-one_below.ensures.below.1 in
-    λ κs h. (lower_edge _ _ _ t 0 n l c.decreases, (h.0, (h.1.0, (h.1.1.0, (h.1.1.1, record { known = (c.requires.may.ranked c.args.node.0 c.requires.may.known e k).0; ranked = c.requires.may.ranked; above = deeper; wanted = c.requires.may.wanted; goes_on = (layout, below, right) })))))
+    λ κs h. (lower_edge _ _ _ t 0 n l c.decreases, (h.0, (h.1.0, (h.1.1.0, (h.1.1.1, (record { known = (c.requires.may.ranked c.args.node.0 c.requires.may.known e k).0; ranked = c.requires.may.ranked; above = deeper; wanted = c.requires.may.wanted; goes_on = (layout, below, right) }, c.requires.more))))))
 
 pub run::run_child-returns-in-None-one_below-clause-says : goal.run::run_child-returns-in-None-one_below-clause-says
 run::run_child-returns-in-None-one_below-clause-says g t c =
@@ -165,24 +165,21 @@ run::run_edge-returns-then-branch-clause-says g t c =
 pub run::run_edge-run_node-requires-2 : goal.run::run_edge-run_node-requires-2
 run::run_edge-run_node-requires-2 g t c =
     let ns = numbered g.K.Validate.shape c.args.engine.now.nodes.now in
-    let p = steps_to c.args.question.now.place.now in
-    let e = edge_of c.args.edge.now in
-    let s = subject_of c.args.question.now.instance in
-    let entered = entered_new e.node p c.args.context.now.in_progress c.in_ok-enter_shared.field-0 c.enter_shared.new.self.in_progress (rw c.in_ok-shared.ensures.same at c.in_ok-enter_shared.ensures.enters) c.if-branch.false in
-    let pairs = ap (λ (z : Context). z.in_progress) c.begin_visit-mark.ensures.counted in
-    let new : c.begin_visit-mark.new.context.in_progress ≡ c.args.context.now.in_progress ++ (e.node, p) ∷ [] = pairs ∙ entered.1 in
-    let busy : busy_at p c.begin_visit-mark.new.context.in_progress ≡ e.node ∷ busy_at p c.args.context.now.in_progress = ap (busy_at p) new ∙ busy-pushed p e.node c.args.context.now.in_progress in
-    let needs = needs_of_entered g.K.Validate.words g.K.Validate.is_whole ns (length c.args.engine.now.nodes.now) (settling (g.M.Matcher.matching c.args.engine.now.matcher.now) c.args.context.now.remembered.assumptions) s (busy_at p c.args.context.now.in_progress) e c.if-not-edge.false entered.0 in
-    let there : steps_to c.given-place.result ≡ p = c.given-place.ensures.same ∙ c.as_place-here.ensures.same ∙ c.in_ok-shared.ensures.same in
-    let l = ap (λ q. left ns (length c.args.engine.now.nodes.now) e.node s (busy_at q c.begin_visit-mark.new.context.in_progress)) there ∙ ap (left ns (length c.args.engine.now.nodes.now) e.node s) busy in
-    let deeper = subst (λ q. NoDeeper q c.begin_visit-mark.new.context.in_progress) (sym there) (subst (NoDeeper p) (sym new) (deeper-pushed p e.node c.args.context.now.in_progress c.requires.may.above)) in
-    let (layout, laid, right) = c.requires.may.goes_on in
     let set = setting g.K.Validate.words g.K.Validate.is_whole g.K.Validate.shape g.M.Matcher.matching c.args.engine.now in
-    let met = ap (λ (z : Context). z.remembered) c.begin_visit-mark.ensures.counted ∙ c.enter_shared.ensures.remembered in
-    let read = ap (λ (z : Context). z.verdicts) c.begin_visit-mark.ensures.counted ∙ c.enter_shared.ensures.verdicts in
+    let w = settling (g.M.Matcher.matching c.args.engine.now.matcher.now) c.args.context.now.remembered.assumptions in
+    let p = steps_to c.args.question.now.place.now in
+    let s = subject_of c.args.question.now.instance in
+    let e = edge_of c.args.edge.now in
+    let entered = entered_new e.node p c.args.context.now.in_progress c.in_ok-enter_shared.field-0 c.enter_shared.new.self.in_progress (rw c.in_ok-shared.ensures.same at c.in_ok-enter_shared.ensures.enters) c.if-branch.false in
+    let pushed : busy_at p c.enter_shared.new.self.in_progress ≡ e.node ∷ busy_at p c.args.context.now.in_progress = ap (busy_at p) entered.1 ∙ busy-pushed p e.node c.args.context.now.in_progress in
+    let there : steps_to c.given-place.result ≡ p = c.given-place.ensures.same ∙ c.as_place-here.ensures.same ∙ c.in_ok-shared.ensures.same in
+    let needs = needs_of_entered g.K.Validate.words g.K.Validate.is_whole ns (length c.args.engine.now.nodes.now) w s (busy_at p c.args.context.now.in_progress) e c.if-not-edge.false entered.0 in
+    let l = ap (λ q. left ns (length c.args.engine.now.nodes.now) e.node s (busy_at q c.enter_shared.new.self.in_progress)) there ∙ ap (left ns (length c.args.engine.now.nodes.now) e.node s) pushed in
+    let deeper = subst (λ q. NoDeeper q c.enter_shared.new.self.in_progress) (sym there) (subst (NoDeeper p) (sym entered.1) (deeper-pushed p e.node c.args.context.now.in_progress c.requires.may.above)) in
+    let (layout, laid, right) = c.requires.may.goes_on in
     let laid' = subst (λ q. LaysOut layout q s) (sym there) laid in
-    let right' = right_same set layout c.args.context.now c.begin_visit-mark.new.context met read right in
-    λ κs h. (lower_entered _ _ _ t l needs c.decreases, (h.0, (h.1.0, (h.1.1.0, (h.1.1.1, record { known = c.requires.may.known; ranked = c.requires.may.ranked; above = deeper; wanted = c.requires.may.wanted; goes_on = (layout, laid', right') })))))
+    let right' = right_same set layout c.args.context.now c.enter_shared.new.self c.enter_shared.ensures.remembered c.enter_shared.ensures.verdicts right in
+    λ κs h. (lower_entered _ _ _ t l needs c.decreases, (h.0, (h.1.0, (h.1.1.0, (h.1.1.1, (record { known = c.requires.may.known; ranked = c.requires.may.ranked; above = deeper; wanted = c.requires.may.wanted; goes_on = (layout, laid', right') }, c.requires.more))))))
 
 pub run::run_form-run_edge-requires : goal.run::run_form-run_edge-requires
 run::run_form-run_edge-requires g t c =
@@ -190,7 +187,7 @@ run::run_form-run_edge-requires g t c =
     let e = edge_of c.in-Reference.edge in
     let k = reference_edge ns c.args.node.0 e (rw c.in-Reference.is at c.requires.form) in
     let l = falls_here g.K.Validate.words g.K.Validate.is_whole ns (length c.args.engine.now.nodes.now) (settling (g.M.Matcher.matching c.args.engine.now.matcher.now) c.args.context.now.remembered.assumptions) c.requires.may.ranked c.args.node.0 (subject_of c.args.question.now.instance) (busy_at (steps_to c.args.question.now.place.now) c.args.context.now.in_progress) e c.requires.may.known k in
-    λ κs h. (lower_edge _ _ _ t 6 refl l c.decreases, (h.0, (h.1.0, (h.1.1.0, (h.1.1.1, record { known = (c.requires.may.ranked c.args.node.0 c.requires.may.known e k).0; ranked = c.requires.may.ranked; above = c.requires.may.above; wanted = c.requires.may.wanted; goes_on = c.requires.may.goes_on })))))
+    λ κs h. (lower_edge _ _ _ t 6 refl l c.decreases, (h.0, (h.1.0, (h.1.1.0, (h.1.1.1, (record { known = (c.requires.may.ranked c.args.node.0 c.requires.may.known e k).0; ranked = c.requires.may.ranked; above = c.requires.may.above; wanted = c.requires.may.wanted; goes_on = c.requires.may.goes_on }, c.requires.more))))))
 
 pub run::run_form-returns-in-Keyword-clause-says : goal.run::run_form-returns-in-Keyword-clause-says
 run::run_form-returns-in-Keyword-clause-says g t c = rw (c.in-Keyword.is, ← c.as_slice.ensures.value) c.run_keyword.ensures.says
@@ -208,7 +205,7 @@ run::run_form-returns-in_ok-reply-in-Reference-clause-says g t c =
 pub run::run_node-run_entries-requires : goal.run::run_node-run_entries-requires
 run::run_node-run_entries-requires g t c =
     let plan = plan_is g.K.Validate.shape c.args.engine.now.nodes.now c.args.node.0 (node_of c.node-found.result.now) _ c.node-found.ensures.found (ap (option_map plan_of) c.in-Some.is ∙ ap (λ f. Some (plan_of f)) c.in-Keywords.is) in
-    λ κs h. (lower_same _ _ t 9 0 refl c.decreases, (h.0, (h.1.0, (h.1.1.0, (h.1.1.1, (c.requires.may, rw c.as_slice.ensures.value (_, plan, λ y k. k)))))))
+    λ κs h. (lower_same _ _ t 9 0 refl c.decreases, (h.0, (h.1.0, (h.1.1.0, (h.1.1.1, (c.requires.may, (c.requires.more, rw c.as_slice.ensures.value (_, plan, λ y k. k))))))))
 
 pub run::run_node-returns-in-Never-clause-says : goal.run::run_node-returns-in-Never-clause-says
 run::run_node-returns-in-Never-clause-says g t c =
@@ -232,9 +229,6 @@ run::run_node-returns-in-Keywords-clause-says g t c =
 pub run::run_entries-loop-entry-init : goal.run::run_entries-loop-entry-init
 run::run_entries-loop-entry-init g t c = record {
   stays = λ layout laid right. right;
-  first = λ e. (refl, c.accepted-found.ensures.accepts);
-  remembers = λ l. absurd (omega (arith, l));
-  visited = λ l. absurd (omega (arith, l));
   marking = refl;
   kept = refl;
   assumes = refl;
@@ -251,14 +245,11 @@ run::run_entries-run_entry-requires g t c =
     let kept = c.loop-entry.invariant.kept in
     let l = ap (λ es. left ns (length c.args.engine.now.nodes.now) c.args.node.0 (subject_of c.args.question.now.instance) (busy_at p es)) kept in
     let here = part_at entry_of (shaped_part g.K.Validate.shape) c.args.entries.now c.loop-entry.entry-index c.entry-item.result c.loop-entry-test.true c.entry-item.is in
-    λ κs h. (lower_same _ _ t 8 0 l c.decreases, (h.0, (h.1.0, (h.1.1.0, (h.1.1.1, (record { known = c.requires.may.known; ranked = c.requires.may.ranked; above = subst (NoDeeper p) (sym kept) c.requires.may.above; wanted = c.requires.may.wanted; goes_on = (c.requires.may.goes_on.0, c.requires.may.goes_on.1, c.loop-entry.invariant.stays c.requires.may.goes_on.0 c.requires.may.goes_on.1 c.requires.may.goes_on.2) }, (c.requires.parts.0, c.requires.parts.1, shaped_part g.K.Validate.shape (entry_of c.entry-item.result), c.requires.parts.2 _ here, refl)))))))
+    λ κs h. (lower_same _ _ t 8 0 l c.decreases, (h.0, (h.1.0, (h.1.1.0, (h.1.1.1, (record { known = c.requires.may.known; ranked = c.requires.may.ranked; above = subst (NoDeeper p) (sym kept) c.requires.may.above; wanted = c.requires.may.wanted; goes_on = (c.requires.may.goes_on.0, c.requires.may.goes_on.1, c.loop-entry.invariant.stays c.requires.may.goes_on.0 c.requires.may.goes_on.1 c.requires.may.goes_on.2) }, (c.requires.more, (c.requires.parts.0, c.requires.parts.1, shaped_part g.K.Validate.shape (entry_of c.entry-item.result), c.requires.parts.2 _ here, refl))))))))
 
 pub run::run_entries-loop-entry-preserved : goal.run::run_entries-loop-entry-preserved
 run::run_entries-loop-entry-preserved g t c = record {
   stays = λ layout laid right. c.in_ok-more.ensures.stays layout laid (c.loop-entry.invariant.stays layout laid right);
-  first = λ e. absurd (omega (arith, e));
-  remembers = λ l. alone_remembers (asking c.args.question.now) entry_of (shaped_part g.K.Validate.shape) c.args.entries.now c.loop-entry.entry-index c.entry-item.result c.loop-entry-test.true c.entry-item.is c.args.context.now c.loop-entry.context c.run_entry.new.context c.loop-entry.found c.in_ok-more.more c.in_ok-found.found c.loop-entry.invariant.first c.in_ok-found.ensures.both c.in_ok-more.ensures.remembers;
-  visited = λ l. next_counts (numbered g.K.Validate.shape c.args.engine.now.nodes.now) (asking c.args.question.now) entry_of (shaped_part g.K.Validate.shape) c.args.entries.now c.loop-entry.entry-index c.entry-item.result c.loop-entry-test.true c.entry-item.is c.args.context.now c.loop-entry.context c.run_entry.new.context (λ e. (c.loop-entry.invariant.first e).0) c.loop-entry.invariant.visited c.in_ok-more.ensures.visits;
   kept = c.in_ok-more.ensures.keeps.in_progress ∙ c.loop-entry.invariant.kept;
   assumes = c.in_ok-more.ensures.keeps.assumptions ∙ c.loop-entry.invariant.assumes;
   marking = c.in_ok-more.ensures.keeps.marking ∙ c.loop-entry.invariant.marking;
@@ -306,8 +297,8 @@ run::run_entry-returns-then-valid-clause-says g t c = λ x reads l.
     leaf_accepts g.K.Validate.words (numbered g.K.Validate.shape c.args.engine.now.nodes.now) (λ texts m s completion matcher a h. (g.met.K.Validate.function_laws texts m).agree s (matching matcher completion) a h) x (mode_of c.args.question.now.mode) c.args.node.0 (path_of c.args.question.now.path.now) (steps_to c.args.question.now.place.now)
     (busy_at (steps_to c.args.question.now.place.now) c.args.context.now.in_progress) (string_bytes c.args.entry.now.name) _ (told.Truth c.in_ok-valid.valid) c.accepted.result c.if-valid.true (c.in_ok-valid.ensures.says x reads l) c.accepted.ensures.accepts c.accepted.ensures.no_errors
 
-pub run::run_entry-returns-then-asks_verdict_first-clause-says : goal.run::run_entry-returns-then-asks_verdict_first-clause-says
-run::run_entry-returns-then-asks_verdict_first-clause-says g t c = rw (c.in_ok-valid.ensures.keeps.in_progress, c.in_ok-valid.ensures.keeps.assumptions) at c.run_form.ensures.says
+pub run::run_entry-returns-then-entry-clause-says : goal.run::run_entry-returns-then-entry-clause-says
+run::run_entry-returns-then-entry-clause-says g t c = rw (c.in_ok-valid.ensures.keeps.in_progress, c.in_ok-valid.ensures.keeps.assumptions) at c.run_form.ensures.says
 
 pub run::run_keyword-keyword_answer-requires : goal.run::run_keyword-keyword_answer-requires
 run::run_keyword-keyword_answer-requires g t c =
@@ -341,44 +332,6 @@ turns::keyword_answer-returns-clause-stays g t c = λ layout laid right.
 
 pub turns::keyword_answer-returns-clause-counts : goal.turns::keyword_answer-returns-clause-counts
 turns::keyword_answer-returns-clause-counts g t c = rw (c.set_aside-aside.ensures.visits, ← c.put_back.ensures.visits) at c.in_ok-run_turns.ensures.counts
-
-pub run::run_keyword-returns-in-Some-clause-says : goal.run::run_keyword-returns-in-Some-clause-says
-run::run_keyword-returns-in-Some-clause-says g t c = λ x reads l.
-    let ns = numbered g.K.Validate.shape c.args.engine.now.nodes.now in
-    let w = settling (g.M.Matcher.matching c.args.engine.now.matcher.now) c.args.context.now.remembered.assumptions in
-    let p = steps_to c.args.question.now.place.now in
-    let s = subject_of c.args.question.now.instance in
-    let m = g.K.Validate.shape c.args.keyword.now.keyword.now in
-    let es = map (option_map edge_of) c.args.keyword.now.children.now in
-    let busy = busy_at p c.args.context.now.in_progress in
-    let path = path_of c.args.question.now.path.now in
-    let name = string_bytes c.args.keyword.now.name.now in
-    let tells = tells_keyword g.K.Validate.is_whole ns (length c.args.engine.now.nodes.now) w p s x c.args.node.0 m es c.requires.may.known reads c.requires.form in
-    let answers = child_says g.K.Validate.words ns x path p busy es in
-    let right = right_at_once (g.K.Validate.words x.texts) m (g.K.Validate.absorbed m) (g.K.Validate.remaining m) (g.K.Validate.can_be x.texts m) (g.K.Validate.ends x.texts m) (g.K.Validate.fits x.texts m) (g.met.K.Validate.turn_laws x.texts m) s x answers (same_edge es) c.in-Some.valid
-    (agrees_answers g.K.Validate.words ns (λ texts m s completion matcher a h. (g.met.K.Validate.function_laws texts m).agree s (matching matcher completion) a h) x path p busy es)
-    (asked_alike (g.K.Validate.words x.texts) x.matcher ns (subject_in x.root) x.completion x.depth path p busy es)
-    (c.in-Some.ensures.at_once x.texts tells) in
-    let there = right ∙ ap (λ v. (g.K.Validate.words x.texts).holds m v (matching x.matcher x.completion) (λ q. (answers q).verdict)) (sym (stands_in x.root p s reads.stands)) in
-    record { same = subst (λ mode. truth c.in-Some.valid ≡ reply_by mode (form_says g.K.Validate.words ns x c.args.node.0 path p busy name (node_keyword m es))) (sym c.in-Some.ensures.verdict) (ap truth there); borrows = All-nil (BorrowsItsPlace x.root) }
-
-pub run::run_keyword-returns-in-Some-clause-meets : goal.run::run_keyword-returns-in-Some-clause-meets
-run::run_keyword-returns-in-Some-clause-meets g t c = λ texts root depth reads l.
-    let ns = numbered g.K.Validate.shape c.args.engine.now.nodes.now in
-    let w = settling (g.M.Matcher.matching c.args.engine.now.matcher.now) c.args.context.now.remembered.assumptions in
-    let p = steps_to c.args.question.now.place.now in
-    let s = subject_of c.args.question.now.instance in
-    let m = g.K.Validate.shape c.args.keyword.now.keyword.now in
-    let es = map (option_map edge_of) c.args.keyword.now.children.now in
-    let busy = busy_at p c.args.context.now.in_progress in
-    let path = path_of c.args.question.now.path.now in
-    let name = string_bytes c.args.keyword.now.name.now in
-    let at_node = node_at (g.K.Validate.words texts) w.matcher ns (subject_in root) c.args.node.0 path p in
-    let runs = child_run g.K.Validate.words ns w texts root depth path p busy es in
-    let tells = tells_keyword g.K.Validate.is_whole ns (length c.args.engine.now.nodes.now) w p s (reading w texts root depth) c.args.node.0 m es c.requires.may.known reads c.requires.form in
-    let all = meets_at_once (g.K.Validate.words texts) w.matcher w.assumptions at_node s runs (same_edge es) name m (g.K.Validate.remaining m s) c.args.context.now.remembered c.in-Some.valid (c.in-Some.ensures.at_once texts tells) ((g.met.K.Validate.turn_laws texts m).bounded s for_verdict) in
-    meets_same w.matcher _ _ _ _ (ap (keyword_met (g.K.Validate.words texts) w.matcher w.assumptions at_node s runs (same_edge es) name m) (sym c.in-Some.ensures.verdict)
-    ∙ ap (λ v. keyword_met (g.K.Validate.words texts) w.matcher w.assumptions at_node v runs (same_edge es) name m (mode_of c.args.question.now.mode)) (sym (stands_in root p s reads.stands))) all
 
 pub run::run_keyword-returns-clause-says : goal.run::run_keyword-returns-clause-says
 run::run_keyword-returns-clause-says g t c =
@@ -444,10 +397,10 @@ run::run_entry-returns-then-valid-clause-meets g t c = λ texts root depth reads
     let part = shaped_part g.K.Validate.shape (entry_of c.args.entry.now) in
     let looked = part_looked g.K.Validate.words ns w texts root depth c.args.node.0 (path_of c.args.question.now.path.now) p busy part in
     let holds = leaf_holds g.K.Validate.words ns w texts root depth c.args.node.0 (path_of c.args.question.now.path.now) p busy part (told.Truth c.in_ok-valid.valid) _ (c.in_ok-valid.ensures.says (reading w texts root depth) reads l) c.if-valid.true in
-    meets_same w.matcher _ _ _ _ (leaf_yes (mode_of c.args.question.now.mode) looked (c.asks_verdict_first.ensures.leaf c.if-asks_verdict_first.true) (c.asks_verdict_first.ensures.wants_more c.if-asks_verdict_first.true) (c.asks_verdict_first.ensures.wants_errors c.if-asks_verdict_first.true) holds) (c.in_ok-valid.ensures.meets texts root depth reads l)
+    meets_same w.matcher _ _ _ _ (leaf_yes (mode_of c.args.question.now.mode) looked c.if-entry.true c.requires.more c.requires.may.wanted holds) (c.in_ok-valid.ensures.meets texts root depth reads l)
 
-pub run::run_entry-returns-then-asks_verdict_first-clause-meets : goal.run::run_entry-returns-then-asks_verdict_first-clause-meets
-run::run_entry-returns-then-asks_verdict_first-clause-meets g t c = if_ok_mono c.run_form.result _ _ (λ r met texts root depth reads l.
+pub run::run_entry-returns-then-entry-clause-meets : goal.run::run_entry-returns-then-entry-clause-meets
+run::run_entry-returns-then-entry-clause-meets g t c = if_ok_mono c.run_form.result _ _ (λ r met texts root depth reads l.
     let ns = numbered g.K.Validate.shape c.args.engine.now.nodes.now in
     let w = settling (g.M.Matcher.matching c.args.engine.now.matcher.now) c.args.context.now.remembered.assumptions in
     let p = steps_to c.args.question.now.place.now in
@@ -457,7 +410,7 @@ run::run_entry-returns-then-asks_verdict_first-clause-meets g t c = if_ok_mono c
     let looked = part_looked g.K.Validate.words ns w texts root depth c.args.node.0 (path_of c.args.question.now.path.now) p busy part in
     let holds = leaf_holds g.K.Validate.words ns w texts root depth c.args.node.0 (path_of c.args.question.now.path.now) p busy part (told.Truth c.in_ok-valid.valid) _ (c.in_ok-valid.ensures.says (reading w texts root depth) reads l) c.if-valid.false in
     let more = moved (λ es as'. FormMeets g.K.Validate.words g.K.Validate.is_whole ns (length c.args.engine.now.nodes.now) (settling (g.M.Matcher.matching c.args.engine.now.matcher.now) as') (mode_of c.args.question.now.mode) (path_of c.args.question.now.path.now) p (busy_at p es) s c.verdict_form.new.context.remembered c.run_form.new.context.remembered c.args.node.0 part.name part.form) c.in_ok-valid.ensures.keeps.in_progress c.in_ok-valid.ensures.keeps.assumptions met texts root depth reads l in
-    meets_same w.matcher _ _ _ _ (leaf_no (mode_of c.args.question.now.mode) looked (c.asks_verdict_first.ensures.leaf c.if-asks_verdict_first.true) (c.asks_verdict_first.ensures.wants_more c.if-asks_verdict_first.true) (c.asks_verdict_first.ensures.wants_errors c.if-asks_verdict_first.true) holds) (meets_append w.matcher _ _ _ _ _ (c.in_ok-valid.ensures.meets texts root depth reads l) more)) c.run_form.ensures.meets
+    meets_same w.matcher _ _ _ _ (leaf_no (mode_of c.args.question.now.mode) looked c.if-entry.true c.requires.more c.requires.may.wanted holds) (meets_append w.matcher _ _ _ _ _ (c.in_ok-valid.ensures.meets texts root depth reads l) more)) c.run_form.ensures.meets
 
 pub run::run_child-returns-in-None-one_below-clause-meets : goal.run::run_child-returns-in-None-one_below-clause-meets
 run::run_child-returns-in-None-one_below-clause-meets g t c =
@@ -533,7 +486,7 @@ run::run_entry-returns-clause-meets g t c = if_ok_mono c.run_form-2.result _ _ (
     let p = steps_to c.args.question.now.place.now in
     let busy = busy_at p c.args.context.now.in_progress in
     let looked = part_looked g.K.Validate.words ns w texts root depth c.args.node.0 (path_of c.args.question.now.path.now) p busy (shaped_part g.K.Validate.shape (entry_of c.args.entry.now)) in
-    meets_same w.matcher _ _ _ _ (other_entry (mode_of c.args.question.now.mode) looked (c.asks_verdict_first.ensures.other c.if-asks_verdict_first.false)) (met texts root depth reads l)) c.run_form-2.ensures.meets
+    meets_same w.matcher _ _ _ _ (other_entry (mode_of c.args.question.now.mode) looked (λ more less. c.if-entry.false)) (met texts root depth reads l)) c.run_form-2.ensures.meets
 
 pub run::run_entries-returns-clause-meets : goal.run::run_entries-returns-clause-meets
 run::run_entries-returns-clause-meets g t c = λ texts root depth reads l.
@@ -544,51 +497,18 @@ run::run_entries-returns-clause-meets g t c = λ texts root depth reads l.
     end_met w.matcher (mode_of c.args.question.now.mode) (looked (drop c.loop-entry.entry-index c.args.entries.now)) (plan_met (mode_of c.args.question.now.mode) (looked c.args.entries.now)) c.args.context.now.remembered c.loop-entry.context.remembered
     (ap looked (drop_past c.args.entries.now c.loop-entry.entry-index c.loop-entry-test.false)) (c.loop-entry.invariant.met texts root depth reads l)
 
-pub run::run_edge-returns-then-branch-clause-remembers : goal.run::run_edge-returns-then-branch-clause-remembers
-run::run_edge-returns-then-branch-clause-remembers g t c = λ mode guarded free.
-    let p = steps_to c.args.question.now.place.now in
-    let e = edge_of c.args.edge.now in
-    let old = entered_old e.node p c.args.context.now.in_progress c.in_ok-enter_shared.field-0 c.enter_shared.new.self.in_progress (rw c.in_ok-shared.ensures.same at c.in_ok-enter_shared.ensures.enters) c.if-branch.true in
-    absurd (true≢false (sym old.0 ∙ free))
-
-pub run::run_edge-returns-in-Some-clause-says : goal.run::run_edge-returns-in-Some-clause-says
-run::run_edge-returns-in-Some-clause-says g t c =
-    let set = setting g.K.Validate.words g.K.Validate.is_whole g.K.Validate.shape g.M.Matcher.matching c.args.engine.now in
-    let q = asking c.args.question.now in
-    let p = steps_to c.args.question.now.place.now in
-    let e = edge_of c.args.edge.now in
-    let entered = entered_new e.node p c.args.context.now.in_progress c.in_ok-enter_shared.field-0 c.enter_shared.new.self.in_progress (rw c.in_ok-shared.ensures.same at c.in_ok-enter_shared.ensures.enters) c.if-branch.false in
-    let found = sym (rw (c.as_place-here.ensures.same ∙ c.in_ok-shared.ensures.same) at c.in-Some.ensures.read) in
-    read_says set q e c.args.context.now c.if-not-edge.false entered.0 c.enter_shared.new.self c.exit.new.self c.in-Some.valid (told.Truth c.in-Some.valid) entered.1 c.enter_shared.ensures.verdicts found (λ texts. refl) c.requires.may.goes_on refl
-
-pub run::run_edge-returns-in-Some-clause-meets : goal.run::run_edge-returns-in-Some-clause-meets
-run::run_edge-returns-in-Some-clause-meets g t c =
-    let set = setting g.K.Validate.words g.K.Validate.is_whole g.K.Validate.shape g.M.Matcher.matching c.args.engine.now in
-    let q = asking c.args.question.now in
-    let p = steps_to c.args.question.now.place.now in
-    let e = edge_of c.args.edge.now in
-    let entered = entered_new e.node p c.args.context.now.in_progress c.in_ok-enter_shared.field-0 c.enter_shared.new.self.in_progress (rw c.in_ok-shared.ensures.same at c.in_ok-enter_shared.ensures.enters) c.if-branch.false in
-    let found = sym (rw (c.as_place-here.ensures.same ∙ c.in_ok-shared.ensures.same) at c.in-Some.ensures.read) in
-    read_meets_edge set q e c.args.context.now c.if-not-edge.false entered.0 c.enter_shared.new.self c.exit.new.self c.in-Some.valid (told.Truth c.in-Some.valid) entered.1 c.enter_shared.ensures.verdicts found (λ texts. refl) c.requires.may.goes_on (c.exit.ensures.remembered ∙ c.enter_shared.ensures.remembered)
-
 pub run::run_edge-returns-clause-says : goal.run::run_edge-returns-clause-says
 run::run_edge-returns-clause-says g t c =
     let set = setting g.K.Validate.words g.K.Validate.is_whole g.K.Validate.shape g.M.Matcher.matching c.args.engine.now in
     let q = asking c.args.question.now in
     let p = steps_to c.args.question.now.place.now in
     let e = edge_of c.args.edge.now in
-    let entered = entered_new e.node p c.args.context.now.in_progress c.in_ok-enter_shared.field-0 c.enter_shared.new.self.in_progress (rw c.in_ok-shared.ensures.same at c.in_ok-enter_shared.ensures.enters) c.if-branch.false in
-    let c2 = c.begin_visit-mark.new.context in
-    let c3 = c.run_node-2.new.context in
-    let pairs : c2.in_progress ≡ c.args.context.now.in_progress ++ (e.node, p) ∷ [] = ap (λ (z : Context). z.in_progress) c.begin_visit-mark.ensures.counted ∙ entered.1 in
-    let met : c2.remembered ≡ c.args.context.now.remembered = ap (λ (z : Context). z.remembered) c.begin_visit-mark.ensures.counted ∙ c.enter_shared.ensures.remembered in
+    let c1 = c.enter_shared.new.self in
+    let entered = entered_new e.node p c.args.context.now.in_progress c.in_ok-enter_shared.field-0 c1.in_progress (rw c.in_ok-shared.ensures.same at c.in_ok-enter_shared.ensures.enters) c.if-branch.false in
     let there : steps_to c.given-place.result ≡ p = c.given-place.ensures.same ∙ c.as_place-here.ensures.same ∙ c.in_ok-shared.ensures.same in
     let at_asked : (record { subject = q.subject; place = steps_to c.given-place.result; path = path_of c.across-whole.result; mode = q.mode }) ≡ asked_across set q e c.args.context.now c.if-not-edge.false entered.0
     = λ i. record { subject = q.subject; place = there i; path = c.across-whole.ensures.appended i; mode = q.mode } in
-    let says = subst (λ z. NodeSays set z c2 e.node c.in_ok-computed.computed) at_asked c.in_ok-computed.ensures.says in
-    let meets = subst (λ z. MeetsNode set z c2 c3 e.node) at_asked c.in_ok-computed.ensures.meets in
-    let keeps = c.in_ok-computed.ensures.keeps in
-    computed_says set q e c.args.context.now c.if-not-edge.false entered.0 c.enter_shared.new.self c2 c3 c.kept_reply.new.context c.exit-2.new.self c.begin_visit-mark.result c.in_ok-computed.computed c.in_ok-reply.reply pairs met says meets keeps c.in_ok-reply.ensures.same
+    computed_says set q e c.args.context.now c.if-not-edge.false entered.0 c1 entered.1 c.enter_shared.ensures.remembered c.in_ok-reply.reply (subst (λ z. NodeSays set z c1 e.node c.in_ok-reply.reply) at_asked c.in_ok-reply.ensures.says)
 
 pub run::run_edge-returns-clause-meets : goal.run::run_edge-returns-clause-meets
 run::run_edge-returns-clause-meets g t c =
@@ -596,19 +516,13 @@ run::run_edge-returns-clause-meets g t c =
     let q = asking c.args.question.now in
     let p = steps_to c.args.question.now.place.now in
     let e = edge_of c.args.edge.now in
-    let entered = entered_new e.node p c.args.context.now.in_progress c.in_ok-enter_shared.field-0 c.enter_shared.new.self.in_progress (rw c.in_ok-shared.ensures.same at c.in_ok-enter_shared.ensures.enters) c.if-branch.false in
-    let c2 = c.begin_visit-mark.new.context in
+    let c1 = c.enter_shared.new.self in
     let c3 = c.run_node-2.new.context in
-    let pairs : c2.in_progress ≡ c.args.context.now.in_progress ++ (e.node, p) ∷ [] = ap (λ (z : Context). z.in_progress) c.begin_visit-mark.ensures.counted ∙ entered.1 in
-    let met : c2.remembered ≡ c.args.context.now.remembered = ap (λ (z : Context). z.remembered) c.begin_visit-mark.ensures.counted ∙ c.enter_shared.ensures.remembered in
+    let entered = entered_new e.node p c.args.context.now.in_progress c.in_ok-enter_shared.field-0 c1.in_progress (rw c.in_ok-shared.ensures.same at c.in_ok-enter_shared.ensures.enters) c.if-branch.false in
     let there : steps_to c.given-place.result ≡ p = c.given-place.ensures.same ∙ c.as_place-here.ensures.same ∙ c.in_ok-shared.ensures.same in
     let at_asked : (record { subject = q.subject; place = steps_to c.given-place.result; path = path_of c.across-whole.result; mode = q.mode }) ≡ asked_across set q e c.args.context.now c.if-not-edge.false entered.0
     = λ i. record { subject = q.subject; place = there i; path = c.across-whole.ensures.appended i; mode = q.mode } in
-    let says = subst (λ z. NodeSays set z c2 e.node c.in_ok-computed.computed) at_asked c.in_ok-computed.ensures.says in
-    let meets = subst (λ z. MeetsNode set z c2 c3 e.node) at_asked c.in_ok-computed.ensures.meets in
-    let keeps = c.in_ok-computed.ensures.keeps in
-    let met5 = c.exit-2.ensures.remembered ∙ ap (λ (z : Context). z.remembered) c.kept_reply.ensures.frame in
-    computed_meets set q e c.args.context.now c.if-not-edge.false entered.0 c.enter_shared.new.self c2 c3 c.kept_reply.new.context c.exit-2.new.self c.begin_visit-mark.result c.in_ok-computed.computed c.in_ok-reply.reply pairs met says meets keeps c.in_ok-reply.ensures.same met5
+    computed_meets set q e c.args.context.now c.if-not-edge.false entered.0 c1 entered.1 c.enter_shared.ensures.remembered c3 c.exit.new.self (subst (λ z. MeetsNode set z c1 c3 e.node) at_asked c.in_ok-reply.ensures.meets) c.exit.ensures.remembered
 
 pub run::run_edge-returns-clause-stays : goal.run::run_edge-returns-clause-stays
 run::run_edge-returns-clause-stays g t c =
@@ -616,71 +530,16 @@ run::run_edge-returns-clause-stays g t c =
     let q = asking c.args.question.now in
     let p = steps_to c.args.question.now.place.now in
     let e = edge_of c.args.edge.now in
-    let entered = entered_new e.node p c.args.context.now.in_progress c.in_ok-enter_shared.field-0 c.enter_shared.new.self.in_progress (rw c.in_ok-shared.ensures.same at c.in_ok-enter_shared.ensures.enters) c.if-branch.false in
-    let c2 = c.begin_visit-mark.new.context in
+    let c1 = c.enter_shared.new.self in
     let c3 = c.run_node-2.new.context in
-    let pairs : c2.in_progress ≡ c.args.context.now.in_progress ++ (e.node, p) ∷ [] = ap (λ (z : Context). z.in_progress) c.begin_visit-mark.ensures.counted ∙ entered.1 in
-    let met : c2.remembered ≡ c.args.context.now.remembered = ap (λ (z : Context). z.remembered) c.begin_visit-mark.ensures.counted ∙ c.enter_shared.ensures.remembered in
+    let entered = entered_new e.node p c.args.context.now.in_progress c.in_ok-enter_shared.field-0 c1.in_progress (rw c.in_ok-shared.ensures.same at c.in_ok-enter_shared.ensures.enters) c.if-branch.false in
     let there : steps_to c.given-place.result ≡ p = c.given-place.ensures.same ∙ c.as_place-here.ensures.same ∙ c.in_ok-shared.ensures.same in
     let at_asked : (record { subject = q.subject; place = steps_to c.given-place.result; path = path_of c.across-whole.result; mode = q.mode }) ≡ asked_across set q e c.args.context.now c.if-not-edge.false entered.0
     = λ i. record { subject = q.subject; place = there i; path = c.across-whole.ensures.appended i; mode = q.mode } in
-    let says = subst (λ z. NodeSays set z c2 e.node c.in_ok-computed.computed) at_asked c.in_ok-computed.ensures.says in
-    let meets = subst (λ z. MeetsNode set z c2 c3 e.node) at_asked c.in_ok-computed.ensures.meets in
-    let keeps = c.in_ok-computed.ensures.keeps in
-    let read = ap (λ (z : Context). z.verdicts) c.begin_visit-mark.ensures.counted ∙ c.enter_shared.ensures.verdicts in
-    let stays = subst (λ z. StaysRight set z c2 c3) at_asked c.in_ok-computed.ensures.stays in
-    let kept = rw (c.as_place-here.ensures.same ∙ c.in_ok-shared.ensures.same) at c.in_ok-reply.ensures.kept in
-    let few = rw (c.as_place-here.ensures.same ∙ c.in_ok-shared.ensures.same) at c.in_ok-reply.ensures.few in
-    computed_stays set q e c.args.context.now c.if-not-edge.false entered.0 c.enter_shared.new.self c2 c3 c.kept_reply.new.context c.exit-2.new.self c.begin_visit-mark.result c.in_ok-computed.computed c.in_ok-reply.reply pairs met says meets keeps c.in_ok-reply.ensures.same
-    g.met.K.Validate.asks_verdicts kept read stays few c.kept_reply.ensures.other_modes (ap (λ (z : Context). z.remembered) c.kept_reply.ensures.frame) c.exit-2.ensures.remembered c.exit-2.ensures.verdicts
-
-pub run::run_edge-returns-clause-remembers : goal.run::run_edge-returns-clause-remembers
-run::run_edge-returns-clause-remembers g t c =
-    let set = setting g.K.Validate.words g.K.Validate.is_whole g.K.Validate.shape g.M.Matcher.matching c.args.engine.now in
-    let q = asking c.args.question.now in
-    let p = steps_to c.args.question.now.place.now in
-    let e = edge_of c.args.edge.now in
-    let entered = entered_new e.node p c.args.context.now.in_progress c.in_ok-enter_shared.field-0 c.enter_shared.new.self.in_progress (rw c.in_ok-shared.ensures.same at c.in_ok-enter_shared.ensures.enters) c.if-branch.false in
-    let c2 = c.begin_visit-mark.new.context in
-    let c3 = c.run_node-2.new.context in
-    let pairs : c2.in_progress ≡ c.args.context.now.in_progress ++ (e.node, p) ∷ [] = ap (λ (z : Context). z.in_progress) c.begin_visit-mark.ensures.counted ∙ entered.1 in
-    let met : c2.remembered ≡ c.args.context.now.remembered = ap (λ (z : Context). z.remembered) c.begin_visit-mark.ensures.counted ∙ c.enter_shared.ensures.remembered in
-    let there : steps_to c.given-place.result ≡ p = c.given-place.ensures.same ∙ c.as_place-here.ensures.same ∙ c.in_ok-shared.ensures.same in
-    let at_asked : (record { subject = q.subject; place = steps_to c.given-place.result; path = path_of c.across-whole.result; mode = q.mode }) ≡ asked_across set q e c.args.context.now c.if-not-edge.false entered.0
-    = λ i. record { subject = q.subject; place = there i; path = c.across-whole.ensures.appended i; mode = q.mode } in
-    let says = subst (λ z. NodeSays set z c2 e.node c.in_ok-computed.computed) at_asked c.in_ok-computed.ensures.says in
-    let meets = subst (λ z. MeetsNode set z c2 c3 e.node) at_asked c.in_ok-computed.ensures.meets in
-    let keeps = c.in_ok-computed.ensures.keeps in
-    let kept = rw (c.as_place-here.ensures.same ∙ c.in_ok-shared.ensures.same) at c.in_ok-reply.ensures.kept in
-    let none = sym (rw (c.as_place-here.ensures.same ∙ c.in_ok-shared.ensures.same) at c.in_default.ensures.read) in
-    let left = ap (λ (z : Context). z.in_progress) c.kept_reply.ensures.frame ∙ keeps.in_progress in
-    let back = pairs_back set q e c.args.context.now c.if-not-edge.false entered.0 c2 c.exit-2.new.self pairs (sym left ∙ rw (c.as_place-here.ensures.same ∙ c.in_ok-shared.ensures.same) at c.exit-2.ensures.left) in
-    let visits = c.exit-2.ensures.visits ∙ ap (λ (z : Context). z.visits) c.kept_reply.ensures.frame in
-    let counted = ap (λ (z : Context). z.visits) c.begin_visit-mark.ensures.counted ∙ ap (visited_in_mode q.mode) c.enter_shared.ensures.visits in
-    let more = subst (λ z. z ≤ c3.visits) counted c.in_ok-computed.ensures.counts in
-    computed_remembers set q e c.args.context.now c.if-not-edge.false entered.0 c.enter_shared.new.self c2 c3 c.kept_reply.new.context c.exit-2.new.self c.begin_visit-mark.result c.in_ok-computed.computed c.in_ok-reply.reply pairs met says meets keeps c.in_ok-reply.ensures.same
-    g.met.K.Validate.asks_verdicts kept entered.1 c.enter_shared.ensures.verdicts none (c.begin_visit-mark.ensures.mark ∙ c.enter_shared.ensures.visits) back visits more c.exit-2.ensures.verdicts
+    computed_stays set q e c.args.context.now c.if-not-edge.false entered.0 c1 entered.1 c.enter_shared.ensures.remembered c3 c.exit.new.self c.enter_shared.ensures.verdicts (subst (λ z. StaysRight set z c1 c3) at_asked c.in_ok-reply.ensures.stays) c.exit.ensures.remembered c.exit.ensures.verdicts
 
 pub run::run_edge-returns-clause-counts : goal.run::run_edge-returns-clause-counts
-run::run_edge-returns-clause-counts g t c =
-    let visits = c.exit-2.ensures.visits ∙ ap (λ (z : Context). z.visits) c.kept_reply.ensures.frame in
-    let before = subst (λ z. z ≤ c.begin_visit-mark.new.context.visits) c.enter_shared.ensures.visits c.begin_visit-mark.ensures.more in
-    let after = subst (λ z. c.begin_visit-mark.new.context.visits ≤ z) (sym visits) c.in_ok-computed.ensures.counts in
-    no_fewer c.args.context.now.visits c.begin_visit-mark.new.context.visits c.exit-2.new.self.visits before after
-
-pub run::run_edge-returns-in-Some-clause-remembers : goal.run::run_edge-returns-in-Some-clause-remembers
-run::run_edge-returns-in-Some-clause-remembers g t c =
-    let set = setting g.K.Validate.words g.K.Validate.is_whole g.K.Validate.shape g.M.Matcher.matching c.args.engine.now in
-    let q = asking c.args.question.now in
-    let p = steps_to c.args.question.now.place.now in
-    let e = edge_of c.args.edge.now in
-    let c1 = c.enter_shared.new.self in
-    let c5 = c.exit.new.self in
-    let entered = entered_new e.node p c.args.context.now.in_progress c.in_ok-enter_shared.field-0 c1.in_progress (rw c.in_ok-shared.ensures.same at c.in_ok-enter_shared.ensures.enters) c.if-branch.false in
-    let found = sym (rw (c.as_place-here.ensures.same ∙ c.in_ok-shared.ensures.same) at c.in-Some.ensures.read) in
-    let back = pairs_back set q e c.args.context.now c.if-not-edge.false entered.0 c1 c5 entered.1 (rw (c.as_place-here.ensures.same ∙ c.in_ok-shared.ensures.same) at c.exit.ensures.left) in
-    let same = same_context c.args.context.now c5 back (c.exit.ensures.remembered ∙ c.enter_shared.ensures.remembered) (c.exit.ensures.marking ∙ c.enter_shared.ensures.marking) (c.exit.ensures.verdicts ∙ c.enter_shared.ensures.verdicts) (c.exit.ensures.visits ∙ c.enter_shared.ensures.visits) in
-    read_remembers set q e c.args.context.now c.if-not-edge.false entered.0 c1 c5 c.in-Some.valid (told.Truth c.in-Some.valid) entered.1 c.enter_shared.ensures.verdicts found (λ texts. refl) same
+run::run_edge-returns-clause-counts g t c = rw (c.enter_shared.ensures.visits, ← c.exit.ensures.visits) at c.in_ok-reply.ensures.counts
 
 pub run::run_entries-returns-then-is_settled-clause-counts : goal.run::run_entries-returns-then-is_settled-clause-counts
 run::run_entries-returns-then-is_settled-clause-counts g t c = no_fewer c.args.context.now.visits c.loop-entry.context.visits c.run_entry.new.context.visits c.loop-entry.invariant.counted c.in_ok-more.ensures.counts
@@ -688,26 +547,11 @@ run::run_entries-returns-then-is_settled-clause-counts g t c = no_fewer c.args.c
 pub run::run_entries-returns-then-is_settled-clause-stays : goal.run::run_entries-returns-then-is_settled-clause-stays
 run::run_entries-returns-then-is_settled-clause-stays g t c = λ layout laid right. c.in_ok-more.ensures.stays layout laid (c.loop-entry.invariant.stays layout laid right)
 
-pub run::run_entries-returns-then-is_settled-clause-remembers : goal.run::run_entries-returns-then-is_settled-clause-remembers
-run::run_entries-returns-then-is_settled-clause-remembers g t c =
-    alone_remembers (asking c.args.question.now) entry_of (shaped_part g.K.Validate.shape) c.args.entries.now c.loop-entry.entry-index c.entry-item.result c.loop-entry-test.true c.entry-item.is c.args.context.now c.loop-entry.context c.run_entry.new.context c.loop-entry.found c.in_ok-more.more c.in_ok-found.found c.loop-entry.invariant.first c.in_ok-found.ensures.both c.in_ok-more.ensures.remembers
+pub run::run_entry-returns-then-entry-clause-stays : goal.run::run_entry-returns-then-entry-clause-stays
+run::run_entry-returns-then-entry-clause-stays g t c = if_ok_mono c.run_form.result _ _ (λ r stays layout laid right. stays layout laid (c.in_ok-valid.ensures.stays layout laid right)) c.run_form.ensures.stays
 
-pub run::run_entries-returns-clause-remembers : goal.run::run_entries-returns-clause-remembers
-run::run_entries-returns-clause-remembers g t c =
-    ended_remembers (asking c.args.question.now) entry_of (shaped_part g.K.Validate.shape) c.args.entries.now c.loop-entry.entry-index c.loop-entry-test.false c.args.context.now c.loop-entry.context c.loop-entry.found c.loop-entry.invariant.remembers
-
-pub run::run_entry-returns-then-asks_verdict_first-clause-stays : goal.run::run_entry-returns-then-asks_verdict_first-clause-stays
-run::run_entry-returns-then-asks_verdict_first-clause-stays g t c = if_ok_mono c.run_form.result _ _ (λ r stays layout laid right. stays layout laid (c.in_ok-valid.ensures.stays layout laid right)) c.run_form.ensures.stays
-
-pub run::run_entry-returns-then-asks_verdict_first-clause-counts : goal.run::run_entry-returns-then-asks_verdict_first-clause-counts
-run::run_entry-returns-then-asks_verdict_first-clause-counts g t c = if_ok_mono c.run_form.result _ _ (λ r more. no_fewer c.args.context.now.visits c.verdict_form.new.context.visits c.run_form.new.context.visits c.in_ok-valid.ensures.counts more) c.run_form.ensures.counts
-
-pub run::run_form-returns-in_ok-reply-in-Reference-clause-remembers : goal.run::run_form-returns-in_ok-reply-in-Reference-clause-remembers
-run::run_form-returns-in_ok-reply-in-Reference-clause-remembers g t c =
-    let q = asking c.args.question.now in
-    let e = edge_of c.in-Reference.edge in
-    let remembers = subst (λ path. EdgeRemembers (record { subject = q.subject; place = q.place; path = path; mode = q.mode }) c.args.context.now c.run_edge.new.context e c.in_ok-reply-in-Reference.reply) c.under_reference-path.ensures.same c.in_ok-reply-in-Reference.ensures.remembers in
-    if_ok_mono c.stamped_reply.result _ _ (λ r stamps. stamped_remembers q c.args.context.now c.run_edge.new.context e _ c.in_ok-reply-in-Reference.reply r _ (ap (λ z. shaped_form g.K.Validate.shape (form_of z)) c.in-Reference.is) stamps remembers) c.stamped_reply.ensures.stamped
+pub run::run_entry-returns-then-entry-clause-counts : goal.run::run_entry-returns-then-entry-clause-counts
+run::run_entry-returns-then-entry-clause-counts g t c = if_ok_mono c.run_form.result _ _ (λ r more. no_fewer c.args.context.now.visits c.verdict_form.new.context.visits c.run_form.new.context.visits c.in_ok-valid.ensures.counts more) c.run_form.ensures.counts
 
 pub run::run_keyword-returns-clause-stays : goal.run::run_keyword-returns-clause-stays
 run::run_keyword-returns-clause-stays g t c = if_ok_always c.finished.result _ (λ layout laid right.
@@ -716,11 +560,6 @@ run::run_keyword-returns-clause-stays g t c = if_ok_always c.finished.result _ (
 
 pub run::run_keyword-returns-clause-counts : goal.run::run_keyword-returns-clause-counts
 run::run_keyword-returns-clause-counts g t c = if_ok_always c.finished.result _ (rw (← c.finished.ensures.stays) at c.in_ok-answer.ensures.counts)
-
-pub run::run_node-returns-in-Keywords-clause-remembers : goal.run::run_node-returns-in-Keywords-clause-remembers
-run::run_node-returns-in-Keywords-clause-remembers g t c =
-    let plan = plan_is g.K.Validate.shape c.args.engine.now.nodes.now c.args.node.0 (node_of c.node-found.result.now) _ c.node-found.ensures.found (ap (option_map plan_of) c.in-Some.is ∙ ap (λ f. Some (plan_of f)) c.in-Keywords.is) in
-    if_ok_mono c.run_entries.result _ _ (λ r remembers. planned_remembers (asking c.args.question.now) c.args.context.now c.run_entries.new.context (numbered g.K.Validate.shape c.args.engine.now.nodes.now) c.args.node.0 _ r plan remembers) (rw c.as_slice.ensures.value at c.run_entries.ensures.remembers)
 
 pub turns::run_turns-turns-init : goal.turns::run_turns-turns-init
 turns::run_turns-turns-init g t c =
@@ -1531,49 +1370,6 @@ evaluate::evaluate_edge-returns-then-branch-clause-counts g t c = if_ok_always c
 pub evaluate::evaluate_entry-returns-in_ok-unit-in-Reference-clause-counts : goal.evaluate::evaluate_entry-returns-in_ok-unit-in-Reference-clause-counts
 evaluate::evaluate_entry-returns-in_ok-unit-in-Reference-clause-counts g t c = if_ok_always c.units_of_reference.result _ (rw (← c.units_of_reference.ensures.stays) at c.in_ok-unit-in-Reference.ensures.counts)
 
-pub run::run_node-returns-in-None-clause-visits : goal.run::run_node-returns-in-None-clause-visits
-run::run_node-returns-in-None-clause-visits g t c =
-    let plan = plan_none g.K.Validate.shape c.args.engine.now.nodes.now c.args.node.0 (node_of c.node-found.result.now) c.node-found.ensures.found (ap (option_map plan_of) c.in-None.is) in
-    always_counts (numbered g.K.Validate.shape c.args.engine.now.nodes.now) (asking c.args.question.now) c.args.context.now c.args.context.now c.args.node.0 plan refl
-
-pub run::run_node-returns-in-Always-clause-visits : goal.run::run_node-returns-in-Always-clause-visits
-run::run_node-returns-in-Always-clause-visits g t c =
-    let plan = plan_is g.K.Validate.shape c.args.engine.now.nodes.now c.args.node.0 (node_of c.node-found.result.now) _ c.node-found.ensures.found (ap (option_map plan_of) c.in-Some.is ∙ ap (λ f. Some (plan_of f)) c.in-Always.is) in
-    always_counts (numbered g.K.Validate.shape c.args.engine.now.nodes.now) (asking c.args.question.now) c.args.context.now c.args.context.now c.args.node.0 plan refl
-
-pub run::run_node-returns-in-Never-clause-visits : goal.run::run_node-returns-in-Never-clause-visits
-run::run_node-returns-in-Never-clause-visits g t c =
-    let plan = plan_is g.K.Validate.shape c.args.engine.now.nodes.now c.args.node.0 (node_of c.node-found.result.now) _ c.node-found.ensures.found (ap (option_map plan_of) c.in-Some.is ∙ ap (λ f. Some (plan_of f)) c.in-Never.is) in
-    if_ok_always c.refused.result _ (never_counts (numbered g.K.Validate.shape c.args.engine.now.nodes.now) (asking c.args.question.now) c.args.context.now c.args.context.now c.args.node.0 plan refl)
-
-pub run::run_node-returns-in-Keywords-clause-visits : goal.run::run_node-returns-in-Keywords-clause-visits
-run::run_node-returns-in-Keywords-clause-visits g t c =
-    let plan = plan_is g.K.Validate.shape c.args.engine.now.nodes.now c.args.node.0 (node_of c.node-found.result.now) _ c.node-found.ensures.found (ap (option_map plan_of) c.in-Some.is ∙ ap (λ f. Some (plan_of f)) c.in-Keywords.is) in
-    if_ok_mono c.run_entries.result _ _ (λ r counts. planned_counts (numbered g.K.Validate.shape c.args.engine.now.nodes.now) (asking c.args.question.now) c.args.context.now c.run_entries.new.context c.args.node.0 _ plan counts) (rw c.as_slice.ensures.value at c.run_entries.ensures.visits)
-
-pub run::run_entries-returns-then-is_settled-clause-visits : goal.run::run_entries-returns-then-is_settled-clause-visits
-run::run_entries-returns-then-is_settled-clause-visits g t c =
-    next_counts (numbered g.K.Validate.shape c.args.engine.now.nodes.now) (asking c.args.question.now) entry_of (shaped_part g.K.Validate.shape) c.args.entries.now c.loop-entry.entry-index c.entry-item.result c.loop-entry-test.true c.entry-item.is c.args.context.now c.loop-entry.context c.run_entry.new.context (λ e. (c.loop-entry.invariant.first e).0) c.loop-entry.invariant.visited c.in_ok-more.ensures.visits
-
-pub run::run_entries-returns-clause-visits : goal.run::run_entries-returns-clause-visits
-run::run_entries-returns-clause-visits g t c =
-    ended_counts (numbered g.K.Validate.shape c.args.engine.now.nodes.now) (asking c.args.question.now) entry_of (shaped_part g.K.Validate.shape) c.args.entries.now c.loop-entry.entry-index c.loop-entry-test.false c.args.context.now c.loop-entry.context (λ e. (c.loop-entry.invariant.first e).0) c.loop-entry.invariant.visited
-
-pub run::run_form-returns-in-Keyword-clause-visits : goal.run::run_form-returns-in-Keyword-clause-visits
-run::run_form-returns-in-Keyword-clause-visits g t c = rw (c.in-Keyword.is, ← c.as_slice.ensures.value) c.run_keyword.ensures.visits
-
-pub run::run_form-returns-in_ok-reply-in-Reference-clause-visits : goal.run::run_form-returns-in_ok-reply-in-Reference-clause-visits
-run::run_form-returns-in_ok-reply-in-Reference-clause-visits g t c = rw c.in-Reference.is (if_ok_always c.stamped_reply.result _ c.in_ok-reply-in-Reference.ensures.visits)
-
-pub run::run_keyword-returns-in-Some-clause-visits : goal.run::run_keyword-returns-in-Some-clause-visits
-run::run_keyword-returns-in-Some-clause-visits g t c =
-    keyword_counts (numbered g.K.Validate.shape c.args.engine.now.nodes.now) (asking c.args.question.now) c.args.context.now c.args.context.now (g.K.Validate.shape c.args.keyword.now.keyword.now) (map (option_map edge_of) c.args.keyword.now.children.now) (λ none. refl)
-
-pub run::run_keyword-returns-clause-visits : goal.run::run_keyword-returns-clause-visits
-run::run_keyword-returns-clause-visits g t c = if_ok_always c.finished.result _ (
-    keyword_counts (numbered g.K.Validate.shape c.args.engine.now.nodes.now) (asking c.args.question.now) c.args.context.now c.finished.new.context (g.K.Validate.shape c.args.keyword.now.keyword.now) (map (option_map edge_of) c.args.keyword.now.children.now)
-    (λ none. ap (λ (z : Context). z.visits) c.finished.ensures.stays ∙ c.in_ok-answer.ensures.quiet none))
-
 pub turns::keyword_answer-returns-clause-quiet : goal.turns::keyword_answer-returns-clause-quiet
 turns::keyword_answer-returns-clause-quiet g t c = λ none. c.put_back.ensures.visits ∙ c.in_ok-run_turns.ensures.quiet none ∙ c.set_aside-aside.ensures.visits
 
@@ -1588,48 +1384,6 @@ evaluate::evaluate_child-returns-in-None-one_below-clause-quiet g t c = if_ok_al
 
 pub evaluate::evaluate_child-returns-in-Some-one_below-clause-quiet : goal.evaluate::evaluate_child-returns-in-Some-one_below-clause-quiet
 evaluate::evaluate_child-returns-in-Some-one_below-clause-quiet g t c = if_ok_always c.evaluate_edge-in-Some-one_below.result _ (λ none. absurd (none c.args.child (edge_of c.in-Some.edge.now) (sym c.in-Some.ensures.edge)))
-
-pub run::run_edge-returns-then-branch-clause-visits : goal.run::run_edge-returns-then-branch-clause-visits
-run::run_edge-returns-then-branch-clause-visits g t c =
-    let p = steps_to c.args.question.now.place.now in
-    let e = edge_of c.args.edge.now in
-    let old = entered_old e.node p c.args.context.now.in_progress c.in_ok-enter_shared.field-0 c.enter_shared.new.self.in_progress (rw c.in_ok-shared.ensures.same at c.in_ok-enter_shared.ensures.enters) c.if-branch.true in
-    busy_counts (numbered g.K.Validate.shape c.args.engine.now.nodes.now) (asking c.args.question.now) c.args.context.now e c.enter_shared.new.self c.if-not-edge.false old.0 c.enter_shared.ensures.visits
-
-pub run::run_edge-returns-in-Some-clause-visits : goal.run::run_edge-returns-in-Some-clause-visits
-run::run_edge-returns-in-Some-clause-visits g t c =
-    let q = asking c.args.question.now in
-    let p = steps_to c.args.question.now.place.now in
-    let e = edge_of c.args.edge.now in
-    let c1 = c.enter_shared.new.self in
-    let entered = entered_new e.node p c.args.context.now.in_progress c.in_ok-enter_shared.field-0 c1.in_progress (rw c.in_ok-shared.ensures.same at c.in_ok-enter_shared.ensures.enters) c.if-branch.false in
-    let found = sym (rw (c.as_place-here.ensures.same ∙ c.in_ok-shared.ensures.same) at c.in-Some.ensures.read) in
-    let read = sym (read_entered e.node p c.args.context.now c1 entered.1 c.enter_shared.ensures.verdicts) ∙ (read_for_verdict q.mode e.node p c1 c.in-Some.valid found).1 in
-    read_counts (numbered g.K.Validate.shape c.args.engine.now.nodes.now) q c.args.context.now e c.exit.new.self c.in-Some.valid c.if-not-edge.false entered.0 read (c.exit.ensures.visits ∙ c.enter_shared.ensures.visits)
-
-pub run::run_edge-returns-clause-visits : goal.run::run_edge-returns-clause-visits
-run::run_edge-returns-clause-visits g t c =
-    let ns = (numbered g.K.Validate.shape c.args.engine.now.nodes.now) in
-    let q = asking c.args.question.now in
-    let p = steps_to c.args.question.now.place.now in
-    let e = edge_of c.args.edge.now in
-    let c1 = c.enter_shared.new.self in
-    let c2 = c.begin_visit-mark.new.context in
-    let c3 = c.run_node-2.new.context in
-    let entered = entered_new e.node p c.args.context.now.in_progress c.in_ok-enter_shared.field-0 c1.in_progress (rw c.in_ok-shared.ensures.same at c.in_ok-enter_shared.ensures.enters) c.if-branch.false in
-    let pairs : c2.in_progress ≡ c.args.context.now.in_progress ++ (e.node, p) ∷ [] = ap (λ (z : Context). z.in_progress) c.begin_visit-mark.ensures.counted ∙ entered.1 in
-    let read = ap (λ (z : Context). z.verdicts) c.begin_visit-mark.ensures.counted ∙ c.enter_shared.ensures.verdicts in
-    let counted = ap (λ (z : Context). z.visits) c.begin_visit-mark.ensures.counted ∙ ap (visited_in_mode q.mode) c.enter_shared.ensures.visits in
-    let there : steps_to c.given-place.result ≡ p = c.given-place.ensures.same ∙ c.as_place-here.ensures.same ∙ c.in_ok-shared.ensures.same in
-    let none = sym (rw (c.as_place-here.ensures.same ∙ c.in_ok-shared.ensures.same) at c.in_default.ensures.read) in
-    let node_counts = subst (λ z. NodeCounts ns (record { subject = q.subject; place = z; path = path_of c.across-whole.result; mode = q.mode }) c2 c3 e.node) there c.in_ok-computed.ensures.visits in
-    let visits = c.exit-2.ensures.visits ∙ ap (λ (z : Context). z.visits) c.kept_reply.ensures.frame in
-    computed_counts ns q c.args.context.now e c2 c3 c.exit-2.new.self c.if-not-edge.false entered.0
-    (λ mode. sym (read_entered e.node p c.args.context.now c1 entered.1 c.enter_shared.ensures.verdicts) ∙ subst (λ m. read_in_mode m e.node p c1 ≡ None) mode none) pairs read
-    (λ mode. subst (λ m. c2.visits ≡ visited_in_mode m c.args.context.now.visits) mode counted) node_counts visits
-
-pub run::run_edge-returns-then-not-edge-clause-visits : goal.run::run_edge-returns-then-not-edge-clause-visits
-run::run_edge-returns-then-not-edge-clause-visits g t c = if_ok_mono c.run_node.result _ _ (λ r counts. free_counts (numbered g.K.Validate.shape c.args.engine.now.nodes.now) (asking c.args.question.now) c.args.context.now (edge_of c.args.edge.now) c.run_node.new.context c.if-not-edge.true counts) c.run_node.ensures.visits
 
 pub verdict::verdict_child-verdict_edge-requires : goal.verdict::verdict_child-verdict_edge-requires
 verdict::verdict_child-verdict_edge-requires g t c =
@@ -1777,7 +1531,7 @@ verdict::verdict_form-returns-in-Reference-clause-remembers g t c =
     let e = edge_of c.in-Reference.edge in
     if_ok_mono c.verdict_edge.result _ _ (λ b remembers.
     let there = subst (λ path. EdgeRemembers (record { subject = q.subject; place = q.place; path = path; mode = q.mode }) c.args.context.now c.verdict_edge.new.context e (told.Truth b)) c.under_reference-path.ensures.same remembers in
-    stamped_remembers q c.args.context.now c.verdict_edge.new.context e _ (told.Truth b) (told.Truth b) None (ap (λ z. shaped_form g.K.Validate.shape (form_of z)) c.in-Reference.is) (stamps_verdict None b) there) c.verdict_edge.ensures.remembers
+    reference_remembers q c.args.context.now c.verdict_edge.new.context e _ (told.Truth b) (ap (λ z. shaped_form g.K.Validate.shape (form_of z)) c.in-Reference.is) there) c.verdict_edge.ensures.remembers
 
 pub verdict::verdict_form-returns-in-Some-clause-says : goal.verdict::verdict_form-returns-in-Some-clause-says
 verdict::verdict_form-returns-in-Some-clause-says g t c =
@@ -1992,7 +1746,7 @@ pub verdict::verdict_entries-loop-entry-preserved : goal.verdict::verdict_entrie
 verdict::verdict_entries-loop-entry-preserved g t c = record {
   stays = λ layout laid right. c.in_ok-valid.ensures.stays layout laid (c.loop-entry.invariant.stays layout laid right);
   first = λ e. absurd (omega (arith, e));
-  remembers = λ l. alone_remembers (asking c.args.question.now) entry_of (shaped_part g.K.Validate.shape) c.args.entries.now c.loop-entry.entry-index c.entry-item.result c.loop-entry-test.true c.entry-item.is c.args.context.now c.loop-entry.context c.verdict_form.new.context (told.Truth true) (told.Truth true) (told.Truth true) (λ e. (c.loop-entry.invariant.first e, yes_says (mode_of c.args.question.now.mode) c.requires.verdict)) (joins_verdict true) (subst (λ v. FormRemembers (asking c.args.question.now) c.loop-entry.context c.verdict_form.new.context (shaped_form g.K.Validate.shape (form_of c.entry-item.result.form)) (told.Truth v)) c.if-not-valid.false c.in_ok-valid.ensures.remembers);
+  remembers = λ l. alone_remembers (asking c.args.question.now) entry_of (shaped_part g.K.Validate.shape) c.args.entries.now c.loop-entry.entry-index c.entry-item.result c.loop-entry-test.true c.entry-item.is c.args.context.now c.loop-entry.context c.verdict_form.new.context (told.Truth true) c.loop-entry.invariant.first (subst (λ v. FormRemembers (asking c.args.question.now) c.loop-entry.context c.verdict_form.new.context (shaped_form g.K.Validate.shape (form_of c.entry-item.result.form)) (told.Truth v)) c.if-not-valid.false c.in_ok-valid.ensures.remembers);
   visited = λ l. next_counts (numbered g.K.Validate.shape c.args.engine.now.nodes.now) (asking c.args.question.now) entry_of (shaped_part g.K.Validate.shape) c.args.entries.now c.loop-entry.entry-index c.entry-item.result c.loop-entry-test.true c.entry-item.is c.args.context.now c.loop-entry.context c.verdict_form.new.context c.loop-entry.invariant.first c.loop-entry.invariant.visited c.in_ok-valid.ensures.visits;
   kept = c.in_ok-valid.ensures.keeps.in_progress ∙ c.loop-entry.invariant.kept;
   assumes = c.in_ok-valid.ensures.keeps.assumptions ∙ c.loop-entry.invariant.assumes;
@@ -2061,7 +1815,7 @@ verdict::verdict_entries-returns-then-not-valid-clause-stays g t c = λ layout l
 
 pub verdict::verdict_entries-returns-then-not-valid-clause-remembers : goal.verdict::verdict_entries-returns-then-not-valid-clause-remembers
 verdict::verdict_entries-returns-then-not-valid-clause-remembers g t c =
-    alone_remembers (asking c.args.question.now) entry_of (shaped_part g.K.Validate.shape) c.args.entries.now c.loop-entry.entry-index c.entry-item.result c.loop-entry-test.true c.entry-item.is c.args.context.now c.loop-entry.context c.verdict_form.new.context (told.Truth true) (told.Truth false) (told.Truth false) (λ e. (c.loop-entry.invariant.first e, yes_says (mode_of c.args.question.now.mode) c.requires.verdict)) (joins_verdict false) (subst (λ v. FormRemembers (asking c.args.question.now) c.loop-entry.context c.verdict_form.new.context (shaped_form g.K.Validate.shape (form_of c.entry-item.result.form)) (told.Truth v)) c.if-not-valid.true c.in_ok-valid.ensures.remembers)
+    alone_remembers (asking c.args.question.now) entry_of (shaped_part g.K.Validate.shape) c.args.entries.now c.loop-entry.entry-index c.entry-item.result c.loop-entry-test.true c.entry-item.is c.args.context.now c.loop-entry.context c.verdict_form.new.context (told.Truth false) c.loop-entry.invariant.first (subst (λ v. FormRemembers (asking c.args.question.now) c.loop-entry.context c.verdict_form.new.context (shaped_form g.K.Validate.shape (form_of c.entry-item.result.form)) (told.Truth v)) c.if-not-valid.true c.in_ok-valid.ensures.remembers)
 
 pub verdict::verdict_entries-returns-then-not-valid-clause-visits : goal.verdict::verdict_entries-returns-then-not-valid-clause-visits
 verdict::verdict_entries-returns-then-not-valid-clause-visits g t c =
@@ -2124,8 +1878,8 @@ verdict::guarded_verdict-returns-in-Some-clause-says g t c =
     let p = steps_to c.args.question.now.place.now in
     let e = edge_of c.args.edge.now in
     let entered = entered_new e.node p c.args.context.now.in_progress c.in_ok-enter_shared.field-0 c.enter_shared.new.self.in_progress (rw c.in_ok-shared.ensures.same at c.in_ok-enter_shared.ensures.enters) c.if-branch.false in
-    let found = subst (λ m. read_in_mode m e.node p c.enter_shared.new.self ≡ Some c.in-Some.valid) (sym c.requires.verdict) (sym (rw (c.as_place-here.ensures.same ∙ c.in_ok-shared.ensures.same) at c.in-Some.ensures.read)) in
-    read_says set q e c.args.context.now c.requires.guarded entered.0 c.enter_shared.new.self c.exit.new.self c.in-Some.valid (told.Truth c.in-Some.valid) entered.1 c.enter_shared.ensures.verdicts found (λ texts. refl) c.requires.may.goes_on refl
+    let found = sym (rw (c.as_place-here.ensures.same ∙ c.in_ok-shared.ensures.same) at c.in-Some.ensures.read) in
+    read_says set q e c.args.context.now c.requires.guarded entered.0 c.requires.verdict c.enter_shared.new.self c.exit.new.self c.in-Some.valid entered.1 c.enter_shared.ensures.verdicts found c.requires.may.goes_on
 
 pub verdict::guarded_verdict-returns-in-Some-clause-meets : goal.verdict::guarded_verdict-returns-in-Some-clause-meets
 verdict::guarded_verdict-returns-in-Some-clause-meets g t c =
@@ -2134,8 +1888,8 @@ verdict::guarded_verdict-returns-in-Some-clause-meets g t c =
     let p = steps_to c.args.question.now.place.now in
     let e = edge_of c.args.edge.now in
     let entered = entered_new e.node p c.args.context.now.in_progress c.in_ok-enter_shared.field-0 c.enter_shared.new.self.in_progress (rw c.in_ok-shared.ensures.same at c.in_ok-enter_shared.ensures.enters) c.if-branch.false in
-    let found = subst (λ m. read_in_mode m e.node p c.enter_shared.new.self ≡ Some c.in-Some.valid) (sym c.requires.verdict) (sym (rw (c.as_place-here.ensures.same ∙ c.in_ok-shared.ensures.same) at c.in-Some.ensures.read)) in
-    read_meets_edge set q e c.args.context.now c.requires.guarded entered.0 c.enter_shared.new.self c.exit.new.self c.in-Some.valid (told.Truth c.in-Some.valid) entered.1 c.enter_shared.ensures.verdicts found (λ texts. refl) c.requires.may.goes_on (c.exit.ensures.remembered ∙ c.enter_shared.ensures.remembered)
+    let found = sym (rw (c.as_place-here.ensures.same ∙ c.in_ok-shared.ensures.same) at c.in-Some.ensures.read) in
+    read_meets_edge set q e c.args.context.now c.requires.guarded entered.0 c.requires.verdict c.enter_shared.new.self c.exit.new.self c.in-Some.valid entered.1 c.enter_shared.ensures.verdicts found c.requires.may.goes_on (c.exit.ensures.remembered ∙ c.enter_shared.ensures.remembered)
 
 pub verdict::guarded_verdict-returns-in-Some-clause-remembers : goal.verdict::guarded_verdict-returns-in-Some-clause-remembers
 verdict::guarded_verdict-returns-in-Some-clause-remembers g t c =
@@ -2146,10 +1900,10 @@ verdict::guarded_verdict-returns-in-Some-clause-remembers g t c =
     let c1 = c.enter_shared.new.self in
     let c5 = c.exit.new.self in
     let entered = entered_new e.node p c.args.context.now.in_progress c.in_ok-enter_shared.field-0 c1.in_progress (rw c.in_ok-shared.ensures.same at c.in_ok-enter_shared.ensures.enters) c.if-branch.false in
-    let found = subst (λ m. read_in_mode m e.node p c.enter_shared.new.self ≡ Some c.in-Some.valid) (sym c.requires.verdict) (sym (rw (c.as_place-here.ensures.same ∙ c.in_ok-shared.ensures.same) at c.in-Some.ensures.read)) in
+    let found = sym (rw (c.as_place-here.ensures.same ∙ c.in_ok-shared.ensures.same) at c.in-Some.ensures.read) in
     let back = pairs_back set q e c.args.context.now c.requires.guarded entered.0 c1 c5 entered.1 (rw (c.as_place-here.ensures.same ∙ c.in_ok-shared.ensures.same) at c.exit.ensures.left) in
     let same = same_context c.args.context.now c5 back (c.exit.ensures.remembered ∙ c.enter_shared.ensures.remembered) (c.exit.ensures.marking ∙ c.enter_shared.ensures.marking) (c.exit.ensures.verdicts ∙ c.enter_shared.ensures.verdicts) (c.exit.ensures.visits ∙ c.enter_shared.ensures.visits) in
-    read_remembers set q e c.args.context.now c.requires.guarded entered.0 c1 c5 c.in-Some.valid (told.Truth c.in-Some.valid) entered.1 c.enter_shared.ensures.verdicts found (λ texts. refl) same
+    read_remembers set q e c.args.context.now c.requires.guarded entered.0 c.requires.verdict c1 c5 c.in-Some.valid entered.1 c.enter_shared.ensures.verdicts found same
 
 pub verdict::guarded_verdict-returns-in-Some-clause-visits : goal.verdict::guarded_verdict-returns-in-Some-clause-visits
 verdict::guarded_verdict-returns-in-Some-clause-visits g t c =
@@ -2158,8 +1912,8 @@ verdict::guarded_verdict-returns-in-Some-clause-visits g t c =
     let e = edge_of c.args.edge.now in
     let c1 = c.enter_shared.new.self in
     let entered = entered_new e.node p c.args.context.now.in_progress c.in_ok-enter_shared.field-0 c1.in_progress (rw c.in_ok-shared.ensures.same at c.in_ok-enter_shared.ensures.enters) c.if-branch.false in
-    let found = subst (λ m. read_in_mode m e.node p c.enter_shared.new.self ≡ Some c.in-Some.valid) (sym c.requires.verdict) (sym (rw (c.as_place-here.ensures.same ∙ c.in_ok-shared.ensures.same) at c.in-Some.ensures.read)) in
-    let read = sym (read_entered e.node p c.args.context.now c1 entered.1 c.enter_shared.ensures.verdicts) ∙ (read_for_verdict q.mode e.node p c1 c.in-Some.valid found).1 in
+    let found = sym (rw (c.as_place-here.ensures.same ∙ c.in_ok-shared.ensures.same) at c.in-Some.ensures.read) in
+    let read = sym (read_entered e.node p c.args.context.now c1 entered.1 c.enter_shared.ensures.verdicts) ∙ found in
     read_counts (numbered g.K.Validate.shape c.args.engine.now.nodes.now) q c.args.context.now e c.exit.new.self c.in-Some.valid c.requires.guarded entered.0 read (c.exit.ensures.visits ∙ c.enter_shared.ensures.visits)
 
 pub verdict::guarded_verdict-returns-clause-says : goal.verdict::guarded_verdict-returns-clause-says
@@ -2170,16 +1924,13 @@ verdict::guarded_verdict-returns-clause-says g t c =
     let e = edge_of c.args.edge.now in
     let entered = entered_new e.node p c.args.context.now.in_progress c.in_ok-enter_shared.field-0 c.enter_shared.new.self.in_progress (rw c.in_ok-shared.ensures.same at c.in_ok-enter_shared.ensures.enters) c.if-branch.false in
     let c2 = c.start_ref_visit-mark.new.self in
-    let c3 = c.verdict_node.new.context in
     let pairs : c2.in_progress ≡ c.args.context.now.in_progress ++ (e.node, p) ∷ [] = ap (λ (z : Context). z.in_progress) c.start_ref_visit-mark.ensures.counted ∙ entered.1 in
     let met : c2.remembered ≡ c.args.context.now.remembered = ap (λ (z : Context). z.remembered) c.start_ref_visit-mark.ensures.counted ∙ c.enter_shared.ensures.remembered in
     let there : steps_to c.given-place.result ≡ p = c.given-place.ensures.same ∙ c.as_place-here.ensures.same ∙ c.in_ok-shared.ensures.same in
     let at_asked : (record { subject = q.subject; place = steps_to c.given-place.result; path = path_of c.across-whole.result; mode = q.mode }) ≡ asked_across set q e c.args.context.now c.requires.guarded entered.0
     = λ i. record { subject = q.subject; place = there i; path = c.across-whole.ensures.appended i; mode = q.mode } in
     let says = subst (λ z. NodeSays set z c2 e.node (told.Truth c.in_ok-valid.valid)) at_asked c.in_ok-valid.ensures.says in
-    let meets = subst (λ z. MeetsNode set z c2 c3 e.node) at_asked c.in_ok-valid.ensures.meets in
-    let keeps = c.in_ok-valid.ensures.keeps in
-    computed_says set q e c.args.context.now c.requires.guarded entered.0 c.enter_shared.new.self c2 c3 c.cache_result.new.self c.exit-2.new.self c.start_ref_visit-mark.result (told.Truth c.in_ok-valid.valid) (told.Truth c.in_ok-valid.valid) pairs met says meets keeps (same_verdict q.mode c.in_ok-valid.valid)
+    computed_says set q e c.args.context.now c.requires.guarded entered.0 c2 pairs met (told.Truth c.in_ok-valid.valid) says
 
 pub verdict::guarded_verdict-returns-clause-meets : goal.verdict::guarded_verdict-returns-clause-meets
 verdict::guarded_verdict-returns-clause-meets g t c =
@@ -2195,11 +1946,9 @@ verdict::guarded_verdict-returns-clause-meets g t c =
     let there : steps_to c.given-place.result ≡ p = c.given-place.ensures.same ∙ c.as_place-here.ensures.same ∙ c.in_ok-shared.ensures.same in
     let at_asked : (record { subject = q.subject; place = steps_to c.given-place.result; path = path_of c.across-whole.result; mode = q.mode }) ≡ asked_across set q e c.args.context.now c.requires.guarded entered.0
     = λ i. record { subject = q.subject; place = there i; path = c.across-whole.ensures.appended i; mode = q.mode } in
-    let says = subst (λ z. NodeSays set z c2 e.node (told.Truth c.in_ok-valid.valid)) at_asked c.in_ok-valid.ensures.says in
     let meets = subst (λ z. MeetsNode set z c2 c3 e.node) at_asked c.in_ok-valid.ensures.meets in
-    let keeps = c.in_ok-valid.ensures.keeps in
     let met5 = c.exit-2.ensures.remembered ∙ ap (λ (z : Context). z.remembered) c.cache_result.ensures.frame in
-    computed_meets set q e c.args.context.now c.requires.guarded entered.0 c.enter_shared.new.self c2 c3 c.cache_result.new.self c.exit-2.new.self c.start_ref_visit-mark.result (told.Truth c.in_ok-valid.valid) (told.Truth c.in_ok-valid.valid) pairs met says meets keeps (same_verdict q.mode c.in_ok-valid.valid) met5
+    computed_meets set q e c.args.context.now c.requires.guarded entered.0 c2 pairs met c3 c.exit-2.new.self meets met5
 
 pub verdict::guarded_verdict-returns-clause-stays : goal.verdict::guarded_verdict-returns-clause-stays
 verdict::guarded_verdict-returns-clause-stays g t c =
@@ -2220,10 +1969,10 @@ verdict::guarded_verdict-returns-clause-stays g t c =
     let keeps = c.in_ok-valid.ensures.keeps in
     let read = ap (λ (z : Context). z.verdicts) c.start_ref_visit-mark.ensures.counted ∙ c.enter_shared.ensures.verdicts in
     let stays = subst (λ z. StaysRight set z c2 c3) at_asked c.in_ok-valid.ensures.stays in
-    let kept = λ (texts : Bool) (mode : q.mode ≡ for_verdict). rw (c.as_place-here.ensures.same ∙ c.in_ok-shared.ensures.same) at c.in_ok-cache_result.ensures.kept in
+    let kept = rw (c.as_place-here.ensures.same ∙ c.in_ok-shared.ensures.same) at c.in_ok-cache_result.ensures.kept in
     let few = rw (c.as_place-here.ensures.same ∙ c.in_ok-shared.ensures.same) at c.in_ok-cache_result.ensures.others in
-    computed_stays set q e c.args.context.now c.requires.guarded entered.0 c.enter_shared.new.self c2 c3 c.cache_result.new.self c.exit-2.new.self c.start_ref_visit-mark.result (told.Truth c.in_ok-valid.valid) (told.Truth c.in_ok-valid.valid) pairs met says meets keeps (same_verdict q.mode c.in_ok-valid.valid)
-    g.met.K.Validate.asks_verdicts kept read stays few (λ no. absurd (no c.requires.verdict)) (ap (λ (z : Context). z.remembered) c.cache_result.ensures.frame) c.exit-2.ensures.remembered c.exit-2.ensures.verdicts
+    kept_stays set q e c.args.context.now c.requires.guarded entered.0 c.requires.verdict c.enter_shared.new.self c2 c3 c.cache_result.new.self c.exit-2.new.self c.start_ref_visit-mark.result c.in_ok-valid.valid pairs met says meets keeps
+    g.met.K.Validate.asks_verdicts kept read stays few (ap (λ (z : Context). z.remembered) c.cache_result.ensures.frame) c.exit-2.ensures.remembered c.exit-2.ensures.verdicts
 
 pub verdict::guarded_verdict-returns-clause-remembers : goal.verdict::guarded_verdict-returns-clause-remembers
 verdict::guarded_verdict-returns-clause-remembers g t c =
@@ -2242,14 +1991,14 @@ verdict::guarded_verdict-returns-clause-remembers g t c =
     let says = subst (λ z. NodeSays set z c2 e.node (told.Truth c.in_ok-valid.valid)) at_asked c.in_ok-valid.ensures.says in
     let meets = subst (λ z. MeetsNode set z c2 c3 e.node) at_asked c.in_ok-valid.ensures.meets in
     let keeps = c.in_ok-valid.ensures.keeps in
-    let kept = λ (texts : Bool) (mode : q.mode ≡ for_verdict). rw (c.as_place-here.ensures.same ∙ c.in_ok-shared.ensures.same) at c.in_ok-cache_result.ensures.kept in
-    let none = subst (λ m. read_in_mode m e.node p c.enter_shared.new.self ≡ None) (sym c.requires.verdict) (sym (rw (c.as_place-here.ensures.same ∙ c.in_ok-shared.ensures.same) at c.in_default.ensures.read)) in
+    let kept = rw (c.as_place-here.ensures.same ∙ c.in_ok-shared.ensures.same) at c.in_ok-cache_result.ensures.kept in
+    let none = sym (rw (c.as_place-here.ensures.same ∙ c.in_ok-shared.ensures.same) at c.in_default.ensures.read) in
     let left = ap (λ (z : Context). z.in_progress) c.cache_result.ensures.frame ∙ keeps.in_progress in
     let back = pairs_back set q e c.args.context.now c.requires.guarded entered.0 c2 c.exit-2.new.self pairs (sym left ∙ rw (c.as_place-here.ensures.same ∙ c.in_ok-shared.ensures.same) at c.exit-2.ensures.left) in
     let visits = c.exit-2.ensures.visits ∙ ap (λ (z : Context). z.visits) c.cache_result.ensures.frame in
-    let counted : c2.visits ≡ visited_in_mode q.mode c.args.context.now.visits = subst (λ m. c2.visits ≡ visited_in_mode m c.args.context.now.visits) (sym c.requires.verdict) (ap (λ (z : Context). z.visits) c.start_ref_visit-mark.ensures.counted ∙ ap one_more c.enter_shared.ensures.visits) in
+    let counted = ap (λ (z : Context). z.visits) c.start_ref_visit-mark.ensures.counted ∙ ap one_more c.enter_shared.ensures.visits in
     let more = subst (λ z. z ≤ c3.visits) counted c.in_ok-valid.ensures.counts in
-    computed_remembers set q e c.args.context.now c.requires.guarded entered.0 c.enter_shared.new.self c2 c3 c.cache_result.new.self c.exit-2.new.self c.start_ref_visit-mark.result (told.Truth c.in_ok-valid.valid) (told.Truth c.in_ok-valid.valid) pairs met says meets keeps (same_verdict q.mode c.in_ok-valid.valid)
+    kept_remembers set q e c.args.context.now c.requires.guarded entered.0 c.requires.verdict c.enter_shared.new.self c2 c3 c.cache_result.new.self c.exit-2.new.self c.start_ref_visit-mark.result c.in_ok-valid.valid pairs met says meets keeps
     g.met.K.Validate.asks_verdicts kept entered.1 c.enter_shared.ensures.verdicts none (c.start_ref_visit-mark.ensures.mark ∙ c.enter_shared.ensures.visits) back visits more c.exit-2.ensures.verdicts
 
 pub verdict::guarded_verdict-returns-clause-counts : goal.verdict::guarded_verdict-returns-clause-counts
@@ -2277,8 +2026,7 @@ verdict::guarded_verdict-returns-clause-visits g t c =
     let node_counts = subst (λ z. NodeCounts ns (record { subject = q.subject; place = z; path = path_of c.across-whole.result; mode = q.mode }) c2 c3 e.node) there c.in_ok-valid.ensures.visits in
     let visits = c.exit-2.ensures.visits ∙ ap (λ (z : Context). z.visits) c.cache_result.ensures.frame in
     computed_counts ns q c.args.context.now e c2 c3 c.exit-2.new.self c.requires.guarded entered.0
-    (λ mode. sym (read_entered e.node p c.args.context.now c1 entered.1 c.enter_shared.ensures.verdicts) ∙ none) pairs read
-    (λ mode. counted) node_counts visits
+    (sym (read_entered e.node p c.args.context.now c1 entered.1 c.enter_shared.ensures.verdicts) ∙ none) pairs read counted node_counts visits
 
 pub verdict::guarded_verdict-verdict_node-requires : goal.verdict::guarded_verdict-verdict_node-requires
 verdict::guarded_verdict-verdict_node-requires g t c =
