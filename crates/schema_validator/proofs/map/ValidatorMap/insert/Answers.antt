@@ -12,4 +12,5 @@ returns g c = record {
       sym (found_by q c.insert.new.self.entries)
       ∙ btree_map_updates_text bs c.self.inside.entries c.insert.new.self (Some c.args.validator) c.in_ok-insert.ensures.updates q
       ∙ ap (λ o. cond (bytes_eq bs q) (Some c.args.validator) o) (found_by q c.self.inside.entries.entries ∙ ap (λ es. at_pointer es q) c.self.view_is);
+  unchanged = tt;
 }
