@@ -5,4 +5,3 @@ pub mod BothModes
 pub mod Clones
 pub mod BothScripts
 pub mod BothTables
-pub mod Always

@@ -4,5 +4,3 @@
 pub mod both;
 pub mod cloning;
 pub mod table;
-#[cfg(test)]
-mod tests;

@@ -1,9 +1,12 @@
-//! Tests of `schema_contexts`, `schema_nodes`, `schema_parts` and the bench's keywords and parts: their public calls.
+//! Tests of `schema_contexts`, `schema_nodes`, `schema_parts`, `joined_keywords` and the bench's keywords and parts: their public
+//! calls.
 //! Nothing stands on this crate.
 #![tactic(auto)]
 
 #[cfg(test)]
 mod context_tests;
+#[cfg(test)]
+mod joined_tests;
 #[cfg(test)]
 mod keyword_tests;
 #[cfg(test)]

@@ -1,6 +1,6 @@
 //! Two tables of one type as one: which keyword each name makes, and how a joined keyword's run goes.
-use crate::both::Both;
-use crate::table::BothTable;
+use joined_keywords::both::Both;
+use joined_keywords::table::BothTable;
 use schema_keywords::keywords::{Draft, VocabularySet};
 use schema_parts::cloning::CloneKeyword;
 use schema_parts::keyword::{Answer, Mode, Reply, Step, Validate};
@@ -16,9 +16,9 @@ struct Always {}
 
 impl Validate for Always {
     ghost use Rattle.std.specs.Prelude.{refl, true};
-    ghost use Rattle.joined_keywords.specs.Always.{always_ask_no_units, always_ask_verdicts, always_can_be, always_ends};
-    ghost use Rattle.joined_keywords.specs.Always.{always_fits, always_functions, always_hand_units_on, always_left};
-    ghost use Rattle.joined_keywords.specs.Always.{always_turns, always_words, none_absorbed};
+    ghost use Rattle.part_tests.specs.Always.{always_ask_no_units, always_ask_verdicts, always_can_be, always_ends};
+    ghost use Rattle.part_tests.specs.Always.{always_fits, always_functions, always_hand_units_on, always_left};
+    ghost use Rattle.part_tests.specs.Always.{always_turns, always_words, none_absorbed};
 
     type Run = ();
 
@@ -93,7 +93,7 @@ struct AlwaysTable {
 
 impl KeywordTable<Always> for AlwaysTable {
     ghost use Rattle.std.specs.Prelude.{bytes_eq, refl};
-    ghost use Rattle.joined_keywords.specs.Always.{always_script, always_waiting};
+    ghost use Rattle.part_tests.specs.Always.{always_script, always_waiting};
 
     /// Whether it has still to make it.
     type Maker = bool;
