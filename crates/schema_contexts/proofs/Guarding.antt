@@ -8,7 +8,7 @@ use Rattle.schema_definitions.specs.Instance.{Place, same_place}
 use Rattle.schema_places.specs.Numbers.{OwnNumbers, number_of, place_at}
 use Rattle.schema_contexts.specs.ProgressViews.{Guards, Holds}
 use Rattle.schema_contexts.specs.Progress.{Distinct, Pairs, busy_at, has_number}
-use Rattle.schema_contexts.specs.Rows.{AreWide, MakesRow, PutsBit, has_bit, row_in, row_words, words_of}
+use Rattle.schema_contexts.specs.Rows.{PutsBit, has_bit, row_in, words_of}
 use Rattle.schema_contexts.specs.Verdicts.{is_alone}
 use Rattle.schema_contexts.proofs.Pairs.{among, busy-pushed, place_equal, same_place-self}
 use Rattle.schema_contexts.proofs.Alone.{Once, alone_by_count, busy_last, once_at}
