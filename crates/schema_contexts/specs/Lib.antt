@@ -7,9 +7,10 @@ pub use Rattle.schema_parts.specs.FaultViews
 pub use Rattle.schema_parts.specs.EdgeViews
 pub mod Progress
 pub mod Verdicts
-pub mod VerdictViews
+pub mod Rows
 pub mod Matches
 pub mod MarkViews
 pub mod ProgressViews
 pub mod EvaluationPaths
 pub mod KeptPaths
+pub mod Lending

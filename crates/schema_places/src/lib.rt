@@ -1,5 +1,6 @@
 //! The places of an instance by number.
 #![tactic(auto)]
 
+pub mod on_demand;
 pub mod places;
 mod rows;

@@ -1,0 +1,60 @@
+//! The places of an instance, numbered when they are first asked for.
+ghost use Rattle.std.specs.Prelude.{◌≡◌, IfOk, ⊤};
+ghost use Rattle.std.specs.Borrow.{sem};
+ghost use Rattle.schema_definitions.specs.Instance.{places};
+ghost use Rattle.serde_json.specs.View.{view};
+
+use crate::places::Places;
+use schema_reports::location::OutOfMemory;
+use serde_json::Value;
+use std::alloc::Global;
+use std::marker::Model;
+
+/// The places of an instance, which are numbered when their numbers are first asked for: a run that never asks for one pays
+/// nothing. Contracts see the list of the places, in the order of their numbers, whether they are numbered or not.
+#[derive(Drop)]
+pub struct PlacesOnDemand<'i> {
+    root: &'i Value,
+    numbered: Option<Places<'i>>,
+}
+
+impl<'i> Model for PlacesOnDemand<'i> {
+    ghost use Rattle.std.specs.Prelude.{◌≡◌, IfSome, List};
+    ghost use Rattle.schema_definitions.specs.Instance.{Place};
+    ghost use Rattle.schema_places.specs.Rows.{places_of};
+
+    ghost Value = { List Place };
+
+    ghost view = { λ p. places_of p.root.now };
+
+    ghost invariant = { λ p. IfSome p.numbered (λ ps. ps ≡ places_of p.root.now) };
+}
+
+impl<'i> PlacesOnDemand<'i> {
+    ghost use Rattle.schema_places.specs.Lending.{EndsAs};
+
+    /// Returns the places of an instance, not numbered yet. It allocates nothing.
+    pub fn of(root: &'i Value) -> PlacesOnDemand<'i>
+        ensures places { result ≡ places (view root.now) }
+    {
+        PlacesOnDemand {
+            root,
+            numbered: None,
+        }
+    }
+
+    /// Returns the numbered places. They are numbered at the first call. Fails only if memory cannot be allocated, and then nothing
+    /// has changed.
+    pub fn numbered(&mut self, alloc: Global) -> Result<&Places<'i>, OutOfMemory>
+        ensures same { IfOk result (λ ps. ps.now ≡ self.old) }
+        ensures* unchanged { sem 𝓛 (EndsAs self.entry self.old) }
+    {
+        if self.numbered.is_none() {
+            self.numbered = Some(Places::number(alloc, self.root)?);
+        }
+        match &self.numbered {
+            Some(places) => Ok(places),
+            None => unreachable!(),
+        }
+    }
+}
