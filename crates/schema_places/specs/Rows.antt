@@ -9,8 +9,7 @@ use Rattle.serde_json.specs.View.{view}
 use Rattle.serde_json.specs.declared.value.Value.{Value}
 use Rattle.schema_definitions.specs.Instance.{Place, Step, Text, item_places, member_places, places, same_step, to_item, to_member, to_name}
 use Rattle.schema_reports.specs.InstanceViews.{step_of}
-use Rattle.schema_places.specs.Numbers.{place_at}
-use Rattle.schema_places.specs.declared.places.NumberedPlace.{NumberedPlace, Given, Below'}
+use Rattle.schema_places.specs.Numbers.{NumbersAll}
 use Rattle.schema_places.specs.declared.rows.Below.{Below}
 use Rattle.schema_places.specs.declared.rows.Below.TheVariants as below
 use Rattle.schema_places.specs.declared.rows.Named.{Named}
@@ -143,17 +142,11 @@ abbrev mutual
 abbrev pub places_of : Value → List Place
 places_of v = places (view v)
 
+-- these are the places of a value, and one has a number exactly where something stands there
+abbrev pub ArePlacesOf : Value → List Place → Type 0
+ArePlacesOf v ps = (ps ≡ places (view v)) × NumbersAll (view v) ps
+
 -- a value's places are laid out in rows, and in each object the names ascend
 pub record LaidOut (v : Value) (rows : List Row) : Type 0 where
   pub rows_are : map row_of rows ≡ rows_at 0 (view v)
   pub ascend : NamesAscend (view v)
-
--- the place by its number, with each step below it
-abbrev pub steps_to : List Place → NumberedPlace → Place
-steps_to ps (Given n) = place_at ps n
-steps_to ps (Below' pointer above step) = steps_to ps above ++ step_of step ∷ []
-
--- the number that it begins with is that of a place
-abbrev pub BeginsWithin : List Place → NumberedPlace → Type 0
-BeginsWithin ps (Given n) = n < length ps
-BeginsWithin ps (Below' pointer above step) = BeginsWithin ps above

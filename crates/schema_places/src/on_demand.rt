@@ -2,6 +2,7 @@
 ghost use Rattle.std.specs.Prelude.{◌≡◌, IfOk, ⊤};
 ghost use Rattle.std.specs.Borrow.{sem};
 ghost use Rattle.schema_definitions.specs.Instance.{places};
+ghost use Rattle.schema_places.specs.Numbers.{NumbersAll};
 ghost use Rattle.serde_json.specs.View.{view};
 
 use crate::places::Places;
@@ -11,7 +12,7 @@ use std::alloc::Global;
 use std::marker::Model;
 
 /// The places of an instance, which are numbered when their numbers are first asked for: a run that never asks for one pays
-/// nothing. Contracts see the list of the places, in the order of their numbers, whether they are numbered or not.
+/// nothing. Contracts see the instance, whether its places are numbered or not.
 #[derive(Drop)]
 pub struct PlacesOnDemand<'i> {
     root: &'i Value,
@@ -19,15 +20,19 @@ pub struct PlacesOnDemand<'i> {
 }
 
 impl<'i> Model for PlacesOnDemand<'i> {
-    ghost use Rattle.std.specs.Prelude.{◌≡◌, IfSome, List};
-    ghost use Rattle.schema_definitions.specs.Instance.{Place};
-    ghost use Rattle.schema_places.specs.Rows.{places_of};
+    ghost use Rattle.std.specs.Prelude.{IfSome};
+    ghost use Rattle.serde_json.specs.declared.value.Value as instance;
+    ghost use Rattle.serde_json.specs.contracts.value.Value as value;
+    ghost use Rattle.schema_places.specs.Rows.{ArePlacesOf};
+    ghost use Rattle.std.specs.Coded.{codes};
 
-    ghost Value = { List Place };
+    ghost Value = { instance.Value };
 
-    ghost view = { λ p. places_of p.root.now };
+    ghost coded = { Prim.hlevel (codes, value.the_row.coded) };
 
-    ghost invariant = { λ p. IfSome p.numbered (λ ps. ps ≡ places_of p.root.now) };
+    ghost view = { λ p. p.root.now };
+
+    ghost invariant = { λ p. IfSome p.numbered (λ ps. ArePlacesOf p.root.now ps) };
 }
 
 impl<'i> PlacesOnDemand<'i> {
@@ -35,7 +40,7 @@ impl<'i> PlacesOnDemand<'i> {
 
     /// Returns the places of an instance, not numbered yet. It allocates nothing.
     pub fn of(root: &'i Value) -> PlacesOnDemand<'i>
-        ensures places { result ≡ places (view root.now) }
+        ensures root { result ≡ root.now }
     {
         PlacesOnDemand {
             root,
@@ -46,7 +51,8 @@ impl<'i> PlacesOnDemand<'i> {
     /// Returns the numbered places. They are numbered at the first call. Fails only if memory cannot be allocated, and then nothing
     /// has changed.
     pub fn numbered(&mut self, alloc: Global) -> Result<&Places<'i>, OutOfMemory>
-        ensures same { IfOk result (λ ps. ps.now ≡ self.old) }
+        ensures places { IfOk result (λ ps. ps.now ≡ places (view self.old)) }
+        ensures there { IfOk result (λ ps. NumbersAll (view self.old) ps.now) }
         ensures* unchanged { sem 𝓛 (EndsAs self.entry self.old) }
     {
         if self.numbered.is_none() {

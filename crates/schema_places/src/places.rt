@@ -2,7 +2,6 @@
 ghost use Rattle.std.specs.Prelude.{◌≡◌, ◌<◌, ◌≤◌, ◌&&◌, ◌++◌, ◌∷◌, [], ℕ, IfOk, length, map, nat_le};
 ghost use Rattle.schema_definitions.specs.Instance.{places};
 ghost use Rattle.schema_places.specs.Numbers.{Ascends, Closed, NumbersAll, OwnNumbers, is_under, number_of, place_at};
-ghost use Rattle.schema_places.specs.Rows.{BeginsWithin, steps_to};
 ghost use Rattle.schema_reports.specs.InstanceViews.{step_of};
 ghost use Rattle.serde_json.specs.View.{view};
 
@@ -12,13 +11,6 @@ use schema_reports::location::OutOfMemory;
 use serde_json::Value;
 use std::alloc::Global;
 use std::marker::Model;
-
-/// A place by its number, or the place above a step and the step.
-#[derive(Clone, Copy)]
-pub enum NumberedPlace<'p, 'i> {
-    Given(usize),
-    Below(&'p NumberedPlace<'p, 'i>, InstanceStep<'i>),
-}
 
 /// The places of an instance, each with its number: the root is 0; in an object each name comes before its member, in the order of
 /// the names; the items of an array come by index. Contracts see the list of the places, in the order of their numbers.
@@ -105,20 +97,12 @@ impl<'i> Places<'i> {
         Some(number)
     }
 
-    /// Returns the number of a place, if there is such a place, by walking down from the one whose number is given. It allocates
-    /// nothing.
-    pub fn find(&self, place: &NumberedPlace<'_, '_>) -> Option<usize>
-        requires given { BeginsWithin self.now place.now }
-        ensures number { result ≡ number_of (steps_to self.now place.now) self.now }
+    /// Returns the number of the place that the steps lead to from the root, if there is such a place. It allocates nothing.
+    pub fn find(&self, steps: &[InstanceStep<'_>]) -> Option<usize>
+        ensures number { result ≡ number_of (map step_of steps.now) self.now }
     {
-        // Opens the value, so that what its rows say is known below.
+        // Opens the value, so that the root's number is known.
         let _ = &self.rows;
-        match place {
-            NumberedPlace::Given(number) => Some(*number),
-            NumberedPlace::Below(above, step) => match self.find(above) {
-                Some(number) => self.child(number, *step),
-                None => None,
-            },
-        }
+        self.find_from(0, steps)
     }
 }
