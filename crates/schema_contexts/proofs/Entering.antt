@@ -1,7 +1,7 @@
 -- What the fields of a run say as pairs, when one is entered and when one is left.
-use Rattle.std.proofs.Common.{◌≡◌, ℕ, zero, suc, ◌+◌, ◌-◌, ◌*◌, ◌/◌, ◌%◌, ◌<◌, ◌≤◌, ◌==◌, ◌&&◌, Bool, true, false, cond, List, [], ◌∷◌, ◌++◌, length, get_or, map, refl, sym, ◌∙◌, ap, ap₂, subst, arith, rules, true≢false, ⊎_elim, Vec, Global}
-use Rattle.std.specs.Prelude.{Option, Some, None, ◌||◌, ◌⊎◌, nat_eq, slice_set}
-use Rattle.std.specs.HashMap.{HashMap, IsUnique, keys}
+use Rattle.std.proofs.Common.{◌≡◌, ℕ, zero, suc, ◌+◌, ◌-◌, ◌*◌, ◌/◌, ◌<◌, ◌≤◌, ◌==◌, Bool, true, false, cond, List, [], ◌∷◌, ◌++◌, length, get_or, map, refl, sym, ◌∙◌, ap, arith, ⊎_elim, Vec, Global}
+use Rattle.std.specs.Prelude.{Option, Some, None, ◌||◌, slice_set}
+use Rattle.std.specs.HashMap.{HashMap, keys}
 use Rattle.std.specs.Option.{option_to_list}
 use Rattle.std.proofs.lemmas.Bool.{eqb-false, eqb-true}
 use Rattle.std.proofs.lemmas.Grind.{get_or-set_at}
@@ -14,7 +14,7 @@ use Rattle.schema_contexts.specs.Rows.{AreWide, MakesRow, PutsBit, has_bit, row_
 use Rattle.schema_contexts.specs.declared.validation.InProgress.{InProgress}
 use Rattle.schema_contexts.proofs.Guarding.{has_row}
 use Rattle.schema_contexts.proofs.Pairs.{among, busy-pushed, eqb-self, nil_snoc, snoc_first}
-use Rattle.schema_contexts.proofs.RowsChanged.{or_true, other_test}
+use Rattle.schema_contexts.proofs.RowsChanged.{or_true}
 
 -- a place's word is within a row
 pub in_row : (w k n : ℕ) → w ≡ row_words n → k < n → k / 64 < w

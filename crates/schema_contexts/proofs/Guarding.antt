@@ -1,18 +1,17 @@
 -- The guard's rows and counts, beside the pairs in progress.
-use Rattle.std.proofs.Common.{◌≡◌, ℕ, zero, suc, ◌+◌, ◌-◌, ◌*◌, ◌/◌, ◌%◌, ◌<◌, ◌≤◌, ◌==◌, ◌&&◌, Bool, true, false, cond, List, [], ◌∷◌, ◌++◌, length, get_or, refl, sym, ◌∙◌, ap, ap₂, subst, arith, rules, true≢false, inl, inr, ⊎_elim, Vec, Global}
-use Rattle.std.specs.Prelude.{Option, Some, None, ◌||◌, ◌⊎◌, Contains, is_some, nat_eq}
-use Rattle.std.specs.HashMap.{HashMap, IsUnique, get, keys}
-use Rattle.std.specs.List.{list_all}
+use Rattle.std.proofs.Common.{◌≡◌, ℕ, suc, ◌+◌, ◌-◌, ◌<◌, ◌==◌, ◌&&◌, Bool, true, false, cond, List, [], ◌∷◌, ◌++◌, length, get_or, refl, sym, ◌∙◌, ap, ap₂, subst, arith, true≢false, inl, inr, ⊎_elim, Vec, Global}
+use Rattle.std.specs.Prelude.{Option, Some, None, ◌||◌, is_some, nat_eq}
+use Rattle.std.specs.HashMap.{HashMap, get, keys}
 use Rattle.std.proofs.lemmas.Bool.{eqb-false, eqb-true}
 use Rattle.schema_definitions.specs.Instance.{Place, same_place}
 use Rattle.schema_places.specs.Numbers.{OwnNumbers, number_of, place_at}
-use Rattle.schema_contexts.specs.ProgressViews.{Guards, Holds}
+use Rattle.schema_contexts.specs.ProgressViews.{Guards}
 use Rattle.schema_contexts.specs.Progress.{Distinct, Pairs, busy_at, has_number}
 use Rattle.schema_contexts.specs.Rows.{PutsBit, has_bit, row_in, words_of}
 use Rattle.schema_contexts.specs.Verdicts.{is_alone}
 use Rattle.schema_contexts.proofs.Pairs.{among, busy-pushed, place_equal, same_place-self}
 use Rattle.schema_contexts.proofs.Alone.{Once, alone_by_count, busy_last, once_at}
-use Rattle.schema_contexts.proofs.RowsChanged.{no_bit, number_if, other_test, or_true}
+use Rattle.schema_contexts.proofs.RowsChanged.{no_bit, number_if}
 
 -- a place has one number
 pub one_number : (ps : List Place) (j k : ℕ) → OwnNumbers ps → j < length ps → k < length ps → place_at ps j ≡ place_at ps k → j ≡ k

@@ -6,7 +6,7 @@ use Rattle.std.proofs.lemmas.Bool.{eqb-true}
 use Rattle.std.proofs.lemmas.Slice.Eq.{bytes_eq-Decides}
 use Rattle.schema_definitions.specs.Instance.{Place, Step, to_member, to_item, to_name, same_step, same_place}
 use Rattle.schema_reports.proofs.Places.{differ_in_length}
-use Rattle.schema_contexts.specs.Progress.{Pairs, busy_at, NoDeeper, Distinct, Enters, EndsWith}
+use Rattle.schema_contexts.specs.Progress.{Pairs, busy_at, NoDeeper, Distinct, Enters}
 
 abbrev pub among : ℕ → List ℕ → Bool
 among n xs = list_any (λ i. i == n) xs

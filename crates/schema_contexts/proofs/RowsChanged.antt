@@ -1,5 +1,5 @@
 -- Rows of bits: one more, and one bit set or cleared.
-use Rattle.std.proofs.Common.{◌≡◌, ℕ, zero, suc, ◌+◌, ◌*◌, ◌/◌, ◌%◌, ◌<◌, ◌≤◌, ◌==◌, ◌&&◌, Bool, true, false, cond, List, [], ◌∷◌, length, length-set, get_or, refl, sym, ◌∙◌, ap, ap₂, subst, arith, rules, true≢false, Vec, Global}
+use Rattle.std.proofs.Common.{◌≡◌, ℕ, zero, suc, ◌/◌, ◌%◌, ◌<◌, ◌==◌, ◌&&◌, Bool, true, false, cond, List, [], length, length-set, get_or, refl, sym, ◌∙◌, ap, ap₂, subst, arith, true≢false, Vec, Global}
 use Rattle.std.specs.Prelude.{Option, Some, None, ◌||◌, is_some, nat_eq, slice_set, replicate}
 use Rattle.std.specs.HashMap.{HashMap, IsUnique, Updates, UpdatesBy, get, keys}
 use Rattle.std.specs.Int.{bit_at}
@@ -8,7 +8,7 @@ use Rattle.std.proofs.lemmas.Grind.{get_or-set_at}
 use Rattle.std.proofs.lemmas.List.{get_or-set_other}
 use Rattle.std.proofs.lemmas.Map.Made.{is_some-lookup}
 use Rattle.std.proofs.lemmas.Nat.Bits.{bit_at-zero}
-use Rattle.schema_contexts.specs.Progress.{Adds, has_number}
+use Rattle.schema_contexts.specs.Progress.{has_number}
 use Rattle.schema_contexts.specs.Rows.{AreWide, MakesRow, PutsBit, has_bit, row_in, words_of}
 
 -- ---- rows with no bit

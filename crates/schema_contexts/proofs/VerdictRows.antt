@@ -1,11 +1,11 @@
 -- Verdicts in rows of bits, as the list of all of them has them.
-use Rattle.std.proofs.Common.{◌≡◌, ℕ, zero, suc, ◌+◌, ◌*◌, ◌/◌, ◌<◌, ◌≤◌, ◌==◌, ◌&&◌, Bool, true, false, cond, List, [], ◌∷◌, ◌++◌, length, get_or, refl, sym, ◌∙◌, ap, ap₂, subst, arith, rules, true≢false, ⊎_elim, Vec, Global}
+use Rattle.std.proofs.Common.{◌≡◌, ℕ, suc, ◌+◌, ◌*◌, ◌/◌, ◌<◌, ◌≤◌, ◌==◌, ◌&&◌, Bool, true, false, cond, List, [], ◌∷◌, ◌++◌, length, refl, sym, ◌∙◌, ap, ap₂, subst, arith, rules, ⊎_elim, Vec, Global}
 use Rattle.std.specs.Prelude.{Option, Some, None, ◌⊎◌, option_map, nat_eq}
 use Rattle.std.specs.Cmp.{nat_eq_equiv}
-use Rattle.std.specs.HashMap.{HashMap, IsUnique, get, keys}
+use Rattle.std.specs.HashMap.{HashMap, IsUnique}
 use Rattle.std.specs.List.{AllByRecursion, IsDistinct}
 use Rattle.std.specs.Map.{keys_of, lookup}
-use Rattle.std.proofs.lemmas.Bool.{eqb-false, eqb-true}
+use Rattle.std.proofs.lemmas.Bool.{eqb-true}
 use Rattle.schema_definitions.specs.Instance.{Place, same_place}
 use Rattle.schema_places.specs.Numbers.{OwnNumbers, number_of, place_at}
 use Rattle.schema_contexts.specs.ProgressViews.{all_verdicts, node_verdicts}

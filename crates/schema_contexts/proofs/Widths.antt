@@ -1,10 +1,10 @@
 -- How many words rows take, where each is as wide.
-use Rattle.std.proofs.Common.{◌≡◌, ℕ, zero, suc, ◌+◌, ◌*◌, Bool, true, false, List, [], ◌∷◌, length, refl, sym, ◌∙◌, ap, ap₂, arith, true≢false, Vec, Global}
+use Rattle.std.proofs.Common.{◌≡◌, ℕ, suc, ◌+◌, ◌*◌, Bool, true, false, List, [], ◌∷◌, length, refl, sym, ◌∙◌, ap, ap₂, arith, true≢false, Vec, Global}
 use Rattle.std.specs.Prelude.{◌||◌, nat_eq}
 use Rattle.std.specs.HashMap.{HashMap, keys}
 use Rattle.std.specs.Map.{keys_of}
 use Rattle.std.proofs.Math.Nat.{add-mul, mul_assoc, mul_comm, suc-mul}
-use Rattle.schema_contexts.specs.Progress.{Context, IsWide, has_number, row_words}
+use Rattle.schema_contexts.specs.Progress.{has_number}
 use Rattle.schema_contexts.specs.Rows.{AreWide, row_in, words_at, words_in}
 use Rattle.schema_contexts.proofs.Pairs.{eqb-self}
 

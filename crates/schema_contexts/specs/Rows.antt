@@ -1,5 +1,5 @@
 -- Rows of bits, each of a node's number. A row is a list of words of 64 bits.
-use Rattle.std.specs.Prelude.{ℕ, ◌≡◌, ◌==◌, ◌+◌, ◌*◌, ◌/◌, ◌%◌, ◌&&◌, Bool, false, true, List, [], ◌∷◌, Option, None, Some, if◌then◌else◌, length, slice_index_or, nat_eq}
+use Rattle.std.specs.Prelude.{ℕ, ◌≡◌, ◌==◌, ◌+◌, ◌*◌, ◌/◌, ◌%◌, ◌&&◌, Bool, true, List, [], ◌∷◌, Option, None, Some, if◌then◌else◌, length, slice_index_or, nat_eq}
 use Rattle.std.specs.HashMap.{HashMap, IsUnique, get, keys}
 use Rattle.std.specs.Int.{bit_at}
 use Rattle.std.specs.declared.alloc.Global.{Global}

@@ -1,4 +1,4 @@
-use Rattle.std.proofs.Common.{◌≡◌, ◌∙◌, ap, sym, true, false}
+use Rattle.std.proofs.Common.{◌∙◌, sym}
 use Rattle.schema_contexts.proofs.RowsChanged.{row_made, row_there}
 use Rattle.schema_contexts.proofs.rows.make_row.Goals as goal
 

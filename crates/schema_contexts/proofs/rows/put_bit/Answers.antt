@@ -1,5 +1,5 @@
-use Rattle.std.proofs.Common.{◌≡◌, ◌∙◌, ◌<◌, ◌+◌, ◌*◌, ◌/◌, ◌%◌, ◌==◌, ℕ, List, [], ◌∷◌, zero, suc, Bool, cond, ap, ap₂, arith, get_or, length, refl, subst, sym, Vec, Global}
-use Rattle.std.specs.Prelude.{Option, Some, IsSome, nat_eq, slice_set}
+use Rattle.std.proofs.Common.{◌≡◌, ◌∙◌, ◌<◌, ◌+◌, ◌*◌, ◌/◌, ◌%◌, ◌==◌, ℕ, List, [], ◌∷◌, zero, suc, cond, ap, ap₂, arith, get_or, length, refl, subst, sym}
+use Rattle.std.specs.Prelude.{Some, IsSome, nat_eq, slice_set}
 use Rattle.std.specs.Vec.{with_item}
 use Rattle.std.specs.HashMap.{get_by}
 use Rattle.std.specs.Int.{bit_at}

@@ -1,14 +1,13 @@
-use Rattle.std.proofs.Common.{◌≡◌, ◌∙◌, ◌==◌, ◌&&◌, ◌*◌, ◌+◌, ◌-◌, ◌/◌, ◌<◌, ◌≤◌, ◌++◌, ◌∷◌, [], ℕ, Bool, true, false, cond, List, ap, ap₂, arith, get_or, inl, inr, length, length-append, length-set, map, refl, subst, sym, rules, ⊎_elim, Vec, Global}
-use Rattle.std.specs.Prelude.{◌||◌, ◌⊎◌, Option, Some, None, nat_eq, slice_set}
+use Rattle.std.proofs.Common.{◌≡◌, ◌∙◌, ◌*◌, ◌+◌, ◌<◌, true, List, ap, arith, inl, length, map, subst, sym}
+use Rattle.std.specs.Prelude.{nat_eq}
 use Rattle.std.specs.HashMap.{keys}
 use Rattle.std.specs.List.{IsDistinct}
 use Rattle.schema_definitions.specs.Instance.{Place}
 use Rattle.schema_places.specs.Numbers.{OwnNumbers, place_at}
-use Rattle.schema_contexts.specs.ProgressViews.{Guards, Holds, all_verdicts, pair_of}
-use Rattle.schema_contexts.specs.Progress.{Adds, Context, Distinct, EndsWith, Enters, FewRows, IsWide, Pairs, busy_at, has_number, row_words}
-use Rattle.schema_contexts.specs.Rows.{AreWide, PutsBit, has_bit, row_in, words_in}
-use Rattle.schema_contexts.specs.Verdicts.{MayKeep, Remembers, is_alone, read_verdict, verdict_of}
-use Rattle.schema_contexts.specs.declared.validation.InProgress.{InProgress}
+use Rattle.schema_contexts.specs.ProgressViews.{Holds, all_verdicts, pair_of}
+use Rattle.schema_contexts.specs.Progress.{Context, IsWide, row_words}
+use Rattle.schema_contexts.specs.Rows.{AreWide, PutsBit, words_in}
+use Rattle.schema_contexts.specs.Verdicts.{Remembers}
 use Rattle.schema_contexts.proofs.Entering.{in_row, row_kept}
 use Rattle.schema_contexts.proofs.Few.{few_lists, few_rows}
 use Rattle.schema_contexts.proofs.VerdictRows.{remembered}

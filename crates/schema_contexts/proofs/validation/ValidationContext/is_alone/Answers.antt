@@ -1,14 +1,10 @@
-use Rattle.std.proofs.Common.{◌≡◌, ◌∙◌, ◌==◌, ◌&&◌, ◌*◌, ◌+◌, ◌-◌, ◌/◌, ◌<◌, ◌≤◌, ◌++◌, ◌∷◌, [], ℕ, Bool, true, false, cond, List, ap, ap₂, arith, get_or, length, length-append, length-set, map, refl, subst, sym, rules, Vec, Global}
-use Rattle.std.specs.Prelude.{◌||◌, Option, Some, None, nat_eq, slice_set}
-use Rattle.std.specs.HashMap.{keys}
-use Rattle.std.specs.List.{IsDistinct}
-use Rattle.schema_definitions.specs.Instance.{Place}
-use Rattle.schema_places.specs.Numbers.{OwnNumbers, place_at}
-use Rattle.schema_contexts.specs.ProgressViews.{Guards, Holds, all_verdicts, pair_of}
-use Rattle.schema_contexts.specs.Progress.{Adds, Context, Distinct, EndsWith, Enters, FewRows, IsWide, Pairs, busy_at, has_number, row_words}
-use Rattle.schema_contexts.specs.Rows.{PutsBit, has_bit, row_in}
-use Rattle.schema_contexts.specs.Verdicts.{MayKeep, Remembers, is_alone, read_verdict, verdict_of}
-use Rattle.schema_contexts.specs.declared.validation.InProgress.{InProgress}
+use Rattle.std.proofs.Common.{◌≡◌, ◌∙◌, ◌==◌, ◌&&◌, ◌<◌, ℕ, Bool, ap, ap₂, arith, get_or, length, map, subst, sym}
+use Rattle.std.specs.Prelude.{◌||◌}
+use Rattle.schema_places.specs.Numbers.{place_at}
+use Rattle.schema_contexts.specs.ProgressViews.{pair_of}
+use Rattle.schema_contexts.specs.Progress.{Context}
+use Rattle.schema_contexts.specs.Rows.{has_bit, row_in}
+use Rattle.schema_contexts.specs.Verdicts.{is_alone}
 use Rattle.schema_contexts.proofs.Guarding.{alone_if}
 use Rattle.schema_contexts.proofs.RowsChanged.{other_test}
 use Rattle.schema_contexts.proofs.validation.ValidationContext.is_alone.Goals as goal
