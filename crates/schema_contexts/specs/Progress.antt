@@ -1,7 +1,9 @@
 -- The pairs of a node's number and a place that are in progress, the last entered last; and what a run holds.
 use Rattle.std.specs.Prelude.{ℕ, ◌≤◌, ◌≡◌, ◌↔◌, ◌+◌, ◌*◌, ◌/◌, ◌||◌, ◌==◌, Bool, IsTrue, List, [], ◌∷◌, ◌++◌, length, nat_eq, not, if◌then◌else◌, All, Contains}
 use Rattle.std.specs.List.{filter, list_any}
-use Rattle.schema_definitions.specs.Instance.{Place, same_place}
+use Rattle.serde_json.specs.View.{view}
+use Rattle.serde_json.specs.declared.value.Value.{Value}
+use Rattle.schema_definitions.specs.Instance.{Place, places, same_place}
 use Rattle.schema_definitions.specs.Keywords.{Marked}
 use Rattle.schema_definitions.specs.Unfinished.{Remembered}
 
@@ -34,12 +36,12 @@ EndsWith n p es = (rest : Pairs) × (es ≡ rest ++ (n, p) ∷ [])
 abbrev pub Verdicts : Type 0
 Verdicts = List ((ℕ × Place) × Bool)
 
--- what a run holds: the places of its instance in the order of their numbers, the pairs in progress, what it assumes of unfinished
--- matches and remembers of those that it met, the marks of the keyword's run that is at work, the last one first, the verdicts that it
--- remembers, how many guarded visits it counted, the node numbers that were entered, and those that a verdict is remembered for, and
--- how many words of 64 bits its rows take
+-- what a run holds: the instance whose places it speaks of, the pairs in progress, what it assumes of unfinished matches and remembers
+-- of those that it met, the marks of the keyword's run that is at work, the last one first, the verdicts that it remembers, how many
+-- guarded visits it counted, the node numbers that were entered, and those that a verdict is remembered for, and how many words of 64
+-- bits its rows take
 pub record Context : Type 0 where
-  pub places : List Place
+  pub root : Value
   pub in_progress : Pairs
   pub remembered : Remembered
   pub marking : List Marked
@@ -49,9 +51,16 @@ pub record Context : Type 0 where
   pub kept : List ℕ
   pub words : ℕ
 
--- a run that has begun at these places, with what it remembers of matches
-abbrev pub begun : List Place → Remembered → Context
-begun ps r = record { places = ps; in_progress = []; remembered = r; marking = []; verdicts = []; visits = 0; entered = []; kept = []; words = 0 }
+-- the places of an instance in the order of their numbers
+abbrev pub root_places : Value → List Place
+root_places v = places (view v)
+
+abbrev pub places_in : Context → List Place
+places_in c = root_places c.root
+
+-- a run that has begun on this instance, with what it remembers of matches
+abbrev pub begun : Value → Remembered → Context
+begun v r = record { root = v; in_progress = []; remembered = r; marking = []; verdicts = []; visits = 0; entered = []; kept = []; words = 0 }
 
 -- a node's number is among some
 abbrev pub has_number : ℕ → List ℕ → Bool
@@ -79,4 +88,4 @@ row_words n = (n + 63) / 64
 
 -- each row has a bit for each place, and no word more than these take
 abbrev pub IsWide : Context → Type 0
-IsWide c = c.words ≡ rows c * row_words (length c.places)
+IsWide c = c.words ≡ rows c * row_words (length (places_in c))

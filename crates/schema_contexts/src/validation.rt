@@ -15,8 +15,9 @@ ghost use Rattle.schema_contexts.specs.EvaluationPaths.{path_of};
 ghost use Rattle.schema_parts.specs.KeywordViews.{marked_of};
 ghost use Rattle.schema_contexts.specs.Matches.{after_match, comes_out};
 ghost use Rattle.schema_parts.specs.EdgeViews.{edge_of};
-ghost use Rattle.schema_places.specs.Numbers.{place_at};
-ghost use Rattle.schema_contexts.specs.Progress.{Adds, Distinct, Enters, EndsWith, FewRows, IsWide, begun};
+ghost use Rattle.serde_json.specs.View.{view};
+ghost use Rattle.schema_places.specs.Numbers.{NumbersAll, place_at};
+ghost use Rattle.schema_contexts.specs.Progress.{Adds, Distinct, Enters, EndsWith, FewRows, IsWide, begun, places_in};
 ghost use Rattle.schema_contexts.specs.Verdicts.{MayKeep, Remembers, is_alone, is_container, one_more, read_verdict};
 ghost use Rattle.schema_reports.specs.InstanceViews.{subject_of};
 
@@ -83,25 +84,30 @@ fn is_container(instance: Instance<'_>) -> bool
 impl<'i> Model for ValidationContext<'i> {
     ghost use Rattle.std.specs.Prelude.{◌+◌, map};
     ghost use Rattle.std.specs.HashMap.{keys};
-    ghost use Rattle.schema_contexts.specs.Progress.{Context};
+    ghost use Rattle.schema_contexts.specs.Progress.{Context, root_places};
     ghost use Rattle.schema_contexts.specs.ProgressViews.{Holds, all_verdicts, pair_of};
     ghost use Rattle.schema_contexts.specs.Rows.{words_in};
 
+    ghost use Rattle.serde_json.specs.contracts.value.Value as value;
+    ghost use Rattle.std.specs.Coded.{codes};
+
     ghost Value = { Context };
 
+    ghost coded = { Prim.hlevel (codes, value.the_row.coded) };
+
     ghost view = { λ c. record {
-      places = c.places;
-      in_progress = map (pair_of c.places) c.pairs.items;
+      root = c.places;
+      in_progress = map (pair_of (root_places c.places)) c.pairs.items;
       remembered = c.matches;
       marking = c.marking;
-      verdicts = all_verdicts c.places c.known.entries;
+      verdicts = all_verdicts (root_places c.places) c.known.entries;
       visits = c.visits;
       entered = keys c.guard;
       kept = keys c.known;
       words = words_in c.guard + words_in c.known;
     } };
 
-    ghost invariant = { λ c. Holds c.places (map (pair_of c.places) c.pairs.items) c.counts.items c.guard c.known };
+    ghost invariant = { λ c. Holds (root_places c.places) (map (pair_of (root_places c.places)) c.pairs.items) c.counts.items c.guard c.known };
 }
 
 // Adds a pair where there is room.
@@ -183,7 +189,7 @@ impl<'i> ValidationContext<'i> {
     /// Returns the places, for the run that comes next, and what was assumed, with what is remembered of the unfinished matches that
     /// were met. It allocates nothing.
     pub fn into_parts(self) -> (PlacesOnDemand<'i>, MatchAssumptions<'i>)
-        ensures places { result.0 ≡ self.entry.places }
+        ensures root { result.0 ≡ self.entry.root }
         ensures remembered { result.1 ≡ self.entry.remembered }
     {
         let ValidationContext {
@@ -197,7 +203,8 @@ impl<'i> ValidationContext<'i> {
     /// Returns the numbered places. They are numbered at the first call, or when the first pair is entered. Fails only if memory
     /// cannot be allocated, and then nothing has changed.
     pub fn places(&mut self) -> Result<&Places<'i>, OutOfMemory>
-        ensures same { IfOk result (λ ps. ps.now ≡ self.old.places) }
+        ensures places { IfOk result (λ ps. ps.now ≡ places_in self.old) }
+        ensures there { IfOk result (λ ps. NumbersAll (view self.old.root) ps.now) }
         ensures* unchanged { sem 𝓛 (EndsAs self.entry self.old) }
     {
         let alloc = self.alloc;
@@ -207,8 +214,8 @@ impl<'i> ValidationContext<'i> {
 
     /// Returns `true` if the pair is already in progress; otherwise records it and returns `false`. On `Err` nothing has changed.
     pub fn enter(&mut self, node: SchemaNode, place: usize) -> Result<bool, OutOfMemory>
-        requires known { place < length self.old.places }
-        ensures enters { IfOk result (λ b. Enters node.0 (place_at self.old.places place) self.old.in_progress b self.new.in_progress) }
+        requires known { place < length (places_in self.old) }
+        ensures enters { IfOk result (λ b. Enters node.0 (place_at (places_in self.old) place) self.old.in_progress b self.new.in_progress) }
         ensures unchanged { IfErr result (λ _. self.new ≡ self.old) }
         ensures distinct { Distinct self.new.in_progress }
         ensures entered { OnOk result (Adds node.0 self.old.entered self.new.entered) }
@@ -218,7 +225,7 @@ impl<'i> ValidationContext<'i> {
         ensures marking { self.new.marking ≡ self.old.marking }
         ensures verdicts { self.new.verdicts ≡ self.old.verdicts }
         ensures visits { self.new.visits ≡ self.old.visits }
-        ensures places { self.new.places ≡ self.old.places }
+        ensures root { self.new.root ≡ self.old.root }
         ensures kept { self.new.kept ≡ self.old.kept }
     {
         if has_bit(&self.guard, node.0, place) {
@@ -237,14 +244,14 @@ impl<'i> ValidationContext<'i> {
 
     /// Removes the pair, which must be the last one entered. It allocates nothing.
     pub fn exit(&mut self, node: SchemaNode, place: usize)
-        requires known { place < length self.old.places }
-        requires last { EndsWith node.0 (place_at self.old.places place) self.old.in_progress }
-        ensures left { self.old.in_progress ≡ self.new.in_progress ++ (node.0, place_at self.old.places place) ∷ [] }
+        requires known { place < length (places_in self.old) }
+        requires last { EndsWith node.0 (place_at (places_in self.old) place) self.old.in_progress }
+        ensures left { self.old.in_progress ≡ self.new.in_progress ++ (node.0, place_at (places_in self.old) place) ∷ [] }
         ensures remembered { self.new.remembered ≡ self.old.remembered }
         ensures marking { self.new.marking ≡ self.old.marking }
         ensures verdicts { self.new.verdicts ≡ self.old.verdicts }
         ensures visits { self.new.visits ≡ self.old.visits }
-        ensures places { self.new.places ≡ self.old.places }
+        ensures root { self.new.root ≡ self.old.root }
         ensures entered { self.new.entered ≡ self.old.entered }
         ensures kept { self.new.kept ≡ self.old.kept }
         ensures words { self.new.words ≡ self.old.words }
@@ -272,7 +279,7 @@ impl<'i> ValidationContext<'i> {
         ensures remembered { self.new.remembered ≡ self.old.remembered }
         ensures verdicts { self.new.verdicts ≡ self.old.verdicts }
         ensures visits { self.new.visits ≡ self.old.visits }
-        ensures places { self.new.places ≡ self.old.places }
+        ensures root { self.new.root ≡ self.old.root }
         ensures entered { self.new.entered ≡ self.old.entered }
         ensures kept { self.new.kept ≡ self.old.kept }
         ensures words { self.new.words ≡ self.old.words }
@@ -287,7 +294,7 @@ impl<'i> ValidationContext<'i> {
         ensures remembered { self.new.remembered ≡ self.old.remembered }
         ensures verdicts { self.new.verdicts ≡ self.old.verdicts }
         ensures visits { self.new.visits ≡ self.old.visits }
-        ensures places { self.new.places ≡ self.old.places }
+        ensures root { self.new.root ≡ self.old.root }
         ensures entered { self.new.entered ≡ self.old.entered }
         ensures kept { self.new.kept ≡ self.old.kept }
         ensures words { self.new.words ≡ self.old.words }
@@ -303,7 +310,7 @@ impl<'i> ValidationContext<'i> {
         ensures remembered { self.new.remembered ≡ self.old.remembered }
         ensures verdicts { self.new.verdicts ≡ self.old.verdicts }
         ensures visits { self.new.visits ≡ self.old.visits }
-        ensures places { self.new.places ≡ self.old.places }
+        ensures root { self.new.root ≡ self.old.root }
         ensures entered { self.new.entered ≡ self.old.entered }
         ensures kept { self.new.kept ≡ self.old.kept }
         ensures words { self.new.words ≡ self.old.words }
@@ -318,7 +325,7 @@ impl<'i> ValidationContext<'i> {
         ensures remembered { self.new.remembered ≡ self.old.remembered }
         ensures verdicts { self.new.verdicts ≡ self.old.verdicts }
         ensures visits { self.new.visits ≡ self.old.visits }
-        ensures places { self.new.places ≡ self.old.places }
+        ensures root { self.new.root ≡ self.old.root }
         ensures entered { self.new.entered ≡ self.old.entered }
         ensures kept { self.new.kept ≡ self.old.kept }
         ensures words { self.new.words ≡ self.old.words }
@@ -346,7 +353,7 @@ impl<'i> ValidationContext<'i> {
         ensures marking { self.new.marking ≡ self.old.marking }
         ensures verdicts { self.new.verdicts ≡ self.old.verdicts }
         ensures visits { self.new.visits ≡ self.old.visits }
-        ensures places { self.new.places ≡ self.old.places }
+        ensures root { self.new.root ≡ self.old.root }
         ensures entered { self.new.entered ≡ self.old.entered }
         ensures kept { self.new.kept ≡ self.old.kept }
         ensures words { self.new.words ≡ self.old.words }
@@ -392,7 +399,7 @@ impl<'i> ValidationContext<'i> {
         ensures marking { self.new.marking ≡ self.old.marking }
         ensures verdicts { self.new.verdicts ≡ self.old.verdicts }
         ensures visits { self.new.visits ≡ self.old.visits }
-        ensures places { self.new.places ≡ self.old.places }
+        ensures root { self.new.root ≡ self.old.root }
         ensures entered { self.new.entered ≡ self.old.entered }
         ensures kept { self.new.kept ≡ self.old.kept }
         ensures words { self.new.words ≡ self.old.words }
@@ -403,8 +410,8 @@ impl<'i> ValidationContext<'i> {
 
     // Whether no other node is in progress at the place.
     fn is_alone(&self, node: SchemaNode, place: usize) -> bool
-        requires known { place < length self.now.places }
-        ensures alone { result ≡ is_alone node.0 (place_at self.now.places place) self.now.in_progress }
+        requires known { place < length (places_in self.now) }
+        ensures alone { result ≡ is_alone node.0 (place_at (places_in self.now) place) self.now.in_progress }
     {
         let count = count_at(self.counts.as_slice(), place);
         if count == 0 {
@@ -419,8 +426,8 @@ impl<'i> ValidationContext<'i> {
     /// Returns the verdict that is remembered of the node at the place, unless another node is in progress at that place. It
     /// allocates nothing.
     pub fn get_cached_result(&self, node: SchemaNode, place: usize) -> Option<bool>
-        requires known { place < length self.now.places }
-        ensures read { result ≡ read_verdict node.0 (place_at self.now.places place) self.now }
+        requires known { place < length (places_in self.now) }
+        ensures read { result ≡ read_verdict node.0 (place_at (places_in self.now) place) self.now }
     {
         let found = verdict_in(&self.known, node.0, place)?;
         if self.is_alone(node, place) {
@@ -463,12 +470,12 @@ impl<'i> ValidationContext<'i> {
         verdict: bool,
         mark: u64,
     ) -> Result<(), OutOfMemory>
-        requires known { place < length self.old.places }
-        ensures kept { OnOk result (MayKeep node.0 (place_at self.old.places place) (subject_of instance.entry) mark self.old
-            → Remembers node.0 (place_at self.old.places place) verdict self.old.verdicts self.new.verdicts) }
-        ensures others { OnOk result (¬ MayKeep node.0 (place_at self.old.places place) (subject_of instance.entry) mark self.old
+        requires known { place < length (places_in self.old) }
+        ensures kept { OnOk result (MayKeep node.0 (place_at (places_in self.old) place) (subject_of instance.entry) mark self.old
+            → Remembers node.0 (place_at (places_in self.old) place) verdict self.old.verdicts self.new.verdicts) }
+        ensures others { OnOk result (¬ MayKeep node.0 (place_at (places_in self.old) place) (subject_of instance.entry) mark self.old
             → self.new ≡ self.old) }
-        ensures numbers { OnOk result (MayKeep node.0 (place_at self.old.places place) (subject_of instance.entry) mark self.old
+        ensures numbers { OnOk result (MayKeep node.0 (place_at (places_in self.old) place) (subject_of instance.entry) mark self.old
             → Adds node.0 self.old.kept self.new.kept) }
         ensures few { OnOk result (FewRows self.new) }
         ensures wide { OnOk result (IsWide self.new) }

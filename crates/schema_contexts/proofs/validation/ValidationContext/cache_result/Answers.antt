@@ -12,6 +12,7 @@ use Rattle.schema_contexts.proofs.Entering.{in_row, row_kept}
 use Rattle.schema_contexts.proofs.Few.{few_lists, few_rows}
 use Rattle.schema_contexts.proofs.VerdictRows.{remembered}
 use Rattle.schema_contexts.proofs.Widths.{all_wide}
+use Rattle.schema_contexts.specs.Progress.{places_in, root_places}
 use Rattle.schema_contexts.proofs.validation.ValidationContext.cache_result.Goals as goal
 
 pub returns-then-saturating_sub-lt-MEMO_MIN_VISITS-clause-few : goal.returns-then-saturating_sub-lt-MEMO_MIN_VISITS-clause-few
@@ -29,26 +30,26 @@ returns-then-not-is_alone-clause-few c =
 pub returns-then-saturating_sub-lt-MEMO_MIN_VISITS-clause-wide : goal.returns-then-saturating_sub-lt-MEMO_MIN_VISITS-clause-wide
 returns-then-saturating_sub-lt-MEMO_MIN_VISITS-clause-wide c =
     let i = c.self.inside in
-    subst IsWide c.self.view_is (all_wide (row_words (length i.places)) i.guard i.known c.self.invariant.wide_guard c.self.invariant.wide_known)
+    subst IsWide c.self.view_is (all_wide (row_words (length (root_places i.places))) i.guard i.known c.self.invariant.wide_guard c.self.invariant.wide_known)
 
 pub returns-then-not-is_container-clause-wide : goal.returns-then-not-is_container-clause-wide
 returns-then-not-is_container-clause-wide c =
     let i = c.self.inside in
-    subst IsWide c.self.view_is (all_wide (row_words (length i.places)) i.guard i.known c.self.invariant.wide_guard c.self.invariant.wide_known)
+    subst IsWide c.self.view_is (all_wide (row_words (length (root_places i.places))) i.guard i.known c.self.invariant.wide_guard c.self.invariant.wide_known)
 
 pub returns-then-not-is_alone-clause-wide : goal.returns-then-not-is_alone-clause-wide
 returns-then-not-is_alone-clause-wide c =
     let i = c.self.inside in
-    subst IsWide c.self.view_is (all_wide (row_words (length i.places)) i.guard i.known c.self.invariant.wide_guard c.self.invariant.wide_known)
+    subst IsWide c.self.view_is (all_wide (row_words (length (root_places i.places))) i.guard i.known c.self.invariant.wide_guard c.self.invariant.wide_known)
 
 pub put_bit-requires-2 : goal.put_bit-requires-2
 put_bit-requires-2 c =
     let i = c.self.inside in
     let n = c.args.node.0 in
     let k = c.args.place in
-    let ps = i.places in
-    let known = subst (λ (x : Context). k < length x.places) (sym c.self.view_is) c.requires.known in
-    let width : c.row_words-words.result ≡ row_words (length ps) = c.row_words-words.ensures.words ∙ ap row_words (c.len.ensures.count ∙ ap length c.in_ok-numbered.ensures.same) in
+    let ps = root_places i.places in
+    let known = subst (λ (x : Context). k < length (places_in x)) (sym c.self.view_is) c.requires.known in
+    let width : c.row_words-words.result ≡ row_words (length ps) = c.row_words-words.ensures.words ∙ ap row_words (c.len.ensures.count ∙ ap length c.in_ok-numbered.ensures.places) in
     let wide : AreWide (2 * c.row_words-words.result) i.known = subst (λ v. AreWide (2 * v) i.known) (sym width) c.self.invariant.wide_known in
     let size = row_kept n (2 * c.row_words-words.result) (64 * 0 + k) true i.known c.make_row.new.rows c.put_bit.new.rows c.in_ok-make_row.ensures.made c.put_bit.ensures.put wide in
     let within = in_row c.row_words-words.result k (length ps) width known in
@@ -57,16 +58,16 @@ put_bit-requires-2 c =
 pub invariant_of-self-2 : goal.invariant_of-self-2
 invariant_of-self-2 c =
     let i = c.self.inside in
-    let ps = i.places in
+    let ps = root_places i.places in
     let h = c.self.invariant in
     let w = row_words (length ps) in
-    let same = c.in_ok-numbered.ensures.same in
+    let same = c.in_ok-numbered.ensures.places in
     let width : c.row_words-words.result ≡ w = c.row_words-words.ensures.words ∙ ap row_words (c.len.ensures.count ∙ ap length same) in
     let made = c.in_ok-make_row.ensures.made in
     let first = c.put_bit.ensures.put in
     let second = c.put_bit-2.ensures.put in
     let wide : AreWide (2 * w) c.make_row.new.rows = subst (λ v. AreWide (2 * v) c.make_row.new.rows) width (made.wide (subst (λ v. AreWide (2 * v) i.known) (sym width) h.wide_known)) in
-    subst (λ (qs : List Place). Holds qs (map (pair_of qs) i.pairs.items) i.counts.items i.guard c.put_bit-2.new.rows) (sym c.numbered.follows.holds-at-none) (record {
+    subst (λ (qs : List Place). Holds qs (map (pair_of qs) i.pairs.items) i.counts.items i.guard c.put_bit-2.new.rows) (ap root_places (sym c.numbered.follows.holds-at-none)) (record {
       numbered = inl (subst OwnNumbers same c.len.ensures.own);
       distinct = h.distinct;
       guards = h.guards;
@@ -81,13 +82,13 @@ returns-clause-kept c =
     let i = c.self.inside in
     let n = c.args.node.0 in
     let k = c.args.place in
-    let ps = i.places in
+    let ps = root_places i.places in
     let h = c.self.invariant in
     let w = row_words (length ps) in
-    let same = c.in_ok-numbered.ensures.same in
+    let same = c.in_ok-numbered.ensures.places in
     let own : OwnNumbers ps = subst OwnNumbers same c.len.ensures.own in
     let width : c.row_words-words.result ≡ w = c.row_words-words.ensures.words ∙ ap row_words (c.len.ensures.count ∙ ap length same) in
-    let known = subst (λ (x : Context). k < length x.places) (sym c.self.view_is) c.requires.known in
+    let known = subst (λ (x : Context). k < length (places_in x)) (sym c.self.view_is) c.requires.known in
     let here : 64 * 0 + k ≡ k = omega arith in
     let made = c.in_ok-make_row.ensures.made in
     let first = subst (λ b. PutsBit n b true c.make_row.new.rows c.put_bit.new.rows) here c.put_bit.ensures.put in
@@ -95,8 +96,8 @@ returns-clause-kept c =
     let new = c.put_bit-2.new.rows in
     let unique = second.unique (first.unique (made.unique h.unique_known)) in
     let its = remembered n k c.args.verdict ps i.known c.make_row.new.rows c.put_bit.new.rows new own known h.unique_known unique made.bits first second in
-    λ may. subst (λ (qs : List Place). Remembers n (place_at c.args.self.now.places k) c.args.verdict c.args.self.now.verdicts (all_verdicts qs new.entries)) (sym c.numbered.follows.holds-at-none)
-    (subst (λ (x : Context). Remembers n (place_at x.places k) c.args.verdict x.verdicts (all_verdicts ps new.entries)) c.self.view_is its)
+    λ may. subst (λ (qs : List Place). Remembers n (place_at (places_in c.args.self.now) k) c.args.verdict c.args.self.now.verdicts (all_verdicts qs new.entries)) (ap root_places (sym c.numbered.follows.holds-at-none))
+    (subst (λ (x : Context). Remembers n (place_at (places_in x) k) c.args.verdict x.verdicts (all_verdicts ps new.entries)) c.self.view_is its)
 
 pub returns-clause-few : goal.returns-clause-few
 returns-clause-few c =
@@ -108,10 +109,10 @@ pub returns-clause-wide : goal.returns-clause-wide
 returns-clause-wide c =
     let i = c.self.inside in
     let h = c.self.invariant in
-    let w = row_words (length i.places) in
-    let width : c.row_words-words.result ≡ w = c.row_words-words.ensures.words ∙ ap row_words (c.len.ensures.count ∙ ap length c.in_ok-numbered.ensures.same) in
+    let w = row_words (length (root_places i.places)) in
+    let width : c.row_words-words.result ≡ w = c.row_words-words.ensures.words ∙ ap row_words (c.len.ensures.count ∙ ap length c.in_ok-numbered.ensures.places) in
     let made = c.in_ok-make_row.ensures.made in
     let wide : AreWide (2 * w) c.make_row.new.rows = subst (λ v. AreWide (2 * v) c.make_row.new.rows) width (made.wide (subst (λ v. AreWide (2 * v) i.known) (sym width) h.wide_known)) in
     let new = c.put_bit-2.new.rows in
-    subst (λ (qs : List Place). words_in i.guard + words_in new ≡ (length (keys i.guard) + 2 * length (keys new)) * row_words (length qs)) (sym c.numbered.follows.holds-at-none)
+    subst (λ (qs : List Place). words_in i.guard + words_in new ≡ (length (keys i.guard) + 2 * length (keys new)) * row_words (length qs)) (ap root_places (sym c.numbered.follows.holds-at-none))
     (all_wide w i.guard new h.wide_guard (c.put_bit-2.ensures.put.wide (2 * w) (c.put_bit.ensures.put.wide (2 * w) wide)))

@@ -16,6 +16,7 @@ use Rattle.schema_contexts.proofs.Guarding.{guards_more, has_row}
 use Rattle.schema_contexts.proofs.Pairs.{among, distinct_pushed, enters_new, enters_old}
 use Rattle.schema_contexts.proofs.RowsChanged.{number_if, row_there}
 use Rattle.schema_contexts.proofs.Widths.{all_wide}
+use Rattle.schema_contexts.specs.Progress.{places_in, root_places}
 use Rattle.schema_contexts.proofs.validation.ValidationContext.enter.Goals as goal
 
 pub returns-then-has_bit-clause-enters : goal.returns-then-has_bit-clause-enters
@@ -23,11 +24,11 @@ returns-then-has_bit-clause-enters c =
     let i = c.self.inside in
     let n = c.args.node.0 in
     let k = c.args.place in
-    let ps = i.places in
+    let ps = root_places i.places in
     let es = map (pair_of ps) i.pairs.items in
-    let known = subst (λ (x : Context). k < length x.places) (sym c.self.view_is) c.requires.known in
+    let known = subst (λ (x : Context). k < length (places_in x)) (sym c.self.view_is) c.requires.known in
     let bit : has_bit (row_in i.guard n) k ≡ true = sym c.has_bit.ensures.bit ∙ c.if-has_bit.true in
-    subst (λ (x : Context). Enters n (place_at x.places k) x.in_progress true x.in_progress) c.self.view_is
+    subst (λ (x : Context). Enters n (place_at (places_in x) k) x.in_progress true x.in_progress) c.self.view_is
     (enters_old n (place_at ps k) es (sym (c.self.invariant.guards.bits n k known) ∙ bit))
 
 pub returns-then-has_bit-clause-entered : goal.returns-then-has_bit-clause-entered
@@ -35,7 +36,7 @@ returns-then-has_bit-clause-entered c =
     let i = c.self.inside in
     let n = c.args.node.0 in
     let there = sym (number_if i.guard n) ∙ has_row i.guard n c.args.place (sym c.has_bit.ensures.bit ∙ c.if-has_bit.true) in
-    subst (λ (x : Context). Adds n x.entered x.entered) c.self.view_is (row_there n (row_words (length i.places)) i.guard there).numbers
+    subst (λ (x : Context). Adds n x.entered x.entered) c.self.view_is (row_there n (row_words (length (root_places i.places))) i.guard there).numbers
 
 pub returns-then-has_bit-clause-few : goal.returns-then-has_bit-clause-few
 returns-then-has_bit-clause-few c =
@@ -44,17 +45,17 @@ returns-then-has_bit-clause-few c =
 pub returns-then-has_bit-clause-wide : goal.returns-then-has_bit-clause-wide
 returns-then-has_bit-clause-wide c =
     let i = c.self.inside in
-    subst IsWide c.self.view_is (all_wide (row_words (length i.places)) i.guard i.known c.self.invariant.wide_guard c.self.invariant.wide_known)
+    subst IsWide c.self.view_is (all_wide (row_words (length (root_places i.places))) i.guard i.known c.self.invariant.wide_guard c.self.invariant.wide_known)
 
 pub overflow_add-count : goal.overflow_add-count
 overflow_add-count c =
     let i = c.self.inside in
     let k = c.args.place in
-    let ps = i.places in
+    let ps = root_places i.places in
     let es = map (pair_of ps) i.pairs.items in
     let h = c.self.invariant in
-    let known = subst (λ (x : Context). k < length x.places) (sym c.self.view_is) c.requires.known in
-    let many_places : c.len-places.result ≡ length ps = c.len-places.ensures.count ∙ ap length c.in_ok-numbered.ensures.same in
+    let known = subst (λ (x : Context). k < length (places_in x)) (sym c.self.view_is) c.requires.known in
+    let many_places : c.len-places.result ≡ length ps = c.len-places.ensures.count ∙ ap length c.in_ok-numbered.ensures.places in
     let r = c.index-count.result.now in
     let read : r ≡ get_or i.counts.items k 0 = c.index-count.ensures ∙ whatever_else c.make_counts.new.counts.items k r 0 (omega (arith, c.in_ok-make_counts.ensures.made, many_places, known)) ∙ c.make_counts.ensures.same k in
     let short : length (busy_at (place_at ps k) es) ≤ length es = busy_short (place_at ps k) es in
@@ -66,20 +67,20 @@ overflow_add-count c =
     omega (arith, small)
 
 -- the pairs after one more
-after : (c : goal.After-self-3-1) → map (pair_of c.self.inside.places) c.push_within.new.pairs.items
-    ≡ map (pair_of c.self.inside.places) c.self.inside.pairs.items ++ (c.args.node.0, place_at c.self.inside.places c.args.place) ∷ []
+after : (c : goal.After-self-3-1) → map (pair_of (root_places c.self.inside.places)) c.push_within.new.pairs.items
+    ≡ map (pair_of (root_places c.self.inside.places)) c.self.inside.pairs.items ++ (c.args.node.0, place_at (root_places c.self.inside.places) c.args.place) ∷ []
 after c =
     let i = c.self.inside in
     let e : InProgress = record { node = c.args.node; place = c.args.place } in
-    pushed i.places i.pairs.items c.push_within.new.pairs.items e (c.push_within.ensures.pushed ∙ ap (λ (xs : List InProgress). xs ++ e ∷ []) c.reserve.ensures.items)
+    pushed (root_places i.places) i.pairs.items c.push_within.new.pairs.items e (c.push_within.ensures.pushed ∙ ap (λ (xs : List InProgress). xs ++ e ∷ []) c.reserve.ensures.items)
 
 -- it was not in progress
-fresh : (c : goal.After-self-3-1) → among c.args.node.0 (busy_at (place_at c.self.inside.places c.args.place) (map (pair_of c.self.inside.places) c.self.inside.pairs.items)) ≡ false
+fresh : (c : goal.After-self-3-1) → among c.args.node.0 (busy_at (place_at (root_places c.self.inside.places) c.args.place) (map (pair_of (root_places c.self.inside.places)) c.self.inside.pairs.items)) ≡ false
 fresh c =
     let i = c.self.inside in
     let n = c.args.node.0 in
     let k = c.args.place in
-    let known = subst (λ (x : Context). k < length x.places) (sym c.self.view_is) c.requires.known in
+    let known = subst (λ (x : Context). k < length (places_in x)) (sym c.self.view_is) c.requires.known in
     sym (c.self.invariant.guards.bits n k known) ∙ sym c.has_bit.ensures.bit ∙ c.if-has_bit.false
 
 pub invariant_of-self-2 : goal.invariant_of-self-2
@@ -87,16 +88,16 @@ invariant_of-self-2 c =
     let i = c.self.inside in
     let n = c.args.node.0 in
     let k = c.args.place in
-    let ps = i.places in
+    let ps = root_places i.places in
     let es = map (pair_of ps) i.pairs.items in
     let x : ℕ × Place = (n, place_at ps k) in
     let h = c.self.invariant in
     let w = row_words (length ps) in
-    let same = c.in_ok-numbered.ensures.same in
+    let same = c.in_ok-numbered.ensures.places in
     let own : OwnNumbers ps = subst OwnNumbers same c.len-places.ensures.own in
     let many_places : c.len-places.result ≡ length ps = c.len-places.ensures.count ∙ ap length same in
     let width : c.row_words.result ≡ w = c.row_words.ensures.words ∙ ap row_words many_places in
-    let known = subst (λ (y : Context). k < length y.places) (sym c.self.view_is) c.requires.known in
+    let known = subst (λ (y : Context). k < length (places_in y)) (sym c.self.view_is) c.requires.known in
     let here : 64 * 0 + k ≡ k = omega arith in
     let made = c.in_ok-make_row.ensures.made in
     let wide : AreWide w c.make_row.new.rows = subst (λ v. AreWide v c.make_row.new.rows) width (made.wide (subst (λ v. AreWide v i.guard) (sym width) h.wide_guard)) in
@@ -106,7 +107,7 @@ invariant_of-self-2 c =
     let r = c.index-count.result.now in
     let within : k < length counts = omega (arith, size, known) in
     let read : r ≡ get_or counts k 0 = c.index-count.ensures ∙ whatever_else counts k r 0 within in
-    subst (λ (qs : List Place). Holds qs (map (pair_of qs) c.push_within.new.pairs.items) (slice_set counts k (r + 1)) c.put_bit.new.rows i.known) (sym c.numbered.follows.holds-at-none)
+    subst (λ (qs : List Place). Holds qs (map (pair_of qs) c.push_within.new.pairs.items) (slice_set counts k (r + 1)) c.put_bit.new.rows i.known) (ap root_places (sym c.numbered.follows.holds-at-none))
     (subst (λ (xs : Pairs). Holds ps xs (slice_set counts k (r + 1)) c.put_bit.new.rows i.known) (sym (after c)) (record {
       numbered = inl own;
       distinct = distinct_pushed n (place_at ps k) es h.distinct (fresh c);
@@ -123,11 +124,11 @@ returns-clause-enters c =
     let i = c.self.inside in
     let n = c.args.node.0 in
     let k = c.args.place in
-    let ps = i.places in
+    let ps = root_places i.places in
     let es = map (pair_of ps) i.pairs.items in
     let new = map (pair_of ps) c.push_within.new.pairs.items in
-    subst (λ (qs : List Place). Enters n (place_at c.args.self.now.places k) c.args.self.now.in_progress false (map (pair_of qs) c.push_within.new.pairs.items)) (sym c.numbered.follows.holds-at-none)
-    (subst (λ (x : Context). Enters n (place_at x.places k) x.in_progress false new) c.self.view_is (enters_new n (place_at ps k) es new (after c) (fresh c)))
+    subst (λ (qs : List Place). Enters n (place_at (places_in c.args.self.now) k) c.args.self.now.in_progress false (map (pair_of qs) c.push_within.new.pairs.items)) (ap root_places (sym c.numbered.follows.holds-at-none))
+    (subst (λ (x : Context). Enters n (place_at (places_in x) k) x.in_progress false new) c.self.view_is (enters_new n (place_at ps k) es new (after c) (fresh c)))
 
 pub returns-clause-few : goal.returns-clause-few
 returns-clause-few c = few_lists (keys c.put_bit.new.rows) (keys c.self.inside.known) c.self.invariant.unique_known
@@ -136,18 +137,18 @@ pub returns-clause-wide : goal.returns-clause-wide
 returns-clause-wide c =
     let i = c.self.inside in
     let h = c.self.invariant in
-    let w = row_words (length i.places) in
-    let many_places : c.len-places.result ≡ length i.places = c.len-places.ensures.count ∙ ap length c.in_ok-numbered.ensures.same in
+    let w = row_words (length (root_places i.places)) in
+    let many_places : c.len-places.result ≡ length (root_places i.places) = c.len-places.ensures.count ∙ ap length c.in_ok-numbered.ensures.places in
     let width : c.row_words.result ≡ w = c.row_words.ensures.words ∙ ap row_words many_places in
     let made = c.in_ok-make_row.ensures.made in
     let wide : AreWide w c.make_row.new.rows = subst (λ v. AreWide v c.make_row.new.rows) width (made.wide (subst (λ v. AreWide v i.guard) (sym width) h.wide_guard)) in
     let new = c.put_bit.new.rows in
-    subst (λ (qs : List Place). words_in new + words_in i.known ≡ (length (keys new) + 2 * length (keys i.known)) * row_words (length qs)) (sym c.numbered.follows.holds-at-none)
+    subst (λ (qs : List Place). words_in new + words_in i.known ≡ (length (keys new) + 2 * length (keys i.known)) * row_words (length qs)) (ap root_places (sym c.numbered.follows.holds-at-none))
     (all_wide w new i.known (c.put_bit.ensures.put.wide w wide) h.wide_known)
 
 pub returns-clause-distinct : goal.returns-clause-distinct
 returns-clause-distinct c =
     let i = c.self.inside in
-    let ps = i.places in
-    subst (λ (qs : List Place). Distinct (map (pair_of qs) c.push_within.new.pairs.items)) (sym c.numbered.follows.holds-at-none)
+    let ps = root_places i.places in
+    subst (λ (qs : List Place). Distinct (map (pair_of qs) c.push_within.new.pairs.items)) (ap root_places (sym c.numbered.follows.holds-at-none))
     (subst Distinct (sym (after c)) (distinct_pushed c.args.node.0 (place_at ps c.args.place) (map (pair_of ps) i.pairs.items) c.self.invariant.distinct (fresh c)))

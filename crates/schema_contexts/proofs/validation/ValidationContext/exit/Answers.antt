@@ -9,34 +9,35 @@ use Rattle.schema_contexts.proofs.Entering.{at_its_own_less, count_put, last_cou
 use Rattle.schema_contexts.proofs.Guarding.{guards_less}
 use Rattle.schema_contexts.proofs.Pairs.{distinct_front, nil_snoc}
 use Rattle.schema_contexts.proofs.Widths.{words_same}
+use Rattle.schema_contexts.specs.Progress.{places_in, root_places}
 use Rattle.schema_contexts.proofs.validation.ValidationContext.exit.Goals as goal
 
 pub put_bit-requires : goal.put_bit-requires
 put_bit-requires c =
     let i = c.self.inside in
-    let ps = i.places in
+    let ps = root_places i.places in
     let es = map (pair_of ps) i.pairs.items in
-    let known = subst (λ (x : Context). c.args.place < length x.places) (sym c.self.view_is) c.requires.known in
-    let last = subst (λ (x : Context). EndsWith c.args.node.0 (place_at x.places c.args.place) x.in_progress) (sym c.self.view_is) c.requires.last in
+    let known = subst (λ (x : Context). c.args.place < length (places_in x)) (sym c.self.view_is) c.requires.known in
+    let last = subst (λ (x : Context). EndsWith c.args.node.0 (place_at (places_in x) c.args.place) x.in_progress) (sym c.self.view_is) c.requires.last in
     record { there = last_row ps (row_words (length ps)) es last.0 i.counts.items i.guard c.args.node.0 c.args.place c.self.invariant.guards refl c.self.invariant.wide_guard known last.1 }
 
 pub index-count-requires : goal.index-count-requires
 index-count-requires c =
     let i = c.self.inside in
-    let ps = i.places in
+    let ps = root_places i.places in
     let es = map (pair_of ps) i.pairs.items in
-    let known = subst (λ (x : Context). c.args.place < length x.places) (sym c.self.view_is) c.requires.known in
-    let last = subst (λ (x : Context). EndsWith c.args.node.0 (place_at x.places c.args.place) x.in_progress) (sym c.self.view_is) c.requires.last in
+    let known = subst (λ (x : Context). c.args.place < length (places_in x)) (sym c.self.view_is) c.requires.known in
+    let last = subst (λ (x : Context). EndsWith c.args.node.0 (place_at (places_in x) c.args.place) x.in_progress) (sym c.self.view_is) c.requires.last in
     let count = last_count ps es last.0 i.counts.items i.guard c.args.node.0 c.args.place c.self.invariant.guards known last.1 in
     omega (arith, count.1, i.counts.ok.0)
 
 pub overflow_sub-count : goal.overflow_sub-count
 overflow_sub-count c =
     let i = c.self.inside in
-    let ps = i.places in
+    let ps = root_places i.places in
     let es = map (pair_of ps) i.pairs.items in
-    let known = subst (λ (x : Context). c.args.place < length x.places) (sym c.self.view_is) c.requires.known in
-    let last = subst (λ (x : Context). EndsWith c.args.node.0 (place_at x.places c.args.place) x.in_progress) (sym c.self.view_is) c.requires.last in
+    let known = subst (λ (x : Context). c.args.place < length (places_in x)) (sym c.self.view_is) c.requires.known in
+    let last = subst (λ (x : Context). EndsWith c.args.node.0 (place_at (places_in x) c.args.place) x.in_progress) (sym c.self.view_is) c.requires.last in
     let count = last_count ps es last.0 i.counts.items i.guard c.args.node.0 c.args.place c.self.invariant.guards known last.1 in
     let read : c.index-count.result.now ≡ get_or i.counts.items c.args.place 0 = c.index-count.ensures ∙ whatever_else i.counts.items c.args.place c.index-count.result.now 0 count.1 in
     omega (arith, count.0, read)
@@ -44,10 +45,10 @@ overflow_sub-count c =
 pub index_mut-requires : goal.index_mut-requires
 index_mut-requires c =
     let i = c.self.inside in
-    let ps = i.places in
+    let ps = root_places i.places in
     let es = map (pair_of ps) i.pairs.items in
-    let known = subst (λ (x : Context). c.args.place < length x.places) (sym c.self.view_is) c.requires.known in
-    let last = subst (λ (x : Context). EndsWith c.args.node.0 (place_at x.places c.args.place) x.in_progress) (sym c.self.view_is) c.requires.last in
+    let known = subst (λ (x : Context). c.args.place < length (places_in x)) (sym c.self.view_is) c.requires.known in
+    let last = subst (λ (x : Context). EndsWith c.args.node.0 (place_at (places_in x) c.args.place) x.in_progress) (sym c.self.view_is) c.requires.last in
     let count = last_count ps es last.0 i.counts.items i.guard c.args.node.0 c.args.place c.self.invariant.guards known last.1 in
     omega (arith, count.1, i.counts.ok.0)
 
@@ -56,13 +57,13 @@ invariant_of-self c =
     let i = c.self.inside in
     let n = c.args.node.0 in
     let k = c.args.place in
-    let ps = i.places in
+    let ps = root_places i.places in
     let es = map (pair_of ps) i.pairs.items in
     let left = map (pair_of ps) c.pop.new.self.items in
     let x : ℕ × Place = (n, place_at ps k) in
     let h = c.self.invariant in
-    let known = subst (λ (x : Context). k < length x.places) (sym c.self.view_is) c.requires.known in
-    let last = subst (λ (x : Context). EndsWith n (place_at x.places k) x.in_progress) (sym c.self.view_is) c.requires.last in
+    let known = subst (λ (x : Context). k < length (places_in x)) (sym c.self.view_is) c.requires.known in
+    let last = subst (λ (x : Context). EndsWith n (place_at (places_in x) k) x.in_progress) (sym c.self.view_is) c.requires.last in
     let all : es ≡ left ++ x ∷ [] = popped ps i.pairs.items c.pop.new.self.items c.pop.result x last.0 c.pop.ensures.items (λ q. let k = rw q at c.pop.ensures.cases in omega (arith, k.1, c.pop.new.self.ok.0)) last.1 in
     let count = last_count ps es last.0 i.counts.items i.guard n k h.guards known last.1 in
     let read : c.index-count.result.now ≡ get_or i.counts.items k 0 = c.index-count.ensures ∙ whatever_else i.counts.items k c.index-count.result.now 0 count.1 in
@@ -85,7 +86,7 @@ pub returns-clause-words : goal.returns-clause-words
 returns-clause-words c =
     let i = c.self.inside in
     let h = c.self.invariant in
-    let w = row_words (length i.places) in
+    let w = row_words (length (root_places i.places)) in
     let put = c.put_bit.ensures.put in
     subst (λ (x : Context). words_in c.put_bit.new.rows + words_in i.known ≡ x.words) c.self.view_is
     (ap (λ (n : ℕ). n + words_in i.known) (words_same w i.guard c.put_bit.new.rows h.wide_guard (put.wide w h.wide_guard) put.numbers))
