@@ -199,8 +199,8 @@ fn errors_by<'i, K>(
     Ok(errors)
 }
 
-// Whether an answer is a yes.
-fn is_accepting(answer: Answer<'_>) -> bool
+/// Whether an answer is a yes: its verdict.
+pub fn is_accepting(answer: Answer<'_>) -> bool
     ensures verdict { (texts : Bool) → result ≡ (answer_of texts answer.entry).verdict }
 {
     match answer {
