@@ -1,5 +1,5 @@
 -- The place at which a node is asked, as its steps, and the number that it may carry.
-use Rattle.std.specs.Prelude.{List, Some, Unit, ◌++◌, ◌∷◌, ◌≡◌, []}
+use Rattle.std.specs.Prelude.{List, Some, ◌++◌, ◌∷◌, ◌≡◌, []}
 use Rattle.schema_definitions.specs.Instance.{Place}
 use Rattle.schema_places.specs.Numbers.{number_of}
 use Rattle.schema_reports.specs.InstanceViews.{step_of}

@@ -53,10 +53,14 @@ impl<'p, 'i> EvaluationPlace<'p, 'i> {
     {
         match self {
             EvaluationPlace::Given(place) => places.find(place.as_steps()),
-            EvaluationPlace::Below(above, step) => {
-                let number = above.number(places)?;
-                places.child(number, *step)
-            }
+            EvaluationPlace::Below(above, step) => match above.number(places) {
+                Some(number) => places.child(number, *step),
+                None => {
+                    // (the call says that below a place that is not there is none)
+                    let _count = places.len();
+                    None
+                }
+            },
             EvaluationPlace::Numbered(_, number) => Some(*number),
         }
     }

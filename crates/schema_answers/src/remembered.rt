@@ -1,27 +1,53 @@
 //! Verdicts of guarded nodes that a run remembers, and those that it comes to remember.
-ghost use Rattle.std.specs.Prelude.{◌≡◌, ◌≤◌, Bool, IfOk, OnOk};
+ghost use Rattle.std.specs.Prelude.{◌≡◌, ◌<◌, ◌≤◌, Bool, IfOk, OnOk, Some, is_some, length, true};
+ghost use Rattle.serde_json.specs.View.{view};
+ghost use Rattle.schema_definitions.specs.Instance.{subject_at};
+ghost use Rattle.schema_places.specs.Numbers.{number_of, place_at};
 ghost use Rattle.schema_reports.specs.InstanceViews.{subject_of};
 ghost use Rattle.schema_definitions.specs.Keywords.{for_verdict};
 ghost use Rattle.schema_parts.specs.KeywordViews.{mode_of, reply_of};
 ghost use Rattle.schema_answers.specs.ReplyModes.{accepts, SaysTheSame};
+ghost use Rattle.schema_contexts.specs.Progress.{places_in};
 ghost use Rattle.schema_contexts.specs.Verdicts.{MayKeep, Remembers, read_in_mode, visited_in_mode};
+ghost use Rattle.schema_answers.specs.EvaluationPlaces.{CarriesItsNumber, steps_to};
 
+use crate::evaluation_place::EvaluationPlace;
 use crate::question::Question;
 use crate::replies::is_yes;
 use schema_contexts::validation::ValidationContext;
 use schema_parts::keyword::{Mode, Reply};
 use schema_parts::numbers::SchemaNode;
-use schema_reports::instance::Place;
 use schema_reports::location::OutOfMemory;
+
+/// The number of a place of the context's instance. Fails only if memory cannot be allocated, to number the places, and then
+/// nothing has changed.
+pub fn place_number<'i>(
+    context: &mut ValidationContext<'i>,
+    place: &EvaluationPlace<'_, 'i>,
+) -> Result<usize, OutOfMemory>
+    requires carries { CarriesItsNumber (places_in context.old) place.now }
+    requires stands { is_some (subject_at (view context.old.root) (steps_to place.now)) ≡ true }
+    ensures number { IfOk result (λ n. number_of (steps_to place.now) (places_in context.old) ≡ Some n) }
+    ensures at { IfOk result (λ n. place_at (places_in context.old) n ≡ steps_to place.now) }
+    ensures known { IfOk result (λ n. n < length (places_in context.old)) }
+    ensures unchanged { context.new ≡ context.old }
+{
+    let places = context.places()?;
+    match place.number(places) {
+        Some(number) => Ok(number),
+        None => unreachable!(),
+    }
+}
 
 /// The verdict that the run remembers of a node at a place, where the question is for the verdict. It allocates nothing.
 pub fn remembered_verdict<'i>(
     context: &ValidationContext<'i>,
     node: SchemaNode,
-    place: &Place<'i>,
+    place: usize,
     mode: Mode,
 ) -> Option<bool>
-    ensures read { result ≡ read_in_mode (mode_of mode) node.0 place.now context.now }
+    requires known { place < length (places_in context.now) }
+    ensures read { result ≡ read_in_mode (mode_of mode) node.0 (place_at (places_in context.now) place) context.now }
 {
     match mode {
         Mode::Verdict => context.get_cached_result(node, place),
@@ -52,19 +78,20 @@ pub fn begin_visit(context: &mut ValidationContext<'_>, mode: Mode) -> u64
 pub fn kept_reply<'i>(
     context: &mut ValidationContext<'i>,
     node: SchemaNode,
-    place: &Place<'i>,
+    place: usize,
     question: &Question<'_, 'i>,
     reply: Reply<'i>,
     mark: u64,
 ) -> Result<Reply<'i>, OutOfMemory>
+    requires known { place < length (places_in context.old) }
     ensures same { IfOk result (λ r. SaysTheSame (mode_of question.now.mode) reply.entry r) }
     ensures kept { OnOk result ((texts : Bool) → mode_of question.now.mode ≡ for_verdict
-        → MayKeep node.0 place.now (subject_of question.now.instance) mark context.old
-        → Remembers node.0 place.now (accepts (reply_of texts reply.entry)) context.old.verdicts context.new.verdicts) }
-    ensures few { OnOk result (¬ MayKeep node.0 place.now (subject_of question.now.instance) mark context.old
+        → MayKeep node.0 (place_at (places_in context.old) place) (subject_of question.now.instance) mark context.old
+        → Remembers node.0 (place_at (places_in context.old) place) (accepts (reply_of texts reply.entry)) context.old.verdicts context.new.verdicts) }
+    ensures few { OnOk result (¬ MayKeep node.0 (place_at (places_in context.old) place) (subject_of question.now.instance) mark context.old
         → context.new ≡ context.old) }
     ensures other_modes { ¬ (mode_of question.now.mode ≡ for_verdict) → context.new ≡ context.old }
-    ensures frame { context.new ≡ record context.old { verdicts = context.new.verdicts } }
+    ensures frame { context.new ≡ record context.old { verdicts = context.new.verdicts; kept = context.new.kept; words = context.new.words } }
 {
     match question.mode {
         Mode::Verdict => {
