@@ -10,3 +10,4 @@ pub mod GoesOn
 mod Visits
 mod NodeUnits
 mod UnitsAsked
+mod Verdicts

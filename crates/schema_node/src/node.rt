@@ -4,6 +4,7 @@ mod evaluate;
 mod run;
 pub mod runs;
 mod turns;
+mod verdict;
 
 pub use crate::node::runs::RunNodes;
 pub use schema_contexts::evaluation_path;

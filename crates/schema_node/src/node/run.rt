@@ -20,11 +20,12 @@ ghost use Rattle.schema_node.specs.RunStates.{EdgeRemembers, FormRemembers, Node
 ghost use Rattle.schema_node.specs.Visits.{EdgeCounts, FormCounts, LeadsNowhere, NodeCounts, PartsCount};
 
 use crate::node::turns::keyword_answer;
+use crate::node::verdict::{verdict_form, verdict_node};
 use schema_answers::evaluation_place::EvaluationPlace;
 use schema_answers::faults::finished;
 use schema_answers::question::{Engine, NamedKeyword, Question};
 use schema_answers::remembered::{begin_visit, kept_reply, remembered_verdict};
-use schema_answers::replies::{accepted, is_settled, is_yes, joined, refused, stamped_reply};
+use schema_answers::replies::{accepted, is_settled, joined, refused, stamped_reply};
 use schema_answers::spots::{after, step_below};
 use schema_contexts::marks::child_edge;
 use schema_contexts::validation::ValidationContext;
@@ -68,9 +69,42 @@ fn asks_verdict_first<K>(entry: &Entry<K>, mode: Mode) -> bool
     }
 }
 
+// The reply of a node at a place: its verdict where that is wanted, or else errors.
+pub(crate) fn node_reply<'i, K: Validate, M: Matcher>(
+    engine: &Engine<'_, K, M>,
+    node: SchemaNode,
+    question: &Question<'_, 'i>,
+    context: &mut ValidationContext<'i>,
+) -> Result<Reply<'i>, OutOfMemory>
+    requires may { MayRun (setting K.words K.is_whole K.shape M.matching engine.now) (asking question.now)
+        context.old node.0 }
+    ensures keeps { IfOk result (λ _. Keeps context.old context.new) }
+    ensures counts { IfOk result (λ _. context.old.visits ≤ context.new.visits) }
+    ensures visits { IfOk result (λ _. NodeCounts (numbered K.shape engine.now.nodes.now)
+        (asking question.now) context.old context.new node.0) }
+    ensures says { IfOk result (λ r. NodeSays
+        (setting K.words K.is_whole K.shape M.matching engine.now) (asking question.now)
+        context.old node.0 r) }
+    ensures meets { IfOk result (λ _. MeetsNode
+        (setting K.words K.is_whole K.shape M.matching engine.now) (asking question.now)
+        context.old context.new node.0) }
+    ensures stays { IfOk result (λ _. StaysRight
+        (setting K.words K.is_whole K.shape M.matching engine.now) (asking question.now) context.old context.new) }
+    ensures remembers { IfOk result (λ r. NodeRemembers (asking question.now) context.old context.new
+        (numbered K.shape engine.now.nodes.now) node.0 r) }
+{
+    match question.mode {
+        Mode::Verdict => {
+            let valid = verdict_node(engine, node, question, context)?;
+            Ok(Reply::Truth(valid))
+        }
+        _ => run_node(engine, node, question, context),
+    }
+}
+
 // The reply of a node at a place.
 #[cycle(run)]
-pub(crate) fn run_node<'i, K: Validate, M: Matcher>(
+fn run_node<'i, K: Validate, M: Matcher>(
     engine: &Engine<'_, K, M>,
     node: SchemaNode,
     question: &Question<'_, 'i>,
@@ -182,8 +216,8 @@ fn run_entry<'i, K: Validate, M: Matcher>(
             path: question.path,
             mode: Mode::Verdict,
         };
-        let verdict = run_form(engine, node, entry, &asked, context)?;
-        if is_yes(verdict) {
+        let valid = verdict_form(engine, node, entry, &asked, context)?;
+        if valid {
             return Ok(accepted(engine.alloc, question.mode));
         }
         return run_form(engine, node, entry, question, context);

@@ -12,7 +12,7 @@ ghost use Rattle.schema_node.specs.UnitStates.{RunGives, evaluating};
 ghost use Rattle.schema_node.specs.Visits.{NodeCounts};
 
 use crate::node::evaluate::evaluate_node;
-use crate::node::run::run_node;
+use crate::node::run::node_reply;
 use schema_answers::evaluation_place::EvaluationPlace;
 use schema_answers::question::{Engine, Question};
 use schema_contexts::evaluation_path::EvaluationPath;
@@ -184,7 +184,7 @@ impl<K: Validate> RunNodes<K> for Nodes<K> {
             path: &path,
             mode: question.mode,
         };
-        run_node(&engine, node, &asked, context)
+        node_reply(&engine, node, &asked, context)
     }
 
     fn evaluate_instance<'i, M: Matcher>(

@@ -1,10 +1,9 @@
 //! The turns of a keyword's run, in any mode. Units that it asks for are asked of the evaluations, and all else of the runs.
-ghost use Rattle.std.specs.Prelude.{◌≡◌, ◌≤◌, [], IfOk, map, option_map, string_bytes, true, false};
+ghost use Rattle.std.specs.Prelude.{◌≡◌, ◌≤◌, [], IfOk, map, option_map, string_bytes};
 ghost use Rattle.schema_reports.specs.InstanceViews.{subject_of};
-ghost use Rattle.schema_definitions.specs.Keywords.{for_units};
 ghost use Rattle.schema_definitions.specs.Laws.{IsPresent, steps_below};
 ghost use Rattle.schema_parts.specs.FaultViews.{faults_in};
-ghost use Rattle.schema_parts.specs.KeywordViews.{below_of, mode_of};
+ghost use Rattle.schema_parts.specs.KeywordViews.{below_of};
 ghost use Rattle.schema_nodes.specs.NodeTable.{numbered};
 ghost use Rattle.schema_parts.specs.EdgeViews.{edge_of};
 ghost use Rattle.schema_node.specs.NodeRuns.{HasForm, HasChildren};
@@ -12,11 +11,12 @@ ghost use Rattle.schema_answers.specs.Askings.{asking};
 ghost use Rattle.schema_node.specs.RunStates.{form_at_work, setting};
 ghost use Rattle.schema_node.specs.RunStates.{HasBegun, Keeps, PassesItsOwn, RunBorrows, StaysRight};
 ghost use Rattle.schema_node.specs.RunStates.{MeetsChild, MeetsForm};
-ghost use Rattle.schema_node.specs.UnitStates.{ChildTells, FindsRightly, MayAsk};
+ghost use Rattle.schema_node.specs.UnitStates.{ChildTells, FindsRightly, MayAsk, MayEvaluate};
 ghost use Rattle.schema_node.specs.Visits.{LeadsNowhere};
 
 use crate::node::evaluate::evaluate_child;
 use crate::node::run::run_child;
+use crate::node::verdict::verdict_child;
 use schema_answers::faults::begun;
 use schema_answers::matches::step_match;
 use schema_answers::question::{Engine, NamedKeyword, Question};
@@ -25,19 +25,6 @@ use schema_parts::keyword::{Answer, Below, Mode, Reply, Step, Validate};
 use schema_parts::matcher::Matcher;
 use schema_parts::numbers::{Edge, SchemaNode};
 use schema_reports::location::OutOfMemory;
-
-// Whether units are wanted.
-fn wants_units(mode: Mode) -> bool
-    ensures units { result ≡ true → mode_of mode ≡ for_units }
-    ensures less { result ≡ false → ¬ (mode_of mode ≡ for_units) }
-{
-    match mode {
-        Mode::Verdict => false,
-        Mode::First => false,
-        Mode::All => false,
-        Mode::Evaluate => true,
-    }
-}
 
 // What a keyword has found once its run is done. The run begins with no marks; those of the run that asks are set aside until it
 // has ended.
@@ -181,9 +168,44 @@ fn ask_child<'i, K: Validate, M: Matcher>(
         context.old context.new) }
     ensures borrows { IfOk result (λ r. RunBorrows (asking question.now) r) }
 {
-    if wants_units(question.mode) {
-        let unit = evaluate_child(engine, node, children, child, below, question, context)?;
-        return Ok(Reply::Unit(Box::new(engine.alloc, unit)?));
+    match question.mode {
+        Mode::Verdict => {
+            let valid = verdict_child(engine, node, children, child, below, question, context)?;
+            Ok(Reply::Truth(valid))
+        }
+        Mode::First => run_child(engine, node, children, child, below, question, context),
+        Mode::All => run_child(engine, node, children, child, below, question, context),
+        Mode::Evaluate => ask_unit(engine, node, children, child, below, question, context),
     }
-    run_child(engine, node, children, child, below, question, context)
+}
+
+// Its unit, as a reply. Its room on the stack is its own, so that the turns of a verdict pay nothing for it.
+#[cycle(run)]
+#[inline(never)]
+fn ask_unit<'i, K: Validate, M: Matcher>(
+    engine: &Engine<'_, K, M>,
+    node: SchemaNode,
+    children: &[Option<Edge>],
+    child: usize,
+    below: Below<'_>,
+    question: &Question<'_, 'i>,
+    context: &mut ValidationContext<'i>,
+) -> Result<Reply<'i>, OutOfMemory>
+    requires may { MayEvaluate (setting K.words K.is_whole K.shape M.matching engine.now) (asking question.now)
+        context.old node.0 }
+    requires children { HasChildren (numbered K.shape engine.now.nodes.now) node.0 (map (option_map edge_of) children.now) }
+    requires present { IsPresent (subject_of question.now.instance) (steps_below (below_of below)) }
+    ensures keeps { IfOk result (λ _. Keeps context.old context.new) }
+    ensures counts { IfOk result (λ _. context.old.visits ≤ context.new.visits) }
+    ensures quiet { IfOk result (λ _. LeadsNowhere (map (option_map edge_of) children.now) → context.new.visits ≡ context.old.visits) }
+    ensures gives { IfOk result (λ u. ChildTells (setting K.words K.is_whole K.shape M.matching engine.now) (asking question.now)
+        context.old node.0 (map (option_map edge_of) children.now) (record { child = child; below = below_of below.entry }) u) }
+    ensures meets { IfOk result (λ _. MeetsChild (setting K.words K.is_whole K.shape M.matching engine.now) (asking question.now)
+        context.old context.new node.0 (map (option_map edge_of) children.now) (record { child = child; below = below_of below.entry })) }
+    ensures stays { IfOk result (λ _. StaysRight (setting K.words K.is_whole K.shape M.matching engine.now) (asking question.now)
+        context.old context.new) }
+    ensures borrows { IfOk result (λ r. RunBorrows (asking question.now) r) }
+{
+    let unit = evaluate_child(engine, node, children, child, below, question, context)?;
+    Ok(Reply::Unit(Box::new(engine.alloc, unit)?))
 }

@@ -2,7 +2,7 @@ use Rattle.std.proofs.lemmas.List.Elements.{All-nil}
 use Rattle.std.specs.Prelude.{All, option_and_then}
 use Rattle.schema_reports.specs.ReportViews.{BorrowsItsPlace}
 use Rattle.schema_parts.specs.FaultViews.{PassesBorrowed}
-use Rattle.std.proofs.Common.{◌≡◌, ◌∙◌, ◌+◌, ◌*◌, ◌<◌, ◌≤◌, ℕ, Bool, suc, arith, sym, refl, ap, subst, map, option_map, string_bytes, length, Some, false, true≢false, List, None, [], ◌∷◌, ◌++◌, drop}
+use Rattle.std.proofs.Common.{◌≡◌, ◌∙◌, ◌+◌, ◌*◌, ◌<◌, ◌≤◌, ℕ, Bool, suc, arith, sym, refl, ap, subst, map, option_map, string_bytes, length, Some, false, true, true≢false, List, None, [], ◌∷◌, ◌++◌, drop}
 use Rattle.schema_reports.specs.InstanceViews.{subject_of, step_of}
 use Rattle.schema_definitions.specs.Instance.{Text}
 use Rattle.schema_definitions.specs.Keywords.{Marked, MatchPoint, Mode, Question, ask, done, ecma, for_verdict, mark, match_text, no_reply, truth, unmark}
@@ -10,6 +10,7 @@ use Rattle.schema_answers.specs.EvaluationPlaces.{steps_to}
 use Rattle.schema_contexts.specs.EvaluationPaths.{path_of}
 use Rattle.schema_definitions.specs.Meaning.{Where}
 use Rattle.schema_meaning.specs.Numbered.{left, subject_in}
+use Rattle.schema_definitions.specs.Laws.{IsRight}
 use Rattle.schema_definitions.specs.Runs.{keyword_met, plan_met, site_at}
 use Rattle.schema_definitions.specs.Unfinished.{Remembered}
 use Rattle.schema_definitions.specs.Matching.{Matcher, Pair, completed, matching, settled}
@@ -26,8 +27,8 @@ use Rattle.schema_node.specs.NodeRuns.{EdgeReplies, child_says, edge_needs, form
 use Rattle.schema_contexts.specs.Progress.{Context, NoDeeper, busy_at}
 use Rattle.schema_node.specs.RightVerdicts.{LaysOut}
 use Rattle.schema_answers.specs.Askings.{asking, Asking}
-use Rattle.schema_node.specs.RunStates.{EdgeRemembers, MeetsNode, NodeSays, RemembersRightly, StaysRight, setting}
-use Rattle.schema_contexts.specs.Verdicts.{read_in_mode, visited_in_mode}
+use Rattle.schema_node.specs.RunStates.{EdgeRemembers, FormRemembers, FormSays, MeetsNode, NodeSays, RemembersRightly, StaysRight, setting}
+use Rattle.schema_contexts.specs.Verdicts.{one_more, read_in_mode, visited_in_mode}
 use Rattle.schema_parts.specs.declared.keyword.Reply.TheVariants as told
 use Rattle.schema_node.proofs.GoesOn.{alone_remembers, asked_across, computed_meets, computed_remembers, computed_says, computed_stays, ended_remembers, pairs_back, planned_remembers, read_for_verdict, read_meets_edge, read_remembers, read_says, right_matched, right_same, stamped_remembers}
 use Rattle.schema_node.proofs.RightVerdicts.{laid_below, read_entered}
@@ -53,17 +54,21 @@ use Rattle.schema_meaning.proofs.TurnsGiveRuns.{keeps_of_turns}
 use Rattle.schema_node.specs.UnitStates.{child_unit, parts_units}
 use Rattle.schema_node.proofs.NodeUnits.{entered_meets, finds_moved, finds_units, form_moved, gives_always, gives_below, gives_busy, gives_entered, gives_here, gives_keyword, gives_never, gives_reference, gives_these, placed_last, placed_next, tells_moved}
 use Rattle.schema_node.proofs.UnitsAsked.{answer_is, child_valid, told_is}
+use Rattle.schema_node.proofs.Verdicts.{joins_verdict, keyword_replies, same_verdict, stamps_verdict, verdict_replies, yes_says}
 use Rattle.schema_node.proofs.node.+run.Goals as goal
 
 -- ---- a call's measure falls
 
-lower_same : (a b t i d : ℕ) → a ≡ b → 10 * b + (i + suc d) ≡ t → 10 * a + i < t
+lower_same : (a b t i d : ℕ) → a ≡ b → 20 * b + (i + suc d) ≡ t → 20 * a + i < t
 lower_same a b t i d l e = omega (arith, l, e)
 
-lower_edge : (a b c t d : ℕ) → a ≡ b → b ≤ c → 10 * c + suc d ≡ t → 10 * a < t
+lower_edge : (a b c t d : ℕ) → a ≡ b → b ≤ c → 20 * c + suc d ≡ t → 20 * a < t
 lower_edge a b c t d n l e = omega (arith, n, l, e)
 
-lower_entered : (a b c t : ℕ) → a ≡ b → c ≡ suc b → 10 * c ≡ t → 10 * a + 9 < t
+lower_across : (a b c t d : ℕ) → a ≡ b → b ≤ c → 20 * c + suc (suc d) ≡ t → 20 * a + 1 < t
+lower_across a b c t d n l e = omega (arith, n, l, e)
+
+lower_entered : (a b c t : ℕ) → a ≡ b → c ≡ suc b → 20 * c ≡ t → 20 * a + 10 < t
 lower_entered a b c t l n e = omega (arith, l, n, e)
 
 no_deeper : (depth : ℕ) → depth ≤ depth
@@ -185,7 +190,7 @@ run::run_form-run_edge-requires g t c =
     let e = edge_of c.in-Reference.edge in
     let k = reference_edge ns c.args.node.0 e (rw c.in-Reference.is at c.requires.form) in
     let l = falls_here g.K.Validate.words g.K.Validate.is_whole ns (length c.args.engine.now.nodes.now) (settling (g.M.Matcher.matching c.args.engine.now.matcher.now) c.args.context.now.remembered.assumptions) c.requires.may.ranked c.args.node.0 (subject_of c.args.question.now.instance) (busy_at (steps_to c.args.question.now.place.now) c.args.context.now.in_progress) e c.requires.may.known k in
-    λ κs h. (lower_edge _ _ _ t 5 refl l c.decreases, (h.0, (h.1.0, (h.1.1.0, (h.1.1.1, record { known = (c.requires.may.ranked c.args.node.0 c.requires.may.known e k).0; ranked = c.requires.may.ranked; above = c.requires.may.above; wanted = c.requires.may.wanted; goes_on = c.requires.may.goes_on })))))
+    λ κs h. (lower_edge _ _ _ t 6 refl l c.decreases, (h.0, (h.1.0, (h.1.1.0, (h.1.1.1, record { known = (c.requires.may.ranked c.args.node.0 c.requires.may.known e k).0; ranked = c.requires.may.ranked; above = c.requires.may.above; wanted = c.requires.may.wanted; goes_on = c.requires.may.goes_on })))))
 
 pub run::run_form-returns-in-Keyword-clause-says : goal.run::run_form-returns-in-Keyword-clause-says
 run::run_form-returns-in-Keyword-clause-says g t c = rw (c.in-Keyword.is, ← c.as_slice.ensures.value) c.run_keyword.ensures.says
@@ -203,7 +208,7 @@ run::run_form-returns-in_ok-reply-in-Reference-clause-says g t c =
 pub run::run_node-run_entries-requires : goal.run::run_node-run_entries-requires
 run::run_node-run_entries-requires g t c =
     let plan = plan_is g.K.Validate.shape c.args.engine.now.nodes.now c.args.node.0 (node_of c.node-found.result.now) _ c.node-found.ensures.found (ap (option_map plan_of) c.in-Some.is ∙ ap (λ f. Some (plan_of f)) c.in-Keywords.is) in
-    λ κs h. (lower_same _ _ t 8 0 refl c.decreases, (h.0, (h.1.0, (h.1.1.0, (h.1.1.1, (c.requires.may, rw c.as_slice.ensures.value (_, plan, λ y k. k)))))))
+    λ κs h. (lower_same _ _ t 9 0 refl c.decreases, (h.0, (h.1.0, (h.1.1.0, (h.1.1.1, (c.requires.may, rw c.as_slice.ensures.value (_, plan, λ y k. k)))))))
 
 pub run::run_node-returns-in-Never-clause-says : goal.run::run_node-returns-in-Never-clause-says
 run::run_node-returns-in-Never-clause-says g t c =
@@ -246,7 +251,7 @@ run::run_entries-run_entry-requires g t c =
     let kept = c.loop-entry.invariant.kept in
     let l = ap (λ es. left ns (length c.args.engine.now.nodes.now) c.args.node.0 (subject_of c.args.question.now.instance) (busy_at p es)) kept in
     let here = part_at entry_of (shaped_part g.K.Validate.shape) c.args.entries.now c.loop-entry.entry-index c.entry-item.result c.loop-entry-test.true c.entry-item.is in
-    λ κs h. (lower_same _ _ t 7 0 l c.decreases, (h.0, (h.1.0, (h.1.1.0, (h.1.1.1, (record { known = c.requires.may.known; ranked = c.requires.may.ranked; above = subst (NoDeeper p) (sym kept) c.requires.may.above; wanted = c.requires.may.wanted; goes_on = (c.requires.may.goes_on.0, c.requires.may.goes_on.1, c.loop-entry.invariant.stays c.requires.may.goes_on.0 c.requires.may.goes_on.1 c.requires.may.goes_on.2) }, (c.requires.parts.0, c.requires.parts.1, shaped_part g.K.Validate.shape (entry_of c.entry-item.result), c.requires.parts.2 _ here, refl)))))))
+    λ κs h. (lower_same _ _ t 8 0 l c.decreases, (h.0, (h.1.0, (h.1.1.0, (h.1.1.1, (record { known = c.requires.may.known; ranked = c.requires.may.ranked; above = subst (NoDeeper p) (sym kept) c.requires.may.above; wanted = c.requires.may.wanted; goes_on = (c.requires.may.goes_on.0, c.requires.may.goes_on.1, c.loop-entry.invariant.stays c.requires.may.goes_on.0 c.requires.may.goes_on.1 c.requires.may.goes_on.2) }, (c.requires.parts.0, c.requires.parts.1, shaped_part g.K.Validate.shape (entry_of c.entry-item.result), c.requires.parts.2 _ here, refl)))))))
 
 pub run::run_entries-loop-entry-preserved : goal.run::run_entries-loop-entry-preserved
 run::run_entries-loop-entry-preserved g t c = record {
@@ -296,17 +301,17 @@ run::run_entries-returns-then-is_settled-clause-says g t c = λ x reads l.
     c.in_ok-found.ensures.both c.in_ok-found.ensures.borrows says (c.loop-entry.invariant.so_far x reads l) in
     settled_entries g.K.Validate.words g.K.Validate.is_whole ns (length c.args.engine.now.nodes.now) (settling (g.M.Matcher.matching c.args.engine.now.matcher.now) c.args.context.now.remembered.assumptions) (mode_of c.args.question.now.mode) x c.in_ok-found.found _ _ (sym (c.is_settled.ensures.settled x.texts) ∙ c.if-is_settled.true) next
 
-pub run::run_entry-returns-then-is_yes-clause-says : goal.run::run_entry-returns-then-is_yes-clause-says
-run::run_entry-returns-then-is_yes-clause-says g t c = λ x reads l.
+pub run::run_entry-returns-then-valid-clause-says : goal.run::run_entry-returns-then-valid-clause-says
+run::run_entry-returns-then-valid-clause-says g t c = λ x reads l.
     leaf_accepts g.K.Validate.words (numbered g.K.Validate.shape c.args.engine.now.nodes.now) (λ texts m s completion matcher a h. (g.met.K.Validate.function_laws texts m).agree s (matching matcher completion) a h) x (mode_of c.args.question.now.mode) c.args.node.0 (path_of c.args.question.now.path.now) (steps_to c.args.question.now.place.now)
-    (busy_at (steps_to c.args.question.now.place.now) c.args.context.now.in_progress) (string_bytes c.args.entry.now.name) _ c.in_ok-verdict.verdict c.accepted.result (sym (c.is_yes.ensures.yes x.texts) ∙ c.if-is_yes.true) (c.in_ok-verdict.ensures.says x reads l) c.accepted.ensures.accepts c.accepted.ensures.no_errors
+    (busy_at (steps_to c.args.question.now.place.now) c.args.context.now.in_progress) (string_bytes c.args.entry.now.name) _ (told.Truth c.in_ok-valid.valid) c.accepted.result c.if-valid.true (c.in_ok-valid.ensures.says x reads l) c.accepted.ensures.accepts c.accepted.ensures.no_errors
 
 pub run::run_entry-returns-then-asks_verdict_first-clause-says : goal.run::run_entry-returns-then-asks_verdict_first-clause-says
-run::run_entry-returns-then-asks_verdict_first-clause-says g t c = rw (c.in_ok-verdict.ensures.keeps.in_progress, c.in_ok-verdict.ensures.keeps.assumptions) at c.run_form-then-asks_verdict_first.ensures.says
+run::run_entry-returns-then-asks_verdict_first-clause-says g t c = rw (c.in_ok-valid.ensures.keeps.in_progress, c.in_ok-valid.ensures.keeps.assumptions) at c.run_form.ensures.says
 
 pub run::run_keyword-keyword_answer-requires : goal.run::run_keyword-keyword_answer-requires
 run::run_keyword-keyword_answer-requires g t c =
-    λ κs h. (lower_same _ _ t 4 0 refl c.decreases, (h.0, (h.1.0, (h.1.1.0, (h.1.1.1, (record { known = c.requires.may.known; ranked = c.requires.may.ranked; above = c.requires.may.above; goes_on = c.requires.may.goes_on }, c.requires.form))))))
+    λ κs h. (lower_same _ _ t 5 0 refl c.decreases, (h.0, (h.1.0, (h.1.1.0, (h.1.1.1, (record { known = c.requires.may.known; ranked = c.requires.may.ranked; above = c.requires.may.above; goes_on = c.requires.may.goes_on }, c.requires.form))))))
 
 pub turns::keyword_answer-run_turns-requires : goal.turns::keyword_answer-run_turns-requires
 turns::keyword_answer-run_turns-requires g t c =
@@ -316,7 +321,7 @@ turns::keyword_answer-run_turns-requires g t c =
     let s = subject_of c.args.question.now.instance in
     let kept = c.set_aside-aside.ensures.in_progress in
     let l = ap (λ es. left ns (length c.args.engine.now.nodes.now) c.args.node.0 s (busy_at p es)) kept in
-    λ κs h. (lower_same _ _ t 3 0 l c.decreases, (h.0, (h.1.0, (h.1.1.0, (h.1.1.1, (record { known = c.requires.may.known; ranked = c.requires.may.ranked; above = subst (NoDeeper p) (sym kept) c.requires.may.above; goes_on = (c.requires.may.goes_on.0, c.requires.may.goes_on.1, right_same (setting g.K.Validate.words g.K.Validate.is_whole g.K.Validate.shape g.M.Matcher.matching c.args.engine.now) c.requires.may.goes_on.0 c.args.context.now c.set_aside-aside.new.self c.set_aside-aside.ensures.remembered c.set_aside-aside.ensures.verdicts c.requires.may.goes_on.2) }, (c.requires.form, (begun, (c.in_ok-answer.ensures.no_faults, c.set_aside-aside.ensures.none)))))))))
+    λ κs h. (lower_same _ _ t 4 0 l c.decreases, (h.0, (h.1.0, (h.1.1.0, (h.1.1.1, (record { known = c.requires.may.known; ranked = c.requires.may.ranked; above = subst (NoDeeper p) (sym kept) c.requires.may.above; goes_on = (c.requires.may.goes_on.0, c.requires.may.goes_on.1, right_same (setting g.K.Validate.words g.K.Validate.is_whole g.K.Validate.shape g.M.Matcher.matching c.args.engine.now) c.requires.may.goes_on.0 c.args.context.now c.set_aside-aside.new.self c.set_aside-aside.ensures.remembered c.set_aside-aside.ensures.verdicts c.requires.may.goes_on.2) }, (c.requires.form, (begun, (c.in_ok-answer.ensures.no_faults, c.set_aside-aside.ensures.none)))))))))
 
 pub turns::keyword_answer-returns-clause-right : goal.turns::keyword_answer-returns-clause-right
 turns::keyword_answer-returns-clause-right g t c =
@@ -429,8 +434,8 @@ run::run_entries-returns-then-is_settled-clause-meets g t c = λ texts root dept
     let last = stops_at g.K.Validate.words ns w texts root depth mode c.args.node.0 (path_of c.args.question.now.path.now) p busy part c.loop-entry.found c.in_ok-more.more c.in_ok-found.found so_far.0 _ agrees so_far.1 says c.in_ok-found.ensures.both (c.loop-entry.invariant.unsettled texts) (sym (c.is_settled.ensures.settled texts) ∙ c.if-is_settled.true) in
     last_met w.matcher mode (part_looked g.K.Validate.words ns w texts root depth c.args.node.0 (path_of c.args.question.now.path.now) p busy part) (looked (drop (c.loop-entry.entry-index + 1) c.args.entries.now)) _ _ met.0 _ _ _ met.1 here met.2 split last
 
-pub run::run_entry-returns-then-is_yes-clause-meets : goal.run::run_entry-returns-then-is_yes-clause-meets
-run::run_entry-returns-then-is_yes-clause-meets g t c = λ texts root depth reads l.
+pub run::run_entry-returns-then-valid-clause-meets : goal.run::run_entry-returns-then-valid-clause-meets
+run::run_entry-returns-then-valid-clause-meets g t c = λ texts root depth reads l.
     let ns = numbered g.K.Validate.shape c.args.engine.now.nodes.now in
     let w = settling (g.M.Matcher.matching c.args.engine.now.matcher.now) c.args.context.now.remembered.assumptions in
     let p = steps_to c.args.question.now.place.now in
@@ -438,11 +443,11 @@ run::run_entry-returns-then-is_yes-clause-meets g t c = λ texts root depth read
     let busy = busy_at p c.args.context.now.in_progress in
     let part = shaped_part g.K.Validate.shape (entry_of c.args.entry.now) in
     let looked = part_looked g.K.Validate.words ns w texts root depth c.args.node.0 (path_of c.args.question.now.path.now) p busy part in
-    let holds = leaf_holds g.K.Validate.words ns w texts root depth c.args.node.0 (path_of c.args.question.now.path.now) p busy part c.in_ok-verdict.verdict _ (c.in_ok-verdict.ensures.says (reading w texts root depth) reads l) (sym (c.is_yes.ensures.yes texts) ∙ c.if-is_yes.true) in
-    meets_same w.matcher _ _ _ _ (leaf_yes (mode_of c.args.question.now.mode) looked (c.asks_verdict_first.ensures.leaf c.if-asks_verdict_first.true) (c.asks_verdict_first.ensures.wants_more c.if-asks_verdict_first.true) (c.asks_verdict_first.ensures.wants_errors c.if-asks_verdict_first.true) holds) (c.in_ok-verdict.ensures.meets texts root depth reads l)
+    let holds = leaf_holds g.K.Validate.words ns w texts root depth c.args.node.0 (path_of c.args.question.now.path.now) p busy part (told.Truth c.in_ok-valid.valid) _ (c.in_ok-valid.ensures.says (reading w texts root depth) reads l) c.if-valid.true in
+    meets_same w.matcher _ _ _ _ (leaf_yes (mode_of c.args.question.now.mode) looked (c.asks_verdict_first.ensures.leaf c.if-asks_verdict_first.true) (c.asks_verdict_first.ensures.wants_more c.if-asks_verdict_first.true) (c.asks_verdict_first.ensures.wants_errors c.if-asks_verdict_first.true) holds) (c.in_ok-valid.ensures.meets texts root depth reads l)
 
 pub run::run_entry-returns-then-asks_verdict_first-clause-meets : goal.run::run_entry-returns-then-asks_verdict_first-clause-meets
-run::run_entry-returns-then-asks_verdict_first-clause-meets g t c = if_ok_mono c.run_form-then-asks_verdict_first.result _ _ (λ r met texts root depth reads l.
+run::run_entry-returns-then-asks_verdict_first-clause-meets g t c = if_ok_mono c.run_form.result _ _ (λ r met texts root depth reads l.
     let ns = numbered g.K.Validate.shape c.args.engine.now.nodes.now in
     let w = settling (g.M.Matcher.matching c.args.engine.now.matcher.now) c.args.context.now.remembered.assumptions in
     let p = steps_to c.args.question.now.place.now in
@@ -450,9 +455,9 @@ run::run_entry-returns-then-asks_verdict_first-clause-meets g t c = if_ok_mono c
     let busy = busy_at p c.args.context.now.in_progress in
     let part = shaped_part g.K.Validate.shape (entry_of c.args.entry.now) in
     let looked = part_looked g.K.Validate.words ns w texts root depth c.args.node.0 (path_of c.args.question.now.path.now) p busy part in
-    let holds = leaf_holds g.K.Validate.words ns w texts root depth c.args.node.0 (path_of c.args.question.now.path.now) p busy part c.in_ok-verdict.verdict _ (c.in_ok-verdict.ensures.says (reading w texts root depth) reads l) (sym (c.is_yes.ensures.yes texts) ∙ c.if-is_yes.false) in
-    let more = moved (λ es as'. FormMeets g.K.Validate.words g.K.Validate.is_whole ns (length c.args.engine.now.nodes.now) (settling (g.M.Matcher.matching c.args.engine.now.matcher.now) as') (mode_of c.args.question.now.mode) (path_of c.args.question.now.path.now) p (busy_at p es) s c.run_form.new.context.remembered c.run_form-then-asks_verdict_first.new.context.remembered c.args.node.0 part.name part.form) c.in_ok-verdict.ensures.keeps.in_progress c.in_ok-verdict.ensures.keeps.assumptions met texts root depth reads l in
-    meets_same w.matcher _ _ _ _ (leaf_no (mode_of c.args.question.now.mode) looked (c.asks_verdict_first.ensures.leaf c.if-asks_verdict_first.true) (c.asks_verdict_first.ensures.wants_more c.if-asks_verdict_first.true) (c.asks_verdict_first.ensures.wants_errors c.if-asks_verdict_first.true) holds) (meets_append w.matcher _ _ _ _ _ (c.in_ok-verdict.ensures.meets texts root depth reads l) more)) c.run_form-then-asks_verdict_first.ensures.meets
+    let holds = leaf_holds g.K.Validate.words ns w texts root depth c.args.node.0 (path_of c.args.question.now.path.now) p busy part (told.Truth c.in_ok-valid.valid) _ (c.in_ok-valid.ensures.says (reading w texts root depth) reads l) c.if-valid.false in
+    let more = moved (λ es as'. FormMeets g.K.Validate.words g.K.Validate.is_whole ns (length c.args.engine.now.nodes.now) (settling (g.M.Matcher.matching c.args.engine.now.matcher.now) as') (mode_of c.args.question.now.mode) (path_of c.args.question.now.path.now) p (busy_at p es) s c.verdict_form.new.context.remembered c.run_form.new.context.remembered c.args.node.0 part.name part.form) c.in_ok-valid.ensures.keeps.in_progress c.in_ok-valid.ensures.keeps.assumptions met texts root depth reads l in
+    meets_same w.matcher _ _ _ _ (leaf_no (mode_of c.args.question.now.mode) looked (c.asks_verdict_first.ensures.leaf c.if-asks_verdict_first.true) (c.asks_verdict_first.ensures.wants_more c.if-asks_verdict_first.true) (c.asks_verdict_first.ensures.wants_errors c.if-asks_verdict_first.true) holds) (meets_append w.matcher _ _ _ _ _ (c.in_ok-valid.ensures.meets texts root depth reads l) more)) c.run_form.ensures.meets
 
 pub run::run_child-returns-in-None-one_below-clause-meets : goal.run::run_child-returns-in-None-one_below-clause-meets
 run::run_child-returns-in-None-one_below-clause-meets g t c =
@@ -692,10 +697,10 @@ run::run_entries-returns-clause-remembers g t c =
     ended_remembers (asking c.args.question.now) entry_of (shaped_part g.K.Validate.shape) c.args.entries.now c.loop-entry.entry-index c.loop-entry-test.false c.args.context.now c.loop-entry.context c.loop-entry.found c.loop-entry.invariant.remembers
 
 pub run::run_entry-returns-then-asks_verdict_first-clause-stays : goal.run::run_entry-returns-then-asks_verdict_first-clause-stays
-run::run_entry-returns-then-asks_verdict_first-clause-stays g t c = if_ok_mono c.run_form-then-asks_verdict_first.result _ _ (λ r stays layout laid right. stays layout laid (c.in_ok-verdict.ensures.stays layout laid right)) c.run_form-then-asks_verdict_first.ensures.stays
+run::run_entry-returns-then-asks_verdict_first-clause-stays g t c = if_ok_mono c.run_form.result _ _ (λ r stays layout laid right. stays layout laid (c.in_ok-valid.ensures.stays layout laid right)) c.run_form.ensures.stays
 
 pub run::run_entry-returns-then-asks_verdict_first-clause-counts : goal.run::run_entry-returns-then-asks_verdict_first-clause-counts
-run::run_entry-returns-then-asks_verdict_first-clause-counts g t c = if_ok_mono c.run_form-then-asks_verdict_first.result _ _ (λ r more. no_fewer c.args.context.now.visits c.run_form.new.context.visits c.run_form-then-asks_verdict_first.new.context.visits c.in_ok-verdict.ensures.counts more) c.run_form-then-asks_verdict_first.ensures.counts
+run::run_entry-returns-then-asks_verdict_first-clause-counts g t c = if_ok_mono c.run_form.result _ _ (λ r more. no_fewer c.args.context.now.visits c.verdict_form.new.context.visits c.run_form.new.context.visits c.in_ok-valid.ensures.counts more) c.run_form.ensures.counts
 
 pub run::run_form-returns-in_ok-reply-in-Reference-clause-remembers : goal.run::run_form-returns-in_ok-reply-in-Reference-clause-remembers
 run::run_form-returns-in_ok-reply-in-Reference-clause-remembers g t c =
@@ -758,7 +763,7 @@ turns::run_turns-ask_child-requires g t c =
     let l = ap (λ es. left ns (length c.args.engine.now.nodes.now) c.args.node.0 s (busy_at p es)) kept in
     let q : Question = record { child = c.in-Ask.child; below = below_of c.in-Ask.below } in
     let there = asks_there (g.K.Validate.words false) m (g.K.Validate.absorbed m) (g.K.Validate.remaining m) (g.K.Validate.can_be false m) (g.K.Validate.ends false m) (g.K.Validate.fits false m) (g.met.K.Validate.turn_laws false m) s (c.turns.run, answer_of false c.turns.answer) told q (mode_of c.in-Ask.wanted) c.turns.invariant.can ((g.met.K.Validate.function_laws false m).present s) step in
-    λ κs h. (lower_same _ _ t 2 0 l c.decreases, (h.0, (h.1.0, (h.1.1.0, (h.1.1.1, (record { known = c.requires.may.known; ranked = c.requires.may.ranked; above = subst (NoDeeper p) (sym kept) c.requires.may.above; goes_on = (c.requires.may.goes_on.0, c.requires.may.goes_on.1, c.turns.invariant.stays c.requires.may.goes_on.0 c.requires.may.goes_on.1 c.requires.may.goes_on.2) }, (keyword_children ns c.args.node.0 m es c.requires.form, there)))))))
+    λ κs h. (lower_same _ _ t 3 0 l c.decreases, (h.0, (h.1.0, (h.1.1.0, (h.1.1.1, (record { known = c.requires.may.known; ranked = c.requires.may.ranked; above = subst (NoDeeper p) (sym kept) c.requires.may.above; goes_on = (c.requires.may.goes_on.0, c.requires.may.goes_on.1, c.turns.invariant.stays c.requires.may.goes_on.0 c.requires.may.goes_on.1 c.requires.may.goes_on.2) }, (keyword_children ns c.args.node.0 m es c.requires.form, there)))))))
 
 pub turns::run_turns-returns-in-Done-clause-right : goal.turns::run_turns-returns-in-Done-clause-right
 turns::run_turns-returns-in-Done-clause-right g t c = λ x reads l.
@@ -1065,8 +1070,8 @@ turns::run_turns-turns-preserved g t c =
           meets_mark_taken (g.K.Validate.words texts) w.matcher w.assumptions (node_at (g.K.Validate.words texts) w.matcher ns (subject_in root) c.args.node.0 (path_of c.args.question.now.path.now) p) s (child_run g.K.Validate.words ns w texts root depth (path_of c.args.question.now.path.now) p busy es) (same_edge es) name m (g.K.Validate.remaining m s) _ _ _ _ _ _ _ _ _ _ c.exit_marking.ensures.left turn' step' falls refl c.exit_marking.ensures.remembered (c.turns.invariant.met texts root depth reads l);
     }
 
-pub turns::ask_child-returns-clause-borrows : goal.turns::ask_child-returns-clause-borrows
-turns::ask_child-returns-clause-borrows g t c =
+pub turns::ask_child-returns-in-First-clause-borrows : goal.turns::ask_child-returns-in-First-clause-borrows
+turns::ask_child-returns-in-First-clause-borrows g t c =
     let ns = numbered g.K.Validate.shape c.args.engine.now.nodes.now in
     let w = settling (g.M.Matcher.matching c.args.engine.now.matcher.now) c.args.context.now.remembered.assumptions in
     let p = steps_to c.args.question.now.place.now in
@@ -1074,6 +1079,16 @@ turns::ask_child-returns-clause-borrows g t c =
     let busy = busy_at p c.args.context.now.in_progress in
     let d = left ns (length c.args.engine.now.nodes.now) c.args.node.0 s busy in
     if_ok_mono c.run_child.result _ _ (λ r says root at_place. (says (silent w root d) (silent_reads g.K.Validate.is_whole ns (length c.args.engine.now.nodes.now) w p s root d at_place) (no_deeper d)).borrows) c.run_child.ensures.says
+
+pub turns::ask_child-returns-in-All-clause-borrows : goal.turns::ask_child-returns-in-All-clause-borrows
+turns::ask_child-returns-in-All-clause-borrows g t c =
+    let ns = numbered g.K.Validate.shape c.args.engine.now.nodes.now in
+    let w = settling (g.M.Matcher.matching c.args.engine.now.matcher.now) c.args.context.now.remembered.assumptions in
+    let p = steps_to c.args.question.now.place.now in
+    let s = subject_of c.args.question.now.instance in
+    let busy = busy_at p c.args.context.now.in_progress in
+    let d = left ns (length c.args.engine.now.nodes.now) c.args.node.0 s busy in
+    if_ok_mono c.run_child-in-All.result _ _ (λ r says root at_place. (says (silent w root d) (silent_reads g.K.Validate.is_whole ns (length c.args.engine.now.nodes.now) w p s root d at_place) (no_deeper d)).borrows) c.run_child-in-All.ensures.says
 
 pub evaluate::evaluate_child-evaluate_edge-requires : goal.evaluate::evaluate_child-evaluate_edge-requires
 evaluate::evaluate_child-evaluate_edge-requires g t c =
@@ -1281,7 +1296,7 @@ evaluate::evaluate_entries-evaluate_entry-requires g t c =
     let kept = c.loop-entry.invariant.kept in
     let l = ap (λ es. left ns (length c.args.engine.now.nodes.now) c.args.node.0 (subject_of c.args.question.now.instance) (busy_at p es)) kept in
     let here = part_at entry_of (shaped_part g.K.Validate.shape) c.args.entries.now c.loop-entry.entry-index c.entry-item.result c.loop-entry-test.true c.entry-item.is in
-    λ κs h. (lower_same _ _ t 7 0 l c.decreases, (h.0, (h.1.0, (h.1.1.0, (h.1.1.1, (record { known = c.requires.may.known; ranked = c.requires.may.ranked; above = subst (NoDeeper p) (sym kept) c.requires.may.above; wanted = c.requires.may.wanted; goes_on = (c.requires.may.goes_on.0, c.requires.may.goes_on.1, c.loop-entry.invariant.stays c.requires.may.goes_on.0 c.requires.may.goes_on.1 c.requires.may.goes_on.2) }, (c.requires.parts.0, c.requires.parts.1, shaped_part g.K.Validate.shape (entry_of c.entry-item.result), c.requires.parts.2 _ here, refl)))))))
+    λ κs h. (lower_same _ _ t 8 0 l c.decreases, (h.0, (h.1.0, (h.1.1.0, (h.1.1.1, (record { known = c.requires.may.known; ranked = c.requires.may.ranked; above = subst (NoDeeper p) (sym kept) c.requires.may.above; wanted = c.requires.may.wanted; goes_on = (c.requires.may.goes_on.0, c.requires.may.goes_on.1, c.loop-entry.invariant.stays c.requires.may.goes_on.0 c.requires.may.goes_on.1 c.requires.may.goes_on.2) }, (c.requires.parts.0, c.requires.parts.1, shaped_part g.K.Validate.shape (entry_of c.entry-item.result), c.requires.parts.2 _ here, refl)))))))
 
 pub evaluate::evaluate_entries-loop-entry-preserved : goal.evaluate::evaluate_entries-loop-entry-preserved
 evaluate::evaluate_entries-loop-entry-preserved g t c =
@@ -1346,7 +1361,7 @@ evaluate::evaluate_entry-evaluate_edge-requires g t c =
     let e = edge_of c.in-Reference.edge in
     let k = reference_edge ns c.args.node.0 e (rw c.in-Reference.is at c.requires.form) in
     let l = falls_here g.K.Validate.words g.K.Validate.is_whole ns (length c.args.engine.now.nodes.now) w c.requires.may.ranked c.args.node.0 s busy e c.requires.may.known k in
-    λ κs h. (lower_edge _ _ _ t 6 refl l c.decreases, (h.0, (h.1.0, (h.1.1.0, (h.1.1.1, record { known = (c.requires.may.ranked c.args.node.0 c.requires.may.known e k).0; ranked = c.requires.may.ranked; above = c.requires.may.above; wanted = c.requires.may.wanted; goes_on = c.requires.may.goes_on })))))
+    λ κs h. (lower_edge _ _ _ t 7 refl l c.decreases, (h.0, (h.1.0, (h.1.1.0, (h.1.1.1, record { known = (c.requires.may.ranked c.args.node.0 c.requires.may.known e k).0; ranked = c.requires.may.ranked; above = c.requires.may.above; wanted = c.requires.may.wanted; goes_on = c.requires.may.goes_on })))))
 
 pub evaluate::evaluate_entry-returns-in-Keyword-clause-meets : goal.evaluate::evaluate_entry-returns-in-Keyword-clause-meets
 evaluate::evaluate_entry-returns-in-Keyword-clause-meets g t c =
@@ -1385,7 +1400,7 @@ evaluate::evaluate_entry-returns-in_ok-unit-in-Reference-clause-meets g t c =
 
 pub evaluate::evaluate_keyword-keyword_answer-requires : goal.evaluate::evaluate_keyword-keyword_answer-requires
 evaluate::evaluate_keyword-keyword_answer-requires g t c =
-    λ κs h. (lower_same _ _ t 4 0 refl c.decreases, (h.0, (h.1.0, (h.1.1.0, (h.1.1.1, (record { known = c.requires.may.known; ranked = c.requires.may.ranked; above = c.requires.may.above; goes_on = c.requires.may.goes_on }, c.requires.form))))))
+    λ κs h. (lower_same _ _ t 5 0 refl c.decreases, (h.0, (h.1.0, (h.1.1.0, (h.1.1.1, (record { known = c.requires.may.known; ranked = c.requires.may.ranked; above = c.requires.may.above; goes_on = c.requires.may.goes_on }, c.requires.form))))))
 
 pub evaluate::evaluate_keyword-returns-clause-gives : goal.evaluate::evaluate_keyword-returns-clause-gives
 evaluate::evaluate_keyword-returns-clause-gives g t c =
@@ -1417,7 +1432,7 @@ pub evaluate::evaluate_node-evaluate_entries-requires : goal.evaluate::evaluate_
 evaluate::evaluate_node-evaluate_entries-requires g t c =
     let n = node_of c.node-found.result.now in
     let plan = plan_is g.K.Validate.shape c.args.engine.now.nodes.now c.args.node.0 n _ c.node-found.ensures.found (ap (option_map plan_of) c.in-Some.is ∙ ap (λ f. Some (plan_of f)) c.in-Keywords.is) in
-    λ κs h. (lower_same _ _ t 8 0 refl c.decreases, (h.0, (h.1.0, (h.1.1.0, (h.1.1.1, (c.requires.may, rw c.as_slice.ensures.value (_, plan, λ y k. k)))))))
+    λ κs h. (lower_same _ _ t 9 0 refl c.decreases, (h.0, (h.1.0, (h.1.1.0, (h.1.1.1, (c.requires.may, rw c.as_slice.ensures.value (_, plan, λ y k. k)))))))
 
 pub evaluate::evaluate_node-returns-in-None-clause-gives : goal.evaluate::evaluate_node-returns-in-None-clause-gives
 evaluate::evaluate_node-returns-in-None-clause-gives g t c =
@@ -1615,3 +1630,677 @@ run::run_edge-returns-clause-visits g t c =
 
 pub run::run_edge-returns-then-not-edge-clause-visits : goal.run::run_edge-returns-then-not-edge-clause-visits
 run::run_edge-returns-then-not-edge-clause-visits g t c = if_ok_mono c.run_node.result _ _ (λ r counts. free_counts (numbered g.K.Validate.shape c.args.engine.now.nodes.now) (asking c.args.question.now) c.args.context.now (edge_of c.args.edge.now) c.run_node.new.context c.if-not-edge.true counts) c.run_node.ensures.visits
+
+pub verdict::verdict_child-verdict_edge-requires : goal.verdict::verdict_child-verdict_edge-requires
+verdict::verdict_child-verdict_edge-requires g t c =
+    let ns = numbered g.K.Validate.shape c.args.engine.now.nodes.now in
+    let e = edge_of c.in-Some.edge.now in
+    let k = c.requires.children c.args.child e (sym c.in-Some.ensures.edge) in
+    let l = falls_here g.K.Validate.words g.K.Validate.is_whole ns (length c.args.engine.now.nodes.now) (settling (g.M.Matcher.matching c.args.engine.now.matcher.now) c.args.context.now.remembered.assumptions) c.requires.may.ranked c.args.node.0 (subject_of c.args.question.now.instance) (busy_at (steps_to c.args.question.now.place.now) c.args.context.now.in_progress) e c.requires.may.known k in
+    λ κs h. (lower_across _ _ _ t 0 refl l c.decreases, (h.0, (h.1.0, (h.1.1.0, (h.1.1.1, (record { known = (c.requires.may.ranked c.args.node.0 c.requires.may.known e k).0; ranked = c.requires.may.ranked; above = c.requires.may.above; wanted = c.requires.may.wanted; goes_on = c.requires.may.goes_on }, c.requires.verdict))))))
+
+pub verdict::verdict_child-verdict_edge-requires-in-Some-one_below : goal.verdict::verdict_child-verdict_edge-requires-in-Some-one_below
+verdict::verdict_child-verdict_edge-requires-in-Some-one_below g t c =
+    let ns = numbered g.K.Validate.shape c.args.engine.now.nodes.now in
+    let e = edge_of c.in-Some.edge.now in
+    let k = c.requires.children c.args.child e (sym c.in-Some.ensures.edge) in
+    let p = steps_to c.args.question.now.place.now in
+    let step = step_of c.in-Some-one_below.step in
+    let es = c.args.context.now.in_progress in
+    let none : busy_at (steps_to c.below-lower.result) es ≡ [] = ap (λ q. busy_at q es) c.below-lower.ensures.below ∙ busy-below p step es c.requires.may.above in
+    let deeper = subst (λ q. NoDeeper q es) (sym c.below-lower.ensures.below) (deeper-below p step es c.requires.may.above) in
+    let l = falls_below g.K.Validate.words g.K.Validate.is_whole ns (length c.args.engine.now.nodes.now) (settling (g.M.Matcher.matching c.args.engine.now.matcher.now) c.args.context.now.remembered.assumptions) c.requires.may.ranked c.args.node.0 (subject_of c.args.question.now.instance) (subject_of c.in-Some-one_below.inner) step (busy_at p es) e c.requires.may.known k c.in-Some-one_below.ensures.below.1 in
+    let n = ap (edge_needs ns (length c.args.engine.now.nodes.now) e (subject_of c.in-Some-one_below.inner)) none in
+    let (layout, laid, right) = c.requires.may.goes_on in
+    let below = laid_below layout p (subject_of c.args.question.now.instance) (subject_of c.in-Some-one_below.inner) step (steps_to c.below-lower.result) laid c.below-lower.ensures.below c.in-Some-one_below.ensures.below.1 in
+    λ κs h. (lower_across _ _ _ t 0 n l c.decreases, (h.0, (h.1.0, (h.1.1.0, (h.1.1.1, (record { known = (c.requires.may.ranked c.args.node.0 c.requires.may.known e k).0; ranked = c.requires.may.ranked; above = deeper; wanted = c.requires.may.wanted; goes_on = (layout, below, right) }, c.requires.verdict))))))
+
+pub verdict::verdict_child-returns-in-None-one_below-clause-says : goal.verdict::verdict_child-returns-in-None-one_below-clause-says
+verdict::verdict_child-returns-in-None-one_below-clause-says g t c =
+    let ns = numbered g.K.Validate.shape c.args.engine.now.nodes.now in
+    let e = edge_of c.in-Some.edge.now in
+    let k = c.requires.children c.args.child e (sym c.in-Some.ensures.edge) in
+    let l = falls_here g.K.Validate.words g.K.Validate.is_whole ns (length c.args.engine.now.nodes.now) (settling (g.M.Matcher.matching c.args.engine.now.matcher.now) c.args.context.now.remembered.assumptions) c.requires.may.ranked c.args.node.0 (subject_of c.args.question.now.instance) (busy_at (steps_to c.args.question.now.place.now) c.args.context.now.in_progress) e c.requires.may.known k in
+    if_ok_mono c.verdict_edge.result _ _ (λ b says. child_here g.K.Validate.words g.K.Validate.is_whole ns (length c.args.engine.now.nodes.now) (settling (g.M.Matcher.matching c.args.engine.now.matcher.now) c.args.context.now.remembered.assumptions) (mode_of c.args.question.now.mode) (path_of c.args.question.now.path.now) (steps_to c.args.question.now.place.now) (busy_at (steps_to c.args.question.now.place.now) c.args.context.now.in_progress) (subject_of c.args.question.now.instance) c.args.node.0 _
+    (record { child = c.args.child; below = below_of c.args.below }) (told.Truth b) e (sym c.in-Some.ensures.edge) c.in-None-one_below.ensures.below l says) c.verdict_edge.ensures.says
+
+pub verdict::verdict_child-returns-in-Some-one_below-clause-says : goal.verdict::verdict_child-returns-in-Some-one_below-clause-says
+verdict::verdict_child-returns-in-Some-one_below-clause-says g t c =
+    let ns = numbered g.K.Validate.shape c.args.engine.now.nodes.now in
+    let e = edge_of c.in-Some.edge.now in
+    let k = c.requires.children c.args.child e (sym c.in-Some.ensures.edge) in
+    let p = steps_to c.args.question.now.place.now in
+    let step = step_of c.in-Some-one_below.step in
+    let es = c.args.context.now.in_progress in
+    let s = subject_of c.args.question.now.instance in
+    let inner = subject_of c.in-Some-one_below.inner in
+    let none : busy_at (steps_to c.below-lower.result) es ≡ [] = ap (λ q. busy_at q es) c.below-lower.ensures.below ∙ busy-below p step es c.requires.may.above in
+    let l = falls_below g.K.Validate.words g.K.Validate.is_whole ns (length c.args.engine.now.nodes.now) (settling (g.M.Matcher.matching c.args.engine.now.matcher.now) c.args.context.now.remembered.assumptions) c.requires.may.ranked c.args.node.0 s inner step (busy_at p es) e c.requires.may.known k c.in-Some-one_below.ensures.below.1 in
+    if_ok_mono c.verdict_edge-in-Some-one_below.result _ _ (λ b says.
+    let answer = subst (λ busy. EdgeReplies g.K.Validate.words g.K.Validate.is_whole ns (length c.args.engine.now.nodes.now) (settling (g.M.Matcher.matching c.args.engine.now.matcher.now) c.args.context.now.remembered.assumptions) (mode_of c.args.question.now.mode) (path_of c.args.question.now.path.now) (steps_to c.below-lower.result) busy inner e (told.Truth b)) none says in
+    child_below g.K.Validate.words g.K.Validate.is_whole ns (length c.args.engine.now.nodes.now) (settling (g.M.Matcher.matching c.args.engine.now.matcher.now) c.args.context.now.remembered.assumptions) (mode_of c.args.question.now.mode) (path_of c.args.question.now.path.now) p (busy_at p es) s c.args.node.0 _
+    (record { child = c.args.child; below = below_of c.args.below }) (told.Truth b) e step (steps_to c.below-lower.result) inner (sym c.in-Some.ensures.edge) c.in-Some-one_below.ensures.below.0
+    c.below-lower.ensures.below c.in-Some-one_below.ensures.below.1 l answer) c.verdict_edge-in-Some-one_below.ensures.says
+
+pub verdict::verdict_child-returns-in-None-one_below-clause-meets : goal.verdict::verdict_child-returns-in-None-one_below-clause-meets
+verdict::verdict_child-returns-in-None-one_below-clause-meets g t c =
+    let ns = numbered g.K.Validate.shape c.args.engine.now.nodes.now in
+    let w = settling (g.M.Matcher.matching c.args.engine.now.matcher.now) c.args.context.now.remembered.assumptions in
+    let p = steps_to c.args.question.now.place.now in
+    let s = subject_of c.args.question.now.instance in
+    let busy = busy_at p c.args.context.now.in_progress in
+    let e = edge_of c.in-Some.edge.now in
+    let k = c.requires.children c.args.child e (sym c.in-Some.ensures.edge) in
+    let l = falls_here g.K.Validate.words g.K.Validate.is_whole ns (length c.args.engine.now.nodes.now) w c.requires.may.ranked c.args.node.0 s busy e c.requires.may.known k in
+    if_ok_mono c.verdict_edge.result _ _ (λ b met. meets_here g.K.Validate.words g.K.Validate.is_whole ns (length c.args.engine.now.nodes.now) w (mode_of c.args.question.now.mode) (path_of c.args.question.now.path.now) p busy s c.args.node.0 _ (record { child = c.args.child; below = below_of c.args.below }) _ _ e (sym c.in-Some.ensures.edge) c.in-None-one_below.ensures.below l met) c.verdict_edge.ensures.meets
+
+pub verdict::verdict_child-returns-in-Some-one_below-clause-meets : goal.verdict::verdict_child-returns-in-Some-one_below-clause-meets
+verdict::verdict_child-returns-in-Some-one_below-clause-meets g t c =
+    let ns = numbered g.K.Validate.shape c.args.engine.now.nodes.now in
+    let w = settling (g.M.Matcher.matching c.args.engine.now.matcher.now) c.args.context.now.remembered.assumptions in
+    let p = steps_to c.args.question.now.place.now in
+    let s = subject_of c.args.question.now.instance in
+    let busy = busy_at p c.args.context.now.in_progress in
+    let e = edge_of c.in-Some.edge.now in
+    let k = c.requires.children c.args.child e (sym c.in-Some.ensures.edge) in
+    let step = step_of c.in-Some-one_below.step in
+    let es = c.args.context.now.in_progress in
+    let inner = subject_of c.in-Some-one_below.inner in
+    let none : busy_at (steps_to c.below-lower.result) es ≡ [] = ap (λ q. busy_at q es) c.below-lower.ensures.below ∙ busy-below p step es c.requires.may.above in
+    let l = falls_below g.K.Validate.words g.K.Validate.is_whole ns (length c.args.engine.now.nodes.now) w c.requires.may.ranked c.args.node.0 s inner step busy e c.requires.may.known k c.in-Some-one_below.ensures.below.1 in
+    if_ok_mono c.verdict_edge-in-Some-one_below.result _ _ (λ b says.
+    let met = subst (λ busy'. EdgeMeets g.K.Validate.words g.K.Validate.is_whole ns (length c.args.engine.now.nodes.now) w (mode_of c.args.question.now.mode) (path_of c.args.question.now.path.now) (steps_to c.below-lower.result) busy' inner c.args.context.now.remembered c.verdict_edge-in-Some-one_below.new.context.remembered e) none says in
+    meets_below g.K.Validate.words g.K.Validate.is_whole ns (length c.args.engine.now.nodes.now) w (mode_of c.args.question.now.mode) (path_of c.args.question.now.path.now) p busy s c.args.node.0 _ (record { child = c.args.child; below = below_of c.args.below }) _ _ e step (steps_to c.below-lower.result) inner (sym c.in-Some.ensures.edge) c.in-Some-one_below.ensures.below.0
+    c.below-lower.ensures.below c.in-Some-one_below.ensures.below.1 l met) c.verdict_edge-in-Some-one_below.ensures.meets
+
+pub verdict::verdict_child-returns-in-None-one_below-clause-quiet : goal.verdict::verdict_child-returns-in-None-one_below-clause-quiet
+verdict::verdict_child-returns-in-None-one_below-clause-quiet g t c = if_ok_always c.verdict_edge.result _ (λ none. absurd (none c.args.child (edge_of c.in-Some.edge.now) (sym c.in-Some.ensures.edge)))
+
+pub verdict::verdict_child-returns-in-Some-one_below-clause-quiet : goal.verdict::verdict_child-returns-in-Some-one_below-clause-quiet
+verdict::verdict_child-returns-in-Some-one_below-clause-quiet g t c = if_ok_always c.verdict_edge-in-Some-one_below.result _ (λ none. absurd (none c.args.child (edge_of c.in-Some.edge.now) (sym c.in-Some.ensures.edge)))
+
+pub verdict::verdict_form-verdict_edge-requires : goal.verdict::verdict_form-verdict_edge-requires
+verdict::verdict_form-verdict_edge-requires g t c =
+    let ns = numbered g.K.Validate.shape c.args.engine.now.nodes.now in
+    let e = edge_of c.in-Reference.edge in
+    let k = reference_edge ns c.args.node.0 e (rw c.in-Reference.is at c.requires.form) in
+    let l = falls_here g.K.Validate.words g.K.Validate.is_whole ns (length c.args.engine.now.nodes.now) (settling (g.M.Matcher.matching c.args.engine.now.matcher.now) c.args.context.now.remembered.assumptions) c.requires.may.ranked c.args.node.0 (subject_of c.args.question.now.instance) (busy_at (steps_to c.args.question.now.place.now) c.args.context.now.in_progress) e c.requires.may.known k in
+    λ κs h. (lower_across _ _ _ t 5 refl l c.decreases, (h.0, (h.1.0, (h.1.1.0, (h.1.1.1, (record { known = (c.requires.may.ranked c.args.node.0 c.requires.may.known e k).0; ranked = c.requires.may.ranked; above = c.requires.may.above; wanted = c.requires.may.wanted; goes_on = c.requires.may.goes_on }, c.requires.verdict))))))
+
+pub verdict::verdict_form-returns-in_default-clause-says : goal.verdict::verdict_form-returns-in_default-clause-says
+verdict::verdict_form-returns-in_default-clause-says g t c = rw (c.in-Keyword.is, ← c.as_slice.ensures.value) c.verdict_keyword.ensures.says
+
+pub verdict::verdict_form-returns-in_default-clause-meets : goal.verdict::verdict_form-returns-in_default-clause-meets
+verdict::verdict_form-returns-in_default-clause-meets g t c = rw (c.in-Keyword.is, ← c.as_slice.ensures.value) c.verdict_keyword.ensures.meets
+
+pub verdict::verdict_form-returns-in_default-clause-visits : goal.verdict::verdict_form-returns-in_default-clause-visits
+verdict::verdict_form-returns-in_default-clause-visits g t c = rw (c.in-Keyword.is, ← c.as_slice.ensures.value) c.verdict_keyword.ensures.visits
+
+pub verdict::verdict_form-returns-in-Reference-clause-says : goal.verdict::verdict_form-returns-in-Reference-clause-says
+verdict::verdict_form-returns-in-Reference-clause-says g t c =
+    let ns = numbered g.K.Validate.shape c.args.engine.now.nodes.now in
+    let w = settling (g.M.Matcher.matching c.args.engine.now.matcher.now) c.args.context.now.remembered.assumptions in
+    let p = steps_to c.args.question.now.place.now in
+    let s = subject_of c.args.question.now.instance in
+    let busy = busy_at p c.args.context.now.in_progress in
+    let mode = mode_of c.args.question.now.mode in
+    let path = path_of c.args.question.now.path.now in
+    let e = edge_of c.in-Reference.edge in
+    let k = reference_edge ns c.args.node.0 e (rw c.in-Reference.is at c.requires.form) in
+    let l = falls_here g.K.Validate.words g.K.Validate.is_whole ns (length c.args.engine.now.nodes.now) w c.requires.may.ranked c.args.node.0 s busy e c.requires.may.known k in
+    rw c.in-Reference.is (if_ok_mono c.verdict_edge.result _ _ (λ b says.
+    form_reference g.K.Validate.words g.K.Validate.is_whole ns (length c.args.engine.now.nodes.now) w mode path p busy s c.args.node.0 (string_bytes c.args.entry.now.name) e (told.Truth b) (told.Truth b) _ refl l (stamps_verdict _ b) (λ root h. h)
+    (subst (λ path. EdgeReplies g.K.Validate.words g.K.Validate.is_whole ns (length c.args.engine.now.nodes.now) w mode path p busy s e (told.Truth b)) c.under_reference-path.ensures.same says)) c.verdict_edge.ensures.says)
+
+pub verdict::verdict_form-returns-in-Reference-clause-meets : goal.verdict::verdict_form-returns-in-Reference-clause-meets
+verdict::verdict_form-returns-in-Reference-clause-meets g t c =
+    let ns = numbered g.K.Validate.shape c.args.engine.now.nodes.now in
+    let w = settling (g.M.Matcher.matching c.args.engine.now.matcher.now) c.args.context.now.remembered.assumptions in
+    let p = steps_to c.args.question.now.place.now in
+    let s = subject_of c.args.question.now.instance in
+    let busy = busy_at p c.args.context.now.in_progress in
+    let mode = mode_of c.args.question.now.mode in
+    let path = path_of c.args.question.now.path.now in
+    let e = edge_of c.in-Reference.edge in
+    let k = reference_edge ns c.args.node.0 e (rw c.in-Reference.is at c.requires.form) in
+    let l = falls_here g.K.Validate.words g.K.Validate.is_whole ns (length c.args.engine.now.nodes.now) w c.requires.may.ranked c.args.node.0 s busy e c.requires.may.known k in
+    rw c.in-Reference.is (if_ok_mono c.verdict_edge.result _ _ (λ b meets.
+    let met = subst (λ path. EdgeMeets g.K.Validate.words g.K.Validate.is_whole ns (length c.args.engine.now.nodes.now) w mode path p busy s c.args.context.now.remembered c.verdict_edge.new.context.remembered e) c.under_reference-path.ensures.same meets in
+    meets_reference g.K.Validate.words g.K.Validate.is_whole ns (length c.args.engine.now.nodes.now) w mode path p busy s c.args.node.0 (string_bytes c.args.entry.now.name) e _ _ l met) c.verdict_edge.ensures.meets)
+
+pub verdict::verdict_form-returns-in-Reference-clause-visits : goal.verdict::verdict_form-returns-in-Reference-clause-visits
+verdict::verdict_form-returns-in-Reference-clause-visits g t c = rw c.in-Reference.is c.verdict_edge.ensures.visits
+
+pub verdict::verdict_form-returns-in-Reference-clause-remembers : goal.verdict::verdict_form-returns-in-Reference-clause-remembers
+verdict::verdict_form-returns-in-Reference-clause-remembers g t c =
+    let q = asking c.args.question.now in
+    let e = edge_of c.in-Reference.edge in
+    if_ok_mono c.verdict_edge.result _ _ (λ b remembers.
+    let there = subst (λ path. EdgeRemembers (record { subject = q.subject; place = q.place; path = path; mode = q.mode }) c.args.context.now c.verdict_edge.new.context e (told.Truth b)) c.under_reference-path.ensures.same remembers in
+    stamped_remembers q c.args.context.now c.verdict_edge.new.context e _ (told.Truth b) (told.Truth b) None (ap (λ z. shaped_form g.K.Validate.shape (form_of z)) c.in-Reference.is) (stamps_verdict None b) there) c.verdict_edge.ensures.remembers
+
+pub verdict::verdict_form-returns-in-Some-clause-says : goal.verdict::verdict_form-returns-in-Some-clause-says
+verdict::verdict_form-returns-in-Some-clause-says g t c =
+    let ns = numbered g.K.Validate.shape c.args.engine.now.nodes.now in
+    let w = settling (g.M.Matcher.matching c.args.engine.now.matcher.now) c.args.context.now.remembered.assumptions in
+    let p = steps_to c.args.question.now.place.now in
+    let s = subject_of c.args.question.now.instance in
+    let busy = busy_at p c.args.context.now.in_progress in
+    let mode = mode_of c.args.question.now.mode in
+    let path = path_of c.args.question.now.path.now in
+    let m = g.K.Validate.shape c.in-Keyword.keyword in
+    let es = map (option_map edge_of) c.in-Keyword.children.items in
+    let form = rw c.in-Keyword.is at c.requires.form in
+    rw c.in-Keyword.is (keyword_replies mode c.requires.verdict g.K.Validate.words g.K.Validate.is_whole ns (length c.args.engine.now.nodes.now) w path p busy s c.args.node.0 (string_bytes c.args.entry.now.name) m es c.in-Some.valid (λ x reads l.
+    let tells = tells_keyword g.K.Validate.is_whole ns (length c.args.engine.now.nodes.now) w p s x c.args.node.0 m es c.requires.may.known reads form in
+    right_at_once (g.K.Validate.words x.texts) m (g.K.Validate.absorbed m) (g.K.Validate.remaining m) (g.K.Validate.can_be x.texts m) (g.K.Validate.ends x.texts m) (g.K.Validate.fits x.texts m) (g.met.K.Validate.turn_laws x.texts m) s x (child_says g.K.Validate.words ns x path p busy es) (same_edge es) c.in-Some.valid
+    (agrees_answers g.K.Validate.words ns (λ texts m s completion matcher a h. (g.met.K.Validate.function_laws texts m).agree s (matching matcher completion) a h) x path p busy es)
+    (asked_alike (g.K.Validate.words x.texts) x.matcher ns (subject_in x.root) x.completion x.depth path p busy es)
+    (c.in-Some.ensures.at_once x.texts tells)))
+
+pub verdict::verdict_form-returns-in-Some-clause-meets : goal.verdict::verdict_form-returns-in-Some-clause-meets
+verdict::verdict_form-returns-in-Some-clause-meets g t c = rw c.in-Keyword.is (λ texts root depth reads l.
+    let ns = numbered g.K.Validate.shape c.args.engine.now.nodes.now in
+    let w = settling (g.M.Matcher.matching c.args.engine.now.matcher.now) c.args.context.now.remembered.assumptions in
+    let p = steps_to c.args.question.now.place.now in
+    let s = subject_of c.args.question.now.instance in
+    let busy = busy_at p c.args.context.now.in_progress in
+    let mode = mode_of c.args.question.now.mode in
+    let path = path_of c.args.question.now.path.now in
+    let m = g.K.Validate.shape c.in-Keyword.keyword in
+    let es = map (option_map edge_of) c.in-Keyword.children.items in
+    let form = rw c.in-Keyword.is at c.requires.form in
+    let name = string_bytes c.args.entry.now.name in
+    let at_node = node_at (g.K.Validate.words texts) w.matcher ns (subject_in root) c.args.node.0 path p in
+    let runs = child_run g.K.Validate.words ns w texts root depth path p busy es in
+    let tells = tells_keyword g.K.Validate.is_whole ns (length c.args.engine.now.nodes.now) w p s (reading w texts root depth) c.args.node.0 m es c.requires.may.known reads form in
+    let all = meets_at_once (g.K.Validate.words texts) w.matcher w.assumptions at_node s runs (same_edge es) name m (g.K.Validate.remaining m s) c.args.context.now.remembered c.in-Some.valid (c.in-Some.ensures.at_once texts tells) ((g.met.K.Validate.turn_laws texts m).bounded s for_verdict) in
+    meets_same w.matcher _ _ _ _ (ap (keyword_met (g.K.Validate.words texts) w.matcher w.assumptions at_node s runs (same_edge es) name m) (sym c.requires.verdict)
+    ∙ ap (λ v. keyword_met (g.K.Validate.words texts) w.matcher w.assumptions at_node v runs (same_edge es) name m mode) (sym (stands_in root p s reads.stands))) all)
+
+pub verdict::verdict_form-returns-in-Some-clause-visits : goal.verdict::verdict_form-returns-in-Some-clause-visits
+verdict::verdict_form-returns-in-Some-clause-visits g t c = rw c.in-Keyword.is (keyword_counts (numbered g.K.Validate.shape c.args.engine.now.nodes.now) (asking c.args.question.now) c.args.context.now c.args.context.now (g.K.Validate.shape c.in-Keyword.keyword) (map (option_map edge_of) c.in-Keyword.children.items) (λ none. refl))
+
+pub verdict::verdict_keyword-keyword_answer-requires : goal.verdict::verdict_keyword-keyword_answer-requires
+verdict::verdict_keyword-keyword_answer-requires g t c =
+    λ κs h. (lower_same _ _ t 5 0 refl c.decreases, (h.0, (h.1.0, (h.1.1.0, (h.1.1.1, (record { known = c.requires.may.known; ranked = c.requires.may.ranked; above = c.requires.may.above; goes_on = c.requires.may.goes_on }, c.requires.form))))))
+
+pub verdict::verdict_keyword-returns-clause-says : goal.verdict::verdict_keyword-returns-clause-says
+verdict::verdict_keyword-returns-clause-says g t c =
+    let ns = numbered g.K.Validate.shape c.args.engine.now.nodes.now in
+    let w = settling (g.M.Matcher.matching c.args.engine.now.matcher.now) c.args.context.now.remembered.assumptions in
+    let p = steps_to c.args.question.now.place.now in
+    let s = subject_of c.args.question.now.instance in
+    let busy = busy_at p c.args.context.now.in_progress in
+    let mode = mode_of c.args.question.now.mode in
+    let path = path_of c.args.question.now.path.now in
+    let m = g.K.Validate.shape c.args.keyword.now.keyword.now in
+    let es = map (option_map edge_of) c.args.keyword.now.children.now in
+    keyword_replies mode c.requires.verdict g.K.Validate.words g.K.Validate.is_whole ns (length c.args.engine.now.nodes.now) w path p busy s c.args.node.0 (string_bytes c.args.keyword.now.name.now) m es c.is_accepting.result (λ x reads l.
+    let answers = child_says g.K.Validate.words ns x path p busy es in
+    let units = child_unit g.K.Validate.words ns x path p busy es in
+    c.is_accepting.ensures.verdict x.texts ∙ subst (λ z. IsRight (g.K.Validate.words x.texts) m s (matching x.matcher x.completion) answers units (same_edge es) z (answer_of x.texts c.in_ok-answer.answer)) c.requires.verdict (c.in_ok-answer.ensures.right x reads l))
+
+pub verdict::verdict_keyword-returns-clause-visits : goal.verdict::verdict_keyword-returns-clause-visits
+verdict::verdict_keyword-returns-clause-visits g t c =
+    keyword_counts (numbered g.K.Validate.shape c.args.engine.now.nodes.now) (asking c.args.question.now) c.args.context.now c.keyword_answer.new.context (g.K.Validate.shape c.args.keyword.now.keyword.now) (map (option_map edge_of) c.args.keyword.now.children.now) c.in_ok-answer.ensures.quiet
+
+pub verdict::verdict_node-verdict_entries-requires : goal.verdict::verdict_node-verdict_entries-requires
+verdict::verdict_node-verdict_entries-requires g t c =
+    let plan = plan_is g.K.Validate.shape c.args.engine.now.nodes.now c.args.node.0 (node_of c.node.result.now) _ c.node.ensures.found (ap (option_map plan_of) c.in-Some.is ∙ ap (λ f. Some (plan_of f)) c.in-Keywords.is) in
+    λ κs h. (lower_same _ _ t 9 0 refl c.decreases, (h.0, (h.1.0, (h.1.1.0, (h.1.1.1, (c.requires.may, (c.requires.verdict, rw c.as_slice.ensures.value (_, plan, λ y k. k))))))))
+
+pub verdict::verdict_node-returns-in-None-clause-says : goal.verdict::verdict_node-returns-in-None-clause-says
+verdict::verdict_node-returns-in-None-clause-says g t c =
+    let ns = numbered g.K.Validate.shape c.args.engine.now.nodes.now in
+    let w = settling (g.M.Matcher.matching c.args.engine.now.matcher.now) c.args.context.now.remembered.assumptions in
+    let p = steps_to c.args.question.now.place.now in
+    let s = subject_of c.args.question.now.instance in
+    let busy = busy_at p c.args.context.now.in_progress in
+    let mode = mode_of c.args.question.now.mode in
+    let path = path_of c.args.question.now.path.now in
+    let plan = plan_none g.K.Validate.shape c.args.engine.now.nodes.now c.args.node.0 (node_of c.node.result.now) c.node.ensures.found (ap (option_map plan_of) c.in-None.is) in
+    node_by_plan g.K.Validate.words g.K.Validate.is_whole ns (length c.args.engine.now.nodes.now) w mode path p busy s c.args.node.0 (told.Truth true) node_always plan (λ x reads l. verdict_replies mode c.requires.verdict x true _ refl)
+
+pub verdict::verdict_node-returns-in-None-clause-meets : goal.verdict::verdict_node-returns-in-None-clause-meets
+verdict::verdict_node-returns-in-None-clause-meets g t c =
+    let ns = numbered g.K.Validate.shape c.args.engine.now.nodes.now in
+    let w = settling (g.M.Matcher.matching c.args.engine.now.matcher.now) c.args.context.now.remembered.assumptions in
+    let p = steps_to c.args.question.now.place.now in
+    let s = subject_of c.args.question.now.instance in
+    let busy = busy_at p c.args.context.now.in_progress in
+    let mode = mode_of c.args.question.now.mode in
+    let path = path_of c.args.question.now.path.now in
+    let plan = plan_none g.K.Validate.shape c.args.engine.now.nodes.now c.args.node.0 (node_of c.node.result.now) c.node.ensures.found (ap (option_map plan_of) c.in-None.is) in
+    meets_by_plan g.K.Validate.words g.K.Validate.is_whole ns (length c.args.engine.now.nodes.now) w mode path p busy s c.args.node.0 _ _ node_always plan (λ texts root depth reads l. refl)
+
+pub verdict::verdict_node-returns-in-None-clause-visits : goal.verdict::verdict_node-returns-in-None-clause-visits
+verdict::verdict_node-returns-in-None-clause-visits g t c =
+    let plan = plan_none g.K.Validate.shape c.args.engine.now.nodes.now c.args.node.0 (node_of c.node.result.now) c.node.ensures.found (ap (option_map plan_of) c.in-None.is) in
+    always_counts (numbered g.K.Validate.shape c.args.engine.now.nodes.now) (asking c.args.question.now) c.args.context.now c.args.context.now c.args.node.0 plan refl
+
+pub verdict::verdict_node-returns-in-Always-clause-says : goal.verdict::verdict_node-returns-in-Always-clause-says
+verdict::verdict_node-returns-in-Always-clause-says g t c =
+    let ns = numbered g.K.Validate.shape c.args.engine.now.nodes.now in
+    let w = settling (g.M.Matcher.matching c.args.engine.now.matcher.now) c.args.context.now.remembered.assumptions in
+    let p = steps_to c.args.question.now.place.now in
+    let s = subject_of c.args.question.now.instance in
+    let busy = busy_at p c.args.context.now.in_progress in
+    let mode = mode_of c.args.question.now.mode in
+    let path = path_of c.args.question.now.path.now in
+    let plan = plan_is g.K.Validate.shape c.args.engine.now.nodes.now c.args.node.0 (node_of c.node.result.now) _ c.node.ensures.found (ap (option_map plan_of) c.in-Some.is ∙ ap (λ f. Some (plan_of f)) c.in-Always.is) in
+    node_by_plan g.K.Validate.words g.K.Validate.is_whole ns (length c.args.engine.now.nodes.now) w mode path p busy s c.args.node.0 (told.Truth true) node_always plan (λ x reads l. verdict_replies mode c.requires.verdict x true _ refl)
+
+pub verdict::verdict_node-returns-in-Always-clause-meets : goal.verdict::verdict_node-returns-in-Always-clause-meets
+verdict::verdict_node-returns-in-Always-clause-meets g t c =
+    let ns = numbered g.K.Validate.shape c.args.engine.now.nodes.now in
+    let w = settling (g.M.Matcher.matching c.args.engine.now.matcher.now) c.args.context.now.remembered.assumptions in
+    let p = steps_to c.args.question.now.place.now in
+    let s = subject_of c.args.question.now.instance in
+    let busy = busy_at p c.args.context.now.in_progress in
+    let mode = mode_of c.args.question.now.mode in
+    let path = path_of c.args.question.now.path.now in
+    let plan = plan_is g.K.Validate.shape c.args.engine.now.nodes.now c.args.node.0 (node_of c.node.result.now) _ c.node.ensures.found (ap (option_map plan_of) c.in-Some.is ∙ ap (λ f. Some (plan_of f)) c.in-Always.is) in
+    meets_by_plan g.K.Validate.words g.K.Validate.is_whole ns (length c.args.engine.now.nodes.now) w mode path p busy s c.args.node.0 _ _ node_always plan (λ texts root depth reads l. refl)
+
+pub verdict::verdict_node-returns-in-Always-clause-visits : goal.verdict::verdict_node-returns-in-Always-clause-visits
+verdict::verdict_node-returns-in-Always-clause-visits g t c =
+    let plan = plan_is g.K.Validate.shape c.args.engine.now.nodes.now c.args.node.0 (node_of c.node.result.now) _ c.node.ensures.found (ap (option_map plan_of) c.in-Some.is ∙ ap (λ f. Some (plan_of f)) c.in-Always.is) in
+    always_counts (numbered g.K.Validate.shape c.args.engine.now.nodes.now) (asking c.args.question.now) c.args.context.now c.args.context.now c.args.node.0 plan refl
+
+pub verdict::verdict_node-returns-in-Never-clause-says : goal.verdict::verdict_node-returns-in-Never-clause-says
+verdict::verdict_node-returns-in-Never-clause-says g t c =
+    let ns = numbered g.K.Validate.shape c.args.engine.now.nodes.now in
+    let w = settling (g.M.Matcher.matching c.args.engine.now.matcher.now) c.args.context.now.remembered.assumptions in
+    let p = steps_to c.args.question.now.place.now in
+    let s = subject_of c.args.question.now.instance in
+    let busy = busy_at p c.args.context.now.in_progress in
+    let mode = mode_of c.args.question.now.mode in
+    let path = path_of c.args.question.now.path.now in
+    let plan = plan_is g.K.Validate.shape c.args.engine.now.nodes.now c.args.node.0 (node_of c.node.result.now) _ c.node.ensures.found (ap (option_map plan_of) c.in-Some.is ∙ ap (λ f. Some (plan_of f)) c.in-Never.is) in
+    node_by_plan g.K.Validate.words g.K.Validate.is_whole ns (length c.args.engine.now.nodes.now) w mode path p busy s c.args.node.0 (told.Truth false) node_never plan (λ x reads l. verdict_replies mode c.requires.verdict x false _ refl)
+
+pub verdict::verdict_node-returns-in-Never-clause-meets : goal.verdict::verdict_node-returns-in-Never-clause-meets
+verdict::verdict_node-returns-in-Never-clause-meets g t c =
+    let ns = numbered g.K.Validate.shape c.args.engine.now.nodes.now in
+    let w = settling (g.M.Matcher.matching c.args.engine.now.matcher.now) c.args.context.now.remembered.assumptions in
+    let p = steps_to c.args.question.now.place.now in
+    let s = subject_of c.args.question.now.instance in
+    let busy = busy_at p c.args.context.now.in_progress in
+    let mode = mode_of c.args.question.now.mode in
+    let path = path_of c.args.question.now.path.now in
+    let plan = plan_is g.K.Validate.shape c.args.engine.now.nodes.now c.args.node.0 (node_of c.node.result.now) _ c.node.ensures.found (ap (option_map plan_of) c.in-Some.is ∙ ap (λ f. Some (plan_of f)) c.in-Never.is) in
+    meets_by_plan g.K.Validate.words g.K.Validate.is_whole ns (length c.args.engine.now.nodes.now) w mode path p busy s c.args.node.0 _ _ node_never plan (λ texts root depth reads l. refl)
+
+pub verdict::verdict_node-returns-in-Never-clause-visits : goal.verdict::verdict_node-returns-in-Never-clause-visits
+verdict::verdict_node-returns-in-Never-clause-visits g t c =
+    let plan = plan_is g.K.Validate.shape c.args.engine.now.nodes.now c.args.node.0 (node_of c.node.result.now) _ c.node.ensures.found (ap (option_map plan_of) c.in-Some.is ∙ ap (λ f. Some (plan_of f)) c.in-Never.is) in
+    never_counts (numbered g.K.Validate.shape c.args.engine.now.nodes.now) (asking c.args.question.now) c.args.context.now c.args.context.now c.args.node.0 plan refl
+
+pub verdict::verdict_node-returns-in-Keywords-clause-says : goal.verdict::verdict_node-returns-in-Keywords-clause-says
+verdict::verdict_node-returns-in-Keywords-clause-says g t c =
+    let ns = numbered g.K.Validate.shape c.args.engine.now.nodes.now in
+    let p = steps_to c.args.question.now.place.now in
+    let plan = plan_is g.K.Validate.shape c.args.engine.now.nodes.now c.args.node.0 (node_of c.node.result.now) _ c.node.ensures.found (ap (option_map plan_of) c.in-Some.is ∙ ap (λ f. Some (plan_of f)) c.in-Keywords.is) in
+    if_ok_mono c.verdict_entries.result _ _ (λ b says. node_by_plan g.K.Validate.words g.K.Validate.is_whole ns (length c.args.engine.now.nodes.now) (settling (g.M.Matcher.matching c.args.engine.now.matcher.now) c.args.context.now.remembered.assumptions) (mode_of c.args.question.now.mode) (path_of c.args.question.now.path.now) p (busy_at p c.args.context.now.in_progress) (subject_of c.args.question.now.instance) c.args.node.0 (told.Truth b) _ plan says)
+    (rw c.as_slice.ensures.value at c.verdict_entries.ensures.says)
+
+pub verdict::verdict_node-returns-in-Keywords-clause-meets : goal.verdict::verdict_node-returns-in-Keywords-clause-meets
+verdict::verdict_node-returns-in-Keywords-clause-meets g t c =
+    let ns = numbered g.K.Validate.shape c.args.engine.now.nodes.now in
+    let w = settling (g.M.Matcher.matching c.args.engine.now.matcher.now) c.args.context.now.remembered.assumptions in
+    let p = steps_to c.args.question.now.place.now in
+    let s = subject_of c.args.question.now.instance in
+    let busy = busy_at p c.args.context.now.in_progress in
+    let plan = plan_is g.K.Validate.shape c.args.engine.now.nodes.now c.args.node.0 (node_of c.node.result.now) _ c.node.ensures.found (ap (option_map plan_of) c.in-Some.is ∙ ap (λ f. Some (plan_of f)) c.in-Keywords.is) in
+    if_ok_mono c.verdict_entries.result _ _ (λ b met. meets_these g.K.Validate.words g.K.Validate.is_whole ns (length c.args.engine.now.nodes.now) w (mode_of c.args.question.now.mode) (path_of c.args.question.now.path.now) p busy s c.args.node.0 _ _ _ plan met) (rw c.as_slice.ensures.value at c.verdict_entries.ensures.meets)
+
+pub verdict::verdict_node-returns-in-Keywords-clause-visits : goal.verdict::verdict_node-returns-in-Keywords-clause-visits
+verdict::verdict_node-returns-in-Keywords-clause-visits g t c =
+    let plan = plan_is g.K.Validate.shape c.args.engine.now.nodes.now c.args.node.0 (node_of c.node.result.now) _ c.node.ensures.found (ap (option_map plan_of) c.in-Some.is ∙ ap (λ f. Some (plan_of f)) c.in-Keywords.is) in
+    if_ok_mono c.verdict_entries.result _ _ (λ b counts. planned_counts (numbered g.K.Validate.shape c.args.engine.now.nodes.now) (asking c.args.question.now) c.args.context.now c.verdict_entries.new.context c.args.node.0 _ plan counts) (rw c.as_slice.ensures.value at c.verdict_entries.ensures.visits)
+
+pub verdict::verdict_node-returns-in-Keywords-clause-remembers : goal.verdict::verdict_node-returns-in-Keywords-clause-remembers
+verdict::verdict_node-returns-in-Keywords-clause-remembers g t c =
+    let plan = plan_is g.K.Validate.shape c.args.engine.now.nodes.now c.args.node.0 (node_of c.node.result.now) _ c.node.ensures.found (ap (option_map plan_of) c.in-Some.is ∙ ap (λ f. Some (plan_of f)) c.in-Keywords.is) in
+    if_ok_mono c.verdict_entries.result _ _ (λ b remembers. planned_remembers (asking c.args.question.now) c.args.context.now c.verdict_entries.new.context (numbered g.K.Validate.shape c.args.engine.now.nodes.now) c.args.node.0 _ (told.Truth b) plan remembers) (rw c.as_slice.ensures.value at c.verdict_entries.ensures.remembers)
+
+pub verdict::verdict_entries-loop-entry-init : goal.verdict::verdict_entries-loop-entry-init
+verdict::verdict_entries-loop-entry-init g t c = record {
+  stays = λ layout laid right. right;
+  first = λ e. refl;
+  remembers = λ l. absurd (omega (arith, l));
+  visited = λ l. absurd (omega (arith, l));
+  marking = refl;
+  kept = refl;
+  assumes = refl;
+  met = λ texts root depth reads l. ([], refl, refl);
+  so_far = λ x reads l. start_entries g.K.Validate.words g.K.Validate.is_whole (numbered g.K.Validate.shape c.args.engine.now.nodes.now) (length c.args.engine.now.nodes.now) (settling (g.M.Matcher.matching c.args.engine.now.matcher.now) c.args.context.now.remembered.assumptions) (mode_of c.args.question.now.mode) x (told.Truth true) _ (yes_says (mode_of c.args.question.now.mode) c.requires.verdict) refl;
+  counted = as_many c.args.context.now.visits c.args.context.now.visits refl;
+}
+
+pub verdict::verdict_entries-verdict_form-requires : goal.verdict::verdict_entries-verdict_form-requires
+verdict::verdict_entries-verdict_form-requires g t c =
+    let ns = numbered g.K.Validate.shape c.args.engine.now.nodes.now in
+    let p = steps_to c.args.question.now.place.now in
+    let kept = c.loop-entry.invariant.kept in
+    let l = ap (λ es. left ns (length c.args.engine.now.nodes.now) c.args.node.0 (subject_of c.args.question.now.instance) (busy_at p es)) kept in
+    let here = part_at entry_of (shaped_part g.K.Validate.shape) c.args.entries.now c.loop-entry.entry-index c.entry-item.result c.loop-entry-test.true c.entry-item.is in
+    λ κs h. (lower_same _ _ t 7 1 l c.decreases, (h.0, (h.1.0, (h.1.1.0, (h.1.1.1, (record { known = c.requires.may.known; ranked = c.requires.may.ranked; above = subst (NoDeeper p) (sym kept) c.requires.may.above; wanted = c.requires.may.wanted; goes_on = (c.requires.may.goes_on.0, c.requires.may.goes_on.1, c.loop-entry.invariant.stays c.requires.may.goes_on.0 c.requires.may.goes_on.1 c.requires.may.goes_on.2) }, (c.requires.verdict, (c.requires.parts.0, c.requires.parts.1, shaped_part g.K.Validate.shape (entry_of c.entry-item.result), c.requires.parts.2 _ here, refl))))))))
+
+pub verdict::verdict_entries-loop-entry-preserved : goal.verdict::verdict_entries-loop-entry-preserved
+verdict::verdict_entries-loop-entry-preserved g t c = record {
+  stays = λ layout laid right. c.in_ok-valid.ensures.stays layout laid (c.loop-entry.invariant.stays layout laid right);
+  first = λ e. absurd (omega (arith, e));
+  remembers = λ l. alone_remembers (asking c.args.question.now) entry_of (shaped_part g.K.Validate.shape) c.args.entries.now c.loop-entry.entry-index c.entry-item.result c.loop-entry-test.true c.entry-item.is c.args.context.now c.loop-entry.context c.verdict_form.new.context (told.Truth true) (told.Truth true) (told.Truth true) (λ e. (c.loop-entry.invariant.first e, yes_says (mode_of c.args.question.now.mode) c.requires.verdict)) (joins_verdict true) (subst (λ v. FormRemembers (asking c.args.question.now) c.loop-entry.context c.verdict_form.new.context (shaped_form g.K.Validate.shape (form_of c.entry-item.result.form)) (told.Truth v)) c.if-not-valid.false c.in_ok-valid.ensures.remembers);
+  visited = λ l. next_counts (numbered g.K.Validate.shape c.args.engine.now.nodes.now) (asking c.args.question.now) entry_of (shaped_part g.K.Validate.shape) c.args.entries.now c.loop-entry.entry-index c.entry-item.result c.loop-entry-test.true c.entry-item.is c.args.context.now c.loop-entry.context c.verdict_form.new.context c.loop-entry.invariant.first c.loop-entry.invariant.visited c.in_ok-valid.ensures.visits;
+  kept = c.in_ok-valid.ensures.keeps.in_progress ∙ c.loop-entry.invariant.kept;
+  assumes = c.in_ok-valid.ensures.keeps.assumptions ∙ c.loop-entry.invariant.assumes;
+  marking = c.in_ok-valid.ensures.keeps.marking ∙ c.loop-entry.invariant.marking;
+  counted = no_fewer c.args.context.now.visits c.loop-entry.context.visits c.verdict_form.new.context.visits c.loop-entry.invariant.counted c.in_ok-valid.ensures.counts;
+  met = λ texts root depth reads l.
+      let ns = numbered g.K.Validate.shape c.args.engine.now.nodes.now in
+      let w = settling (g.M.Matcher.matching c.args.engine.now.matcher.now) c.args.context.now.remembered.assumptions in
+      let p = steps_to c.args.question.now.place.now in
+      let busy = busy_at p c.args.context.now.in_progress in
+      let mode = mode_of c.args.question.now.mode in
+      let part = shaped_part g.K.Validate.shape (entry_of c.entry-item.result) in
+      let looked = λ (es : List (Entry g.row.K.Denot)). parts_looked g.K.Validate.words ns w texts root depth c.args.node.0 (path_of c.args.question.now.path.now) p busy (map (shaped_part g.K.Validate.shape) (map entry_of es)) in
+      let here = meets_same w.matcher _ _ _ _ (other_entry mode (part_looked g.K.Validate.words ns w texts root depth c.args.node.0 (path_of c.args.question.now.path.now) p busy part) (λ no less. absurd (no c.requires.verdict))) (moved (λ es as'. FormMeets g.K.Validate.words g.K.Validate.is_whole ns (length c.args.engine.now.nodes.now) (settling (g.M.Matcher.matching c.args.engine.now.matcher.now) as') mode (path_of c.args.question.now.path.now) p (busy_at p es) (subject_of c.args.question.now.instance) c.loop-entry.context.remembered c.verdict_form.new.context.remembered c.args.node.0 part.name part.form) c.loop-entry.invariant.kept c.loop-entry.invariant.assumes c.in_ok-valid.ensures.meets texts root depth reads l) in
+      let says = (rw (c.loop-entry.invariant.kept, c.loop-entry.invariant.assumes) at (subst (λ v. FormSays (setting g.K.Validate.words g.K.Validate.is_whole g.K.Validate.shape g.M.Matcher.matching c.args.engine.now) (asking c.args.question.now) c.loop-entry.context c.args.node.0 (string_bytes c.entry-item.result.name) (shaped_form g.K.Validate.shape (form_of c.entry-item.result.form)) (told.Truth v)) c.if-not-valid.false c.in_ok-valid.ensures.says)) (reading w texts root depth) reads l in
+      let so_far = c.loop-entry.invariant.so_far (reading w texts root depth) reads l in
+      let met = c.loop-entry.invariant.met texts root depth reads l in
+      let split = ap (λ es. plan_met mode (looked es)) (drop_at c.args.entries.now c.loop-entry.entry-index c.entry-item.result c.loop-entry-test.true c.entry-item.is) in
+      let agrees = agrees_says g.K.Validate.words ns (λ texts m s completion matcher a h. (g.met.K.Validate.function_laws texts m).agree s (matching matcher completion) a h) (reading w texts root depth) c.args.node.0 (path_of c.args.question.now.path.now) p busy part.name part.form in
+      let last = stops_at g.K.Validate.words ns w texts root depth mode c.args.node.0 (path_of c.args.question.now.path.now) p busy part (told.Truth true) (told.Truth true) (told.Truth true) so_far.0 _ agrees so_far.1 says (joins_verdict true) refl refl in
+      next_met w.matcher mode (part_looked g.K.Validate.words ns w texts root depth c.args.node.0 (path_of c.args.question.now.path.now) p busy part) (looked (drop (c.loop-entry.entry-index + 1) c.args.entries.now)) _ _ met.0 _ _ _ met.1 here met.2 split last;
+  so_far = λ x reads l.
+      let ns = numbered g.K.Validate.shape c.args.engine.now.nodes.now in
+      let p = steps_to c.args.question.now.place.now in
+      let parts = λ (es : List (Entry g.row.K.Denot)). parts_say g.K.Validate.words ns x c.args.node.0 (path_of c.args.question.now.path.now) p (busy_at p c.args.context.now.in_progress) (map (shaped_part g.K.Validate.shape) (map entry_of es)) in
+      let says = (rw (c.loop-entry.invariant.kept, c.loop-entry.invariant.assumes) at (subst (λ v. FormSays (setting g.K.Validate.words g.K.Validate.is_whole g.K.Validate.shape g.M.Matcher.matching c.args.engine.now) (asking c.args.question.now) c.loop-entry.context c.args.node.0 (string_bytes c.entry-item.result.name) (shaped_form g.K.Validate.shape (form_of c.entry-item.result.form)) (told.Truth v)) c.if-not-valid.false c.in_ok-valid.ensures.says)) x reads l in
+      let split = ap parts (drop_at c.args.entries.now c.loop-entry.entry-index c.entry-item.result c.loop-entry-test.true c.entry-item.is) in
+      one_entry g.K.Validate.words g.K.Validate.is_whole ns (length c.args.engine.now.nodes.now) (settling (g.M.Matcher.matching c.args.engine.now.matcher.now) c.args.context.now.remembered.assumptions) (mode_of c.args.question.now.mode) x (told.Truth true) (told.Truth true) (told.Truth true) _ _ (parts (drop (c.loop-entry.entry-index + 1) c.args.entries.now)) _ split
+      (joins_verdict true) (λ root h k. k) says (c.loop-entry.invariant.so_far x reads l);
+}
+
+pub verdict::verdict_entries-returns-then-not-valid-clause-says : goal.verdict::verdict_entries-returns-then-not-valid-clause-says
+verdict::verdict_entries-returns-then-not-valid-clause-says g t c = λ x reads l.
+    let ns = numbered g.K.Validate.shape c.args.engine.now.nodes.now in
+    let p = steps_to c.args.question.now.place.now in
+    let parts = λ (es : List (Entry g.row.K.Denot)). parts_say g.K.Validate.words ns x c.args.node.0 (path_of c.args.question.now.path.now) p (busy_at p c.args.context.now.in_progress) (map (shaped_part g.K.Validate.shape) (map entry_of es)) in
+    let says = (rw (c.loop-entry.invariant.kept, c.loop-entry.invariant.assumes) at (subst (λ v. FormSays (setting g.K.Validate.words g.K.Validate.is_whole g.K.Validate.shape g.M.Matcher.matching c.args.engine.now) (asking c.args.question.now) c.loop-entry.context c.args.node.0 (string_bytes c.entry-item.result.name) (shaped_form g.K.Validate.shape (form_of c.entry-item.result.form)) (told.Truth v)) c.if-not-valid.true c.in_ok-valid.ensures.says)) x reads l in
+    let split = ap parts (drop_at c.args.entries.now c.loop-entry.entry-index c.entry-item.result c.loop-entry-test.true c.entry-item.is) in
+    let next = one_entry g.K.Validate.words g.K.Validate.is_whole ns (length c.args.engine.now.nodes.now) (settling (g.M.Matcher.matching c.args.engine.now.matcher.now) c.args.context.now.remembered.assumptions) (mode_of c.args.question.now.mode) x (told.Truth true) (told.Truth false) (told.Truth false) _ _ (parts (drop (c.loop-entry.entry-index + 1) c.args.entries.now)) _ split
+    (joins_verdict false) (λ root h k. k) says (c.loop-entry.invariant.so_far x reads l) in
+    settled_entries g.K.Validate.words g.K.Validate.is_whole ns (length c.args.engine.now.nodes.now) (settling (g.M.Matcher.matching c.args.engine.now.matcher.now) c.args.context.now.remembered.assumptions) (mode_of c.args.question.now.mode) x (told.Truth false) _ _ refl next
+
+pub verdict::verdict_entries-returns-then-not-valid-clause-meets : goal.verdict::verdict_entries-returns-then-not-valid-clause-meets
+verdict::verdict_entries-returns-then-not-valid-clause-meets g t c = λ texts root depth reads l.
+    let ns = numbered g.K.Validate.shape c.args.engine.now.nodes.now in
+    let w = settling (g.M.Matcher.matching c.args.engine.now.matcher.now) c.args.context.now.remembered.assumptions in
+    let p = steps_to c.args.question.now.place.now in
+    let busy = busy_at p c.args.context.now.in_progress in
+    let mode = mode_of c.args.question.now.mode in
+    let part = shaped_part g.K.Validate.shape (entry_of c.entry-item.result) in
+    let looked = λ (es : List (Entry g.row.K.Denot)). parts_looked g.K.Validate.words ns w texts root depth c.args.node.0 (path_of c.args.question.now.path.now) p busy (map (shaped_part g.K.Validate.shape) (map entry_of es)) in
+    let here = meets_same w.matcher _ _ _ _ (other_entry mode (part_looked g.K.Validate.words ns w texts root depth c.args.node.0 (path_of c.args.question.now.path.now) p busy part) (λ no less. absurd (no c.requires.verdict))) (moved (λ es as'. FormMeets g.K.Validate.words g.K.Validate.is_whole ns (length c.args.engine.now.nodes.now) (settling (g.M.Matcher.matching c.args.engine.now.matcher.now) as') mode (path_of c.args.question.now.path.now) p (busy_at p es) (subject_of c.args.question.now.instance) c.loop-entry.context.remembered c.verdict_form.new.context.remembered c.args.node.0 part.name part.form) c.loop-entry.invariant.kept c.loop-entry.invariant.assumes c.in_ok-valid.ensures.meets texts root depth reads l) in
+    let says = (rw (c.loop-entry.invariant.kept, c.loop-entry.invariant.assumes) at (subst (λ v. FormSays (setting g.K.Validate.words g.K.Validate.is_whole g.K.Validate.shape g.M.Matcher.matching c.args.engine.now) (asking c.args.question.now) c.loop-entry.context c.args.node.0 (string_bytes c.entry-item.result.name) (shaped_form g.K.Validate.shape (form_of c.entry-item.result.form)) (told.Truth v)) c.if-not-valid.true c.in_ok-valid.ensures.says)) (reading w texts root depth) reads l in
+    let so_far = c.loop-entry.invariant.so_far (reading w texts root depth) reads l in
+    let met = c.loop-entry.invariant.met texts root depth reads l in
+    let split = ap (λ es. plan_met mode (looked es)) (drop_at c.args.entries.now c.loop-entry.entry-index c.entry-item.result c.loop-entry-test.true c.entry-item.is) in
+    let agrees = agrees_says g.K.Validate.words ns (λ texts m s completion matcher a h. (g.met.K.Validate.function_laws texts m).agree s (matching matcher completion) a h) (reading w texts root depth) c.args.node.0 (path_of c.args.question.now.path.now) p busy part.name part.form in
+    let last = stops_at g.K.Validate.words ns w texts root depth mode c.args.node.0 (path_of c.args.question.now.path.now) p busy part (told.Truth true) (told.Truth false) (told.Truth false) so_far.0 _ agrees so_far.1 says (joins_verdict false) refl refl in
+    last_met w.matcher mode (part_looked g.K.Validate.words ns w texts root depth c.args.node.0 (path_of c.args.question.now.path.now) p busy part) (looked (drop (c.loop-entry.entry-index + 1) c.args.entries.now)) _ _ met.0 _ _ _ met.1 here met.2 split last
+
+pub verdict::verdict_entries-returns-then-not-valid-clause-counts : goal.verdict::verdict_entries-returns-then-not-valid-clause-counts
+verdict::verdict_entries-returns-then-not-valid-clause-counts g t c = no_fewer c.args.context.now.visits c.loop-entry.context.visits c.verdict_form.new.context.visits c.loop-entry.invariant.counted c.in_ok-valid.ensures.counts
+
+pub verdict::verdict_entries-returns-then-not-valid-clause-stays : goal.verdict::verdict_entries-returns-then-not-valid-clause-stays
+verdict::verdict_entries-returns-then-not-valid-clause-stays g t c = λ layout laid right. c.in_ok-valid.ensures.stays layout laid (c.loop-entry.invariant.stays layout laid right)
+
+pub verdict::verdict_entries-returns-then-not-valid-clause-remembers : goal.verdict::verdict_entries-returns-then-not-valid-clause-remembers
+verdict::verdict_entries-returns-then-not-valid-clause-remembers g t c =
+    alone_remembers (asking c.args.question.now) entry_of (shaped_part g.K.Validate.shape) c.args.entries.now c.loop-entry.entry-index c.entry-item.result c.loop-entry-test.true c.entry-item.is c.args.context.now c.loop-entry.context c.verdict_form.new.context (told.Truth true) (told.Truth false) (told.Truth false) (λ e. (c.loop-entry.invariant.first e, yes_says (mode_of c.args.question.now.mode) c.requires.verdict)) (joins_verdict false) (subst (λ v. FormRemembers (asking c.args.question.now) c.loop-entry.context c.verdict_form.new.context (shaped_form g.K.Validate.shape (form_of c.entry-item.result.form)) (told.Truth v)) c.if-not-valid.true c.in_ok-valid.ensures.remembers)
+
+pub verdict::verdict_entries-returns-then-not-valid-clause-visits : goal.verdict::verdict_entries-returns-then-not-valid-clause-visits
+verdict::verdict_entries-returns-then-not-valid-clause-visits g t c =
+    next_counts (numbered g.K.Validate.shape c.args.engine.now.nodes.now) (asking c.args.question.now) entry_of (shaped_part g.K.Validate.shape) c.args.entries.now c.loop-entry.entry-index c.entry-item.result c.loop-entry-test.true c.entry-item.is c.args.context.now c.loop-entry.context c.verdict_form.new.context c.loop-entry.invariant.first c.loop-entry.invariant.visited c.in_ok-valid.ensures.visits
+
+pub verdict::verdict_entries-returns-clause-meets : goal.verdict::verdict_entries-returns-clause-meets
+verdict::verdict_entries-returns-clause-meets g t c = λ texts root depth reads l.
+    let ns = numbered g.K.Validate.shape c.args.engine.now.nodes.now in
+    let w = settling (g.M.Matcher.matching c.args.engine.now.matcher.now) c.args.context.now.remembered.assumptions in
+    let p = steps_to c.args.question.now.place.now in
+    let looked = λ (es : List (Entry g.row.K.Denot)). parts_looked g.K.Validate.words ns w texts root depth c.args.node.0 (path_of c.args.question.now.path.now) p (busy_at p c.args.context.now.in_progress) (map (shaped_part g.K.Validate.shape) (map entry_of es)) in
+    end_met w.matcher (mode_of c.args.question.now.mode) (looked (drop c.loop-entry.entry-index c.args.entries.now)) (plan_met (mode_of c.args.question.now.mode) (looked c.args.entries.now)) c.args.context.now.remembered c.loop-entry.context.remembered
+    (ap looked (drop_past c.args.entries.now c.loop-entry.entry-index c.loop-entry-test.false)) (c.loop-entry.invariant.met texts root depth reads l)
+
+pub verdict::verdict_entries-returns-clause-remembers : goal.verdict::verdict_entries-returns-clause-remembers
+verdict::verdict_entries-returns-clause-remembers g t c =
+    ended_remembers (asking c.args.question.now) entry_of (shaped_part g.K.Validate.shape) c.args.entries.now c.loop-entry.entry-index c.loop-entry-test.false c.args.context.now c.loop-entry.context (told.Truth true) c.loop-entry.invariant.remembers
+
+pub verdict::verdict_entries-returns-clause-visits : goal.verdict::verdict_entries-returns-clause-visits
+verdict::verdict_entries-returns-clause-visits g t c =
+    ended_counts (numbered g.K.Validate.shape c.args.engine.now.nodes.now) (asking c.args.question.now) entry_of (shaped_part g.K.Validate.shape) c.args.entries.now c.loop-entry.entry-index c.loop-entry-test.false c.args.context.now c.loop-entry.context c.loop-entry.invariant.first c.loop-entry.invariant.visited
+
+pub verdict::guarded_verdict-returns-then-branch-clause-says : goal.verdict::guarded_verdict-returns-then-branch-clause-says
+verdict::guarded_verdict-returns-then-branch-clause-says g t c =
+    let p = steps_to c.args.question.now.place.now in
+    let e = edge_of c.args.edge.now in
+    let old = entered_old e.node p c.args.context.now.in_progress c.in_ok-enter_shared.field-0 c.enter_shared.new.self.in_progress (rw c.in_ok-shared.ensures.same at c.in_ok-enter_shared.ensures.enters) c.if-branch.true in
+    edge_busy g.K.Validate.words g.K.Validate.is_whole (numbered g.K.Validate.shape c.args.engine.now.nodes.now) (length c.args.engine.now.nodes.now) (settling (g.M.Matcher.matching c.args.engine.now.matcher.now) c.args.context.now.remembered.assumptions) (subject_of c.args.question.now.instance) (busy_at p c.args.context.now.in_progress) e (mode_of c.args.question.now.mode) (path_of c.args.question.now.path.now) p (told.Truth true)
+    c.requires.guarded old.0 (yes_says (mode_of c.args.question.now.mode) c.requires.verdict) refl
+
+pub verdict::guarded_verdict-returns-then-branch-clause-meets : goal.verdict::guarded_verdict-returns-then-branch-clause-meets
+verdict::guarded_verdict-returns-then-branch-clause-meets g t c =
+    let ns = numbered g.K.Validate.shape c.args.engine.now.nodes.now in
+    let w = settling (g.M.Matcher.matching c.args.engine.now.matcher.now) c.args.context.now.remembered.assumptions in
+    let p = steps_to c.args.question.now.place.now in
+    let s = subject_of c.args.question.now.instance in
+    let busy = busy_at p c.args.context.now.in_progress in
+    let e = edge_of c.args.edge.now in
+    let old = entered_old e.node p c.args.context.now.in_progress c.in_ok-enter_shared.field-0 c.enter_shared.new.self.in_progress (rw c.in_ok-shared.ensures.same at c.in_ok-enter_shared.ensures.enters) c.if-branch.true in
+    meets_busy g.K.Validate.words g.K.Validate.is_whole ns (length c.args.engine.now.nodes.now) w s busy e (mode_of c.args.question.now.mode) (path_of c.args.question.now.path.now) p _ _ c.requires.guarded old.0 (sym c.enter_shared.ensures.remembered)
+
+pub verdict::guarded_verdict-returns-then-branch-clause-remembers : goal.verdict::guarded_verdict-returns-then-branch-clause-remembers
+verdict::guarded_verdict-returns-then-branch-clause-remembers g t c = λ mode guarded free.
+    let p = steps_to c.args.question.now.place.now in
+    let e = edge_of c.args.edge.now in
+    let old = entered_old e.node p c.args.context.now.in_progress c.in_ok-enter_shared.field-0 c.enter_shared.new.self.in_progress (rw c.in_ok-shared.ensures.same at c.in_ok-enter_shared.ensures.enters) c.if-branch.true in
+    absurd (true≢false (sym old.0 ∙ free))
+
+pub verdict::guarded_verdict-returns-then-branch-clause-visits : goal.verdict::guarded_verdict-returns-then-branch-clause-visits
+verdict::guarded_verdict-returns-then-branch-clause-visits g t c =
+    let p = steps_to c.args.question.now.place.now in
+    let e = edge_of c.args.edge.now in
+    let old = entered_old e.node p c.args.context.now.in_progress c.in_ok-enter_shared.field-0 c.enter_shared.new.self.in_progress (rw c.in_ok-shared.ensures.same at c.in_ok-enter_shared.ensures.enters) c.if-branch.true in
+    busy_counts (numbered g.K.Validate.shape c.args.engine.now.nodes.now) (asking c.args.question.now) c.args.context.now e c.enter_shared.new.self c.requires.guarded old.0 c.enter_shared.ensures.visits
+
+pub verdict::guarded_verdict-returns-in-Some-clause-says : goal.verdict::guarded_verdict-returns-in-Some-clause-says
+verdict::guarded_verdict-returns-in-Some-clause-says g t c =
+    let set = setting g.K.Validate.words g.K.Validate.is_whole g.K.Validate.shape g.M.Matcher.matching c.args.engine.now in
+    let q = asking c.args.question.now in
+    let p = steps_to c.args.question.now.place.now in
+    let e = edge_of c.args.edge.now in
+    let entered = entered_new e.node p c.args.context.now.in_progress c.in_ok-enter_shared.field-0 c.enter_shared.new.self.in_progress (rw c.in_ok-shared.ensures.same at c.in_ok-enter_shared.ensures.enters) c.if-branch.false in
+    let found = subst (λ m. read_in_mode m e.node p c.enter_shared.new.self ≡ Some c.in-Some.valid) (sym c.requires.verdict) (sym (rw (c.as_place-here.ensures.same ∙ c.in_ok-shared.ensures.same) at c.in-Some.ensures.read)) in
+    read_says set q e c.args.context.now c.requires.guarded entered.0 c.enter_shared.new.self c.exit.new.self c.in-Some.valid (told.Truth c.in-Some.valid) entered.1 c.enter_shared.ensures.verdicts found (λ texts. refl) c.requires.may.goes_on refl
+
+pub verdict::guarded_verdict-returns-in-Some-clause-meets : goal.verdict::guarded_verdict-returns-in-Some-clause-meets
+verdict::guarded_verdict-returns-in-Some-clause-meets g t c =
+    let set = setting g.K.Validate.words g.K.Validate.is_whole g.K.Validate.shape g.M.Matcher.matching c.args.engine.now in
+    let q = asking c.args.question.now in
+    let p = steps_to c.args.question.now.place.now in
+    let e = edge_of c.args.edge.now in
+    let entered = entered_new e.node p c.args.context.now.in_progress c.in_ok-enter_shared.field-0 c.enter_shared.new.self.in_progress (rw c.in_ok-shared.ensures.same at c.in_ok-enter_shared.ensures.enters) c.if-branch.false in
+    let found = subst (λ m. read_in_mode m e.node p c.enter_shared.new.self ≡ Some c.in-Some.valid) (sym c.requires.verdict) (sym (rw (c.as_place-here.ensures.same ∙ c.in_ok-shared.ensures.same) at c.in-Some.ensures.read)) in
+    read_meets_edge set q e c.args.context.now c.requires.guarded entered.0 c.enter_shared.new.self c.exit.new.self c.in-Some.valid (told.Truth c.in-Some.valid) entered.1 c.enter_shared.ensures.verdicts found (λ texts. refl) c.requires.may.goes_on (c.exit.ensures.remembered ∙ c.enter_shared.ensures.remembered)
+
+pub verdict::guarded_verdict-returns-in-Some-clause-remembers : goal.verdict::guarded_verdict-returns-in-Some-clause-remembers
+verdict::guarded_verdict-returns-in-Some-clause-remembers g t c =
+    let set = setting g.K.Validate.words g.K.Validate.is_whole g.K.Validate.shape g.M.Matcher.matching c.args.engine.now in
+    let q = asking c.args.question.now in
+    let p = steps_to c.args.question.now.place.now in
+    let e = edge_of c.args.edge.now in
+    let c1 = c.enter_shared.new.self in
+    let c5 = c.exit.new.self in
+    let entered = entered_new e.node p c.args.context.now.in_progress c.in_ok-enter_shared.field-0 c1.in_progress (rw c.in_ok-shared.ensures.same at c.in_ok-enter_shared.ensures.enters) c.if-branch.false in
+    let found = subst (λ m. read_in_mode m e.node p c.enter_shared.new.self ≡ Some c.in-Some.valid) (sym c.requires.verdict) (sym (rw (c.as_place-here.ensures.same ∙ c.in_ok-shared.ensures.same) at c.in-Some.ensures.read)) in
+    let back = pairs_back set q e c.args.context.now c.requires.guarded entered.0 c1 c5 entered.1 (rw (c.as_place-here.ensures.same ∙ c.in_ok-shared.ensures.same) at c.exit.ensures.left) in
+    let same = same_context c.args.context.now c5 back (c.exit.ensures.remembered ∙ c.enter_shared.ensures.remembered) (c.exit.ensures.marking ∙ c.enter_shared.ensures.marking) (c.exit.ensures.verdicts ∙ c.enter_shared.ensures.verdicts) (c.exit.ensures.visits ∙ c.enter_shared.ensures.visits) in
+    read_remembers set q e c.args.context.now c.requires.guarded entered.0 c1 c5 c.in-Some.valid (told.Truth c.in-Some.valid) entered.1 c.enter_shared.ensures.verdicts found (λ texts. refl) same
+
+pub verdict::guarded_verdict-returns-in-Some-clause-visits : goal.verdict::guarded_verdict-returns-in-Some-clause-visits
+verdict::guarded_verdict-returns-in-Some-clause-visits g t c =
+    let q = asking c.args.question.now in
+    let p = steps_to c.args.question.now.place.now in
+    let e = edge_of c.args.edge.now in
+    let c1 = c.enter_shared.new.self in
+    let entered = entered_new e.node p c.args.context.now.in_progress c.in_ok-enter_shared.field-0 c1.in_progress (rw c.in_ok-shared.ensures.same at c.in_ok-enter_shared.ensures.enters) c.if-branch.false in
+    let found = subst (λ m. read_in_mode m e.node p c.enter_shared.new.self ≡ Some c.in-Some.valid) (sym c.requires.verdict) (sym (rw (c.as_place-here.ensures.same ∙ c.in_ok-shared.ensures.same) at c.in-Some.ensures.read)) in
+    let read = sym (read_entered e.node p c.args.context.now c1 entered.1 c.enter_shared.ensures.verdicts) ∙ (read_for_verdict q.mode e.node p c1 c.in-Some.valid found).1 in
+    read_counts (numbered g.K.Validate.shape c.args.engine.now.nodes.now) q c.args.context.now e c.exit.new.self c.in-Some.valid c.requires.guarded entered.0 read (c.exit.ensures.visits ∙ c.enter_shared.ensures.visits)
+
+pub verdict::guarded_verdict-returns-clause-says : goal.verdict::guarded_verdict-returns-clause-says
+verdict::guarded_verdict-returns-clause-says g t c =
+    let set = setting g.K.Validate.words g.K.Validate.is_whole g.K.Validate.shape g.M.Matcher.matching c.args.engine.now in
+    let q = asking c.args.question.now in
+    let p = steps_to c.args.question.now.place.now in
+    let e = edge_of c.args.edge.now in
+    let entered = entered_new e.node p c.args.context.now.in_progress c.in_ok-enter_shared.field-0 c.enter_shared.new.self.in_progress (rw c.in_ok-shared.ensures.same at c.in_ok-enter_shared.ensures.enters) c.if-branch.false in
+    let c2 = c.start_ref_visit-mark.new.self in
+    let c3 = c.verdict_node.new.context in
+    let pairs : c2.in_progress ≡ c.args.context.now.in_progress ++ (e.node, p) ∷ [] = ap (λ (z : Context). z.in_progress) c.start_ref_visit-mark.ensures.counted ∙ entered.1 in
+    let met : c2.remembered ≡ c.args.context.now.remembered = ap (λ (z : Context). z.remembered) c.start_ref_visit-mark.ensures.counted ∙ c.enter_shared.ensures.remembered in
+    let there : steps_to c.given-place.result ≡ p = c.given-place.ensures.same ∙ c.as_place-here.ensures.same ∙ c.in_ok-shared.ensures.same in
+    let at_asked : (record { subject = q.subject; place = steps_to c.given-place.result; path = path_of c.across-whole.result; mode = q.mode }) ≡ asked_across set q e c.args.context.now c.requires.guarded entered.0
+    = λ i. record { subject = q.subject; place = there i; path = c.across-whole.ensures.appended i; mode = q.mode } in
+    let says = subst (λ z. NodeSays set z c2 e.node (told.Truth c.in_ok-valid.valid)) at_asked c.in_ok-valid.ensures.says in
+    let meets = subst (λ z. MeetsNode set z c2 c3 e.node) at_asked c.in_ok-valid.ensures.meets in
+    let keeps = c.in_ok-valid.ensures.keeps in
+    computed_says set q e c.args.context.now c.requires.guarded entered.0 c.enter_shared.new.self c2 c3 c.cache_result.new.self c.exit-2.new.self c.start_ref_visit-mark.result (told.Truth c.in_ok-valid.valid) (told.Truth c.in_ok-valid.valid) pairs met says meets keeps (same_verdict q.mode c.in_ok-valid.valid)
+
+pub verdict::guarded_verdict-returns-clause-meets : goal.verdict::guarded_verdict-returns-clause-meets
+verdict::guarded_verdict-returns-clause-meets g t c =
+    let set = setting g.K.Validate.words g.K.Validate.is_whole g.K.Validate.shape g.M.Matcher.matching c.args.engine.now in
+    let q = asking c.args.question.now in
+    let p = steps_to c.args.question.now.place.now in
+    let e = edge_of c.args.edge.now in
+    let entered = entered_new e.node p c.args.context.now.in_progress c.in_ok-enter_shared.field-0 c.enter_shared.new.self.in_progress (rw c.in_ok-shared.ensures.same at c.in_ok-enter_shared.ensures.enters) c.if-branch.false in
+    let c2 = c.start_ref_visit-mark.new.self in
+    let c3 = c.verdict_node.new.context in
+    let pairs : c2.in_progress ≡ c.args.context.now.in_progress ++ (e.node, p) ∷ [] = ap (λ (z : Context). z.in_progress) c.start_ref_visit-mark.ensures.counted ∙ entered.1 in
+    let met : c2.remembered ≡ c.args.context.now.remembered = ap (λ (z : Context). z.remembered) c.start_ref_visit-mark.ensures.counted ∙ c.enter_shared.ensures.remembered in
+    let there : steps_to c.given-place.result ≡ p = c.given-place.ensures.same ∙ c.as_place-here.ensures.same ∙ c.in_ok-shared.ensures.same in
+    let at_asked : (record { subject = q.subject; place = steps_to c.given-place.result; path = path_of c.across-whole.result; mode = q.mode }) ≡ asked_across set q e c.args.context.now c.requires.guarded entered.0
+    = λ i. record { subject = q.subject; place = there i; path = c.across-whole.ensures.appended i; mode = q.mode } in
+    let says = subst (λ z. NodeSays set z c2 e.node (told.Truth c.in_ok-valid.valid)) at_asked c.in_ok-valid.ensures.says in
+    let meets = subst (λ z. MeetsNode set z c2 c3 e.node) at_asked c.in_ok-valid.ensures.meets in
+    let keeps = c.in_ok-valid.ensures.keeps in
+    let met5 = c.exit-2.ensures.remembered ∙ ap (λ (z : Context). z.remembered) c.cache_result.ensures.frame in
+    computed_meets set q e c.args.context.now c.requires.guarded entered.0 c.enter_shared.new.self c2 c3 c.cache_result.new.self c.exit-2.new.self c.start_ref_visit-mark.result (told.Truth c.in_ok-valid.valid) (told.Truth c.in_ok-valid.valid) pairs met says meets keeps (same_verdict q.mode c.in_ok-valid.valid) met5
+
+pub verdict::guarded_verdict-returns-clause-stays : goal.verdict::guarded_verdict-returns-clause-stays
+verdict::guarded_verdict-returns-clause-stays g t c =
+    let set = setting g.K.Validate.words g.K.Validate.is_whole g.K.Validate.shape g.M.Matcher.matching c.args.engine.now in
+    let q = asking c.args.question.now in
+    let p = steps_to c.args.question.now.place.now in
+    let e = edge_of c.args.edge.now in
+    let entered = entered_new e.node p c.args.context.now.in_progress c.in_ok-enter_shared.field-0 c.enter_shared.new.self.in_progress (rw c.in_ok-shared.ensures.same at c.in_ok-enter_shared.ensures.enters) c.if-branch.false in
+    let c2 = c.start_ref_visit-mark.new.self in
+    let c3 = c.verdict_node.new.context in
+    let pairs : c2.in_progress ≡ c.args.context.now.in_progress ++ (e.node, p) ∷ [] = ap (λ (z : Context). z.in_progress) c.start_ref_visit-mark.ensures.counted ∙ entered.1 in
+    let met : c2.remembered ≡ c.args.context.now.remembered = ap (λ (z : Context). z.remembered) c.start_ref_visit-mark.ensures.counted ∙ c.enter_shared.ensures.remembered in
+    let there : steps_to c.given-place.result ≡ p = c.given-place.ensures.same ∙ c.as_place-here.ensures.same ∙ c.in_ok-shared.ensures.same in
+    let at_asked : (record { subject = q.subject; place = steps_to c.given-place.result; path = path_of c.across-whole.result; mode = q.mode }) ≡ asked_across set q e c.args.context.now c.requires.guarded entered.0
+    = λ i. record { subject = q.subject; place = there i; path = c.across-whole.ensures.appended i; mode = q.mode } in
+    let says = subst (λ z. NodeSays set z c2 e.node (told.Truth c.in_ok-valid.valid)) at_asked c.in_ok-valid.ensures.says in
+    let meets = subst (λ z. MeetsNode set z c2 c3 e.node) at_asked c.in_ok-valid.ensures.meets in
+    let keeps = c.in_ok-valid.ensures.keeps in
+    let read = ap (λ (z : Context). z.verdicts) c.start_ref_visit-mark.ensures.counted ∙ c.enter_shared.ensures.verdicts in
+    let stays = subst (λ z. StaysRight set z c2 c3) at_asked c.in_ok-valid.ensures.stays in
+    let kept = λ (texts : Bool) (mode : q.mode ≡ for_verdict). rw (c.as_place-here.ensures.same ∙ c.in_ok-shared.ensures.same) at c.in_ok-cache_result.ensures.kept in
+    let few = rw (c.as_place-here.ensures.same ∙ c.in_ok-shared.ensures.same) at c.in_ok-cache_result.ensures.others in
+    computed_stays set q e c.args.context.now c.requires.guarded entered.0 c.enter_shared.new.self c2 c3 c.cache_result.new.self c.exit-2.new.self c.start_ref_visit-mark.result (told.Truth c.in_ok-valid.valid) (told.Truth c.in_ok-valid.valid) pairs met says meets keeps (same_verdict q.mode c.in_ok-valid.valid)
+    g.met.K.Validate.asks_verdicts kept read stays few (λ no. absurd (no c.requires.verdict)) (ap (λ (z : Context). z.remembered) c.cache_result.ensures.frame) c.exit-2.ensures.remembered c.exit-2.ensures.verdicts
+
+pub verdict::guarded_verdict-returns-clause-remembers : goal.verdict::guarded_verdict-returns-clause-remembers
+verdict::guarded_verdict-returns-clause-remembers g t c =
+    let set = setting g.K.Validate.words g.K.Validate.is_whole g.K.Validate.shape g.M.Matcher.matching c.args.engine.now in
+    let q = asking c.args.question.now in
+    let p = steps_to c.args.question.now.place.now in
+    let e = edge_of c.args.edge.now in
+    let entered = entered_new e.node p c.args.context.now.in_progress c.in_ok-enter_shared.field-0 c.enter_shared.new.self.in_progress (rw c.in_ok-shared.ensures.same at c.in_ok-enter_shared.ensures.enters) c.if-branch.false in
+    let c2 = c.start_ref_visit-mark.new.self in
+    let c3 = c.verdict_node.new.context in
+    let pairs : c2.in_progress ≡ c.args.context.now.in_progress ++ (e.node, p) ∷ [] = ap (λ (z : Context). z.in_progress) c.start_ref_visit-mark.ensures.counted ∙ entered.1 in
+    let met : c2.remembered ≡ c.args.context.now.remembered = ap (λ (z : Context). z.remembered) c.start_ref_visit-mark.ensures.counted ∙ c.enter_shared.ensures.remembered in
+    let there : steps_to c.given-place.result ≡ p = c.given-place.ensures.same ∙ c.as_place-here.ensures.same ∙ c.in_ok-shared.ensures.same in
+    let at_asked : (record { subject = q.subject; place = steps_to c.given-place.result; path = path_of c.across-whole.result; mode = q.mode }) ≡ asked_across set q e c.args.context.now c.requires.guarded entered.0
+    = λ i. record { subject = q.subject; place = there i; path = c.across-whole.ensures.appended i; mode = q.mode } in
+    let says = subst (λ z. NodeSays set z c2 e.node (told.Truth c.in_ok-valid.valid)) at_asked c.in_ok-valid.ensures.says in
+    let meets = subst (λ z. MeetsNode set z c2 c3 e.node) at_asked c.in_ok-valid.ensures.meets in
+    let keeps = c.in_ok-valid.ensures.keeps in
+    let kept = λ (texts : Bool) (mode : q.mode ≡ for_verdict). rw (c.as_place-here.ensures.same ∙ c.in_ok-shared.ensures.same) at c.in_ok-cache_result.ensures.kept in
+    let none = subst (λ m. read_in_mode m e.node p c.enter_shared.new.self ≡ None) (sym c.requires.verdict) (sym (rw (c.as_place-here.ensures.same ∙ c.in_ok-shared.ensures.same) at c.in_default.ensures.read)) in
+    let left = ap (λ (z : Context). z.in_progress) c.cache_result.ensures.frame ∙ keeps.in_progress in
+    let back = pairs_back set q e c.args.context.now c.requires.guarded entered.0 c2 c.exit-2.new.self pairs (sym left ∙ rw (c.as_place-here.ensures.same ∙ c.in_ok-shared.ensures.same) at c.exit-2.ensures.left) in
+    let visits = c.exit-2.ensures.visits ∙ ap (λ (z : Context). z.visits) c.cache_result.ensures.frame in
+    let counted : c2.visits ≡ visited_in_mode q.mode c.args.context.now.visits = subst (λ m. c2.visits ≡ visited_in_mode m c.args.context.now.visits) (sym c.requires.verdict) (ap (λ (z : Context). z.visits) c.start_ref_visit-mark.ensures.counted ∙ ap one_more c.enter_shared.ensures.visits) in
+    let more = subst (λ z. z ≤ c3.visits) counted c.in_ok-valid.ensures.counts in
+    computed_remembers set q e c.args.context.now c.requires.guarded entered.0 c.enter_shared.new.self c2 c3 c.cache_result.new.self c.exit-2.new.self c.start_ref_visit-mark.result (told.Truth c.in_ok-valid.valid) (told.Truth c.in_ok-valid.valid) pairs met says meets keeps (same_verdict q.mode c.in_ok-valid.valid)
+    g.met.K.Validate.asks_verdicts kept entered.1 c.enter_shared.ensures.verdicts none (c.start_ref_visit-mark.ensures.mark ∙ c.enter_shared.ensures.visits) back visits more c.exit-2.ensures.verdicts
+
+pub verdict::guarded_verdict-returns-clause-counts : goal.verdict::guarded_verdict-returns-clause-counts
+verdict::guarded_verdict-returns-clause-counts g t c =
+    let visits = c.exit-2.ensures.visits ∙ ap (λ (z : Context). z.visits) c.cache_result.ensures.frame in
+    let before = subst (λ z. z ≤ c.start_ref_visit-mark.new.self.visits) c.enter_shared.ensures.visits c.start_ref_visit-mark.ensures.more in
+    let after = subst (λ z. c.start_ref_visit-mark.new.self.visits ≤ z) (sym visits) c.in_ok-valid.ensures.counts in
+    no_fewer c.args.context.now.visits c.start_ref_visit-mark.new.self.visits c.exit-2.new.self.visits before after
+
+pub verdict::guarded_verdict-returns-clause-visits : goal.verdict::guarded_verdict-returns-clause-visits
+verdict::guarded_verdict-returns-clause-visits g t c =
+    let ns = (numbered g.K.Validate.shape c.args.engine.now.nodes.now) in
+    let q = asking c.args.question.now in
+    let p = steps_to c.args.question.now.place.now in
+    let e = edge_of c.args.edge.now in
+    let c1 = c.enter_shared.new.self in
+    let c2 = c.start_ref_visit-mark.new.self in
+    let c3 = c.verdict_node.new.context in
+    let entered = entered_new e.node p c.args.context.now.in_progress c.in_ok-enter_shared.field-0 c1.in_progress (rw c.in_ok-shared.ensures.same at c.in_ok-enter_shared.ensures.enters) c.if-branch.false in
+    let pairs : c2.in_progress ≡ c.args.context.now.in_progress ++ (e.node, p) ∷ [] = ap (λ (z : Context). z.in_progress) c.start_ref_visit-mark.ensures.counted ∙ entered.1 in
+    let read = ap (λ (z : Context). z.verdicts) c.start_ref_visit-mark.ensures.counted ∙ c.enter_shared.ensures.verdicts in
+    let counted = ap (λ (z : Context). z.visits) c.start_ref_visit-mark.ensures.counted ∙ ap one_more c.enter_shared.ensures.visits in
+    let there : steps_to c.given-place.result ≡ p = c.given-place.ensures.same ∙ c.as_place-here.ensures.same ∙ c.in_ok-shared.ensures.same in
+    let none = sym (rw (c.as_place-here.ensures.same ∙ c.in_ok-shared.ensures.same) at c.in_default.ensures.read) in
+    let node_counts = subst (λ z. NodeCounts ns (record { subject = q.subject; place = z; path = path_of c.across-whole.result; mode = q.mode }) c2 c3 e.node) there c.in_ok-valid.ensures.visits in
+    let visits = c.exit-2.ensures.visits ∙ ap (λ (z : Context). z.visits) c.cache_result.ensures.frame in
+    computed_counts ns q c.args.context.now e c2 c3 c.exit-2.new.self c.requires.guarded entered.0
+    (λ mode. sym (read_entered e.node p c.args.context.now c1 entered.1 c.enter_shared.ensures.verdicts) ∙ none) pairs read
+    (λ mode. counted) node_counts visits
+
+pub verdict::guarded_verdict-verdict_node-requires : goal.verdict::guarded_verdict-verdict_node-requires
+verdict::guarded_verdict-verdict_node-requires g t c =
+    let ns = numbered g.K.Validate.shape c.args.engine.now.nodes.now in
+    let p = steps_to c.args.question.now.place.now in
+    let e = edge_of c.args.edge.now in
+    let s = subject_of c.args.question.now.instance in
+    let entered = entered_new e.node p c.args.context.now.in_progress c.in_ok-enter_shared.field-0 c.enter_shared.new.self.in_progress (rw c.in_ok-shared.ensures.same at c.in_ok-enter_shared.ensures.enters) c.if-branch.false in
+    let pairs = ap (λ (z : Context). z.in_progress) c.start_ref_visit-mark.ensures.counted in
+    let new : c.start_ref_visit-mark.new.self.in_progress ≡ c.args.context.now.in_progress ++ (e.node, p) ∷ [] = pairs ∙ entered.1 in
+    let busy : busy_at p c.start_ref_visit-mark.new.self.in_progress ≡ e.node ∷ busy_at p c.args.context.now.in_progress = ap (busy_at p) new ∙ busy-pushed p e.node c.args.context.now.in_progress in
+    let needs = needs_of_entered g.K.Validate.words g.K.Validate.is_whole ns (length c.args.engine.now.nodes.now) (settling (g.M.Matcher.matching c.args.engine.now.matcher.now) c.args.context.now.remembered.assumptions) s (busy_at p c.args.context.now.in_progress) e c.requires.guarded entered.0 in
+    let there : steps_to c.given-place.result ≡ p = c.given-place.ensures.same ∙ c.as_place-here.ensures.same ∙ c.in_ok-shared.ensures.same in
+    let l = ap (λ q. left ns (length c.args.engine.now.nodes.now) e.node s (busy_at q c.start_ref_visit-mark.new.self.in_progress)) there ∙ ap (left ns (length c.args.engine.now.nodes.now) e.node s) busy in
+    let deeper = subst (λ q. NoDeeper q c.start_ref_visit-mark.new.self.in_progress) (sym there) (subst (NoDeeper p) (sym new) (deeper-pushed p e.node c.args.context.now.in_progress c.requires.may.above)) in
+    let (layout, laid, right) = c.requires.may.goes_on in
+    let set = setting g.K.Validate.words g.K.Validate.is_whole g.K.Validate.shape g.M.Matcher.matching c.args.engine.now in
+    let met = ap (λ (z : Context). z.remembered) c.start_ref_visit-mark.ensures.counted ∙ c.enter_shared.ensures.remembered in
+    let read = ap (λ (z : Context). z.verdicts) c.start_ref_visit-mark.ensures.counted ∙ c.enter_shared.ensures.verdicts in
+    let laid' = subst (λ q. LaysOut layout q s) (sym there) laid in
+    let right' = right_same set layout c.args.context.now c.start_ref_visit-mark.new.self met read right in
+    λ κs h. (lower_entered _ _ _ t l needs c.decreases, (h.0, (h.1.0, (h.1.1.0, (h.1.1.1, (record { known = c.requires.may.known; ranked = c.requires.may.ranked; above = deeper; wanted = c.requires.may.wanted; goes_on = (layout, laid', right') }, c.requires.verdict))))))
+
+pub verdict::verdict_edge-returns-clause-visits : goal.verdict::verdict_edge-returns-clause-visits
+verdict::verdict_edge-returns-clause-visits g t c = if_ok_mono c.verdict_node.result _ _ (λ b counts. free_counts (numbered g.K.Validate.shape c.args.engine.now.nodes.now) (asking c.args.question.now) c.args.context.now (edge_of c.args.edge.now) c.verdict_node.new.context c.if-edge.false counts) c.verdict_node.ensures.visits

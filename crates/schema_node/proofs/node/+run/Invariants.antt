@@ -1,4 +1,4 @@
-use Rattle.std.proofs.Common.{◌≡◌, ◌≤◌, ◌<◌, ◌+◌, ◌*◌, ◌++◌, ℕ, Bool, List, false, length, map, drop, option_map, string_bytes, Some}
+use Rattle.std.proofs.Common.{◌≡◌, ◌≤◌, ◌<◌, ◌+◌, ◌*◌, ◌++◌, ℕ, Bool, List, false, true, length, map, drop, option_map, string_bytes, Some}
 use Rattle.std.specs.Prelude.{All}
 use Rattle.serde_json.specs.Data.{Data}
 use Rattle.schema_definitions.specs.Instance.{subject_at}
@@ -29,34 +29,35 @@ use Rattle.schema_node.specs.Turning.{EvaluatesOn}
 use Rattle.schema_reports.specs.EntryUnits.{placed_of}
 use Rattle.schema_definitions.specs.UnitOrder.{each_placed, nothing_placed}
 use Rattle.schema_node.specs.UnitStates.{child_unit, parts_units}
+use Rattle.schema_parts.specs.declared.keyword.Reply.TheVariants as told
 use Rattle.schema_node.proofs.node.+run.Given as goal
 
 abbrev pub decreases-run::run_child : goal.decreases-run::run_child
-decreases-run::run_child g l = 10 * left (numbered g.K.Validate.shape l.engine.now.nodes.now) (length l.engine.now.nodes.now) l.node.0 (subject_of l.question.now.instance) (busy_at (steps_to l.question.now.place.now) l.context.now.in_progress) + 1
+decreases-run::run_child g l = 20 * left (numbered g.K.Validate.shape l.engine.now.nodes.now) (length l.engine.now.nodes.now) l.node.0 (subject_of l.question.now.instance) (busy_at (steps_to l.question.now.place.now) l.context.now.in_progress) + 1
 
 abbrev pub decreases-run::run_edge : goal.decreases-run::run_edge
-decreases-run::run_edge g l = 10 * edge_needs (numbered g.K.Validate.shape l.engine.now.nodes.now) (length l.engine.now.nodes.now) (edge_of l.edge.now) (subject_of l.question.now.instance) (busy_at (steps_to l.question.now.place.now) l.context.now.in_progress)
+decreases-run::run_edge g l = 20 * edge_needs (numbered g.K.Validate.shape l.engine.now.nodes.now) (length l.engine.now.nodes.now) (edge_of l.edge.now) (subject_of l.question.now.instance) (busy_at (steps_to l.question.now.place.now) l.context.now.in_progress)
 
 abbrev pub decreases-run::run_entries : goal.decreases-run::run_entries
-decreases-run::run_entries g l = 10 * left (numbered g.K.Validate.shape l.engine.now.nodes.now) (length l.engine.now.nodes.now) l.node.0 (subject_of l.question.now.instance) (busy_at (steps_to l.question.now.place.now) l.context.now.in_progress) + 8
+decreases-run::run_entries g l = 20 * left (numbered g.K.Validate.shape l.engine.now.nodes.now) (length l.engine.now.nodes.now) l.node.0 (subject_of l.question.now.instance) (busy_at (steps_to l.question.now.place.now) l.context.now.in_progress) + 9
 
 abbrev pub decreases-run::run_entry : goal.decreases-run::run_entry
-decreases-run::run_entry g l = 10 * left (numbered g.K.Validate.shape l.engine.now.nodes.now) (length l.engine.now.nodes.now) l.node.0 (subject_of l.question.now.instance) (busy_at (steps_to l.question.now.place.now) l.context.now.in_progress) + 7
+decreases-run::run_entry g l = 20 * left (numbered g.K.Validate.shape l.engine.now.nodes.now) (length l.engine.now.nodes.now) l.node.0 (subject_of l.question.now.instance) (busy_at (steps_to l.question.now.place.now) l.context.now.in_progress) + 8
 
 abbrev pub decreases-run::run_form : goal.decreases-run::run_form
-decreases-run::run_form g l = 10 * left (numbered g.K.Validate.shape l.engine.now.nodes.now) (length l.engine.now.nodes.now) l.node.0 (subject_of l.question.now.instance) (busy_at (steps_to l.question.now.place.now) l.context.now.in_progress) + 6
+decreases-run::run_form g l = 20 * left (numbered g.K.Validate.shape l.engine.now.nodes.now) (length l.engine.now.nodes.now) l.node.0 (subject_of l.question.now.instance) (busy_at (steps_to l.question.now.place.now) l.context.now.in_progress) + 7
 
 abbrev pub decreases-run::run_keyword : goal.decreases-run::run_keyword
-decreases-run::run_keyword g l = 10 * left (numbered g.K.Validate.shape l.engine.now.nodes.now) (length l.engine.now.nodes.now) l.node.0 (subject_of l.question.now.instance) (busy_at (steps_to l.question.now.place.now) l.context.now.in_progress) + 5
+decreases-run::run_keyword g l = 20 * left (numbered g.K.Validate.shape l.engine.now.nodes.now) (length l.engine.now.nodes.now) l.node.0 (subject_of l.question.now.instance) (busy_at (steps_to l.question.now.place.now) l.context.now.in_progress) + 6
 
 abbrev pub decreases-run::run_node : goal.decreases-run::run_node
-decreases-run::run_node g l = 10 * left (numbered g.K.Validate.shape l.engine.now.nodes.now) (length l.engine.now.nodes.now) l.node.0 (subject_of l.question.now.instance) (busy_at (steps_to l.question.now.place.now) l.context.now.in_progress) + 9
+decreases-run::run_node g l = 20 * left (numbered g.K.Validate.shape l.engine.now.nodes.now) (length l.engine.now.nodes.now) l.node.0 (subject_of l.question.now.instance) (busy_at (steps_to l.question.now.place.now) l.context.now.in_progress) + 10
 
 abbrev pub decreases-turns::keyword_answer : goal.decreases-turns::keyword_answer
-decreases-turns::keyword_answer g l = 10 * left (numbered g.K.Validate.shape l.engine.now.nodes.now) (length l.engine.now.nodes.now) l.node.0 (subject_of l.question.now.instance) (busy_at (steps_to l.question.now.place.now) l.context.now.in_progress) + 4
+decreases-turns::keyword_answer g l = 20 * left (numbered g.K.Validate.shape l.engine.now.nodes.now) (length l.engine.now.nodes.now) l.node.0 (subject_of l.question.now.instance) (busy_at (steps_to l.question.now.place.now) l.context.now.in_progress) + 5
 
 abbrev pub decreases-turns::run_turns : goal.decreases-turns::run_turns
-decreases-turns::run_turns g l = 10 * left (numbered g.K.Validate.shape l.engine.now.nodes.now) (length l.engine.now.nodes.now) l.node.0 (subject_of l.question.now.instance) (busy_at (steps_to l.question.now.place.now) l.context.now.in_progress) + 3
+decreases-turns::run_turns g l = 20 * left (numbered g.K.Validate.shape l.engine.now.nodes.now) (length l.engine.now.nodes.now) l.node.0 (subject_of l.question.now.instance) (busy_at (steps_to l.question.now.place.now) l.context.now.in_progress) + 4
 
 abbrev pub invariant-run::run_entries-loop-entry : goal.invariant-run::run_entries-loop-entry
 invariant-run::run_entries-loop-entry g l =
@@ -113,25 +114,25 @@ abbrev pub decreases-turns::run_turns-turns : goal.decreases-turns::run_turns-tu
 decreases-turns::run_turns-turns g l = g.K.Validate.remaining (g.K.Validate.shape l.keyword.keyword.now) (subject_of l.question.instance) (l.run, answer_of false l.answer)
 
 abbrev pub decreases-evaluate::evaluate_node : goal.decreases-evaluate::evaluate_node
-decreases-evaluate::evaluate_node g l = 10 * left (numbered g.K.Validate.shape l.engine.now.nodes.now) (length l.engine.now.nodes.now) l.node.0 (subject_of l.question.now.instance) (busy_at (steps_to l.question.now.place.now) l.context.now.in_progress) + 9
+decreases-evaluate::evaluate_node g l = 20 * left (numbered g.K.Validate.shape l.engine.now.nodes.now) (length l.engine.now.nodes.now) l.node.0 (subject_of l.question.now.instance) (busy_at (steps_to l.question.now.place.now) l.context.now.in_progress) + 10
 
 abbrev pub decreases-evaluate::evaluate_entries : goal.decreases-evaluate::evaluate_entries
-decreases-evaluate::evaluate_entries g l = 10 * left (numbered g.K.Validate.shape l.engine.now.nodes.now) (length l.engine.now.nodes.now) l.node.0 (subject_of l.question.now.instance) (busy_at (steps_to l.question.now.place.now) l.context.now.in_progress) + 8
+decreases-evaluate::evaluate_entries g l = 20 * left (numbered g.K.Validate.shape l.engine.now.nodes.now) (length l.engine.now.nodes.now) l.node.0 (subject_of l.question.now.instance) (busy_at (steps_to l.question.now.place.now) l.context.now.in_progress) + 9
 
 abbrev pub decreases-evaluate::evaluate_entry : goal.decreases-evaluate::evaluate_entry
-decreases-evaluate::evaluate_entry g l = 10 * left (numbered g.K.Validate.shape l.engine.now.nodes.now) (length l.engine.now.nodes.now) l.node.0 (subject_of l.question.now.instance) (busy_at (steps_to l.question.now.place.now) l.context.now.in_progress) + 7
+decreases-evaluate::evaluate_entry g l = 20 * left (numbered g.K.Validate.shape l.engine.now.nodes.now) (length l.engine.now.nodes.now) l.node.0 (subject_of l.question.now.instance) (busy_at (steps_to l.question.now.place.now) l.context.now.in_progress) + 8
 
 abbrev pub decreases-evaluate::evaluate_keyword : goal.decreases-evaluate::evaluate_keyword
-decreases-evaluate::evaluate_keyword g l = 10 * left (numbered g.K.Validate.shape l.engine.now.nodes.now) (length l.engine.now.nodes.now) l.node.0 (subject_of l.question.now.instance) (busy_at (steps_to l.question.now.place.now) l.context.now.in_progress) + 5
+decreases-evaluate::evaluate_keyword g l = 20 * left (numbered g.K.Validate.shape l.engine.now.nodes.now) (length l.engine.now.nodes.now) l.node.0 (subject_of l.question.now.instance) (busy_at (steps_to l.question.now.place.now) l.context.now.in_progress) + 6
 
 abbrev pub decreases-turns::ask_child : goal.decreases-turns::ask_child
-decreases-turns::ask_child g l = 10 * left (numbered g.K.Validate.shape l.engine.now.nodes.now) (length l.engine.now.nodes.now) l.node.0 (subject_of l.question.now.instance) (busy_at (steps_to l.question.now.place.now) l.context.now.in_progress) + 2
+decreases-turns::ask_child g l = 20 * left (numbered g.K.Validate.shape l.engine.now.nodes.now) (length l.engine.now.nodes.now) l.node.0 (subject_of l.question.now.instance) (busy_at (steps_to l.question.now.place.now) l.context.now.in_progress) + 3
 
 abbrev pub decreases-evaluate::evaluate_child : goal.decreases-evaluate::evaluate_child
-decreases-evaluate::evaluate_child g l = 10 * left (numbered g.K.Validate.shape l.engine.now.nodes.now) (length l.engine.now.nodes.now) l.node.0 (subject_of l.question.now.instance) (busy_at (steps_to l.question.now.place.now) l.context.now.in_progress) + 1
+decreases-evaluate::evaluate_child g l = 20 * left (numbered g.K.Validate.shape l.engine.now.nodes.now) (length l.engine.now.nodes.now) l.node.0 (subject_of l.question.now.instance) (busy_at (steps_to l.question.now.place.now) l.context.now.in_progress) + 1
 
 abbrev pub decreases-evaluate::evaluate_edge : goal.decreases-evaluate::evaluate_edge
-decreases-evaluate::evaluate_edge g l = 10 * edge_needs (numbered g.K.Validate.shape l.engine.now.nodes.now) (length l.engine.now.nodes.now) (edge_of l.edge.now) (subject_of l.question.now.instance) (busy_at (steps_to l.question.now.place.now) l.context.now.in_progress)
+decreases-evaluate::evaluate_edge g l = 20 * edge_needs (numbered g.K.Validate.shape l.engine.now.nodes.now) (length l.engine.now.nodes.now) (edge_of l.edge.now) (subject_of l.question.now.instance) (busy_at (steps_to l.question.now.place.now) l.context.now.in_progress)
 
 abbrev pub invariant-evaluate::evaluate_entries-loop-entry : goal.invariant-evaluate::evaluate_entries-loop-entry
 invariant-evaluate::evaluate_entries-loop-entry g l =
@@ -148,6 +149,55 @@ invariant-evaluate::evaluate_entries-loop-entry g l =
           → each_placed (placed_of x.texts l.units) (parts_units g.K.Validate.words ns x l.node.0 (path_of l.question.path.now) (steps_to l.question.place.now) busy (map (shaped_part g.K.Validate.shape) (map entry_of (drop l.entry-index l.entries))))
           ≡ each_placed nothing_placed (parts_units g.K.Validate.words ns x l.node.0 (path_of l.question.path.now) (steps_to l.question.place.now) busy (map (shaped_part g.K.Validate.shape) (map entry_of l.entries)));
       stays : StaysRight (setting g.K.Validate.words g.K.Validate.is_whole g.K.Validate.shape g.M.Matcher.matching l.engine) (asking l.question) l.initial.context l.context;
+      met : (texts : Bool) (root : Data) (depth : ℕ) → Reads g.K.Validate.is_whole ns (length l.engine.nodes.now) w (steps_to l.question.place.now) s (reading w texts root depth) → left ns (length l.engine.nodes.now) l.node.0 s busy ≤ depth
+          → (before : List Met) × MeetsEach w.matcher l.initial.context.remembered before l.context.remembered
+          × (before ++ plan_met (mode_of l.question.mode) (parts_looked g.K.Validate.words ns w texts root depth l.node.0 (path_of l.question.path.now) (steps_to l.question.place.now) busy (map (shaped_part g.K.Validate.shape) (map entry_of (drop l.entry-index l.entries))))
+          ≡ plan_met (mode_of l.question.mode) (parts_looked g.K.Validate.words ns w texts root depth l.node.0 (path_of l.question.path.now) (steps_to l.question.place.now) busy (map (shaped_part g.K.Validate.shape) (map entry_of l.entries))));
+    }
+
+abbrev pub decreases-turns::ask_unit : goal.decreases-turns::ask_unit
+decreases-turns::ask_unit g l = 20 * left (numbered g.K.Validate.shape l.engine.now.nodes.now) (length l.engine.now.nodes.now) l.node.0 (subject_of l.question.now.instance) (busy_at (steps_to l.question.now.place.now) l.context.now.in_progress) + 2
+
+abbrev pub decreases-verdict::verdict_node : goal.decreases-verdict::verdict_node
+decreases-verdict::verdict_node g l = 20 * left (numbered g.K.Validate.shape l.engine.now.nodes.now) (length l.engine.now.nodes.now) l.node.0 (subject_of l.question.now.instance) (busy_at (steps_to l.question.now.place.now) l.context.now.in_progress) + 10
+
+abbrev pub decreases-verdict::verdict_entries : goal.decreases-verdict::verdict_entries
+decreases-verdict::verdict_entries g l = 20 * left (numbered g.K.Validate.shape l.engine.now.nodes.now) (length l.engine.now.nodes.now) l.node.0 (subject_of l.question.now.instance) (busy_at (steps_to l.question.now.place.now) l.context.now.in_progress) + 9
+
+abbrev pub decreases-verdict::verdict_form : goal.decreases-verdict::verdict_form
+decreases-verdict::verdict_form g l = 20 * left (numbered g.K.Validate.shape l.engine.now.nodes.now) (length l.engine.now.nodes.now) l.node.0 (subject_of l.question.now.instance) (busy_at (steps_to l.question.now.place.now) l.context.now.in_progress) + 7
+
+abbrev pub decreases-verdict::verdict_keyword : goal.decreases-verdict::verdict_keyword
+decreases-verdict::verdict_keyword g l = 20 * left (numbered g.K.Validate.shape l.engine.now.nodes.now) (length l.engine.now.nodes.now) l.node.0 (subject_of l.question.now.instance) (busy_at (steps_to l.question.now.place.now) l.context.now.in_progress) + 6
+
+abbrev pub decreases-verdict::verdict_child : goal.decreases-verdict::verdict_child
+decreases-verdict::verdict_child g l = 20 * left (numbered g.K.Validate.shape l.engine.now.nodes.now) (length l.engine.now.nodes.now) l.node.0 (subject_of l.question.now.instance) (busy_at (steps_to l.question.now.place.now) l.context.now.in_progress) + 2
+
+abbrev pub decreases-verdict::verdict_edge : goal.decreases-verdict::verdict_edge
+decreases-verdict::verdict_edge g l = 20 * edge_needs (numbered g.K.Validate.shape l.engine.now.nodes.now) (length l.engine.now.nodes.now) (edge_of l.edge.now) (subject_of l.question.now.instance) (busy_at (steps_to l.question.now.place.now) l.context.now.in_progress) + 1
+
+abbrev pub decreases-verdict::guarded_verdict : goal.decreases-verdict::guarded_verdict
+decreases-verdict::guarded_verdict g l = 20 * edge_needs (numbered g.K.Validate.shape l.engine.now.nodes.now) (length l.engine.now.nodes.now) (edge_of l.edge.now) (subject_of l.question.now.instance) (busy_at (steps_to l.question.now.place.now) l.context.now.in_progress)
+
+abbrev pub invariant-verdict::verdict_entries-loop-entry : goal.invariant-verdict::verdict_entries-loop-entry
+invariant-verdict::verdict_entries-loop-entry g l =
+    let ns = numbered g.K.Validate.shape l.engine.nodes.now in
+    let busy = busy_at (steps_to l.question.place.now) l.initial.context.in_progress in
+    let s = subject_of l.question.instance in
+    let w = settling (g.M.Matcher.matching l.engine.matcher.now) l.initial.context.remembered.assumptions in
+    record {
+      kept : l.context.in_progress ≡ l.initial.context.in_progress;
+      assumes : l.context.remembered.assumptions ≡ l.initial.context.remembered.assumptions;
+      marking : l.context.marking ≡ l.initial.context.marking;
+      counted : l.initial.context.visits ≤ l.context.visits;
+      so_far : (x : Reading) → Reads g.K.Validate.is_whole ns (length l.engine.nodes.now) w (steps_to l.question.place.now) s x → left ns (length l.engine.nodes.now) l.node.0 s busy ≤ x.depth
+          → (o : Outcome) × Replies x (mode_of l.question.mode) (told.Truth true) o
+          × (both o (parts_say g.K.Validate.words ns x l.node.0 (path_of l.question.path.now) (steps_to l.question.place.now) busy (map (shaped_part g.K.Validate.shape) (map entry_of (drop l.entry-index l.entries))))
+          ≡ parts_say g.K.Validate.words ns x l.node.0 (path_of l.question.path.now) (steps_to l.question.place.now) busy (map (shaped_part g.K.Validate.shape) (map entry_of l.entries)));
+      stays : StaysRight (setting g.K.Validate.words g.K.Validate.is_whole g.K.Validate.shape g.M.Matcher.matching l.engine) (asking l.question) l.initial.context l.context;
+      first : l.entry-index ≡ 0 → l.context ≡ l.initial.context;
+      remembers : 0 < l.entry-index → PartsRemember (asking l.question) l.initial.context l.context (map (shaped_part g.K.Validate.shape) (map entry_of l.entries)) (told.Truth true);
+      visited : 0 < l.entry-index → PartsCount ns (asking l.question) l.initial.context l.context (map (shaped_part g.K.Validate.shape) (map entry_of l.entries));
       met : (texts : Bool) (root : Data) (depth : ℕ) → Reads g.K.Validate.is_whole ns (length l.engine.nodes.now) w (steps_to l.question.place.now) s (reading w texts root depth) → left ns (length l.engine.nodes.now) l.node.0 s busy ≤ depth
           → (before : List Met) × MeetsEach w.matcher l.initial.context.remembered before l.context.remembered
           × (before ++ plan_met (mode_of l.question.mode) (parts_looked g.K.Validate.words ns w texts root depth l.node.0 (path_of l.question.path.now) (steps_to l.question.place.now) busy (map (shaped_part g.K.Validate.shape) (map entry_of (drop l.entry-index l.entries))))
