@@ -1,6 +1,6 @@
 //! What a run has in progress, what it assumes and remembers of unfinished matches, and what it marks.
 ghost use Rattle.std.specs.Prelude.{◌≡◌, ◌<◌, ◌≤◌, ◌++◌, ◌∷◌, ◌⊎◌, [], ℕ, IfOk, IfErr, IfSome, OnErr, OnOk, is_some, length, map};
-ghost use Rattle.std.specs.Prelude.{option_map, slice_index_or};
+ghost use Rattle.std.specs.Prelude.{◌==◌, option_map, slice_index_or};
 ghost use Rattle.std.specs.Vec.{vec_capacity, vec_len};
 ghost use Rattle.std.specs.Borrow.{sem};
 ghost use Rattle.std.specs.List.{list_any};
@@ -17,7 +17,7 @@ ghost use Rattle.schema_contexts.specs.Matches.{after_match, comes_out};
 ghost use Rattle.schema_parts.specs.EdgeViews.{edge_of};
 ghost use Rattle.serde_json.specs.View.{view};
 ghost use Rattle.schema_places.specs.Numbers.{NumbersAll, place_at};
-ghost use Rattle.schema_contexts.specs.Progress.{Adds, Distinct, Enters, EndsWith, FewRows, IsWide, begun, places_in};
+ghost use Rattle.schema_contexts.specs.Progress.{Adds, Distinct, Enters, EndsWith, FewRows, IsWide, begun, busy_at, places_in};
 ghost use Rattle.schema_contexts.specs.Verdicts.{MayKeep, Remembers, is_alone, is_container, one_more, read_verdict};
 ghost use Rattle.schema_reports.specs.InstanceViews.{subject_of};
 
@@ -210,6 +210,15 @@ impl<'i> ValidationContext<'i> {
         let alloc = self.alloc;
         let places = &mut self.places;
         places.numbered(alloc)
+    }
+
+    /// Returns `true` if the pair is in progress. It allocates nothing.
+    pub fn is_in_progress(&self, node: SchemaNode, place: usize) -> bool
+        requires known { place < length (places_in self.now) }
+        ensures found { result ≡ list_any (λ i. i == node.0) (busy_at (place_at (places_in self.now) place) self.now.in_progress) }
+        ensures distinct { Distinct self.now.in_progress }
+    {
+        has_bit(&self.guard, node.0, place)
     }
 
     /// Returns `true` if the pair is already in progress; otherwise records it and returns `false`. On `Err` nothing has changed.

@@ -9,7 +9,9 @@ ghost use Rattle.schema_nodes.specs.NodeTable.{numbered, shaped_form, shaped_par
 ghost use Rattle.schema_parts.specs.EdgeViews.{edge_of};
 ghost use Rattle.schema_nodes.specs.NodeViews.{entry_of, form_of};
 ghost use Rattle.schema_node.specs.NodeRuns.{HasForm, HasParts, HasChildren};
+ghost use Rattle.schema_contexts.specs.Progress.{places_in};
 ghost use Rattle.schema_answers.specs.Askings.{asking};
+ghost use Rattle.schema_answers.specs.EvaluationPlaces.{CarriesItsNumber};
 ghost use Rattle.schema_node.specs.RunStates.{form_at_work, setting};
 ghost use Rattle.schema_node.specs.RunStates.{Keeps, MayRun};
 ghost use Rattle.schema_node.specs.RunStates.{ChildSays, EdgeSays, FormSays, NodeSays, PartsSay};
@@ -19,9 +21,9 @@ ghost use Rattle.schema_node.specs.Visits.{EdgeCounts, FormCounts, LeadsNowhere,
 
 use crate::node::run::one_below;
 use crate::node::turns::keyword_answer;
-use schema_answers::evaluation_place::EvaluationPlace;
 use schema_answers::faults::is_accepting;
 use schema_answers::question::{Engine, NamedKeyword, Question};
+use schema_answers::remembered::place_number;
 use schema_contexts::marks::child_edge;
 use schema_contexts::validation::ValidationContext;
 use schema_nodes::node::{Entry, EntryForm, NodeForm};
@@ -40,6 +42,7 @@ pub(crate) fn verdict_node<'i, K: Validate, M: Matcher>(
 ) -> Result<bool, OutOfMemory>
     requires may { MayRun (setting K.words K.is_whole K.shape M.matching engine.now) (asking question.now)
         context.old node.0 }
+    requires carries { CarriesItsNumber (places_in context.old) question.now.place.now }
     requires verdict { mode_of question.now.mode ≡ for_verdict }
     ensures keeps { IfOk result (λ _. Keeps context.old context.new) }
     ensures counts { IfOk result (λ _. context.old.visits ≤ context.new.visits) }
@@ -83,6 +86,7 @@ fn verdict_entries<'i, K: Validate, M: Matcher>(
 ) -> Result<bool, OutOfMemory>
     requires may { MayRun (setting K.words K.is_whole K.shape M.matching engine.now) (asking question.now)
         context.old node.0 }
+    requires carries { CarriesItsNumber (places_in context.old) question.now.place.now }
     requires verdict { mode_of question.now.mode ≡ for_verdict }
     requires parts { HasParts (numbered K.shape engine.now.nodes.now) node.0 (map (shaped_part K.shape) (map entry_of entries.now)) }
     ensures keeps { IfOk result (λ _. Keeps context.old context.new) }
@@ -120,6 +124,7 @@ pub(crate) fn verdict_form<'i, K: Validate, M: Matcher>(
 ) -> Result<bool, OutOfMemory>
     requires may { MayRun (setting K.words K.is_whole K.shape M.matching engine.now) (asking question.now)
         context.old node.0 }
+    requires carries { CarriesItsNumber (places_in context.old) question.now.place.now }
     requires verdict { mode_of question.now.mode ≡ for_verdict }
     requires form { HasForm (numbered K.shape engine.now.nodes.now) node.0 (shaped_form K.shape (form_of entry.now.form)) }
     ensures keeps { IfOk result (λ _. Keeps context.old context.new) }
@@ -173,6 +178,7 @@ fn verdict_keyword<'i, K: Validate, M: Matcher>(
 ) -> Result<bool, OutOfMemory>
     requires may { MayRun (setting K.words K.is_whole K.shape M.matching engine.now) (asking question.now)
         context.old node.0 }
+    requires carries { CarriesItsNumber (places_in context.old) question.now.place.now }
     requires verdict { mode_of question.now.mode ≡ for_verdict }
     requires form { HasForm (numbered K.shape engine.now.nodes.now) node.0 (form_at_work K.shape keyword.now) }
     ensures keeps { IfOk result (λ _. Keeps context.old context.new) }
@@ -205,6 +211,7 @@ pub(crate) fn verdict_child<'i, K: Validate, M: Matcher>(
 ) -> Result<bool, OutOfMemory>
     requires may { MayRun (setting K.words K.is_whole K.shape M.matching engine.now) (asking question.now)
         context.old node.0 }
+    requires carries { CarriesItsNumber (places_in context.old) question.now.place.now }
     requires verdict { mode_of question.now.mode ≡ for_verdict }
     requires children { HasChildren (numbered K.shape engine.now.nodes.now) node.0 (map (option_map edge_of) children.now) }
     requires present { IsPresent (subject_of question.now.instance) (steps_below (below_of below)) }
@@ -249,6 +256,7 @@ fn verdict_edge<'i, K: Validate, M: Matcher>(
 ) -> Result<bool, OutOfMemory>
     requires may { MayRun (setting K.words K.is_whole K.shape M.matching engine.now) (asking question.now)
         context.old edge.now.node.0 }
+    requires carries { CarriesItsNumber (places_in context.old) question.now.place.now }
     requires verdict { mode_of question.now.mode ≡ for_verdict }
     ensures keeps { IfOk result (λ _. Keeps context.old context.new) }
     ensures counts { IfOk result (λ _. context.old.visits ≤ context.new.visits) }
@@ -290,6 +298,7 @@ fn guarded_verdict<'i, K: Validate, M: Matcher>(
 ) -> Result<bool, OutOfMemory>
     requires may { MayRun (setting K.words K.is_whole K.shape M.matching engine.now) (asking question.now)
         context.old edge.now.node.0 }
+    requires carries { CarriesItsNumber (places_in context.old) question.now.place.now }
     requires verdict { mode_of question.now.mode ≡ for_verdict }
     requires guarded { edge.now.guarded ≡ true }
     ensures keeps { IfOk result (λ _. Keeps context.old context.new) }
@@ -308,16 +317,15 @@ fn guarded_verdict<'i, K: Validate, M: Matcher>(
         (edge_of edge.now) (told.Truth b)) }
 {
     let whole = question.path.across(&edge.path);
-    let shared = question.place.shared(engine.alloc)?;
-    let here = shared.as_place();
-    if context.enter_shared(edge.node, &shared)? {
+    let number = place_number(context, question.place)?;
+    if context.enter(edge.node, number)? {
         return Ok(true);
     }
-    if let Some(valid) = context.get_cached_result(edge.node, here) {
-        context.exit(edge.node, here);
+    if let Some(valid) = context.get_cached_result(edge.node, number) {
+        context.exit(edge.node, number);
         return Ok(valid);
     }
-    let place = EvaluationPlace::given(here);
+    let place = question.place.numbered(number);
     let asked = Question {
         instance: question.instance,
         place: &place,
@@ -326,7 +334,7 @@ fn guarded_verdict<'i, K: Validate, M: Matcher>(
     };
     let mark = context.start_ref_visit();
     let valid = verdict_node(engine, edge.node, &asked, context)?;
-    context.cache_result(edge.node, here, question.instance, valid, mark)?;
-    context.exit(edge.node, here);
+    context.cache_result(edge.node, number, question.instance, valid, mark)?;
+    context.exit(edge.node, number);
     Ok(valid)
 }
