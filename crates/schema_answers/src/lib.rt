@@ -3,6 +3,7 @@
 
 pub mod evaluation_place;
 pub mod faults;
+pub mod guarded;
 pub mod matches;
 pub mod question;
 pub mod remembered;

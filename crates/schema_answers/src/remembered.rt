@@ -19,26 +19,6 @@ use schema_parts::keyword::{Mode, Reply};
 use schema_parts::numbers::SchemaNode;
 use schema_reports::location::OutOfMemory;
 
-/// The number of a place of the context's instance. Fails only if memory cannot be allocated, to number the places, and then
-/// nothing has changed.
-pub fn place_number<'i>(
-    context: &mut ValidationContext<'i>,
-    place: &EvaluationPlace<'_, 'i>,
-) -> Result<usize, OutOfMemory>
-    requires carries { CarriesItsNumber (places_in context.old) place.now }
-    requires stands { is_some (subject_at (view context.old.root) (steps_to place.now)) ≡ true }
-    ensures number { IfOk result (λ n. number_of (steps_to place.now) (places_in context.old) ≡ Some n) }
-    ensures at { IfOk result (λ n. place_at (places_in context.old) n ≡ steps_to place.now) }
-    ensures known { IfOk result (λ n. n < length (places_in context.old)) }
-    ensures unchanged { context.new ≡ context.old }
-{
-    let places = context.places()?;
-    match place.number(places) {
-        Some(number) => Ok(number),
-        None => unreachable!(),
-    }
-}
-
 /// The verdict that the run remembers of a node at a place, where the question is for the verdict. It allocates nothing.
 pub fn remembered_verdict<'i>(
     context: &ValidationContext<'i>,

@@ -164,6 +164,11 @@ entered_new n p old b new e h =
 pub entered_old : (n : ℕ) (p : Place) (old : Pairs) (b : Bool) (new : Pairs) → Enters n p old b new → b ≡ true → (among n (busy_at p old) ≡ true) × (new ≡ old)
 entered_old n p old b new e h = (there n p old (e.0.0 h), rw h at e.1)
 
+-- a pair that is not in progress is entered
+pub enters_fresh : (n : ℕ) (p : Place) (old : Pairs) (b : Bool) (new : Pairs) → Enters n p old b new → among n (busy_at p old) ≡ false → new ≡ old ++ (n, p) ∷ []
+enters_fresh n p old true new e h = absurd (true≢false (sym (there n p old (e.0.0 refl)) ∙ h))
+enters_fresh n p old false new e h = e.1
+
 pub enters_old : (n : ℕ) (p : Place) (old : Pairs) → among n (busy_at p old) ≡ true → Enters n p old true old
 enters_old n p old e = ((λ h. found n p old e, λ w. refl), refl)
 
