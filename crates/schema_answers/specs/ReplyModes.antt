@@ -1,15 +1,10 @@
 -- What replies say by the mode that is asked in, alone and beside each other.
-use Rattle.std.specs.Prelude.{◌≡◌, Bool, false, is_some, not, Option, All, map}
-use Rattle.serde_json.specs.Data.{Data}
+use Rattle.std.specs.Prelude.{◌≡◌, Bool, false, is_some, not, Option, map}
 use Rattle.schema_definitions.specs.Instance.{Text}
 use Rattle.schema_definitions.specs.Reports.{Outcome}
 use Rattle.schema_definitions.specs.Keywords.{Mode, Reply, all_of_it, first_of_it, for_all, for_first, for_units, for_verdict, no_reply, truth}
 use Rattle.schema_definitions.specs.Meaning.{both, stamped}
 use Rattle.schema_definitions.specs.Runs.{first_error}
-use Rattle.schema_reports.specs.ReportViews.{BorrowsItsPlace}
-use Rattle.schema_parts.specs.KeywordViews.{reply_of}
-use Rattle.schema_parts.specs.FaultViews.{errors_in}
-use Rattle.schema_parts.specs.declared.keyword.Reply as code
 
 -- the reply that an outcome gives in a mode; none where units are wanted
 abbrev pub reply_by : Mode → Outcome → Reply
@@ -36,9 +31,3 @@ Joins a b r = (mode : Mode) (o o' : Outcome) → a ≡ reply_by mode o → b ≡
 -- the second reply says the first with its errors stamped
 abbrev pub Stamps : Option Text → Reply → Reply → Type 0
 Stamps location a r = (mode : Mode) (o : Outcome) → a ≡ reply_by mode o → r ≡ reply_by mode (record { verdict = o.verdict; errors = map (stamped location) o.errors })
-
--- the second reply says what the first does, and passes no errors but its; for the verdict it is one
-pub record SaysTheSame (mode : Mode) (a r : code.Reply) : Type 0 where
-  pub says : (texts : Bool) (o : Outcome) → reply_of texts a ≡ reply_by mode o → reply_of texts r ≡ reply_by mode o
-  pub told : mode ≡ for_verdict → (texts : Bool) → reply_of texts r ≡ truth (accepts (reply_of texts a))
-  pub borrows : (root : Data) → All (BorrowsItsPlace root) (errors_in a) → All (BorrowsItsPlace root) (errors_in r)

@@ -1,4 +1,4 @@
-//! What an answer is made of: questions, places, sites of matches, errors, replies, remembered verdicts and units.
+//! What an answer is made of: questions, places, guarded pairs, sites of matches, errors, replies and units.
 #![tactic(auto)]
 
 pub mod evaluation_place;
@@ -6,7 +6,6 @@ pub mod faults;
 pub mod guarded;
 pub mod matches;
 pub mod question;
-pub mod remembered;
 pub mod replies;
 pub mod sites;
 pub mod spots;

@@ -148,15 +148,6 @@ kept_or_not i p s mark c = go (is_container s) (is_alone i p c.in_progress) refl
     go true false e f h = inr (λ k. absurd (true≢false (sym k.alone ∙ f)))
     go true true e f h = ⊎_elim (λ l. inl (record { container = e; alone = f; enough = l })) (λ l. inr (λ k. l k.enough)) h
 
--- ---- the verdict of a reply is that of each reading of texts
-
-pub accepts_alike : (r : code.Reply) (texts texts' : Bool) → accepts (reply_of texts r) ≡ accepts (reply_of texts' r)
-accepts_alike code.TheVariants.Nothing texts texts' = refl
-accepts_alike (code.TheVariants.Truth b) texts texts' = refl
-accepts_alike (code.TheVariants.First e) texts texts' = refl
-accepts_alike (code.TheVariants.All es) texts texts' = refl
-accepts_alike (code.TheVariants.Unit u) texts texts' = refl
-
 -- ---- verdicts that are right
 
 module _ {K R : Type 0} (words : Bool → Keywords K R) (is_whole : K → Bool) (nodes : Nodes K) (count : ℕ) (matcher : Matcher) where

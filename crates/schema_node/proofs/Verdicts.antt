@@ -12,7 +12,7 @@ use Rattle.schema_reports.specs.ReportViews.{BorrowsItsPlace}
 use Rattle.schema_contexts.specs.Matches.{Settling}
 use Rattle.schema_parts.specs.KeywordViews.{reply_of}
 use Rattle.schema_parts.specs.declared.keyword.Reply.TheVariants as told
-use Rattle.schema_answers.specs.ReplyModes.{Joins, SaysTheSame, Stamps, reply_by}
+use Rattle.schema_answers.specs.ReplyModes.{Joins, Stamps, reply_by}
 use Rattle.schema_node.specs.NodeRuns.{FormReplies, Reading, Reads, Replies, child_says}
 use Rattle.schema_node.proofs.NodeRuns.{stands_in}
 
@@ -29,10 +29,6 @@ stamps_verdict location b texts for_verdict o e = e
 stamps_verdict location b texts for_first o e = absurd (cc e)
 stamps_verdict location b texts for_all o e = absurd (cc e)
 stamps_verdict location b texts for_units o e = absurd (cc e)
-
--- it says the same as itself
-pub same_verdict : (mode : Mode) (b : Bool) → SaysTheSame mode (told.Truth b) (told.Truth b)
-same_verdict mode b = record { says = λ texts o h. h; told = λ mode texts. refl; borrows = λ root h. h }
 
 module _ (mode : Mode) (wanted : mode ≡ for_verdict) where
   -- it says what an outcome of that verdict does

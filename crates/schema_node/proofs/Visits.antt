@@ -91,12 +91,12 @@ module _ {K : Type 0} (nodes : Nodes K) (q : Asking) where
         let at_free = subst (λ z. Taken true z (read_verdict e.node q.place c) depth n) free at_guarded in
         none_more c c' n same (subst (λ z. Taken true false z depth n) read at_free))
 
-    pub computed_counts : (c2 c3 c' : Context) → e.guarded ≡ true → Busy ≡ false → (q.mode ≡ for_verdict → read_verdict e.node q.place c ≡ None) → c2.in_progress ≡ c.in_progress ++ (e.node, q.place) ∷ [] → c2.verdicts ≡ c.verdicts
-        → (q.mode ≡ for_verdict → c2.visits ≡ one_more c.visits) → NodeCounts nodes q c2 c3 e.node → c'.visits ≡ c3.visits → EdgeCounts nodes q c c' e
+    pub computed_counts : (c2 c3 c' : Context) → e.guarded ≡ true → Busy ≡ false → read_verdict e.node q.place c ≡ None → c2.in_progress ≡ c.in_progress ++ (e.node, q.place) ∷ [] → c2.verdicts ≡ c.verdicts
+        → c2.visits ≡ one_more c.visits → NodeCounts nodes q c2 c3 e.node → c'.visits ≡ c3.visits → EdgeCounts nodes q c c' e
     computed_counts c2 c3 c' guarded free none pairs read counted h visits = by_depth c' (λ mode depth n takes.
         let at_guarded = subst (λ z. Taken z Busy (read_verdict e.node q.place c) depth n) guarded takes in
         let at_free = subst (λ z. Taken true z (read_verdict e.node q.place c) depth n) free at_guarded in
-        let (m, is, inner) = subst (λ z. Taken true false z depth n) (none mode) at_free in
+        let (m, is, inner) = subst (λ z. Taken true false z depth n) none at_free in
         let inner' = subst (λ es. PlanTakes (EdgeTakes nodes q.place c.verdicts depth es) (nodes.entries e.node) m) (sym pairs) inner in
         let inner2 = subst (λ vs. PlanTakes (EdgeTakes nodes q.place vs depth c2.in_progress) (nodes.entries e.node) m) (sym read) inner' in
-        visits ∙ h mode depth m inner2 ∙ ap (more_visits m) (counted mode) ∙ ap (λ k. more_visits k c.visits) (sym is))
+        visits ∙ h mode depth m inner2 ∙ ap (more_visits m) counted ∙ ap (λ k. more_visits k c.visits) (sym is))

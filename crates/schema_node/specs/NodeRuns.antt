@@ -6,7 +6,7 @@ use Rattle.serde_json.specs.Written.{has_float}
 use Rattle.schema_definitions.specs.Instance.{Place, Subject, Text, subject_at}
 use Rattle.schema_definitions.specs.Reports.{Outcome, accepted}
 use Rattle.schema_definitions.specs.Matching.{Completion, Matcher, Pair, assumed, completed}
-use Rattle.schema_definitions.specs.Keywords.{Below, Keywords, Mode, Question, Reply, here}
+use Rattle.schema_definitions.specs.Keywords.{Below, Keywords, Mode, Question, here}
 use Rattle.schema_definitions.specs.Unfinished.{or_no}
 use Rattle.schema_definitions.specs.Guarded.{Children, NodeEdge, NodeForm, NodePart, Nodes, across, guarded_within, node_asked, node_child, node_edges, node_outcome, node_part, node_parts, node_these, yes_outcome}
 use Rattle.schema_meaning.specs.Fractions.{AreWhole}

@@ -18,8 +18,8 @@ ghost use Rattle.schema_node.specs.Visits.{LeadsNowhere};
 
 use crate::node::run::one_below;
 use crate::node::turns::keyword_answer;
+use schema_answers::guarded::GuardedPair;
 use schema_answers::question::{Engine, NamedKeyword, Question};
-use schema_answers::remembered::place_number;
 use schema_answers::units::{
     accepting_unit, entries_unit, refusing_unit, unasked_unit, units_of_keyword, units_of_reference,
 };
@@ -255,18 +255,19 @@ fn evaluate_edge<'i, K: Validate, M: Matcher>(
         };
         return evaluate_node(engine, edge.node, &asked, context);
     }
-    let number = place_number(context, question.place)?;
-    let place = question.place.numbered(number);
+    let pair = GuardedPair::new(context, edge.node, question.place)?;
+    let place = pair.numbered_place();
     let asked = Question {
         instance: question.instance,
         place: &place,
         path: &whole,
         mode: question.mode,
     };
-    if context.enter(edge.node, number)? {
+    if pair.is_in_progress(context) {
         return accepting_unit(engine.alloc, engine.nodes.node(edge.node), &asked);
     }
+    pair.enter(context)?;
     let unit = evaluate_node(engine, edge.node, &asked, context)?;
-    context.exit(edge.node, number);
+    pair.exit(context);
     Ok(unit)
 }

@@ -1,12 +1,11 @@
-//! Runs of nodes over instances.
-ghost use Rattle.std.specs.Prelude.{◌≡◌, ◌<◌, ◌≤◌, Bool, IfOk, IfSome, true, false, Some, MatchOption};
+//! Runs of nodes over instances, for the first error or for all of them.
+ghost use Rattle.std.specs.Prelude.{◌≡◌, ◌≤◌, IfOk, Some, MatchOption};
 ghost use Rattle.std.specs.Prelude.{map, option_map, string_bytes};
 ghost use Rattle.schema_definitions.specs.Instance.{after_step};
 ghost use Rattle.schema_reports.specs.InstanceViews.{subject_of, step_of};
-ghost use Rattle.schema_definitions.specs.Keywords.{down, here, for_units, for_verdict};
+ghost use Rattle.schema_definitions.specs.Keywords.{down, here, for_verdict};
 ghost use Rattle.schema_definitions.specs.Laws.{IsPresent, steps_below};
-ghost use Rattle.schema_parts.specs.AtOnce.{EndsAtOnce};
-ghost use Rattle.schema_parts.specs.KeywordViews.{below_of, mode_of, Tells};
+ghost use Rattle.schema_parts.specs.KeywordViews.{below_of, mode_of};
 ghost use Rattle.schema_nodes.specs.NodeTable.{numbered, shaped_form, shaped_part};
 ghost use Rattle.schema_parts.specs.EdgeViews.{edge_of};
 ghost use Rattle.schema_nodes.specs.NodeViews.{entry_of, form_of};
@@ -18,14 +17,14 @@ ghost use Rattle.schema_node.specs.RunStates.{form_at_work, setting};
 ghost use Rattle.schema_node.specs.RunStates.{Keeps, MayRun};
 ghost use Rattle.schema_node.specs.RunStates.{ChildSays, EdgeSays, FormSays, NodeSays, PartsSay};
 ghost use Rattle.schema_node.specs.RunStates.{MeetsChild, MeetsEdge, MeetsEntry, MeetsForm, MeetsNode, MeetsParts};
-ghost use Rattle.schema_node.specs.RunStates.{EdgeRemembers, FormRemembers, NodeRemembers, PartsRemember, StaysRight};
-ghost use Rattle.schema_node.specs.Visits.{EdgeCounts, FormCounts, LeadsNowhere, NodeCounts, PartsCount};
+ghost use Rattle.schema_node.specs.RunStates.{NodeRemembers, StaysRight};
+ghost use Rattle.schema_node.specs.Visits.{LeadsNowhere, NodeCounts};
 
 use crate::node::turns::keyword_answer;
 use crate::node::verdict::{verdict_form, verdict_node};
 use schema_answers::faults::finished;
+use schema_answers::guarded::GuardedPair;
 use schema_answers::question::{Engine, NamedKeyword, Question};
-use schema_answers::remembered::{begin_visit, kept_reply, place_number, remembered_verdict};
 use schema_answers::replies::{accepted, is_settled, joined, refused, stamped_reply};
 use schema_answers::spots::{after, step_below};
 use schema_contexts::marks::child_edge;
@@ -51,22 +50,6 @@ pub(crate) fn one_below<'i>(
     match after(instance, step) {
         Some(lower) => Some(lower),
         None => unreachable!(),
-    }
-}
-
-// Whether an entry is asked for its verdict before it is asked for errors. An evaluation asks for the units at once.
-fn asks_verdict_first<K>(entry: &Entry<K>, mode: Mode) -> bool
-    ensures leaf { result ≡ true → entry.now.is_leaf ≡ true }
-    ensures wants_more { result ≡ true → ¬ (mode_of mode ≡ for_verdict) }
-    ensures wants_errors { result ≡ true → ¬ (mode_of mode ≡ for_units) }
-    ensures other { result ≡ false → ¬ (mode_of mode ≡ for_verdict) → ¬ (mode_of mode ≡ for_units)
-        → entry.now.is_leaf ≡ false }
-{
-    match mode {
-        Mode::Verdict => false,
-        Mode::First => entry.is_leaf,
-        Mode::All => entry.is_leaf,
-        Mode::Evaluate => false,
     }
 }
 
@@ -104,7 +87,7 @@ pub(crate) fn node_reply<'i, K: Validate, M: Matcher>(
     }
 }
 
-// The reply of a node at a place.
+// The reply of a node at a place, where errors are wanted.
 #[cycle(run)]
 fn run_node<'i, K: Validate, M: Matcher>(
     engine: &Engine<'_, K, M>,
@@ -115,10 +98,9 @@ fn run_node<'i, K: Validate, M: Matcher>(
     requires may { MayRun (setting K.words K.is_whole K.shape M.matching engine.now) (asking question.now)
         context.old node.0 }
     requires carries { CarriesItsNumber (places_in context.old) question.now.place.now }
+    requires more { ¬ (mode_of question.now.mode ≡ for_verdict) }
     ensures keeps { IfOk result (λ _. Keeps context.old context.new) }
     ensures counts { IfOk result (λ _. context.old.visits ≤ context.new.visits) }
-    ensures visits { IfOk result (λ _. NodeCounts (numbered K.shape engine.now.nodes.now)
-        (asking question.now) context.old context.new node.0) }
     ensures says { IfOk result (λ r. NodeSays
         (setting K.words K.is_whole K.shape M.matching engine.now) (asking question.now)
         context.old node.0 r) }
@@ -127,8 +109,6 @@ fn run_node<'i, K: Validate, M: Matcher>(
         context.old context.new node.0) }
     ensures stays { IfOk result (λ _. StaysRight
         (setting K.words K.is_whole K.shape M.matching engine.now) (asking question.now) context.old context.new) }
-    ensures remembers { IfOk result (λ r. NodeRemembers (asking question.now) context.old context.new
-        (numbered K.shape engine.now.nodes.now) node.0 r) }
 {
     let found = engine.nodes.node(node);
     match &found.form {
@@ -159,11 +139,10 @@ fn run_entries<'i, K: Validate, M: Matcher>(
     requires may { MayRun (setting K.words K.is_whole K.shape M.matching engine.now) (asking question.now)
         context.old node.0 }
     requires carries { CarriesItsNumber (places_in context.old) question.now.place.now }
+    requires more { ¬ (mode_of question.now.mode ≡ for_verdict) }
     requires parts { HasParts (numbered K.shape engine.now.nodes.now) node.0 (map (shaped_part K.shape) (map entry_of entries.now)) }
     ensures keeps { IfOk result (λ _. Keeps context.old context.new) }
     ensures counts { IfOk result (λ _. context.old.visits ≤ context.new.visits) }
-    ensures visits { IfOk result (λ _. PartsCount (numbered K.shape engine.now.nodes.now)
-        (asking question.now) context.old context.new (map (shaped_part K.shape) (map entry_of entries.now))) }
     ensures says { IfOk result (λ r. PartsSay
         (setting K.words K.is_whole K.shape M.matching engine.now) (asking question.now)
         context.old node.0 (map (shaped_part K.shape) (map entry_of entries.now)) r) }
@@ -172,8 +151,6 @@ fn run_entries<'i, K: Validate, M: Matcher>(
         context.old context.new node.0 (map (shaped_part K.shape) (map entry_of entries.now))) }
     ensures stays { IfOk result (λ _. StaysRight
         (setting K.words K.is_whole K.shape M.matching engine.now) (asking question.now) context.old context.new) }
-    ensures remembers { IfOk result (λ r. PartsRemember (asking question.now) context.old context.new
-        (map (shaped_part K.shape) (map entry_of entries.now)) r) }
 {
     let mut found = accepted(engine.alloc, question.mode);
     for entry in entries {
@@ -198,11 +175,10 @@ fn run_entry<'i, K: Validate, M: Matcher>(
     requires may { MayRun (setting K.words K.is_whole K.shape M.matching engine.now) (asking question.now)
         context.old node.0 }
     requires carries { CarriesItsNumber (places_in context.old) question.now.place.now }
+    requires more { ¬ (mode_of question.now.mode ≡ for_verdict) }
     requires form { HasForm (numbered K.shape engine.now.nodes.now) node.0 (shaped_form K.shape (form_of entry.now.form)) }
     ensures keeps { IfOk result (λ _. Keeps context.old context.new) }
     ensures counts { IfOk result (λ _. context.old.visits ≤ context.new.visits) }
-    ensures visits { IfOk result (λ _. FormCounts (numbered K.shape engine.now.nodes.now)
-        (asking question.now) context.old context.new (shaped_form K.shape (form_of entry.now.form))) }
     ensures says { IfOk result (λ r. FormSays
         (setting K.words K.is_whole K.shape M.matching engine.now) (asking question.now)
         context.old node.0 (string_bytes entry.now.name) (shaped_form K.shape (form_of entry.now.form)) r) }
@@ -211,10 +187,8 @@ fn run_entry<'i, K: Validate, M: Matcher>(
         context.old context.new node.0 (shaped_part K.shape (entry_of entry.now))) }
     ensures stays { IfOk result (λ _. StaysRight
         (setting K.words K.is_whole K.shape M.matching engine.now) (asking question.now) context.old context.new) }
-    ensures remembers { IfOk result (λ r. FormRemembers (asking question.now) context.old context.new
-        (shaped_form K.shape (form_of entry.now.form)) r) }
 {
-    if asks_verdict_first(entry, question.mode) {
+    if entry.is_leaf {
         let asked = Question {
             instance: question.instance,
             place: question.place,
@@ -242,11 +216,10 @@ fn run_form<'i, K: Validate, M: Matcher>(
     requires may { MayRun (setting K.words K.is_whole K.shape M.matching engine.now) (asking question.now)
         context.old node.0 }
     requires carries { CarriesItsNumber (places_in context.old) question.now.place.now }
+    requires more { ¬ (mode_of question.now.mode ≡ for_verdict) }
     requires form { HasForm (numbered K.shape engine.now.nodes.now) node.0 (shaped_form K.shape (form_of entry.now.form)) }
     ensures keeps { IfOk result (λ _. Keeps context.old context.new) }
     ensures counts { IfOk result (λ _. context.old.visits ≤ context.new.visits) }
-    ensures visits { IfOk result (λ _. FormCounts (numbered K.shape engine.now.nodes.now)
-        (asking question.now) context.old context.new (shaped_form K.shape (form_of entry.now.form))) }
     ensures says { IfOk result (λ r. FormSays
         (setting K.words K.is_whole K.shape M.matching engine.now) (asking question.now)
         context.old node.0 (string_bytes entry.now.name) (shaped_form K.shape (form_of entry.now.form)) r) }
@@ -255,8 +228,6 @@ fn run_form<'i, K: Validate, M: Matcher>(
         context.old context.new node.0 (string_bytes entry.now.name) (shaped_form K.shape (form_of entry.now.form))) }
     ensures stays { IfOk result (λ _. StaysRight
         (setting K.words K.is_whole K.shape M.matching engine.now) (asking question.now) context.old context.new) }
-    ensures remembers { IfOk result (λ r. FormRemembers (asking question.now) context.old context.new
-        (shaped_form K.shape (form_of entry.now.form)) r) }
 {
     match &entry.form {
         EntryForm::Keyword(keyword, children) => {
@@ -281,25 +252,7 @@ fn run_form<'i, K: Validate, M: Matcher>(
     }
 }
 
-// What a keyword tells at once of the instance, where the verdict is wanted.
-fn verdict_at_once<K: Validate>(
-    keyword: &NamedKeyword<'_, K>,
-    question: &Question<'_, '_>,
-) -> Option<bool>
-    ensures verdict { IfSome result (λ _. mode_of question.now.mode ≡ for_verdict) }
-    ensures at_once { IfSome result (λ valid. (texts : Bool)
-        → Tells texts (K.is_whole (K.shape keyword.now.keyword.now)) (subject_of question.now.instance)
-        → EndsAtOnce (K.words texts) (K.shape keyword.now.keyword.now) (subject_of question.now.instance) valid) }
-{
-    match question.mode {
-        Mode::Verdict => keyword.keyword.is_valid_at_once(question.instance),
-        Mode::First => None,
-        Mode::All => None,
-        Mode::Evaluate => None,
-    }
-}
-
-// The reply of a keyword, by its answer. One that tells its verdict at once takes no run.
+// The reply of a keyword, by its answer.
 #[cycle(run)]
 fn run_keyword<'i, K: Validate, M: Matcher>(
     engine: &Engine<'_, K, M>,
@@ -311,11 +264,10 @@ fn run_keyword<'i, K: Validate, M: Matcher>(
     requires may { MayRun (setting K.words K.is_whole K.shape M.matching engine.now) (asking question.now)
         context.old node.0 }
     requires carries { CarriesItsNumber (places_in context.old) question.now.place.now }
+    requires more { ¬ (mode_of question.now.mode ≡ for_verdict) }
     requires form { HasForm (numbered K.shape engine.now.nodes.now) node.0 (form_at_work K.shape keyword.now) }
     ensures keeps { IfOk result (λ _. Keeps context.old context.new) }
     ensures counts { IfOk result (λ _. context.old.visits ≤ context.new.visits) }
-    ensures visits { IfOk result (λ _. FormCounts (numbered K.shape engine.now.nodes.now)
-        (asking question.now) context.old context.new (form_at_work K.shape keyword.now)) }
     ensures says { IfOk result (λ r. FormSays
         (setting K.words K.is_whole K.shape M.matching engine.now) (asking question.now)
         context.old node.0 (string_bytes keyword.now.name.now) (form_at_work K.shape keyword.now) r) }
@@ -325,9 +277,6 @@ fn run_keyword<'i, K: Validate, M: Matcher>(
     ensures stays { IfOk result (λ _. StaysRight
         (setting K.words K.is_whole K.shape M.matching engine.now) (asking question.now) context.old context.new) }
 {
-    if let Some(valid) = verdict_at_once(keyword, question) {
-        return Ok(Reply::Truth(valid));
-    }
     let answer = keyword_answer(engine, node, keyword, question, context)?;
     finished(
         engine.alloc,
@@ -353,6 +302,7 @@ pub(crate) fn run_child<'i, K: Validate, M: Matcher>(
     requires may { MayRun (setting K.words K.is_whole K.shape M.matching engine.now) (asking question.now)
         context.old node.0 }
     requires carries { CarriesItsNumber (places_in context.old) question.now.place.now }
+    requires more { ¬ (mode_of question.now.mode ≡ for_verdict) }
     requires children { HasChildren (numbered K.shape engine.now.nodes.now) node.0 (map (option_map edge_of) children.now) }
     requires present { IsPresent (subject_of question.now.instance) (steps_below (below_of below)) }
     ensures keeps { IfOk result (λ _. Keeps context.old context.new) }
@@ -385,8 +335,7 @@ pub(crate) fn run_child<'i, K: Validate, M: Matcher>(
     }
 }
 
-// The reply of the node that an edge leads to; yes where the edge is guarded and the pair is in progress. Where it is guarded and
-// the verdict is wanted, one that the run remembers is the reply, and one that is computed is remembered where it may be.
+// The reply of the node that an edge leads to; yes where the edge is guarded and the pair is in progress.
 #[cycle(run)]
 fn run_edge<'i, K: Validate, M: Matcher>(
     engine: &Engine<'_, K, M>,
@@ -397,10 +346,9 @@ fn run_edge<'i, K: Validate, M: Matcher>(
     requires may { MayRun (setting K.words K.is_whole K.shape M.matching engine.now) (asking question.now)
         context.old edge.now.node.0 }
     requires carries { CarriesItsNumber (places_in context.old) question.now.place.now }
+    requires more { ¬ (mode_of question.now.mode ≡ for_verdict) }
     ensures keeps { IfOk result (λ _. Keeps context.old context.new) }
     ensures counts { IfOk result (λ _. context.old.visits ≤ context.new.visits) }
-    ensures visits { IfOk result (λ _. EdgeCounts (numbered K.shape engine.now.nodes.now)
-        (asking question.now) context.old context.new (edge_of edge.now)) }
     ensures says { IfOk result (λ r. EdgeSays
         (setting K.words K.is_whole K.shape M.matching engine.now) (asking question.now)
         context.old (edge_of edge.now) r) }
@@ -409,8 +357,6 @@ fn run_edge<'i, K: Validate, M: Matcher>(
         context.old context.new (edge_of edge.now)) }
     ensures stays { IfOk result (λ _. StaysRight
         (setting K.words K.is_whole K.shape M.matching engine.now) (asking question.now) context.old context.new) }
-    ensures remembers { IfOk result (λ r. EdgeRemembers (asking question.now) context.old context.new
-        (edge_of edge.now) r) }
 {
     let whole = question.path.across(&edge.path);
     if !edge.guarded {
@@ -422,24 +368,19 @@ fn run_edge<'i, K: Validate, M: Matcher>(
         };
         return run_node(engine, edge.node, &asked, context);
     }
-    let here = place_number(context, question.place)?;
-    if context.enter(edge.node, here)? {
+    let pair = GuardedPair::new(context, edge.node, question.place)?;
+    if pair.is_in_progress(context) {
         return Ok(accepted(engine.alloc, question.mode));
     }
-    let place = question.place.numbered(here);
+    pair.enter(context)?;
+    let place = pair.numbered_place();
     let asked = Question {
         instance: question.instance,
         place: &place,
         path: &whole,
         mode: question.mode,
     };
-    if let Some(valid) = remembered_verdict(context, edge.node, here, question.mode) {
-        context.exit(edge.node, here);
-        return Ok(Reply::Truth(valid));
-    }
-    let mark = begin_visit(context, question.mode);
-    let computed = run_node(engine, edge.node, &asked, context)?;
-    let reply = kept_reply(context, edge.node, here, &asked, computed, mark)?;
-    context.exit(edge.node, here);
+    let reply = run_node(engine, edge.node, &asked, context)?;
+    pair.exit(context);
     Ok(reply)
 }

@@ -93,6 +93,7 @@ fn run_turns<'i, K: Validate, M: Matcher>(
         (K.shape keyword.now.keyword.now) run.old answer.old }
     requires no_faults { faults_in answer.old ≡ [] }
     requires no_marks { context.old.marking ≡ [] }
+    ensures root { IfOk result (λ _. context.new.root ≡ context.old.root) }
     ensures kept { IfOk result (λ _. context.new.in_progress ≡ context.old.in_progress) }
     ensures assumes { IfOk result (λ _. context.new.remembered.assumptions ≡ context.old.remembered.assumptions) }
     ensures counts { IfOk result (λ _. context.old.visits ≤ context.new.visits) }

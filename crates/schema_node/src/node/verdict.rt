@@ -22,8 +22,8 @@ ghost use Rattle.schema_node.specs.Visits.{EdgeCounts, FormCounts, LeadsNowhere,
 use crate::node::run::one_below;
 use crate::node::turns::keyword_answer;
 use schema_answers::faults::is_accepting;
+use schema_answers::guarded::GuardedPair;
 use schema_answers::question::{Engine, NamedKeyword, Question};
-use schema_answers::remembered::place_number;
 use schema_contexts::marks::child_edge;
 use schema_contexts::validation::ValidationContext;
 use schema_nodes::node::{Entry, EntryForm, NodeForm};
@@ -316,16 +316,16 @@ fn guarded_verdict<'i, K: Validate, M: Matcher>(
     ensures remembers { IfOk result (λ b. EdgeRemembers (asking question.now) context.old context.new
         (edge_of edge.now) (told.Truth b)) }
 {
-    let whole = question.path.across(&edge.path);
-    let number = place_number(context, question.place)?;
-    if context.enter(edge.node, number)? {
+    let pair = GuardedPair::new(context, edge.node, question.place)?;
+    if pair.is_in_progress(context) {
         return Ok(true);
     }
-    if let Some(valid) = context.get_cached_result(edge.node, number) {
-        context.exit(edge.node, number);
+    if let Some(valid) = pair.remembered_verdict(context) {
         return Ok(valid);
     }
-    let place = question.place.numbered(number);
+    pair.enter(context)?;
+    let place = pair.numbered_place();
+    let whole = question.path.across(&edge.path);
     let asked = Question {
         instance: question.instance,
         place: &place,
@@ -334,7 +334,7 @@ fn guarded_verdict<'i, K: Validate, M: Matcher>(
     };
     let mark = context.start_ref_visit();
     let valid = verdict_node(engine, edge.node, &asked, context)?;
-    context.cache_result(edge.node, number, question.instance, valid, mark)?;
-    context.exit(edge.node, number);
+    pair.keep_verdict(context, question.instance, valid, mark)?;
+    pair.exit(context);
     Ok(valid)
 }

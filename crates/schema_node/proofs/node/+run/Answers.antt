@@ -2,11 +2,14 @@ use Rattle.std.proofs.lemmas.List.Elements.{All-nil}
 use Rattle.std.specs.Prelude.{All, option_and_then}
 use Rattle.schema_reports.specs.ReportViews.{BorrowsItsPlace}
 use Rattle.schema_parts.specs.FaultViews.{PassesBorrowed}
-use Rattle.std.proofs.Common.{◌≡◌, ◌∙◌, ◌+◌, ◌*◌, ◌<◌, ◌≤◌, ℕ, Bool, suc, arith, sym, refl, ap, subst, map, option_map, string_bytes, length, Some, false, true, true≢false, List, None, [], ◌∷◌, ◌++◌, drop}
+use Rattle.std.proofs.Common.{◌≡◌, ◌∙◌, ◌+◌, ◌*◌, ◌<◌, ◌≤◌, ℕ, Bool, suc, arith, sym, refl, ap, subst, map, option_map, string_bytes, length, Some, false, true, true≢false, List, [], ◌∷◌, ◌++◌, drop}
 use Rattle.schema_reports.specs.InstanceViews.{subject_of, step_of}
 use Rattle.schema_definitions.specs.Instance.{Text}
 use Rattle.schema_definitions.specs.Keywords.{Marked, MatchPoint, Mode, Question, ask, done, ecma, for_verdict, mark, match_text, no_reply, truth, unmark}
-use Rattle.schema_answers.specs.EvaluationPlaces.{steps_to}
+use Rattle.schema_answers.specs.EvaluationPlaces.{CarriesItsNumber, steps_to}
+use Rattle.schema_answers.specs.GuardedPairs.{place_of}
+use Rattle.schema_node.proofs.Placing.{carries_on, pair_busy, pair_entered, stands_at, stands_below, stands_on}
+use Rattle.schema_contexts.specs.Progress.{places_in}
 use Rattle.schema_contexts.specs.EvaluationPaths.{path_of}
 use Rattle.schema_definitions.specs.Meaning.{Where}
 use Rattle.schema_meaning.specs.Numbered.{left, subject_in}
@@ -14,7 +17,7 @@ use Rattle.schema_definitions.specs.Laws.{IsRight}
 use Rattle.schema_definitions.specs.Runs.{keyword_met, plan_met, site_at}
 use Rattle.schema_definitions.specs.Unfinished.{Remembered}
 use Rattle.schema_definitions.specs.Matching.{Matcher, Pair, completed, matching, settled}
-use Rattle.schema_definitions.specs.Guarded.{node_at, node_keyword, node_never, same_edge, node_always, node_reference}
+use Rattle.schema_definitions.specs.Guarded.{node_at, node_never, same_edge, node_always, node_reference}
 use Rattle.schema_parts.specs.KeywordViews.{below_of, marked_of, mode_of, reply_of, answer_of}
 use Rattle.schema_contexts.specs.Matches.{after_match, settling}
 use Rattle.schema_node.specs.NodeMeets.{ChildMeets, EdgeMeets, EntryMeets, FormMeets, child_run, part_looked, parts_looked, reading}
@@ -23,14 +26,14 @@ use Rattle.schema_parts.specs.EdgeViews.{edge_of}
 use Rattle.schema_nodes.specs.NodeViews.{entry_of, form_of, node_of, plan_of}
 use Rattle.schema_answers.specs.Askings.{entry_where}
 use Rattle.schema_answers.specs.ReplyModes.{refuses, reply_by}
-use Rattle.schema_node.specs.NodeRuns.{EdgeReplies, child_says, edge_needs, form_says, parts_say}
+use Rattle.schema_node.specs.NodeRuns.{EdgeReplies, child_says, edge_needs, parts_say}
 use Rattle.schema_contexts.specs.Progress.{Context, NoDeeper, busy_at}
 use Rattle.schema_node.specs.RightVerdicts.{LaysOut}
 use Rattle.schema_answers.specs.Askings.{asking, Asking}
 use Rattle.schema_node.specs.RunStates.{EdgeRemembers, FormRemembers, FormSays, MeetsNode, NodeSays, RemembersRightly, StaysRight, setting}
-use Rattle.schema_contexts.specs.Verdicts.{one_more, read_in_mode, visited_in_mode}
+use Rattle.schema_contexts.specs.Verdicts.{one_more}
 use Rattle.schema_parts.specs.declared.keyword.Reply.TheVariants as told
-use Rattle.schema_node.proofs.GoesOn.{alone_remembers, asked_across, computed_meets, computed_remembers, computed_says, computed_stays, ended_remembers, pairs_back, planned_remembers, read_for_verdict, read_meets_edge, read_remembers, read_says, right_matched, right_same, stamped_remembers}
+use Rattle.schema_node.proofs.GoesOn.{alone_remembers, asked_across, computed_meets, computed_says, computed_stays, ended_remembers, kept_remembers, kept_stays, pairs_back, planned_remembers, read_meets_edge, read_remembers, read_says, reference_remembers, right_matched, right_same}
 use Rattle.schema_node.proofs.RightVerdicts.{laid_below, read_entered}
 use Rattle.schema_node.proofs.Visits.{always_counts, busy_counts, computed_counts, ended_counts, free_counts, keyword_counts, never_counts, next_counts, planned_counts, read_counts}
 use Rattle.schema_node.specs.Visits.{NodeCounts}
@@ -54,7 +57,7 @@ use Rattle.schema_meaning.proofs.TurnsGiveRuns.{keeps_of_turns}
 use Rattle.schema_node.specs.UnitStates.{child_unit, parts_units}
 use Rattle.schema_node.proofs.NodeUnits.{entered_meets, finds_moved, finds_units, form_moved, gives_always, gives_below, gives_busy, gives_entered, gives_here, gives_keyword, gives_never, gives_reference, gives_these, placed_last, placed_next, tells_moved}
 use Rattle.schema_node.proofs.UnitsAsked.{answer_is, child_valid, told_is}
-use Rattle.schema_node.proofs.Verdicts.{joins_verdict, keyword_replies, same_verdict, stamps_verdict, verdict_replies, yes_says}
+use Rattle.schema_node.proofs.Verdicts.{joins_verdict, keyword_replies, stamps_verdict, verdict_replies, yes_says}
 use Rattle.schema_node.proofs.node.+run.Goals as goal
 
 -- ---- a call's measure falls
@@ -109,7 +112,7 @@ run::run_child-run_edge-requires g t c =
     let e = edge_of c.in-Some.edge.now in
     let k = c.requires.children c.args.child e (sym c.in-Some.ensures.edge) in
     let l = falls_here g.K.Validate.words g.K.Validate.is_whole ns (length c.args.engine.now.nodes.now) (settling (g.M.Matcher.matching c.args.engine.now.matcher.now) c.args.context.now.remembered.assumptions) c.requires.may.ranked c.args.node.0 (subject_of c.args.question.now.instance) (busy_at (steps_to c.args.question.now.place.now) c.args.context.now.in_progress) e c.requires.may.known k in
-    λ κs h. (lower_edge _ _ _ t 0 refl l c.decreases, (h.0, (h.1.0, (h.1.1.0, (h.1.1.1, record { known = (c.requires.may.ranked c.args.node.0 c.requires.may.known e k).0; ranked = c.requires.may.ranked; above = c.requires.may.above; wanted = c.requires.may.wanted; goes_on = c.requires.may.goes_on })))))
+    λ κs h. (lower_edge _ _ _ t 0 refl l c.decreases, (h.0, (h.1.0, (h.1.1.0, (h.1.1.1, (record { known = (c.requires.may.ranked c.args.node.0 c.requires.may.known e k).0; ranked = c.requires.may.ranked; above = c.requires.may.above; wanted = c.requires.may.wanted; stands = c.requires.may.stands; goes_on = c.requires.may.goes_on }, (c.requires.carries, c.requires.more)))))))
 
 pub run::run_child-run_edge-requires-in-Some-one_below : goal.run::run_child-run_edge-requires-in-Some-one_below
 run::run_child-run_edge-requires-in-Some-one_below g t c =
@@ -125,7 +128,7 @@ run::run_child-run_edge-requires-in-Some-one_below g t c =
     let n = ap (edge_needs ns (length c.args.engine.now.nodes.now) e (subject_of c.in-Some-one_below.inner)) none in
     let (layout, laid, right) = c.requires.may.goes_on in
     let below = laid_below layout p (subject_of c.args.question.now.instance) (subject_of c.in-Some-one_below.inner) step (steps_to c.below-lower.result) laid c.below-lower.ensures.below c.in-Some-one_below.ensures.below.1 in
-    λ κs h. (lower_edge _ _ _ t 0 n l c.decreases, (h.0, (h.1.0, (h.1.1.0, (h.1.1.1, record { known = (c.requires.may.ranked c.args.node.0 c.requires.may.known e k).0; ranked = c.requires.may.ranked; above = deeper; wanted = c.requires.may.wanted; goes_on = (layout, below, right) })))))
+    λ κs h. (lower_edge _ _ _ t 0 n l c.decreases, (h.0, (h.1.0, (h.1.1.0, (h.1.1.1, (record { known = (c.requires.may.ranked c.args.node.0 c.requires.may.known e k).0; ranked = c.requires.may.ranked; above = deeper; wanted = c.requires.may.wanted; stands = stands_below (view c.args.context.now.root) p (subject_of c.args.question.now.instance) (subject_of c.in-Some-one_below.inner) step (steps_to c.below-lower.result) c.requires.may.stands c.below-lower.ensures.below c.in-Some-one_below.ensures.below.1; goes_on = (layout, below, right) }, (c.below-lower.ensures.carries (places_in c.args.context.now) c.requires.carries, c.requires.more)))))))
 
 pub run::run_child-returns-in-None-one_below-clause-says : goal.run::run_child-returns-in-None-one_below-clause-says
 run::run_child-returns-in-None-one_below-clause-says g t c =
@@ -154,43 +157,13 @@ run::run_child-returns-in-Some-one_below-clause-says g t c =
     (record { child = c.args.child; below = below_of c.args.below }) r e step (steps_to c.below-lower.result) inner (sym c.in-Some.ensures.edge) c.in-Some-one_below.ensures.below.0
     c.below-lower.ensures.below c.in-Some-one_below.ensures.below.1 l answer) c.run_edge-in-Some-one_below.ensures.says
 
-pub run::run_edge-returns-then-branch-clause-says : goal.run::run_edge-returns-then-branch-clause-says
-run::run_edge-returns-then-branch-clause-says g t c =
-    let p = steps_to c.args.question.now.place.now in
-    let e = edge_of c.args.edge.now in
-    let old = entered_old e.node p c.args.context.now.in_progress c.in_ok-enter_shared.field-0 c.enter_shared.new.self.in_progress (rw c.in_ok-shared.ensures.same at c.in_ok-enter_shared.ensures.enters) c.if-branch.true in
-    edge_busy g.K.Validate.words g.K.Validate.is_whole (numbered g.K.Validate.shape c.args.engine.now.nodes.now) (length c.args.engine.now.nodes.now) (settling (g.M.Matcher.matching c.args.engine.now.matcher.now) c.args.context.now.remembered.assumptions) (subject_of c.args.question.now.instance) (busy_at p c.args.context.now.in_progress) e (mode_of c.args.question.now.mode) (path_of c.args.question.now.path.now) p c.accepted.result
-    c.if-not-edge.false old.0 c.accepted.ensures.accepts c.accepted.ensures.no_errors
-
-pub run::run_edge-run_node-requires-2 : goal.run::run_edge-run_node-requires-2
-run::run_edge-run_node-requires-2 g t c =
-    let ns = numbered g.K.Validate.shape c.args.engine.now.nodes.now in
-    let p = steps_to c.args.question.now.place.now in
-    let e = edge_of c.args.edge.now in
-    let s = subject_of c.args.question.now.instance in
-    let entered = entered_new e.node p c.args.context.now.in_progress c.in_ok-enter_shared.field-0 c.enter_shared.new.self.in_progress (rw c.in_ok-shared.ensures.same at c.in_ok-enter_shared.ensures.enters) c.if-branch.false in
-    let pairs = ap (λ (z : Context). z.in_progress) c.begin_visit-mark.ensures.counted in
-    let new : c.begin_visit-mark.new.context.in_progress ≡ c.args.context.now.in_progress ++ (e.node, p) ∷ [] = pairs ∙ entered.1 in
-    let busy : busy_at p c.begin_visit-mark.new.context.in_progress ≡ e.node ∷ busy_at p c.args.context.now.in_progress = ap (busy_at p) new ∙ busy-pushed p e.node c.args.context.now.in_progress in
-    let needs = needs_of_entered g.K.Validate.words g.K.Validate.is_whole ns (length c.args.engine.now.nodes.now) (settling (g.M.Matcher.matching c.args.engine.now.matcher.now) c.args.context.now.remembered.assumptions) s (busy_at p c.args.context.now.in_progress) e c.if-not-edge.false entered.0 in
-    let there : steps_to c.given-place.result ≡ p = c.given-place.ensures.same ∙ c.as_place-here.ensures.same ∙ c.in_ok-shared.ensures.same in
-    let l = ap (λ q. left ns (length c.args.engine.now.nodes.now) e.node s (busy_at q c.begin_visit-mark.new.context.in_progress)) there ∙ ap (left ns (length c.args.engine.now.nodes.now) e.node s) busy in
-    let deeper = subst (λ q. NoDeeper q c.begin_visit-mark.new.context.in_progress) (sym there) (subst (NoDeeper p) (sym new) (deeper-pushed p e.node c.args.context.now.in_progress c.requires.may.above)) in
-    let (layout, laid, right) = c.requires.may.goes_on in
-    let set = setting g.K.Validate.words g.K.Validate.is_whole g.K.Validate.shape g.M.Matcher.matching c.args.engine.now in
-    let met = ap (λ (z : Context). z.remembered) c.begin_visit-mark.ensures.counted ∙ c.enter_shared.ensures.remembered in
-    let read = ap (λ (z : Context). z.verdicts) c.begin_visit-mark.ensures.counted ∙ c.enter_shared.ensures.verdicts in
-    let laid' = subst (λ q. LaysOut layout q s) (sym there) laid in
-    let right' = right_same set layout c.args.context.now c.begin_visit-mark.new.context met read right in
-    λ κs h. (lower_entered _ _ _ t l needs c.decreases, (h.0, (h.1.0, (h.1.1.0, (h.1.1.1, record { known = c.requires.may.known; ranked = c.requires.may.ranked; above = deeper; wanted = c.requires.may.wanted; goes_on = (layout, laid', right') })))))
-
 pub run::run_form-run_edge-requires : goal.run::run_form-run_edge-requires
 run::run_form-run_edge-requires g t c =
     let ns = numbered g.K.Validate.shape c.args.engine.now.nodes.now in
     let e = edge_of c.in-Reference.edge in
     let k = reference_edge ns c.args.node.0 e (rw c.in-Reference.is at c.requires.form) in
     let l = falls_here g.K.Validate.words g.K.Validate.is_whole ns (length c.args.engine.now.nodes.now) (settling (g.M.Matcher.matching c.args.engine.now.matcher.now) c.args.context.now.remembered.assumptions) c.requires.may.ranked c.args.node.0 (subject_of c.args.question.now.instance) (busy_at (steps_to c.args.question.now.place.now) c.args.context.now.in_progress) e c.requires.may.known k in
-    λ κs h. (lower_edge _ _ _ t 6 refl l c.decreases, (h.0, (h.1.0, (h.1.1.0, (h.1.1.1, record { known = (c.requires.may.ranked c.args.node.0 c.requires.may.known e k).0; ranked = c.requires.may.ranked; above = c.requires.may.above; wanted = c.requires.may.wanted; goes_on = c.requires.may.goes_on })))))
+    λ κs h. (lower_edge _ _ _ t 6 refl l c.decreases, (h.0, (h.1.0, (h.1.1.0, (h.1.1.1, (record { known = (c.requires.may.ranked c.args.node.0 c.requires.may.known e k).0; ranked = c.requires.may.ranked; above = c.requires.may.above; wanted = c.requires.may.wanted; stands = c.requires.may.stands; goes_on = c.requires.may.goes_on }, (c.requires.carries, c.requires.more)))))))
 
 pub run::run_form-returns-in-Keyword-clause-says : goal.run::run_form-returns-in-Keyword-clause-says
 run::run_form-returns-in-Keyword-clause-says g t c = rw (c.in-Keyword.is, ← c.as_slice.ensures.value) c.run_keyword.ensures.says
@@ -208,7 +181,7 @@ run::run_form-returns-in_ok-reply-in-Reference-clause-says g t c =
 pub run::run_node-run_entries-requires : goal.run::run_node-run_entries-requires
 run::run_node-run_entries-requires g t c =
     let plan = plan_is g.K.Validate.shape c.args.engine.now.nodes.now c.args.node.0 (node_of c.node-found.result.now) _ c.node-found.ensures.found (ap (option_map plan_of) c.in-Some.is ∙ ap (λ f. Some (plan_of f)) c.in-Keywords.is) in
-    λ κs h. (lower_same _ _ t 9 0 refl c.decreases, (h.0, (h.1.0, (h.1.1.0, (h.1.1.1, (c.requires.may, rw c.as_slice.ensures.value (_, plan, λ y k. k)))))))
+    λ κs h. (lower_same _ _ t 9 0 refl c.decreases, (h.0, (h.1.0, (h.1.1.0, (h.1.1.1, (c.requires.may, (c.requires.carries, (c.requires.more, rw c.as_slice.ensures.value (_, plan, λ y k. k)))))))))
 
 pub run::run_node-returns-in-Never-clause-says : goal.run::run_node-returns-in-Never-clause-says
 run::run_node-returns-in-Never-clause-says g t c =
@@ -232,10 +205,8 @@ run::run_node-returns-in-Keywords-clause-says g t c =
 pub run::run_entries-loop-entry-init : goal.run::run_entries-loop-entry-init
 run::run_entries-loop-entry-init g t c = record {
   stays = λ layout laid right. right;
-  first = λ e. (refl, c.accepted-found.ensures.accepts);
-  remembers = λ l. absurd (omega (arith, l));
-  visited = λ l. absurd (omega (arith, l));
   marking = refl;
+  root = refl;
   kept = refl;
   assumes = refl;
   unsettled = λ texts. ap refuses (c.accepted-found.ensures.accepts texts) ∙ nothing_refused (mode_of c.args.question.now.mode);
@@ -251,14 +222,12 @@ run::run_entries-run_entry-requires g t c =
     let kept = c.loop-entry.invariant.kept in
     let l = ap (λ es. left ns (length c.args.engine.now.nodes.now) c.args.node.0 (subject_of c.args.question.now.instance) (busy_at p es)) kept in
     let here = part_at entry_of (shaped_part g.K.Validate.shape) c.args.entries.now c.loop-entry.entry-index c.entry-item.result c.loop-entry-test.true c.entry-item.is in
-    λ κs h. (lower_same _ _ t 8 0 l c.decreases, (h.0, (h.1.0, (h.1.1.0, (h.1.1.1, (record { known = c.requires.may.known; ranked = c.requires.may.ranked; above = subst (NoDeeper p) (sym kept) c.requires.may.above; wanted = c.requires.may.wanted; goes_on = (c.requires.may.goes_on.0, c.requires.may.goes_on.1, c.loop-entry.invariant.stays c.requires.may.goes_on.0 c.requires.may.goes_on.1 c.requires.may.goes_on.2) }, (c.requires.parts.0, c.requires.parts.1, shaped_part g.K.Validate.shape (entry_of c.entry-item.result), c.requires.parts.2 _ here, refl)))))))
+    λ κs h. (lower_same _ _ t 8 0 l c.decreases, (h.0, (h.1.0, (h.1.1.0, (h.1.1.1, (record { known = c.requires.may.known; ranked = c.requires.may.ranked; above = subst (NoDeeper p) (sym kept) c.requires.may.above; wanted = c.requires.may.wanted; stands = stands_on c.args.context.now.root _ (asking c.args.question.now) c.loop-entry.invariant.root c.requires.may.stands; goes_on = (c.requires.may.goes_on.0, c.requires.may.goes_on.1, c.loop-entry.invariant.stays c.requires.may.goes_on.0 c.requires.may.goes_on.1 c.requires.may.goes_on.2) }, (carries_on c.args.context.now.root _ c.args.question.now.place.now c.loop-entry.invariant.root c.requires.carries, (c.requires.more, (c.requires.parts.0, c.requires.parts.1, shaped_part g.K.Validate.shape (entry_of c.entry-item.result), c.requires.parts.2 _ here, refl)))))))))
 
 pub run::run_entries-loop-entry-preserved : goal.run::run_entries-loop-entry-preserved
 run::run_entries-loop-entry-preserved g t c = record {
   stays = λ layout laid right. c.in_ok-more.ensures.stays layout laid (c.loop-entry.invariant.stays layout laid right);
-  first = λ e. absurd (omega (arith, e));
-  remembers = λ l. alone_remembers (asking c.args.question.now) entry_of (shaped_part g.K.Validate.shape) c.args.entries.now c.loop-entry.entry-index c.entry-item.result c.loop-entry-test.true c.entry-item.is c.args.context.now c.loop-entry.context c.run_entry.new.context c.loop-entry.found c.in_ok-more.more c.in_ok-found.found c.loop-entry.invariant.first c.in_ok-found.ensures.both c.in_ok-more.ensures.remembers;
-  visited = λ l. next_counts (numbered g.K.Validate.shape c.args.engine.now.nodes.now) (asking c.args.question.now) entry_of (shaped_part g.K.Validate.shape) c.args.entries.now c.loop-entry.entry-index c.entry-item.result c.loop-entry-test.true c.entry-item.is c.args.context.now c.loop-entry.context c.run_entry.new.context (λ e. (c.loop-entry.invariant.first e).0) c.loop-entry.invariant.visited c.in_ok-more.ensures.visits;
+  root = c.in_ok-more.ensures.keeps.root ∙ c.loop-entry.invariant.root;
   kept = c.in_ok-more.ensures.keeps.in_progress ∙ c.loop-entry.invariant.kept;
   assumes = c.in_ok-more.ensures.keeps.assumptions ∙ c.loop-entry.invariant.assumes;
   marking = c.in_ok-more.ensures.keeps.marking ∙ c.loop-entry.invariant.marking;
@@ -306,12 +275,12 @@ run::run_entry-returns-then-valid-clause-says g t c = λ x reads l.
     leaf_accepts g.K.Validate.words (numbered g.K.Validate.shape c.args.engine.now.nodes.now) (λ texts m s completion matcher a h. (g.met.K.Validate.function_laws texts m).agree s (matching matcher completion) a h) x (mode_of c.args.question.now.mode) c.args.node.0 (path_of c.args.question.now.path.now) (steps_to c.args.question.now.place.now)
     (busy_at (steps_to c.args.question.now.place.now) c.args.context.now.in_progress) (string_bytes c.args.entry.now.name) _ (told.Truth c.in_ok-valid.valid) c.accepted.result c.if-valid.true (c.in_ok-valid.ensures.says x reads l) c.accepted.ensures.accepts c.accepted.ensures.no_errors
 
-pub run::run_entry-returns-then-asks_verdict_first-clause-says : goal.run::run_entry-returns-then-asks_verdict_first-clause-says
-run::run_entry-returns-then-asks_verdict_first-clause-says g t c = rw (c.in_ok-valid.ensures.keeps.in_progress, c.in_ok-valid.ensures.keeps.assumptions) at c.run_form.ensures.says
+pub run::run_entry-returns-then-entry-clause-says : goal.run::run_entry-returns-then-entry-clause-says
+run::run_entry-returns-then-entry-clause-says g t c = rw (c.in_ok-valid.ensures.keeps.in_progress, c.in_ok-valid.ensures.keeps.assumptions) at c.run_form.ensures.says
 
 pub run::run_keyword-keyword_answer-requires : goal.run::run_keyword-keyword_answer-requires
 run::run_keyword-keyword_answer-requires g t c =
-    λ κs h. (lower_same _ _ t 5 0 refl c.decreases, (h.0, (h.1.0, (h.1.1.0, (h.1.1.1, (record { known = c.requires.may.known; ranked = c.requires.may.ranked; above = c.requires.may.above; goes_on = c.requires.may.goes_on }, c.requires.form))))))
+    λ κs h. (lower_same _ _ t 5 0 refl c.decreases, (h.0, (h.1.0, (h.1.1.0, (h.1.1.1, (record { known = c.requires.may.known; ranked = c.requires.may.ranked; above = c.requires.may.above; stands = c.requires.may.stands; goes_on = c.requires.may.goes_on }, (c.requires.carries, c.requires.form)))))))
 
 pub turns::keyword_answer-run_turns-requires : goal.turns::keyword_answer-run_turns-requires
 turns::keyword_answer-run_turns-requires g t c =
@@ -321,7 +290,7 @@ turns::keyword_answer-run_turns-requires g t c =
     let s = subject_of c.args.question.now.instance in
     let kept = c.set_aside-aside.ensures.in_progress in
     let l = ap (λ es. left ns (length c.args.engine.now.nodes.now) c.args.node.0 s (busy_at p es)) kept in
-    λ κs h. (lower_same _ _ t 4 0 l c.decreases, (h.0, (h.1.0, (h.1.1.0, (h.1.1.1, (record { known = c.requires.may.known; ranked = c.requires.may.ranked; above = subst (NoDeeper p) (sym kept) c.requires.may.above; goes_on = (c.requires.may.goes_on.0, c.requires.may.goes_on.1, right_same (setting g.K.Validate.words g.K.Validate.is_whole g.K.Validate.shape g.M.Matcher.matching c.args.engine.now) c.requires.may.goes_on.0 c.args.context.now c.set_aside-aside.new.self c.set_aside-aside.ensures.remembered c.set_aside-aside.ensures.verdicts c.requires.may.goes_on.2) }, (c.requires.form, (begun, (c.in_ok-answer.ensures.no_faults, c.set_aside-aside.ensures.none)))))))))
+    λ κs h. (lower_same _ _ t 4 0 l c.decreases, (h.0, (h.1.0, (h.1.1.0, (h.1.1.1, (record { known = c.requires.may.known; ranked = c.requires.may.ranked; above = subst (NoDeeper p) (sym kept) c.requires.may.above; stands = stands_on c.args.context.now.root _ (asking c.args.question.now) c.set_aside-aside.ensures.root c.requires.may.stands; goes_on = (c.requires.may.goes_on.0, c.requires.may.goes_on.1, right_same (setting g.K.Validate.words g.K.Validate.is_whole g.K.Validate.shape g.M.Matcher.matching c.args.engine.now) c.requires.may.goes_on.0 c.args.context.now c.set_aside-aside.new.self c.set_aside-aside.ensures.remembered c.set_aside-aside.ensures.verdicts c.requires.may.goes_on.2) }, (carries_on c.args.context.now.root _ c.args.question.now.place.now c.set_aside-aside.ensures.root c.requires.carries, (c.requires.form, (begun, (c.in_ok-answer.ensures.no_faults, c.set_aside-aside.ensures.none))))))))))
 
 pub turns::keyword_answer-returns-clause-right : goal.turns::keyword_answer-returns-clause-right
 turns::keyword_answer-returns-clause-right g t c =
@@ -341,44 +310,6 @@ turns::keyword_answer-returns-clause-stays g t c = λ layout laid right.
 
 pub turns::keyword_answer-returns-clause-counts : goal.turns::keyword_answer-returns-clause-counts
 turns::keyword_answer-returns-clause-counts g t c = rw (c.set_aside-aside.ensures.visits, ← c.put_back.ensures.visits) at c.in_ok-run_turns.ensures.counts
-
-pub run::run_keyword-returns-in-Some-clause-says : goal.run::run_keyword-returns-in-Some-clause-says
-run::run_keyword-returns-in-Some-clause-says g t c = λ x reads l.
-    let ns = numbered g.K.Validate.shape c.args.engine.now.nodes.now in
-    let w = settling (g.M.Matcher.matching c.args.engine.now.matcher.now) c.args.context.now.remembered.assumptions in
-    let p = steps_to c.args.question.now.place.now in
-    let s = subject_of c.args.question.now.instance in
-    let m = g.K.Validate.shape c.args.keyword.now.keyword.now in
-    let es = map (option_map edge_of) c.args.keyword.now.children.now in
-    let busy = busy_at p c.args.context.now.in_progress in
-    let path = path_of c.args.question.now.path.now in
-    let name = string_bytes c.args.keyword.now.name.now in
-    let tells = tells_keyword g.K.Validate.is_whole ns (length c.args.engine.now.nodes.now) w p s x c.args.node.0 m es c.requires.may.known reads c.requires.form in
-    let answers = child_says g.K.Validate.words ns x path p busy es in
-    let right = right_at_once (g.K.Validate.words x.texts) m (g.K.Validate.absorbed m) (g.K.Validate.remaining m) (g.K.Validate.can_be x.texts m) (g.K.Validate.ends x.texts m) (g.K.Validate.fits x.texts m) (g.met.K.Validate.turn_laws x.texts m) s x answers (same_edge es) c.in-Some.valid
-    (agrees_answers g.K.Validate.words ns (λ texts m s completion matcher a h. (g.met.K.Validate.function_laws texts m).agree s (matching matcher completion) a h) x path p busy es)
-    (asked_alike (g.K.Validate.words x.texts) x.matcher ns (subject_in x.root) x.completion x.depth path p busy es)
-    (c.in-Some.ensures.at_once x.texts tells) in
-    let there = right ∙ ap (λ v. (g.K.Validate.words x.texts).holds m v (matching x.matcher x.completion) (λ q. (answers q).verdict)) (sym (stands_in x.root p s reads.stands)) in
-    record { same = subst (λ mode. truth c.in-Some.valid ≡ reply_by mode (form_says g.K.Validate.words ns x c.args.node.0 path p busy name (node_keyword m es))) (sym c.in-Some.ensures.verdict) (ap truth there); borrows = All-nil (BorrowsItsPlace x.root) }
-
-pub run::run_keyword-returns-in-Some-clause-meets : goal.run::run_keyword-returns-in-Some-clause-meets
-run::run_keyword-returns-in-Some-clause-meets g t c = λ texts root depth reads l.
-    let ns = numbered g.K.Validate.shape c.args.engine.now.nodes.now in
-    let w = settling (g.M.Matcher.matching c.args.engine.now.matcher.now) c.args.context.now.remembered.assumptions in
-    let p = steps_to c.args.question.now.place.now in
-    let s = subject_of c.args.question.now.instance in
-    let m = g.K.Validate.shape c.args.keyword.now.keyword.now in
-    let es = map (option_map edge_of) c.args.keyword.now.children.now in
-    let busy = busy_at p c.args.context.now.in_progress in
-    let path = path_of c.args.question.now.path.now in
-    let name = string_bytes c.args.keyword.now.name.now in
-    let at_node = node_at (g.K.Validate.words texts) w.matcher ns (subject_in root) c.args.node.0 path p in
-    let runs = child_run g.K.Validate.words ns w texts root depth path p busy es in
-    let tells = tells_keyword g.K.Validate.is_whole ns (length c.args.engine.now.nodes.now) w p s (reading w texts root depth) c.args.node.0 m es c.requires.may.known reads c.requires.form in
-    let all = meets_at_once (g.K.Validate.words texts) w.matcher w.assumptions at_node s runs (same_edge es) name m (g.K.Validate.remaining m s) c.args.context.now.remembered c.in-Some.valid (c.in-Some.ensures.at_once texts tells) ((g.met.K.Validate.turn_laws texts m).bounded s for_verdict) in
-    meets_same w.matcher _ _ _ _ (ap (keyword_met (g.K.Validate.words texts) w.matcher w.assumptions at_node s runs (same_edge es) name m) (sym c.in-Some.ensures.verdict)
-    ∙ ap (λ v. keyword_met (g.K.Validate.words texts) w.matcher w.assumptions at_node v runs (same_edge es) name m (mode_of c.args.question.now.mode)) (sym (stands_in root p s reads.stands))) all
 
 pub run::run_keyword-returns-clause-says : goal.run::run_keyword-returns-clause-says
 run::run_keyword-returns-clause-says g t c =
@@ -404,17 +335,6 @@ run::run_keyword-returns-clause-says g t c =
 
 pub run::run_keyword-returns-clause-meets : goal.run::run_keyword-returns-clause-meets
 run::run_keyword-returns-clause-meets g t c = if_ok_always c.finished.result _ (rw (← c.finished.ensures.stays) at c.in_ok-answer.ensures.meets)
-
-pub run::run_edge-returns-then-branch-clause-meets : goal.run::run_edge-returns-then-branch-clause-meets
-run::run_edge-returns-then-branch-clause-meets g t c =
-    let ns = numbered g.K.Validate.shape c.args.engine.now.nodes.now in
-    let w = settling (g.M.Matcher.matching c.args.engine.now.matcher.now) c.args.context.now.remembered.assumptions in
-    let p = steps_to c.args.question.now.place.now in
-    let s = subject_of c.args.question.now.instance in
-    let busy = busy_at p c.args.context.now.in_progress in
-    let e = edge_of c.args.edge.now in
-    let old = entered_old e.node p c.args.context.now.in_progress c.in_ok-enter_shared.field-0 c.enter_shared.new.self.in_progress (rw c.in_ok-shared.ensures.same at c.in_ok-enter_shared.ensures.enters) c.if-branch.true in
-    meets_busy g.K.Validate.words g.K.Validate.is_whole ns (length c.args.engine.now.nodes.now) w s busy e (mode_of c.args.question.now.mode) (path_of c.args.question.now.path.now) p _ _ c.if-not-edge.false old.0 (sym c.enter_shared.ensures.remembered)
 
 pub run::run_entries-returns-then-is_settled-clause-meets : goal.run::run_entries-returns-then-is_settled-clause-meets
 run::run_entries-returns-then-is_settled-clause-meets g t c = λ texts root depth reads l.
@@ -444,10 +364,10 @@ run::run_entry-returns-then-valid-clause-meets g t c = λ texts root depth reads
     let part = shaped_part g.K.Validate.shape (entry_of c.args.entry.now) in
     let looked = part_looked g.K.Validate.words ns w texts root depth c.args.node.0 (path_of c.args.question.now.path.now) p busy part in
     let holds = leaf_holds g.K.Validate.words ns w texts root depth c.args.node.0 (path_of c.args.question.now.path.now) p busy part (told.Truth c.in_ok-valid.valid) _ (c.in_ok-valid.ensures.says (reading w texts root depth) reads l) c.if-valid.true in
-    meets_same w.matcher _ _ _ _ (leaf_yes (mode_of c.args.question.now.mode) looked (c.asks_verdict_first.ensures.leaf c.if-asks_verdict_first.true) (c.asks_verdict_first.ensures.wants_more c.if-asks_verdict_first.true) (c.asks_verdict_first.ensures.wants_errors c.if-asks_verdict_first.true) holds) (c.in_ok-valid.ensures.meets texts root depth reads l)
+    meets_same w.matcher _ _ _ _ (leaf_yes (mode_of c.args.question.now.mode) looked c.if-entry.true c.requires.more c.requires.may.wanted holds) (c.in_ok-valid.ensures.meets texts root depth reads l)
 
-pub run::run_entry-returns-then-asks_verdict_first-clause-meets : goal.run::run_entry-returns-then-asks_verdict_first-clause-meets
-run::run_entry-returns-then-asks_verdict_first-clause-meets g t c = if_ok_mono c.run_form.result _ _ (λ r met texts root depth reads l.
+pub run::run_entry-returns-then-entry-clause-meets : goal.run::run_entry-returns-then-entry-clause-meets
+run::run_entry-returns-then-entry-clause-meets g t c = if_ok_mono c.run_form.result _ _ (λ r met texts root depth reads l.
     let ns = numbered g.K.Validate.shape c.args.engine.now.nodes.now in
     let w = settling (g.M.Matcher.matching c.args.engine.now.matcher.now) c.args.context.now.remembered.assumptions in
     let p = steps_to c.args.question.now.place.now in
@@ -457,7 +377,7 @@ run::run_entry-returns-then-asks_verdict_first-clause-meets g t c = if_ok_mono c
     let looked = part_looked g.K.Validate.words ns w texts root depth c.args.node.0 (path_of c.args.question.now.path.now) p busy part in
     let holds = leaf_holds g.K.Validate.words ns w texts root depth c.args.node.0 (path_of c.args.question.now.path.now) p busy part (told.Truth c.in_ok-valid.valid) _ (c.in_ok-valid.ensures.says (reading w texts root depth) reads l) c.if-valid.false in
     let more = moved (λ es as'. FormMeets g.K.Validate.words g.K.Validate.is_whole ns (length c.args.engine.now.nodes.now) (settling (g.M.Matcher.matching c.args.engine.now.matcher.now) as') (mode_of c.args.question.now.mode) (path_of c.args.question.now.path.now) p (busy_at p es) s c.verdict_form.new.context.remembered c.run_form.new.context.remembered c.args.node.0 part.name part.form) c.in_ok-valid.ensures.keeps.in_progress c.in_ok-valid.ensures.keeps.assumptions met texts root depth reads l in
-    meets_same w.matcher _ _ _ _ (leaf_no (mode_of c.args.question.now.mode) looked (c.asks_verdict_first.ensures.leaf c.if-asks_verdict_first.true) (c.asks_verdict_first.ensures.wants_more c.if-asks_verdict_first.true) (c.asks_verdict_first.ensures.wants_errors c.if-asks_verdict_first.true) holds) (meets_append w.matcher _ _ _ _ _ (c.in_ok-valid.ensures.meets texts root depth reads l) more)) c.run_form.ensures.meets
+    meets_same w.matcher _ _ _ _ (leaf_no (mode_of c.args.question.now.mode) looked c.if-entry.true c.requires.more c.requires.may.wanted holds) (meets_append w.matcher _ _ _ _ _ (c.in_ok-valid.ensures.meets texts root depth reads l) more)) c.run_form.ensures.meets
 
 pub run::run_child-returns-in-None-one_below-clause-meets : goal.run::run_child-returns-in-None-one_below-clause-meets
 run::run_child-returns-in-None-one_below-clause-meets g t c =
@@ -533,7 +453,7 @@ run::run_entry-returns-clause-meets g t c = if_ok_mono c.run_form-2.result _ _ (
     let p = steps_to c.args.question.now.place.now in
     let busy = busy_at p c.args.context.now.in_progress in
     let looked = part_looked g.K.Validate.words ns w texts root depth c.args.node.0 (path_of c.args.question.now.path.now) p busy (shaped_part g.K.Validate.shape (entry_of c.args.entry.now)) in
-    meets_same w.matcher _ _ _ _ (other_entry (mode_of c.args.question.now.mode) looked (c.asks_verdict_first.ensures.other c.if-asks_verdict_first.false)) (met texts root depth reads l)) c.run_form-2.ensures.meets
+    meets_same w.matcher _ _ _ _ (other_entry (mode_of c.args.question.now.mode) looked (λ more less. c.if-entry.false)) (met texts root depth reads l)) c.run_form-2.ensures.meets
 
 pub run::run_entries-returns-clause-meets : goal.run::run_entries-returns-clause-meets
 run::run_entries-returns-clause-meets g t c = λ texts root depth reads l.
@@ -544,170 +464,17 @@ run::run_entries-returns-clause-meets g t c = λ texts root depth reads l.
     end_met w.matcher (mode_of c.args.question.now.mode) (looked (drop c.loop-entry.entry-index c.args.entries.now)) (plan_met (mode_of c.args.question.now.mode) (looked c.args.entries.now)) c.args.context.now.remembered c.loop-entry.context.remembered
     (ap looked (drop_past c.args.entries.now c.loop-entry.entry-index c.loop-entry-test.false)) (c.loop-entry.invariant.met texts root depth reads l)
 
-pub run::run_edge-returns-then-branch-clause-remembers : goal.run::run_edge-returns-then-branch-clause-remembers
-run::run_edge-returns-then-branch-clause-remembers g t c = λ mode guarded free.
-    let p = steps_to c.args.question.now.place.now in
-    let e = edge_of c.args.edge.now in
-    let old = entered_old e.node p c.args.context.now.in_progress c.in_ok-enter_shared.field-0 c.enter_shared.new.self.in_progress (rw c.in_ok-shared.ensures.same at c.in_ok-enter_shared.ensures.enters) c.if-branch.true in
-    absurd (true≢false (sym old.0 ∙ free))
-
-pub run::run_edge-returns-in-Some-clause-says : goal.run::run_edge-returns-in-Some-clause-says
-run::run_edge-returns-in-Some-clause-says g t c =
-    let set = setting g.K.Validate.words g.K.Validate.is_whole g.K.Validate.shape g.M.Matcher.matching c.args.engine.now in
-    let q = asking c.args.question.now in
-    let p = steps_to c.args.question.now.place.now in
-    let e = edge_of c.args.edge.now in
-    let entered = entered_new e.node p c.args.context.now.in_progress c.in_ok-enter_shared.field-0 c.enter_shared.new.self.in_progress (rw c.in_ok-shared.ensures.same at c.in_ok-enter_shared.ensures.enters) c.if-branch.false in
-    let found = sym (rw (c.as_place-here.ensures.same ∙ c.in_ok-shared.ensures.same) at c.in-Some.ensures.read) in
-    read_says set q e c.args.context.now c.if-not-edge.false entered.0 c.enter_shared.new.self c.exit.new.self c.in-Some.valid (told.Truth c.in-Some.valid) entered.1 c.enter_shared.ensures.verdicts found (λ texts. refl) c.requires.may.goes_on refl
-
-pub run::run_edge-returns-in-Some-clause-meets : goal.run::run_edge-returns-in-Some-clause-meets
-run::run_edge-returns-in-Some-clause-meets g t c =
-    let set = setting g.K.Validate.words g.K.Validate.is_whole g.K.Validate.shape g.M.Matcher.matching c.args.engine.now in
-    let q = asking c.args.question.now in
-    let p = steps_to c.args.question.now.place.now in
-    let e = edge_of c.args.edge.now in
-    let entered = entered_new e.node p c.args.context.now.in_progress c.in_ok-enter_shared.field-0 c.enter_shared.new.self.in_progress (rw c.in_ok-shared.ensures.same at c.in_ok-enter_shared.ensures.enters) c.if-branch.false in
-    let found = sym (rw (c.as_place-here.ensures.same ∙ c.in_ok-shared.ensures.same) at c.in-Some.ensures.read) in
-    read_meets_edge set q e c.args.context.now c.if-not-edge.false entered.0 c.enter_shared.new.self c.exit.new.self c.in-Some.valid (told.Truth c.in-Some.valid) entered.1 c.enter_shared.ensures.verdicts found (λ texts. refl) c.requires.may.goes_on (c.exit.ensures.remembered ∙ c.enter_shared.ensures.remembered)
-
-pub run::run_edge-returns-clause-says : goal.run::run_edge-returns-clause-says
-run::run_edge-returns-clause-says g t c =
-    let set = setting g.K.Validate.words g.K.Validate.is_whole g.K.Validate.shape g.M.Matcher.matching c.args.engine.now in
-    let q = asking c.args.question.now in
-    let p = steps_to c.args.question.now.place.now in
-    let e = edge_of c.args.edge.now in
-    let entered = entered_new e.node p c.args.context.now.in_progress c.in_ok-enter_shared.field-0 c.enter_shared.new.self.in_progress (rw c.in_ok-shared.ensures.same at c.in_ok-enter_shared.ensures.enters) c.if-branch.false in
-    let c2 = c.begin_visit-mark.new.context in
-    let c3 = c.run_node-2.new.context in
-    let pairs : c2.in_progress ≡ c.args.context.now.in_progress ++ (e.node, p) ∷ [] = ap (λ (z : Context). z.in_progress) c.begin_visit-mark.ensures.counted ∙ entered.1 in
-    let met : c2.remembered ≡ c.args.context.now.remembered = ap (λ (z : Context). z.remembered) c.begin_visit-mark.ensures.counted ∙ c.enter_shared.ensures.remembered in
-    let there : steps_to c.given-place.result ≡ p = c.given-place.ensures.same ∙ c.as_place-here.ensures.same ∙ c.in_ok-shared.ensures.same in
-    let at_asked : (record { subject = q.subject; place = steps_to c.given-place.result; path = path_of c.across-whole.result; mode = q.mode }) ≡ asked_across set q e c.args.context.now c.if-not-edge.false entered.0
-    = λ i. record { subject = q.subject; place = there i; path = c.across-whole.ensures.appended i; mode = q.mode } in
-    let says = subst (λ z. NodeSays set z c2 e.node c.in_ok-computed.computed) at_asked c.in_ok-computed.ensures.says in
-    let meets = subst (λ z. MeetsNode set z c2 c3 e.node) at_asked c.in_ok-computed.ensures.meets in
-    let keeps = c.in_ok-computed.ensures.keeps in
-    computed_says set q e c.args.context.now c.if-not-edge.false entered.0 c.enter_shared.new.self c2 c3 c.kept_reply.new.context c.exit-2.new.self c.begin_visit-mark.result c.in_ok-computed.computed c.in_ok-reply.reply pairs met says meets keeps c.in_ok-reply.ensures.same
-
-pub run::run_edge-returns-clause-meets : goal.run::run_edge-returns-clause-meets
-run::run_edge-returns-clause-meets g t c =
-    let set = setting g.K.Validate.words g.K.Validate.is_whole g.K.Validate.shape g.M.Matcher.matching c.args.engine.now in
-    let q = asking c.args.question.now in
-    let p = steps_to c.args.question.now.place.now in
-    let e = edge_of c.args.edge.now in
-    let entered = entered_new e.node p c.args.context.now.in_progress c.in_ok-enter_shared.field-0 c.enter_shared.new.self.in_progress (rw c.in_ok-shared.ensures.same at c.in_ok-enter_shared.ensures.enters) c.if-branch.false in
-    let c2 = c.begin_visit-mark.new.context in
-    let c3 = c.run_node-2.new.context in
-    let pairs : c2.in_progress ≡ c.args.context.now.in_progress ++ (e.node, p) ∷ [] = ap (λ (z : Context). z.in_progress) c.begin_visit-mark.ensures.counted ∙ entered.1 in
-    let met : c2.remembered ≡ c.args.context.now.remembered = ap (λ (z : Context). z.remembered) c.begin_visit-mark.ensures.counted ∙ c.enter_shared.ensures.remembered in
-    let there : steps_to c.given-place.result ≡ p = c.given-place.ensures.same ∙ c.as_place-here.ensures.same ∙ c.in_ok-shared.ensures.same in
-    let at_asked : (record { subject = q.subject; place = steps_to c.given-place.result; path = path_of c.across-whole.result; mode = q.mode }) ≡ asked_across set q e c.args.context.now c.if-not-edge.false entered.0
-    = λ i. record { subject = q.subject; place = there i; path = c.across-whole.ensures.appended i; mode = q.mode } in
-    let says = subst (λ z. NodeSays set z c2 e.node c.in_ok-computed.computed) at_asked c.in_ok-computed.ensures.says in
-    let meets = subst (λ z. MeetsNode set z c2 c3 e.node) at_asked c.in_ok-computed.ensures.meets in
-    let keeps = c.in_ok-computed.ensures.keeps in
-    let met5 = c.exit-2.ensures.remembered ∙ ap (λ (z : Context). z.remembered) c.kept_reply.ensures.frame in
-    computed_meets set q e c.args.context.now c.if-not-edge.false entered.0 c.enter_shared.new.self c2 c3 c.kept_reply.new.context c.exit-2.new.self c.begin_visit-mark.result c.in_ok-computed.computed c.in_ok-reply.reply pairs met says meets keeps c.in_ok-reply.ensures.same met5
-
-pub run::run_edge-returns-clause-stays : goal.run::run_edge-returns-clause-stays
-run::run_edge-returns-clause-stays g t c =
-    let set = setting g.K.Validate.words g.K.Validate.is_whole g.K.Validate.shape g.M.Matcher.matching c.args.engine.now in
-    let q = asking c.args.question.now in
-    let p = steps_to c.args.question.now.place.now in
-    let e = edge_of c.args.edge.now in
-    let entered = entered_new e.node p c.args.context.now.in_progress c.in_ok-enter_shared.field-0 c.enter_shared.new.self.in_progress (rw c.in_ok-shared.ensures.same at c.in_ok-enter_shared.ensures.enters) c.if-branch.false in
-    let c2 = c.begin_visit-mark.new.context in
-    let c3 = c.run_node-2.new.context in
-    let pairs : c2.in_progress ≡ c.args.context.now.in_progress ++ (e.node, p) ∷ [] = ap (λ (z : Context). z.in_progress) c.begin_visit-mark.ensures.counted ∙ entered.1 in
-    let met : c2.remembered ≡ c.args.context.now.remembered = ap (λ (z : Context). z.remembered) c.begin_visit-mark.ensures.counted ∙ c.enter_shared.ensures.remembered in
-    let there : steps_to c.given-place.result ≡ p = c.given-place.ensures.same ∙ c.as_place-here.ensures.same ∙ c.in_ok-shared.ensures.same in
-    let at_asked : (record { subject = q.subject; place = steps_to c.given-place.result; path = path_of c.across-whole.result; mode = q.mode }) ≡ asked_across set q e c.args.context.now c.if-not-edge.false entered.0
-    = λ i. record { subject = q.subject; place = there i; path = c.across-whole.ensures.appended i; mode = q.mode } in
-    let says = subst (λ z. NodeSays set z c2 e.node c.in_ok-computed.computed) at_asked c.in_ok-computed.ensures.says in
-    let meets = subst (λ z. MeetsNode set z c2 c3 e.node) at_asked c.in_ok-computed.ensures.meets in
-    let keeps = c.in_ok-computed.ensures.keeps in
-    let read = ap (λ (z : Context). z.verdicts) c.begin_visit-mark.ensures.counted ∙ c.enter_shared.ensures.verdicts in
-    let stays = subst (λ z. StaysRight set z c2 c3) at_asked c.in_ok-computed.ensures.stays in
-    let kept = rw (c.as_place-here.ensures.same ∙ c.in_ok-shared.ensures.same) at c.in_ok-reply.ensures.kept in
-    let few = rw (c.as_place-here.ensures.same ∙ c.in_ok-shared.ensures.same) at c.in_ok-reply.ensures.few in
-    computed_stays set q e c.args.context.now c.if-not-edge.false entered.0 c.enter_shared.new.self c2 c3 c.kept_reply.new.context c.exit-2.new.self c.begin_visit-mark.result c.in_ok-computed.computed c.in_ok-reply.reply pairs met says meets keeps c.in_ok-reply.ensures.same
-    g.met.K.Validate.asks_verdicts kept read stays few c.kept_reply.ensures.other_modes (ap (λ (z : Context). z.remembered) c.kept_reply.ensures.frame) c.exit-2.ensures.remembered c.exit-2.ensures.verdicts
-
-pub run::run_edge-returns-clause-remembers : goal.run::run_edge-returns-clause-remembers
-run::run_edge-returns-clause-remembers g t c =
-    let set = setting g.K.Validate.words g.K.Validate.is_whole g.K.Validate.shape g.M.Matcher.matching c.args.engine.now in
-    let q = asking c.args.question.now in
-    let p = steps_to c.args.question.now.place.now in
-    let e = edge_of c.args.edge.now in
-    let entered = entered_new e.node p c.args.context.now.in_progress c.in_ok-enter_shared.field-0 c.enter_shared.new.self.in_progress (rw c.in_ok-shared.ensures.same at c.in_ok-enter_shared.ensures.enters) c.if-branch.false in
-    let c2 = c.begin_visit-mark.new.context in
-    let c3 = c.run_node-2.new.context in
-    let pairs : c2.in_progress ≡ c.args.context.now.in_progress ++ (e.node, p) ∷ [] = ap (λ (z : Context). z.in_progress) c.begin_visit-mark.ensures.counted ∙ entered.1 in
-    let met : c2.remembered ≡ c.args.context.now.remembered = ap (λ (z : Context). z.remembered) c.begin_visit-mark.ensures.counted ∙ c.enter_shared.ensures.remembered in
-    let there : steps_to c.given-place.result ≡ p = c.given-place.ensures.same ∙ c.as_place-here.ensures.same ∙ c.in_ok-shared.ensures.same in
-    let at_asked : (record { subject = q.subject; place = steps_to c.given-place.result; path = path_of c.across-whole.result; mode = q.mode }) ≡ asked_across set q e c.args.context.now c.if-not-edge.false entered.0
-    = λ i. record { subject = q.subject; place = there i; path = c.across-whole.ensures.appended i; mode = q.mode } in
-    let says = subst (λ z. NodeSays set z c2 e.node c.in_ok-computed.computed) at_asked c.in_ok-computed.ensures.says in
-    let meets = subst (λ z. MeetsNode set z c2 c3 e.node) at_asked c.in_ok-computed.ensures.meets in
-    let keeps = c.in_ok-computed.ensures.keeps in
-    let kept = rw (c.as_place-here.ensures.same ∙ c.in_ok-shared.ensures.same) at c.in_ok-reply.ensures.kept in
-    let none = sym (rw (c.as_place-here.ensures.same ∙ c.in_ok-shared.ensures.same) at c.in_default.ensures.read) in
-    let left = ap (λ (z : Context). z.in_progress) c.kept_reply.ensures.frame ∙ keeps.in_progress in
-    let back = pairs_back set q e c.args.context.now c.if-not-edge.false entered.0 c2 c.exit-2.new.self pairs (sym left ∙ rw (c.as_place-here.ensures.same ∙ c.in_ok-shared.ensures.same) at c.exit-2.ensures.left) in
-    let visits = c.exit-2.ensures.visits ∙ ap (λ (z : Context). z.visits) c.kept_reply.ensures.frame in
-    let counted = ap (λ (z : Context). z.visits) c.begin_visit-mark.ensures.counted ∙ ap (visited_in_mode q.mode) c.enter_shared.ensures.visits in
-    let more = subst (λ z. z ≤ c3.visits) counted c.in_ok-computed.ensures.counts in
-    computed_remembers set q e c.args.context.now c.if-not-edge.false entered.0 c.enter_shared.new.self c2 c3 c.kept_reply.new.context c.exit-2.new.self c.begin_visit-mark.result c.in_ok-computed.computed c.in_ok-reply.reply pairs met says meets keeps c.in_ok-reply.ensures.same
-    g.met.K.Validate.asks_verdicts kept entered.1 c.enter_shared.ensures.verdicts none (c.begin_visit-mark.ensures.mark ∙ c.enter_shared.ensures.visits) back visits more c.exit-2.ensures.verdicts
-
-pub run::run_edge-returns-clause-counts : goal.run::run_edge-returns-clause-counts
-run::run_edge-returns-clause-counts g t c =
-    let visits = c.exit-2.ensures.visits ∙ ap (λ (z : Context). z.visits) c.kept_reply.ensures.frame in
-    let before = subst (λ z. z ≤ c.begin_visit-mark.new.context.visits) c.enter_shared.ensures.visits c.begin_visit-mark.ensures.more in
-    let after = subst (λ z. c.begin_visit-mark.new.context.visits ≤ z) (sym visits) c.in_ok-computed.ensures.counts in
-    no_fewer c.args.context.now.visits c.begin_visit-mark.new.context.visits c.exit-2.new.self.visits before after
-
-pub run::run_edge-returns-in-Some-clause-remembers : goal.run::run_edge-returns-in-Some-clause-remembers
-run::run_edge-returns-in-Some-clause-remembers g t c =
-    let set = setting g.K.Validate.words g.K.Validate.is_whole g.K.Validate.shape g.M.Matcher.matching c.args.engine.now in
-    let q = asking c.args.question.now in
-    let p = steps_to c.args.question.now.place.now in
-    let e = edge_of c.args.edge.now in
-    let c1 = c.enter_shared.new.self in
-    let c5 = c.exit.new.self in
-    let entered = entered_new e.node p c.args.context.now.in_progress c.in_ok-enter_shared.field-0 c1.in_progress (rw c.in_ok-shared.ensures.same at c.in_ok-enter_shared.ensures.enters) c.if-branch.false in
-    let found = sym (rw (c.as_place-here.ensures.same ∙ c.in_ok-shared.ensures.same) at c.in-Some.ensures.read) in
-    let back = pairs_back set q e c.args.context.now c.if-not-edge.false entered.0 c1 c5 entered.1 (rw (c.as_place-here.ensures.same ∙ c.in_ok-shared.ensures.same) at c.exit.ensures.left) in
-    let same = same_context c.args.context.now c5 back (c.exit.ensures.remembered ∙ c.enter_shared.ensures.remembered) (c.exit.ensures.marking ∙ c.enter_shared.ensures.marking) (c.exit.ensures.verdicts ∙ c.enter_shared.ensures.verdicts) (c.exit.ensures.visits ∙ c.enter_shared.ensures.visits) in
-    read_remembers set q e c.args.context.now c.if-not-edge.false entered.0 c1 c5 c.in-Some.valid (told.Truth c.in-Some.valid) entered.1 c.enter_shared.ensures.verdicts found (λ texts. refl) same
-
 pub run::run_entries-returns-then-is_settled-clause-counts : goal.run::run_entries-returns-then-is_settled-clause-counts
 run::run_entries-returns-then-is_settled-clause-counts g t c = no_fewer c.args.context.now.visits c.loop-entry.context.visits c.run_entry.new.context.visits c.loop-entry.invariant.counted c.in_ok-more.ensures.counts
 
 pub run::run_entries-returns-then-is_settled-clause-stays : goal.run::run_entries-returns-then-is_settled-clause-stays
 run::run_entries-returns-then-is_settled-clause-stays g t c = λ layout laid right. c.in_ok-more.ensures.stays layout laid (c.loop-entry.invariant.stays layout laid right)
 
-pub run::run_entries-returns-then-is_settled-clause-remembers : goal.run::run_entries-returns-then-is_settled-clause-remembers
-run::run_entries-returns-then-is_settled-clause-remembers g t c =
-    alone_remembers (asking c.args.question.now) entry_of (shaped_part g.K.Validate.shape) c.args.entries.now c.loop-entry.entry-index c.entry-item.result c.loop-entry-test.true c.entry-item.is c.args.context.now c.loop-entry.context c.run_entry.new.context c.loop-entry.found c.in_ok-more.more c.in_ok-found.found c.loop-entry.invariant.first c.in_ok-found.ensures.both c.in_ok-more.ensures.remembers
+pub run::run_entry-returns-then-entry-clause-stays : goal.run::run_entry-returns-then-entry-clause-stays
+run::run_entry-returns-then-entry-clause-stays g t c = if_ok_mono c.run_form.result _ _ (λ r stays layout laid right. stays layout laid (c.in_ok-valid.ensures.stays layout laid right)) c.run_form.ensures.stays
 
-pub run::run_entries-returns-clause-remembers : goal.run::run_entries-returns-clause-remembers
-run::run_entries-returns-clause-remembers g t c =
-    ended_remembers (asking c.args.question.now) entry_of (shaped_part g.K.Validate.shape) c.args.entries.now c.loop-entry.entry-index c.loop-entry-test.false c.args.context.now c.loop-entry.context c.loop-entry.found c.loop-entry.invariant.remembers
-
-pub run::run_entry-returns-then-asks_verdict_first-clause-stays : goal.run::run_entry-returns-then-asks_verdict_first-clause-stays
-run::run_entry-returns-then-asks_verdict_first-clause-stays g t c = if_ok_mono c.run_form.result _ _ (λ r stays layout laid right. stays layout laid (c.in_ok-valid.ensures.stays layout laid right)) c.run_form.ensures.stays
-
-pub run::run_entry-returns-then-asks_verdict_first-clause-counts : goal.run::run_entry-returns-then-asks_verdict_first-clause-counts
-run::run_entry-returns-then-asks_verdict_first-clause-counts g t c = if_ok_mono c.run_form.result _ _ (λ r more. no_fewer c.args.context.now.visits c.verdict_form.new.context.visits c.run_form.new.context.visits c.in_ok-valid.ensures.counts more) c.run_form.ensures.counts
-
-pub run::run_form-returns-in_ok-reply-in-Reference-clause-remembers : goal.run::run_form-returns-in_ok-reply-in-Reference-clause-remembers
-run::run_form-returns-in_ok-reply-in-Reference-clause-remembers g t c =
-    let q = asking c.args.question.now in
-    let e = edge_of c.in-Reference.edge in
-    let remembers = subst (λ path. EdgeRemembers (record { subject = q.subject; place = q.place; path = path; mode = q.mode }) c.args.context.now c.run_edge.new.context e c.in_ok-reply-in-Reference.reply) c.under_reference-path.ensures.same c.in_ok-reply-in-Reference.ensures.remembers in
-    if_ok_mono c.stamped_reply.result _ _ (λ r stamps. stamped_remembers q c.args.context.now c.run_edge.new.context e _ c.in_ok-reply-in-Reference.reply r _ (ap (λ z. shaped_form g.K.Validate.shape (form_of z)) c.in-Reference.is) stamps remembers) c.stamped_reply.ensures.stamped
+pub run::run_entry-returns-then-entry-clause-counts : goal.run::run_entry-returns-then-entry-clause-counts
+run::run_entry-returns-then-entry-clause-counts g t c = if_ok_mono c.run_form.result _ _ (λ r more. no_fewer c.args.context.now.visits c.verdict_form.new.context.visits c.run_form.new.context.visits c.in_ok-valid.ensures.counts more) c.run_form.ensures.counts
 
 pub run::run_keyword-returns-clause-stays : goal.run::run_keyword-returns-clause-stays
 run::run_keyword-returns-clause-stays g t c = if_ok_always c.finished.result _ (λ layout laid right.
@@ -716,11 +483,6 @@ run::run_keyword-returns-clause-stays g t c = if_ok_always c.finished.result _ (
 
 pub run::run_keyword-returns-clause-counts : goal.run::run_keyword-returns-clause-counts
 run::run_keyword-returns-clause-counts g t c = if_ok_always c.finished.result _ (rw (← c.finished.ensures.stays) at c.in_ok-answer.ensures.counts)
-
-pub run::run_node-returns-in-Keywords-clause-remembers : goal.run::run_node-returns-in-Keywords-clause-remembers
-run::run_node-returns-in-Keywords-clause-remembers g t c =
-    let plan = plan_is g.K.Validate.shape c.args.engine.now.nodes.now c.args.node.0 (node_of c.node-found.result.now) _ c.node-found.ensures.found (ap (option_map plan_of) c.in-Some.is ∙ ap (λ f. Some (plan_of f)) c.in-Keywords.is) in
-    if_ok_mono c.run_entries.result _ _ (λ r remembers. planned_remembers (asking c.args.question.now) c.args.context.now c.run_entries.new.context (numbered g.K.Validate.shape c.args.engine.now.nodes.now) c.args.node.0 _ r plan remembers) (rw c.as_slice.ensures.value at c.run_entries.ensures.remembers)
 
 pub turns::run_turns-turns-init : goal.turns::run_turns-turns-init
 turns::run_turns-turns-init g t c =
@@ -733,6 +495,7 @@ turns::run_turns-turns-init g t c =
     let es = map (option_map edge_of) c.args.keyword.now.children.now in
     let busy = busy_at p c.args.context.now.in_progress in
     record {
+      root = refl;
       kept = refl;
       assumes = refl;
       stays = λ layout laid right. right;
@@ -763,7 +526,7 @@ turns::run_turns-ask_child-requires g t c =
     let l = ap (λ es. left ns (length c.args.engine.now.nodes.now) c.args.node.0 s (busy_at p es)) kept in
     let q : Question = record { child = c.in-Ask.child; below = below_of c.in-Ask.below } in
     let there = asks_there (g.K.Validate.words false) m (g.K.Validate.absorbed m) (g.K.Validate.remaining m) (g.K.Validate.can_be false m) (g.K.Validate.ends false m) (g.K.Validate.fits false m) (g.met.K.Validate.turn_laws false m) s (c.turns.run, answer_of false c.turns.answer) told q (mode_of c.in-Ask.wanted) c.turns.invariant.can ((g.met.K.Validate.function_laws false m).present s) step in
-    λ κs h. (lower_same _ _ t 3 0 l c.decreases, (h.0, (h.1.0, (h.1.1.0, (h.1.1.1, (record { known = c.requires.may.known; ranked = c.requires.may.ranked; above = subst (NoDeeper p) (sym kept) c.requires.may.above; goes_on = (c.requires.may.goes_on.0, c.requires.may.goes_on.1, c.turns.invariant.stays c.requires.may.goes_on.0 c.requires.may.goes_on.1 c.requires.may.goes_on.2) }, (keyword_children ns c.args.node.0 m es c.requires.form, there)))))))
+    λ κs h. (lower_same _ _ t 3 0 l c.decreases, (h.0, (h.1.0, (h.1.1.0, (h.1.1.1, (record { known = c.requires.may.known; ranked = c.requires.may.ranked; above = subst (NoDeeper p) (sym kept) c.requires.may.above; stands = stands_on c.args.context.now.root _ (asking c.args.question.now) c.turns.invariant.root c.requires.may.stands; goes_on = (c.requires.may.goes_on.0, c.requires.may.goes_on.1, c.turns.invariant.stays c.requires.may.goes_on.0 c.requires.may.goes_on.1 c.requires.may.goes_on.2) }, (carries_on c.args.context.now.root _ c.args.question.now.place.now c.turns.invariant.root c.requires.carries, (keyword_children ns c.args.node.0 m es c.requires.form, there))))))))
 
 pub turns::run_turns-returns-in-Done-clause-right : goal.turns::run_turns-returns-in-Done-clause-right
 turns::run_turns-returns-in-Done-clause-right g t c = λ x reads l.
@@ -813,6 +576,7 @@ turns::run_turns-turns-preserved-in-Ask g t c =
     let q : Question = record { child = c.in-Ask.child; below = below_of c.in-Ask.below } in
     let says = tells_moved (setting g.K.Validate.words g.K.Validate.is_whole g.K.Validate.shape g.M.Matcher.matching c.args.engine.now) (record { subject = s; place = p; path = path_of c.args.question.now.path.now; mode = mode_of c.in-Ask.wanted }) c.args.context.now c.turns.context c.turns.invariant.kept c.turns.invariant.assumes c.args.node.0 es q c.in_ok-reply-in-Ask.reply c.in_ok-reply-in-Ask.ensures.gives in
     record {
+      root = c.in_ok-reply-in-Ask.ensures.keeps.root ∙ c.turns.invariant.root;
       kept = c.in_ok-reply-in-Ask.ensures.keeps.in_progress ∙ c.turns.invariant.kept;
       assumes = c.in_ok-reply-in-Ask.ensures.keeps.assumptions ∙ c.turns.invariant.assumes;
       stays = λ layout laid right. c.in_ok-reply-in-Ask.ensures.stays layout laid (c.turns.invariant.stays layout laid right);
@@ -904,6 +668,7 @@ turns::run_turns-turns-preserved-in-Match g t c =
     let out = rw c.turns.invariant.assumes at (c.in_ok-matches-in-Match.ensures.answer a point asked.2) in
     let met = c.in_ok-matches-in-Match.ensures.met a point asked.2 in
     record {
+      root = c.step_match.ensures.root ∙ c.turns.invariant.root;
       kept = c.step_match.ensures.in_progress ∙ c.turns.invariant.kept;
       assumes = ap (λ (r : Remembered). r.assumptions) met ∙ after_assumes _ _ answer ∙ c.turns.invariant.assumes;
       stays = λ layout laid right. right_matched (setting g.K.Validate.words g.K.Validate.is_whole g.K.Validate.shape g.M.Matcher.matching c.args.engine.now) layout c.turns.context c.step_match.new.context _ answer refl c.step_match.ensures.verdicts met (c.turns.invariant.stays layout laid right);
@@ -944,6 +709,7 @@ turns::run_turns-turns-preserved-in-Ecma g t c =
     let text = c.in-Ecma.text.now in
     let step = rw c.in-Ecma.is at (c.in_ok-step.ensures.steps false (tells_nothing (g.K.Validate.is_whole m) s)) in
     record {
+      root = c.turns.invariant.root;
       kept = c.turns.invariant.kept;
       assumes = c.turns.invariant.assumes;
       stays = c.turns.invariant.stays;
@@ -1005,6 +771,7 @@ turns::run_turns-turns-preserved-in-Mark g t c =
     let turn = c.in_ok-step.ensures.turns false (tells_nothing (g.K.Validate.is_whole m) s) in
     let step = rw c.in-Mark.is at (c.in_ok-step.ensures.steps false (tells_nothing (g.K.Validate.is_whole m) s)) in
     record {
+      root = c.enter_marking.ensures.root ∙ c.turns.invariant.root;
       kept = c.enter_marking.ensures.in_progress ∙ c.turns.invariant.kept;
       assumes = ap (λ (r : Remembered). r.assumptions) c.enter_marking.ensures.remembered ∙ c.turns.invariant.assumes;
       stays = λ layout laid right. right_same (setting g.K.Validate.words g.K.Validate.is_whole g.K.Validate.shape g.M.Matcher.matching c.args.engine.now) layout c.turns.context c.enter_marking.new.self c.enter_marking.ensures.remembered c.enter_marking.ensures.verdicts (c.turns.invariant.stays layout laid right);
@@ -1049,6 +816,7 @@ turns::run_turns-turns-preserved g t c =
     let turn = c.in_ok-step.ensures.turns false (tells_nothing (g.K.Validate.is_whole m) s) in
     let step = rw c.in-Unmark.is at (c.in_ok-step.ensures.steps false (tells_nothing (g.K.Validate.is_whole m) s)) in
     record {
+      root = c.exit_marking.ensures.root ∙ c.turns.invariant.root;
       kept = c.exit_marking.ensures.in_progress ∙ c.turns.invariant.kept;
       assumes = ap (λ (r : Remembered). r.assumptions) c.exit_marking.ensures.remembered ∙ c.turns.invariant.assumes;
       stays = λ layout laid right. right_same (setting g.K.Validate.words g.K.Validate.is_whole g.K.Validate.shape g.M.Matcher.matching c.args.engine.now) layout c.turns.context c.exit_marking.new.self c.exit_marking.ensures.remembered c.exit_marking.ensures.verdicts (c.turns.invariant.stays layout laid right);
@@ -1100,7 +868,7 @@ evaluate::evaluate_child-evaluate_edge-requires g t c =
     let e = edge_of c.in-Some.edge.now in
     let k = c.requires.children c.args.child e (sym c.in-Some.ensures.edge) in
     let l = falls_here g.K.Validate.words g.K.Validate.is_whole ns (length c.args.engine.now.nodes.now) w c.requires.may.ranked c.args.node.0 s busy e c.requires.may.known k in
-    λ κs h. (lower_edge _ _ _ t 0 refl l c.decreases, (h.0, (h.1.0, (h.1.1.0, (h.1.1.1, record { known = (c.requires.may.ranked c.args.node.0 c.requires.may.known e k).0; ranked = c.requires.may.ranked; above = c.requires.may.above; wanted = c.requires.may.wanted; goes_on = c.requires.may.goes_on })))))
+    λ κs h. (lower_edge _ _ _ t 0 refl l c.decreases, (h.0, (h.1.0, (h.1.1.0, (h.1.1.1, (record { known = (c.requires.may.ranked c.args.node.0 c.requires.may.known e k).0; ranked = c.requires.may.ranked; above = c.requires.may.above; wanted = c.requires.may.wanted; stands = c.requires.may.stands; goes_on = c.requires.may.goes_on }, c.requires.carries))))))
 
 pub evaluate::evaluate_child-evaluate_edge-requires-in-Some-one_below : goal.evaluate::evaluate_child-evaluate_edge-requires-in-Some-one_below
 evaluate::evaluate_child-evaluate_edge-requires-in-Some-one_below g t c =
@@ -1120,7 +888,7 @@ evaluate::evaluate_child-evaluate_edge-requires-in-Some-one_below g t c =
     let n = ap (edge_needs ns (length c.args.engine.now.nodes.now) e inner) none in
     let (layout, laid, right) = c.requires.may.goes_on in
     let below = laid_below layout p s inner step (steps_to c.below-lower.result) laid c.below-lower.ensures.below c.in-Some-one_below.ensures.below.1 in
-    λ κs h. (lower_edge _ _ _ t 0 n l c.decreases, (h.0, (h.1.0, (h.1.1.0, (h.1.1.1, record { known = (c.requires.may.ranked c.args.node.0 c.requires.may.known e k).0; ranked = c.requires.may.ranked; above = deeper; wanted = c.requires.may.wanted; goes_on = (layout, below, right) })))))
+    λ κs h. (lower_edge _ _ _ t 0 n l c.decreases, (h.0, (h.1.0, (h.1.1.0, (h.1.1.1, (record { known = (c.requires.may.ranked c.args.node.0 c.requires.may.known e k).0; ranked = c.requires.may.ranked; above = deeper; wanted = c.requires.may.wanted; stands = stands_below (view c.args.context.now.root) p (subject_of c.args.question.now.instance) (subject_of c.in-Some-one_below.inner) step (steps_to c.below-lower.result) c.requires.may.stands c.below-lower.ensures.below c.in-Some-one_below.ensures.below.1; goes_on = (layout, below, right) }, c.below-lower.ensures.carries (places_in c.args.context.now) c.requires.carries))))))
 
 pub evaluate::evaluate_child-returns-in-None-one_below-clause-gives : goal.evaluate::evaluate_child-returns-in-None-one_below-clause-gives
 evaluate::evaluate_child-returns-in-None-one_below-clause-gives g t c =
@@ -1189,97 +957,10 @@ evaluate::evaluate_child-returns-in-Some-one_below-clause-meets g t c =
     let met = subst (λ busy'. EdgeMeets g.K.Validate.words g.K.Validate.is_whole ns (length c.args.engine.now.nodes.now) w (mode_of c.args.question.now.mode) (path_of c.args.question.now.path.now) (steps_to c.below-lower.result) busy' inner c.args.context.now.remembered c.evaluate_edge-in-Some-one_below.new.context.remembered e) none meets in
     meets_below g.K.Validate.words g.K.Validate.is_whole ns (length c.args.engine.now.nodes.now) w (mode_of c.args.question.now.mode) (path_of c.args.question.now.path.now) p busy s c.args.node.0 _ asked _ _ e step (steps_to c.below-lower.result) inner (sym c.in-Some.ensures.edge) c.in-Some-one_below.ensures.below.0 c.below-lower.ensures.below c.in-Some-one_below.ensures.below.1 l met) c.evaluate_edge-in-Some-one_below.ensures.meets
 
-pub evaluate::evaluate_edge-returns-then-branch-clause-gives : goal.evaluate::evaluate_edge-returns-then-branch-clause-gives
-evaluate::evaluate_edge-returns-then-branch-clause-gives g t c =
-    let set = setting g.K.Validate.words g.K.Validate.is_whole g.K.Validate.shape g.M.Matcher.matching c.args.engine.now in
-    let q = asking c.args.question.now in
-    let p = steps_to c.args.question.now.place.now in
-    let s = subject_of c.args.question.now.instance in
-    let e = edge_of c.args.edge.now in
-    let old = entered_old e.node p c.args.context.now.in_progress c.in_ok-enter_shared.field-0 c.enter_shared.new.self.in_progress (rw c.in_ok-shared.ensures.same at c.in_ok-enter_shared.ensures.enters) c.if-branch.true in
-    let there : steps_to c.given-place.result ≡ p = c.given-place.ensures.same ∙ c.as_place-here.ensures.same ∙ c.in_ok-shared.ensures.same in
-    let n = node_of c.node.result.now in
-    let at_node = where_is g.K.Validate.shape c.args.engine.now.nodes.now (g.K.Validate.words false) (g.M.Matcher.matching c.args.engine.now.matcher.now) (λ place. s) e.node n (path_of c.args.question.now.path.now ++ e.path) p c.node.ensures.found in
-    if_ok_mono c.accepting_unit.result _ _ (λ u is. gives_busy set q c.args.context.now e u c.if-not-edge.false old.0 (λ texts. is texts
-    ∙ ap (λ path. true_unit (entry_where n path (steps_to c.given-place.result))) c.across-whole.ensures.appended
-    ∙ ap (λ place. true_unit (entry_where n (path_of c.args.question.now.path.now ++ e.path) place)) there
-    ∙ ap true_unit (sym at_node))) c.accepting_unit.ensures.unit
-
-pub evaluate::evaluate_edge-returns-then-branch-clause-meets : goal.evaluate::evaluate_edge-returns-then-branch-clause-meets
-evaluate::evaluate_edge-returns-then-branch-clause-meets g t c =
-    let ns = numbered g.K.Validate.shape c.args.engine.now.nodes.now in
-    let w = settling (g.M.Matcher.matching c.args.engine.now.matcher.now) c.args.context.now.remembered.assumptions in
-    let p = steps_to c.args.question.now.place.now in
-    let s = subject_of c.args.question.now.instance in
-    let busy = busy_at p c.args.context.now.in_progress in
-    let e = edge_of c.args.edge.now in
-    let old = entered_old e.node p c.args.context.now.in_progress c.in_ok-enter_shared.field-0 c.enter_shared.new.self.in_progress (rw c.in_ok-shared.ensures.same at c.in_ok-enter_shared.ensures.enters) c.if-branch.true in
-    if_ok_always c.accepting_unit.result _ (meets_busy g.K.Validate.words g.K.Validate.is_whole ns (length c.args.engine.now.nodes.now) w s busy e (mode_of c.args.question.now.mode) (path_of c.args.question.now.path.now) p _ _ c.if-not-edge.false old.0 (sym c.enter_shared.ensures.remembered))
-
-pub evaluate::evaluate_edge-evaluate_node-requires-2 : goal.evaluate::evaluate_edge-evaluate_node-requires-2
-evaluate::evaluate_edge-evaluate_node-requires-2 g t c =
-    let ns = numbered g.K.Validate.shape c.args.engine.now.nodes.now in
-    let set = setting g.K.Validate.words g.K.Validate.is_whole g.K.Validate.shape g.M.Matcher.matching c.args.engine.now in
-    let w = settling (g.M.Matcher.matching c.args.engine.now.matcher.now) c.args.context.now.remembered.assumptions in
-    let p = steps_to c.args.question.now.place.now in
-    let s = subject_of c.args.question.now.instance in
-    let e = edge_of c.args.edge.now in
-    let entered = entered_new e.node p c.args.context.now.in_progress c.in_ok-enter_shared.field-0 c.enter_shared.new.self.in_progress (rw c.in_ok-shared.ensures.same at c.in_ok-enter_shared.ensures.enters) c.if-branch.false in
-    let pushed : busy_at p c.enter_shared.new.self.in_progress ≡ e.node ∷ busy_at p c.args.context.now.in_progress = ap (busy_at p) entered.1 ∙ busy-pushed p e.node c.args.context.now.in_progress in
-    let there : steps_to c.given-place.result ≡ p = c.given-place.ensures.same ∙ c.as_place-here.ensures.same ∙ c.in_ok-shared.ensures.same in
-    let needs = needs_of_entered g.K.Validate.words g.K.Validate.is_whole ns (length c.args.engine.now.nodes.now) w s (busy_at p c.args.context.now.in_progress) e c.if-not-edge.false entered.0 in
-    let l = ap (λ q. left ns (length c.args.engine.now.nodes.now) e.node s (busy_at q c.enter_shared.new.self.in_progress)) there ∙ ap (left ns (length c.args.engine.now.nodes.now) e.node s) pushed in
-    let deeper = subst (λ q. NoDeeper q c.enter_shared.new.self.in_progress) (sym there) (subst (NoDeeper p) (sym entered.1) (deeper-pushed p e.node c.args.context.now.in_progress c.requires.may.above)) in
-    let (layout, laid, right) = c.requires.may.goes_on in
-    let laid' = subst (λ q. LaysOut layout q s) (sym there) laid in
-    let right' = right_same set layout c.args.context.now c.enter_shared.new.self c.enter_shared.ensures.remembered c.enter_shared.ensures.verdicts right in
-    λ κs h. (lower_entered _ _ _ t l needs c.decreases, (h.0, (h.1.0, (h.1.1.0, (h.1.1.1, record { known = c.requires.may.known; ranked = c.requires.may.ranked; above = deeper; wanted = c.requires.may.wanted; goes_on = (layout, laid', right') })))))
-
-pub evaluate::evaluate_edge-returns-clause-gives : goal.evaluate::evaluate_edge-returns-clause-gives
-evaluate::evaluate_edge-returns-clause-gives g t c =
-    let set = setting g.K.Validate.words g.K.Validate.is_whole g.K.Validate.shape g.M.Matcher.matching c.args.engine.now in
-    let q = asking c.args.question.now in
-    let p = steps_to c.args.question.now.place.now in
-    let e = edge_of c.args.edge.now in
-    let entered = entered_new e.node p c.args.context.now.in_progress c.in_ok-enter_shared.field-0 c.enter_shared.new.self.in_progress (rw c.in_ok-shared.ensures.same at c.in_ok-enter_shared.ensures.enters) c.if-branch.false in
-    let pushed : busy_at p c.enter_shared.new.self.in_progress ≡ e.node ∷ busy_at p c.args.context.now.in_progress = ap (busy_at p) entered.1 ∙ busy-pushed p e.node c.args.context.now.in_progress in
-    let there : steps_to c.given-place.result ≡ p = c.given-place.ensures.same ∙ c.as_place-here.ensures.same ∙ c.in_ok-shared.ensures.same in
-    let asked : Asking = record { subject = q.subject; place = steps_to c.given-place.result; path = path_of c.across-whole.result; mode = q.mode } in
-    let is : asked ≡ record q { path = q.path ++ e.path } = λ i. record { subject = q.subject; place = there i; path = c.across-whole.ensures.appended i; mode = q.mode } in
-    gives_entered set q c.args.context.now e c.in_ok-unit.unit c.if-not-edge.false entered.0 asked c.enter_shared.new.self is pushed c.enter_shared.ensures.remembered c.in_ok-unit.ensures.gives
-
-pub evaluate::evaluate_edge-returns-clause-meets : goal.evaluate::evaluate_edge-returns-clause-meets
-evaluate::evaluate_edge-returns-clause-meets g t c =
-    let ns = numbered g.K.Validate.shape c.args.engine.now.nodes.now in
-    let set = setting g.K.Validate.words g.K.Validate.is_whole g.K.Validate.shape g.M.Matcher.matching c.args.engine.now in
-    let w = settling (g.M.Matcher.matching c.args.engine.now.matcher.now) c.args.context.now.remembered.assumptions in
-    let q = asking c.args.question.now in
-    let p = steps_to c.args.question.now.place.now in
-    let s = subject_of c.args.question.now.instance in
-    let busy = busy_at p c.args.context.now.in_progress in
-    let e = edge_of c.args.edge.now in
-    let entered = entered_new e.node p c.args.context.now.in_progress c.in_ok-enter_shared.field-0 c.enter_shared.new.self.in_progress (rw c.in_ok-shared.ensures.same at c.in_ok-enter_shared.ensures.enters) c.if-branch.false in
-    let pushed : busy_at p c.enter_shared.new.self.in_progress ≡ e.node ∷ busy_at p c.args.context.now.in_progress = ap (busy_at p) entered.1 ∙ busy-pushed p e.node c.args.context.now.in_progress in
-    let there : steps_to c.given-place.result ≡ p = c.given-place.ensures.same ∙ c.as_place-here.ensures.same ∙ c.in_ok-shared.ensures.same in
-    let asked : Asking = record { subject = q.subject; place = steps_to c.given-place.result; path = path_of c.across-whole.result; mode = q.mode } in
-    let is : asked ≡ record q { path = q.path ++ e.path } = λ i. record { subject = q.subject; place = there i; path = c.across-whole.ensures.appended i; mode = q.mode } in
-    let met = entered_meets set q c.args.context.now e c.in_ok-unit.unit c.if-not-edge.false entered.0 asked c.enter_shared.new.self c.evaluate_node-2.new.context is pushed c.enter_shared.ensures.remembered c.in_ok-unit.ensures.meets in
-    subst (λ r. EdgeMeets g.K.Validate.words g.K.Validate.is_whole ns (length c.args.engine.now.nodes.now) w (mode_of c.args.question.now.mode) (path_of c.args.question.now.path.now) p busy s c.args.context.now.remembered r e) (sym c.exit.ensures.remembered) met
-
-pub evaluate::evaluate_edge-returns-clause-stays : goal.evaluate::evaluate_edge-returns-clause-stays
-evaluate::evaluate_edge-returns-clause-stays g t c =
-    let set = setting g.K.Validate.words g.K.Validate.is_whole g.K.Validate.shape g.M.Matcher.matching c.args.engine.now in
-    let p = steps_to c.args.question.now.place.now in
-    let s = subject_of c.args.question.now.instance in
-    let there : steps_to c.given-place.result ≡ p = c.given-place.ensures.same ∙ c.as_place-here.ensures.same ∙ c.in_ok-shared.ensures.same in
-    λ layout laid right.
-    let right1 = right_same set layout c.args.context.now c.enter_shared.new.self c.enter_shared.ensures.remembered c.enter_shared.ensures.verdicts right in
-    let laid' = subst (λ q. LaysOut layout q s) (sym there) laid in
-    right_same set layout c.evaluate_node-2.new.context c.exit.new.self c.exit.ensures.remembered c.exit.ensures.verdicts (c.in_ok-unit.ensures.stays layout laid' right1)
-
 pub evaluate::evaluate_entries-loop-entry-init : goal.evaluate::evaluate_entries-loop-entry-init
 evaluate::evaluate_entries-loop-entry-init g t c =
     record {
+      root = refl;
       kept = refl;
       assumes = refl;
       marking = refl;
@@ -1296,7 +977,7 @@ evaluate::evaluate_entries-evaluate_entry-requires g t c =
     let kept = c.loop-entry.invariant.kept in
     let l = ap (λ es. left ns (length c.args.engine.now.nodes.now) c.args.node.0 (subject_of c.args.question.now.instance) (busy_at p es)) kept in
     let here = part_at entry_of (shaped_part g.K.Validate.shape) c.args.entries.now c.loop-entry.entry-index c.entry-item.result c.loop-entry-test.true c.entry-item.is in
-    λ κs h. (lower_same _ _ t 8 0 l c.decreases, (h.0, (h.1.0, (h.1.1.0, (h.1.1.1, (record { known = c.requires.may.known; ranked = c.requires.may.ranked; above = subst (NoDeeper p) (sym kept) c.requires.may.above; wanted = c.requires.may.wanted; goes_on = (c.requires.may.goes_on.0, c.requires.may.goes_on.1, c.loop-entry.invariant.stays c.requires.may.goes_on.0 c.requires.may.goes_on.1 c.requires.may.goes_on.2) }, (c.requires.parts.0, c.requires.parts.1, shaped_part g.K.Validate.shape (entry_of c.entry-item.result), c.requires.parts.2 _ here, refl)))))))
+    λ κs h. (lower_same _ _ t 8 0 l c.decreases, (h.0, (h.1.0, (h.1.1.0, (h.1.1.1, (record { known = c.requires.may.known; ranked = c.requires.may.ranked; above = subst (NoDeeper p) (sym kept) c.requires.may.above; wanted = c.requires.may.wanted; stands = stands_on c.args.context.now.root _ (asking c.args.question.now) c.loop-entry.invariant.root c.requires.may.stands; goes_on = (c.requires.may.goes_on.0, c.requires.may.goes_on.1, c.loop-entry.invariant.stays c.requires.may.goes_on.0 c.requires.may.goes_on.1 c.requires.may.goes_on.2) }, (carries_on c.args.context.now.root _ c.args.question.now.place.now c.loop-entry.invariant.root c.requires.carries, (c.requires.parts.0, c.requires.parts.1, shaped_part g.K.Validate.shape (entry_of c.entry-item.result), c.requires.parts.2 _ here, refl))))))))
 
 pub evaluate::evaluate_entries-loop-entry-preserved : goal.evaluate::evaluate_entries-loop-entry-preserved
 evaluate::evaluate_entries-loop-entry-preserved g t c =
@@ -1313,6 +994,7 @@ evaluate::evaluate_entries-loop-entry-preserved g t c =
     let mode = mode_of c.args.question.now.mode in
     record {
       stays = λ layout laid right. c.in_ok-given.ensures.stays layout laid (c.loop-entry.invariant.stays layout laid right);
+      root = c.in_ok-given.ensures.keeps.root ∙ c.loop-entry.invariant.root;
       kept = c.in_ok-given.ensures.keeps.in_progress ∙ c.loop-entry.invariant.kept;
       assumes = c.in_ok-given.ensures.keeps.assumptions ∙ c.loop-entry.invariant.assumes;
       marking = c.in_ok-given.ensures.keeps.marking ∙ c.loop-entry.invariant.marking;
@@ -1361,7 +1043,7 @@ evaluate::evaluate_entry-evaluate_edge-requires g t c =
     let e = edge_of c.in-Reference.edge in
     let k = reference_edge ns c.args.node.0 e (rw c.in-Reference.is at c.requires.form) in
     let l = falls_here g.K.Validate.words g.K.Validate.is_whole ns (length c.args.engine.now.nodes.now) w c.requires.may.ranked c.args.node.0 s busy e c.requires.may.known k in
-    λ κs h. (lower_edge _ _ _ t 7 refl l c.decreases, (h.0, (h.1.0, (h.1.1.0, (h.1.1.1, record { known = (c.requires.may.ranked c.args.node.0 c.requires.may.known e k).0; ranked = c.requires.may.ranked; above = c.requires.may.above; wanted = c.requires.may.wanted; goes_on = c.requires.may.goes_on })))))
+    λ κs h. (lower_edge _ _ _ t 7 refl l c.decreases, (h.0, (h.1.0, (h.1.1.0, (h.1.1.1, (record { known = (c.requires.may.ranked c.args.node.0 c.requires.may.known e k).0; ranked = c.requires.may.ranked; above = c.requires.may.above; wanted = c.requires.may.wanted; stands = c.requires.may.stands; goes_on = c.requires.may.goes_on }, c.requires.carries))))))
 
 pub evaluate::evaluate_entry-returns-in-Keyword-clause-meets : goal.evaluate::evaluate_entry-returns-in-Keyword-clause-meets
 evaluate::evaluate_entry-returns-in-Keyword-clause-meets g t c =
@@ -1400,7 +1082,7 @@ evaluate::evaluate_entry-returns-in_ok-unit-in-Reference-clause-meets g t c =
 
 pub evaluate::evaluate_keyword-keyword_answer-requires : goal.evaluate::evaluate_keyword-keyword_answer-requires
 evaluate::evaluate_keyword-keyword_answer-requires g t c =
-    λ κs h. (lower_same _ _ t 5 0 refl c.decreases, (h.0, (h.1.0, (h.1.1.0, (h.1.1.1, (record { known = c.requires.may.known; ranked = c.requires.may.ranked; above = c.requires.may.above; goes_on = c.requires.may.goes_on }, c.requires.form))))))
+    λ κs h. (lower_same _ _ t 5 0 refl c.decreases, (h.0, (h.1.0, (h.1.1.0, (h.1.1.1, (record { known = c.requires.may.known; ranked = c.requires.may.ranked; above = c.requires.may.above; stands = c.requires.may.stands; goes_on = c.requires.may.goes_on }, (c.requires.carries, c.requires.form)))))))
 
 pub evaluate::evaluate_keyword-returns-clause-gives : goal.evaluate::evaluate_keyword-returns-clause-gives
 evaluate::evaluate_keyword-returns-clause-gives g t c =
@@ -1432,7 +1114,7 @@ pub evaluate::evaluate_node-evaluate_entries-requires : goal.evaluate::evaluate_
 evaluate::evaluate_node-evaluate_entries-requires g t c =
     let n = node_of c.node-found.result.now in
     let plan = plan_is g.K.Validate.shape c.args.engine.now.nodes.now c.args.node.0 n _ c.node-found.ensures.found (ap (option_map plan_of) c.in-Some.is ∙ ap (λ f. Some (plan_of f)) c.in-Keywords.is) in
-    λ κs h. (lower_same _ _ t 9 0 refl c.decreases, (h.0, (h.1.0, (h.1.1.0, (h.1.1.1, (c.requires.may, rw c.as_slice.ensures.value (_, plan, λ y k. k)))))))
+    λ κs h. (lower_same _ _ t 9 0 refl c.decreases, (h.0, (h.1.0, (h.1.1.0, (h.1.1.1, (c.requires.may, (c.requires.carries, rw c.as_slice.ensures.value (_, plan, λ y k. k))))))))
 
 pub evaluate::evaluate_node-returns-in-None-clause-gives : goal.evaluate::evaluate_node-returns-in-None-clause-gives
 evaluate::evaluate_node-returns-in-None-clause-gives g t c =
@@ -1522,57 +1204,8 @@ evaluate::evaluate_node-returns-in_ok-children-in-Keywords-clause-meets g t c =
 pub evaluate::evaluate_entries-returns-clause-counts : goal.evaluate::evaluate_entries-returns-clause-counts
 evaluate::evaluate_entries-returns-clause-counts g t c = if_ok_always c.into_children.result _ c.loop-entry.invariant.counted
 
-pub evaluate::evaluate_edge-returns-clause-counts : goal.evaluate::evaluate_edge-returns-clause-counts
-evaluate::evaluate_edge-returns-clause-counts g t c = rw (c.enter_shared.ensures.visits, ← c.exit.ensures.visits) at c.in_ok-unit.ensures.counts
-
-pub evaluate::evaluate_edge-returns-then-branch-clause-counts : goal.evaluate::evaluate_edge-returns-then-branch-clause-counts
-evaluate::evaluate_edge-returns-then-branch-clause-counts g t c = if_ok_always c.accepting_unit.result _ (as_many _ _ c.enter_shared.ensures.visits)
-
 pub evaluate::evaluate_entry-returns-in_ok-unit-in-Reference-clause-counts : goal.evaluate::evaluate_entry-returns-in_ok-unit-in-Reference-clause-counts
 evaluate::evaluate_entry-returns-in_ok-unit-in-Reference-clause-counts g t c = if_ok_always c.units_of_reference.result _ (rw (← c.units_of_reference.ensures.stays) at c.in_ok-unit-in-Reference.ensures.counts)
-
-pub run::run_node-returns-in-None-clause-visits : goal.run::run_node-returns-in-None-clause-visits
-run::run_node-returns-in-None-clause-visits g t c =
-    let plan = plan_none g.K.Validate.shape c.args.engine.now.nodes.now c.args.node.0 (node_of c.node-found.result.now) c.node-found.ensures.found (ap (option_map plan_of) c.in-None.is) in
-    always_counts (numbered g.K.Validate.shape c.args.engine.now.nodes.now) (asking c.args.question.now) c.args.context.now c.args.context.now c.args.node.0 plan refl
-
-pub run::run_node-returns-in-Always-clause-visits : goal.run::run_node-returns-in-Always-clause-visits
-run::run_node-returns-in-Always-clause-visits g t c =
-    let plan = plan_is g.K.Validate.shape c.args.engine.now.nodes.now c.args.node.0 (node_of c.node-found.result.now) _ c.node-found.ensures.found (ap (option_map plan_of) c.in-Some.is ∙ ap (λ f. Some (plan_of f)) c.in-Always.is) in
-    always_counts (numbered g.K.Validate.shape c.args.engine.now.nodes.now) (asking c.args.question.now) c.args.context.now c.args.context.now c.args.node.0 plan refl
-
-pub run::run_node-returns-in-Never-clause-visits : goal.run::run_node-returns-in-Never-clause-visits
-run::run_node-returns-in-Never-clause-visits g t c =
-    let plan = plan_is g.K.Validate.shape c.args.engine.now.nodes.now c.args.node.0 (node_of c.node-found.result.now) _ c.node-found.ensures.found (ap (option_map plan_of) c.in-Some.is ∙ ap (λ f. Some (plan_of f)) c.in-Never.is) in
-    if_ok_always c.refused.result _ (never_counts (numbered g.K.Validate.shape c.args.engine.now.nodes.now) (asking c.args.question.now) c.args.context.now c.args.context.now c.args.node.0 plan refl)
-
-pub run::run_node-returns-in-Keywords-clause-visits : goal.run::run_node-returns-in-Keywords-clause-visits
-run::run_node-returns-in-Keywords-clause-visits g t c =
-    let plan = plan_is g.K.Validate.shape c.args.engine.now.nodes.now c.args.node.0 (node_of c.node-found.result.now) _ c.node-found.ensures.found (ap (option_map plan_of) c.in-Some.is ∙ ap (λ f. Some (plan_of f)) c.in-Keywords.is) in
-    if_ok_mono c.run_entries.result _ _ (λ r counts. planned_counts (numbered g.K.Validate.shape c.args.engine.now.nodes.now) (asking c.args.question.now) c.args.context.now c.run_entries.new.context c.args.node.0 _ plan counts) (rw c.as_slice.ensures.value at c.run_entries.ensures.visits)
-
-pub run::run_entries-returns-then-is_settled-clause-visits : goal.run::run_entries-returns-then-is_settled-clause-visits
-run::run_entries-returns-then-is_settled-clause-visits g t c =
-    next_counts (numbered g.K.Validate.shape c.args.engine.now.nodes.now) (asking c.args.question.now) entry_of (shaped_part g.K.Validate.shape) c.args.entries.now c.loop-entry.entry-index c.entry-item.result c.loop-entry-test.true c.entry-item.is c.args.context.now c.loop-entry.context c.run_entry.new.context (λ e. (c.loop-entry.invariant.first e).0) c.loop-entry.invariant.visited c.in_ok-more.ensures.visits
-
-pub run::run_entries-returns-clause-visits : goal.run::run_entries-returns-clause-visits
-run::run_entries-returns-clause-visits g t c =
-    ended_counts (numbered g.K.Validate.shape c.args.engine.now.nodes.now) (asking c.args.question.now) entry_of (shaped_part g.K.Validate.shape) c.args.entries.now c.loop-entry.entry-index c.loop-entry-test.false c.args.context.now c.loop-entry.context (λ e. (c.loop-entry.invariant.first e).0) c.loop-entry.invariant.visited
-
-pub run::run_form-returns-in-Keyword-clause-visits : goal.run::run_form-returns-in-Keyword-clause-visits
-run::run_form-returns-in-Keyword-clause-visits g t c = rw (c.in-Keyword.is, ← c.as_slice.ensures.value) c.run_keyword.ensures.visits
-
-pub run::run_form-returns-in_ok-reply-in-Reference-clause-visits : goal.run::run_form-returns-in_ok-reply-in-Reference-clause-visits
-run::run_form-returns-in_ok-reply-in-Reference-clause-visits g t c = rw c.in-Reference.is (if_ok_always c.stamped_reply.result _ c.in_ok-reply-in-Reference.ensures.visits)
-
-pub run::run_keyword-returns-in-Some-clause-visits : goal.run::run_keyword-returns-in-Some-clause-visits
-run::run_keyword-returns-in-Some-clause-visits g t c =
-    keyword_counts (numbered g.K.Validate.shape c.args.engine.now.nodes.now) (asking c.args.question.now) c.args.context.now c.args.context.now (g.K.Validate.shape c.args.keyword.now.keyword.now) (map (option_map edge_of) c.args.keyword.now.children.now) (λ none. refl)
-
-pub run::run_keyword-returns-clause-visits : goal.run::run_keyword-returns-clause-visits
-run::run_keyword-returns-clause-visits g t c = if_ok_always c.finished.result _ (
-    keyword_counts (numbered g.K.Validate.shape c.args.engine.now.nodes.now) (asking c.args.question.now) c.args.context.now c.finished.new.context (g.K.Validate.shape c.args.keyword.now.keyword.now) (map (option_map edge_of) c.args.keyword.now.children.now)
-    (λ none. ap (λ (z : Context). z.visits) c.finished.ensures.stays ∙ c.in_ok-answer.ensures.quiet none))
 
 pub turns::keyword_answer-returns-clause-quiet : goal.turns::keyword_answer-returns-clause-quiet
 turns::keyword_answer-returns-clause-quiet g t c = λ none. c.put_back.ensures.visits ∙ c.in_ok-run_turns.ensures.quiet none ∙ c.set_aside-aside.ensures.visits
@@ -1589,55 +1222,13 @@ evaluate::evaluate_child-returns-in-None-one_below-clause-quiet g t c = if_ok_al
 pub evaluate::evaluate_child-returns-in-Some-one_below-clause-quiet : goal.evaluate::evaluate_child-returns-in-Some-one_below-clause-quiet
 evaluate::evaluate_child-returns-in-Some-one_below-clause-quiet g t c = if_ok_always c.evaluate_edge-in-Some-one_below.result _ (λ none. absurd (none c.args.child (edge_of c.in-Some.edge.now) (sym c.in-Some.ensures.edge)))
 
-pub run::run_edge-returns-then-branch-clause-visits : goal.run::run_edge-returns-then-branch-clause-visits
-run::run_edge-returns-then-branch-clause-visits g t c =
-    let p = steps_to c.args.question.now.place.now in
-    let e = edge_of c.args.edge.now in
-    let old = entered_old e.node p c.args.context.now.in_progress c.in_ok-enter_shared.field-0 c.enter_shared.new.self.in_progress (rw c.in_ok-shared.ensures.same at c.in_ok-enter_shared.ensures.enters) c.if-branch.true in
-    busy_counts (numbered g.K.Validate.shape c.args.engine.now.nodes.now) (asking c.args.question.now) c.args.context.now e c.enter_shared.new.self c.if-not-edge.false old.0 c.enter_shared.ensures.visits
-
-pub run::run_edge-returns-in-Some-clause-visits : goal.run::run_edge-returns-in-Some-clause-visits
-run::run_edge-returns-in-Some-clause-visits g t c =
-    let q = asking c.args.question.now in
-    let p = steps_to c.args.question.now.place.now in
-    let e = edge_of c.args.edge.now in
-    let c1 = c.enter_shared.new.self in
-    let entered = entered_new e.node p c.args.context.now.in_progress c.in_ok-enter_shared.field-0 c1.in_progress (rw c.in_ok-shared.ensures.same at c.in_ok-enter_shared.ensures.enters) c.if-branch.false in
-    let found = sym (rw (c.as_place-here.ensures.same ∙ c.in_ok-shared.ensures.same) at c.in-Some.ensures.read) in
-    let read = sym (read_entered e.node p c.args.context.now c1 entered.1 c.enter_shared.ensures.verdicts) ∙ (read_for_verdict q.mode e.node p c1 c.in-Some.valid found).1 in
-    read_counts (numbered g.K.Validate.shape c.args.engine.now.nodes.now) q c.args.context.now e c.exit.new.self c.in-Some.valid c.if-not-edge.false entered.0 read (c.exit.ensures.visits ∙ c.enter_shared.ensures.visits)
-
-pub run::run_edge-returns-clause-visits : goal.run::run_edge-returns-clause-visits
-run::run_edge-returns-clause-visits g t c =
-    let ns = (numbered g.K.Validate.shape c.args.engine.now.nodes.now) in
-    let q = asking c.args.question.now in
-    let p = steps_to c.args.question.now.place.now in
-    let e = edge_of c.args.edge.now in
-    let c1 = c.enter_shared.new.self in
-    let c2 = c.begin_visit-mark.new.context in
-    let c3 = c.run_node-2.new.context in
-    let entered = entered_new e.node p c.args.context.now.in_progress c.in_ok-enter_shared.field-0 c1.in_progress (rw c.in_ok-shared.ensures.same at c.in_ok-enter_shared.ensures.enters) c.if-branch.false in
-    let pairs : c2.in_progress ≡ c.args.context.now.in_progress ++ (e.node, p) ∷ [] = ap (λ (z : Context). z.in_progress) c.begin_visit-mark.ensures.counted ∙ entered.1 in
-    let read = ap (λ (z : Context). z.verdicts) c.begin_visit-mark.ensures.counted ∙ c.enter_shared.ensures.verdicts in
-    let counted = ap (λ (z : Context). z.visits) c.begin_visit-mark.ensures.counted ∙ ap (visited_in_mode q.mode) c.enter_shared.ensures.visits in
-    let there : steps_to c.given-place.result ≡ p = c.given-place.ensures.same ∙ c.as_place-here.ensures.same ∙ c.in_ok-shared.ensures.same in
-    let none = sym (rw (c.as_place-here.ensures.same ∙ c.in_ok-shared.ensures.same) at c.in_default.ensures.read) in
-    let node_counts = subst (λ z. NodeCounts ns (record { subject = q.subject; place = z; path = path_of c.across-whole.result; mode = q.mode }) c2 c3 e.node) there c.in_ok-computed.ensures.visits in
-    let visits = c.exit-2.ensures.visits ∙ ap (λ (z : Context). z.visits) c.kept_reply.ensures.frame in
-    computed_counts ns q c.args.context.now e c2 c3 c.exit-2.new.self c.if-not-edge.false entered.0
-    (λ mode. sym (read_entered e.node p c.args.context.now c1 entered.1 c.enter_shared.ensures.verdicts) ∙ subst (λ m. read_in_mode m e.node p c1 ≡ None) mode none) pairs read
-    (λ mode. subst (λ m. c2.visits ≡ visited_in_mode m c.args.context.now.visits) mode counted) node_counts visits
-
-pub run::run_edge-returns-then-not-edge-clause-visits : goal.run::run_edge-returns-then-not-edge-clause-visits
-run::run_edge-returns-then-not-edge-clause-visits g t c = if_ok_mono c.run_node.result _ _ (λ r counts. free_counts (numbered g.K.Validate.shape c.args.engine.now.nodes.now) (asking c.args.question.now) c.args.context.now (edge_of c.args.edge.now) c.run_node.new.context c.if-not-edge.true counts) c.run_node.ensures.visits
-
 pub verdict::verdict_child-verdict_edge-requires : goal.verdict::verdict_child-verdict_edge-requires
 verdict::verdict_child-verdict_edge-requires g t c =
     let ns = numbered g.K.Validate.shape c.args.engine.now.nodes.now in
     let e = edge_of c.in-Some.edge.now in
     let k = c.requires.children c.args.child e (sym c.in-Some.ensures.edge) in
     let l = falls_here g.K.Validate.words g.K.Validate.is_whole ns (length c.args.engine.now.nodes.now) (settling (g.M.Matcher.matching c.args.engine.now.matcher.now) c.args.context.now.remembered.assumptions) c.requires.may.ranked c.args.node.0 (subject_of c.args.question.now.instance) (busy_at (steps_to c.args.question.now.place.now) c.args.context.now.in_progress) e c.requires.may.known k in
-    λ κs h. (lower_across _ _ _ t 0 refl l c.decreases, (h.0, (h.1.0, (h.1.1.0, (h.1.1.1, (record { known = (c.requires.may.ranked c.args.node.0 c.requires.may.known e k).0; ranked = c.requires.may.ranked; above = c.requires.may.above; wanted = c.requires.may.wanted; goes_on = c.requires.may.goes_on }, c.requires.verdict))))))
+    λ κs h. (lower_across _ _ _ t 0 refl l c.decreases, (h.0, (h.1.0, (h.1.1.0, (h.1.1.1, (record { known = (c.requires.may.ranked c.args.node.0 c.requires.may.known e k).0; ranked = c.requires.may.ranked; above = c.requires.may.above; wanted = c.requires.may.wanted; stands = c.requires.may.stands; goes_on = c.requires.may.goes_on }, (c.requires.carries, c.requires.verdict)))))))
 
 pub verdict::verdict_child-verdict_edge-requires-in-Some-one_below : goal.verdict::verdict_child-verdict_edge-requires-in-Some-one_below
 verdict::verdict_child-verdict_edge-requires-in-Some-one_below g t c =
@@ -1653,7 +1244,7 @@ verdict::verdict_child-verdict_edge-requires-in-Some-one_below g t c =
     let n = ap (edge_needs ns (length c.args.engine.now.nodes.now) e (subject_of c.in-Some-one_below.inner)) none in
     let (layout, laid, right) = c.requires.may.goes_on in
     let below = laid_below layout p (subject_of c.args.question.now.instance) (subject_of c.in-Some-one_below.inner) step (steps_to c.below-lower.result) laid c.below-lower.ensures.below c.in-Some-one_below.ensures.below.1 in
-    λ κs h. (lower_across _ _ _ t 0 n l c.decreases, (h.0, (h.1.0, (h.1.1.0, (h.1.1.1, (record { known = (c.requires.may.ranked c.args.node.0 c.requires.may.known e k).0; ranked = c.requires.may.ranked; above = deeper; wanted = c.requires.may.wanted; goes_on = (layout, below, right) }, c.requires.verdict))))))
+    λ κs h. (lower_across _ _ _ t 0 n l c.decreases, (h.0, (h.1.0, (h.1.1.0, (h.1.1.1, (record { known = (c.requires.may.ranked c.args.node.0 c.requires.may.known e k).0; ranked = c.requires.may.ranked; above = deeper; wanted = c.requires.may.wanted; stands = stands_below (view c.args.context.now.root) p (subject_of c.args.question.now.instance) (subject_of c.in-Some-one_below.inner) step (steps_to c.below-lower.result) c.requires.may.stands c.below-lower.ensures.below c.in-Some-one_below.ensures.below.1; goes_on = (layout, below, right) }, (c.below-lower.ensures.carries (places_in c.args.context.now) c.requires.carries, c.requires.verdict)))))))
 
 pub verdict::verdict_child-returns-in-None-one_below-clause-says : goal.verdict::verdict_child-returns-in-None-one_below-clause-says
 verdict::verdict_child-returns-in-None-one_below-clause-says g t c =
@@ -1725,7 +1316,7 @@ verdict::verdict_form-verdict_edge-requires g t c =
     let e = edge_of c.in-Reference.edge in
     let k = reference_edge ns c.args.node.0 e (rw c.in-Reference.is at c.requires.form) in
     let l = falls_here g.K.Validate.words g.K.Validate.is_whole ns (length c.args.engine.now.nodes.now) (settling (g.M.Matcher.matching c.args.engine.now.matcher.now) c.args.context.now.remembered.assumptions) c.requires.may.ranked c.args.node.0 (subject_of c.args.question.now.instance) (busy_at (steps_to c.args.question.now.place.now) c.args.context.now.in_progress) e c.requires.may.known k in
-    λ κs h. (lower_across _ _ _ t 5 refl l c.decreases, (h.0, (h.1.0, (h.1.1.0, (h.1.1.1, (record { known = (c.requires.may.ranked c.args.node.0 c.requires.may.known e k).0; ranked = c.requires.may.ranked; above = c.requires.may.above; wanted = c.requires.may.wanted; goes_on = c.requires.may.goes_on }, c.requires.verdict))))))
+    λ κs h. (lower_across _ _ _ t 5 refl l c.decreases, (h.0, (h.1.0, (h.1.1.0, (h.1.1.1, (record { known = (c.requires.may.ranked c.args.node.0 c.requires.may.known e k).0; ranked = c.requires.may.ranked; above = c.requires.may.above; wanted = c.requires.may.wanted; stands = c.requires.may.stands; goes_on = c.requires.may.goes_on }, (c.requires.carries, c.requires.verdict)))))))
 
 pub verdict::verdict_form-returns-in_default-clause-says : goal.verdict::verdict_form-returns-in_default-clause-says
 verdict::verdict_form-returns-in_default-clause-says g t c = rw (c.in-Keyword.is, ← c.as_slice.ensures.value) c.verdict_keyword.ensures.says
@@ -1777,7 +1368,7 @@ verdict::verdict_form-returns-in-Reference-clause-remembers g t c =
     let e = edge_of c.in-Reference.edge in
     if_ok_mono c.verdict_edge.result _ _ (λ b remembers.
     let there = subst (λ path. EdgeRemembers (record { subject = q.subject; place = q.place; path = path; mode = q.mode }) c.args.context.now c.verdict_edge.new.context e (told.Truth b)) c.under_reference-path.ensures.same remembers in
-    stamped_remembers q c.args.context.now c.verdict_edge.new.context e _ (told.Truth b) (told.Truth b) None (ap (λ z. shaped_form g.K.Validate.shape (form_of z)) c.in-Reference.is) (stamps_verdict None b) there) c.verdict_edge.ensures.remembers
+    reference_remembers q c.args.context.now c.verdict_edge.new.context e _ (told.Truth b) (ap (λ z. shaped_form g.K.Validate.shape (form_of z)) c.in-Reference.is) there) c.verdict_edge.ensures.remembers
 
 pub verdict::verdict_form-returns-in-Some-clause-says : goal.verdict::verdict_form-returns-in-Some-clause-says
 verdict::verdict_form-returns-in-Some-clause-says g t c =
@@ -1823,7 +1414,7 @@ verdict::verdict_form-returns-in-Some-clause-visits g t c = rw c.in-Keyword.is (
 
 pub verdict::verdict_keyword-keyword_answer-requires : goal.verdict::verdict_keyword-keyword_answer-requires
 verdict::verdict_keyword-keyword_answer-requires g t c =
-    λ κs h. (lower_same _ _ t 5 0 refl c.decreases, (h.0, (h.1.0, (h.1.1.0, (h.1.1.1, (record { known = c.requires.may.known; ranked = c.requires.may.ranked; above = c.requires.may.above; goes_on = c.requires.may.goes_on }, c.requires.form))))))
+    λ κs h. (lower_same _ _ t 5 0 refl c.decreases, (h.0, (h.1.0, (h.1.1.0, (h.1.1.1, (record { known = c.requires.may.known; ranked = c.requires.may.ranked; above = c.requires.may.above; stands = c.requires.may.stands; goes_on = c.requires.may.goes_on }, (c.requires.carries, c.requires.form)))))))
 
 pub verdict::verdict_keyword-returns-clause-says : goal.verdict::verdict_keyword-returns-clause-says
 verdict::verdict_keyword-returns-clause-says g t c =
@@ -1848,7 +1439,7 @@ verdict::verdict_keyword-returns-clause-visits g t c =
 pub verdict::verdict_node-verdict_entries-requires : goal.verdict::verdict_node-verdict_entries-requires
 verdict::verdict_node-verdict_entries-requires g t c =
     let plan = plan_is g.K.Validate.shape c.args.engine.now.nodes.now c.args.node.0 (node_of c.node.result.now) _ c.node.ensures.found (ap (option_map plan_of) c.in-Some.is ∙ ap (λ f. Some (plan_of f)) c.in-Keywords.is) in
-    λ κs h. (lower_same _ _ t 9 0 refl c.decreases, (h.0, (h.1.0, (h.1.1.0, (h.1.1.1, (c.requires.may, (c.requires.verdict, rw c.as_slice.ensures.value (_, plan, λ y k. k))))))))
+    λ κs h. (lower_same _ _ t 9 0 refl c.decreases, (h.0, (h.1.0, (h.1.1.0, (h.1.1.1, (c.requires.may, (c.requires.carries, (c.requires.verdict, rw c.as_slice.ensures.value (_, plan, λ y k. k)))))))))
 
 pub verdict::verdict_node-returns-in-None-clause-says : goal.verdict::verdict_node-returns-in-None-clause-says
 verdict::verdict_node-returns-in-None-clause-says g t c =
@@ -1972,6 +1563,7 @@ verdict::verdict_entries-loop-entry-init g t c = record {
   remembers = λ l. absurd (omega (arith, l));
   visited = λ l. absurd (omega (arith, l));
   marking = refl;
+  root = refl;
   kept = refl;
   assumes = refl;
   met = λ texts root depth reads l. ([], refl, refl);
@@ -1986,14 +1578,15 @@ verdict::verdict_entries-verdict_form-requires g t c =
     let kept = c.loop-entry.invariant.kept in
     let l = ap (λ es. left ns (length c.args.engine.now.nodes.now) c.args.node.0 (subject_of c.args.question.now.instance) (busy_at p es)) kept in
     let here = part_at entry_of (shaped_part g.K.Validate.shape) c.args.entries.now c.loop-entry.entry-index c.entry-item.result c.loop-entry-test.true c.entry-item.is in
-    λ κs h. (lower_same _ _ t 7 1 l c.decreases, (h.0, (h.1.0, (h.1.1.0, (h.1.1.1, (record { known = c.requires.may.known; ranked = c.requires.may.ranked; above = subst (NoDeeper p) (sym kept) c.requires.may.above; wanted = c.requires.may.wanted; goes_on = (c.requires.may.goes_on.0, c.requires.may.goes_on.1, c.loop-entry.invariant.stays c.requires.may.goes_on.0 c.requires.may.goes_on.1 c.requires.may.goes_on.2) }, (c.requires.verdict, (c.requires.parts.0, c.requires.parts.1, shaped_part g.K.Validate.shape (entry_of c.entry-item.result), c.requires.parts.2 _ here, refl))))))))
+    λ κs h. (lower_same _ _ t 7 1 l c.decreases, (h.0, (h.1.0, (h.1.1.0, (h.1.1.1, (record { known = c.requires.may.known; ranked = c.requires.may.ranked; above = subst (NoDeeper p) (sym kept) c.requires.may.above; wanted = c.requires.may.wanted; stands = stands_on c.args.context.now.root _ (asking c.args.question.now) c.loop-entry.invariant.root c.requires.may.stands; goes_on = (c.requires.may.goes_on.0, c.requires.may.goes_on.1, c.loop-entry.invariant.stays c.requires.may.goes_on.0 c.requires.may.goes_on.1 c.requires.may.goes_on.2) }, (carries_on c.args.context.now.root _ c.args.question.now.place.now c.loop-entry.invariant.root c.requires.carries, (c.requires.verdict, (c.requires.parts.0, c.requires.parts.1, shaped_part g.K.Validate.shape (entry_of c.entry-item.result), c.requires.parts.2 _ here, refl)))))))))
 
 pub verdict::verdict_entries-loop-entry-preserved : goal.verdict::verdict_entries-loop-entry-preserved
 verdict::verdict_entries-loop-entry-preserved g t c = record {
   stays = λ layout laid right. c.in_ok-valid.ensures.stays layout laid (c.loop-entry.invariant.stays layout laid right);
   first = λ e. absurd (omega (arith, e));
-  remembers = λ l. alone_remembers (asking c.args.question.now) entry_of (shaped_part g.K.Validate.shape) c.args.entries.now c.loop-entry.entry-index c.entry-item.result c.loop-entry-test.true c.entry-item.is c.args.context.now c.loop-entry.context c.verdict_form.new.context (told.Truth true) (told.Truth true) (told.Truth true) (λ e. (c.loop-entry.invariant.first e, yes_says (mode_of c.args.question.now.mode) c.requires.verdict)) (joins_verdict true) (subst (λ v. FormRemembers (asking c.args.question.now) c.loop-entry.context c.verdict_form.new.context (shaped_form g.K.Validate.shape (form_of c.entry-item.result.form)) (told.Truth v)) c.if-not-valid.false c.in_ok-valid.ensures.remembers);
+  remembers = λ l. alone_remembers (asking c.args.question.now) entry_of (shaped_part g.K.Validate.shape) c.args.entries.now c.loop-entry.entry-index c.entry-item.result c.loop-entry-test.true c.entry-item.is c.args.context.now c.loop-entry.context c.verdict_form.new.context (told.Truth true) c.loop-entry.invariant.first (subst (λ v. FormRemembers (asking c.args.question.now) c.loop-entry.context c.verdict_form.new.context (shaped_form g.K.Validate.shape (form_of c.entry-item.result.form)) (told.Truth v)) c.if-not-valid.false c.in_ok-valid.ensures.remembers);
   visited = λ l. next_counts (numbered g.K.Validate.shape c.args.engine.now.nodes.now) (asking c.args.question.now) entry_of (shaped_part g.K.Validate.shape) c.args.entries.now c.loop-entry.entry-index c.entry-item.result c.loop-entry-test.true c.entry-item.is c.args.context.now c.loop-entry.context c.verdict_form.new.context c.loop-entry.invariant.first c.loop-entry.invariant.visited c.in_ok-valid.ensures.visits;
+  root = c.in_ok-valid.ensures.keeps.root ∙ c.loop-entry.invariant.root;
   kept = c.in_ok-valid.ensures.keeps.in_progress ∙ c.loop-entry.invariant.kept;
   assumes = c.in_ok-valid.ensures.keeps.assumptions ∙ c.loop-entry.invariant.assumes;
   marking = c.in_ok-valid.ensures.keeps.marking ∙ c.loop-entry.invariant.marking;
@@ -2061,7 +1654,7 @@ verdict::verdict_entries-returns-then-not-valid-clause-stays g t c = λ layout l
 
 pub verdict::verdict_entries-returns-then-not-valid-clause-remembers : goal.verdict::verdict_entries-returns-then-not-valid-clause-remembers
 verdict::verdict_entries-returns-then-not-valid-clause-remembers g t c =
-    alone_remembers (asking c.args.question.now) entry_of (shaped_part g.K.Validate.shape) c.args.entries.now c.loop-entry.entry-index c.entry-item.result c.loop-entry-test.true c.entry-item.is c.args.context.now c.loop-entry.context c.verdict_form.new.context (told.Truth true) (told.Truth false) (told.Truth false) (λ e. (c.loop-entry.invariant.first e, yes_says (mode_of c.args.question.now.mode) c.requires.verdict)) (joins_verdict false) (subst (λ v. FormRemembers (asking c.args.question.now) c.loop-entry.context c.verdict_form.new.context (shaped_form g.K.Validate.shape (form_of c.entry-item.result.form)) (told.Truth v)) c.if-not-valid.true c.in_ok-valid.ensures.remembers)
+    alone_remembers (asking c.args.question.now) entry_of (shaped_part g.K.Validate.shape) c.args.entries.now c.loop-entry.entry-index c.entry-item.result c.loop-entry-test.true c.entry-item.is c.args.context.now c.loop-entry.context c.verdict_form.new.context (told.Truth false) c.loop-entry.invariant.first (subst (λ v. FormRemembers (asking c.args.question.now) c.loop-entry.context c.verdict_form.new.context (shaped_form g.K.Validate.shape (form_of c.entry-item.result.form)) (told.Truth v)) c.if-not-valid.true c.in_ok-valid.ensures.remembers)
 
 pub verdict::verdict_entries-returns-then-not-valid-clause-visits : goal.verdict::verdict_entries-returns-then-not-valid-clause-visits
 verdict::verdict_entries-returns-then-not-valid-clause-visits g t c =
@@ -2083,224 +1676,6 @@ verdict::verdict_entries-returns-clause-remembers g t c =
 pub verdict::verdict_entries-returns-clause-visits : goal.verdict::verdict_entries-returns-clause-visits
 verdict::verdict_entries-returns-clause-visits g t c =
     ended_counts (numbered g.K.Validate.shape c.args.engine.now.nodes.now) (asking c.args.question.now) entry_of (shaped_part g.K.Validate.shape) c.args.entries.now c.loop-entry.entry-index c.loop-entry-test.false c.args.context.now c.loop-entry.context c.loop-entry.invariant.first c.loop-entry.invariant.visited
-
-pub verdict::guarded_verdict-returns-then-branch-clause-says : goal.verdict::guarded_verdict-returns-then-branch-clause-says
-verdict::guarded_verdict-returns-then-branch-clause-says g t c =
-    let p = steps_to c.args.question.now.place.now in
-    let e = edge_of c.args.edge.now in
-    let old = entered_old e.node p c.args.context.now.in_progress c.in_ok-enter_shared.field-0 c.enter_shared.new.self.in_progress (rw c.in_ok-shared.ensures.same at c.in_ok-enter_shared.ensures.enters) c.if-branch.true in
-    edge_busy g.K.Validate.words g.K.Validate.is_whole (numbered g.K.Validate.shape c.args.engine.now.nodes.now) (length c.args.engine.now.nodes.now) (settling (g.M.Matcher.matching c.args.engine.now.matcher.now) c.args.context.now.remembered.assumptions) (subject_of c.args.question.now.instance) (busy_at p c.args.context.now.in_progress) e (mode_of c.args.question.now.mode) (path_of c.args.question.now.path.now) p (told.Truth true)
-    c.requires.guarded old.0 (yes_says (mode_of c.args.question.now.mode) c.requires.verdict) refl
-
-pub verdict::guarded_verdict-returns-then-branch-clause-meets : goal.verdict::guarded_verdict-returns-then-branch-clause-meets
-verdict::guarded_verdict-returns-then-branch-clause-meets g t c =
-    let ns = numbered g.K.Validate.shape c.args.engine.now.nodes.now in
-    let w = settling (g.M.Matcher.matching c.args.engine.now.matcher.now) c.args.context.now.remembered.assumptions in
-    let p = steps_to c.args.question.now.place.now in
-    let s = subject_of c.args.question.now.instance in
-    let busy = busy_at p c.args.context.now.in_progress in
-    let e = edge_of c.args.edge.now in
-    let old = entered_old e.node p c.args.context.now.in_progress c.in_ok-enter_shared.field-0 c.enter_shared.new.self.in_progress (rw c.in_ok-shared.ensures.same at c.in_ok-enter_shared.ensures.enters) c.if-branch.true in
-    meets_busy g.K.Validate.words g.K.Validate.is_whole ns (length c.args.engine.now.nodes.now) w s busy e (mode_of c.args.question.now.mode) (path_of c.args.question.now.path.now) p _ _ c.requires.guarded old.0 (sym c.enter_shared.ensures.remembered)
-
-pub verdict::guarded_verdict-returns-then-branch-clause-remembers : goal.verdict::guarded_verdict-returns-then-branch-clause-remembers
-verdict::guarded_verdict-returns-then-branch-clause-remembers g t c = λ mode guarded free.
-    let p = steps_to c.args.question.now.place.now in
-    let e = edge_of c.args.edge.now in
-    let old = entered_old e.node p c.args.context.now.in_progress c.in_ok-enter_shared.field-0 c.enter_shared.new.self.in_progress (rw c.in_ok-shared.ensures.same at c.in_ok-enter_shared.ensures.enters) c.if-branch.true in
-    absurd (true≢false (sym old.0 ∙ free))
-
-pub verdict::guarded_verdict-returns-then-branch-clause-visits : goal.verdict::guarded_verdict-returns-then-branch-clause-visits
-verdict::guarded_verdict-returns-then-branch-clause-visits g t c =
-    let p = steps_to c.args.question.now.place.now in
-    let e = edge_of c.args.edge.now in
-    let old = entered_old e.node p c.args.context.now.in_progress c.in_ok-enter_shared.field-0 c.enter_shared.new.self.in_progress (rw c.in_ok-shared.ensures.same at c.in_ok-enter_shared.ensures.enters) c.if-branch.true in
-    busy_counts (numbered g.K.Validate.shape c.args.engine.now.nodes.now) (asking c.args.question.now) c.args.context.now e c.enter_shared.new.self c.requires.guarded old.0 c.enter_shared.ensures.visits
-
-pub verdict::guarded_verdict-returns-in-Some-clause-says : goal.verdict::guarded_verdict-returns-in-Some-clause-says
-verdict::guarded_verdict-returns-in-Some-clause-says g t c =
-    let set = setting g.K.Validate.words g.K.Validate.is_whole g.K.Validate.shape g.M.Matcher.matching c.args.engine.now in
-    let q = asking c.args.question.now in
-    let p = steps_to c.args.question.now.place.now in
-    let e = edge_of c.args.edge.now in
-    let entered = entered_new e.node p c.args.context.now.in_progress c.in_ok-enter_shared.field-0 c.enter_shared.new.self.in_progress (rw c.in_ok-shared.ensures.same at c.in_ok-enter_shared.ensures.enters) c.if-branch.false in
-    let found = subst (λ m. read_in_mode m e.node p c.enter_shared.new.self ≡ Some c.in-Some.valid) (sym c.requires.verdict) (sym (rw (c.as_place-here.ensures.same ∙ c.in_ok-shared.ensures.same) at c.in-Some.ensures.read)) in
-    read_says set q e c.args.context.now c.requires.guarded entered.0 c.enter_shared.new.self c.exit.new.self c.in-Some.valid (told.Truth c.in-Some.valid) entered.1 c.enter_shared.ensures.verdicts found (λ texts. refl) c.requires.may.goes_on refl
-
-pub verdict::guarded_verdict-returns-in-Some-clause-meets : goal.verdict::guarded_verdict-returns-in-Some-clause-meets
-verdict::guarded_verdict-returns-in-Some-clause-meets g t c =
-    let set = setting g.K.Validate.words g.K.Validate.is_whole g.K.Validate.shape g.M.Matcher.matching c.args.engine.now in
-    let q = asking c.args.question.now in
-    let p = steps_to c.args.question.now.place.now in
-    let e = edge_of c.args.edge.now in
-    let entered = entered_new e.node p c.args.context.now.in_progress c.in_ok-enter_shared.field-0 c.enter_shared.new.self.in_progress (rw c.in_ok-shared.ensures.same at c.in_ok-enter_shared.ensures.enters) c.if-branch.false in
-    let found = subst (λ m. read_in_mode m e.node p c.enter_shared.new.self ≡ Some c.in-Some.valid) (sym c.requires.verdict) (sym (rw (c.as_place-here.ensures.same ∙ c.in_ok-shared.ensures.same) at c.in-Some.ensures.read)) in
-    read_meets_edge set q e c.args.context.now c.requires.guarded entered.0 c.enter_shared.new.self c.exit.new.self c.in-Some.valid (told.Truth c.in-Some.valid) entered.1 c.enter_shared.ensures.verdicts found (λ texts. refl) c.requires.may.goes_on (c.exit.ensures.remembered ∙ c.enter_shared.ensures.remembered)
-
-pub verdict::guarded_verdict-returns-in-Some-clause-remembers : goal.verdict::guarded_verdict-returns-in-Some-clause-remembers
-verdict::guarded_verdict-returns-in-Some-clause-remembers g t c =
-    let set = setting g.K.Validate.words g.K.Validate.is_whole g.K.Validate.shape g.M.Matcher.matching c.args.engine.now in
-    let q = asking c.args.question.now in
-    let p = steps_to c.args.question.now.place.now in
-    let e = edge_of c.args.edge.now in
-    let c1 = c.enter_shared.new.self in
-    let c5 = c.exit.new.self in
-    let entered = entered_new e.node p c.args.context.now.in_progress c.in_ok-enter_shared.field-0 c1.in_progress (rw c.in_ok-shared.ensures.same at c.in_ok-enter_shared.ensures.enters) c.if-branch.false in
-    let found = subst (λ m. read_in_mode m e.node p c.enter_shared.new.self ≡ Some c.in-Some.valid) (sym c.requires.verdict) (sym (rw (c.as_place-here.ensures.same ∙ c.in_ok-shared.ensures.same) at c.in-Some.ensures.read)) in
-    let back = pairs_back set q e c.args.context.now c.requires.guarded entered.0 c1 c5 entered.1 (rw (c.as_place-here.ensures.same ∙ c.in_ok-shared.ensures.same) at c.exit.ensures.left) in
-    let same = same_context c.args.context.now c5 back (c.exit.ensures.remembered ∙ c.enter_shared.ensures.remembered) (c.exit.ensures.marking ∙ c.enter_shared.ensures.marking) (c.exit.ensures.verdicts ∙ c.enter_shared.ensures.verdicts) (c.exit.ensures.visits ∙ c.enter_shared.ensures.visits) in
-    read_remembers set q e c.args.context.now c.requires.guarded entered.0 c1 c5 c.in-Some.valid (told.Truth c.in-Some.valid) entered.1 c.enter_shared.ensures.verdicts found (λ texts. refl) same
-
-pub verdict::guarded_verdict-returns-in-Some-clause-visits : goal.verdict::guarded_verdict-returns-in-Some-clause-visits
-verdict::guarded_verdict-returns-in-Some-clause-visits g t c =
-    let q = asking c.args.question.now in
-    let p = steps_to c.args.question.now.place.now in
-    let e = edge_of c.args.edge.now in
-    let c1 = c.enter_shared.new.self in
-    let entered = entered_new e.node p c.args.context.now.in_progress c.in_ok-enter_shared.field-0 c1.in_progress (rw c.in_ok-shared.ensures.same at c.in_ok-enter_shared.ensures.enters) c.if-branch.false in
-    let found = subst (λ m. read_in_mode m e.node p c.enter_shared.new.self ≡ Some c.in-Some.valid) (sym c.requires.verdict) (sym (rw (c.as_place-here.ensures.same ∙ c.in_ok-shared.ensures.same) at c.in-Some.ensures.read)) in
-    let read = sym (read_entered e.node p c.args.context.now c1 entered.1 c.enter_shared.ensures.verdicts) ∙ (read_for_verdict q.mode e.node p c1 c.in-Some.valid found).1 in
-    read_counts (numbered g.K.Validate.shape c.args.engine.now.nodes.now) q c.args.context.now e c.exit.new.self c.in-Some.valid c.requires.guarded entered.0 read (c.exit.ensures.visits ∙ c.enter_shared.ensures.visits)
-
-pub verdict::guarded_verdict-returns-clause-says : goal.verdict::guarded_verdict-returns-clause-says
-verdict::guarded_verdict-returns-clause-says g t c =
-    let set = setting g.K.Validate.words g.K.Validate.is_whole g.K.Validate.shape g.M.Matcher.matching c.args.engine.now in
-    let q = asking c.args.question.now in
-    let p = steps_to c.args.question.now.place.now in
-    let e = edge_of c.args.edge.now in
-    let entered = entered_new e.node p c.args.context.now.in_progress c.in_ok-enter_shared.field-0 c.enter_shared.new.self.in_progress (rw c.in_ok-shared.ensures.same at c.in_ok-enter_shared.ensures.enters) c.if-branch.false in
-    let c2 = c.start_ref_visit-mark.new.self in
-    let c3 = c.verdict_node.new.context in
-    let pairs : c2.in_progress ≡ c.args.context.now.in_progress ++ (e.node, p) ∷ [] = ap (λ (z : Context). z.in_progress) c.start_ref_visit-mark.ensures.counted ∙ entered.1 in
-    let met : c2.remembered ≡ c.args.context.now.remembered = ap (λ (z : Context). z.remembered) c.start_ref_visit-mark.ensures.counted ∙ c.enter_shared.ensures.remembered in
-    let there : steps_to c.given-place.result ≡ p = c.given-place.ensures.same ∙ c.as_place-here.ensures.same ∙ c.in_ok-shared.ensures.same in
-    let at_asked : (record { subject = q.subject; place = steps_to c.given-place.result; path = path_of c.across-whole.result; mode = q.mode }) ≡ asked_across set q e c.args.context.now c.requires.guarded entered.0
-    = λ i. record { subject = q.subject; place = there i; path = c.across-whole.ensures.appended i; mode = q.mode } in
-    let says = subst (λ z. NodeSays set z c2 e.node (told.Truth c.in_ok-valid.valid)) at_asked c.in_ok-valid.ensures.says in
-    let meets = subst (λ z. MeetsNode set z c2 c3 e.node) at_asked c.in_ok-valid.ensures.meets in
-    let keeps = c.in_ok-valid.ensures.keeps in
-    computed_says set q e c.args.context.now c.requires.guarded entered.0 c.enter_shared.new.self c2 c3 c.cache_result.new.self c.exit-2.new.self c.start_ref_visit-mark.result (told.Truth c.in_ok-valid.valid) (told.Truth c.in_ok-valid.valid) pairs met says meets keeps (same_verdict q.mode c.in_ok-valid.valid)
-
-pub verdict::guarded_verdict-returns-clause-meets : goal.verdict::guarded_verdict-returns-clause-meets
-verdict::guarded_verdict-returns-clause-meets g t c =
-    let set = setting g.K.Validate.words g.K.Validate.is_whole g.K.Validate.shape g.M.Matcher.matching c.args.engine.now in
-    let q = asking c.args.question.now in
-    let p = steps_to c.args.question.now.place.now in
-    let e = edge_of c.args.edge.now in
-    let entered = entered_new e.node p c.args.context.now.in_progress c.in_ok-enter_shared.field-0 c.enter_shared.new.self.in_progress (rw c.in_ok-shared.ensures.same at c.in_ok-enter_shared.ensures.enters) c.if-branch.false in
-    let c2 = c.start_ref_visit-mark.new.self in
-    let c3 = c.verdict_node.new.context in
-    let pairs : c2.in_progress ≡ c.args.context.now.in_progress ++ (e.node, p) ∷ [] = ap (λ (z : Context). z.in_progress) c.start_ref_visit-mark.ensures.counted ∙ entered.1 in
-    let met : c2.remembered ≡ c.args.context.now.remembered = ap (λ (z : Context). z.remembered) c.start_ref_visit-mark.ensures.counted ∙ c.enter_shared.ensures.remembered in
-    let there : steps_to c.given-place.result ≡ p = c.given-place.ensures.same ∙ c.as_place-here.ensures.same ∙ c.in_ok-shared.ensures.same in
-    let at_asked : (record { subject = q.subject; place = steps_to c.given-place.result; path = path_of c.across-whole.result; mode = q.mode }) ≡ asked_across set q e c.args.context.now c.requires.guarded entered.0
-    = λ i. record { subject = q.subject; place = there i; path = c.across-whole.ensures.appended i; mode = q.mode } in
-    let says = subst (λ z. NodeSays set z c2 e.node (told.Truth c.in_ok-valid.valid)) at_asked c.in_ok-valid.ensures.says in
-    let meets = subst (λ z. MeetsNode set z c2 c3 e.node) at_asked c.in_ok-valid.ensures.meets in
-    let keeps = c.in_ok-valid.ensures.keeps in
-    let met5 = c.exit-2.ensures.remembered ∙ ap (λ (z : Context). z.remembered) c.cache_result.ensures.frame in
-    computed_meets set q e c.args.context.now c.requires.guarded entered.0 c.enter_shared.new.self c2 c3 c.cache_result.new.self c.exit-2.new.self c.start_ref_visit-mark.result (told.Truth c.in_ok-valid.valid) (told.Truth c.in_ok-valid.valid) pairs met says meets keeps (same_verdict q.mode c.in_ok-valid.valid) met5
-
-pub verdict::guarded_verdict-returns-clause-stays : goal.verdict::guarded_verdict-returns-clause-stays
-verdict::guarded_verdict-returns-clause-stays g t c =
-    let set = setting g.K.Validate.words g.K.Validate.is_whole g.K.Validate.shape g.M.Matcher.matching c.args.engine.now in
-    let q = asking c.args.question.now in
-    let p = steps_to c.args.question.now.place.now in
-    let e = edge_of c.args.edge.now in
-    let entered = entered_new e.node p c.args.context.now.in_progress c.in_ok-enter_shared.field-0 c.enter_shared.new.self.in_progress (rw c.in_ok-shared.ensures.same at c.in_ok-enter_shared.ensures.enters) c.if-branch.false in
-    let c2 = c.start_ref_visit-mark.new.self in
-    let c3 = c.verdict_node.new.context in
-    let pairs : c2.in_progress ≡ c.args.context.now.in_progress ++ (e.node, p) ∷ [] = ap (λ (z : Context). z.in_progress) c.start_ref_visit-mark.ensures.counted ∙ entered.1 in
-    let met : c2.remembered ≡ c.args.context.now.remembered = ap (λ (z : Context). z.remembered) c.start_ref_visit-mark.ensures.counted ∙ c.enter_shared.ensures.remembered in
-    let there : steps_to c.given-place.result ≡ p = c.given-place.ensures.same ∙ c.as_place-here.ensures.same ∙ c.in_ok-shared.ensures.same in
-    let at_asked : (record { subject = q.subject; place = steps_to c.given-place.result; path = path_of c.across-whole.result; mode = q.mode }) ≡ asked_across set q e c.args.context.now c.requires.guarded entered.0
-    = λ i. record { subject = q.subject; place = there i; path = c.across-whole.ensures.appended i; mode = q.mode } in
-    let says = subst (λ z. NodeSays set z c2 e.node (told.Truth c.in_ok-valid.valid)) at_asked c.in_ok-valid.ensures.says in
-    let meets = subst (λ z. MeetsNode set z c2 c3 e.node) at_asked c.in_ok-valid.ensures.meets in
-    let keeps = c.in_ok-valid.ensures.keeps in
-    let read = ap (λ (z : Context). z.verdicts) c.start_ref_visit-mark.ensures.counted ∙ c.enter_shared.ensures.verdicts in
-    let stays = subst (λ z. StaysRight set z c2 c3) at_asked c.in_ok-valid.ensures.stays in
-    let kept = λ (texts : Bool) (mode : q.mode ≡ for_verdict). rw (c.as_place-here.ensures.same ∙ c.in_ok-shared.ensures.same) at c.in_ok-cache_result.ensures.kept in
-    let few = rw (c.as_place-here.ensures.same ∙ c.in_ok-shared.ensures.same) at c.in_ok-cache_result.ensures.others in
-    computed_stays set q e c.args.context.now c.requires.guarded entered.0 c.enter_shared.new.self c2 c3 c.cache_result.new.self c.exit-2.new.self c.start_ref_visit-mark.result (told.Truth c.in_ok-valid.valid) (told.Truth c.in_ok-valid.valid) pairs met says meets keeps (same_verdict q.mode c.in_ok-valid.valid)
-    g.met.K.Validate.asks_verdicts kept read stays few (λ no. absurd (no c.requires.verdict)) (ap (λ (z : Context). z.remembered) c.cache_result.ensures.frame) c.exit-2.ensures.remembered c.exit-2.ensures.verdicts
-
-pub verdict::guarded_verdict-returns-clause-remembers : goal.verdict::guarded_verdict-returns-clause-remembers
-verdict::guarded_verdict-returns-clause-remembers g t c =
-    let set = setting g.K.Validate.words g.K.Validate.is_whole g.K.Validate.shape g.M.Matcher.matching c.args.engine.now in
-    let q = asking c.args.question.now in
-    let p = steps_to c.args.question.now.place.now in
-    let e = edge_of c.args.edge.now in
-    let entered = entered_new e.node p c.args.context.now.in_progress c.in_ok-enter_shared.field-0 c.enter_shared.new.self.in_progress (rw c.in_ok-shared.ensures.same at c.in_ok-enter_shared.ensures.enters) c.if-branch.false in
-    let c2 = c.start_ref_visit-mark.new.self in
-    let c3 = c.verdict_node.new.context in
-    let pairs : c2.in_progress ≡ c.args.context.now.in_progress ++ (e.node, p) ∷ [] = ap (λ (z : Context). z.in_progress) c.start_ref_visit-mark.ensures.counted ∙ entered.1 in
-    let met : c2.remembered ≡ c.args.context.now.remembered = ap (λ (z : Context). z.remembered) c.start_ref_visit-mark.ensures.counted ∙ c.enter_shared.ensures.remembered in
-    let there : steps_to c.given-place.result ≡ p = c.given-place.ensures.same ∙ c.as_place-here.ensures.same ∙ c.in_ok-shared.ensures.same in
-    let at_asked : (record { subject = q.subject; place = steps_to c.given-place.result; path = path_of c.across-whole.result; mode = q.mode }) ≡ asked_across set q e c.args.context.now c.requires.guarded entered.0
-    = λ i. record { subject = q.subject; place = there i; path = c.across-whole.ensures.appended i; mode = q.mode } in
-    let says = subst (λ z. NodeSays set z c2 e.node (told.Truth c.in_ok-valid.valid)) at_asked c.in_ok-valid.ensures.says in
-    let meets = subst (λ z. MeetsNode set z c2 c3 e.node) at_asked c.in_ok-valid.ensures.meets in
-    let keeps = c.in_ok-valid.ensures.keeps in
-    let kept = λ (texts : Bool) (mode : q.mode ≡ for_verdict). rw (c.as_place-here.ensures.same ∙ c.in_ok-shared.ensures.same) at c.in_ok-cache_result.ensures.kept in
-    let none = subst (λ m. read_in_mode m e.node p c.enter_shared.new.self ≡ None) (sym c.requires.verdict) (sym (rw (c.as_place-here.ensures.same ∙ c.in_ok-shared.ensures.same) at c.in_default.ensures.read)) in
-    let left = ap (λ (z : Context). z.in_progress) c.cache_result.ensures.frame ∙ keeps.in_progress in
-    let back = pairs_back set q e c.args.context.now c.requires.guarded entered.0 c2 c.exit-2.new.self pairs (sym left ∙ rw (c.as_place-here.ensures.same ∙ c.in_ok-shared.ensures.same) at c.exit-2.ensures.left) in
-    let visits = c.exit-2.ensures.visits ∙ ap (λ (z : Context). z.visits) c.cache_result.ensures.frame in
-    let counted : c2.visits ≡ visited_in_mode q.mode c.args.context.now.visits = subst (λ m. c2.visits ≡ visited_in_mode m c.args.context.now.visits) (sym c.requires.verdict) (ap (λ (z : Context). z.visits) c.start_ref_visit-mark.ensures.counted ∙ ap one_more c.enter_shared.ensures.visits) in
-    let more = subst (λ z. z ≤ c3.visits) counted c.in_ok-valid.ensures.counts in
-    computed_remembers set q e c.args.context.now c.requires.guarded entered.0 c.enter_shared.new.self c2 c3 c.cache_result.new.self c.exit-2.new.self c.start_ref_visit-mark.result (told.Truth c.in_ok-valid.valid) (told.Truth c.in_ok-valid.valid) pairs met says meets keeps (same_verdict q.mode c.in_ok-valid.valid)
-    g.met.K.Validate.asks_verdicts kept entered.1 c.enter_shared.ensures.verdicts none (c.start_ref_visit-mark.ensures.mark ∙ c.enter_shared.ensures.visits) back visits more c.exit-2.ensures.verdicts
-
-pub verdict::guarded_verdict-returns-clause-counts : goal.verdict::guarded_verdict-returns-clause-counts
-verdict::guarded_verdict-returns-clause-counts g t c =
-    let visits = c.exit-2.ensures.visits ∙ ap (λ (z : Context). z.visits) c.cache_result.ensures.frame in
-    let before = subst (λ z. z ≤ c.start_ref_visit-mark.new.self.visits) c.enter_shared.ensures.visits c.start_ref_visit-mark.ensures.more in
-    let after = subst (λ z. c.start_ref_visit-mark.new.self.visits ≤ z) (sym visits) c.in_ok-valid.ensures.counts in
-    no_fewer c.args.context.now.visits c.start_ref_visit-mark.new.self.visits c.exit-2.new.self.visits before after
-
-pub verdict::guarded_verdict-returns-clause-visits : goal.verdict::guarded_verdict-returns-clause-visits
-verdict::guarded_verdict-returns-clause-visits g t c =
-    let ns = (numbered g.K.Validate.shape c.args.engine.now.nodes.now) in
-    let q = asking c.args.question.now in
-    let p = steps_to c.args.question.now.place.now in
-    let e = edge_of c.args.edge.now in
-    let c1 = c.enter_shared.new.self in
-    let c2 = c.start_ref_visit-mark.new.self in
-    let c3 = c.verdict_node.new.context in
-    let entered = entered_new e.node p c.args.context.now.in_progress c.in_ok-enter_shared.field-0 c1.in_progress (rw c.in_ok-shared.ensures.same at c.in_ok-enter_shared.ensures.enters) c.if-branch.false in
-    let pairs : c2.in_progress ≡ c.args.context.now.in_progress ++ (e.node, p) ∷ [] = ap (λ (z : Context). z.in_progress) c.start_ref_visit-mark.ensures.counted ∙ entered.1 in
-    let read = ap (λ (z : Context). z.verdicts) c.start_ref_visit-mark.ensures.counted ∙ c.enter_shared.ensures.verdicts in
-    let counted = ap (λ (z : Context). z.visits) c.start_ref_visit-mark.ensures.counted ∙ ap one_more c.enter_shared.ensures.visits in
-    let there : steps_to c.given-place.result ≡ p = c.given-place.ensures.same ∙ c.as_place-here.ensures.same ∙ c.in_ok-shared.ensures.same in
-    let none = sym (rw (c.as_place-here.ensures.same ∙ c.in_ok-shared.ensures.same) at c.in_default.ensures.read) in
-    let node_counts = subst (λ z. NodeCounts ns (record { subject = q.subject; place = z; path = path_of c.across-whole.result; mode = q.mode }) c2 c3 e.node) there c.in_ok-valid.ensures.visits in
-    let visits = c.exit-2.ensures.visits ∙ ap (λ (z : Context). z.visits) c.cache_result.ensures.frame in
-    computed_counts ns q c.args.context.now e c2 c3 c.exit-2.new.self c.requires.guarded entered.0
-    (λ mode. sym (read_entered e.node p c.args.context.now c1 entered.1 c.enter_shared.ensures.verdicts) ∙ none) pairs read
-    (λ mode. counted) node_counts visits
-
-pub verdict::guarded_verdict-verdict_node-requires : goal.verdict::guarded_verdict-verdict_node-requires
-verdict::guarded_verdict-verdict_node-requires g t c =
-    let ns = numbered g.K.Validate.shape c.args.engine.now.nodes.now in
-    let p = steps_to c.args.question.now.place.now in
-    let e = edge_of c.args.edge.now in
-    let s = subject_of c.args.question.now.instance in
-    let entered = entered_new e.node p c.args.context.now.in_progress c.in_ok-enter_shared.field-0 c.enter_shared.new.self.in_progress (rw c.in_ok-shared.ensures.same at c.in_ok-enter_shared.ensures.enters) c.if-branch.false in
-    let pairs = ap (λ (z : Context). z.in_progress) c.start_ref_visit-mark.ensures.counted in
-    let new : c.start_ref_visit-mark.new.self.in_progress ≡ c.args.context.now.in_progress ++ (e.node, p) ∷ [] = pairs ∙ entered.1 in
-    let busy : busy_at p c.start_ref_visit-mark.new.self.in_progress ≡ e.node ∷ busy_at p c.args.context.now.in_progress = ap (busy_at p) new ∙ busy-pushed p e.node c.args.context.now.in_progress in
-    let needs = needs_of_entered g.K.Validate.words g.K.Validate.is_whole ns (length c.args.engine.now.nodes.now) (settling (g.M.Matcher.matching c.args.engine.now.matcher.now) c.args.context.now.remembered.assumptions) s (busy_at p c.args.context.now.in_progress) e c.requires.guarded entered.0 in
-    let there : steps_to c.given-place.result ≡ p = c.given-place.ensures.same ∙ c.as_place-here.ensures.same ∙ c.in_ok-shared.ensures.same in
-    let l = ap (λ q. left ns (length c.args.engine.now.nodes.now) e.node s (busy_at q c.start_ref_visit-mark.new.self.in_progress)) there ∙ ap (left ns (length c.args.engine.now.nodes.now) e.node s) busy in
-    let deeper = subst (λ q. NoDeeper q c.start_ref_visit-mark.new.self.in_progress) (sym there) (subst (NoDeeper p) (sym new) (deeper-pushed p e.node c.args.context.now.in_progress c.requires.may.above)) in
-    let (layout, laid, right) = c.requires.may.goes_on in
-    let set = setting g.K.Validate.words g.K.Validate.is_whole g.K.Validate.shape g.M.Matcher.matching c.args.engine.now in
-    let met = ap (λ (z : Context). z.remembered) c.start_ref_visit-mark.ensures.counted ∙ c.enter_shared.ensures.remembered in
-    let read = ap (λ (z : Context). z.verdicts) c.start_ref_visit-mark.ensures.counted ∙ c.enter_shared.ensures.verdicts in
-    let laid' = subst (λ q. LaysOut layout q s) (sym there) laid in
-    let right' = right_same set layout c.args.context.now c.start_ref_visit-mark.new.self met read right in
-    λ κs h. (lower_entered _ _ _ t l needs c.decreases, (h.0, (h.1.0, (h.1.1.0, (h.1.1.1, (record { known = c.requires.may.known; ranked = c.requires.may.ranked; above = deeper; wanted = c.requires.may.wanted; goes_on = (layout, laid', right') }, c.requires.verdict))))))
 
 pub verdict::verdict_edge-returns-clause-visits : goal.verdict::verdict_edge-returns-clause-visits
 verdict::verdict_edge-returns-clause-visits g t c = if_ok_mono c.verdict_node.result _ _ (λ b counts. free_counts (numbered g.K.Validate.shape c.args.engine.now.nodes.now) (asking c.args.question.now) c.args.context.now (edge_of c.args.edge.now) c.verdict_node.new.context c.if-edge.false counts) c.verdict_node.ensures.visits

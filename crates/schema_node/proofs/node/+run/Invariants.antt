@@ -3,7 +3,7 @@ use Rattle.std.specs.Prelude.{All}
 use Rattle.serde_json.specs.Data.{Data}
 use Rattle.schema_definitions.specs.Instance.{subject_at}
 use Rattle.schema_reports.specs.InstanceViews.{subject_of}
-use Rattle.schema_definitions.specs.Reports.{Outcome, accepted}
+use Rattle.schema_definitions.specs.Reports.{Outcome}
 use Rattle.schema_reports.specs.ReportViews.{BorrowsItsPlace}
 use Rattle.schema_definitions.specs.Meaning.{both}
 use Rattle.schema_meaning.specs.Numbered.{left, subject_in}
@@ -18,7 +18,7 @@ use Rattle.schema_parts.specs.EdgeViews.{edge_of}
 use Rattle.schema_nodes.specs.NodeViews.{entry_of}
 use Rattle.schema_contexts.specs.Matches.{MeetsEach, settling}
 use Rattle.schema_node.specs.NodeMeets.{child_run, parts_looked, reading}
-use Rattle.schema_answers.specs.ReplyModes.{refuses, reply_by}
+use Rattle.schema_answers.specs.ReplyModes.{refuses}
 use Rattle.schema_node.specs.NodeRuns.{Reading, Reads, Replies, child_says, edge_needs, parts_say}
 use Rattle.schema_answers.specs.Askings.{asking}
 use Rattle.schema_node.specs.RunStates.{PartsRemember, StaysRight, setting}
@@ -66,6 +66,7 @@ invariant-run::run_entries-loop-entry g l =
     let s = subject_of l.question.instance in
     let w = settling (g.M.Matcher.matching l.engine.matcher.now) l.initial.context.remembered.assumptions in
     record {
+      root : l.context.root ≡ l.initial.context.root;
       kept : l.context.in_progress ≡ l.initial.context.in_progress;
       assumes : l.context.remembered.assumptions ≡ l.initial.context.remembered.assumptions;
       marking : l.context.marking ≡ l.initial.context.marking;
@@ -76,9 +77,6 @@ invariant-run::run_entries-loop-entry g l =
           ≡ parts_say g.K.Validate.words ns x l.node.0 (path_of l.question.path.now) (steps_to l.question.place.now) busy (map (shaped_part g.K.Validate.shape) (map entry_of l.entries)));
       unsettled : (texts : Bool) → refuses (reply_of texts l.found) ≡ false;
       stays : StaysRight (setting g.K.Validate.words g.K.Validate.is_whole g.K.Validate.shape g.M.Matcher.matching l.engine) (asking l.question) l.initial.context l.context;
-      first : l.entry-index ≡ 0 → (l.context ≡ l.initial.context) × ((texts : Bool) → reply_of texts l.found ≡ reply_by (mode_of l.question.mode) accepted);
-      remembers : 0 < l.entry-index → PartsRemember (asking l.question) l.initial.context l.context (map (shaped_part g.K.Validate.shape) (map entry_of l.entries)) l.found;
-      visited : 0 < l.entry-index → PartsCount ns (asking l.question) l.initial.context l.context (map (shaped_part g.K.Validate.shape) (map entry_of l.entries));
       met : (texts : Bool) (root : Data) (depth : ℕ) → Reads g.K.Validate.is_whole ns (length l.engine.nodes.now) w (steps_to l.question.place.now) s (reading w texts root depth) → left ns (length l.engine.nodes.now) l.node.0 s busy ≤ depth
           → (before : List Met) × MeetsEach w.matcher l.initial.context.remembered before l.context.remembered
           × (before ++ plan_met (mode_of l.question.mode) (parts_looked g.K.Validate.words ns w texts root depth l.node.0 (path_of l.question.path.now) (steps_to l.question.place.now) busy (map (shaped_part g.K.Validate.shape) (map entry_of (drop l.entry-index l.entries))))
@@ -94,6 +92,7 @@ invariant-turns::run_turns-turns g l =
     let w = settling (g.M.Matcher.matching l.engine.matcher.now) l.initial.context.remembered.assumptions in
     let es = map (option_map edge_of) l.keyword.children.now in
     record {
+      root : l.context.root ≡ l.initial.context.root;
       kept : l.context.in_progress ≡ l.initial.context.in_progress;
       assumes : l.context.remembered.assumptions ≡ l.initial.context.remembered.assumptions;
       counted : l.initial.context.visits ≤ l.context.visits;
@@ -141,6 +140,7 @@ invariant-evaluate::evaluate_entries-loop-entry g l =
     let s = subject_of l.question.instance in
     let w = settling (g.M.Matcher.matching l.engine.matcher.now) l.initial.context.remembered.assumptions in
     record {
+      root : l.context.root ≡ l.initial.context.root;
       kept : l.context.in_progress ≡ l.initial.context.in_progress;
       assumes : l.context.remembered.assumptions ≡ l.initial.context.remembered.assumptions;
       marking : l.context.marking ≡ l.initial.context.marking;
@@ -186,6 +186,7 @@ invariant-verdict::verdict_entries-loop-entry g l =
     let s = subject_of l.question.instance in
     let w = settling (g.M.Matcher.matching l.engine.matcher.now) l.initial.context.remembered.assumptions in
     record {
+      root : l.context.root ≡ l.initial.context.root;
       kept : l.context.in_progress ≡ l.initial.context.in_progress;
       assumes : l.context.remembered.assumptions ≡ l.initial.context.remembered.assumptions;
       marking : l.context.marking ≡ l.initial.context.marking;

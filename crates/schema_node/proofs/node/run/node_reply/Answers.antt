@@ -1,0 +1,22 @@
+use Rattle.std.proofs.Common.{◌≡◌, refl}
+use Rattle.schema_definitions.specs.Keywords.{for_verdict}
+use Rattle.schema_parts.specs.KeywordViews.{mode_of}
+use Rattle.schema_parts.specs.declared.keyword.Mode as code
+use Rattle.schema_parts.proofs.Replies.{if_ok_always, if_ok_mono}
+use Rattle.schema_node.proofs.node.run.node_reply.Goals as goal
+
+-- errors are wanted where no verdict is
+wants_more : (m : code.Mode) → ¬ (m ≡ code.TheVariants.Verdict) → ¬ (mode_of m ≡ for_verdict)
+wants_more code.TheVariants.Verdict h e = h refl
+wants_more code.TheVariants.First h e = cc e
+wants_more code.TheVariants.All h e = cc e
+wants_more code.TheVariants.Evaluate h e = cc e
+
+pub run_node-requires : goal.run_node-requires
+run_node-requires g c = record { may = c.requires.may; more = wants_more c.args.question.now.mode c.in_default.not-Verdict }
+
+pub returns-in_default-clause-visits : goal.returns-in_default-clause-visits
+returns-in_default-clause-visits g c = if_ok_always c.run_node.result _ (λ mode. absurd (wants_more c.args.question.now.mode c.in_default.not-Verdict mode))
+
+pub returns-in_default-clause-remembers : goal.returns-in_default-clause-remembers
+returns-in_default-clause-remembers g c = if_ok_mono c.run_node.result _ _ (λ r says xs is x only e form mode. absurd (wants_more c.args.question.now.mode c.in_default.not-Verdict mode)) c.run_node.ensures.says
