@@ -8,6 +8,7 @@ use Rattle.std.specs.Map.{keys_of, lookup}
 use Rattle.std.proofs.lemmas.Bool.{eqb-true}
 use Rattle.schema_definitions.specs.Instance.{Place, same_place}
 use Rattle.schema_places.specs.Numbers.{OwnNumbers, number_of, place_at}
+use Rattle.schema_places.proofs.Closing.{stands}
 use Rattle.schema_contexts.specs.ProgressViews.{all_verdicts, node_verdicts}
 use Rattle.schema_contexts.specs.Progress.{Pairs, Verdicts, row_words}
 use Rattle.schema_contexts.specs.Rows.{AreWide, PutsBit, has_bit, row_in, verdict_in, words_of}
@@ -57,23 +58,6 @@ same_swap p q = go (same_place p q) (same_place q p) refl refl
 abbrev NoTwice : List Place → Type 0
 NoTwice [] = Unit {0}
 NoTwice (p ∷ ps) = (number_of p ps ≡ None) × NoTwice ps
-
--- a place that has a number stands there
-pub stands : (q : Place) (ps : List Place) (k : ℕ) → number_of q ps ≡ Some k → (k < length ps) × (place_at ps k ≡ q)
-stands q [] k e = absurd (let f : ⊥ = cc in f)
-stands q (p ∷ ps) k e = go (λ m f. stands q ps m f) (same_place q p) refl (number_of q ps) refl e
-  where
-    go : ((m : ℕ) → number_of q ps ≡ Some m → (m < length ps) × (place_at ps m ≡ q)) → (b : Bool) → same_place q p ≡ b → (o : Option ℕ) → number_of q ps ≡ o
-        → cond b (Some 0) (option_map (λ n. n + 1) o) ≡ Some k → (k < suc (length ps)) × (place_at (p ∷ ps) k ≡ q)
-    go rest true s o f h =
-        let is : 0 ≡ k = cc in
-        (omega arith, subst (λ (j : ℕ). place_at (p ∷ ps) j ≡ q) is (sym (place_equal q p s)))
-    go rest false s None f h = absurd (let g : ⊥ = cc in g)
-    go rest false s (Some m) f h =
-        let is : m + 1 ≡ k = cc in
-        let r = rest m f in
-        let next : suc m ≡ k = omega arith in
-        (omega (arith, r.0), subst (λ (j : ℕ). place_at (p ∷ ps) j ≡ q) next r.1)
 
 -- no two numbers have one place
 abbrev Apart : List Place → Type 0
