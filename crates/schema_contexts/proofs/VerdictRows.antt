@@ -190,11 +190,11 @@ module _ {S : Type 0} where
     others = λ j q apart. found_in_rows j ps q new.entries (own_once ps a) u' ∙ go j q apart (number_of q ps) refl ∙ sym (found_in_rows j ps q old.entries (own_once ps a) u);
   }
     where
-      far : length ps ≤ 64 * (row_words (length ps))
+      far : length ps ≤ 64 * row_words (length ps)
       far = few_places (row_words (length ps)) (length ps) refl
 
-      bit : (q c : ℕ) → has_bit (row_in new q) c ≡ cond ((n == q) && (64 * (row_words (length ps)) + k == c)) v (cond ((n == q) && (k == c)) true (has_bit (row_in old q) c))
-      bit q c = second.bits q c ∙ ap (cond ((n == q) && (64 * (row_words (length ps)) + k == c)) v) (first.bits q c ∙ ap (cond ((n == q) && (k == c)) true) (same q c))
+      bit : (q c : ℕ) → has_bit (row_in new q) c ≡ cond ((n == q) && (64 * row_words (length ps) + k == c)) v (cond ((n == q) && (k == c)) true (has_bit (row_in old q) c))
+      bit q c = second.bits q c ∙ ap (cond ((n == q) && (64 * row_words (length ps) + k == c)) v) (first.bits q c ∙ ap (cond ((n == q) && (k == c)) true) (same q c))
 
       drop : (x y : Bool) → y ≡ false → (x && y) ≡ false
       drop true y e = e
@@ -202,13 +202,13 @@ module _ {S : Type 0} where
 
       known : has_bit (row_in new n) k ≡ true
       known =
-          bit n k ∙ ap₂ (λ (x y : Bool). cond x v (cond y true (has_bit (row_in old n) k))) (drop (n == n) (64 * (row_words (length ps)) + k == k) (other_test (64 * (row_words (length ps)) + k) k (λ e. omega arith)))
+          bit n k ∙ ap₂ (λ (x y : Bool). cond x v (cond y true (has_bit (row_in old n) k))) (drop (n == n) (64 * row_words (length ps) + k == k) (other_test (64 * row_words (length ps) + k) k (λ e. omega arith)))
           (ap₂ (λ (x y : Bool). x && y) (same_number n) (same_number k))
 
-      its : has_bit (row_in new n) (64 * (row_words (length ps)) + k) ≡ v
-      its = bit n (64 * (row_words (length ps)) + k) ∙ ap (λ (x : Bool). cond x v (cond ((n == n) && (k == 64 * (row_words (length ps)) + k)) true (has_bit (row_in old n) (64 * (row_words (length ps)) + k)))) (ap₂ (λ (x y : Bool). x && y) (same_number n) (same_number (64 * (row_words (length ps)) + k)))
+      its : has_bit (row_in new n) (64 * row_words (length ps) + k) ≡ v
+      its = bit n (64 * row_words (length ps) + k) ∙ ap (λ (x : Bool). cond x v (cond ((n == n) && (k == 64 * row_words (length ps) + k)) true (has_bit (row_in old n) (64 * row_words (length ps) + k)))) (ap₂ (λ (x y : Bool). x && y) (same_number n) (same_number (64 * row_words (length ps) + k)))
 
-      kept : (j c : ℕ) → ((n == j) && (64 * (row_words (length ps)) + k == c)) ≡ false → ((n == j) && (k == c)) ≡ false → has_bit (row_in new j) c ≡ has_bit (row_in old j) c
+      kept : (j c : ℕ) → ((n == j) && (64 * row_words (length ps) + k == c)) ≡ false → ((n == j) && (k == c)) ≡ false → has_bit (row_in new j) c ≡ has_bit (row_in old j) c
       kept j c e f = bit j c ∙ ap₂ (λ (x y : Bool). cond x v (cond y true (has_bit (row_in old j) c))) e f
 
       elsewhere : (j m : ℕ) (q : Place) → is_pair n (place_at ps k) (j, q) ≡ false → place_at ps m ≡ q → (x : Bool) → (n == j) ≡ x → (y : Bool) → (k == m) ≡ y → (x && y) ≡ false
@@ -224,7 +224,7 @@ module _ {S : Type 0} where
       go j q apart (Some m) e =
           let r = stands q ps m e in
           let away = elsewhere j m q apart r.1 (n == j) refl (k == m) refl in
-          let high : ((n == j) && (64 * (row_words (length ps)) + k == 64 * (row_words (length ps)) + m)) ≡ false = ap (λ (x : Bool). (n == j) && x) (same_tests (64 * (row_words (length ps)) + k) (64 * (row_words (length ps)) + m) k m (λ h. omega arith) (λ h. omega arith)) ∙ away in
+          let high : ((n == j) && (64 * row_words (length ps) + k == 64 * row_words (length ps) + m)) ≡ false = ap (λ (x : Bool). (n == j) && x) (same_tests (64 * row_words (length ps) + k) (64 * row_words (length ps) + m) k m (λ h. omega arith) (λ h. omega arith)) ∙ away in
           ap₂ (λ (x y : Bool). cond x (Some y) None)
-          (kept j m (drop (n == j) (64 * (row_words (length ps)) + k == m) (other_test (64 * (row_words (length ps)) + k) m (λ h. omega (arith, r.0)))) away)
-          (kept j (64 * (row_words (length ps)) + m) high (drop (n == j) (k == 64 * (row_words (length ps)) + m) (other_test k (64 * (row_words (length ps)) + m) (λ h. omega (arith, l, far)))))
+          (kept j m (drop (n == j) (64 * row_words (length ps) + k == m) (other_test (64 * row_words (length ps) + k) m (λ h. omega (arith, r.0)))) away)
+          (kept j (64 * row_words (length ps) + m) high (drop (n == j) (k == 64 * row_words (length ps) + m) (other_test k (64 * row_words (length ps) + m) (λ h. omega (arith, l, far)))))
