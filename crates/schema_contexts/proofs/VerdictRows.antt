@@ -8,6 +8,7 @@ use Rattle.std.specs.Map.{keys_of, lookup}
 use Rattle.std.proofs.lemmas.Bool.{eqb-true}
 use Rattle.schema_definitions.specs.Instance.{Place, same_place}
 use Rattle.schema_places.specs.Numbers.{OwnNumbers, number_of, place_at}
+use Rattle.schema_places.proofs.Closing.{stands}
 use Rattle.schema_contexts.specs.ProgressViews.{all_verdicts, node_verdicts}
 use Rattle.schema_contexts.specs.Progress.{Pairs, Verdicts, row_words}
 use Rattle.schema_contexts.specs.Rows.{AreWide, PutsBit, has_bit, row_in, verdict_in, words_of}
@@ -57,23 +58,6 @@ same_swap p q = go (same_place p q) (same_place q p) refl refl
 abbrev NoTwice : List Place → Type 0
 NoTwice [] = Unit {0}
 NoTwice (p ∷ ps) = (number_of p ps ≡ None) × NoTwice ps
-
--- a place that has a number stands there
-pub stands : (q : Place) (ps : List Place) (k : ℕ) → number_of q ps ≡ Some k → (k < length ps) × (place_at ps k ≡ q)
-stands q [] k e = absurd (let f : ⊥ = cc in f)
-stands q (p ∷ ps) k e = go (λ m f. stands q ps m f) (same_place q p) refl (number_of q ps) refl e
-  where
-    go : ((m : ℕ) → number_of q ps ≡ Some m → (m < length ps) × (place_at ps m ≡ q)) → (b : Bool) → same_place q p ≡ b → (o : Option ℕ) → number_of q ps ≡ o
-        → cond b (Some 0) (option_map (λ n. n + 1) o) ≡ Some k → (k < suc (length ps)) × (place_at (p ∷ ps) k ≡ q)
-    go rest true s o f h =
-        let is : 0 ≡ k = cc in
-        (omega arith, subst (λ (j : ℕ). place_at (p ∷ ps) j ≡ q) is (sym (place_equal q p s)))
-    go rest false s None f h = absurd (let g : ⊥ = cc in g)
-    go rest false s (Some m) f h =
-        let is : m + 1 ≡ k = cc in
-        let r = rest m f in
-        let next : suc m ≡ k = omega arith in
-        (omega (arith, r.0), subst (λ (j : ℕ). place_at (p ∷ ps) j ≡ q) next r.1)
 
 -- no two numbers have one place
 abbrev Apart : List Place → Type 0
@@ -206,11 +190,11 @@ module _ {S : Type 0} where
     others = λ j q apart. found_in_rows j ps q new.entries (own_once ps a) u' ∙ go j q apart (number_of q ps) refl ∙ sym (found_in_rows j ps q old.entries (own_once ps a) u);
   }
     where
-      far : length ps ≤ 64 * (row_words (length ps))
+      far : length ps ≤ 64 * row_words (length ps)
       far = few_places (row_words (length ps)) (length ps) refl
 
-      bit : (q c : ℕ) → has_bit (row_in new q) c ≡ cond ((n == q) && (64 * (row_words (length ps)) + k == c)) v (cond ((n == q) && (k == c)) true (has_bit (row_in old q) c))
-      bit q c = second.bits q c ∙ ap (cond ((n == q) && (64 * (row_words (length ps)) + k == c)) v) (first.bits q c ∙ ap (cond ((n == q) && (k == c)) true) (same q c))
+      bit : (q c : ℕ) → has_bit (row_in new q) c ≡ cond ((n == q) && (64 * row_words (length ps) + k == c)) v (cond ((n == q) && (k == c)) true (has_bit (row_in old q) c))
+      bit q c = second.bits q c ∙ ap (cond ((n == q) && (64 * row_words (length ps) + k == c)) v) (first.bits q c ∙ ap (cond ((n == q) && (k == c)) true) (same q c))
 
       drop : (x y : Bool) → y ≡ false → (x && y) ≡ false
       drop true y e = e
@@ -218,13 +202,13 @@ module _ {S : Type 0} where
 
       known : has_bit (row_in new n) k ≡ true
       known =
-          bit n k ∙ ap₂ (λ (x y : Bool). cond x v (cond y true (has_bit (row_in old n) k))) (drop (n == n) (64 * (row_words (length ps)) + k == k) (other_test (64 * (row_words (length ps)) + k) k (λ e. omega arith)))
+          bit n k ∙ ap₂ (λ (x y : Bool). cond x v (cond y true (has_bit (row_in old n) k))) (drop (n == n) (64 * row_words (length ps) + k == k) (other_test (64 * row_words (length ps) + k) k (λ e. omega arith)))
           (ap₂ (λ (x y : Bool). x && y) (same_number n) (same_number k))
 
-      its : has_bit (row_in new n) (64 * (row_words (length ps)) + k) ≡ v
-      its = bit n (64 * (row_words (length ps)) + k) ∙ ap (λ (x : Bool). cond x v (cond ((n == n) && (k == 64 * (row_words (length ps)) + k)) true (has_bit (row_in old n) (64 * (row_words (length ps)) + k)))) (ap₂ (λ (x y : Bool). x && y) (same_number n) (same_number (64 * (row_words (length ps)) + k)))
+      its : has_bit (row_in new n) (64 * row_words (length ps) + k) ≡ v
+      its = bit n (64 * row_words (length ps) + k) ∙ ap (λ (x : Bool). cond x v (cond ((n == n) && (k == 64 * row_words (length ps) + k)) true (has_bit (row_in old n) (64 * row_words (length ps) + k)))) (ap₂ (λ (x y : Bool). x && y) (same_number n) (same_number (64 * row_words (length ps) + k)))
 
-      kept : (j c : ℕ) → ((n == j) && (64 * (row_words (length ps)) + k == c)) ≡ false → ((n == j) && (k == c)) ≡ false → has_bit (row_in new j) c ≡ has_bit (row_in old j) c
+      kept : (j c : ℕ) → ((n == j) && (64 * row_words (length ps) + k == c)) ≡ false → ((n == j) && (k == c)) ≡ false → has_bit (row_in new j) c ≡ has_bit (row_in old j) c
       kept j c e f = bit j c ∙ ap₂ (λ (x y : Bool). cond x v (cond y true (has_bit (row_in old j) c))) e f
 
       elsewhere : (j m : ℕ) (q : Place) → is_pair n (place_at ps k) (j, q) ≡ false → place_at ps m ≡ q → (x : Bool) → (n == j) ≡ x → (y : Bool) → (k == m) ≡ y → (x && y) ≡ false
@@ -240,7 +224,7 @@ module _ {S : Type 0} where
       go j q apart (Some m) e =
           let r = stands q ps m e in
           let away = elsewhere j m q apart r.1 (n == j) refl (k == m) refl in
-          let high : ((n == j) && (64 * (row_words (length ps)) + k == 64 * (row_words (length ps)) + m)) ≡ false = ap (λ (x : Bool). (n == j) && x) (same_tests (64 * (row_words (length ps)) + k) (64 * (row_words (length ps)) + m) k m (λ h. omega arith) (λ h. omega arith)) ∙ away in
+          let high : ((n == j) && (64 * row_words (length ps) + k == 64 * row_words (length ps) + m)) ≡ false = ap (λ (x : Bool). (n == j) && x) (same_tests (64 * row_words (length ps) + k) (64 * row_words (length ps) + m) k m (λ h. omega arith) (λ h. omega arith)) ∙ away in
           ap₂ (λ (x y : Bool). cond x (Some y) None)
-          (kept j m (drop (n == j) (64 * (row_words (length ps)) + k == m) (other_test (64 * (row_words (length ps)) + k) m (λ h. omega (arith, r.0)))) away)
-          (kept j (64 * (row_words (length ps)) + m) high (drop (n == j) (k == 64 * (row_words (length ps)) + m) (other_test k (64 * (row_words (length ps)) + m) (λ h. omega (arith, l, far)))))
+          (kept j m (drop (n == j) (64 * row_words (length ps) + k == m) (other_test (64 * row_words (length ps) + k) m (λ h. omega (arith, r.0)))) away)
+          (kept j (64 * row_words (length ps) + m) high (drop (n == j) (k == 64 * row_words (length ps) + m) (other_test k (64 * row_words (length ps) + m) (λ h. omega (arith, l, far)))))

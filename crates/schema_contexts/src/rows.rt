@@ -44,6 +44,9 @@ pub(crate) fn has_bit(rows: &Rows, node: usize, place: usize) -> bool
 pub(crate) fn verdict_in(rows: &Rows, node: usize, place: usize) -> Option<bool>
     ensures verdict { result ≡ verdict_in (row_in rows.now node) place }
 {
+    if rows.is_empty() {
+        return None;
+    }
     match rows.get(&node) {
         Some(words) => verdict_of_row(words.as_slice(), place),
         None => None,
