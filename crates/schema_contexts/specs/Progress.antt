@@ -86,6 +86,10 @@ FewRows c = rows c ≤ 3 * length (numbers c)
 abbrev pub row_words : ℕ → ℕ
 row_words n = (n + 63) / 64
 
+-- how many words the rows of the numbers that were entered take
+abbrev pub guard_words : Context → ℕ
+guard_words c = length c.entered * row_words (length (places_in c))
+
 -- each row has a bit for each place, and no word more than these take
 abbrev pub IsWide : Context → Type 0
 IsWide c = c.words ≡ rows c * row_words (length (places_in c))

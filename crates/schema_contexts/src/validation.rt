@@ -17,7 +17,7 @@ ghost use Rattle.schema_contexts.specs.Matches.{after_match, comes_out};
 ghost use Rattle.schema_parts.specs.EdgeViews.{edge_of};
 ghost use Rattle.serde_json.specs.View.{view};
 ghost use Rattle.schema_places.specs.Numbers.{NumbersAll, place_at};
-ghost use Rattle.schema_contexts.specs.Progress.{Adds, Distinct, Enters, EndsWith, FewRows, IsWide, begun, busy_at, places_in};
+ghost use Rattle.schema_contexts.specs.Progress.{Adds, Distinct, Enters, EndsWith, FewRows, IsWide, begun, busy_at, guard_words, places_in};
 ghost use Rattle.schema_contexts.specs.Verdicts.{MayKeep, Remembers, is_alone, is_container, one_more, read_verdict};
 ghost use Rattle.schema_reports.specs.InstanceViews.{subject_of};
 
@@ -517,7 +517,7 @@ impl<'i> ValidationContext<'i> {
           verdicts = [];
           visits = 0;
           kept = [];
-          words = self.new.words;
+          words = guard_words self.old;
         } }
         ensures wide { IsWide self.new }
     {

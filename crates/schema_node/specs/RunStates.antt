@@ -1,6 +1,6 @@
 -- What a run is made with and does not change; and what each of its functions answers, over this and what is asked.
 use Rattle.std.specs.List.{list_any}
-use Rattle.std.specs.Prelude.{◌≡◌, ◌<◌, ◌≤◌, ◌==◌, ◌*◌, ◌∷◌, [], ℕ, Bool, All, List, None, Some, false, length, map, option_map, true}
+use Rattle.std.specs.Prelude.{◌≡◌, ◌<◌, ◌≤◌, ◌==◌, ◌∷◌, [], ℕ, Bool, All, List, None, Some, false, length, map, option_map, true}
 use Rattle.serde_json.specs.Data.{Data}
 use Rattle.schema_definitions.specs.Instance.{Text}
 use Rattle.schema_reports.specs.InstanceViews.{subject_of}
@@ -21,7 +21,7 @@ use Rattle.schema_node.specs.NodeRuns.{ChildReplies, EdgeReplies, FormReplies, N
 use Rattle.schema_nodes.specs.NodeTable.{NodeEntry, numbered}
 use Rattle.schema_parts.specs.EdgeViews.{edge_of}
 use Rattle.serde_json.specs.View.{view}
-use Rattle.schema_contexts.specs.Progress.{Context, NoDeeper, busy_at, places_in, row_words}
+use Rattle.schema_contexts.specs.Progress.{Context, NoDeeper, busy_at, guard_words}
 use Rattle.schema_node.specs.RightVerdicts.{AreRight, LaysOut, Layout}
 use Rattle.schema_contexts.specs.Verdicts.{MayKeep, one_more, read_verdict, verdict_of}
 use Rattle.schema_parts.specs.declared.keyword.Answer as code_answer
@@ -161,7 +161,7 @@ GoesOn g q c = (layout : Layout) × IsLaidOut layout q × RemembersRightly g lay
 
 -- a context whose verdicts and visits are forgotten, as a run begins; of its rows those of the pairs in progress are left
 abbrev pub forgotten : Context → Context
-forgotten c = record c { verdicts = []; visits = 0; kept = []; words = length c.entered * row_words (length (places_in c)) }
+forgotten c = record c { verdicts = []; visits = 0; kept = []; words = guard_words c }
 
 -- ---- a verdict that is read, and one that is kept
 

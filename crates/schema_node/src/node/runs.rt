@@ -135,7 +135,7 @@ pub trait RunNodes<K: Validate> {
     ) -> Result<EvaluationNode, OutOfMemory>
         requires known { node.0 < length (table self.now) }
         requires above { NoDeeper place.now context.old.in_progress }
-        requires stands { IsAskedOf (view context.old.root) (evaluating (subject_of instance.entry) place.now path.now) }
+        requires stands { IsAskedOf (view context.old.root) (evaluating (subject_of instance) place.now path.now) }
         ensures kept { IfOk result (λ _. context.new.in_progress ≡ context.old.in_progress) }
         ensures assumes { IfOk result (λ _. context.new.remembered.assumptions ≡ context.old.remembered.assumptions) }
         ensures marking { IfOk result (λ _. context.new.marking ≡ context.old.marking) }

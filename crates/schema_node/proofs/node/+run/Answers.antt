@@ -2,14 +2,16 @@ use Rattle.std.proofs.lemmas.List.Elements.{All-nil}
 use Rattle.std.specs.Prelude.{All, option_and_then}
 use Rattle.schema_reports.specs.ReportViews.{BorrowsItsPlace}
 use Rattle.schema_parts.specs.FaultViews.{PassesBorrowed}
-use Rattle.std.proofs.Common.{◌≡◌, ◌∙◌, ◌+◌, ◌*◌, ◌<◌, ◌≤◌, ℕ, Bool, suc, arith, sym, refl, ap, subst, map, option_map, string_bytes, length, Some, false, true, true≢false, List, [], ◌∷◌, ◌++◌, drop}
+use Rattle.std.proofs.Common.{◌≡◌, ◌∙◌, ◌==◌, ◌+◌, ◌*◌, ◌<◌, ◌≤◌, ℕ, Bool, suc, arith, sym, refl, ap, subst, map, option_map, string_bytes, length, Some, false, true, true≢false, List, [], ◌∷◌, ◌++◌, drop}
 use Rattle.schema_reports.specs.InstanceViews.{subject_of, step_of}
-use Rattle.schema_definitions.specs.Instance.{Text}
+use Rattle.schema_definitions.specs.Instance.{Place, Text}
 use Rattle.schema_definitions.specs.Keywords.{Marked, MatchPoint, Mode, Question, ask, done, ecma, for_verdict, mark, match_text, no_reply, truth, unmark}
 use Rattle.schema_answers.specs.EvaluationPlaces.{CarriesItsNumber, steps_to}
 use Rattle.schema_answers.specs.GuardedPairs.{place_of}
 use Rattle.schema_node.proofs.Placing.{carries_on, pair_busy, pair_entered, stands_at, stands_below, stands_on}
 use Rattle.schema_contexts.specs.Progress.{places_in}
+use Rattle.schema_parts.specs.declared.numbers.SchemaNode.{SchemaNode}
+use Rattle.std.specs.List.{list_any}
 use Rattle.schema_contexts.specs.EvaluationPaths.{path_of}
 use Rattle.schema_definitions.specs.Meaning.{Where}
 use Rattle.schema_meaning.specs.Numbered.{left, subject_in}
@@ -31,13 +33,13 @@ use Rattle.schema_contexts.specs.Progress.{Context, NoDeeper, busy_at}
 use Rattle.schema_node.specs.RightVerdicts.{LaysOut}
 use Rattle.schema_answers.specs.Askings.{asking, Asking}
 use Rattle.schema_node.specs.RunStates.{EdgeRemembers, FormRemembers, FormSays, MeetsNode, NodeSays, RemembersRightly, StaysRight, setting}
-use Rattle.schema_contexts.specs.Verdicts.{one_more}
+use Rattle.schema_contexts.specs.Verdicts.{one_more, read_verdict}
 use Rattle.schema_parts.specs.declared.keyword.Reply.TheVariants as told
 use Rattle.schema_node.proofs.GoesOn.{alone_remembers, asked_across, computed_meets, computed_says, computed_stays, ended_remembers, kept_remembers, kept_stays, pairs_back, planned_remembers, read_meets_edge, read_remembers, read_says, reference_remembers, right_matched, right_same}
 use Rattle.schema_node.proofs.RightVerdicts.{laid_below, read_entered}
 use Rattle.schema_node.proofs.Visits.{always_counts, busy_counts, computed_counts, ended_counts, free_counts, keyword_counts, never_counts, next_counts, planned_counts, read_counts}
 use Rattle.schema_node.specs.Visits.{NodeCounts}
-use Rattle.schema_contexts.proofs.Pairs.{busy-below, busy-pushed, deeper-below, deeper-pushed, entered_new, entered_old}
+use Rattle.schema_contexts.proofs.Pairs.{busy-below, busy-pushed, deeper-below, deeper-pushed}
 use Rattle.schema_node.proofs.KeywordTurns.{falls_turned, faults_lie, keyword_says, right_at_once, right_reply, silent, silent_reads, tells_nothing, asked_on, asks_there, begins_on, can_after, ended_on, mark_taken_on, marked_on, matched_on, matches_there, told_pattern_on}
 use Rattle.schema_meaning.proofs.Alike.{asked_alike}
 use Rattle.schema_parts.proofs.Replies.{if_ok_always, if_ok_both, if_ok_mono}
@@ -84,10 +86,6 @@ as_many a b e = omega (arith, e)
 
 no_fewer : (a b c : ℕ) → a ≤ b → b ≤ c → a ≤ c
 no_fewer a b c h k = omega (arith, h, k)
-
--- a context of the same fields is the same
-same_context : (c c' : Context) → c'.in_progress ≡ c.in_progress → c'.remembered ≡ c.remembered → c'.marking ≡ c.marking → c'.verdicts ≡ c.verdicts → c'.visits ≡ c.visits → c' ≡ c
-same_context c c' e f h k l = λ i. record { in_progress = e i; remembered = f i; marking = h i; verdicts = k i; visits = l i }
 
 -- ---- a turn that asks for something is not the last
 
@@ -1679,3 +1677,417 @@ verdict::verdict_entries-returns-clause-visits g t c =
 
 pub verdict::verdict_edge-returns-clause-visits : goal.verdict::verdict_edge-returns-clause-visits
 verdict::verdict_edge-returns-clause-visits g t c = if_ok_mono c.verdict_node.result _ _ (λ b counts. free_counts (numbered g.K.Validate.shape c.args.engine.now.nodes.now) (asking c.args.question.now) c.args.context.now (edge_of c.args.edge.now) c.verdict_node.new.context c.if-edge.false counts) c.verdict_node.ensures.visits
+
+pub run::run_edge-returns-then-is_in_progress-clause-says : goal.run::run_edge-returns-then-is_in_progress-clause-says
+run::run_edge-returns-then-is_in_progress-clause-says g t c =
+    let p = steps_to c.args.question.now.place.now in
+    let e = edge_of c.args.edge.now in
+    let old = pair_busy e.node c.in_ok-pair.pair.node.0 p (place_of c.in_ok-pair.pair) c.args.context.now c.new.new.context _ true (ap (λ (n : SchemaNode). n.0) c.in_ok-pair.ensures.node) c.in_ok-pair.ensures.place c.in_ok-pair.ensures.unchanged c.is_in_progress.ensures.found c.if-is_in_progress.true in
+    edge_busy g.K.Validate.words g.K.Validate.is_whole (numbered g.K.Validate.shape c.args.engine.now.nodes.now) (length c.args.engine.now.nodes.now) (settling (g.M.Matcher.matching c.args.engine.now.matcher.now) c.args.context.now.remembered.assumptions) (subject_of c.args.question.now.instance) (busy_at p c.args.context.now.in_progress) e (mode_of c.args.question.now.mode) (path_of c.args.question.now.path.now) p c.accepted.result
+    c.if-not-edge.false old c.accepted.ensures.accepts c.accepted.ensures.no_errors
+
+pub run::run_edge-run_node-requires-2 : goal.run::run_edge-run_node-requires-2
+run::run_edge-run_node-requires-2 g t c =
+    let ns = numbered g.K.Validate.shape c.args.engine.now.nodes.now in
+    let set = setting g.K.Validate.words g.K.Validate.is_whole g.K.Validate.shape g.M.Matcher.matching c.args.engine.now in
+    let w = settling (g.M.Matcher.matching c.args.engine.now.matcher.now) c.args.context.now.remembered.assumptions in
+    let p = steps_to c.args.question.now.place.now in
+    let s = subject_of c.args.question.now.instance in
+    let e = edge_of c.args.edge.now in
+    let entered : (list_any (λ i. i == e.node) (busy_at p c.args.context.now.in_progress) ≡ false) × (c.enter.new.context.in_progress ≡ c.args.context.now.in_progress ++ (e.node, p) ∷ []) = (pair_busy e.node c.in_ok-pair.pair.node.0 p (place_of c.in_ok-pair.pair) c.args.context.now c.new.new.context _ false (ap (λ (n : SchemaNode). n.0) c.in_ok-pair.ensures.node) c.in_ok-pair.ensures.place c.in_ok-pair.ensures.unchanged c.is_in_progress.ensures.found c.if-is_in_progress.false,
+        pair_entered e.node c.in_ok-pair.pair.node.0 p (place_of c.in_ok-pair.pair) c.args.context.now c.new.new.context c.enter.new.context.in_progress (ap (λ (n : SchemaNode). n.0) c.in_ok-pair.ensures.node) c.in_ok-pair.ensures.place c.in_ok-pair.ensures.unchanged c.in_ok-enter.ensures.entered) in
+    let pushed : busy_at p c.enter.new.context.in_progress ≡ e.node ∷ busy_at p c.args.context.now.in_progress = ap (busy_at p) entered.1 ∙ busy-pushed p e.node c.args.context.now.in_progress in
+    let there : steps_to c.numbered_place-place.result ≡ p = c.numbered_place-place.ensures.same ∙ c.in_ok-pair.ensures.place in
+    let needs = needs_of_entered g.K.Validate.words g.K.Validate.is_whole ns (length c.args.engine.now.nodes.now) w s (busy_at p c.args.context.now.in_progress) e c.if-not-edge.false entered.0 in
+    let l = ap (λ q. left ns (length c.args.engine.now.nodes.now) e.node s (busy_at q c.enter.new.context.in_progress)) there ∙ ap (left ns (length c.args.engine.now.nodes.now) e.node s) pushed in
+    let deeper = subst (λ q. NoDeeper q c.enter.new.context.in_progress) (sym there) (subst (NoDeeper p) (sym entered.1) (deeper-pushed p e.node c.args.context.now.in_progress c.requires.may.above)) in
+    let (layout, laid, right) = c.requires.may.goes_on in
+    let laid' = subst (λ q. LaysOut layout q s) (sym there) laid in
+    let right' = right_same set layout c.args.context.now c.enter.new.context (c.enter.ensures.remembered ∙ ap (λ (z : Context). z.remembered) c.in_ok-pair.ensures.unchanged) (c.enter.ensures.verdicts ∙ ap (λ (z : Context). z.verdicts) c.in_ok-pair.ensures.unchanged) right in
+    let root = c.enter.ensures.root ∙ ap (λ (z : Context). z.root) c.in_ok-pair.ensures.unchanged in
+    let carries = carries_on c.args.context.now.root c.enter.new.context.root c.numbered_place-place.result root (c.numbered_place-place.ensures.carries c.args.context.now c.in_ok-pair.ensures.numbered) in
+    λ κs h. (lower_entered _ _ _ t l needs c.decreases, (h.0, (h.1.0, (h.1.1.0, (h.1.1.1, (record { known = c.requires.may.known; ranked = c.requires.may.ranked; above = deeper; wanted = c.requires.may.wanted; stands = stands_at c.args.context.now.root _ (asking c.args.question.now) _ root there c.requires.may.stands; goes_on = (layout, laid', right') }, (carries, c.requires.more)))))))
+
+pub run::run_edge-returns-then-is_in_progress-clause-meets : goal.run::run_edge-returns-then-is_in_progress-clause-meets
+run::run_edge-returns-then-is_in_progress-clause-meets g t c =
+    let ns = numbered g.K.Validate.shape c.args.engine.now.nodes.now in
+    let w = settling (g.M.Matcher.matching c.args.engine.now.matcher.now) c.args.context.now.remembered.assumptions in
+    let p = steps_to c.args.question.now.place.now in
+    let s = subject_of c.args.question.now.instance in
+    let busy = busy_at p c.args.context.now.in_progress in
+    let e = edge_of c.args.edge.now in
+    let old = pair_busy e.node c.in_ok-pair.pair.node.0 p (place_of c.in_ok-pair.pair) c.args.context.now c.new.new.context _ true (ap (λ (n : SchemaNode). n.0) c.in_ok-pair.ensures.node) c.in_ok-pair.ensures.place c.in_ok-pair.ensures.unchanged c.is_in_progress.ensures.found c.if-is_in_progress.true in
+    meets_busy g.K.Validate.words g.K.Validate.is_whole ns (length c.args.engine.now.nodes.now) w s busy e (mode_of c.args.question.now.mode) (path_of c.args.question.now.path.now) p _ _ c.if-not-edge.false old (sym (ap (λ (z : Context). z.remembered) c.in_ok-pair.ensures.unchanged))
+
+pub run::run_edge-returns-clause-says : goal.run::run_edge-returns-clause-says
+run::run_edge-returns-clause-says g t c =
+    let set = setting g.K.Validate.words g.K.Validate.is_whole g.K.Validate.shape g.M.Matcher.matching c.args.engine.now in
+    let q = asking c.args.question.now in
+    let p = steps_to c.args.question.now.place.now in
+    let e = edge_of c.args.edge.now in
+    let c1 = c.enter.new.context in
+    let entered : (list_any (λ i. i == e.node) (busy_at p c.args.context.now.in_progress) ≡ false) × (c.enter.new.context.in_progress ≡ c.args.context.now.in_progress ++ (e.node, p) ∷ []) = (pair_busy e.node c.in_ok-pair.pair.node.0 p (place_of c.in_ok-pair.pair) c.args.context.now c.new.new.context _ false (ap (λ (n : SchemaNode). n.0) c.in_ok-pair.ensures.node) c.in_ok-pair.ensures.place c.in_ok-pair.ensures.unchanged c.is_in_progress.ensures.found c.if-is_in_progress.false,
+        pair_entered e.node c.in_ok-pair.pair.node.0 p (place_of c.in_ok-pair.pair) c.args.context.now c.new.new.context c.enter.new.context.in_progress (ap (λ (n : SchemaNode). n.0) c.in_ok-pair.ensures.node) c.in_ok-pair.ensures.place c.in_ok-pair.ensures.unchanged c.in_ok-enter.ensures.entered) in
+    let there : steps_to c.numbered_place-place.result ≡ p = c.numbered_place-place.ensures.same ∙ c.in_ok-pair.ensures.place in
+    let at_asked : (record { subject = q.subject; place = steps_to c.numbered_place-place.result; path = path_of c.across-whole.result; mode = q.mode }) ≡ asked_across set q e c.args.context.now c.if-not-edge.false entered.0
+    = λ i. record { subject = q.subject; place = there i; path = c.across-whole.ensures.appended i; mode = q.mode } in
+    computed_says set q e c.args.context.now c.if-not-edge.false entered.0 c1 entered.1 (c.enter.ensures.remembered ∙ ap (λ (z : Context). z.remembered) c.in_ok-pair.ensures.unchanged) c.in_ok-reply.reply (subst (λ z. NodeSays set z c1 e.node c.in_ok-reply.reply) at_asked c.in_ok-reply.ensures.says)
+
+pub run::run_edge-returns-clause-meets : goal.run::run_edge-returns-clause-meets
+run::run_edge-returns-clause-meets g t c =
+    let set = setting g.K.Validate.words g.K.Validate.is_whole g.K.Validate.shape g.M.Matcher.matching c.args.engine.now in
+    let q = asking c.args.question.now in
+    let p = steps_to c.args.question.now.place.now in
+    let e = edge_of c.args.edge.now in
+    let c1 = c.enter.new.context in
+    let c3 = c.run_node-2.new.context in
+    let entered : (list_any (λ i. i == e.node) (busy_at p c.args.context.now.in_progress) ≡ false) × (c.enter.new.context.in_progress ≡ c.args.context.now.in_progress ++ (e.node, p) ∷ []) = (pair_busy e.node c.in_ok-pair.pair.node.0 p (place_of c.in_ok-pair.pair) c.args.context.now c.new.new.context _ false (ap (λ (n : SchemaNode). n.0) c.in_ok-pair.ensures.node) c.in_ok-pair.ensures.place c.in_ok-pair.ensures.unchanged c.is_in_progress.ensures.found c.if-is_in_progress.false,
+        pair_entered e.node c.in_ok-pair.pair.node.0 p (place_of c.in_ok-pair.pair) c.args.context.now c.new.new.context c.enter.new.context.in_progress (ap (λ (n : SchemaNode). n.0) c.in_ok-pair.ensures.node) c.in_ok-pair.ensures.place c.in_ok-pair.ensures.unchanged c.in_ok-enter.ensures.entered) in
+    let there : steps_to c.numbered_place-place.result ≡ p = c.numbered_place-place.ensures.same ∙ c.in_ok-pair.ensures.place in
+    let at_asked : (record { subject = q.subject; place = steps_to c.numbered_place-place.result; path = path_of c.across-whole.result; mode = q.mode }) ≡ asked_across set q e c.args.context.now c.if-not-edge.false entered.0
+    = λ i. record { subject = q.subject; place = there i; path = c.across-whole.ensures.appended i; mode = q.mode } in
+    computed_meets set q e c.args.context.now c.if-not-edge.false entered.0 c1 entered.1 (c.enter.ensures.remembered ∙ ap (λ (z : Context). z.remembered) c.in_ok-pair.ensures.unchanged) c3 c.exit.new.context (subst (λ z. MeetsNode set z c1 c3 e.node) at_asked c.in_ok-reply.ensures.meets) c.exit.ensures.remembered
+
+pub run::run_edge-returns-clause-stays : goal.run::run_edge-returns-clause-stays
+run::run_edge-returns-clause-stays g t c =
+    let set = setting g.K.Validate.words g.K.Validate.is_whole g.K.Validate.shape g.M.Matcher.matching c.args.engine.now in
+    let q = asking c.args.question.now in
+    let p = steps_to c.args.question.now.place.now in
+    let e = edge_of c.args.edge.now in
+    let c1 = c.enter.new.context in
+    let c3 = c.run_node-2.new.context in
+    let entered : (list_any (λ i. i == e.node) (busy_at p c.args.context.now.in_progress) ≡ false) × (c.enter.new.context.in_progress ≡ c.args.context.now.in_progress ++ (e.node, p) ∷ []) = (pair_busy e.node c.in_ok-pair.pair.node.0 p (place_of c.in_ok-pair.pair) c.args.context.now c.new.new.context _ false (ap (λ (n : SchemaNode). n.0) c.in_ok-pair.ensures.node) c.in_ok-pair.ensures.place c.in_ok-pair.ensures.unchanged c.is_in_progress.ensures.found c.if-is_in_progress.false,
+        pair_entered e.node c.in_ok-pair.pair.node.0 p (place_of c.in_ok-pair.pair) c.args.context.now c.new.new.context c.enter.new.context.in_progress (ap (λ (n : SchemaNode). n.0) c.in_ok-pair.ensures.node) c.in_ok-pair.ensures.place c.in_ok-pair.ensures.unchanged c.in_ok-enter.ensures.entered) in
+    let there : steps_to c.numbered_place-place.result ≡ p = c.numbered_place-place.ensures.same ∙ c.in_ok-pair.ensures.place in
+    let at_asked : (record { subject = q.subject; place = steps_to c.numbered_place-place.result; path = path_of c.across-whole.result; mode = q.mode }) ≡ asked_across set q e c.args.context.now c.if-not-edge.false entered.0
+    = λ i. record { subject = q.subject; place = there i; path = c.across-whole.ensures.appended i; mode = q.mode } in
+    computed_stays set q e c.args.context.now c.if-not-edge.false entered.0 c1 entered.1 (c.enter.ensures.remembered ∙ ap (λ (z : Context). z.remembered) c.in_ok-pair.ensures.unchanged) c3 c.exit.new.context (c.enter.ensures.verdicts ∙ ap (λ (z : Context). z.verdicts) c.in_ok-pair.ensures.unchanged) (subst (λ z. StaysRight set z c1 c3) at_asked c.in_ok-reply.ensures.stays) c.exit.ensures.remembered c.exit.ensures.verdicts
+
+pub run::run_edge-returns-clause-counts : goal.run::run_edge-returns-clause-counts
+run::run_edge-returns-clause-counts g t c = rw ((c.enter.ensures.visits ∙ ap (λ (z : Context). z.visits) c.in_ok-pair.ensures.unchanged), ← c.exit.ensures.visits) at c.in_ok-reply.ensures.counts
+
+pub evaluate::evaluate_edge-returns-then-is_in_progress-clause-gives : goal.evaluate::evaluate_edge-returns-then-is_in_progress-clause-gives
+evaluate::evaluate_edge-returns-then-is_in_progress-clause-gives g t c =
+    let set = setting g.K.Validate.words g.K.Validate.is_whole g.K.Validate.shape g.M.Matcher.matching c.args.engine.now in
+    let q = asking c.args.question.now in
+    let p = steps_to c.args.question.now.place.now in
+    let s = subject_of c.args.question.now.instance in
+    let e = edge_of c.args.edge.now in
+    let old = pair_busy e.node c.in_ok-pair.pair.node.0 p (place_of c.in_ok-pair.pair) c.args.context.now c.new.new.context _ true (ap (λ (n : SchemaNode). n.0) c.in_ok-pair.ensures.node) c.in_ok-pair.ensures.place c.in_ok-pair.ensures.unchanged c.is_in_progress.ensures.found c.if-is_in_progress.true in
+    let there : steps_to c.numbered_place-place.result ≡ p = c.numbered_place-place.ensures.same ∙ c.in_ok-pair.ensures.place in
+    let n = node_of c.node.result.now in
+    let at_node = where_is g.K.Validate.shape c.args.engine.now.nodes.now (g.K.Validate.words false) (g.M.Matcher.matching c.args.engine.now.matcher.now) (λ place. s) e.node n (path_of c.args.question.now.path.now ++ e.path) p c.node.ensures.found in
+    if_ok_mono c.accepting_unit.result _ _ (λ u is. gives_busy set q c.args.context.now e u c.if-not-edge.false old (λ texts. is texts
+    ∙ ap (λ path. true_unit (entry_where n path (steps_to c.numbered_place-place.result))) c.across-whole.ensures.appended
+    ∙ ap (λ place. true_unit (entry_where n (path_of c.args.question.now.path.now ++ e.path) place)) there
+    ∙ ap true_unit (sym at_node))) c.accepting_unit.ensures.unit
+
+pub evaluate::evaluate_edge-returns-then-is_in_progress-clause-meets : goal.evaluate::evaluate_edge-returns-then-is_in_progress-clause-meets
+evaluate::evaluate_edge-returns-then-is_in_progress-clause-meets g t c =
+    let ns = numbered g.K.Validate.shape c.args.engine.now.nodes.now in
+    let w = settling (g.M.Matcher.matching c.args.engine.now.matcher.now) c.args.context.now.remembered.assumptions in
+    let p = steps_to c.args.question.now.place.now in
+    let s = subject_of c.args.question.now.instance in
+    let busy = busy_at p c.args.context.now.in_progress in
+    let e = edge_of c.args.edge.now in
+    let old = pair_busy e.node c.in_ok-pair.pair.node.0 p (place_of c.in_ok-pair.pair) c.args.context.now c.new.new.context _ true (ap (λ (n : SchemaNode). n.0) c.in_ok-pair.ensures.node) c.in_ok-pair.ensures.place c.in_ok-pair.ensures.unchanged c.is_in_progress.ensures.found c.if-is_in_progress.true in
+    if_ok_always c.accepting_unit.result _ (meets_busy g.K.Validate.words g.K.Validate.is_whole ns (length c.args.engine.now.nodes.now) w s busy e (mode_of c.args.question.now.mode) (path_of c.args.question.now.path.now) p _ _ c.if-not-edge.false old (sym (ap (λ (z : Context). z.remembered) c.in_ok-pair.ensures.unchanged)))
+
+pub evaluate::evaluate_edge-evaluate_node-requires-2 : goal.evaluate::evaluate_edge-evaluate_node-requires-2
+evaluate::evaluate_edge-evaluate_node-requires-2 g t c =
+    let ns = numbered g.K.Validate.shape c.args.engine.now.nodes.now in
+    let set = setting g.K.Validate.words g.K.Validate.is_whole g.K.Validate.shape g.M.Matcher.matching c.args.engine.now in
+    let w = settling (g.M.Matcher.matching c.args.engine.now.matcher.now) c.args.context.now.remembered.assumptions in
+    let p = steps_to c.args.question.now.place.now in
+    let s = subject_of c.args.question.now.instance in
+    let e = edge_of c.args.edge.now in
+    let entered : (list_any (λ i. i == e.node) (busy_at p c.args.context.now.in_progress) ≡ false) × (c.enter.new.context.in_progress ≡ c.args.context.now.in_progress ++ (e.node, p) ∷ []) = (pair_busy e.node c.in_ok-pair.pair.node.0 p (place_of c.in_ok-pair.pair) c.args.context.now c.new.new.context _ false (ap (λ (n : SchemaNode). n.0) c.in_ok-pair.ensures.node) c.in_ok-pair.ensures.place c.in_ok-pair.ensures.unchanged c.is_in_progress.ensures.found c.if-is_in_progress.false,
+        pair_entered e.node c.in_ok-pair.pair.node.0 p (place_of c.in_ok-pair.pair) c.args.context.now c.new.new.context c.enter.new.context.in_progress (ap (λ (n : SchemaNode). n.0) c.in_ok-pair.ensures.node) c.in_ok-pair.ensures.place c.in_ok-pair.ensures.unchanged c.in_ok-enter.ensures.entered) in
+    let pushed : busy_at p c.enter.new.context.in_progress ≡ e.node ∷ busy_at p c.args.context.now.in_progress = ap (busy_at p) entered.1 ∙ busy-pushed p e.node c.args.context.now.in_progress in
+    let there : steps_to c.numbered_place-place.result ≡ p = c.numbered_place-place.ensures.same ∙ c.in_ok-pair.ensures.place in
+    let needs = needs_of_entered g.K.Validate.words g.K.Validate.is_whole ns (length c.args.engine.now.nodes.now) w s (busy_at p c.args.context.now.in_progress) e c.if-not-edge.false entered.0 in
+    let l = ap (λ q. left ns (length c.args.engine.now.nodes.now) e.node s (busy_at q c.enter.new.context.in_progress)) there ∙ ap (left ns (length c.args.engine.now.nodes.now) e.node s) pushed in
+    let deeper = subst (λ q. NoDeeper q c.enter.new.context.in_progress) (sym there) (subst (NoDeeper p) (sym entered.1) (deeper-pushed p e.node c.args.context.now.in_progress c.requires.may.above)) in
+    let (layout, laid, right) = c.requires.may.goes_on in
+    let laid' = subst (λ q. LaysOut layout q s) (sym there) laid in
+    let right' = right_same set layout c.args.context.now c.enter.new.context (c.enter.ensures.remembered ∙ ap (λ (z : Context). z.remembered) c.in_ok-pair.ensures.unchanged) (c.enter.ensures.verdicts ∙ ap (λ (z : Context). z.verdicts) c.in_ok-pair.ensures.unchanged) right in
+    let root = c.enter.ensures.root ∙ ap (λ (z : Context). z.root) c.in_ok-pair.ensures.unchanged in
+    let carries = carries_on c.args.context.now.root c.enter.new.context.root c.numbered_place-place.result root (c.numbered_place-place.ensures.carries c.args.context.now c.in_ok-pair.ensures.numbered) in
+    λ κs h. (lower_entered _ _ _ t l needs c.decreases, (h.0, (h.1.0, (h.1.1.0, (h.1.1.1, (record { known = c.requires.may.known; ranked = c.requires.may.ranked; above = deeper; wanted = c.requires.may.wanted; stands = stands_at c.args.context.now.root _ (asking c.args.question.now) _ root there c.requires.may.stands; goes_on = (layout, laid', right') }, carries))))))
+
+pub evaluate::evaluate_edge-returns-clause-gives : goal.evaluate::evaluate_edge-returns-clause-gives
+evaluate::evaluate_edge-returns-clause-gives g t c =
+    let set = setting g.K.Validate.words g.K.Validate.is_whole g.K.Validate.shape g.M.Matcher.matching c.args.engine.now in
+    let q = asking c.args.question.now in
+    let p = steps_to c.args.question.now.place.now in
+    let e = edge_of c.args.edge.now in
+    let entered : (list_any (λ i. i == e.node) (busy_at p c.args.context.now.in_progress) ≡ false) × (c.enter.new.context.in_progress ≡ c.args.context.now.in_progress ++ (e.node, p) ∷ []) = (pair_busy e.node c.in_ok-pair.pair.node.0 p (place_of c.in_ok-pair.pair) c.args.context.now c.new.new.context _ false (ap (λ (n : SchemaNode). n.0) c.in_ok-pair.ensures.node) c.in_ok-pair.ensures.place c.in_ok-pair.ensures.unchanged c.is_in_progress.ensures.found c.if-is_in_progress.false,
+        pair_entered e.node c.in_ok-pair.pair.node.0 p (place_of c.in_ok-pair.pair) c.args.context.now c.new.new.context c.enter.new.context.in_progress (ap (λ (n : SchemaNode). n.0) c.in_ok-pair.ensures.node) c.in_ok-pair.ensures.place c.in_ok-pair.ensures.unchanged c.in_ok-enter.ensures.entered) in
+    let pushed : busy_at p c.enter.new.context.in_progress ≡ e.node ∷ busy_at p c.args.context.now.in_progress = ap (busy_at p) entered.1 ∙ busy-pushed p e.node c.args.context.now.in_progress in
+    let there : steps_to c.numbered_place-place.result ≡ p = c.numbered_place-place.ensures.same ∙ c.in_ok-pair.ensures.place in
+    let asked : Asking = record { subject = q.subject; place = steps_to c.numbered_place-place.result; path = path_of c.across-whole.result; mode = q.mode } in
+    let is : asked ≡ record q { path = q.path ++ e.path } = λ i. record { subject = q.subject; place = there i; path = c.across-whole.ensures.appended i; mode = q.mode } in
+    gives_entered set q c.args.context.now e c.in_ok-unit.unit c.if-not-edge.false entered.0 asked c.enter.new.context is pushed (c.enter.ensures.remembered ∙ ap (λ (z : Context). z.remembered) c.in_ok-pair.ensures.unchanged) c.in_ok-unit.ensures.gives
+
+pub evaluate::evaluate_edge-returns-clause-meets : goal.evaluate::evaluate_edge-returns-clause-meets
+evaluate::evaluate_edge-returns-clause-meets g t c =
+    let ns = numbered g.K.Validate.shape c.args.engine.now.nodes.now in
+    let set = setting g.K.Validate.words g.K.Validate.is_whole g.K.Validate.shape g.M.Matcher.matching c.args.engine.now in
+    let w = settling (g.M.Matcher.matching c.args.engine.now.matcher.now) c.args.context.now.remembered.assumptions in
+    let q = asking c.args.question.now in
+    let p = steps_to c.args.question.now.place.now in
+    let s = subject_of c.args.question.now.instance in
+    let busy = busy_at p c.args.context.now.in_progress in
+    let e = edge_of c.args.edge.now in
+    let entered : (list_any (λ i. i == e.node) (busy_at p c.args.context.now.in_progress) ≡ false) × (c.enter.new.context.in_progress ≡ c.args.context.now.in_progress ++ (e.node, p) ∷ []) = (pair_busy e.node c.in_ok-pair.pair.node.0 p (place_of c.in_ok-pair.pair) c.args.context.now c.new.new.context _ false (ap (λ (n : SchemaNode). n.0) c.in_ok-pair.ensures.node) c.in_ok-pair.ensures.place c.in_ok-pair.ensures.unchanged c.is_in_progress.ensures.found c.if-is_in_progress.false,
+        pair_entered e.node c.in_ok-pair.pair.node.0 p (place_of c.in_ok-pair.pair) c.args.context.now c.new.new.context c.enter.new.context.in_progress (ap (λ (n : SchemaNode). n.0) c.in_ok-pair.ensures.node) c.in_ok-pair.ensures.place c.in_ok-pair.ensures.unchanged c.in_ok-enter.ensures.entered) in
+    let pushed : busy_at p c.enter.new.context.in_progress ≡ e.node ∷ busy_at p c.args.context.now.in_progress = ap (busy_at p) entered.1 ∙ busy-pushed p e.node c.args.context.now.in_progress in
+    let there : steps_to c.numbered_place-place.result ≡ p = c.numbered_place-place.ensures.same ∙ c.in_ok-pair.ensures.place in
+    let asked : Asking = record { subject = q.subject; place = steps_to c.numbered_place-place.result; path = path_of c.across-whole.result; mode = q.mode } in
+    let is : asked ≡ record q { path = q.path ++ e.path } = λ i. record { subject = q.subject; place = there i; path = c.across-whole.ensures.appended i; mode = q.mode } in
+    let met = entered_meets set q c.args.context.now e c.in_ok-unit.unit c.if-not-edge.false entered.0 asked c.enter.new.context c.evaluate_node-2.new.context is pushed (c.enter.ensures.remembered ∙ ap (λ (z : Context). z.remembered) c.in_ok-pair.ensures.unchanged) c.in_ok-unit.ensures.meets in
+    subst (λ r. EdgeMeets g.K.Validate.words g.K.Validate.is_whole ns (length c.args.engine.now.nodes.now) w (mode_of c.args.question.now.mode) (path_of c.args.question.now.path.now) p busy s c.args.context.now.remembered r e) (sym c.exit.ensures.remembered) met
+
+pub evaluate::evaluate_edge-returns-clause-stays : goal.evaluate::evaluate_edge-returns-clause-stays
+evaluate::evaluate_edge-returns-clause-stays g t c =
+    let set = setting g.K.Validate.words g.K.Validate.is_whole g.K.Validate.shape g.M.Matcher.matching c.args.engine.now in
+    let p = steps_to c.args.question.now.place.now in
+    let s = subject_of c.args.question.now.instance in
+    let there : steps_to c.numbered_place-place.result ≡ p = c.numbered_place-place.ensures.same ∙ c.in_ok-pair.ensures.place in
+    λ layout laid right.
+    let right1 = right_same set layout c.args.context.now c.enter.new.context (c.enter.ensures.remembered ∙ ap (λ (z : Context). z.remembered) c.in_ok-pair.ensures.unchanged) (c.enter.ensures.verdicts ∙ ap (λ (z : Context). z.verdicts) c.in_ok-pair.ensures.unchanged) right in
+    let laid' = subst (λ q. LaysOut layout q s) (sym there) laid in
+    right_same set layout c.evaluate_node-2.new.context c.exit.new.context c.exit.ensures.remembered c.exit.ensures.verdicts (c.in_ok-unit.ensures.stays layout laid' right1)
+
+pub evaluate::evaluate_edge-returns-clause-counts : goal.evaluate::evaluate_edge-returns-clause-counts
+evaluate::evaluate_edge-returns-clause-counts g t c = rw ((c.enter.ensures.visits ∙ ap (λ (z : Context). z.visits) c.in_ok-pair.ensures.unchanged), ← c.exit.ensures.visits) at c.in_ok-unit.ensures.counts
+
+pub evaluate::evaluate_edge-returns-then-is_in_progress-clause-counts : goal.evaluate::evaluate_edge-returns-then-is_in_progress-clause-counts
+evaluate::evaluate_edge-returns-then-is_in_progress-clause-counts g t c = if_ok_always c.accepting_unit.result _ (as_many _ _ (ap (λ (z : Context). z.visits) c.in_ok-pair.ensures.unchanged))
+
+pub verdict::guarded_verdict-returns-then-is_in_progress-clause-says : goal.verdict::guarded_verdict-returns-then-is_in_progress-clause-says
+verdict::guarded_verdict-returns-then-is_in_progress-clause-says g t c =
+    let p = steps_to c.args.question.now.place.now in
+    let e = edge_of c.args.edge.now in
+    let old = pair_busy e.node c.in_ok-pair.pair.node.0 p (place_of c.in_ok-pair.pair) c.args.context.now c.new.new.context _ true (ap (λ (n : SchemaNode). n.0) c.in_ok-pair.ensures.node) c.in_ok-pair.ensures.place c.in_ok-pair.ensures.unchanged c.is_in_progress.ensures.found c.if-is_in_progress.true in
+    edge_busy g.K.Validate.words g.K.Validate.is_whole (numbered g.K.Validate.shape c.args.engine.now.nodes.now) (length c.args.engine.now.nodes.now) (settling (g.M.Matcher.matching c.args.engine.now.matcher.now) c.args.context.now.remembered.assumptions) (subject_of c.args.question.now.instance) (busy_at p c.args.context.now.in_progress) e (mode_of c.args.question.now.mode) (path_of c.args.question.now.path.now) p (told.Truth true)
+    c.requires.guarded old (yes_says (mode_of c.args.question.now.mode) c.requires.verdict) refl
+
+pub verdict::guarded_verdict-returns-then-is_in_progress-clause-meets : goal.verdict::guarded_verdict-returns-then-is_in_progress-clause-meets
+verdict::guarded_verdict-returns-then-is_in_progress-clause-meets g t c =
+    let ns = numbered g.K.Validate.shape c.args.engine.now.nodes.now in
+    let w = settling (g.M.Matcher.matching c.args.engine.now.matcher.now) c.args.context.now.remembered.assumptions in
+    let p = steps_to c.args.question.now.place.now in
+    let s = subject_of c.args.question.now.instance in
+    let busy = busy_at p c.args.context.now.in_progress in
+    let e = edge_of c.args.edge.now in
+    let old = pair_busy e.node c.in_ok-pair.pair.node.0 p (place_of c.in_ok-pair.pair) c.args.context.now c.new.new.context _ true (ap (λ (n : SchemaNode). n.0) c.in_ok-pair.ensures.node) c.in_ok-pair.ensures.place c.in_ok-pair.ensures.unchanged c.is_in_progress.ensures.found c.if-is_in_progress.true in
+    meets_busy g.K.Validate.words g.K.Validate.is_whole ns (length c.args.engine.now.nodes.now) w s busy e (mode_of c.args.question.now.mode) (path_of c.args.question.now.path.now) p _ _ c.requires.guarded old (sym (ap (λ (z : Context). z.remembered) c.in_ok-pair.ensures.unchanged))
+
+pub verdict::guarded_verdict-returns-then-is_in_progress-clause-remembers : goal.verdict::guarded_verdict-returns-then-is_in_progress-clause-remembers
+verdict::guarded_verdict-returns-then-is_in_progress-clause-remembers g t c = λ mode guarded free.
+    let p = steps_to c.args.question.now.place.now in
+    let e = edge_of c.args.edge.now in
+    let old = pair_busy e.node c.in_ok-pair.pair.node.0 p (place_of c.in_ok-pair.pair) c.args.context.now c.new.new.context _ true (ap (λ (n : SchemaNode). n.0) c.in_ok-pair.ensures.node) c.in_ok-pair.ensures.place c.in_ok-pair.ensures.unchanged c.is_in_progress.ensures.found c.if-is_in_progress.true in
+    absurd (true≢false (sym old ∙ free))
+
+pub verdict::guarded_verdict-returns-then-is_in_progress-clause-visits : goal.verdict::guarded_verdict-returns-then-is_in_progress-clause-visits
+verdict::guarded_verdict-returns-then-is_in_progress-clause-visits g t c =
+    let p = steps_to c.args.question.now.place.now in
+    let e = edge_of c.args.edge.now in
+    let old = pair_busy e.node c.in_ok-pair.pair.node.0 p (place_of c.in_ok-pair.pair) c.args.context.now c.new.new.context _ true (ap (λ (n : SchemaNode). n.0) c.in_ok-pair.ensures.node) c.in_ok-pair.ensures.place c.in_ok-pair.ensures.unchanged c.is_in_progress.ensures.found c.if-is_in_progress.true in
+    busy_counts (numbered g.K.Validate.shape c.args.engine.now.nodes.now) (asking c.args.question.now) c.args.context.now e c.new.new.context c.requires.guarded old (ap (λ (z : Context). z.visits) c.in_ok-pair.ensures.unchanged)
+
+pub verdict::guarded_verdict-returns-in-Some-clause-says : goal.verdict::guarded_verdict-returns-in-Some-clause-says
+verdict::guarded_verdict-returns-in-Some-clause-says g t c =
+    let set = setting g.K.Validate.words g.K.Validate.is_whole g.K.Validate.shape g.M.Matcher.matching c.args.engine.now in
+    let q = asking c.args.question.now in
+    let p = steps_to c.args.question.now.place.now in
+    let e = edge_of c.args.edge.now in
+    let fresh = pair_busy e.node c.in_ok-pair.pair.node.0 p (place_of c.in_ok-pair.pair) c.args.context.now c.new.new.context _ false (ap (λ (n : SchemaNode). n.0) c.in_ok-pair.ensures.node) c.in_ok-pair.ensures.place c.in_ok-pair.ensures.unchanged c.is_in_progress.ensures.found c.if-is_in_progress.false in
+    let c1 : Context = record c.args.context.now { in_progress = c.args.context.now.in_progress ++ (e.node, p) ∷ [] } in
+    let here = ap (λ (z : Context). read_verdict c.in_ok-pair.pair.node.0 (place_of c.in_ok-pair.pair) z) c.in_ok-pair.ensures.unchanged ∙ ap (λ (k : ℕ). read_verdict k (place_of c.in_ok-pair.pair) c.args.context.now) (ap (λ (n : SchemaNode). n.0) c.in_ok-pair.ensures.node) ∙ ap (λ (z : Place). read_verdict e.node z c.args.context.now) c.in_ok-pair.ensures.place in
+    let was = sym here ∙ sym c.in-Some.ensures.read in
+    let found = read_entered e.node p c.args.context.now c1 refl refl ∙ was in
+    read_says set q e c.args.context.now c.requires.guarded fresh c.requires.verdict c1 c.new.new.context c.in-Some.valid refl refl found c.requires.may.goes_on
+
+pub verdict::guarded_verdict-returns-in-Some-clause-meets : goal.verdict::guarded_verdict-returns-in-Some-clause-meets
+verdict::guarded_verdict-returns-in-Some-clause-meets g t c =
+    let set = setting g.K.Validate.words g.K.Validate.is_whole g.K.Validate.shape g.M.Matcher.matching c.args.engine.now in
+    let q = asking c.args.question.now in
+    let p = steps_to c.args.question.now.place.now in
+    let e = edge_of c.args.edge.now in
+    let fresh = pair_busy e.node c.in_ok-pair.pair.node.0 p (place_of c.in_ok-pair.pair) c.args.context.now c.new.new.context _ false (ap (λ (n : SchemaNode). n.0) c.in_ok-pair.ensures.node) c.in_ok-pair.ensures.place c.in_ok-pair.ensures.unchanged c.is_in_progress.ensures.found c.if-is_in_progress.false in
+    let c1 : Context = record c.args.context.now { in_progress = c.args.context.now.in_progress ++ (e.node, p) ∷ [] } in
+    let here = ap (λ (z : Context). read_verdict c.in_ok-pair.pair.node.0 (place_of c.in_ok-pair.pair) z) c.in_ok-pair.ensures.unchanged ∙ ap (λ (k : ℕ). read_verdict k (place_of c.in_ok-pair.pair) c.args.context.now) (ap (λ (n : SchemaNode). n.0) c.in_ok-pair.ensures.node) ∙ ap (λ (z : Place). read_verdict e.node z c.args.context.now) c.in_ok-pair.ensures.place in
+    let was = sym here ∙ sym c.in-Some.ensures.read in
+    let found = read_entered e.node p c.args.context.now c1 refl refl ∙ was in
+    read_meets_edge set q e c.args.context.now c.requires.guarded fresh c.requires.verdict c1 c.new.new.context c.in-Some.valid refl refl found c.requires.may.goes_on (ap (λ (z : Context). z.remembered) c.in_ok-pair.ensures.unchanged)
+
+pub verdict::guarded_verdict-returns-in-Some-clause-remembers : goal.verdict::guarded_verdict-returns-in-Some-clause-remembers
+verdict::guarded_verdict-returns-in-Some-clause-remembers g t c =
+    let set = setting g.K.Validate.words g.K.Validate.is_whole g.K.Validate.shape g.M.Matcher.matching c.args.engine.now in
+    let q = asking c.args.question.now in
+    let p = steps_to c.args.question.now.place.now in
+    let e = edge_of c.args.edge.now in
+    let fresh = pair_busy e.node c.in_ok-pair.pair.node.0 p (place_of c.in_ok-pair.pair) c.args.context.now c.new.new.context _ false (ap (λ (n : SchemaNode). n.0) c.in_ok-pair.ensures.node) c.in_ok-pair.ensures.place c.in_ok-pair.ensures.unchanged c.is_in_progress.ensures.found c.if-is_in_progress.false in
+    let c1 : Context = record c.args.context.now { in_progress = c.args.context.now.in_progress ++ (e.node, p) ∷ [] } in
+    let here = ap (λ (z : Context). read_verdict c.in_ok-pair.pair.node.0 (place_of c.in_ok-pair.pair) z) c.in_ok-pair.ensures.unchanged ∙ ap (λ (k : ℕ). read_verdict k (place_of c.in_ok-pair.pair) c.args.context.now) (ap (λ (n : SchemaNode). n.0) c.in_ok-pair.ensures.node) ∙ ap (λ (z : Place). read_verdict e.node z c.args.context.now) c.in_ok-pair.ensures.place in
+    let was = sym here ∙ sym c.in-Some.ensures.read in
+    let found = read_entered e.node p c.args.context.now c1 refl refl ∙ was in
+    let same = c.in_ok-pair.ensures.unchanged in
+    read_remembers set q e c.args.context.now c.requires.guarded fresh c.requires.verdict c1 c.new.new.context c.in-Some.valid refl refl found same
+
+pub verdict::guarded_verdict-returns-in-Some-clause-visits : goal.verdict::guarded_verdict-returns-in-Some-clause-visits
+verdict::guarded_verdict-returns-in-Some-clause-visits g t c =
+    let q = asking c.args.question.now in
+    let p = steps_to c.args.question.now.place.now in
+    let e = edge_of c.args.edge.now in
+    let fresh = pair_busy e.node c.in_ok-pair.pair.node.0 p (place_of c.in_ok-pair.pair) c.args.context.now c.new.new.context _ false (ap (λ (n : SchemaNode). n.0) c.in_ok-pair.ensures.node) c.in_ok-pair.ensures.place c.in_ok-pair.ensures.unchanged c.is_in_progress.ensures.found c.if-is_in_progress.false in
+    let c1 : Context = record c.args.context.now { in_progress = c.args.context.now.in_progress ++ (e.node, p) ∷ [] } in
+    let here = ap (λ (z : Context). read_verdict c.in_ok-pair.pair.node.0 (place_of c.in_ok-pair.pair) z) c.in_ok-pair.ensures.unchanged ∙ ap (λ (k : ℕ). read_verdict k (place_of c.in_ok-pair.pair) c.args.context.now) (ap (λ (n : SchemaNode). n.0) c.in_ok-pair.ensures.node) ∙ ap (λ (z : Place). read_verdict e.node z c.args.context.now) c.in_ok-pair.ensures.place in
+    let was = sym here ∙ sym c.in-Some.ensures.read in
+    let found = read_entered e.node p c.args.context.now c1 refl refl ∙ was in
+    read_counts (numbered g.K.Validate.shape c.args.engine.now.nodes.now) q c.args.context.now e c.new.new.context c.in-Some.valid c.requires.guarded fresh was (ap (λ (z : Context). z.visits) c.in_ok-pair.ensures.unchanged)
+
+pub verdict::guarded_verdict-returns-clause-says : goal.verdict::guarded_verdict-returns-clause-says
+verdict::guarded_verdict-returns-clause-says g t c =
+    let set = setting g.K.Validate.words g.K.Validate.is_whole g.K.Validate.shape g.M.Matcher.matching c.args.engine.now in
+    let q = asking c.args.question.now in
+    let p = steps_to c.args.question.now.place.now in
+    let e = edge_of c.args.edge.now in
+    let entered : (list_any (λ i. i == e.node) (busy_at p c.args.context.now.in_progress) ≡ false) × (c.enter.new.context.in_progress ≡ c.args.context.now.in_progress ++ (e.node, p) ∷ []) = (pair_busy e.node c.in_ok-pair.pair.node.0 p (place_of c.in_ok-pair.pair) c.args.context.now c.new.new.context _ false (ap (λ (n : SchemaNode). n.0) c.in_ok-pair.ensures.node) c.in_ok-pair.ensures.place c.in_ok-pair.ensures.unchanged c.is_in_progress.ensures.found c.if-is_in_progress.false,
+        pair_entered e.node c.in_ok-pair.pair.node.0 p (place_of c.in_ok-pair.pair) c.args.context.now c.new.new.context c.enter.new.context.in_progress (ap (λ (n : SchemaNode). n.0) c.in_ok-pair.ensures.node) c.in_ok-pair.ensures.place c.in_ok-pair.ensures.unchanged c.in_ok-enter.ensures.entered) in
+    let c2 = c.start_ref_visit-mark.new.self in
+    let pairs : c2.in_progress ≡ c.args.context.now.in_progress ++ (e.node, p) ∷ [] = ap (λ (z : Context). z.in_progress) c.start_ref_visit-mark.ensures.counted ∙ entered.1 in
+    let met : c2.remembered ≡ c.args.context.now.remembered = ap (λ (z : Context). z.remembered) c.start_ref_visit-mark.ensures.counted ∙ (c.enter.ensures.remembered ∙ ap (λ (z : Context). z.remembered) c.in_ok-pair.ensures.unchanged) in
+    let there : steps_to c.numbered_place-place.result ≡ p = c.numbered_place-place.ensures.same ∙ c.in_ok-pair.ensures.place in
+    let at_asked : (record { subject = q.subject; place = steps_to c.numbered_place-place.result; path = path_of c.across-whole.result; mode = q.mode }) ≡ asked_across set q e c.args.context.now c.requires.guarded entered.0
+    = λ i. record { subject = q.subject; place = there i; path = c.across-whole.ensures.appended i; mode = q.mode } in
+    let says = subst (λ z. NodeSays set z c2 e.node (told.Truth c.in_ok-valid.valid)) at_asked c.in_ok-valid.ensures.says in
+    computed_says set q e c.args.context.now c.requires.guarded entered.0 c2 pairs met (told.Truth c.in_ok-valid.valid) says
+
+pub verdict::guarded_verdict-returns-clause-meets : goal.verdict::guarded_verdict-returns-clause-meets
+verdict::guarded_verdict-returns-clause-meets g t c =
+    let set = setting g.K.Validate.words g.K.Validate.is_whole g.K.Validate.shape g.M.Matcher.matching c.args.engine.now in
+    let q = asking c.args.question.now in
+    let p = steps_to c.args.question.now.place.now in
+    let e = edge_of c.args.edge.now in
+    let entered : (list_any (λ i. i == e.node) (busy_at p c.args.context.now.in_progress) ≡ false) × (c.enter.new.context.in_progress ≡ c.args.context.now.in_progress ++ (e.node, p) ∷ []) = (pair_busy e.node c.in_ok-pair.pair.node.0 p (place_of c.in_ok-pair.pair) c.args.context.now c.new.new.context _ false (ap (λ (n : SchemaNode). n.0) c.in_ok-pair.ensures.node) c.in_ok-pair.ensures.place c.in_ok-pair.ensures.unchanged c.is_in_progress.ensures.found c.if-is_in_progress.false,
+        pair_entered e.node c.in_ok-pair.pair.node.0 p (place_of c.in_ok-pair.pair) c.args.context.now c.new.new.context c.enter.new.context.in_progress (ap (λ (n : SchemaNode). n.0) c.in_ok-pair.ensures.node) c.in_ok-pair.ensures.place c.in_ok-pair.ensures.unchanged c.in_ok-enter.ensures.entered) in
+    let c2 = c.start_ref_visit-mark.new.self in
+    let c3 = c.verdict_node.new.context in
+    let pairs : c2.in_progress ≡ c.args.context.now.in_progress ++ (e.node, p) ∷ [] = ap (λ (z : Context). z.in_progress) c.start_ref_visit-mark.ensures.counted ∙ entered.1 in
+    let met : c2.remembered ≡ c.args.context.now.remembered = ap (λ (z : Context). z.remembered) c.start_ref_visit-mark.ensures.counted ∙ (c.enter.ensures.remembered ∙ ap (λ (z : Context). z.remembered) c.in_ok-pair.ensures.unchanged) in
+    let there : steps_to c.numbered_place-place.result ≡ p = c.numbered_place-place.ensures.same ∙ c.in_ok-pair.ensures.place in
+    let at_asked : (record { subject = q.subject; place = steps_to c.numbered_place-place.result; path = path_of c.across-whole.result; mode = q.mode }) ≡ asked_across set q e c.args.context.now c.requires.guarded entered.0
+    = λ i. record { subject = q.subject; place = there i; path = c.across-whole.ensures.appended i; mode = q.mode } in
+    let meets = subst (λ z. MeetsNode set z c2 c3 e.node) at_asked c.in_ok-valid.ensures.meets in
+    let met5 = c.exit.ensures.remembered ∙ ap (λ (z : Context). z.remembered) c.keep_verdict.ensures.frame in
+    computed_meets set q e c.args.context.now c.requires.guarded entered.0 c2 pairs met c3 c.exit.new.context meets met5
+
+pub verdict::guarded_verdict-returns-clause-stays : goal.verdict::guarded_verdict-returns-clause-stays
+verdict::guarded_verdict-returns-clause-stays g t c =
+    let set = setting g.K.Validate.words g.K.Validate.is_whole g.K.Validate.shape g.M.Matcher.matching c.args.engine.now in
+    let q = asking c.args.question.now in
+    let p = steps_to c.args.question.now.place.now in
+    let e = edge_of c.args.edge.now in
+    let entered : (list_any (λ i. i == e.node) (busy_at p c.args.context.now.in_progress) ≡ false) × (c.enter.new.context.in_progress ≡ c.args.context.now.in_progress ++ (e.node, p) ∷ []) = (pair_busy e.node c.in_ok-pair.pair.node.0 p (place_of c.in_ok-pair.pair) c.args.context.now c.new.new.context _ false (ap (λ (n : SchemaNode). n.0) c.in_ok-pair.ensures.node) c.in_ok-pair.ensures.place c.in_ok-pair.ensures.unchanged c.is_in_progress.ensures.found c.if-is_in_progress.false,
+        pair_entered e.node c.in_ok-pair.pair.node.0 p (place_of c.in_ok-pair.pair) c.args.context.now c.new.new.context c.enter.new.context.in_progress (ap (λ (n : SchemaNode). n.0) c.in_ok-pair.ensures.node) c.in_ok-pair.ensures.place c.in_ok-pair.ensures.unchanged c.in_ok-enter.ensures.entered) in
+    let c2 = c.start_ref_visit-mark.new.self in
+    let c3 = c.verdict_node.new.context in
+    let pairs : c2.in_progress ≡ c.args.context.now.in_progress ++ (e.node, p) ∷ [] = ap (λ (z : Context). z.in_progress) c.start_ref_visit-mark.ensures.counted ∙ entered.1 in
+    let met : c2.remembered ≡ c.args.context.now.remembered = ap (λ (z : Context). z.remembered) c.start_ref_visit-mark.ensures.counted ∙ (c.enter.ensures.remembered ∙ ap (λ (z : Context). z.remembered) c.in_ok-pair.ensures.unchanged) in
+    let there : steps_to c.numbered_place-place.result ≡ p = c.numbered_place-place.ensures.same ∙ c.in_ok-pair.ensures.place in
+    let at_asked : (record { subject = q.subject; place = steps_to c.numbered_place-place.result; path = path_of c.across-whole.result; mode = q.mode }) ≡ asked_across set q e c.args.context.now c.requires.guarded entered.0
+    = λ i. record { subject = q.subject; place = there i; path = c.across-whole.ensures.appended i; mode = q.mode } in
+    let says = subst (λ z. NodeSays set z c2 e.node (told.Truth c.in_ok-valid.valid)) at_asked c.in_ok-valid.ensures.says in
+    let meets = subst (λ z. MeetsNode set z c2 c3 e.node) at_asked c.in_ok-valid.ensures.meets in
+    let keeps = c.in_ok-valid.ensures.keeps in
+    let read = ap (λ (z : Context). z.verdicts) c.start_ref_visit-mark.ensures.counted ∙ (c.enter.ensures.verdicts ∙ ap (λ (z : Context). z.verdicts) c.in_ok-pair.ensures.unchanged) in
+    let stays = subst (λ z. StaysRight set z c2 c3) at_asked c.in_ok-valid.ensures.stays in
+    let kept = rw (ap (λ (n : SchemaNode). n.0) c.in_ok-pair.ensures.node, c.in_ok-pair.ensures.place) at c.in_ok-keep_verdict.ensures.kept in
+    let few = rw (ap (λ (n : SchemaNode). n.0) c.in_ok-pair.ensures.node, c.in_ok-pair.ensures.place) at c.in_ok-keep_verdict.ensures.others in
+    kept_stays set q e c.args.context.now c.requires.guarded entered.0 c.requires.verdict c.enter.new.context c2 c3 c.keep_verdict.new.context c.exit.new.context c.start_ref_visit-mark.result c.in_ok-valid.valid pairs met says meets keeps
+    g.met.K.Validate.asks_verdicts kept read stays few (ap (λ (z : Context). z.remembered) c.keep_verdict.ensures.frame) c.exit.ensures.remembered c.exit.ensures.verdicts
+
+pub verdict::guarded_verdict-returns-clause-remembers : goal.verdict::guarded_verdict-returns-clause-remembers
+verdict::guarded_verdict-returns-clause-remembers g t c =
+    let set = setting g.K.Validate.words g.K.Validate.is_whole g.K.Validate.shape g.M.Matcher.matching c.args.engine.now in
+    let q = asking c.args.question.now in
+    let p = steps_to c.args.question.now.place.now in
+    let e = edge_of c.args.edge.now in
+    let entered : (list_any (λ i. i == e.node) (busy_at p c.args.context.now.in_progress) ≡ false) × (c.enter.new.context.in_progress ≡ c.args.context.now.in_progress ++ (e.node, p) ∷ []) = (pair_busy e.node c.in_ok-pair.pair.node.0 p (place_of c.in_ok-pair.pair) c.args.context.now c.new.new.context _ false (ap (λ (n : SchemaNode). n.0) c.in_ok-pair.ensures.node) c.in_ok-pair.ensures.place c.in_ok-pair.ensures.unchanged c.is_in_progress.ensures.found c.if-is_in_progress.false,
+        pair_entered e.node c.in_ok-pair.pair.node.0 p (place_of c.in_ok-pair.pair) c.args.context.now c.new.new.context c.enter.new.context.in_progress (ap (λ (n : SchemaNode). n.0) c.in_ok-pair.ensures.node) c.in_ok-pair.ensures.place c.in_ok-pair.ensures.unchanged c.in_ok-enter.ensures.entered) in
+    let c2 = c.start_ref_visit-mark.new.self in
+    let c3 = c.verdict_node.new.context in
+    let pairs : c2.in_progress ≡ c.args.context.now.in_progress ++ (e.node, p) ∷ [] = ap (λ (z : Context). z.in_progress) c.start_ref_visit-mark.ensures.counted ∙ entered.1 in
+    let met : c2.remembered ≡ c.args.context.now.remembered = ap (λ (z : Context). z.remembered) c.start_ref_visit-mark.ensures.counted ∙ (c.enter.ensures.remembered ∙ ap (λ (z : Context). z.remembered) c.in_ok-pair.ensures.unchanged) in
+    let there : steps_to c.numbered_place-place.result ≡ p = c.numbered_place-place.ensures.same ∙ c.in_ok-pair.ensures.place in
+    let at_asked : (record { subject = q.subject; place = steps_to c.numbered_place-place.result; path = path_of c.across-whole.result; mode = q.mode }) ≡ asked_across set q e c.args.context.now c.requires.guarded entered.0
+    = λ i. record { subject = q.subject; place = there i; path = c.across-whole.ensures.appended i; mode = q.mode } in
+    let says = subst (λ z. NodeSays set z c2 e.node (told.Truth c.in_ok-valid.valid)) at_asked c.in_ok-valid.ensures.says in
+    let meets = subst (λ z. MeetsNode set z c2 c3 e.node) at_asked c.in_ok-valid.ensures.meets in
+    let keeps = c.in_ok-valid.ensures.keeps in
+    let kept = rw (ap (λ (n : SchemaNode). n.0) c.in_ok-pair.ensures.node, c.in_ok-pair.ensures.place) at c.in_ok-keep_verdict.ensures.kept in
+    let none = sym (rw (ap (λ (n : SchemaNode). n.0) c.in_ok-pair.ensures.node, c.in_ok-pair.ensures.place) at c.in_default.ensures.read) in
+    let left = ap (λ (z : Context). z.in_progress) c.keep_verdict.ensures.frame ∙ keeps.in_progress in
+    let back = pairs_back set q e c.args.context.now c.requires.guarded entered.0 c2 c.exit.new.context pairs (sym left ∙ rw (ap (λ (n : SchemaNode). n.0) c.in_ok-pair.ensures.node, c.in_ok-pair.ensures.place) at c.exit.ensures.left) in
+    let visits = c.exit.ensures.visits ∙ ap (λ (z : Context). z.visits) c.keep_verdict.ensures.frame in
+    let counted = ap (λ (z : Context). z.visits) c.start_ref_visit-mark.ensures.counted ∙ ap one_more (c.enter.ensures.visits ∙ ap (λ (z : Context). z.visits) c.in_ok-pair.ensures.unchanged) in
+    let more = subst (λ z. z ≤ c3.visits) counted c.in_ok-valid.ensures.counts in
+    kept_remembers set q e c.args.context.now c.requires.guarded entered.0 c.requires.verdict c.enter.new.context c2 c3 c.keep_verdict.new.context c.exit.new.context c.start_ref_visit-mark.result c.in_ok-valid.valid pairs met says meets keeps
+    g.met.K.Validate.asks_verdicts kept entered.1 (c.enter.ensures.verdicts ∙ ap (λ (z : Context). z.verdicts) c.in_ok-pair.ensures.unchanged) none (c.start_ref_visit-mark.ensures.mark ∙ (c.enter.ensures.visits ∙ ap (λ (z : Context). z.visits) c.in_ok-pair.ensures.unchanged)) back visits more c.exit.ensures.verdicts
+
+pub verdict::guarded_verdict-returns-clause-counts : goal.verdict::guarded_verdict-returns-clause-counts
+verdict::guarded_verdict-returns-clause-counts g t c =
+    let visits = c.exit.ensures.visits ∙ ap (λ (z : Context). z.visits) c.keep_verdict.ensures.frame in
+    let before = subst (λ z. z ≤ c.start_ref_visit-mark.new.self.visits) (c.enter.ensures.visits ∙ ap (λ (z : Context). z.visits) c.in_ok-pair.ensures.unchanged) c.start_ref_visit-mark.ensures.more in
+    let after = subst (λ z. c.start_ref_visit-mark.new.self.visits ≤ z) (sym visits) c.in_ok-valid.ensures.counts in
+    no_fewer c.args.context.now.visits c.start_ref_visit-mark.new.self.visits c.exit.new.context.visits before after
+
+pub verdict::guarded_verdict-returns-clause-visits : goal.verdict::guarded_verdict-returns-clause-visits
+verdict::guarded_verdict-returns-clause-visits g t c =
+    let ns = (numbered g.K.Validate.shape c.args.engine.now.nodes.now) in
+    let q = asking c.args.question.now in
+    let p = steps_to c.args.question.now.place.now in
+    let e = edge_of c.args.edge.now in
+    let c1 = c.enter.new.context in
+    let c2 = c.start_ref_visit-mark.new.self in
+    let c3 = c.verdict_node.new.context in
+    let entered : (list_any (λ i. i == e.node) (busy_at p c.args.context.now.in_progress) ≡ false) × (c.enter.new.context.in_progress ≡ c.args.context.now.in_progress ++ (e.node, p) ∷ []) = (pair_busy e.node c.in_ok-pair.pair.node.0 p (place_of c.in_ok-pair.pair) c.args.context.now c.new.new.context _ false (ap (λ (n : SchemaNode). n.0) c.in_ok-pair.ensures.node) c.in_ok-pair.ensures.place c.in_ok-pair.ensures.unchanged c.is_in_progress.ensures.found c.if-is_in_progress.false,
+        pair_entered e.node c.in_ok-pair.pair.node.0 p (place_of c.in_ok-pair.pair) c.args.context.now c.new.new.context c.enter.new.context.in_progress (ap (λ (n : SchemaNode). n.0) c.in_ok-pair.ensures.node) c.in_ok-pair.ensures.place c.in_ok-pair.ensures.unchanged c.in_ok-enter.ensures.entered) in
+    let pairs : c2.in_progress ≡ c.args.context.now.in_progress ++ (e.node, p) ∷ [] = ap (λ (z : Context). z.in_progress) c.start_ref_visit-mark.ensures.counted ∙ entered.1 in
+    let read = ap (λ (z : Context). z.verdicts) c.start_ref_visit-mark.ensures.counted ∙ (c.enter.ensures.verdicts ∙ ap (λ (z : Context). z.verdicts) c.in_ok-pair.ensures.unchanged) in
+    let counted = ap (λ (z : Context). z.visits) c.start_ref_visit-mark.ensures.counted ∙ ap one_more (c.enter.ensures.visits ∙ ap (λ (z : Context). z.visits) c.in_ok-pair.ensures.unchanged) in
+    let there : steps_to c.numbered_place-place.result ≡ p = c.numbered_place-place.ensures.same ∙ c.in_ok-pair.ensures.place in
+    let none = sym (rw (ap (λ (n : SchemaNode). n.0) c.in_ok-pair.ensures.node, c.in_ok-pair.ensures.place) at c.in_default.ensures.read) in
+    let node_counts = subst (λ z. NodeCounts ns (record { subject = q.subject; place = z; path = path_of c.across-whole.result; mode = q.mode }) c2 c3 e.node) there c.in_ok-valid.ensures.visits in
+    let visits = c.exit.ensures.visits ∙ ap (λ (z : Context). z.visits) c.keep_verdict.ensures.frame in
+    computed_counts ns q c.args.context.now e c2 c3 c.exit.new.context c.requires.guarded entered.0
+    (sym (read_entered e.node p c.args.context.now c1 entered.1 (c.enter.ensures.verdicts ∙ ap (λ (z : Context). z.verdicts) c.in_ok-pair.ensures.unchanged)) ∙ none) pairs read counted node_counts visits
+
+pub verdict::guarded_verdict-verdict_node-requires : goal.verdict::guarded_verdict-verdict_node-requires
+verdict::guarded_verdict-verdict_node-requires g t c =
+    let ns = numbered g.K.Validate.shape c.args.engine.now.nodes.now in
+    let p = steps_to c.args.question.now.place.now in
+    let e = edge_of c.args.edge.now in
+    let s = subject_of c.args.question.now.instance in
+    let entered : (list_any (λ i. i == e.node) (busy_at p c.args.context.now.in_progress) ≡ false) × (c.enter.new.context.in_progress ≡ c.args.context.now.in_progress ++ (e.node, p) ∷ []) = (pair_busy e.node c.in_ok-pair.pair.node.0 p (place_of c.in_ok-pair.pair) c.args.context.now c.new.new.context _ false (ap (λ (n : SchemaNode). n.0) c.in_ok-pair.ensures.node) c.in_ok-pair.ensures.place c.in_ok-pair.ensures.unchanged c.is_in_progress.ensures.found c.if-is_in_progress.false,
+        pair_entered e.node c.in_ok-pair.pair.node.0 p (place_of c.in_ok-pair.pair) c.args.context.now c.new.new.context c.enter.new.context.in_progress (ap (λ (n : SchemaNode). n.0) c.in_ok-pair.ensures.node) c.in_ok-pair.ensures.place c.in_ok-pair.ensures.unchanged c.in_ok-enter.ensures.entered) in
+    let pairs = ap (λ (z : Context). z.in_progress) c.start_ref_visit-mark.ensures.counted in
+    let new : c.start_ref_visit-mark.new.self.in_progress ≡ c.args.context.now.in_progress ++ (e.node, p) ∷ [] = pairs ∙ entered.1 in
+    let busy : busy_at p c.start_ref_visit-mark.new.self.in_progress ≡ e.node ∷ busy_at p c.args.context.now.in_progress = ap (busy_at p) new ∙ busy-pushed p e.node c.args.context.now.in_progress in
+    let needs = needs_of_entered g.K.Validate.words g.K.Validate.is_whole ns (length c.args.engine.now.nodes.now) (settling (g.M.Matcher.matching c.args.engine.now.matcher.now) c.args.context.now.remembered.assumptions) s (busy_at p c.args.context.now.in_progress) e c.requires.guarded entered.0 in
+    let there : steps_to c.numbered_place-place.result ≡ p = c.numbered_place-place.ensures.same ∙ c.in_ok-pair.ensures.place in
+    let l = ap (λ q. left ns (length c.args.engine.now.nodes.now) e.node s (busy_at q c.start_ref_visit-mark.new.self.in_progress)) there ∙ ap (left ns (length c.args.engine.now.nodes.now) e.node s) busy in
+    let deeper = subst (λ q. NoDeeper q c.start_ref_visit-mark.new.self.in_progress) (sym there) (subst (NoDeeper p) (sym new) (deeper-pushed p e.node c.args.context.now.in_progress c.requires.may.above)) in
+    let (layout, laid, right) = c.requires.may.goes_on in
+    let set = setting g.K.Validate.words g.K.Validate.is_whole g.K.Validate.shape g.M.Matcher.matching c.args.engine.now in
+    let met = ap (λ (z : Context). z.remembered) c.start_ref_visit-mark.ensures.counted ∙ (c.enter.ensures.remembered ∙ ap (λ (z : Context). z.remembered) c.in_ok-pair.ensures.unchanged) in
+    let read = ap (λ (z : Context). z.verdicts) c.start_ref_visit-mark.ensures.counted ∙ (c.enter.ensures.verdicts ∙ ap (λ (z : Context). z.verdicts) c.in_ok-pair.ensures.unchanged) in
+    let laid' = subst (λ q. LaysOut layout q s) (sym there) laid in
+    let right' = right_same set layout c.args.context.now c.start_ref_visit-mark.new.self met read right in
+    let root = ap (λ (z : Context). z.root) c.start_ref_visit-mark.ensures.counted ∙ c.enter.ensures.root ∙ ap (λ (z : Context). z.root) c.in_ok-pair.ensures.unchanged in
+    let carries = carries_on c.args.context.now.root c.start_ref_visit-mark.new.self.root c.numbered_place-place.result root (c.numbered_place-place.ensures.carries c.args.context.now c.in_ok-pair.ensures.numbered) in
+    λ κs h. (lower_entered _ _ _ t l needs c.decreases, (h.0, (h.1.0, (h.1.1.0, (h.1.1.1, (record { known = c.requires.may.known; ranked = c.requires.may.ranked; above = deeper; wanted = c.requires.may.wanted; stands = stands_at c.args.context.now.root _ (asking c.args.question.now) _ root there c.requires.may.stands; goes_on = (layout, laid', right') }, (carries, c.requires.verdict)))))))

@@ -1,11 +1,53 @@
-use Rattle.std.proofs.Common.{◌*◌, length}
-use Rattle.schema_contexts.specs.Progress.{row_words}
+use Rattle.std.proofs.Common.{◌≡◌, ◌∙◌, ◌*◌, ◌+◌, ℕ, [], List, ap, arith, length, map, subst}
+use Rattle.std.specs.HashMap.{keys}
+use Rattle.std.specs.Map.{keys_of}
+use Rattle.std.proofs.Common.{Vec, Global}
+use Rattle.schema_contexts.specs.Progress.{Context, guard_words, root_places, row_words}
+use Rattle.schema_contexts.specs.ProgressViews.{all_verdicts, pair_of}
+use Rattle.schema_contexts.specs.Rows.{words_in}
 use Rattle.schema_contexts.proofs.Widths.{all_wide, none_wide}
-use Rattle.schema_contexts.specs.Progress.{root_places}
 use Rattle.schema_contexts.proofs.validation.ValidationContext.forget_verdicts.Goals as goal
+
+only_once : (n : ℕ) → n + 2 * 0 ≡ n
+only_once n = omega arith
 
 pub returns-clause-wide : goal.returns-clause-wide
 returns-clause-wide c =
     let i = c.self.inside in
     let h = c.self.invariant in
     all_wide (row_words (length (root_places i.places))) i.guard c.clear.new.self h.wide_guard (none_wide (2 * row_words (length (root_places i.places))) c.clear.new.self c.clear.ensures.empty)
+
+pub returns-clause-forgotten : goal.returns-clause-forgotten
+returns-clause-forgotten c =
+    let i = c.self.inside in
+    let h = c.self.invariant in
+    let ps = root_places i.places in
+    let w = row_words (length ps) in
+    let none = c.clear.ensures.empty in
+    let width : words_in i.guard + words_in c.clear.new.self ≡ length (keys i.guard) * w =
+        all_wide w i.guard c.clear.new.self h.wide_guard (none_wide (2 * w) c.clear.new.self none)
+        ∙ ap (λ (es : List (ℕ × Vec ℕ Global)). (length (keys i.guard) + 2 * length (keys_of es)) * w) none
+        ∙ ap (λ (n : ℕ). n * w) (only_once (length (keys i.guard))) in
+    let now : Context = record {
+      root = i.places;
+      in_progress = map (pair_of ps) i.pairs.items;
+      remembered = i.matches;
+      marking = i.marking;
+      verdicts = all_verdicts ps c.clear.new.self.entries;
+      visits = 0;
+      entered = keys i.guard;
+      kept = keys c.clear.new.self;
+      words = words_in i.guard + words_in c.clear.new.self;
+    } in
+    subst (λ (x : Context). now ≡ record x { verdicts = []; visits = 0; kept = []; words = guard_words x }) c.self.view_is
+    (λ j. record {
+      root = i.places;
+      in_progress = map (pair_of ps) i.pairs.items;
+      remembered = i.matches;
+      marking = i.marking;
+      verdicts = all_verdicts ps (none j);
+      visits = 0;
+      entered = keys i.guard;
+      kept = keys_of (none j);
+      words = width j;
+    })
