@@ -2030,7 +2030,8 @@ verdict::guarded_verdict-returns-clause-remembers g t c =
     let meets = subst (λ z. MeetsNode set z c2 c3 e.node) at_asked c.in_ok-valid.ensures.meets in
     let keeps = c.in_ok-valid.ensures.keeps in
     let kept = rw (ap (λ (n : SchemaNode). n.0) c.in_ok-pair.ensures.node, c.in_ok-pair.ensures.place) at c.in_ok-keep_verdict.ensures.kept in
-    let none = sym (rw (ap (λ (n : SchemaNode). n.0) c.in_ok-pair.ensures.node, c.in_ok-pair.ensures.place) at c.in_default.ensures.read) in
+    let here = ap (λ (z : Context). read_verdict c.in_ok-pair.pair.node.0 (place_of c.in_ok-pair.pair) z) c.in_ok-pair.ensures.unchanged ∙ ap (λ (k : ℕ). read_verdict k (place_of c.in_ok-pair.pair) c.args.context.now) (ap (λ (n : SchemaNode). n.0) c.in_ok-pair.ensures.node) ∙ ap (λ (z : Place). read_verdict e.node z c.args.context.now) c.in_ok-pair.ensures.place in
+    let none = read_entered e.node p c.args.context.now c.enter.new.context entered.1 (c.enter.ensures.verdicts ∙ ap (λ (z : Context). z.verdicts) c.in_ok-pair.ensures.unchanged) ∙ sym here ∙ sym c.in_default.ensures.read in
     let left = ap (λ (z : Context). z.in_progress) c.keep_verdict.ensures.frame ∙ keeps.in_progress in
     let back = pairs_back set q e c.args.context.now c.requires.guarded entered.0 c2 c.exit.new.context pairs (sym left ∙ rw (ap (λ (n : SchemaNode). n.0) c.in_ok-pair.ensures.node, c.in_ok-pair.ensures.place) at c.exit.ensures.left) in
     let visits = c.exit.ensures.visits ∙ ap (λ (z : Context). z.visits) c.keep_verdict.ensures.frame in
@@ -2061,7 +2062,8 @@ verdict::guarded_verdict-returns-clause-visits g t c =
     let read = ap (λ (z : Context). z.verdicts) c.start_ref_visit-mark.ensures.counted ∙ (c.enter.ensures.verdicts ∙ ap (λ (z : Context). z.verdicts) c.in_ok-pair.ensures.unchanged) in
     let counted = ap (λ (z : Context). z.visits) c.start_ref_visit-mark.ensures.counted ∙ ap one_more (c.enter.ensures.visits ∙ ap (λ (z : Context). z.visits) c.in_ok-pair.ensures.unchanged) in
     let there : steps_to c.numbered_place-place.result ≡ p = c.numbered_place-place.ensures.same ∙ c.in_ok-pair.ensures.place in
-    let none = sym (rw (ap (λ (n : SchemaNode). n.0) c.in_ok-pair.ensures.node, c.in_ok-pair.ensures.place) at c.in_default.ensures.read) in
+    let here = ap (λ (z : Context). read_verdict c.in_ok-pair.pair.node.0 (place_of c.in_ok-pair.pair) z) c.in_ok-pair.ensures.unchanged ∙ ap (λ (k : ℕ). read_verdict k (place_of c.in_ok-pair.pair) c.args.context.now) (ap (λ (n : SchemaNode). n.0) c.in_ok-pair.ensures.node) ∙ ap (λ (z : Place). read_verdict e.node z c.args.context.now) c.in_ok-pair.ensures.place in
+    let none = read_entered e.node p c.args.context.now c.enter.new.context entered.1 (c.enter.ensures.verdicts ∙ ap (λ (z : Context). z.verdicts) c.in_ok-pair.ensures.unchanged) ∙ sym here ∙ sym c.in_default.ensures.read in
     let node_counts = subst (λ z. NodeCounts ns (record { subject = q.subject; place = z; path = path_of c.across-whole.result; mode = q.mode }) c2 c3 e.node) there c.in_ok-valid.ensures.visits in
     let visits = c.exit.ensures.visits ∙ ap (λ (z : Context). z.visits) c.keep_verdict.ensures.frame in
     computed_counts ns q c.args.context.now e c2 c3 c.exit.new.context c.requires.guarded entered.0
