@@ -288,8 +288,10 @@ fn run_keyword<'i, K: Validate, M: Matcher>(
     )
 }
 
-// The reply of a keyword's child, here or one step below; yes where its request got none.
+// The reply of a keyword's child, here or one step below; yes where its request got none. Its room on the stack is its own, so that
+// the turns of a verdict pay nothing for it.
 #[cycle(run)]
+#[inline(never)]
 pub(crate) fn run_child<'i, K: Validate, M: Matcher>(
     engine: &Engine<'_, K, M>,
     node: SchemaNode,

@@ -167,8 +167,10 @@ pub(crate) fn verdict_form<'i, K: Validate, M: Matcher>(
     }
 }
 
-// The verdict of a keyword's run.
+// The verdict of a keyword's run. Its room on the stack is its own, so that a keyword that tells its verdict at once pays nothing for
+// it.
 #[cycle(run)]
+#[inline(never)]
 fn verdict_keyword<'i, K: Validate, M: Matcher>(
     engine: &Engine<'_, K, M>,
     node: SchemaNode,
