@@ -10,13 +10,14 @@ use schema_reports::location::OutOfMemory;
 use serde_json::Value;
 use std::alloc::Global;
 use std::marker::Model;
+use std::rc::Rc;
 
 /// The places of an instance, which are numbered when their numbers are first asked for: a run that never asks for one pays
 /// nothing. Contracts see the instance, whether its places are numbered or not.
 #[derive(Drop)]
 pub struct PlacesOnDemand<'i> {
     root: &'i Value,
-    numbered: Option<Places<'i>>,
+    numbered: Option<Rc<Places<'i>>>,
 }
 
 impl<'i> Model for PlacesOnDemand<'i> {
@@ -32,7 +33,7 @@ impl<'i> Model for PlacesOnDemand<'i> {
 
     ghost view = { λ p. p.root.now };
 
-    ghost invariant = { λ p. IfSome p.numbered (λ ps. ArePlacesOf p.root.now ps) };
+    ghost invariant = { λ p. IfSome p.numbered (λ ps. ArePlacesOf p.root.now ps.value) };
 }
 
 impl<'i> PlacesOnDemand<'i> {
@@ -56,11 +57,27 @@ impl<'i> PlacesOnDemand<'i> {
         ensures* unchanged { sem 𝓛 (EndsAs self.entry self.old) }
     {
         if self.numbered.is_none() {
-            self.numbered = Some(Places::number(alloc, self.root)?);
+            let places = Places::number(alloc, self.root)?;
+            self.numbered = Some(Rc::new(alloc, places)?);
         }
         match &self.numbered {
-            Some(places) => Ok(places),
+            Some(places) => Ok(places.as_ref()),
             None => unreachable!(),
         }
+    }
+
+    /// Returns the places once more, for a further run: where they are numbered, both have the same numbered ones. Fails only if
+    /// there is no room for a further owner.
+    pub fn share(&self) -> Result<PlacesOnDemand<'i>, OutOfMemory>
+        ensures root { IfOk result (λ p. p ≡ self.now) }
+    {
+        let numbered = match &self.numbered {
+            Some(places) => Some(places.clone()?),
+            None => None,
+        };
+        Ok(PlacesOnDemand {
+            root: self.root,
+            numbered,
+        })
     }
 }
