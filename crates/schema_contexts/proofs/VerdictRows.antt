@@ -1,6 +1,6 @@
 -- Verdicts in rows of bits, as the list of all of them has them.
 use Rattle.std.proofs.Common.{◌≡◌, ℕ, zero, suc, ◌+◌, ◌*◌, ◌/◌, ◌<◌, ◌≤◌, ◌==◌, ◌&&◌, Bool, true, false, cond, List, [], ◌∷◌, ◌++◌, length, refl, sym, ◌∙◌, ap, ap₂, subst, arith, rules, ⊎_elim}
-use Rattle.std.specs.Prelude.{Option, Some, None, ◌⊎◌, option_map, nat_eq}
+use Rattle.std.specs.Prelude.{Option, Some, None, ◌⊎◌, option_map}
 use Rattle.std.specs.Cmp.{nat_eq_equiv}
 use Rattle.std.proofs.lemmas.Bool.{eqb-true}
 use Rattle.schema_definitions.specs.Instance.{Place, same_place}

@@ -1,5 +1,5 @@
 -- How many words rows take, where each is as wide.
-use Rattle.std.proofs.Common.{◌≡◌, ℕ, suc, ◌+◌, ◌*◌, false, true, List, [], ◌∷◌, length, refl, sym, ◌∙◌, ap, ap₂, arith, true≢false}
+use Rattle.std.proofs.Common.{◌≡◌, ℕ, suc, ◌+◌, ◌*◌, List, [], ◌∷◌, length, refl, sym, ◌∙◌, ap, ap₂, arith, true≢false}
 use Rattle.std.proofs.Math.Nat.{add-mul, mul_assoc, mul_comm, suc-mul}
 use Rattle.schema_contexts.specs.Rows.{AreWide, has_words, numbers_from, row_in, row_numbers, words_in}
 

@@ -1,5 +1,5 @@
-use Rattle.std.proofs.Common.{true≢false, true, false, ◌≡◌, ◌∙◌, ◌<◌, ◌≤◌, ◌+◌, ◌*◌, ◌/◌, ◌%◌, ◌==◌, ℕ, List, [], ◌∷◌, zero, suc, cond, ap, ap₂, arith, get_or, length, refl, subst, sym}
-use Rattle.std.specs.Prelude.{Some, IsSome, slice_set}
+use Rattle.std.proofs.Common.{true≢false, true, false, ◌≡◌, ◌∙◌, ◌<◌, ◌≤◌, ◌+◌, ◌*◌, ◌/◌, ◌%◌, ◌==◌, ℕ, List, zero, suc, cond, ap, ap₂, arith, get_or, length, refl, subst, sym}
+use Rattle.std.specs.Prelude.{IsSome, slice_set}
 use Rattle.std.specs.Vec.{with_item}
 use Rattle.std.specs.Int.{bit_at}
 use Rattle.schema_contexts.specs.RowViews.{rows_of}
