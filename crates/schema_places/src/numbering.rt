@@ -98,6 +98,8 @@ fn push_items<'i>(items: &'i Vec<Value>, laying: &mut Laying<'i>) -> Result<(), 
     ensures names { OnOk result (map numbered laying.new.names.items ≡ map numbered laying.old.names.items) }
     ensures ascend { OnOk result (NamesAscendInItems (items_view items.now.items)) }
 {
+    laying.table.reserve(items.len())?;
+    laying.numbers.reserve(items.len())?;
     for item in items {
         let number = laying.table.len();
         laying.numbers.push(number)?;
@@ -119,6 +121,8 @@ fn push_members<'i>(
         ≡ map numbered laying.old.names.items ++ member_numbers (length laying.old.table) (members_view members.now.entries)) }
     ensures ascend { OnOk result (NamesAscendInMembers (members_view members.now.entries)) }
 {
+    laying.table.reserve(members.len().saturating_mul(2))?;
+    laying.names.reserve(members.len())?;
     for (name, member) in members.iter() {
         let number = laying.table.len();
         laying.table.push_row()?;

@@ -183,6 +183,14 @@ impl<'i> Table<'i> {
         }
     }
 
+    /// Makes room for so many rows more.
+    pub(crate) fn reserve(&mut self, rows: usize) -> Result<(), OutOfMemory>
+        ensures same { self.new ≡ self.old }
+    {
+        self.rows.reserve(rows)?;
+        Ok(())
+    }
+
     /// Adds the row of a place with nothing below it.
     pub(crate) fn push_row(&mut self) -> Result<(), OutOfMemory>
         ensures pushed { OnOk result (self.new ≡ self.old ++ laid (length self.old) nothing ∷ []) }
