@@ -211,8 +211,11 @@ impl<'i> Table<'i> {
         let from = self.numbers.len();
         self.numbers.extend_from_slice(numbers)?;
         let below = Below::Items(from, self.numbers.len());
-        let last = self.rows.len() - 1;
-        self.rows[place] = Row { last, below };
+        let last_item = self.rows.len() - 1;
+        self.rows[place] = Row {
+            last: last_item,
+            below,
+        };
         Ok(())
     }
 

@@ -12,7 +12,7 @@ invariant_of-self-2 c =
     let size = ap length grown ∙ length-append t.numbers.items c.args.numbers.now in
     let from : c.len-from.result ≡ length t.numbers.items = omega (arith, c.len-from.ensures, t.numbers.ok.0) in
     let to : c.len.result ≡ length t.numbers.items + length c.args.numbers.now = omega (arith, c.len.ensures, c.extend_from_slice.new.self.ok.0, size) in
-    items_within t.numbers.items c.args.numbers.now all t.names.items t.rows.items c.args.place (c.len-last.result - 1) c.len-from.result c.len.result c.self.invariant grown from to
+    items_within t.numbers.items c.args.numbers.now all t.names.items t.rows.items c.args.place (c.len-last_item.result - 1) c.len-from.result c.len.result c.self.invariant grown from to
 
 pub returns : goal.returns
 returns c =
@@ -24,8 +24,8 @@ returns c =
     let to : c.len.result ≡ length t.numbers.items + length c.args.numbers.now = omega (arith, c.len.ensures, c.extend_from_slice.new.self.ok.0, size) in
     let many = rows_length t.numbers.items t.names.items t.rows.items in
     let seen = ap (λ (xs : List Laid). length xs) c.self.view_is in
-    let last : c.len-last.result - 1 ≡ length c.args.self.now - 1 = omega (arith, c.len-last.ensures, t.rows.ok.0, many, seen) in
+    let last : c.len-last_item.result - 1 ≡ length c.args.self.now - 1 = omega (arith, c.len-last_item.ensures, t.rows.ok.0, many, seen) in
     record {
-      put = items_put t.numbers.items c.args.numbers.now all t.names.items t.rows.items c.args.place (c.len-last.result - 1) c.len-from.result c.len.result c.self.invariant grown from to
+      put = items_put t.numbers.items c.args.numbers.now all t.names.items t.rows.items c.args.place (c.len-last_item.result - 1) c.len-from.result c.len.result c.self.invariant grown from to
           ∙ ap₂ (λ (n : ℕ) (xs : List Laid). slice_set xs c.args.place (laid n (items c.args.numbers.now))) last c.self.view_is;
     }
