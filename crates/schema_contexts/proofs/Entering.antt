@@ -1,7 +1,6 @@
 -- What the fields of a run say as pairs, when one is entered and when one is left.
-use Rattle.std.proofs.Common.{◌≡◌, ℕ, zero, suc, ◌+◌, ◌-◌, ◌*◌, ◌/◌, ◌<◌, ◌≤◌, ◌==◌, Bool, true, false, cond, List, [], ◌∷◌, ◌++◌, length, get_or, map, refl, sym, ◌∙◌, ap, arith, ⊎_elim, Vec, Global}
+use Rattle.std.proofs.Common.{◌≡◌, ℕ, zero, suc, ◌+◌, ◌-◌, ◌*◌, ◌/◌, ◌<◌, ◌≤◌, ◌==◌, Bool, true, false, cond, List, [], ◌∷◌, ◌++◌, length, get_or, map, refl, sym, ◌∙◌, ap, arith, ⊎_elim}
 use Rattle.std.specs.Prelude.{Option, Some, None, ◌||◌, slice_set}
-use Rattle.std.specs.HashMap.{HashMap, keys}
 use Rattle.std.specs.Option.{option_to_list}
 use Rattle.std.proofs.lemmas.Bool.{eqb-false, eqb-true}
 use Rattle.std.proofs.lemmas.Grind.{get_or-set_at}
@@ -10,11 +9,11 @@ use Rattle.schema_definitions.specs.Instance.{Place}
 use Rattle.schema_places.specs.Numbers.{place_at}
 use Rattle.schema_contexts.specs.ProgressViews.{Guards, pair_of}
 use Rattle.schema_contexts.specs.Progress.{Pairs, busy_at, has_number, row_words}
-use Rattle.schema_contexts.specs.Rows.{AreWide, MakesRow, PutsBit, has_bit, row_in}
+use Rattle.schema_contexts.specs.Rows.{AreWide, MakesRow, PutsBit, has_bit, has_words, row_in}
 use Rattle.schema_contexts.specs.declared.validation.InProgress.{InProgress}
 use Rattle.schema_contexts.proofs.Guarding.{has_row}
 use Rattle.schema_contexts.proofs.Pairs.{among, busy-pushed, eqb-self, nil_snoc, snoc_first}
-use Rattle.schema_contexts.proofs.RowsChanged.{or_true}
+use Rattle.schema_contexts.proofs.RowsChanged.{number_if}
 
 -- a place's word is within a row
 pub in_row : (w k n : ℕ) → w ≡ row_words n → k < n → k / 64 < w
@@ -67,31 +66,34 @@ at_its_own_less false k j x y f e h = refl
 pub last_busy : (ps : List Place) (es rest : Pairs) (n k : ℕ) → es ≡ rest ++ (n, place_at ps k) ∷ [] → busy_at (place_at ps k) es ≡ n ∷ busy_at (place_at ps k) rest
 last_busy ps es rest n k e = ap (busy_at (place_at ps k)) e ∙ busy-pushed (place_at ps k) n rest
 
-module _ {S : Type 0} where
-  -- a pair that is the last has its bit and its count
-  pub last_bit : (ps : List Place) (es rest : Pairs) (counts : List ℕ) (guard : HashMap ℕ (Vec ℕ Global) S) (n k : ℕ) → Guards ps es counts guard → k < length ps → es ≡ rest ++ (n, place_at ps k) ∷ []
-      → has_bit (row_in guard n) k ≡ true
-  last_bit ps es rest counts guard n k g l e = g.bits n k l ∙ ap (among n) (last_busy ps es rest n k e) ∙ ap (λ b. b || among n (busy_at (place_at ps k) rest)) (eqb-self n)
+-- a pair that is the last has its bit and its count
+pub last_bit : (ps : List Place) (es rest : Pairs) (counts : List ℕ) (guard : List (List ℕ)) (n k : ℕ) → Guards ps es counts guard → k < length ps → es ≡ rest ++ (n, place_at ps k) ∷ []
+    → has_bit (row_in guard n) k ≡ true
+last_bit ps es rest counts guard n k g l e = g.bits n k l ∙ ap (among n) (last_busy ps es rest n k e) ∙ ap (λ b. b || among n (busy_at (place_at ps k) rest)) (eqb-self n)
 
-  pub last_row : (ps : List Place) (w : ℕ) (es rest : Pairs) (counts : List ℕ) (guard : HashMap ℕ (Vec ℕ Global) S) (n k : ℕ) → Guards ps es counts guard → w ≡ row_words (length ps) → AreWide w guard → k < length ps
-      → es ≡ rest ++ (n, place_at ps k) ∷ [] → 0 + k / 64 < length (row_in guard n)
-  last_row ps w es rest counts guard n k g is wide l e =
-      let size = wide n (has_row guard n k (last_bit ps es rest counts guard n k g l e)) in
-      let within = in_row w k (length ps) is l in
-      omega (arith, size, within)
+pub last_row : (ps : List Place) (w : ℕ) (es rest : Pairs) (counts : List ℕ) (guard : List (List ℕ)) (n k : ℕ) → Guards ps es counts guard → w ≡ row_words (length ps) → AreWide w guard → k < length ps
+    → es ≡ rest ++ (n, place_at ps k) ∷ [] → 0 + k / 64 < length (row_in guard n)
+last_row ps w es rest counts guard n k g is wide l e =
+    let size = wide n (has_row guard n k (last_bit ps es rest counts guard n k g l e)) in
+    let within = in_row w k (length ps) is l in
+    omega (arith, size, within)
 
-  pub last_count : (ps : List Place) (es rest : Pairs) (counts : List ℕ) (guard : HashMap ℕ (Vec ℕ Global) S) (n k : ℕ) → Guards ps es counts guard → k < length ps → es ≡ rest ++ (n, place_at ps k) ∷ []
-      → (1 ≤ get_or counts k 0) × (k < length counts)
-  last_count ps es rest counts guard n k g l e =
-      let count : get_or counts k 0 ≡ suc (length (busy_at (place_at ps k) rest)) = g.counted k l ∙ ap length (last_busy ps es rest n k e) in
-      (omega arith, ⊎_elim (λ (z : length counts ≡ 0). none counts z count) (λ (z : length counts ≡ length ps). omega arith) g.sized)
-    where
-      none : (xs : List ℕ) → length xs ≡ 0 → get_or xs k 0 ≡ suc (length (busy_at (place_at ps k) rest)) → k < length xs
-      none [] z c = absurd (omega arith)
-      none (x ∷ xs) z c = absurd (omega arith)
+pub last_count : (ps : List Place) (es rest : Pairs) (counts : List ℕ) (guard : List (List ℕ)) (n k : ℕ) → Guards ps es counts guard → k < length ps → es ≡ rest ++ (n, place_at ps k) ∷ []
+    → (1 ≤ get_or counts k 0) × (k < length counts)
+last_count ps es rest counts guard n k g l e =
+    let count : get_or counts k 0 ≡ suc (length (busy_at (place_at ps k) rest)) = g.counted k l ∙ ap length (last_busy ps es rest n k e) in
+    (omega arith, ⊎_elim (λ (z : length counts ≡ 0). none counts z count) (λ (z : length counts ≡ length ps). omega arith) g.sized)
+  where
+    none : (xs : List ℕ) → length xs ≡ 0 → get_or xs k 0 ≡ suc (length (busy_at (place_at ps k) rest)) → k < length xs
+    none [] z c = absurd (omega arith)
+    none (x ∷ xs) z c = absurd (omega arith)
 
-  -- a row that was made stays as long, whatever bit of it is put
-  pub row_kept : (n w b : ℕ) (on : Bool) (old mid two : HashMap ℕ (Vec ℕ Global) S) → MakesRow n w old mid → PutsBit n b on mid two → AreWide w old → length (row_in two n) ≡ w
-  row_kept n w b on old mid two made put wide =
-      let there : has_number n (keys mid) ≡ true = made.numbers n ∙ ap (λ x. has_number n (keys old) || x) (eqb-self n) ∙ sym (or_true (has_number n (keys old))) in
-      put.wide w (made.wide wide) n (ap (has_number n) put.numbers ∙ there)
+-- a row that was made stays as long, whatever bit of it is put
+pub row_kept : (n w b : ℕ) (on : Bool) (old mid two : List (List ℕ)) → MakesRow n w old mid → PutsBit n b on mid two → AreWide w old → length (row_in two n) ≡ w
+row_kept n w b on old mid two made put wide =
+    let still : has_words (row_in two n) ≡ true = sym (number_if two n) ∙ ap (has_number n) put.numbers ∙ number_if mid n ∙ made.there in
+    put.wide w (made.wide wide) n still
+
+-- a row for some place has words
+pub some_place : (w k n : ℕ) → w ≡ row_words n → k < n → 0 < w
+some_place w k n e l = omega arith

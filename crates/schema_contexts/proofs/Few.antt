@@ -5,7 +5,7 @@ use Rattle.std.specs.Cmp.{nat_eq_equiv}
 use Rattle.std.specs.List.{IsDistinct, filter}
 use Rattle.std.proofs.lemmas.Bool.{eqb-true}
 use Rattle.std.proofs.lemmas.Map.Made.{length-le_from_is_member}
-use Rattle.schema_contexts.specs.Progress.{Context, FewRows, has_number}
+use Rattle.schema_contexts.specs.Progress.{has_number}
 
 number_append : (n : ℕ) (xs ys : List ℕ) → has_number n (xs ++ ys) ≡ (has_number n xs || has_number n ys)
 number_append n [] ys = refl
@@ -46,6 +46,3 @@ few_lists xs ys d =
     let kept = length-le_from_is_member nat_eq_equiv ys (xs ++ filter (λ n. not (has_number n xs)) ys) d (λ q h. number_append q xs (filter (λ n. not (has_number n xs)) ys) ∙ in_either xs q ys h) in
     let all = length-append xs (filter (λ n. not (has_number n xs)) ys) in
     omega (arith, kept, all)
-
-pub few_rows : (c : Context) → IsDistinct nat_eq c.kept → FewRows c
-few_rows c d = few_lists c.entered c.kept d

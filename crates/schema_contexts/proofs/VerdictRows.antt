@@ -1,17 +1,14 @@
 -- Verdicts in rows of bits, as the list of all of them has them.
-use Rattle.std.proofs.Common.{◌≡◌, ℕ, suc, ◌+◌, ◌*◌, ◌/◌, ◌<◌, ◌≤◌, ◌==◌, ◌&&◌, Bool, true, false, cond, List, [], ◌∷◌, ◌++◌, length, refl, sym, ◌∙◌, ap, ap₂, subst, arith, rules, ⊎_elim, Vec, Global}
-use Rattle.std.specs.Prelude.{Option, Some, None, ◌⊎◌, option_map, nat_eq}
+use Rattle.std.proofs.Common.{◌≡◌, ℕ, zero, suc, ◌+◌, ◌*◌, ◌/◌, ◌<◌, ◌≤◌, ◌==◌, ◌&&◌, Bool, true, false, cond, List, [], ◌∷◌, ◌++◌, length, refl, sym, ◌∙◌, ap, ap₂, subst, arith, rules, ⊎_elim}
+use Rattle.std.specs.Prelude.{Option, Some, None, ◌⊎◌, option_map}
 use Rattle.std.specs.Cmp.{nat_eq_equiv}
-use Rattle.std.specs.HashMap.{HashMap, IsUnique}
-use Rattle.std.specs.List.{AllByRecursion, IsDistinct}
-use Rattle.std.specs.Map.{keys_of, lookup}
 use Rattle.std.proofs.lemmas.Bool.{eqb-true}
 use Rattle.schema_definitions.specs.Instance.{Place, same_place}
 use Rattle.schema_places.specs.Numbers.{OwnNumbers, number_of, place_at}
 use Rattle.schema_places.proofs.Closing.{stands}
-use Rattle.schema_contexts.specs.ProgressViews.{all_verdicts, node_verdicts}
+use Rattle.schema_contexts.specs.ProgressViews.{all_verdicts, node_verdicts, verdicts_from}
 use Rattle.schema_contexts.specs.Progress.{Pairs, Verdicts, row_words}
-use Rattle.schema_contexts.specs.Rows.{AreWide, PutsBit, has_bit, row_in, verdict_in, words_of}
+use Rattle.schema_contexts.specs.Rows.{AreWide, PutsBit, has_bit, row_in, verdict_in}
 use Rattle.schema_contexts.specs.Verdicts.{Remembers, is_pair, verdict_of}
 use Rattle.schema_contexts.proofs.Entering.{few_places}
 use Rattle.schema_contexts.proofs.Guarding.{has_row, one_number}
@@ -134,97 +131,100 @@ read_nothing : (w : ℕ) (o : Option ℕ) → read w [] o ≡ None
 read_nothing w None = refl
 read_nothing w (Some k) = ap (λ (b : Bool). cond b (Some (has_bit [] (64 * w + k))) None) (no_bit k)
 
-other_keys : (i : ℕ) (es : List (ℕ × Vec ℕ Global)) → AllByRecursion (λ j. nat_eq i j ≡ false) (keys_of es) → lookup (nat_eq i) es ≡ None
-other_keys i [] h = refl
-other_keys i (e ∷ es) h = ap (λ (b : Bool). cond b (Some e.1) (lookup (nat_eq i) es)) h.0 ∙ other_keys i es h.1
+-- none is of a number before the first
+none_of_before : (i k : ℕ) (ps : List Place) (q : Place) (rs : List (List ℕ)) → i < k → verdict_of i q (verdicts_from k ps rs) ≡ None
+none_of_before i k ps q [] l = refl
+none_of_before i k ps q (r ∷ rs) l =
+    verdict_of-append i q (node_verdicts k (row_words (length ps)) r 0 ps) (verdicts_from (k + 1) ps rs)
+    ∙ ap₂ or_else (another i k (row_words (length ps)) r 0 ps q (other_test k i (λ e. omega arith))) (none_of_before i (k + 1) ps q rs (omega arith))
 
-found_in_rows : (i : ℕ) (ps : List Place) (q : Place) (es : List (ℕ × Vec ℕ Global)) → NoTwice ps → IsDistinct nat_eq (keys_of es)
-    → verdict_of i q (all_verdicts ps es) ≡ read (row_words (length ps)) (words_of (lookup (nat_eq i) es)) (number_of q ps)
-unfolding IsDistinct
-found_in_rows i ps q [] a u = sym (read_nothing (row_words (length ps)) (number_of q ps))
-found_in_rows i ps q (e ∷ es) a u =
-    verdict_of-append i q (node_verdicts e.0 (row_words (length ps)) e.1.items 0 ps) (all_verdicts ps es) ∙ go (found_in_rows i ps q es a u.1) (nat_eq i e.0) refl
+found_from : (i k n : ℕ) (ps : List Place) (q : Place) (rs : List (List ℕ)) → i ≡ k + n → NoTwice ps
+    → verdict_of i q (verdicts_from k ps rs) ≡ read (row_words (length ps)) (row_in rs n) (number_of q ps)
+found_from i k n ps q [] e a = sym (read_nothing (row_words (length ps)) (number_of q ps))
+found_from i k zero ps q (r ∷ rs) e a =
+    let same : i ≡ k = omega arith in
+    let own : verdict_of i q (node_verdicts k (row_words (length ps)) r 0 ps) ≡ read (row_words (length ps)) r (number_of q ps)
+    = subst (λ (j : ℕ). verdict_of i q (node_verdicts j (row_words (length ps)) r 0 ps) ≡ read (row_words (length ps)) r (number_of q ps)) same
+    (its_own i (row_words (length ps)) r 0 ps q a ∙ ap (read (row_words (length ps)) r) (from_start (number_of q ps))) in
+    verdict_of-append i q (node_verdicts k (row_words (length ps)) r 0 ps) (verdicts_from (k + 1) ps rs)
+    ∙ ap₂ or_else own (none_of_before i (k + 1) ps q rs (omega arith)) ∙ nothing_more (read (row_words (length ps)) r (number_of q ps))
+found_from i k (suc n) ps q (r ∷ rs) e a =
+    verdict_of-append i q (node_verdicts k (row_words (length ps)) r 0 ps) (verdicts_from (k + 1) ps rs)
+    ∙ ap₂ or_else (another i k (row_words (length ps)) r 0 ps q (other_test k i (λ f. omega arith))) (found_from i (k + 1) n ps q rs (omega arith) a)
+
+found_in_rows : (i : ℕ) (ps : List Place) (q : Place) (rs : List (List ℕ)) → NoTwice ps
+    → verdict_of i q (all_verdicts ps rs) ≡ read (row_words (length ps)) (row_in rs i) (number_of q ps)
+found_in_rows i ps q rs a = found_from i 0 i ps q rs (omega arith) a
+
+-- the verdict that is remembered of a place
+pub verdict_at : (i k : ℕ) (ps : List Place) (known : List (List ℕ)) → OwnNumbers ps → k < length ps
+    → verdict_of i (place_at ps k) (all_verdicts ps known) ≡ cond (has_bit (row_in known i) k) (Some (has_bit (row_in known i) (64 * row_words (length ps) + k))) None
+verdict_at i k ps known a l = found_in_rows i ps (place_at ps k) known (own_once ps a) ∙ ap (read (row_words (length ps)) (row_in known i)) (a k l)
+
+-- it is what its node's row says
+pub read_at : (i k : ℕ) (ps : List Place) (es : Pairs) (known : List (List ℕ)) → OwnNumbers ps ⊎ ((es ≡ []) × (known ≡ []))
+    → AreWide (2 * row_words (length ps)) known → k < length ps → verdict_in (row_in known i) k ≡ verdict_of i (place_at ps k) (all_verdicts ps known)
+read_at i k ps es known n wide l =
+    ⊎_elim (λ (a : OwnNumbers ps). by (has_bit (row_in known i) k) refl ∙ sym (verdict_at i k ps known a l)) (λ (r : (es ≡ []) × (known ≡ [])). nothing r.1) n
   where
-    go : verdict_of i q (all_verdicts ps es) ≡ read (row_words (length ps)) (words_of (lookup (nat_eq i) es)) (number_of q ps) → (b : Bool) → nat_eq i e.0 ≡ b
-        → or_else (verdict_of i q (node_verdicts e.0 (row_words (length ps)) e.1.items 0 ps)) (verdict_of i q (all_verdicts ps es)) ≡ read (row_words (length ps)) (words_of (cond b (Some e.1) (lookup (nat_eq i) es))) (number_of q ps)
-    go rest true is =
-        let same : i ≡ e.0 = eqb-true i e.0 is in
-        let own : verdict_of i q (node_verdicts e.0 (row_words (length ps)) e.1.items 0 ps) ≡ read (row_words (length ps)) e.1.items (number_of q ps)
-        = subst (λ (j : ℕ). verdict_of i q (node_verdicts j (row_words (length ps)) e.1.items 0 ps) ≡ read (row_words (length ps)) e.1.items (number_of q ps)) same (its_own i (row_words (length ps)) e.1.items 0 ps q a ∙ ap (read (row_words (length ps)) e.1.items) (from_start (number_of q ps))) in
-        let none : lookup (nat_eq i) es ≡ None = other_keys i es (subst (λ (j : ℕ). AllByRecursion (λ k. nat_eq j k ≡ false) (keys_of es)) (sym same) u.0) in
-        ap₂ or_else own (rest ∙ ap (λ (o : Option (Vec ℕ Global)). read (row_words (length ps)) (words_of o) (number_of q ps)) none ∙ read_nothing (row_words (length ps)) (number_of q ps)) ∙ nothing_more (read (row_words (length ps)) e.1.items (number_of q ps))
-    go rest false is = ap₂ or_else (another i e.0 (row_words (length ps)) e.1.items 0 ps q (nat_eq_equiv.symm e.0 i ∙ is)) rest
+    by : (b : Bool) → has_bit (row_in known i) k ≡ b
+        → cond b (Some (has_bit (row_in known i) (64 * (length (row_in known i) / 2) + k))) None ≡ cond b (Some (has_bit (row_in known i) (64 * row_words (length ps) + k))) None
+    by false e = refl
+    by true e =
+        let size = wide i (has_row known i k e) in
+        let half : 64 * (length (row_in known i) / 2) + k ≡ 64 * row_words (length ps) + k = omega (arith, size) in
+        ap (λ (j : ℕ). Some (has_bit (row_in known i) j)) half
 
-module _ {S : Type 0} where
-  -- the verdict that is remembered of a place
-  pub verdict_at : (i k : ℕ) (ps : List Place) (known : HashMap ℕ (Vec ℕ Global) S) → OwnNumbers ps → IsUnique nat_eq known → k < length ps
-      → verdict_of i (place_at ps k) (all_verdicts ps known.entries) ≡ cond (has_bit (row_in known i) k) (Some (has_bit (row_in known i) (64 * row_words (length ps) + k))) None
-  verdict_at i k ps known a u l = found_in_rows i ps (place_at ps k) known.entries (own_once ps a) u ∙ ap (read (row_words (length ps)) (row_in known i)) (a k l)
+    nothing : known ≡ [] → verdict_in (row_in known i) k ≡ verdict_of i (place_at ps k) (all_verdicts ps known)
+    nothing e =
+        ap (λ (xs : List (List ℕ)). verdict_in (row_in xs i) k) e
+        ∙ ap (λ (b : Bool). cond b (Some (has_bit [] (64 * (length {A = ℕ} [] / 2) + k))) None) (no_bit k)
+        ∙ sym (ap (λ (xs : List (List ℕ)). verdict_of i (place_at ps k) (all_verdicts ps xs)) e)
 
-  -- it is what its node's row says
-  pub read_at : (i k : ℕ) (ps : List Place) (es : Pairs) (known : HashMap ℕ (Vec ℕ Global) S) → OwnNumbers ps ⊎ ((es ≡ []) × (known.entries ≡ [])) → IsUnique nat_eq known
-      → AreWide (2 * row_words (length ps)) known → k < length ps → verdict_in (row_in known i) k ≡ verdict_of i (place_at ps k) (all_verdicts ps known.entries)
-  read_at i k ps es known n u wide l =
-      ⊎_elim (λ (a : OwnNumbers ps). by (has_bit (row_in known i) k) refl ∙ sym (verdict_at i k ps known a u l)) (λ (r : (es ≡ []) × (known.entries ≡ [])). nothing r.1) n
-    where
-      by : (b : Bool) → has_bit (row_in known i) k ≡ b
-          → cond b (Some (has_bit (row_in known i) (64 * (length (row_in known i) / 2) + k))) None ≡ cond b (Some (has_bit (row_in known i) (64 * row_words (length ps) + k))) None
-      by false e = refl
-      by true e =
-          let size = wide i (has_row known i k e) in
-          let half : 64 * (length (row_in known i) / 2) + k ≡ 64 * row_words (length ps) + k = omega (arith, size) in
-          ap (λ (j : ℕ). Some (has_bit (row_in known i) j)) half
+-- one is remembered
+pub remembered : (n k : ℕ) (v : Bool) (ps : List Place) (old mid two new : List (List ℕ)) → OwnNumbers ps → k < length ps
+    → ((q b : ℕ) → has_bit (row_in mid q) b ≡ has_bit (row_in old q) b) → PutsBit n k true mid two → PutsBit n (64 * row_words (length ps) + k) v two new
+    → Remembers n (place_at ps k) v (all_verdicts ps old) (all_verdicts ps new)
+remembered n k v ps old mid two new a l same first second = record {
+  its = verdict_at n k ps new a l ∙ ap₂ (λ (x y : Bool). cond x (Some y) None) known its;
+  others = λ j q apart. found_in_rows j ps q new (own_once ps a) ∙ go j q apart (number_of q ps) refl ∙ sym (found_in_rows j ps q old (own_once ps a));
+}
+  where
+    far : length ps ≤ 64 * row_words (length ps)
+    far = few_places (row_words (length ps)) (length ps) refl
 
-      nothing : known.entries ≡ [] → verdict_in (row_in known i) k ≡ verdict_of i (place_at ps k) (all_verdicts ps known.entries)
-      nothing e =
-          ap (λ (xs : List (ℕ × Vec ℕ Global)). verdict_in (words_of (lookup (nat_eq i) xs)) k) e
-          ∙ ap (λ (b : Bool). cond b (Some (has_bit [] (64 * (length {A = ℕ} [] / 2) + k))) None) (no_bit k)
-          ∙ sym (ap (λ (xs : List (ℕ × Vec ℕ Global)). verdict_of i (place_at ps k) (all_verdicts ps xs)) e)
+    bit : (q c : ℕ) → has_bit (row_in new q) c ≡ cond ((n == q) && (64 * row_words (length ps) + k == c)) v (cond ((n == q) && (k == c)) true (has_bit (row_in old q) c))
+    bit q c = second.bits q c ∙ ap (cond ((n == q) && (64 * row_words (length ps) + k == c)) v) (first.bits q c ∙ ap (cond ((n == q) && (k == c)) true) (same q c))
 
-  -- one is remembered
-  pub remembered : (n k : ℕ) (v : Bool) (ps : List Place) (old mid two new : HashMap ℕ (Vec ℕ Global) S) → OwnNumbers ps → k < length ps → IsUnique nat_eq old → IsUnique nat_eq new
-      → ((q b : ℕ) → has_bit (row_in mid q) b ≡ has_bit (row_in old q) b) → PutsBit n k true mid two → PutsBit n (64 * row_words (length ps) + k) v two new
-      → Remembers n (place_at ps k) v (all_verdicts ps old.entries) (all_verdicts ps new.entries)
-  remembered n k v ps old mid two new a l u u' same first second = record {
-    its = verdict_at n k ps new a u' l ∙ ap₂ (λ (x y : Bool). cond x (Some y) None) known its;
-    others = λ j q apart. found_in_rows j ps q new.entries (own_once ps a) u' ∙ go j q apart (number_of q ps) refl ∙ sym (found_in_rows j ps q old.entries (own_once ps a) u);
-  }
-    where
-      far : length ps ≤ 64 * row_words (length ps)
-      far = few_places (row_words (length ps)) (length ps) refl
+    drop : (x y : Bool) → y ≡ false → (x && y) ≡ false
+    drop true y e = e
+    drop false y e = refl
 
-      bit : (q c : ℕ) → has_bit (row_in new q) c ≡ cond ((n == q) && (64 * row_words (length ps) + k == c)) v (cond ((n == q) && (k == c)) true (has_bit (row_in old q) c))
-      bit q c = second.bits q c ∙ ap (cond ((n == q) && (64 * row_words (length ps) + k == c)) v) (first.bits q c ∙ ap (cond ((n == q) && (k == c)) true) (same q c))
+    known : has_bit (row_in new n) k ≡ true
+    known =
+        bit n k ∙ ap₂ (λ (x y : Bool). cond x v (cond y true (has_bit (row_in old n) k))) (drop (n == n) (64 * row_words (length ps) + k == k) (other_test (64 * row_words (length ps) + k) k (λ e. omega arith)))
+        (ap₂ (λ (x y : Bool). x && y) (same_number n) (same_number k))
 
-      drop : (x y : Bool) → y ≡ false → (x && y) ≡ false
-      drop true y e = e
-      drop false y e = refl
+    its : has_bit (row_in new n) (64 * row_words (length ps) + k) ≡ v
+    its = bit n (64 * row_words (length ps) + k) ∙ ap (λ (x : Bool). cond x v (cond ((n == n) && (k == 64 * row_words (length ps) + k)) true (has_bit (row_in old n) (64 * row_words (length ps) + k)))) (ap₂ (λ (x y : Bool). x && y) (same_number n) (same_number (64 * row_words (length ps) + k)))
 
-      known : has_bit (row_in new n) k ≡ true
-      known =
-          bit n k ∙ ap₂ (λ (x y : Bool). cond x v (cond y true (has_bit (row_in old n) k))) (drop (n == n) (64 * row_words (length ps) + k == k) (other_test (64 * row_words (length ps) + k) k (λ e. omega arith)))
-          (ap₂ (λ (x y : Bool). x && y) (same_number n) (same_number k))
+    kept : (j c : ℕ) → ((n == j) && (64 * row_words (length ps) + k == c)) ≡ false → ((n == j) && (k == c)) ≡ false → has_bit (row_in new j) c ≡ has_bit (row_in old j) c
+    kept j c e f = bit j c ∙ ap₂ (λ (x y : Bool). cond x v (cond y true (has_bit (row_in old j) c))) e f
 
-      its : has_bit (row_in new n) (64 * row_words (length ps) + k) ≡ v
-      its = bit n (64 * row_words (length ps) + k) ∙ ap (λ (x : Bool). cond x v (cond ((n == n) && (k == 64 * row_words (length ps) + k)) true (has_bit (row_in old n) (64 * row_words (length ps) + k)))) (ap₂ (λ (x y : Bool). x && y) (same_number n) (same_number (64 * row_words (length ps) + k)))
+    elsewhere : (j m : ℕ) (q : Place) → is_pair n (place_at ps k) (j, q) ≡ false → place_at ps m ≡ q → (x : Bool) → (n == j) ≡ x → (y : Bool) → (k == m) ≡ y → (x && y) ≡ false
+    elsewhere j m q apart at true e true f =
+        let one : (j == n) ≡ true = nat_eq_equiv.symm j n ∙ e in
+        let two : same_place q (place_at ps k) ≡ true = ap₂ same_place (sym at) (ap (place_at ps) (eqb-true k m f)) ∙ same_place-self (place_at ps m) in
+        sym (ap₂ (λ (a b : Bool). a && b) one two) ∙ apart
+    elsewhere j m q apart at true e false f = refl
+    elsewhere j m q apart at false e y f = refl
 
-      kept : (j c : ℕ) → ((n == j) && (64 * row_words (length ps) + k == c)) ≡ false → ((n == j) && (k == c)) ≡ false → has_bit (row_in new j) c ≡ has_bit (row_in old j) c
-      kept j c e f = bit j c ∙ ap₂ (λ (x y : Bool). cond x v (cond y true (has_bit (row_in old j) c))) e f
-
-      elsewhere : (j m : ℕ) (q : Place) → is_pair n (place_at ps k) (j, q) ≡ false → place_at ps m ≡ q → (x : Bool) → (n == j) ≡ x → (y : Bool) → (k == m) ≡ y → (x && y) ≡ false
-      elsewhere j m q apart at true e true f =
-          let one : (j == n) ≡ true = nat_eq_equiv.symm j n ∙ e in
-          let two : same_place q (place_at ps k) ≡ true = ap₂ same_place (sym at) (ap (place_at ps) (eqb-true k m f)) ∙ same_place-self (place_at ps m) in
-          sym (ap₂ (λ (a b : Bool). a && b) one two) ∙ apart
-      elsewhere j m q apart at true e false f = refl
-      elsewhere j m q apart at false e y f = refl
-
-      go : (j : ℕ) (q : Place) → is_pair n (place_at ps k) (j, q) ≡ false → (o : Option ℕ) → number_of q ps ≡ o → read (row_words (length ps)) (row_in new j) o ≡ read (row_words (length ps)) (row_in old j) o
-      go j q apart None e = refl
-      go j q apart (Some m) e =
-          let r = stands q ps m e in
-          let away = elsewhere j m q apart r.1 (n == j) refl (k == m) refl in
-          let high : ((n == j) && (64 * row_words (length ps) + k == 64 * row_words (length ps) + m)) ≡ false = ap (λ (x : Bool). (n == j) && x) (same_tests (64 * row_words (length ps) + k) (64 * row_words (length ps) + m) k m (λ h. omega arith) (λ h. omega arith)) ∙ away in
-          ap₂ (λ (x y : Bool). cond x (Some y) None)
-          (kept j m (drop (n == j) (64 * row_words (length ps) + k == m) (other_test (64 * row_words (length ps) + k) m (λ h. omega (arith, r.0)))) away)
-          (kept j (64 * row_words (length ps) + m) high (drop (n == j) (k == 64 * row_words (length ps) + m) (other_test k (64 * row_words (length ps) + m) (λ h. omega (arith, l, far)))))
+    go : (j : ℕ) (q : Place) → is_pair n (place_at ps k) (j, q) ≡ false → (o : Option ℕ) → number_of q ps ≡ o → read (row_words (length ps)) (row_in new j) o ≡ read (row_words (length ps)) (row_in old j) o
+    go j q apart None e = refl
+    go j q apart (Some m) e =
+        let r = stands q ps m e in
+        let away = elsewhere j m q apart r.1 (n == j) refl (k == m) refl in
+        let high : ((n == j) && (64 * row_words (length ps) + k == 64 * row_words (length ps) + m)) ≡ false = ap (λ (x : Bool). (n == j) && x) (same_tests (64 * row_words (length ps) + k) (64 * row_words (length ps) + m) k m (λ h. omega arith) (λ h. omega arith)) ∙ away in
+        ap₂ (λ (x y : Bool). cond x (Some y) None)
+        (kept j m (drop (n == j) (64 * row_words (length ps) + k == m) (other_test (64 * row_words (length ps) + k) m (λ h. omega (arith, r.0)))) away)
+        (kept j (64 * row_words (length ps) + m) high (drop (n == j) (k == 64 * row_words (length ps) + m) (other_test k (64 * row_words (length ps) + m) (λ h. omega (arith, l, far)))))

@@ -8,6 +8,7 @@ pub use Rattle.schema_parts.specs.EdgeViews
 pub mod Progress
 pub mod Verdicts
 pub mod Rows
+pub mod RowViews
 pub mod Matches
 pub mod MarkViews
 pub mod ProgressViews

@@ -1,9 +1,6 @@
 -- A run's fields as what it holds: pairs by the numbers of their places, verdicts as the bits of rows.
-use Rattle.std.specs.Prelude.{ℕ, ◌≡◌, ◌<◌, ◌+◌, ◌*◌, ◌⊎◌, ◌==◌, List, [], ◌∷◌, ◌++◌, if◌then◌else◌, length, slice_index_or, nat_eq}
+use Rattle.std.specs.Prelude.{ℕ, ◌≡◌, ◌<◌, ◌+◌, ◌*◌, ◌⊎◌, ◌==◌, List, [], ◌∷◌, ◌++◌, if◌then◌else◌, length, slice_index_or}
 use Rattle.std.specs.List.{list_any}
-use Rattle.std.specs.declared.alloc.Global.{Global}
-use Rattle.std.specs.declared.vec.Vec.{Vec}
-use Rattle.std.specs.HashMap.{HashMap, IsUnique}
 use Rattle.schema_definitions.specs.Instance.{Place}
 use Rattle.schema_places.specs.Numbers.{OwnNumbers, place_at}
 use Rattle.schema_contexts.specs.Progress.{Distinct, Pairs, Verdicts, busy_at, row_words}
@@ -19,24 +16,25 @@ abbrev pub node_verdicts : ℕ → ℕ → List ℕ → ℕ → List Place → V
 node_verdicts n w words k [] = []
 node_verdicts n w words k (p ∷ ps) = (if has_bit words k then ((n, p), has_bit words (64 * w + k)) ∷ [] else []) ++ node_verdicts n w words (k + 1) ps
 
--- the verdicts of all nodes, one node after another
-abbrev pub all_verdicts : List Place → List (ℕ × Vec ℕ Global) → Verdicts
-all_verdicts ps [] = []
-all_verdicts ps (e ∷ es) = node_verdicts e.0 (row_words (length ps)) e.1.items 0 ps ++ all_verdicts ps es
+-- the verdicts of all nodes, one node after another, where the first row is that of a number
+abbrev pub verdicts_from : ℕ → List Place → List (List ℕ) → Verdicts
+verdicts_from n ps [] = []
+verdicts_from n ps (r ∷ rs) = node_verdicts n (row_words (length ps)) r 0 ps ++ verdicts_from (n + 1) ps rs
+
+abbrev pub all_verdicts : List Place → List (List ℕ) → Verdicts
+all_verdicts ps rows = verdicts_from 0 ps rows
 
 -- the guard's rows and the counts say what is in progress
-pub record Guards {S : Type 0} (ps : List Place) (es : Pairs) (counts : List ℕ) (guard : HashMap ℕ (Vec ℕ Global) S) : Type 0 where
+pub record Guards (ps : List Place) (es : Pairs) (counts : List ℕ) (guard : List (List ℕ)) : Type 0 where
   pub bits : (n k : ℕ) → k < length ps → has_bit (row_in guard n) k ≡ list_any (λ i. i == n) (busy_at (place_at ps k) es)
   pub counted : (k : ℕ) → k < length ps → slice_index_or counts k 0 ≡ length (busy_at (place_at ps k) es)
   pub sized : (length counts ≡ 0) ⊎ (length counts ≡ length ps)
 
 -- what is true of a run's fields: each place has its own number, or nothing is in progress or remembered yet; the guard says what is
--- in progress, and no pair twice; each row is as wide as the places are many, and no number has two
-pub record Holds {S : Type 0} (ps : List Place) (es : Pairs) (counts : List ℕ) (guard known : HashMap ℕ (Vec ℕ Global) S) : Type 0 where
-  pub numbered : OwnNumbers ps ⊎ ((es ≡ []) × (known.entries ≡ []))
+-- in progress, and no pair twice; each row is as wide as the places are many
+pub record Holds (ps : List Place) (es : Pairs) (counts : List ℕ) (guard known : List (List ℕ)) : Type 0 where
+  pub numbered : OwnNumbers ps ⊎ ((es ≡ []) × (known ≡ []))
   pub distinct : Distinct es
   pub guards : Guards ps es counts guard
   pub wide_guard : AreWide (row_words (length ps)) guard
   pub wide_known : AreWide (2 * row_words (length ps)) known
-  pub unique_guard : IsUnique nat_eq guard
-  pub unique_known : IsUnique nat_eq known

@@ -1,10 +1,7 @@
--- Rows of bits, each of a node's number. A row is a list of words of 64 bits.
-use Rattle.std.specs.Prelude.{ℕ, ◌≡◌, ◌==◌, ◌+◌, ◌*◌, ◌/◌, ◌%◌, ◌&&◌, Bool, true, List, [], ◌∷◌, Option, None, Some, if◌then◌else◌, length, slice_index_or, nat_eq}
-use Rattle.std.specs.HashMap.{HashMap, IsUnique, get, keys}
+-- Rows of bits by number. A row is a list of words of 64 bits; a number has a row where it has words.
+use Rattle.std.specs.Prelude.{ℕ, ◌≡◌, ◌==◌, ◌+◌, ◌*◌, ◌/◌, ◌%◌, ◌&&◌, Bool, true, false, List, [], ◌∷◌, ◌++◌, Option, None, Some, if◌then◌else◌, length, slice_index_or}
 use Rattle.std.specs.Int.{bit_at}
-use Rattle.std.specs.declared.alloc.Global.{Global}
-use Rattle.std.specs.declared.vec.Vec.{Vec}
-use Rattle.schema_contexts.specs.Progress.{Adds, has_number}
+use Rattle.schema_contexts.specs.Progress.{Adds}
 
 -- a bit of a row
 abbrev pub has_bit : List ℕ → ℕ → Bool
@@ -14,39 +11,45 @@ has_bit words b = bit_at (slice_index_or words (b / 64) 0) (b % 64) == 1
 abbrev pub verdict_in : List ℕ → ℕ → Option Bool
 verdict_in words k = if has_bit words k then Some (has_bit words (64 * (length words / 2) + k)) else None
 
-abbrev pub words_of : Option (Vec ℕ Global) → List ℕ
-words_of None = []
-words_of (Some v) = v.items
+-- the row of a number; no words where it has none
+abbrev pub row_in : List (List ℕ) → ℕ → List ℕ
+row_in rows n = slice_index_or rows n []
 
-module _ {S : Type 0} where
-  -- the row of a number; no words where it has none
-  abbrev pub row_in : HashMap ℕ (Vec ℕ Global) S → ℕ → List ℕ
-  row_in m n = words_of (get nat_eq m n)
+abbrev pub has_words : List ℕ → Bool
+has_words [] = false
+has_words (w ∷ ws) = true
 
-  -- each row has so many words
-  abbrev pub AreWide : ℕ → HashMap ℕ (Vec ℕ Global) S → Type 0
-  AreWide w m = (n : ℕ) → has_number n (keys m) ≡ true → length (row_in m n) ≡ w
+-- the numbers that have a row, where the first row is that of a number
+abbrev pub numbers_from : ℕ → List (List ℕ) → List ℕ
+numbers_from k [] = []
+numbers_from k (r ∷ rs) = (if has_words r then k ∷ [] else []) ++ numbers_from (k + 1) rs
 
-  -- how many words the rows of some numbers take
-  abbrev pub words_at : HashMap ℕ (Vec ℕ Global) S → List ℕ → ℕ
-  words_at m [] = 0
-  words_at m (n ∷ ns) = length (row_in m n) + words_at m ns
+-- the numbers that have a row, each once
+abbrev pub row_numbers : List (List ℕ) → List ℕ
+row_numbers rows = numbers_from 0 rows
 
-  -- how many words all rows take
-  abbrev pub words_in : HashMap ℕ (Vec ℕ Global) S → ℕ
-  words_in m = words_at m (keys m)
+-- how many words all rows take
+abbrev pub words_in : List (List ℕ) → ℕ
+words_in [] = 0
+words_in (r ∷ rs) = length r + words_in rs
 
-  -- a number has a row, and no bit changes
-  pub record MakesRow (n w : ℕ) (old new : HashMap ℕ (Vec ℕ Global) S) : Type 0 where
-    pub bits : (q b : ℕ) → has_bit (row_in new q) b ≡ has_bit (row_in old q) b
-    pub numbers : Adds n (keys old) (keys new)
-    pub wide : AreWide w old → AreWide w new
-    pub its_own : AreWide w old → length (row_in new n) ≡ w
-    pub unique : IsUnique nat_eq old → IsUnique nat_eq new
+-- each row has so many words
+abbrev pub AreWide : ℕ → List (List ℕ) → Type 0
+AreWide w rows = (n : ℕ) → has_words (row_in rows n) ≡ true → length (row_in rows n) ≡ w
 
-  -- a bit of a row is set or cleared, and no other bit changes
-  pub record PutsBit (n b : ℕ) (on : Bool) (old new : HashMap ℕ (Vec ℕ Global) S) : Type 0 where
-    pub bits : (q c : ℕ) → has_bit (row_in new q) c ≡ (if (n == q) && (b == c) then on else has_bit (row_in old q) c)
-    pub numbers : keys new ≡ keys old
-    pub wide : (w : ℕ) → AreWide w old → AreWide w new
-    pub unique : IsUnique nat_eq old → IsUnique nat_eq new
+-- each number has the row that it had
+abbrev pub SameRows : List (List ℕ) → List (List ℕ) → Type 0
+SameRows old new = (n : ℕ) → row_in new n ≡ row_in old n
+
+-- a number has a row, and no bit changes
+pub record MakesRow (n w : ℕ) (old new : List (List ℕ)) : Type 0 where
+  pub bits : (q b : ℕ) → has_bit (row_in new q) b ≡ has_bit (row_in old q) b
+  pub numbers : Adds n (row_numbers old) (row_numbers new)
+  pub wide : AreWide w old → AreWide w new
+  pub there : has_words (row_in new n) ≡ true
+
+-- a bit of a row is set or cleared, and no other bit changes
+pub record PutsBit (n b : ℕ) (on : Bool) (old new : List (List ℕ)) : Type 0 where
+  pub bits : (q c : ℕ) → has_bit (row_in new q) c ≡ (if (n == q) && (b == c) then on else has_bit (row_in old q) c)
+  pub numbers : row_numbers new ≡ row_numbers old
+  pub wide : (w : ℕ) → AreWide w old → AreWide w new

@@ -24,7 +24,7 @@ ghost use Rattle.schema_reports.specs.InstanceViews.{subject_of};
 use crate::evaluation_path::EvaluationPath;
 use crate::kept_paths::KeptPaths;
 use crate::marks::Marks;
-use crate::rows::{Rows, has_bit, make_row, put_bit, row_words, verdict_in};
+use crate::rows::{Rows, row_words};
 use schema_matches::assumptions::MatchAssumptions;
 use schema_matches::site::{Match, MatchSite, Reason};
 use schema_parts::keyword::Marked;
@@ -35,7 +35,6 @@ use schema_places::places::Places;
 use schema_reports::instance::Instance;
 use schema_reports::location::{Location, OutOfMemory};
 use std::alloc::Global;
-use std::collections::HashMap;
 use std::marker::Model;
 use std::mem;
 
@@ -83,11 +82,9 @@ fn is_container(instance: Instance<'_>) -> bool
 
 impl<'i> Model for ValidationContext<'i> {
     ghost use Rattle.std.specs.Prelude.{◌+◌, map};
-    ghost use Rattle.std.specs.HashMap.{keys};
     ghost use Rattle.schema_contexts.specs.Progress.{Context, root_places};
     ghost use Rattle.schema_contexts.specs.ProgressViews.{Holds, all_verdicts, pair_of};
-    ghost use Rattle.schema_contexts.specs.Rows.{words_in};
-
+    ghost use Rattle.schema_contexts.specs.Rows.{row_numbers, words_in};
     ghost use Rattle.serde_json.specs.contracts.value.Value as value;
     ghost use Rattle.std.specs.Coded.{codes};
 
@@ -100,10 +97,10 @@ impl<'i> Model for ValidationContext<'i> {
       in_progress = map (pair_of (root_places c.places)) c.pairs.items;
       remembered = c.matches;
       marking = c.marking;
-      verdicts = all_verdicts (root_places c.places) c.known.entries;
+      verdicts = all_verdicts (root_places c.places) c.known;
       visits = c.visits;
-      entered = keys c.guard;
-      kept = keys c.known;
+      entered = row_numbers c.guard;
+      kept = row_numbers c.known;
       words = words_in c.guard + words_in c.known;
     } };
 
@@ -170,8 +167,8 @@ impl<'i> ValidationContext<'i> {
             places,
             pairs: Vec::new(alloc),
             counts: Vec::new(alloc),
-            guard: HashMap::new(alloc),
-            known: HashMap::new(alloc),
+            guard: Rows::new(alloc),
+            known: Rows::new(alloc),
             matches,
             marking: Marks::new(alloc),
             visits: 0,
@@ -218,7 +215,7 @@ impl<'i> ValidationContext<'i> {
         ensures found { result ≡ list_any (λ i. i == node.0) (busy_at (place_at (places_in self.now) place) self.now.in_progress) }
         ensures distinct { Distinct self.now.in_progress }
     {
-        has_bit(&self.guard, node.0, place)
+        self.guard.has_bit(node.0, place)
     }
 
     /// Returns `true` if the pair is already in progress; otherwise records it and returns `false`. On `Err` nothing has changed.
@@ -237,15 +234,15 @@ impl<'i> ValidationContext<'i> {
         ensures root { self.new.root ≡ self.old.root }
         ensures kept { self.new.kept ≡ self.old.kept }
     {
-        if has_bit(&self.guard, node.0, place) {
+        if self.guard.has_bit(node.0, place) {
             return Ok(true);
         }
         let places = self.places.numbered(self.alloc)?.len();
         self.pairs.reserve(1)?;
         make_counts(self.alloc, &mut self.counts, places)?;
-        make_row(self.alloc, &mut self.guard, node.0, row_words(places))?;
+        self.guard.make_row(self.alloc, node.0, row_words(places))?;
         push_within(&mut self.pairs, InProgress { node, place });
-        put_bit(&mut self.guard, node.0, 0, place, true);
+        self.guard.put_bit(node.0, 0, place, true);
         let count = self.counts[place];
         self.counts[place] = count + 1;
         Ok(false)
@@ -266,7 +263,7 @@ impl<'i> ValidationContext<'i> {
         ensures words { self.new.words ≡ self.old.words }
     {
         self.pairs.pop();
-        put_bit(&mut self.guard, node.0, 0, place, false);
+        self.guard.put_bit(node.0, 0, place, false);
         let count = self.counts[place];
         self.counts[place] = count - 1;
     }
@@ -429,7 +426,7 @@ impl<'i> ValidationContext<'i> {
         if count != 1 {
             return false;
         }
-        has_bit(&self.guard, node.0, place)
+        self.guard.has_bit(node.0, place)
     }
 
     /// Returns the verdict that is remembered of the node at the place, unless another node is in progress at that place. It
@@ -438,7 +435,7 @@ impl<'i> ValidationContext<'i> {
         requires known { place < length (places_in self.now) }
         ensures read { result ≡ read_verdict node.0 (place_at (places_in self.now) place) self.now }
     {
-        let found = verdict_in(&self.known, node.0, place)?;
+        let found = self.known.verdict_in(node.0, place)?;
         if self.is_alone(node, place) {
             Some(found)
         } else {
@@ -505,9 +502,9 @@ impl<'i> ValidationContext<'i> {
             return Ok(());
         }
         let words = row_words(self.places.numbered(self.alloc)?.len());
-        make_row(self.alloc, &mut self.known, node.0, 2 * words)?;
-        put_bit(&mut self.known, node.0, 0, place, true);
-        put_bit(&mut self.known, node.0, words, place, verdict);
+        self.known.make_row(self.alloc, node.0, 2 * words)?;
+        self.known.put_bit(node.0, 0, place, true);
+        self.known.put_bit(node.0, words, place, verdict);
         Ok(())
     }
 

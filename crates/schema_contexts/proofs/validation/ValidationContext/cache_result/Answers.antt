@@ -1,15 +1,13 @@
 use Rattle.std.proofs.Common.{◌≡◌, ◌∙◌, ◌*◌, ◌+◌, ◌<◌, true, List, ap, arith, inl, length, map, subst, sym}
-use Rattle.std.specs.Prelude.{nat_eq}
-use Rattle.std.specs.HashMap.{keys}
-use Rattle.std.specs.List.{IsDistinct}
 use Rattle.schema_definitions.specs.Instance.{Place}
 use Rattle.schema_places.specs.Numbers.{OwnNumbers, place_at}
 use Rattle.schema_contexts.specs.ProgressViews.{Holds, all_verdicts, pair_of}
-use Rattle.schema_contexts.specs.Progress.{Context, IsWide, row_words}
-use Rattle.schema_contexts.specs.Rows.{AreWide, PutsBit, words_in}
+use Rattle.schema_contexts.specs.Progress.{Context, FewRows, IsWide, row_words}
+use Rattle.schema_contexts.specs.Rows.{AreWide, PutsBit, row_numbers, words_in}
 use Rattle.schema_contexts.specs.Verdicts.{Remembers}
-use Rattle.schema_contexts.proofs.Entering.{in_row, row_kept}
-use Rattle.schema_contexts.proofs.Few.{few_lists, few_rows}
+use Rattle.schema_contexts.proofs.Entering.{in_row, row_kept, some_place}
+use Rattle.schema_contexts.proofs.Few.{few_lists}
+use Rattle.schema_contexts.proofs.RowsChanged.{distinct_rows}
 use Rattle.schema_contexts.proofs.VerdictRows.{remembered}
 use Rattle.schema_contexts.proofs.Widths.{all_wide}
 use Rattle.schema_contexts.specs.Progress.{places_in, root_places}
@@ -17,15 +15,15 @@ use Rattle.schema_contexts.proofs.validation.ValidationContext.cache_result.Goal
 
 pub returns-then-saturating_sub-lt-MEMO_MIN_VISITS-clause-few : goal.returns-then-saturating_sub-lt-MEMO_MIN_VISITS-clause-few
 returns-then-saturating_sub-lt-MEMO_MIN_VISITS-clause-few c =
-    few_rows c.args.self.now (subst (λ (x : Context). IsDistinct nat_eq x.kept) c.self.view_is c.self.invariant.unique_known)
+    subst FewRows c.self.view_is (few_lists (row_numbers c.self.inside.guard) (row_numbers c.self.inside.known) (distinct_rows c.self.inside.known))
 
 pub returns-then-not-is_container-clause-few : goal.returns-then-not-is_container-clause-few
 returns-then-not-is_container-clause-few c =
-    few_rows c.args.self.now (subst (λ (x : Context). IsDistinct nat_eq x.kept) c.self.view_is c.self.invariant.unique_known)
+    subst FewRows c.self.view_is (few_lists (row_numbers c.self.inside.guard) (row_numbers c.self.inside.known) (distinct_rows c.self.inside.known))
 
 pub returns-then-not-is_alone-clause-few : goal.returns-then-not-is_alone-clause-few
 returns-then-not-is_alone-clause-few c =
-    few_rows c.args.self.now (subst (λ (x : Context). IsDistinct nat_eq x.kept) c.self.view_is c.self.invariant.unique_known)
+    subst FewRows c.self.view_is (few_lists (row_numbers c.self.inside.guard) (row_numbers c.self.inside.known) (distinct_rows c.self.inside.known))
 
 pub returns-then-saturating_sub-lt-MEMO_MIN_VISITS-clause-wide : goal.returns-then-saturating_sub-lt-MEMO_MIN_VISITS-clause-wide
 returns-then-saturating_sub-lt-MEMO_MIN_VISITS-clause-wide c =
@@ -42,6 +40,15 @@ returns-then-not-is_alone-clause-wide c =
     let i = c.self.inside in
     subst IsWide c.self.view_is (all_wide (row_words (length (root_places i.places))) i.guard i.known c.self.invariant.wide_guard c.self.invariant.wide_known)
 
+pub make_row-requires : goal.make_row-requires
+make_row-requires c =
+    let i = c.self.inside in
+    let ps = root_places i.places in
+    let known = subst (λ (x : Context). c.args.place < length (places_in x)) (sym c.self.view_is) c.requires.known in
+    let width : c.row_words-words.result ≡ row_words (length ps) = c.row_words-words.ensures.words ∙ ap row_words (c.len.ensures.count ∙ ap length c.in_ok-numbered.ensures.places) in
+    let some = some_place c.row_words-words.result c.args.place (length ps) width known in
+    record { some = omega (arith, some) }
+
 pub put_bit-requires-2 : goal.put_bit-requires-2
 put_bit-requires-2 c =
     let i = c.self.inside in
@@ -51,7 +58,7 @@ put_bit-requires-2 c =
     let known = subst (λ (x : Context). k < length (places_in x)) (sym c.self.view_is) c.requires.known in
     let width : c.row_words-words.result ≡ row_words (length ps) = c.row_words-words.ensures.words ∙ ap row_words (c.len.ensures.count ∙ ap length c.in_ok-numbered.ensures.places) in
     let wide : AreWide (2 * c.row_words-words.result) i.known = subst (λ v. AreWide (2 * v) i.known) (sym width) c.self.invariant.wide_known in
-    let size = row_kept n (2 * c.row_words-words.result) (64 * 0 + k) true i.known c.make_row.new.rows c.put_bit.new.rows c.in_ok-make_row.ensures.made c.put_bit.ensures.put wide in
+    let size = row_kept n (2 * c.row_words-words.result) (64 * 0 + k) true i.known c.make_row.new.self c.put_bit.new.self c.in_ok-make_row.ensures.made c.put_bit.ensures.put wide in
     let within = in_row c.row_words-words.result k (length ps) width known in
     record { there = omega (arith, size, within) }
 
@@ -66,15 +73,13 @@ invariant_of-self-2 c =
     let made = c.in_ok-make_row.ensures.made in
     let first = c.put_bit.ensures.put in
     let second = c.put_bit-2.ensures.put in
-    let wide : AreWide (2 * w) c.make_row.new.rows = subst (λ v. AreWide (2 * v) c.make_row.new.rows) width (made.wide (subst (λ v. AreWide (2 * v) i.known) (sym width) h.wide_known)) in
-    subst (λ (qs : List Place). Holds qs (map (pair_of qs) i.pairs.items) i.counts.items i.guard c.put_bit-2.new.rows) (ap root_places (sym c.numbered.follows.holds-at-none)) (record {
+    let wide : AreWide (2 * w) c.make_row.new.self = subst (λ v. AreWide (2 * v) c.make_row.new.self) width (made.wide (subst (λ v. AreWide (2 * v) i.known) (sym width) h.wide_known)) in
+    subst (λ (qs : List Place). Holds qs (map (pair_of qs) i.pairs.items) i.counts.items i.guard c.put_bit-2.new.self) (ap root_places (sym c.numbered.follows.holds-at-none)) (record {
       numbered = inl (subst OwnNumbers same c.len.ensures.own);
       distinct = h.distinct;
       guards = h.guards;
       wide_guard = h.wide_guard;
       wide_known = second.wide (2 * w) (first.wide (2 * w) wide);
-      unique_guard = h.unique_guard;
-      unique_known = second.unique (first.unique (made.unique h.unique_known));
     })
 
 pub returns-clause-kept : goal.returns-clause-kept
@@ -91,19 +96,15 @@ returns-clause-kept c =
     let known = subst (λ (x : Context). k < length (places_in x)) (sym c.self.view_is) c.requires.known in
     let here : 64 * 0 + k ≡ k = omega arith in
     let made = c.in_ok-make_row.ensures.made in
-    let first = subst (λ b. PutsBit n b true c.make_row.new.rows c.put_bit.new.rows) here c.put_bit.ensures.put in
-    let second = subst (λ v. PutsBit n (64 * v + k) c.args.verdict c.put_bit.new.rows c.put_bit-2.new.rows) width c.put_bit-2.ensures.put in
-    let new = c.put_bit-2.new.rows in
-    let unique = second.unique (first.unique (made.unique h.unique_known)) in
-    let its = remembered n k c.args.verdict ps i.known c.make_row.new.rows c.put_bit.new.rows new own known h.unique_known unique made.bits first second in
-    λ may. subst (λ (qs : List Place). Remembers n (place_at (places_in c.args.self.now) k) c.args.verdict c.args.self.now.verdicts (all_verdicts qs new.entries)) (ap root_places (sym c.numbered.follows.holds-at-none))
-    (subst (λ (x : Context). Remembers n (place_at (places_in x) k) c.args.verdict x.verdicts (all_verdicts ps new.entries)) c.self.view_is its)
+    let first = subst (λ b. PutsBit n b true c.make_row.new.self c.put_bit.new.self) here c.put_bit.ensures.put in
+    let second = subst (λ v. PutsBit n (64 * v + k) c.args.verdict c.put_bit.new.self c.put_bit-2.new.self) width c.put_bit-2.ensures.put in
+    let new = c.put_bit-2.new.self in
+    let its = remembered n k c.args.verdict ps i.known c.make_row.new.self c.put_bit.new.self new own known made.bits first second in
+    λ may. subst (λ (qs : List Place). Remembers n (place_at (places_in c.args.self.now) k) c.args.verdict c.args.self.now.verdicts (all_verdicts qs new)) (ap root_places (sym c.numbered.follows.holds-at-none))
+    (subst (λ (x : Context). Remembers n (place_at (places_in x) k) c.args.verdict x.verdicts (all_verdicts ps new)) c.self.view_is its)
 
 pub returns-clause-few : goal.returns-clause-few
-returns-clause-few c =
-    let i = c.self.inside in
-    let made = c.in_ok-make_row.ensures.made in
-    few_lists (keys i.guard) (keys c.put_bit-2.new.rows) (c.put_bit-2.ensures.put.unique (c.put_bit.ensures.put.unique (made.unique c.self.invariant.unique_known)))
+returns-clause-few c = few_lists (row_numbers c.self.inside.guard) (row_numbers c.put_bit-2.new.self) (distinct_rows c.put_bit-2.new.self)
 
 pub returns-clause-wide : goal.returns-clause-wide
 returns-clause-wide c =
@@ -112,7 +113,7 @@ returns-clause-wide c =
     let w = row_words (length (root_places i.places)) in
     let width : c.row_words-words.result ≡ w = c.row_words-words.ensures.words ∙ ap row_words (c.len.ensures.count ∙ ap length c.in_ok-numbered.ensures.places) in
     let made = c.in_ok-make_row.ensures.made in
-    let wide : AreWide (2 * w) c.make_row.new.rows = subst (λ v. AreWide (2 * v) c.make_row.new.rows) width (made.wide (subst (λ v. AreWide (2 * v) i.known) (sym width) h.wide_known)) in
-    let new = c.put_bit-2.new.rows in
-    subst (λ (qs : List Place). words_in i.guard + words_in new ≡ (length (keys i.guard) + 2 * length (keys new)) * row_words (length qs)) (ap root_places (sym c.numbered.follows.holds-at-none))
+    let wide : AreWide (2 * w) c.make_row.new.self = subst (λ v. AreWide (2 * v) c.make_row.new.self) width (made.wide (subst (λ v. AreWide (2 * v) i.known) (sym width) h.wide_known)) in
+    let new = c.put_bit-2.new.self in
+    subst (λ (qs : List Place). words_in i.guard + words_in new ≡ (length (row_numbers i.guard) + 2 * length (row_numbers new)) * row_words (length qs)) (ap root_places (sym c.numbered.follows.holds-at-none))
     (all_wide w i.guard new h.wide_guard (c.put_bit-2.ensures.put.wide (2 * w) (c.put_bit.ensures.put.wide (2 * w) wide)))

@@ -1,20 +1,18 @@
 use Rattle.std.proofs.Common.{◌≡◌, ◌∙◌, ◌==◌, ◌*◌, ◌+◌, ◌<◌, ◌≤◌, ◌++◌, ◌∷◌, [], ℕ, true, false, cond, List, ap, arith, get_or, inl, length, length-append, length-set, map, refl, subst, sym}
-use Rattle.std.specs.Prelude.{nat_eq, slice_set}
-use Rattle.std.specs.HashMap.{keys}
-use Rattle.std.specs.List.{IsDistinct}
+use Rattle.std.specs.Prelude.{slice_set}
 use Rattle.schema_definitions.specs.Instance.{Place}
 use Rattle.schema_places.specs.Numbers.{OwnNumbers, place_at}
 use Rattle.schema_contexts.specs.ProgressViews.{Holds, pair_of}
-use Rattle.schema_contexts.specs.Progress.{Adds, Context, Distinct, Enters, IsWide, Pairs, busy_at, row_words}
-use Rattle.schema_contexts.specs.Rows.{AreWide, PutsBit, has_bit, row_in, words_in}
+use Rattle.schema_contexts.specs.Progress.{Adds, Context, Distinct, Enters, FewRows, IsWide, Pairs, busy_at, row_words}
+use Rattle.schema_contexts.specs.Rows.{AreWide, PutsBit, has_bit, row_in, row_numbers, words_in}
 use Rattle.schema_contexts.specs.declared.validation.InProgress.{InProgress}
 use Rattle.std.proofs.lemmas.List.{length-map}
 use Rattle.schema_contexts.proofs.Alone.{busy_short}
-use Rattle.schema_contexts.proofs.Entering.{at_its_own, count_put, pushed, whatever_else}
-use Rattle.schema_contexts.proofs.Few.{few_lists, few_rows}
+use Rattle.schema_contexts.proofs.Entering.{at_its_own, count_put, pushed, some_place, whatever_else}
+use Rattle.schema_contexts.proofs.Few.{few_lists}
 use Rattle.schema_contexts.proofs.Guarding.{guards_more, has_row}
 use Rattle.schema_contexts.proofs.Pairs.{among, distinct_pushed, enters_new, enters_old}
-use Rattle.schema_contexts.proofs.RowsChanged.{number_if, row_there}
+use Rattle.schema_contexts.proofs.RowsChanged.{distinct_rows, row_there}
 use Rattle.schema_contexts.proofs.Widths.{all_wide}
 use Rattle.schema_contexts.specs.Progress.{places_in, root_places}
 use Rattle.schema_contexts.proofs.validation.ValidationContext.enter.Goals as goal
@@ -35,17 +33,25 @@ pub returns-then-has_bit-clause-entered : goal.returns-then-has_bit-clause-enter
 returns-then-has_bit-clause-entered c =
     let i = c.self.inside in
     let n = c.args.node.0 in
-    let there = sym (number_if i.guard n) ∙ has_row i.guard n c.args.place (sym c.has_bit.ensures.bit ∙ c.if-has_bit.true) in
+    let there = has_row i.guard n c.args.place (sym c.has_bit.ensures.bit ∙ c.if-has_bit.true) in
     subst (λ (x : Context). Adds n x.entered x.entered) c.self.view_is (row_there n (row_words (length (root_places i.places))) i.guard there).numbers
 
 pub returns-then-has_bit-clause-few : goal.returns-then-has_bit-clause-few
 returns-then-has_bit-clause-few c =
-    few_rows c.args.self.now (subst (λ (x : Context). IsDistinct nat_eq x.kept) c.self.view_is c.self.invariant.unique_known)
+    subst FewRows c.self.view_is (few_lists (row_numbers c.self.inside.guard) (row_numbers c.self.inside.known) (distinct_rows c.self.inside.known))
 
 pub returns-then-has_bit-clause-wide : goal.returns-then-has_bit-clause-wide
 returns-then-has_bit-clause-wide c =
     let i = c.self.inside in
     subst IsWide c.self.view_is (all_wide (row_words (length (root_places i.places))) i.guard i.known c.self.invariant.wide_guard c.self.invariant.wide_known)
+
+pub make_row-requires : goal.make_row-requires
+make_row-requires c =
+    let i = c.self.inside in
+    let ps = root_places i.places in
+    let known = subst (λ (x : Context). c.args.place < length (places_in x)) (sym c.self.view_is) c.requires.known in
+    let width : c.row_words.result ≡ row_words (length ps) = c.row_words.ensures.words ∙ ap row_words (c.len-places.ensures.count ∙ ap length c.in_ok-numbered.ensures.places) in
+    record { some = some_place c.row_words.result c.args.place (length ps) width known }
 
 pub overflow_add-count : goal.overflow_add-count
 overflow_add-count c =
@@ -100,23 +106,21 @@ invariant_of-self-2 c =
     let known = subst (λ (y : Context). k < length (places_in y)) (sym c.self.view_is) c.requires.known in
     let here : 64 * 0 + k ≡ k = omega arith in
     let made = c.in_ok-make_row.ensures.made in
-    let wide : AreWide w c.make_row.new.rows = subst (λ v. AreWide v c.make_row.new.rows) width (made.wide (subst (λ v. AreWide v i.guard) (sym width) h.wide_guard)) in
-    let put = subst (λ b. PutsBit n b true c.make_row.new.rows c.put_bit.new.rows) here c.put_bit.ensures.put in
+    let wide : AreWide w c.make_row.new.self = subst (λ v. AreWide v c.make_row.new.self) width (made.wide (subst (λ v. AreWide v i.guard) (sym width) h.wide_guard)) in
+    let put = subst (λ b. PutsBit n b true c.make_row.new.self c.put_bit.new.self) here c.put_bit.ensures.put in
     let counts = c.make_counts.new.counts.items in
     let size : length counts ≡ length ps = c.in_ok-make_counts.ensures.made ∙ many_places in
     let r = c.index-count.result.now in
     let within : k < length counts = omega (arith, size, known) in
     let read : r ≡ get_or counts k 0 = c.index-count.ensures ∙ whatever_else counts k r 0 within in
-    subst (λ (qs : List Place). Holds qs (map (pair_of qs) c.push_within.new.pairs.items) (slice_set counts k (r + 1)) c.put_bit.new.rows i.known) (ap root_places (sym c.numbered.follows.holds-at-none))
-    (subst (λ (xs : Pairs). Holds ps xs (slice_set counts k (r + 1)) c.put_bit.new.rows i.known) (sym (after c)) (record {
+    subst (λ (qs : List Place). Holds qs (map (pair_of qs) c.push_within.new.pairs.items) (slice_set counts k (r + 1)) c.put_bit.new.self i.known) (ap root_places (sym c.numbered.follows.holds-at-none))
+    (subst (λ (xs : Pairs). Holds ps xs (slice_set counts k (r + 1)) c.put_bit.new.self i.known) (sym (after c)) (record {
       numbered = inl own;
       distinct = distinct_pushed n (place_at ps k) es h.distinct (fresh c);
-      guards = guards_more ps es i.counts.items (slice_set counts k (r + 1)) i.guard c.make_row.new.rows c.put_bit.new.rows n k own known h.guards made.bits put (length-set counts k (r + 1) ∙ size)
+      guards = guards_more ps es i.counts.items (slice_set counts k (r + 1)) i.guard c.make_row.new.self c.put_bit.new.self n k own known h.guards made.bits put (length-set counts k (r + 1) ∙ size)
           (λ j. count_put counts k j (r + 1) within ∙ at_its_own (k == j) k j r (get_or counts j 0) (λ m. get_or counts m 0) refl read ∙ ap (λ (y : ℕ). cond (k == j) (y + 1) y) (c.make_counts.ensures.same j));
       wide_guard = put.wide w wide;
       wide_known = h.wide_known;
-      unique_guard = put.unique (made.unique h.unique_guard);
-      unique_known = h.unique_known;
     }))
 
 pub returns-clause-enters : goal.returns-clause-enters
@@ -131,7 +135,7 @@ returns-clause-enters c =
     (subst (λ (x : Context). Enters n (place_at (places_in x) k) x.in_progress false new) c.self.view_is (enters_new n (place_at ps k) es new (after c) (fresh c)))
 
 pub returns-clause-few : goal.returns-clause-few
-returns-clause-few c = few_lists (keys c.put_bit.new.rows) (keys c.self.inside.known) c.self.invariant.unique_known
+returns-clause-few c = few_lists (row_numbers c.put_bit.new.self) (row_numbers c.self.inside.known) (distinct_rows c.self.inside.known)
 
 pub returns-clause-wide : goal.returns-clause-wide
 returns-clause-wide c =
@@ -141,9 +145,9 @@ returns-clause-wide c =
     let many_places : c.len-places.result ≡ length (root_places i.places) = c.len-places.ensures.count ∙ ap length c.in_ok-numbered.ensures.places in
     let width : c.row_words.result ≡ w = c.row_words.ensures.words ∙ ap row_words many_places in
     let made = c.in_ok-make_row.ensures.made in
-    let wide : AreWide w c.make_row.new.rows = subst (λ v. AreWide v c.make_row.new.rows) width (made.wide (subst (λ v. AreWide v i.guard) (sym width) h.wide_guard)) in
-    let new = c.put_bit.new.rows in
-    subst (λ (qs : List Place). words_in new + words_in i.known ≡ (length (keys new) + 2 * length (keys i.known)) * row_words (length qs)) (ap root_places (sym c.numbered.follows.holds-at-none))
+    let wide : AreWide w c.make_row.new.self = subst (λ v. AreWide v c.make_row.new.self) width (made.wide (subst (λ v. AreWide v i.guard) (sym width) h.wide_guard)) in
+    let new = c.put_bit.new.self in
+    subst (λ (qs : List Place). words_in new + words_in i.known ≡ (length (row_numbers new) + 2 * length (row_numbers i.known)) * row_words (length qs)) (ap root_places (sym c.numbered.follows.holds-at-none))
     (all_wide w new i.known (c.put_bit.ensures.put.wide w wide) h.wide_known)
 
 pub returns-clause-distinct : goal.returns-clause-distinct

@@ -68,18 +68,16 @@ invariant_of-self c =
     let count = last_count ps es last.0 i.counts.items i.guard n k h.guards known last.1 in
     let read : c.index-count.result.now ≡ get_or i.counts.items k 0 = c.index-count.ensures ∙ whatever_else i.counts.items k c.index-count.result.now 0 count.1 in
     let here : 64 * 0 + k ≡ k = omega arith in
-    let put = subst (λ b. PutsBit n b false i.guard c.put_bit.new.rows) here c.put_bit.ensures.put in
+    let put = subst (λ b. PutsBit n b false i.guard c.put_bit.new.self) here c.put_bit.ensures.put in
     let distinct = subst Distinct all h.distinct in
-    let own : OwnNumbers ps = ⊎_elim (λ (a : OwnNumbers ps). a) (λ (r : (es ≡ []) × (i.known.entries ≡ [])). absurd (nil_snoc last.0 x (sym r.0 ∙ last.1))) h.numbered in
+    let own : OwnNumbers ps = ⊎_elim (λ (a : OwnNumbers ps). a) (λ (r : (es ≡ []) × (i.known ≡ [])). absurd (nil_snoc last.0 x (sym r.0 ∙ last.1))) h.numbered in
     record {
       numbered = inl own;
       distinct = distinct_front left x distinct;
-      guards = guards_less ps left i.counts.items (slice_set i.counts.items k (c.index-count.result.now - 1)) i.guard c.put_bit.new.rows n k own known distinct (subst (λ (xs : Pairs). Guards ps xs i.counts.items i.guard) all h.guards) put
+      guards = guards_less ps left i.counts.items (slice_set i.counts.items k (c.index-count.result.now - 1)) i.guard c.put_bit.new.self n k own known distinct (subst (λ (xs : Pairs). Guards ps xs i.counts.items i.guard) all h.guards) put
           (length-set i.counts.items k (c.index-count.result.now - 1)) (λ j. count_put i.counts.items k j (c.index-count.result.now - 1) count.1 ∙ at_its_own_less (k == j) k j c.index-count.result.now (get_or i.counts.items j 0) (λ m. get_or i.counts.items m 0) refl read);
       wide_guard = put.wide (row_words (length ps)) h.wide_guard;
       wide_known = h.wide_known;
-      unique_guard = put.unique h.unique_guard;
-      unique_known = h.unique_known;
     }
 
 pub returns-clause-words : goal.returns-clause-words
@@ -88,5 +86,5 @@ returns-clause-words c =
     let h = c.self.invariant in
     let w = row_words (length (root_places i.places)) in
     let put = c.put_bit.ensures.put in
-    subst (λ (x : Context). words_in c.put_bit.new.rows + words_in i.known ≡ x.words) c.self.view_is
-    (ap (λ (n : ℕ). n + words_in i.known) (words_same w i.guard c.put_bit.new.rows h.wide_guard (put.wide w h.wide_guard) put.numbers))
+    subst (λ (x : Context). words_in c.put_bit.new.self + words_in i.known ≡ x.words) c.self.view_is
+    (ap (λ (n : ℕ). n + words_in i.known) (words_same w i.guard c.put_bit.new.self h.wide_guard (put.wide w h.wide_guard) put.numbers))

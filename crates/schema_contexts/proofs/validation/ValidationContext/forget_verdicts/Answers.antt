@@ -1,10 +1,7 @@
 use Rattle.std.proofs.Common.{◌≡◌, ◌∙◌, ◌*◌, ◌+◌, ℕ, [], List, ap, arith, length, map, subst}
-use Rattle.std.specs.HashMap.{keys}
-use Rattle.std.specs.Map.{keys_of}
-use Rattle.std.proofs.Common.{Vec, Global}
 use Rattle.schema_contexts.specs.Progress.{Context, guard_words, root_places, row_words}
 use Rattle.schema_contexts.specs.ProgressViews.{all_verdicts, pair_of}
-use Rattle.schema_contexts.specs.Rows.{words_in}
+use Rattle.schema_contexts.specs.Rows.{row_numbers, words_in}
 use Rattle.schema_contexts.proofs.Widths.{all_wide, none_wide}
 use Rattle.schema_contexts.proofs.validation.ValidationContext.forget_verdicts.Goals as goal
 
@@ -24,19 +21,19 @@ returns-clause-forgotten c =
     let ps = root_places i.places in
     let w = row_words (length ps) in
     let none = c.clear.ensures.empty in
-    let width : words_in i.guard + words_in c.clear.new.self ≡ length (keys i.guard) * w =
-        all_wide w i.guard c.clear.new.self h.wide_guard (none_wide (2 * w) c.clear.new.self none)
-        ∙ ap (λ (es : List (ℕ × Vec ℕ Global)). (length (keys i.guard) + 2 * length (keys_of es)) * w) none
-        ∙ ap (λ (n : ℕ). n * w) (only_once (length (keys i.guard))) in
+    let width : words_in i.guard + words_in c.clear.new.self ≡ length (row_numbers i.guard) * w =
+    all_wide w i.guard c.clear.new.self h.wide_guard (none_wide (2 * w) c.clear.new.self none)
+    ∙ ap (λ (es : List (List ℕ)). (length (row_numbers i.guard) + 2 * length (row_numbers es)) * w) none
+    ∙ ap (λ (n : ℕ). n * w) (only_once (length (row_numbers i.guard))) in
     let now : Context = record {
       root = i.places;
       in_progress = map (pair_of ps) i.pairs.items;
       remembered = i.matches;
       marking = i.marking;
-      verdicts = all_verdicts ps c.clear.new.self.entries;
+      verdicts = all_verdicts ps c.clear.new.self;
       visits = 0;
-      entered = keys i.guard;
-      kept = keys c.clear.new.self;
+      entered = row_numbers i.guard;
+      kept = row_numbers c.clear.new.self;
       words = words_in i.guard + words_in c.clear.new.self;
     } in
     subst (λ (x : Context). now ≡ record x { verdicts = []; visits = 0; kept = []; words = guard_words x }) c.self.view_is
@@ -47,7 +44,7 @@ returns-clause-forgotten c =
       marking = i.marking;
       verdicts = all_verdicts ps (none j);
       visits = 0;
-      entered = keys i.guard;
-      kept = keys_of (none j);
+      entered = row_numbers i.guard;
+      kept = row_numbers (none j);
       words = width j;
     })

@@ -21,7 +21,7 @@ returns-in_err-found c =
     let h = c.self.invariant in
     let old = c.args.self.now in
     let known = subst (λ (x : Context). k < length (places_in x)) (sym c.self.view_is) c.requires.known in
-    let row = read_at n k ps (map (pair_of ps) i.pairs.items) i.known h.numbered h.unique_known h.wide_known known in
+    let row = read_at n k ps (map (pair_of ps) i.pairs.items) i.known h.numbered h.wide_known known in
     let seen : c.verdict_in.result ≡ verdict_of n (place_at (places_in old) k) old.verdicts = c.verdict_in.ensures.verdict ∙ row ∙ ap (λ (x : Context). verdict_of n (place_at (places_in x) k) x.verdicts) c.self.view_is in
     record { read = c.from_residual.ensures ∙ none_read (is_alone n (place_at (places_in old) k) old.in_progress) (verdict_of n (place_at (places_in old) k) old.verdicts) (sym c.in_err-found.was ∙ seen) }
 
@@ -34,6 +34,6 @@ returns-then-is_alone c =
     let h = c.self.invariant in
     let old = c.args.self.now in
     let known = subst (λ (x : Context). k < length (places_in x)) (sym c.self.view_is) c.requires.known in
-    let row = read_at n k ps (map (pair_of ps) i.pairs.items) i.known h.numbered h.unique_known h.wide_known known in
+    let row = read_at n k ps (map (pair_of ps) i.pairs.items) i.known h.numbered h.wide_known known in
     let seen : c.verdict_in.result ≡ verdict_of n (place_at (places_in old) k) old.verdicts = c.verdict_in.ensures.verdict ∙ row ∙ ap (λ (x : Context). verdict_of n (place_at (places_in x) k) x.verdicts) c.self.view_is in
     record { read = sym c.in_ok-found.was ∙ seen ∙ ap (λ (b : Bool). cond b (verdict_of n (place_at (places_in old) k) old.verdicts) None) c.if-is_alone.ensures.alone }

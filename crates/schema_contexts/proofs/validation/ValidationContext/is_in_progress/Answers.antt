@@ -8,4 +8,4 @@ pub returns-clause-found : goal.returns-clause-found
 returns-clause-found c =
     let known = subst (λ (x : Context). c.args.place < length (places_in x)) (sym c.self.view_is) c.requires.known in
     c.has_bit.ensures.bit ∙ c.self.invariant.guards.bits c.args.node.0 c.args.place known
-        ∙ ap (λ (x : Context). list_any (λ i. i == c.args.node.0) (busy_at (place_at (places_in x) c.args.place) x.in_progress)) c.self.view_is
+    ∙ ap (λ (x : Context). list_any (λ i. i == c.args.node.0) (busy_at (place_at (places_in x) c.args.place) x.in_progress)) c.self.view_is
