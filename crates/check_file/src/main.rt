@@ -1,10 +1,12 @@
 //! `check_file SCHEMA INSTANCE`: checks the instance in one JSON file by the schema in another, by the keywords of `string_keywords`
-//! beside those of the bench. It prints a line for each error, with the instance path, the schema path and the text, and a tab between.
+//! and `array_keywords` beside those of the bench. It prints a line for each error, with the instance path, the schema path and the
+//! text, and a tab between.
 //! It ends with 0 where the instance is accepted, with 1 where it is refused, and with 2 where there is no answer: then a line on
 //! standard error says why.
 #![tactic(auto)]
 
 use anyhow::Context;
+use array_keywords::{ArrayKeyword, ArrayTable};
 use bench_keywords::keyword::BenchKeyword;
 use bench_parts::by_value::TableByValue;
 use bench_parts::matcher::BenchMatcher;
@@ -23,7 +25,9 @@ use std::process::ExitCode;
 use std::{env, fs};
 use string_keywords::{StringKeyword, StringTable};
 
-type Checker = Validator<Both<Planned<StringKeyword>, BenchKeyword>, BenchMatcher>;
+type Families = Both<Planned<StringKeyword>, Both<Planned<ArrayKeyword>, BenchKeyword>>;
+
+type Checker = Validator<Families, BenchMatcher>;
 
 /// Returns the value of a JSON file.
 fn read(rt: &HostRuntime, file: &str) -> anyhow::Result<Value> {
@@ -39,7 +43,13 @@ fn build(alloc: Global, schema: &Value) -> Result<Checker, BuildError> {
             keywords: StringTable {},
         },
         first_names: &[],
-        second: BenchTable {},
+        second: BothTable {
+            first: TableByValue {
+                keywords: ArrayTable {},
+            },
+            first_names: &["minItems", "contains"],
+            second: BenchTable {},
+        },
     };
     let resolver = BenchResolver::new(alloc, schema, VocabularySet::new(alloc))?;
     let matcher = BenchMatcher::new(Vec::new(alloc));
