@@ -97,8 +97,8 @@ pub trait PlannedKeyword: Drop {
         instance: Instance<'_>,
         accepted: usize,
     ) -> Result<String, OutOfMemory>
-        ensures text { IfOk result (λ text. shows_no_fraction (shape self.now) ≡ true → subject_has_float (subject_of instance.entry) ≡ false
-            → string_bytes text ≡ error_text (shape self.now) (subject_of instance.entry) accepted) };
+        ensures text { IfOk result (λ text. shows_no_fraction (shape self.now) ≡ true → subject_has_float (subject_of instance.entry)
+            ≡ false → string_bytes text ≡ error_text (shape self.now) (subject_of instance.entry) accepted) };
 
     /// Returns whether the keyword says of itself that it is monotone: a yes more among the answers never turns its own from yes to
     /// no. So it is where none of its plans has a most. `false` says nothing, and is always right.

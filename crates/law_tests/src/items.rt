@@ -132,8 +132,8 @@ impl ItemsKeyword {
 
 impl Validate for ItemsKeyword {
     ghost use Rattle.std.specs.Prelude.{refl, true};
-    ghost use Rattle.law_tests.specs.ItemsWords.{items_absorbed, items_can_be, items_ends, items_fits, items_functions};
-    ghost use Rattle.law_tests.specs.ItemsWords.{items_grows, items_hand_on, items_remaining, items_turns, items_units, items_verdicts, items_words};
+    ghost use Rattle.law_tests.specs.ItemsWords.{items_absorbed, items_can_be, items_ends, items_fits, items_functions, items_grows};
+    ghost use Rattle.law_tests.specs.ItemsWords.{items_hand_on, items_remaining, items_turns, items_units, items_verdicts, items_words};
 
     type Run = (Stage, Progress);
 

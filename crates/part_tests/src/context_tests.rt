@@ -2,7 +2,8 @@
 use schema_contexts::validation::ValidationContext;
 use schema_parts::keyword::Marked;
 use schema_parts::numbers::{Edge, SchemaNode};
-use schema_reports::instance::{Instance, InstanceStep, Place};
+use schema_places::on_demand::PlacesOnDemand;
+use schema_reports::instance::Instance;
 use schema_reports::location::{Location, OutOfMemory};
 use serde_json::{Map, Value};
 use std::alloc::Global;
@@ -28,11 +29,14 @@ enum Step {
     Unmark,
 }
 
-/// Where a run goes: the root, its member `a`, the instance there, and the children of the keyword's run that marks.
+/// The numbers of the root of an object and of its one member, whose name has the number between them.
+const ROOT: usize = 0;
+
+const MEMBER: usize = 2;
+
+/// What a run meets: the instance at the member, and the children of the keyword's run that marks.
 #[derive(Clone, Copy)]
 struct Scene<'s, 'i> {
-    root: &'s Place<'i>,
-    member: &'s Place<'i>,
     instance: Instance<'i>,
     children: &'s [Option<Edge>],
 }
@@ -52,12 +56,12 @@ fn is_left_beside<'i>(
     other: SchemaNode,
     mark: u64,
 ) -> Result<bool, OutOfMemory> {
-    if context.enter(other, scene.member)? {
+    if context.places()?.len() <= MEMBER || context.enter(other, MEMBER)? {
         return Ok(false);
     }
-    let read = context.get_cached_result(node, scene.member);
-    let given = context.cache_result(other, scene.member, scene.instance, false, mark);
-    context.exit(other, scene.member);
+    let read = context.get_cached_result(node, MEMBER);
+    let given = context.cache_result(other, MEMBER, scene.instance, false, mark);
+    context.exit(other, MEMBER);
     given?;
     Ok(read.is_none())
 }
@@ -69,9 +73,12 @@ fn step_holds<'i>(
     mark: u64,
     step: Step,
 ) -> Result<bool, OutOfMemory> {
+    if context.places()?.len() <= MEMBER {
+        return Ok(false);
+    }
     match step {
-        Step::EnterAbove(node, again) => Ok(context.enter(SchemaNode(node), scene.root)? == again),
-        Step::Enter(node, again) => Ok(context.enter(SchemaNode(node), scene.member)? == again),
+        Step::EnterAbove(node, again) => Ok(context.enter(SchemaNode(node), ROOT)? == again),
+        Step::Enter(node, again) => Ok(context.enter(SchemaNode(node), MEMBER)? == again),
         Step::Beside(node, other) => {
             is_left_beside(context, scene, SchemaNode(node), SchemaNode(other), mark)
         }
@@ -80,11 +87,11 @@ fn step_holds<'i>(
             Ok(true)
         }
         Step::Give(node) => {
-            context.cache_result(SchemaNode(node), scene.member, scene.instance, true, mark)?;
+            context.cache_result(SchemaNode(node), MEMBER, scene.instance, true, mark)?;
             Ok(true)
         }
         Step::Read(node, want) => {
-            Ok(context.get_cached_result(SchemaNode(node), scene.member) == want)
+            Ok(context.get_cached_result(SchemaNode(node), MEMBER) == want)
         }
         Step::Mark(mark, held) => Ok(context.enter_marking(scene.children, mark)? == held),
         Step::Unmark => {
@@ -109,42 +116,41 @@ fn steps_hold<'i>(
     Ok(right)
 }
 
-/// The same from the beginning on, at this root and its member.
-fn hold_at<'i>(
-    alloc: Global,
-    root: &Place<'i>,
-    instance: Instance<'i>,
-    children: &[Option<Edge>],
-    steps: &[Step],
-) -> Result<bool, OutOfMemory> {
-    let member = root.below(InstanceStep::Member("a"))?;
-    let mut context = ValidationContext::new(alloc);
-    let scene = Scene {
-        root,
-        member: &member,
-        instance,
-        children,
-    };
-    let hold = steps_hold(&mut context, scene, steps);
-    drop(context);
-    drop(member);
-    hold
+/// An object with a member `a`.
+fn an_object(alloc: Global) -> Result<Value, OutOfMemory> {
+    let mut members = Map::new(alloc);
+    members.insert(String::from_str(alloc, "a")?, Value::Null)?;
+    Ok(Value::Object(members))
 }
 
-/// The same at the root of an instance.
+/// The same from the beginning on, at the root of an object and its member.
 fn hold(
     alloc: Global,
     instance: Instance<'_>,
     children: &[Option<Edge>],
     steps: &[Step],
 ) -> Result<bool, OutOfMemory> {
-    let root = Place::root(alloc);
-    let hold = hold_at(alloc, &root, instance, children, steps);
-    drop(root);
+    let object = an_object(alloc)?;
+    let hold = hold_in(alloc, &object, instance, children, steps);
+    drop(object);
     hold
 }
 
-/// The same at the root of this value, with no children.
+/// The same in this object.
+fn hold_in<'i>(
+    alloc: Global,
+    object: &'i Value,
+    instance: Instance<'i>,
+    children: &[Option<Edge>],
+    steps: &[Step],
+) -> Result<bool, OutOfMemory> {
+    let mut context = ValidationContext::new(alloc, PlacesOnDemand::of(object));
+    let hold = steps_hold(&mut context, Scene { instance, children }, steps);
+    drop(context);
+    hold
+}
+
+/// The same with this value at the member, and no children.
 fn hold_of(alloc: Global, value: Value, steps: &[Step]) -> Result<bool, OutOfMemory> {
     let hold = hold(alloc, Instance::Value(&value), &[], steps);
     drop(value);

@@ -4,6 +4,7 @@ use crate::words::{Rows, wrong};
 use schema_contexts::evaluation_path::EvaluationPath;
 use schema_contexts::kept_paths::KeptPaths;
 use schema_contexts::validation::ValidationContext;
+use schema_places::on_demand::PlacesOnDemand;
 use schema_reports::location::{Location, OutOfMemory};
 use serde_json::Value;
 use std::alloc::Global;
@@ -139,9 +140,11 @@ fn context_gives(
 /// Whether a new context gives the path.
 fn new_context_gives(alloc: Global) -> Result<bool, OutOfMemory> {
     let edges = some_edges(alloc)?;
-    let mut context = ValidationContext::new(alloc);
+    let value = Value::Null;
+    let mut context = ValidationContext::new(alloc, PlacesOnDemand::of(&value));
     let right = context_gives(alloc, &mut context, &edges, "/allOf/0/$ref/required");
     drop(context);
+    drop(value);
     drop(edges);
     right
 }

@@ -1,7 +1,8 @@
 //! The numbers of the places of instances: worked values from outside.
 use crate::fixtures::{Rows, count_of, wrong};
-use schema_places::places::{NumberedPlace, Places};
+use schema_places::places::Places;
 use schema_reports::instance::InstanceStep;
+use schema_reports::location::OutOfMemory;
 use serde_json::Value;
 use std::alloc::Global;
 use std::process::Abort;
@@ -32,29 +33,45 @@ fn step_in(step: &Value) -> InstanceStep<'_> {
     }
 }
 
-/// The number of what is one step below a place, found in three ways that agree.
+/// The number of what is one step below a place, found in two ways that agree.
 fn below(places: &Places<'_>, number: usize, step: InstanceStep<'_>) -> Option<usize> {
     if number >= places.len() {
         return None;
     }
-    let above = NumberedPlace::Given(number);
-    let found = places.find(&NumberedPlace::Below(&above, step));
-    if found != places.child(number, step) || found != places.find_from(number, &[step]) {
+    let found = places.child(number, step);
+    if found != places.find_from(number, &[step]) {
         return None;
     }
     found
 }
 
-/// The number of what the steps lead to from the root.
-fn reached(places: &Places<'_>, steps: &[Value]) -> Option<usize> {
+/// The number of what the steps lead to from the root, one step after the other.
+fn walked(places: &Places<'_>, steps: &[InstanceStep<'_>]) -> Option<usize> {
     let mut number = 0;
     for step in steps {
-        match below(places, number, step_in(step)) {
+        match below(places, number, *step) {
             Some(next) => number = next,
             None => return None,
         }
     }
     Some(number)
+}
+
+/// The number of what the steps lead to from the root, where walking step by step finds the same.
+fn reached(
+    alloc: Global,
+    places: &Places<'_>,
+    steps: &[Value],
+) -> Result<Option<usize>, OutOfMemory> {
+    let mut path = Vec::new(alloc);
+    for step in steps {
+        path.push(step_in(step))?;
+    }
+    let found = places.find(path.as_slice());
+    if found != walked(places, path.as_slice()) {
+        return Ok(None);
+    }
+    Ok(found)
 }
 
 /// The greatest number at or below the place with this number, if there is one.
@@ -67,16 +84,20 @@ fn last_at(places: &Places<'_>, number: usize) -> Option<usize> {
 }
 
 /// Whether each of these places has the number at which it is listed, and the last one at or below it that is said.
-fn are_as_listed(places: &Places<'_>, listed: &[Value]) -> bool {
+fn are_as_listed(
+    alloc: Global,
+    places: &Places<'_>,
+    listed: &[Value],
+) -> Result<bool, OutOfMemory> {
     for (number, place) in listed.iter().enumerate() {
-        if reached(places, list_at(place, 0)) != Some(number) {
-            return false;
+        if reached(alloc, places, list_at(place, 0))? != Some(number) {
+            return Ok(false);
         }
         if last_at(places, number) != count_of(column(place, 1)) {
-            return false;
+            return Ok(false);
         }
     }
-    true
+    Ok(true)
 }
 
 /// Whether a row's places have the numbers that it says, and no others.
@@ -84,10 +105,10 @@ pub(crate) fn are_numbered(rt: &impl Abort, alloc: Global, row: &Value) -> bool 
     let places = Places::number(alloc, column(row, 0)).expect(rt, "memory");
     let listed = list_at(row, 1);
     let is_counted = places.len() == listed.len();
-    let are_listed = are_as_listed(&places, listed);
-    let is_nowhere = reached(&places, list_at(row, 2)).is_none();
+    let are_listed = are_as_listed(alloc, &places, listed).expect(rt, "memory");
+    let nowhere = reached(alloc, &places, list_at(row, 2)).expect(rt, "memory");
     drop(places);
-    is_counted && are_listed && is_nowhere
+    is_counted && are_listed && nowhere.is_none()
 }
 
 #[test]

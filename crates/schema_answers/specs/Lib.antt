@@ -1,4 +1,5 @@
 pub mod EvaluationPlaces
+pub mod GuardedPairs
 pub mod Askings
 pub mod AnswerModes
 pub mod ReplyModes

@@ -1,25 +1,29 @@
 //! The place at which a node is asked, which allocates nothing until it is asked for.
-ghost use Rattle.std.specs.Prelude.{◌≡◌, ◌++◌, ◌∷◌, [], IfOk};
+ghost use Rattle.std.specs.Prelude.{◌≡◌, ◌++◌, ◌∷◌, [], IfOk, List, Some};
 ghost use Rattle.schema_reports.specs.InstanceViews.{step_of};
+ghost use Rattle.schema_definitions.specs.Instance as instance;
 ghost use Rattle.schema_definitions.specs.Pointer.{pointer_to};
-ghost use Rattle.schema_answers.specs.EvaluationPlaces.{steps_to};
+ghost use Rattle.schema_places.specs.Numbers.{number_of};
+ghost use Rattle.schema_answers.specs.EvaluationPlaces.{CarriesItsNumber, steps_to};
 
-use schema_contexts::shared_place::SharedPlace;
+use schema_places::places::Places;
 use schema_reports::instance::{InstanceStep, Place, push_step};
 use schema_reports::location::{Location, OutOfMemory};
 use std::alloc::Global;
 
-/// A place that was given, or the place above a step and the step.
+/// A place that was given, the place above a step and the step, or a place with its number in the instance.
 #[derive(Clone, Copy)]
 pub enum EvaluationPlace<'p, 'i> {
     Given(&'p Place<'i>),
     Below(&'p EvaluationPlace<'p, 'i>, InstanceStep<'i>),
+    Numbered(&'p EvaluationPlace<'p, 'i>, usize),
 }
 
 impl<'p, 'i> EvaluationPlace<'p, 'i> {
     /// The place that is given.
     pub fn given(place: &'p Place<'i>) -> EvaluationPlace<'p, 'i>
         ensures same { steps_to result ≡ place.now }
+        ensures carries { (places : List instance.Place) → CarriesItsNumber places result }
     {
         EvaluationPlace::Given(place)
     }
@@ -27,8 +31,38 @@ impl<'p, 'i> EvaluationPlace<'p, 'i> {
     /// The place one step below.
     pub fn below(&'p self, step: InstanceStep<'i>) -> EvaluationPlace<'p, 'i>
         ensures below { steps_to result ≡ steps_to self.now ++ step_of step.entry ∷ [] }
+        ensures carries { (places : List instance.Place) → CarriesItsNumber places self.now → CarriesItsNumber places result }
     {
         EvaluationPlace::Below(self, step)
+    }
+
+    /// The same place, with its number.
+    pub fn numbered(&'p self, number: usize) -> EvaluationPlace<'p, 'i>
+        ensures same { steps_to result ≡ steps_to self.now }
+        ensures carries { (places : List instance.Place) → number_of (steps_to self.now) places ≡ Some number
+            → CarriesItsNumber places result }
+    {
+        EvaluationPlace::Numbered(self, number)
+    }
+
+    /// Returns the number of the place among the places of an instance, if there is such a place. It walks down from the last
+    /// place that carries its number, or else from the root, and allocates nothing.
+    pub fn number(&self, places: &Places<'_>) -> Option<usize>
+        requires carries { CarriesItsNumber places.now self.now }
+        ensures number { result ≡ number_of (steps_to self.now) places.now }
+    {
+        match self {
+            EvaluationPlace::Given(place) => places.find(place.as_steps()),
+            EvaluationPlace::Below(above, step) => match above.number(places) {
+                Some(number) => places.child(number, *step),
+                None => {
+                    // (the call says that below a place that is not there is none)
+                    let _count = places.len();
+                    None
+                }
+            },
+            EvaluationPlace::Numbered(_, number) => Some(*number),
+        }
     }
 
     /// Returns the place as an owned one, with room for so many steps more. Fails only if memory cannot be allocated.
@@ -42,6 +76,7 @@ impl<'p, 'i> EvaluationPlace<'p, 'i> {
                 place.push(*last)?;
                 Ok(place)
             }
+            EvaluationPlace::Numbered(same, _) => same.with_room(more),
         }
     }
 
@@ -55,6 +90,7 @@ impl<'p, 'i> EvaluationPlace<'p, 'i> {
                 above.push_pointer(pointer)?;
                 push_step(pointer, *last)
             }
+            EvaluationPlace::Numbered(same, _) => same.push_pointer(pointer),
         }
     }
 
@@ -72,12 +108,5 @@ impl<'p, 'i> EvaluationPlace<'p, 'i> {
         ensures same { IfOk result (λ p. p ≡ steps_to self.now) }
     {
         self.with_room(0)
-    }
-
-    /// Returns the place as one that can be shared. Fails only if memory cannot be allocated.
-    pub fn shared(&self, alloc: Global) -> Result<SharedPlace<'i>, OutOfMemory>
-        ensures same { IfOk result (λ p. p ≡ steps_to self.now) }
-    {
-        SharedPlace::new(alloc, self.made()?)
     }
 }

@@ -1,8 +1,9 @@
-//! What an answer is made of: questions, places, sites of matches, errors, replies and units.
+//! What an answer is made of: questions, places, guarded pairs, sites of matches, errors, replies and units.
 #![tactic(auto)]
 
 pub mod evaluation_place;
 pub mod faults;
+pub mod guarded;
 pub mod matches;
 pub mod question;
 pub mod replies;

@@ -1,55 +1,94 @@
--- Whether no other node is in progress at a place, looked up from the last pair backwards.
-use Rattle.std.proofs.Common.{◌≡◌, ℕ, zero, suc, arith, ◌<◌, ◌≤◌, ◌==◌, ◌&&◌, Bool, true, false, cond, not, List, [], ◌∷◌, ◌++◌, length, take, map, refl, sym, ◌∙◌, ap, subst, append_assoc}
+-- The numbers at a place: one pair more, seen from its end, and who is alone there.
+use Rattle.std.proofs.Common.{◌≡◌, ℕ, suc, ◌≤◌, ◌==◌, ◌&&◌, Bool, true, false, cond, List, [], ◌∷◌, ◌++◌, length, refl, sym, ◌∙◌, ap, subst, arith, true≢false, length-append, append_assoc}
+use Rattle.std.specs.Prelude.{◌||◌, Contains}
 use Rattle.std.specs.List.{list_all}
+use Rattle.std.proofs.lemmas.Bool.{eqb-true}
 use Rattle.std.proofs.lemmas.List.{append-nil}
 use Rattle.schema_definitions.specs.Instance.{Place, same_place}
-use Rattle.schema_contexts.specs.Progress.{Pairs, busy_at}
-use Rattle.schema_contexts.specs.ProgressViews.{pair_of, KnowsDepths}
-use Rattle.schema_contexts.specs.Verdicts.{is_alone}
-use Rattle.schema_contexts.specs.declared.validation.InProgress.{InProgress}
-use Rattle.schema_contexts.proofs.Depths.{depths_first, none_as_deep, pair_push}
+use Rattle.schema_contexts.specs.Progress.{Pairs, busy_at, Distinct}
+use Rattle.schema_contexts.proofs.Pairs.{among, among-append, eqb-self, found, place_equal}
+use Rattle.schema_contexts.proofs.RowsChanged.{other_test}
 
--- the last pair's number comes first
-busy_at-last : (p : Place) (es : Pairs) (e : ℕ × Place) → busy_at p (es ++ e ∷ []) ≡ cond (same_place e.1 p) (e.0 ∷ []) [] ++ busy_at p es
-busy_at-last p [] e = sym (append-nil (cond (same_place e.1 p) (e.0 ∷ []) []))
-busy_at-last p (x ∷ es) e =
-    ap (λ (r : List ℕ). r ++ cond (same_place x.1 p) (x.0 ∷ []) []) (busy_at-last p es e)
+-- ---- one pair more, seen from its end
+
+pub busy_last : (p : Place) (es : Pairs) (e : ℕ × Place) → busy_at p (es ++ e ∷ []) ≡ cond (same_place e.1 p) (e.0 ∷ []) [] ++ busy_at p es
+busy_last p [] e = sym (append-nil (cond (same_place e.1 p) (e.0 ∷ []) []))
+busy_last p (x ∷ es) e =
+    ap (λ (r : List ℕ). r ++ cond (same_place x.1 p) (x.0 ∷ []) []) (busy_last p es e)
     ∙ append_assoc (cond (same_place e.1 p) (e.0 ∷ []) []) (busy_at p es) (cond (same_place x.1 p) (x.0 ∷ []) [])
 
--- the test of the last pair, and of those before it
-is_alone-last : (n : ℕ) (p : Place) (es : Pairs) (e : ℕ × Place) → is_alone n p (es ++ e ∷ []) ≡ (not (not (e.0 == n) && same_place e.1 p) && is_alone n p es)
-is_alone-last n p es e = ap (list_all (λ j. j == n)) (busy_at-last p es e) ∙ go (same_place e.1 p) (e.0 == n) refl
+pub busy_short : (p : Place) (es : Pairs) → length (busy_at p es) ≤ length es
+busy_short p [] = omega arith
+busy_short p (e ∷ es) =
+    let n = length-append (busy_at p es) (cond (same_place e.1 p) (e.0 ∷ []) []) in
+    let one : (b : Bool) → length (cond b (e.0 ∷ []) []) ≤ 1 = elim [ true ↦ omega arith | false ↦ omega arith ] in
+    omega (arith, n, busy_short p es, one (same_place e.1 p))
+
+-- ---- no other number at a place
+
+-- no number twice
+abbrev pub Once : List ℕ → Type 0
+Once [] = Unit {0}
+Once (x ∷ xs) = (among x xs ≡ false) × Once xs
+
+swapped : (m n : ℕ) → (m == n) ≡ (n == m)
+swapped m n = go (m == n) (n == m) refl refl
   where
-    go : (a b : Bool) → (e.0 == n) ≡ b → list_all (λ j. j == n) (cond a (e.0 ∷ []) [] ++ busy_at p es) ≡ (not (not b && a) && is_alone n p es)
-    go false true h = refl
-    go false false h = refl
-    go true true h = ap (λ (b : Bool). b && is_alone n p es) h
-    go true false h = ap (λ (b : Bool). b && is_alone n p es) h
+    go : (a b : Bool) → (m == n) ≡ a → (n == m) ≡ b → a ≡ b
+    go true true e f = refl
+    go false false e f = refl
+    go true false e f = sym (subst (λ (j : ℕ). (n == j) ≡ true) (sym (eqb-true m n e)) (eqb-self n)) ∙ f
+    go false true e f = sym e ∙ subst (λ (j : ℕ). (m == j) ≡ true) (sym (eqb-true n m f)) (eqb-self m)
 
--- the test of the pairs that are left, the last of them first
-pub alone_left : (n : ℕ) (p : Place) (m k : ℕ) (xs : List InProgress) (e : InProgress) → take m xs ≡ take k xs ++ e ∷ []
-    → is_alone n p (map pair_of (take m xs)) ≡ (not (not (e.node.0 == n) && same_place e.place p) && is_alone n p (map pair_of (take k xs)))
-alone_left n p m k xs e h =
-    ap (λ (r : List InProgress). is_alone n p (map pair_of r)) h ∙ ap (λ (r : Pairs). is_alone n p r) (pair_push (take k xs) e)
-    ∙ is_alone-last n p (map pair_of (take k xs)) (pair_of e)
+or_none : (a b : Bool) → a ≡ false → b ≡ false → (a || b) ≡ false
+or_none a b e f = ap (λ x. x || b) e ∙ f
 
--- no place that is left is as deep
-pub alone_as_deep : (n : ℕ) (p : Place) (m k : ℕ) (xs : List InProgress) (e : InProgress) → take m xs ≡ take k xs ++ e ∷ [] → KnowsDepths xs → e.deepest < length p
-    → is_alone n p (map pair_of (take m xs)) ≡ true
-alone_as_deep n p m k xs e h d l =
-    ap (λ (r : List InProgress). is_alone n p (map pair_of r)) h
-    ∙ ap (list_all (λ j. j == n)) (none_as_deep p (take k xs) e (subst KnowsDepths h (depths_first m xs d)) l)
+or_neither : (a b : Bool) → (a || b) ≡ false → (a ≡ false) × (b ≡ false)
+or_neither true b h = absurd (true≢false h)
+or_neither false b h = (refl, h)
 
--- another node is there
-pub not_alone : (n : ℕ) (p : Place) (m k : ℕ) (xs : List InProgress) (e : InProgress) → take m xs ≡ take k xs ++ e ∷ [] → (not (e.node.0 == n) && same_place e.place p) ≡ true
-    → is_alone n p (map pair_of (take m xs)) ≡ false
-not_alone n p m k xs e h y = alone_left n p m k xs e h ∙ ap (λ (b : Bool). not b && is_alone n p (map pair_of (take k xs))) y
+once_push : (xs : List ℕ) (n : ℕ) → Once xs → among n xs ≡ false → Once (xs ++ n ∷ [])
+once_push [] n h e = (refl, tt)
+once_push (x ∷ xs) n h e =
+    let parts = or_neither (x == n) (among n xs) e in
+    (among-append x xs (n ∷ []) ∙ or_none (among x xs) (among x (n ∷ [])) h.0 (or_none (n == x) false (swapped n x ∙ parts.0) refl), once_push xs n h.1 parts.1)
 
--- it is no other node's pair at the place
-pub alone_before : (n : ℕ) (p : Place) (m k : ℕ) (xs : List InProgress) (e : InProgress) → take m xs ≡ take k xs ++ e ∷ [] → (not (e.node.0 == n) && same_place e.place p) ≡ false
-    → is_alone n p (map pair_of (take m xs)) ≡ is_alone n p (map pair_of (take k xs))
-alone_before n p m k xs e h y = alone_left n p m k xs e h ∙ ap (λ (b : Bool). not b && is_alone n p (map pair_of (take k xs))) y
+-- where no pair stands twice, no number is twice at a place
+pub once_at : (p : Place) (es : Pairs) → Distinct es → Once (busy_at p es)
+once_at p [] d = tt
+once_at p (e ∷ es) d = go (once_at p es d.1) (same_place e.1 p) refl
+  where
+    absent : (b : Bool) → among e.0 (busy_at p es) ≡ b → same_place e.1 p ≡ true → b ≡ false
+    absent false h s = refl
+    absent true h s =
+        let w = found e.0 p es h in
+        absurd (d.0 (subst (λ (q : Place). Contains es (e.0, q)) (sym (place_equal e.1 p s)) w))
 
-pub alone_none : (n : ℕ) (p : Place) (k : ℕ) (xs : List InProgress) → k ≤ 0 → is_alone n p (map pair_of (take k xs)) ≡ true
-alone_none n p zero xs l = refl
-alone_none n p (suc k) xs l = absurd (omega arith)
+    go : Once (busy_at p es) → (b : Bool) → same_place e.1 p ≡ b → Once (busy_at p es ++ cond b (e.0 ∷ []) [])
+    go rest true s = once_push (busy_at p es) e.0 rest (absent (among e.0 (busy_at p es)) refl s)
+    go rest false s = subst Once (sym (append-nil (busy_at p es))) rest
+
+-- a number is alone where none is there, or one, which it is
+pub alone_by_count : (n : ℕ) (xs : List ℕ) → Once xs → list_all (λ j. j == n) xs ≡ ((length xs == 0) || ((length xs == 1) && among n xs))
+alone_by_count n [] h = refl
+alone_by_count n (x ∷ []) h = go (x == n)
+  where
+    go : (b : Bool) → (b && true) ≡ (b || false)
+    go true = refl
+    go false = refl
+alone_by_count n (x ∷ y ∷ xs) h = go (x == n) (y == n) refl refl
+  where
+    parts : (x == y) ≡ false
+    parts = swapped x y ∙ (or_neither (y == x) (among x xs) (ap (λ b. b || among x xs) refl ∙ h.0)).0
+
+    none : (k : ℕ) (z : Bool) → ((suc (suc k) == 0) || ((suc (suc k) == 1) && z)) ≡ false
+    none k z = ap (λ b. b || ((suc (suc k) == 1) && z)) (other_test (suc (suc k)) 0 (λ e. omega arith)) ∙ ap (λ b. b && z) (other_test (suc (suc k)) 1 (λ e. omega arith))
+
+    go : (a b : Bool) → (x == n) ≡ a → (y == n) ≡ b → (a && (b && list_all (λ j. j == n) xs)) ≡ ((suc (suc (length xs)) == 0) || ((suc (suc (length xs)) == 1) && (a || (b || among n xs))))
+    go true true e f =
+        let one : x ≡ n = eqb-true x n e in
+        let two : y ≡ n = eqb-true y n f in
+        let same : (x == y) ≡ true = subst (λ (j : ℕ). (x == j) ≡ true) (one ∙ sym two) (eqb-self x) in
+        absurd (true≢false (sym same ∙ parts))
+    go true false e f = sym (none (length xs) true)
+    go false b e f = sym (none (length xs) (b || among n xs))

@@ -1,6 +1,10 @@
 pub mod Pairs
-pub mod Depths
 pub mod Matches
 pub mod MarkLists
-pub mod VerdictMaps
 pub mod Alone
+pub mod RowsChanged
+pub mod Guarding
+pub mod Entering
+pub mod VerdictRows
+pub mod Few
+pub mod Widths

@@ -1,21 +1,17 @@
 -- The pairs in progress: what is among them, one more, and one less.
-use Rattle.std.proofs.Common.{◌≡◌, ℕ, zero, suc, ◌+◌, ◌<◌, ◌≤◌, ◌==◌, ◌&&◌, Bool, true, false, cond, List, [], ◌∷◌, ◌++◌, length, get_or, map, refl, sym, ◌∙◌, ap, subst, arith, rules, true≢false, length-append, inl, inr, ⊎_elim}
-use Rattle.std.specs.Prelude.{◌||◌, ◌⊎◌, All, Contains, Option, Some, None}
+use Rattle.std.proofs.Common.{◌≡◌, ℕ, zero, suc, ◌+◌, ◌<◌, ◌≤◌, ◌==◌, ◌&&◌, Bool, true, false, cond, List, [], ◌∷◌, ◌++◌, length, get_or, refl, sym, ◌∙◌, ap, subst, arith, rules, true≢false, length-append, inl, inr, ⊎_elim}
+use Rattle.std.specs.Prelude.{◌||◌, ◌⊎◌, All, Contains}
 use Rattle.std.specs.List.{list_any}
-use Rattle.std.specs.Option.{option_to_list}
 use Rattle.std.proofs.lemmas.Bool.{eqb-true}
 use Rattle.std.proofs.lemmas.Slice.Eq.{bytes_eq-Decides}
-use Rattle.std.proofs.lemmas.List.{append-nil}
 use Rattle.schema_definitions.specs.Instance.{Place, Step, to_member, to_item, to_name, same_step, same_place}
 use Rattle.schema_reports.proofs.Places.{differ_in_length}
-use Rattle.schema_contexts.specs.Progress.{Pairs, busy_at, NoDeeper, Distinct, Enters, EndsWith}
-use Rattle.schema_contexts.specs.ProgressViews.{pair_of}
-use Rattle.schema_contexts.specs.declared.validation.InProgress.{InProgress}
+use Rattle.schema_contexts.specs.Progress.{Pairs, busy_at, NoDeeper, Distinct, Enters}
 
 abbrev pub among : ℕ → List ℕ → Bool
 among n xs = list_any (λ i. i == n) xs
 
-eqb-self : (n : ℕ) → (n == n) ≡ true
+pub eqb-self : (n : ℕ) → (n == n) ≡ true
 eqb-self n = search rules
 
 same_step-self : (s : Step) → same_step s s ≡ true
@@ -85,7 +81,7 @@ deeper-pushed p n [] h (suc i) d l = absurd (omega arith)
 deeper-pushed p n (e ∷ es) h zero d l = first_of (λ e. length e.1 ≤ length p) e es h
 deeper-pushed p n (e ∷ es) h (suc i) d l = deeper-pushed p n es (rest_of (λ e. length e.1 ≤ length p) e es h) i d (omega arith)
 
-among-append : (n : ℕ) (xs ys : List ℕ) → among n (xs ++ ys) ≡ (among n xs || among n ys)
+pub among-append : (n : ℕ) (xs ys : List ℕ) → among n (xs ++ ys) ≡ (among n xs || among n ys)
 among-append n [] ys = refl
 among-append n (x ∷ xs) ys = go (x == n) (among-append n xs ys)
   where
@@ -168,30 +164,22 @@ entered_new n p old b new e h =
 pub entered_old : (n : ℕ) (p : Place) (old : Pairs) (b : Bool) (new : Pairs) → Enters n p old b new → b ≡ true → (among n (busy_at p old) ≡ true) × (new ≡ old)
 entered_old n p old b new e h = (there n p old (e.0.0 h), rw h at e.1)
 
+-- a pair that is not in progress is entered
+pub enters_fresh : (n : ℕ) (p : Place) (old : Pairs) (b : Bool) (new : Pairs) → Enters n p old b new → among n (busy_at p old) ≡ false → new ≡ old ++ (n, p) ∷ []
+enters_fresh n p old true new e h = absurd (true≢false (sym (there n p old (e.0.0 refl)) ∙ h))
+enters_fresh n p old false new e h = e.1
+
 pub enters_old : (n : ℕ) (p : Place) (old : Pairs) → among n (busy_at p old) ≡ true → Enters n p old true old
 enters_old n p old e = ((λ h. found n p old e, λ w. refl), refl)
 
 pub enters_new : (n : ℕ) (p : Place) (old new : Pairs) → new ≡ old ++ (n, p) ∷ [] → among n (busy_at p old) ≡ false → Enters n p old false new
 enters_new n p old new h e = ((λ g. absurd (true≢false (sym g)), λ w. sym e ∙ there n p old w), h)
 
--- ---- the code's list
+pub distinct_pushed : (n : ℕ) (p : Place) (old : Pairs) → Distinct old → among n (busy_at p old) ≡ false → Distinct (old ++ (n, p) ∷ [])
+distinct_pushed n p old d e = distinct-push old (n, p) d (λ w. true≢false (sym (there n p old w) ∙ e))
 
-map_push : (old : List InProgress) (e : InProgress) → map pair_of (old ++ e ∷ []) ≡ map pair_of old ++ pair_of e ∷ []
-map_push [] e = refl
-map_push (x ∷ old) e = ap (λ r. pair_of x ∷ r) (map_push old e)
-
-pub pushed_pairs : (old new : List InProgress) (e : InProgress) (p : Place) → new ≡ old ++ e ∷ [] → e.place ≡ p → map pair_of new ≡ map pair_of old ++ (e.node.0, p) ∷ []
-pushed_pairs old new e p h q = ap (map pair_of) h ∙ map_push old e ∙ ap (λ (r : Place). map pair_of old ++ (e.node.0, r) ∷ []) q
-
-pub distinct_pushed : (n : ℕ) (p : Place) (old new : Pairs) → new ≡ old ++ (n, p) ∷ [] → Distinct old → among n (busy_at p old) ≡ false → Distinct new
-distinct_pushed n p old new h d e = subst Distinct (sym h) (distinct-push old (n, p) d (λ w. true≢false (sym (there n p old w) ∙ e)))
-
-distinct_popped : (old new : List InProgress) (e : InProgress) → old ≡ new ++ e ∷ [] → Distinct (map pair_of old) → Distinct (map pair_of new)
-distinct_popped old new e h d = distinct-init (map pair_of new) (pair_of e) (subst Distinct (ap (map pair_of) h ∙ map_push new e) d)
-
-pub distinct_left : (old new : List InProgress) (o : Option InProgress) → old ≡ new ++ option_to_list o → Distinct (map pair_of old) → Distinct (map pair_of new)
-distinct_left old new None h d = subst (λ (r : List InProgress). Distinct (map pair_of r)) (h ∙ append-nil new) d
-distinct_left old new (Some e) h d = distinct_popped old new e h d
+pub distinct_front : (es : Pairs) (x : ℕ × Place) → Distinct (es ++ x ∷ []) → Distinct es
+distinct_front es x d = distinct-init es x d
 
 -- what is left once the last is taken away
 pub snoc_first : {X : Type 0} (xs ys : List X) (x y : X) → xs ++ x ∷ [] ≡ ys ++ y ∷ [] → (xs ≡ ys) × (x ≡ y)
@@ -206,20 +194,6 @@ snoc_first {X = X} (a ∷ xs) (b ∷ ys) x y h =
     let r = snoc_first xs ys x y others in
     (ap (λ (u : X). u ∷ xs) first ∙ ap (λ (us : List X). b ∷ us) r.0, r.1)
 
-nil_snoc : {X : Type 0} (xs : List X) (x : X) → [] ≡ xs ++ x ∷ [] → ⊥
+pub nil_snoc : {X : Type 0} (xs : List X) (x : X) → [] ≡ xs ++ x ∷ [] → ⊥
 nil_snoc [] x h = cc
 nil_snoc (y ∷ xs) x h = cc
-
-none_of : {X : Type 0} (xs : List X) → length xs ≡ 0 → xs ≡ []
-none_of [] h = refl
-none_of (x ∷ xs) h = absurd (omega arith)
-
-pub left_pairs : (n : ℕ) (p : Place) (before : Pairs) (old new : List InProgress) (o : Option InProgress) → map pair_of old ≡ before → old ≡ new ++ option_to_list o → (o ≡ None → length new ≡ 0) → EndsWith n p before
-    → before ≡ map pair_of new ++ (n, p) ∷ []
-left_pairs n p before old new None is h empty e =
-    let z : map pair_of old ≡ [] = ap (map pair_of) (h ∙ append-nil new ∙ none_of new (empty refl)) in
-    absurd (nil_snoc e.0 (n, p) (sym z ∙ is ∙ e.1))
-left_pairs n p before old new (Some x) is h empty e =
-    let all : map pair_of new ++ pair_of x ∷ [] ≡ e.0 ++ (n, p) ∷ [] = sym (ap (map pair_of) h ∙ map_push new x) ∙ is ∙ e.1 in
-    let r = snoc_first (map pair_of new) e.0 (pair_of x) (n, p) all in
-    sym is ∙ ap (map pair_of) h ∙ map_push new x ∙ ap (λ (q : ℕ × Place). map pair_of new ++ q ∷ []) r.1

@@ -7,9 +7,11 @@ pub use Rattle.schema_parts.specs.FaultViews
 pub use Rattle.schema_parts.specs.EdgeViews
 pub mod Progress
 pub mod Verdicts
-pub mod VerdictViews
+pub mod Rows
+pub mod RowViews
 pub mod Matches
 pub mod MarkViews
 pub mod ProgressViews
 pub mod EvaluationPaths
 pub mod KeptPaths
+pub mod Lending

@@ -1,6 +1,9 @@
--- The pairs of a node's number and a place that are in progress, the last entered last.
-use Rattle.std.specs.Prelude.{ℕ, ◌≤◌, ◌≡◌, ◌↔◌, Bool, IsTrue, List, [], ◌∷◌, ◌++◌, length, if◌then◌else◌, All, Contains}
-use Rattle.schema_definitions.specs.Instance.{Place, same_place}
+-- The pairs of a node's number and a place that are in progress, the last entered last; and what a run holds.
+use Rattle.std.specs.Prelude.{ℕ, ◌≤◌, ◌≡◌, ◌↔◌, ◌+◌, ◌*◌, ◌/◌, ◌||◌, ◌==◌, Bool, IsTrue, List, [], ◌∷◌, ◌++◌, length, nat_eq, not, if◌then◌else◌, All, Contains}
+use Rattle.std.specs.List.{filter, list_any}
+use Rattle.serde_json.specs.View.{view}
+use Rattle.serde_json.specs.declared.value.Value.{Value}
+use Rattle.schema_definitions.specs.Instance.{Place, places, same_place}
 use Rattle.schema_definitions.specs.Keywords.{Marked}
 use Rattle.schema_definitions.specs.Unfinished.{Remembered}
 
@@ -33,15 +36,60 @@ EndsWith n p es = (rest : Pairs) × (es ≡ rest ++ (n, p) ∷ [])
 abbrev pub Verdicts : Type 0
 Verdicts = List ((ℕ × Place) × Bool)
 
--- what a run holds: the pairs in progress, what it assumes of unfinished matches and remembers of those that it met, the marks of
--- the keyword's run that is at work, the last one first, the verdicts that it remembers, and how many guarded visits it counted
+-- what a run holds: the instance whose places it speaks of, the pairs in progress, what it assumes of unfinished matches and remembers
+-- of those that it met, the marks of the keyword's run that is at work, the last one first, the verdicts that it remembers, how many
+-- guarded visits it counted, the node numbers that were entered, and those that a verdict is remembered for, and how many words of 64
+-- bits its rows take
 pub record Context : Type 0 where
+  pub root : Value
   pub in_progress : Pairs
   pub remembered : Remembered
   pub marking : List Marked
   pub verdicts : Verdicts
   pub visits : ℕ
+  pub entered : List ℕ
+  pub kept : List ℕ
+  pub words : ℕ
 
--- a run that has begun, with what it remembers of matches
-abbrev pub begun : Remembered → Context
-begun r = record { in_progress = []; remembered = r; marking = []; verdicts = []; visits = 0 }
+-- the places of an instance in the order of their numbers
+abbrev pub root_places : Value → List Place
+root_places v = places (view v)
+
+abbrev pub places_in : Context → List Place
+places_in c = root_places c.root
+
+-- a run that has begun on this instance, with what it remembers of matches
+abbrev pub begun : Value → Remembered → Context
+begun v r = record { root = v; in_progress = []; remembered = r; marking = []; verdicts = []; visits = 0; entered = []; kept = []; words = 0 }
+
+-- a node's number is among some
+abbrev pub has_number : ℕ → List ℕ → Bool
+has_number n xs = list_any (nat_eq n) xs
+
+-- a number comes to some
+abbrev pub Adds : ℕ → List ℕ → List ℕ → Type 0
+Adds n old new = (m : ℕ) → has_number m new ≡ (has_number m old || (n == m))
+
+-- the numbers that were entered or that a verdict is remembered for, each once
+abbrev pub numbers : Context → List ℕ
+numbers c = c.entered ++ filter (λ n. not (has_number n c.entered)) c.kept
+
+-- how many rows there are: one for each number that was entered, two for each that a verdict is remembered for
+abbrev pub rows : Context → ℕ
+rows c = length c.entered + 2 * length c.kept
+
+-- at most three rows for each number
+abbrev pub FewRows : Context → Type 0
+FewRows c = rows c ≤ 3 * length (numbers c)
+
+-- how many words of 64 bits a row takes that has a bit for each of so many places
+abbrev pub row_words : ℕ → ℕ
+row_words n = (n + 63) / 64
+
+-- how many words the rows of the numbers that were entered take
+abbrev pub guard_words : Context → ℕ
+guard_words c = length c.entered * row_words (length (places_in c))
+
+-- each row has a bit for each place, and no word more than these take
+abbrev pub IsWide : Context → Type 0
+IsWide c = c.words ≡ rows c * row_words (length (places_in c))

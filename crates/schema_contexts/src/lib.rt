@@ -4,6 +4,5 @@
 pub mod evaluation_path;
 pub mod kept_paths;
 pub mod marks;
-pub mod shared_place;
+mod rows;
 pub mod validation;
-mod verdicts;

@@ -1,7 +1,9 @@
 //! What a run has in progress, what it assumes and remembers of unfinished matches, and what it marks.
-ghost use Rattle.std.specs.Prelude.{◌≡◌, ◌≤◌, ◌++◌, ◌∷◌, [], All, IfOk, IfErr, IfSome, OnErr, OnOk, is_some, length, map, option_map};
+ghost use Rattle.std.specs.Prelude.{◌≡◌, ◌<◌, ◌≤◌, ◌++◌, ◌∷◌, ◌⊎◌, [], ℕ, IfOk, IfErr, IfSome, OnErr, OnOk, is_some, length, map};
+ghost use Rattle.std.specs.Prelude.{◌==◌, option_map, slice_index_or};
+ghost use Rattle.std.specs.Vec.{vec_capacity, vec_len};
+ghost use Rattle.std.specs.Borrow.{sem};
 ghost use Rattle.std.specs.List.{list_any};
-ghost use Rattle.std.specs.Prelude.{◌==◌, false};
 ghost use Rattle.schema_definitions.specs.Guarded.{same_edge};
 ghost use Rattle.schema_definitions.specs.Matching as matching;
 ghost use Rattle.schema_definitions.specs.Matching.{assumed};
@@ -13,33 +15,34 @@ ghost use Rattle.schema_contexts.specs.EvaluationPaths.{path_of};
 ghost use Rattle.schema_parts.specs.KeywordViews.{marked_of};
 ghost use Rattle.schema_contexts.specs.Matches.{after_match, comes_out};
 ghost use Rattle.schema_parts.specs.EdgeViews.{edge_of};
-ghost use Rattle.schema_contexts.specs.Progress.{begun, busy_at, Distinct, Enters, EndsWith};
+ghost use Rattle.serde_json.specs.View.{view};
+ghost use Rattle.schema_places.specs.Numbers.{NumbersAll, place_at};
+ghost use Rattle.schema_contexts.specs.Progress.{Adds, Distinct, Enters, EndsWith, FewRows, IsWide, begun, busy_at, guard_words, places_in};
 ghost use Rattle.schema_contexts.specs.Verdicts.{MayKeep, Remembers, is_alone, is_container, one_more, read_verdict};
 ghost use Rattle.schema_reports.specs.InstanceViews.{subject_of};
 
 use crate::evaluation_path::EvaluationPath;
 use crate::kept_paths::KeptPaths;
 use crate::marks::Marks;
-use crate::shared_place::SharedPlace;
-use crate::verdicts::Verdicts;
+use crate::rows::{Rows, row_words};
 use schema_matches::assumptions::MatchAssumptions;
 use schema_matches::site::{Match, MatchSite, Reason};
 use schema_parts::keyword::Marked;
 use schema_parts::matcher::Matcher;
 use schema_parts::numbers::{Edge, SchemaNode};
-use schema_reports::instance::{Instance, Place};
+use schema_places::on_demand::PlacesOnDemand;
+use schema_places::places::Places;
+use schema_reports::instance::Instance;
 use schema_reports::location::{Location, OutOfMemory};
 use std::alloc::Global;
 use std::marker::Model;
 use std::mem;
 
-/// A node that is asked about the instance at a place, until it has answered; and the number of steps of the longest place
-/// among this one and those of the pairs that were entered before it.
+/// A node that is asked about the instance at a place, by the place's number, until it has answered.
 #[derive(Drop)]
-struct InProgress<'i> {
+struct InProgress {
     node: SchemaNode,
-    place: SharedPlace<'i>,
-    deepest: usize,
+    place: usize,
 }
 
 /// How many guarded visits a verdict has to take, its own included, so that it is remembered.
@@ -49,12 +52,20 @@ const MEMO_MIN_VISITS: u64 = 16;
 /// unfinished matches, and remembers of those that it met; the marks of the keyword's run that is at work; and the verdicts that
 /// the run remembers of guarded questions, with how many of these it visited. A context is one run's. Contracts do not see the
 /// paths that it keeps.
+///
+/// Places go by their numbers, which are given when the first is asked for. What is in progress is a row of bits for each node that
+/// was entered, and a count for each place; the verdicts of a node are two rows, of the places that are known and of the verdicts
+/// there.
 #[derive(Drop)]
 pub struct ValidationContext<'i> {
-    pairs: Vec<InProgress<'i>>,
+    alloc: Global,
+    places: PlacesOnDemand<'i>,
+    pairs: Vec<InProgress>,
+    counts: Vec<usize>,
+    guard: Rows,
+    known: Rows,
     matches: MatchAssumptions<'i>,
     marking: Marks,
-    verdicts: Verdicts<'i>,
     visits: u64,
     kept_paths: KeptPaths,
 }
@@ -70,42 +81,96 @@ fn is_container(instance: Instance<'_>) -> bool
 }
 
 impl<'i> Model for ValidationContext<'i> {
-    ghost use Rattle.std.specs.Prelude.{map};
-    ghost use Rattle.schema_contexts.specs.Progress.{Context, Distinct};
-    ghost use Rattle.schema_contexts.specs.ProgressViews.{pair_of, KnowsDepths};
+    ghost use Rattle.std.specs.Prelude.{◌+◌, map};
+    ghost use Rattle.schema_contexts.specs.Progress.{Context, root_places};
+    ghost use Rattle.schema_contexts.specs.ProgressViews.{Holds, all_verdicts, pair_of};
+    ghost use Rattle.schema_contexts.specs.Rows.{row_numbers, words_in};
+    ghost use Rattle.serde_json.specs.contracts.value.Value as value;
+    ghost use Rattle.std.specs.Coded.{codes};
 
     ghost Value = { Context };
 
+    ghost coded = { Prim.hlevel (codes, value.the_row.coded) };
+
     ghost view = { λ c. record {
-      in_progress = map pair_of c.pairs.items;
+      root = c.places;
+      in_progress = map (pair_of (root_places c.places)) c.pairs.items;
       remembered = c.matches;
       marking = c.marking;
-      verdicts = c.verdicts;
+      verdicts = all_verdicts (root_places c.places) c.known;
       visits = c.visits;
+      entered = row_numbers c.guard;
+      kept = row_numbers c.known;
+      words = words_in c.guard + words_in c.known;
     } };
 
-    ghost invariant = { λ c. Distinct (map pair_of c.pairs.items) × KnowsDepths c.pairs.items };
+    ghost invariant = { λ c. Holds (root_places c.places) (map (pair_of (root_places c.places)) c.pairs.items) c.counts.items c.guard c.known };
+}
+
+// Adds a pair where there is room.
+fn push_within(pairs: &mut Vec<InProgress>, pair: InProgress)
+    requires room { vec_len pairs.old < vec_capacity pairs.old }
+    ensures pushed { pairs.new.items ≡ pairs.old.items ++ pair ∷ [] }
+{
+    match pairs.push(pair) {
+        Ok(_) => (),
+        Err(_) => unreachable!(),
+    }
+}
+
+// Makes a count for each place, where there is none yet. Fails only if memory cannot be allocated, and then nothing has changed.
+fn make_counts(alloc: Global, counts: &mut Vec<usize>, places: usize) -> Result<(), OutOfMemory>
+    requires sized { (length counts.old.items ≡ 0) ⊎ (length counts.old.items ≡ places) }
+    ensures made { OnOk result (length counts.new.items ≡ places) }
+    ensures same { (k : ℕ) → slice_index_or counts.new.items k 0 ≡ slice_index_or counts.old.items k 0 }
+    ensures unchanged { OnErr result (counts.new.items ≡ counts.old.items) }
+{
+    if counts.len() == places {
+        return Ok(());
+    }
+    *counts = Vec::from_elem(alloc, 0usize, places)?;
+    Ok(())
+}
+
+// The count of a place; it is 0 where none was made.
+fn count_at(counts: &[usize], place: usize) -> usize
+    ensures count { result ≡ slice_index_or counts.now place 0 }
+{
+    match counts.get(place) {
+        Some(count) => *count,
+        None => 0,
+    }
 }
 
 impl<'i> ValidationContext<'i> {
-    /// Returns a context with nothing in progress, nothing assumed, nothing marked and no verdict remembered.
-    pub fn new(alloc: Global) -> ValidationContext<'i>
-        ensures empty { result ≡ begun (starting []) }
+    ghost use Rattle.schema_contexts.specs.Lending.{EndsAs};
+
+    /// Returns a context at these places, with nothing in progress, nothing assumed, nothing marked and no verdict remembered. It
+    /// allocates nothing.
+    pub fn new(alloc: Global, places: PlacesOnDemand<'i>) -> ValidationContext<'i>
+        ensures empty { result ≡ begun places.entry (starting []) }
     {
-        ValidationContext::assuming(alloc, MatchAssumptions::new(alloc))
+        ValidationContext::assuming(alloc, places, MatchAssumptions::new(alloc))
     }
 
-    /// Returns a context with nothing in progress, nothing marked and no verdict remembered, with these assumptions and what is
-    /// remembered with them.
-    pub fn assuming(alloc: Global, matches: MatchAssumptions<'i>) -> ValidationContext<'i>
-        ensures assumes { result ≡ begun matches.entry }
+    /// Returns a context at these places, with nothing in progress, nothing marked and no verdict remembered, with these assumptions
+    /// and what is remembered with them. It allocates nothing.
+    pub fn assuming(
+        alloc: Global,
+        places: PlacesOnDemand<'i>,
+        matches: MatchAssumptions<'i>,
+    ) -> ValidationContext<'i>
+        ensures assumes { result ≡ begun places.entry matches.entry }
     {
-        let pairs = Vec::new(alloc);
         ValidationContext {
-            pairs,
+            alloc,
+            places,
+            pairs: Vec::new(alloc),
+            counts: Vec::new(alloc),
+            guard: Rows::new(alloc),
+            known: Rows::new(alloc),
             matches,
             marking: Marks::new(alloc),
-            verdicts: Verdicts::new(alloc),
             visits: 0,
             kept_paths: KeptPaths::new(alloc),
         }
@@ -118,107 +183,89 @@ impl<'i> ValidationContext<'i> {
         self.matches
     }
 
-    // The number of steps of a longest place in progress, or 0 if nothing is in progress.
-    fn deepest(&self) -> usize
-        ensures covers { All (λ e. length e.1 ≤ result) self.now.in_progress }
+    /// Returns the places, for the run that comes next, and what was assumed, with what is remembered of the unfinished matches that
+    /// were met. It allocates nothing.
+    pub fn into_parts(self) -> (PlacesOnDemand<'i>, MatchAssumptions<'i>)
+        ensures root { result.0 ≡ self.entry.root }
+        ensures remembered { result.1 ≡ self.entry.remembered }
     {
-        match self.pairs.last() {
-            Some(pair) => pair.deepest,
-            None => 0,
-        }
+        let ValidationContext {
+            places,
+            matches,
+            ..
+        } = self;
+        (places, matches)
     }
 
-    // The pairs are looked through from the last one backwards, until no place that is left is as deep as this one: a run has no
-    // deeper place in progress than the one that it asks about, so it sees only the pairs at that depth.
-    fn is_in_progress(&self, node: SchemaNode, place: &Place<'i>) -> bool
-        ensures found { result ≡ list_any (λ i. i == node.0) (busy_at place.now self.now.in_progress) }
+    /// Returns the numbered places. They are numbered at the first call, or when the first pair is entered. Fails only if memory
+    /// cannot be allocated, and then nothing has changed.
+    pub fn places(&mut self) -> Result<&Places<'i>, OutOfMemory>
+        ensures places { IfOk result (λ ps. ps.now ≡ places_in self.old) }
+        ensures there { IfOk result (λ ps. NumbersAll (view self.old.root) ps.now) }
+        ensures* unchanged { sem 𝓛 (EndsAs self.entry self.old) }
+    {
+        let alloc = self.alloc;
+        let places = &mut self.places;
+        places.numbered(alloc)
+    }
+
+    /// Returns `true` if the pair is in progress. It allocates nothing.
+    pub fn is_in_progress(&self, node: SchemaNode, place: usize) -> bool
+        requires known { place < length (places_in self.now) }
+        ensures found { result ≡ list_any (λ i. i == node.0) (busy_at (place_at (places_in self.now) place) self.now.in_progress) }
         ensures distinct { Distinct self.now.in_progress }
     {
-        let depth = place.len();
-        let mut left = self.pairs.len();
-        while left > 0 {
-            left -= 1;
-            let pair = &self.pairs[left];
-            if pair.deepest < depth {
-                return false;
-            }
-            if pair.node == node && pair.place.as_place() == place {
-                return true;
-            }
-        }
-        false
+        self.guard.has_bit(node.0, place)
     }
 
     /// Returns `true` if the pair is already in progress; otherwise records it and returns `false`. On `Err` nothing has changed.
-    pub fn enter(&mut self, node: SchemaNode, place: &Place<'i>) -> Result<bool, OutOfMemory>
-        ensures enters { IfOk result (λ b. Enters node.0 place.now self.old.in_progress b self.new.in_progress) }
+    pub fn enter(&mut self, node: SchemaNode, place: usize) -> Result<bool, OutOfMemory>
+        requires known { place < length (places_in self.old) }
+        ensures enters { IfOk result (λ b. Enters node.0 (place_at (places_in self.old) place) self.old.in_progress b self.new.in_progress) }
         ensures unchanged { IfErr result (λ _. self.new ≡ self.old) }
         ensures distinct { Distinct self.new.in_progress }
+        ensures entered { OnOk result (Adds node.0 self.old.entered self.new.entered) }
+        ensures few { OnOk result (FewRows self.new) }
+        ensures wide { OnOk result (IsWide self.new) }
         ensures remembered { self.new.remembered ≡ self.old.remembered }
         ensures marking { self.new.marking ≡ self.old.marking }
         ensures verdicts { self.new.verdicts ≡ self.old.verdicts }
         ensures visits { self.new.visits ≡ self.old.visits }
+        ensures root { self.new.root ≡ self.old.root }
+        ensures kept { self.new.kept ≡ self.old.kept }
     {
-        if self.is_in_progress(node, place) {
+        if self.guard.has_bit(node.0, place) {
             return Ok(true);
         }
-        let shared = SharedPlace::new(*self.pairs.allocator(), place.clone()?)?;
-        self.push_pair(node, shared)?;
+        let places = self.places.numbered(self.alloc)?.len();
+        self.pairs.reserve(1)?;
+        make_counts(self.alloc, &mut self.counts, places)?;
+        self.guard.make_row(self.alloc, node.0, row_words(places))?;
+        push_within(&mut self.pairs, InProgress { node, place });
+        self.guard.put_bit(node.0, 0, place, true);
+        let count = self.counts[place];
+        self.counts[place] = count + 1;
         Ok(false)
-    }
-
-    /// Returns `true` if the pair is already in progress; otherwise records it with the place shared, and returns `false`. On `Err`
-    /// nothing has changed.
-    pub fn enter_shared(
-        &mut self,
-        node: SchemaNode,
-        place: &SharedPlace<'i>,
-    ) -> Result<bool, OutOfMemory>
-        ensures enters { IfOk result (λ b. Enters node.0 place.now self.old.in_progress b self.new.in_progress) }
-        ensures unchanged { IfErr result (λ _. self.new ≡ self.old) }
-        ensures distinct { Distinct self.new.in_progress }
-        ensures remembered { self.new.remembered ≡ self.old.remembered }
-        ensures marking { self.new.marking ≡ self.old.marking }
-        ensures verdicts { self.new.verdicts ≡ self.old.verdicts }
-        ensures visits { self.new.visits ≡ self.old.visits }
-    {
-        if self.is_in_progress(node, place.as_place()) {
-            return Ok(true);
-        }
-        self.push_pair(node, place.share()?)?;
-        Ok(false)
-    }
-
-    // Records a pair that is not in progress.
-    fn push_pair(&mut self, node: SchemaNode, place: SharedPlace<'i>) -> Result<(), OutOfMemory>
-        requires is_new { list_any (λ i. i == node.0) (busy_at place self.old.in_progress) ≡ false }
-        ensures pushed { OnOk result (self.new.in_progress ≡ self.old.in_progress ++ (node.0, place.entry) ∷ []) }
-        ensures unchanged { OnErr result (self.new ≡ self.old) }
-        ensures distinct { Distinct self.new.in_progress }
-        ensures remembered { self.new.remembered ≡ self.old.remembered }
-        ensures marking { self.new.marking ≡ self.old.marking }
-        ensures verdicts { self.new.verdicts ≡ self.old.verdicts }
-        ensures visits { self.new.visits ≡ self.old.visits }
-    {
-        let deepest = self.deepest().max(place.as_place().len());
-        self.pairs.push(InProgress {
-            node,
-            place,
-            deepest,
-        })?;
-        Ok(())
     }
 
     /// Removes the pair, which must be the last one entered. It allocates nothing.
-    pub fn exit(&mut self, node: SchemaNode, place: &Place<'i>)
-        requires last { EndsWith node.0 place.now self.old.in_progress }
-        ensures left { self.old.in_progress ≡ self.new.in_progress ++ (node.0, place.now) ∷ [] }
+    pub fn exit(&mut self, node: SchemaNode, place: usize)
+        requires known { place < length (places_in self.old) }
+        requires last { EndsWith node.0 (place_at (places_in self.old) place) self.old.in_progress }
+        ensures left { self.old.in_progress ≡ self.new.in_progress ++ (node.0, place_at (places_in self.old) place) ∷ [] }
         ensures remembered { self.new.remembered ≡ self.old.remembered }
         ensures marking { self.new.marking ≡ self.old.marking }
         ensures verdicts { self.new.verdicts ≡ self.old.verdicts }
         ensures visits { self.new.visits ≡ self.old.visits }
+        ensures root { self.new.root ≡ self.old.root }
+        ensures entered { self.new.entered ≡ self.old.entered }
+        ensures kept { self.new.kept ≡ self.old.kept }
+        ensures words { self.new.words ≡ self.old.words }
     {
         self.pairs.pop();
+        self.guard.put_bit(node.0, 0, place, false);
+        let count = self.counts[place];
+        self.counts[place] = count - 1;
     }
 
     /// Returns `true` if the keyword's run that is at work has marked this already: the same request, or a child that leads to the
@@ -238,6 +285,10 @@ impl<'i> ValidationContext<'i> {
         ensures remembered { self.new.remembered ≡ self.old.remembered }
         ensures verdicts { self.new.verdicts ≡ self.old.verdicts }
         ensures visits { self.new.visits ≡ self.old.visits }
+        ensures root { self.new.root ≡ self.old.root }
+        ensures entered { self.new.entered ≡ self.old.entered }
+        ensures kept { self.new.kept ≡ self.old.kept }
+        ensures words { self.new.words ≡ self.old.words }
     {
         self.marking.enter(children, marked)
     }
@@ -249,6 +300,10 @@ impl<'i> ValidationContext<'i> {
         ensures remembered { self.new.remembered ≡ self.old.remembered }
         ensures verdicts { self.new.verdicts ≡ self.old.verdicts }
         ensures visits { self.new.visits ≡ self.old.visits }
+        ensures root { self.new.root ≡ self.old.root }
+        ensures entered { self.new.entered ≡ self.old.entered }
+        ensures kept { self.new.kept ≡ self.old.kept }
+        ensures words { self.new.words ≡ self.old.words }
     {
         self.marking.exit();
     }
@@ -261,6 +316,10 @@ impl<'i> ValidationContext<'i> {
         ensures remembered { self.new.remembered ≡ self.old.remembered }
         ensures verdicts { self.new.verdicts ≡ self.old.verdicts }
         ensures visits { self.new.visits ≡ self.old.visits }
+        ensures root { self.new.root ≡ self.old.root }
+        ensures entered { self.new.entered ≡ self.old.entered }
+        ensures kept { self.new.kept ≡ self.old.kept }
+        ensures words { self.new.words ≡ self.old.words }
     {
         mem::replace(&mut self.marking, Marks::new(alloc))
     }
@@ -272,6 +331,10 @@ impl<'i> ValidationContext<'i> {
         ensures remembered { self.new.remembered ≡ self.old.remembered }
         ensures verdicts { self.new.verdicts ≡ self.old.verdicts }
         ensures visits { self.new.visits ≡ self.old.visits }
+        ensures root { self.new.root ≡ self.old.root }
+        ensures entered { self.new.entered ≡ self.old.entered }
+        ensures kept { self.new.kept ≡ self.old.kept }
+        ensures words { self.new.words ≡ self.old.words }
     {
         self.marking = aside;
     }
@@ -296,6 +359,10 @@ impl<'i> ValidationContext<'i> {
         ensures marking { self.new.marking ≡ self.old.marking }
         ensures verdicts { self.new.verdicts ≡ self.old.verdicts }
         ensures visits { self.new.visits ≡ self.old.visits }
+        ensures root { self.new.root ≡ self.old.root }
+        ensures entered { self.new.entered ≡ self.old.entered }
+        ensures kept { self.new.kept ≡ self.old.kept }
+        ensures words { self.new.words ≡ self.old.words }
         ensures unchanged { OnErr result (self.new ≡ self.old) }
     {
         match matcher.is_match(alloc, pattern, subject)? {
@@ -338,36 +405,37 @@ impl<'i> ValidationContext<'i> {
         ensures marking { self.new.marking ≡ self.old.marking }
         ensures verdicts { self.new.verdicts ≡ self.old.verdicts }
         ensures visits { self.new.visits ≡ self.old.visits }
+        ensures root { self.new.root ≡ self.old.root }
+        ensures entered { self.new.entered ≡ self.old.entered }
+        ensures kept { self.new.kept ≡ self.old.kept }
+        ensures words { self.new.words ≡ self.old.words }
         ensures unchanged { OnErr result (self.new ≡ self.old) }
     {
         Ok(self.matches.resolve(pattern, subject, reason, site)?)
     }
 
     // Whether no other node is in progress at the place.
-    fn is_alone(&self, node: SchemaNode, place: &Place<'i>) -> bool
-        ensures alone { result ≡ is_alone node.0 place.now self.now.in_progress }
+    fn is_alone(&self, node: SchemaNode, place: usize) -> bool
+        requires known { place < length (places_in self.now) }
+        ensures alone { result ≡ is_alone node.0 (place_at (places_in self.now) place) self.now.in_progress }
     {
-        let depth = place.len();
-        let mut left = self.pairs.len();
-        while left > 0 {
-            left -= 1;
-            let pair = &self.pairs[left];
-            if pair.deepest < depth {
-                return true;
-            }
-            if pair.node != node && pair.place.as_place() == place {
-                return false;
-            }
+        let count = count_at(self.counts.as_slice(), place);
+        if count == 0 {
+            return true;
         }
-        true
+        if count != 1 {
+            return false;
+        }
+        self.guard.has_bit(node.0, place)
     }
 
     /// Returns the verdict that is remembered of the node at the place, unless another node is in progress at that place. It
     /// allocates nothing.
-    pub fn get_cached_result(&self, node: SchemaNode, place: &Place<'i>) -> Option<bool>
-        ensures read { result ≡ read_verdict node.0 place.now self.now }
+    pub fn get_cached_result(&self, node: SchemaNode, place: usize) -> Option<bool>
+        requires known { place < length (places_in self.now) }
+        ensures read { result ≡ read_verdict node.0 (place_at (places_in self.now) place) self.now }
     {
-        let found = self.verdicts.get(node, place)?;
+        let found = self.known.verdict_in(node.0, place)?;
         if self.is_alone(node, place) {
             Some(found)
         } else {
@@ -403,32 +471,54 @@ impl<'i> ValidationContext<'i> {
     pub fn cache_result(
         &mut self,
         node: SchemaNode,
-        place: &Place<'i>,
+        place: usize,
         instance: Instance<'i>,
         verdict: bool,
         mark: u64,
     ) -> Result<(), OutOfMemory>
-        ensures kept { OnOk result (MayKeep node.0 place.now (subject_of instance.entry) mark self.old
-            → Remembers node.0 place.now verdict self.old.verdicts self.new.verdicts) }
-        ensures others { OnOk result (¬ MayKeep node.0 place.now (subject_of instance.entry) mark self.old
+        requires known { place < length (places_in self.old) }
+        ensures kept { OnOk result (MayKeep node.0 (place_at (places_in self.old) place) (subject_of instance.entry) mark self.old
+            → Remembers node.0 (place_at (places_in self.old) place) verdict self.old.verdicts self.new.verdicts) }
+        ensures others { OnOk result (¬ MayKeep node.0 (place_at (places_in self.old) place) (subject_of instance.entry) mark self.old
             → self.new ≡ self.old) }
-        ensures frame { self.new ≡ record self.old { verdicts = self.new.verdicts } }
+        ensures numbers { OnOk result (MayKeep node.0 (place_at (places_in self.old) place) (subject_of instance.entry) mark self.old
+            → Adds node.0 self.old.kept self.new.kept) }
+        ensures few { OnOk result (FewRows self.new) }
+        ensures wide { OnOk result (IsWide self.new) }
+        ensures frame { self.new ≡ record self.old {
+          verdicts = self.new.verdicts;
+          kept = self.new.kept;
+          words = self.new.words;
+        } }
         ensures unchanged { OnErr result (self.new ≡ self.old) }
     {
         if self.visits.saturating_sub(mark) < MEMO_MIN_VISITS {
             return Ok(());
         }
-        if !is_container(instance) || !self.is_alone(node, place) {
+        if !is_container(instance) {
             return Ok(());
         }
-        self.verdicts.insert(node, place.clone()?, verdict)
+        if !self.is_alone(node, place) {
+            return Ok(());
+        }
+        let words = row_words(self.places.numbered(self.alloc)?.len());
+        self.known.make_row(self.alloc, node.0, 2 * words)?;
+        self.known.put_bit(node.0, 0, place, true);
+        self.known.put_bit(node.0, words, place, verdict);
+        Ok(())
     }
 
     /// Forgets all verdicts and visits, for a run that begins. It allocates nothing.
     pub fn forget_verdicts(&mut self)
-        ensures forgotten { self.new ≡ record self.old { verdicts = []; visits = 0 } }
+        ensures forgotten { self.new ≡ record self.old {
+          verdicts = [];
+          visits = 0;
+          kept = [];
+          words = guard_words self.old;
+        } }
+        ensures wide { IsWide self.new }
     {
-        self.verdicts.clear();
+        self.known.clear();
         self.visits = 0;
     }
 

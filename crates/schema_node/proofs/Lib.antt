@@ -7,6 +7,7 @@ pub mod NodeOutcomes
 pub mod MeetsAgain
 pub mod RightVerdicts
 pub mod GoesOn
+mod Placing
 mod Visits
 mod NodeUnits
 mod UnitsAsked

@@ -7,7 +7,6 @@ pub use Rattle.schema_parts.specs.FaultViews
 pub use Rattle.schema_parts.specs.EdgeViews
 pub use Rattle.schema_contexts.specs.Progress
 pub use Rattle.schema_contexts.specs.Verdicts
-pub use Rattle.schema_contexts.specs.VerdictViews
 pub use Rattle.schema_contexts.specs.Matches
 pub use Rattle.schema_contexts.specs.MarkViews
 pub use Rattle.schema_contexts.specs.ProgressViews
@@ -18,6 +17,7 @@ pub use Rattle.schema_nodes.specs.NodeViews
 pub use Rattle.schema_nodes.specs.Cloned
 pub use Rattle.schema_nodes.specs.ValidatorViews
 pub use Rattle.schema_answers.specs.EvaluationPlaces
+pub use Rattle.schema_answers.specs.GuardedPairs
 pub use Rattle.schema_answers.specs.Askings
 pub use Rattle.schema_answers.specs.AnswerModes
 pub use Rattle.schema_answers.specs.ReplyModes

@@ -20,7 +20,8 @@ use Rattle.schema_answers.specs.ReplyModes.{reply_by}
 use Rattle.schema_node.specs.NodeRuns.{ChildReplies, EdgeReplies, FormReplies, NodeReplies, PartsReply, TellsAll}
 use Rattle.schema_nodes.specs.NodeTable.{NodeEntry, numbered}
 use Rattle.schema_parts.specs.EdgeViews.{edge_of}
-use Rattle.schema_contexts.specs.Progress.{Context, NoDeeper, busy_at}
+use Rattle.serde_json.specs.View.{view}
+use Rattle.schema_contexts.specs.Progress.{Context, NoDeeper, busy_at, guard_words}
 use Rattle.schema_node.specs.RightVerdicts.{AreRight, LaysOut, Layout}
 use Rattle.schema_contexts.specs.Verdicts.{MayKeep, one_more, read_verdict, verdict_of}
 use Rattle.schema_parts.specs.declared.keyword.Answer as code_answer
@@ -52,8 +53,9 @@ setting words is_whole shape matching e = setting_over words is_whole shape e.no
 abbrev pub asking_first : FirstQuestion → Asking
 asking_first q = record { subject = subject_of q.instance; place = q.place.now; path = q.path.now; mode = mode_of q.mode }
 
--- the pairs in progress are as before, and what is assumed, and the marks of the keyword's run that is at work
+-- the instance, the pairs in progress, what is assumed, and the marks of the keyword's run that is at work are as before
 pub record Keeps (old new : Context) : Type 0 where
+  pub root : new.root ≡ old.root
   pub in_progress : new.in_progress ≡ old.in_progress
   pub assumptions : new.remembered.assumptions ≡ old.remembered.assumptions
   pub marking : new.marking ≡ old.marking
@@ -66,13 +68,15 @@ RemembersRightly g layout c = AreRight g.words g.is_whole g.nodes g.count g.matc
 abbrev pub IsLaidOut : Layout → Asking → Type 0
 IsLaidOut layout q = LaysOut layout q.place q.subject
 
--- a number of the table may be asked: the table is ranked, no pair in progress lies deeper, units are not what is wanted, and the
--- verdicts that are remembered are right of what stands at each place, the question's among them
+-- a number of the table may be asked: the table is ranked, no pair in progress lies deeper, units are not what is wanted, the subject
+-- stands at the place in the context's instance, and the verdicts that are remembered are right of what stands at each place, the
+-- question's among them
 pub record MayRun {K R : Type 0} (g : Setting K R) (q : Asking) (c : Context) (i : ℕ) : Type 0 where
   pub known : i < g.count
   pub ranked : Ranked g.nodes g.count
   pub above : NoDeeper q.place c.in_progress
   pub wanted : ¬ (q.mode ≡ for_units)
+  pub stands : IsAskedOf (view c.root) q
   pub goes_on : (layout : Layout) × IsLaidOut layout q × RemembersRightly g layout c
 
 -- and they stay right, whatever more of them are remembered
@@ -155,9 +159,9 @@ RunRemembers g q c' = (root : Data) → IsAskedOf root q → RemembersRightly g 
 abbrev pub GoesOn : {K R : Type 0} → Setting K R → Asking → Context → Type 0
 GoesOn g q c = (layout : Layout) × IsLaidOut layout q × RemembersRightly g layout c
 
--- a context whose verdicts and visits are forgotten, as a run begins
+-- a context whose verdicts and visits are forgotten, as a run begins; of its rows those of the pairs in progress are left
 abbrev pub forgotten : Context → Context
-forgotten c = record c { verdicts = []; visits = 0 }
+forgotten c = record c { verdicts = []; visits = 0; kept = []; words = guard_words c }
 
 -- ---- a verdict that is read, and one that is kept
 

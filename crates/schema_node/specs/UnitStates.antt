@@ -16,7 +16,8 @@ use Rattle.schema_reports.specs.declared.evaluation_order.EntryUnits.{EntryUnits
 use Rattle.schema_parts.specs.KeywordViews.{answer_of, reply_of}
 use Rattle.schema_node.specs.NodeRuns.{Reading, Reads, child_says, edge_needs}
 use Rattle.schema_contexts.specs.Progress.{Context, NoDeeper}
-use Rattle.schema_answers.specs.Askings.{Asking}
+use Rattle.serde_json.specs.View.{view}
+use Rattle.schema_answers.specs.Askings.{Asking, IsAskedOf}
 use Rattle.schema_node.specs.RunStates.{GoesOn, OfWholeRun, Setting, busy, settled_by}
 use Rattle.schema_parts.specs.declared.keyword.Answer as code_answer
 use Rattle.schema_parts.specs.declared.keyword.Reply as code
@@ -48,13 +49,14 @@ reply_with for_first o u = first_of_it (first_error o.errors)
 reply_with for_all o u = all_of_it o.errors
 reply_with for_units o u = unit_of_it u
 
--- a number of the table may be evaluated: the table is ranked, no pair in progress lies deeper, units are wanted, and the verdicts
--- that are remembered are right of what stands at each place
+-- a number of the table may be evaluated: the table is ranked, no pair in progress lies deeper, units are wanted, the subject
+-- stands at the place in the context's instance, and the verdicts that are remembered are right of what stands at each place
 pub record MayEvaluate {K R : Type 0} (g : Setting K R) (q : Asking) (c : Context) (i : ℕ) : Type 0 where
   pub known : i < g.count
   pub ranked : Ranked g.nodes g.count
   pub above : NoDeeper q.place c.in_progress
   pub wanted : q.mode ≡ for_units
+  pub stands : IsAskedOf (view c.root) q
   pub goes_on : GoesOn g q c
 
 -- a number's keyword may be at work, whatever it asks for
@@ -62,6 +64,7 @@ pub record MayAsk {K R : Type 0} (g : Setting K R) (q : Asking) (c : Context) (i
   pub known : i < g.count
   pub ranked : Ranked g.nodes g.count
   pub above : NoDeeper q.place c.in_progress
+  pub stands : IsAskedOf (view c.root) q
   pub goes_on : GoesOn g q c
 
 module _ {K R : Type 0} (g : Setting K R) (q : Asking) (c : Context) where

@@ -86,15 +86,6 @@ turn_of step.Unmark = spec.unmark
 turn_of (step.Ecma text) = spec.ecma text.now
 turn_of step.Done = spec.done
 
--- the match that a turn asks for, if it asks for one, and where
-abbrev pub match_in : spec.Turn → Option (Pair × spec.MatchPoint)
-match_in (spec.ask q mode) = None
-match_in (spec.match_text a point) = Some (a, point)
-match_in (spec.mark i) = None
-match_in spec.unmark = None
-match_in (spec.ecma text) = None
-match_in spec.done = None
-
 abbrev pub reply_of : Bool → Reply → spec.Reply
 reply_of texts reply.Nothing = spec.no_reply
 reply_of texts (reply.Truth b) = spec.truth b

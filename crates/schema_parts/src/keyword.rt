@@ -1,5 +1,5 @@
 //! The keyword type, which puts questions to the engine by turns.
-ghost use Rattle.std.specs.Prelude.{◌≡◌, ℕ, All, Bool, List, IfOk, IfSome, option_map, true};
+ghost use Rattle.std.specs.Prelude.{◌≡◌, ℕ, All, Bool, List, IfOk, IfSome, true};
 ghost use Rattle.serde_json.specs.Data.{Data};
 ghost use Rattle.schema_definitions.specs.Instance.{Text, Subject};
 ghost use Rattle.schema_reports.specs.InstanceViews.{subject_of};
@@ -12,7 +12,7 @@ ghost use Rattle.schema_meaning.specs.Greatest.{IsMonotone};
 ghost use Rattle.schema_meaning.specs.UnitsLead.{EachHandsUnitsOn};
 ghost use Rattle.schema_parts.specs.AtOnce.{EndsAtOnce};
 ghost use Rattle.schema_parts.specs.FaultViews.{errors_in, faults_in, PassesBorrowed};
-ghost use Rattle.schema_parts.specs.KeywordViews.{mode_of, reply_of, answer_of, match_in, fresh, point_of, turn_of, Tells};
+ghost use Rattle.schema_parts.specs.KeywordViews.{mode_of, reply_of, answer_of, fresh, turn_of, Tells};
 ghost use Rattle.schema_parts.specs.UnitQuestions.{AsksNoUnits};
 
 use schema_reports::evaluation::EvaluationNode;
@@ -88,25 +88,6 @@ pub enum Step<'s> {
     Unmark,
     Ecma(&'s str),
     Done,
-}
-
-impl<'s> Step<'s> {
-    /// The match that is asked for, if one is: the compiled pattern, the subject, and where.
-    pub fn asked_match(self) -> Option<(&'s str, &'s str, MatchPoint<'s>)>
-        ensures asked { option_map (λ r. (record { pattern = r.0.now; subject = r.1.now }, point_of r.0.now r.2)) result
-            ≡ match_in (turn_of self.entry) }
-    {
-        match self {
-            Step::Match(pattern, subject, located) => {
-                Some((pattern, subject, MatchPoint::AtKeyword(located)))
-            }
-            Step::MatchAt(at, subject, below) => {
-                let point = MatchPoint::AtSpot(at.located, &at.spot, below);
-                Some((at.pattern.as_str(), subject, point))
-            }
-            Step::Ask(_, _, _) | Step::Mark(_) | Step::Unmark | Step::Ecma(_) | Step::Done => None,
-        }
-    }
 }
 
 /// What the next turn is told: nothing, or what was asked for. An error or a unit alone is in a box, so that a reply is a few

@@ -60,6 +60,15 @@ root_there (string t) = refl
 root_there (array ds) = refl
 root_there (object ms) = refl
 
+-- the root comes first
+pub root_first : (d : Data) → (0 < length (places d)) × (place_at (places d) 0 ≡ [])
+root_first null = (omega arith, refl)
+root_first (boolean b) = (omega arith, refl)
+root_first (number n) = (omega arith, refl)
+root_first (string t) = (omega arith, refl)
+root_first (array ds) = (omega arith, refl)
+root_first (object ms) = (omega arith, refl)
+
 mutual
   closed_at : (d : Data) (p : Place) (s : Step) → is_some (number_of (p ++ s ∷ []) (places d)) ≡ true → is_some (number_of p (places d)) ≡ true
   closed_at d [] s h = root_there d

@@ -1,7 +1,7 @@
 -- Rows are laid out one place after another.
 use Rattle.std.proofs.Common.{◌≡◌, ℕ, suc, ◌+◌, ◌-◌, List, [], ◌∷◌, ◌++◌, length, map, refl, sym, ◌∙◌, ap, ap₂, arith, string_bytes, string_cmp, Less, length-append, append_assoc}
 use Rattle.std.specs.Prelude.{slice_set}
-use Rattle.std.proofs.lemmas.List.{length-map, map-append, map-set}
+use Rattle.std.proofs.lemmas.List.{length-map}
 use Rattle.std.specs.List.{AllByRecursion}
 use Rattle.std.specs.List.Sorted.{IsStrictlySortedBy}
 use Rattle.std.specs.Map.{keys_of}
@@ -9,9 +9,7 @@ use Rattle.serde_json.specs.Data.{Data, Items, Members, array, boolean, item, me
 use Rattle.serde_json.specs.View.{members_view}
 use Rattle.serde_json.proofs.Views.{Entry}
 use Rattle.schema_definitions.specs.Instance.{Text, to_item, to_member, item_places, member_places, places}
-use Rattle.schema_places.specs.Rows.{ComesFirst, Laid, LaidBelow, nothing, NameNumbers, below_of, item_numbers, item_rows, laid, member_numbers, member_rows, numbered, row_of, rows_at}
-use Rattle.schema_places.specs.declared.rows.Named.{Named}
-use Rattle.schema_places.specs.declared.rows.Row.{Row}
+use Rattle.schema_places.specs.Rows.{ComesFirst, Laid, LaidBelow, NameNumbers, item_numbers, item_rows, laid, member_numbers, member_rows, nothing, rows_at}
 
 -- ---- how many rows there are
 
@@ -52,28 +50,19 @@ set_middle : (xs ys : List Laid) (x y : Laid) → slice_set (xs ++ x ∷ ys) (le
 set_middle [] ys x y = refl
 set_middle (z ∷ xs) ys x y = ap (λ r. z ∷ r) (set_middle xs ys x y)
 
-pub own_row : (old all : List Row) (first own : Row) (more : List Laid) → map row_of all ≡ map row_of (old ++ first ∷ []) ++ more → map row_of (slice_set all (length old) own) ≡ map row_of old ++ row_of own ∷ more
+own_row : (old all : List Laid) (first own : Laid) (more : List Laid) → all ≡ (old ++ first ∷ []) ++ more → slice_set all (length old) own ≡ old ++ own ∷ more
 own_row old all first own more h =
-    let laid_so : map row_of all ≡ map row_of old ++ row_of first ∷ more = h ∙ ap (λ r. r ++ more) (map-append row_of old (first ∷ [])) ∙ append_assoc (map row_of old) (row_of first ∷ []) more in
-    map-set row_of all (length old) own ∙ ap (λ r. slice_set r (length old) (row_of own)) laid_so
-    ∙ ap (λ n. slice_set (map row_of old ++ row_of first ∷ more) n (row_of own)) (sym (length-map old row_of))
-    ∙ set_middle (map row_of old) more (row_of first) (row_of own)
-
-pub count_rows : (old all : List Row) (first : Row) (more : List Laid) → map row_of all ≡ map row_of (old ++ first ∷ []) ++ more → length all ≡ length old + 1 + length more
-count_rows old all first more h =
-    sym (length-map all row_of) ∙ ap length h ∙ length-append (map row_of (old ++ first ∷ [])) more
-    ∙ ap (λ n. n + length more) (length-map (old ++ first ∷ []) row_of ∙ length-append old (first ∷ []))
+    ap (λ (r : List Laid). slice_set r (length old) own) (h ∙ append_assoc old (first ∷ []) more) ∙ set_middle old more first own
 
 -- ---- one item more
 
-rows_after : (old new : List Row) (b : ℕ) (d : Data) → map row_of new ≡ map row_of old ++ rows_at b d → length new ≡ length old + length (places d)
-rows_after old new b d h =
-    sym (length-map new row_of) ∙ ap length h ∙ length-append (map row_of old) (rows_at b d) ∙ ap₂ (λ x y. x + y) (length-map old row_of) (length_rows b d)
+rows_after : (old new : List Laid) (b : ℕ) (d : Data) → new ≡ old ++ rows_at b d → length new ≡ length old + length (places d)
+rows_after old new b d h = ap length h ∙ length-append old (rows_at b d) ∙ ap (λ n. length old + n) (length_rows b d)
 
-pub item_row : (old new : List Row) (d : Data) (ds : Items) (whole : List Laid) → map row_of new ≡ map row_of old ++ rows_at (length old) d
-    → map row_of old ++ item_rows (length old) (item d ds) ≡ whole → map row_of new ++ item_rows (length new) ds ≡ whole
+pub item_row : (old new : List Laid) (d : Data) (ds : Items) (whole : List Laid) → new ≡ old ++ rows_at (length old) d
+    → old ++ item_rows (length old) (item d ds) ≡ whole → new ++ item_rows (length new) ds ≡ whole
 item_row old new d ds whole h w =
-    ap₂ (λ r n. r ++ item_rows n ds) h (rows_after old new (length old) d h) ∙ append_assoc (map row_of old) (rows_at (length old) d) _ ∙ w
+    ap₂ (λ r n. r ++ item_rows n ds) h (rows_after old new (length old) d h) ∙ append_assoc old (rows_at (length old) d) _ ∙ w
 
 pub item_number : (old new : List ℕ) (a b c : ℕ) (d : Data) (ds : Items) (whole : List ℕ) → new ≡ old ++ a ∷ [] → a ≡ b → c ≡ b + length (places d)
     → old ++ item_numbers b (item d ds) ≡ whole → new ++ item_numbers c ds ≡ whole
@@ -81,32 +70,30 @@ item_number old new a b c d ds whole h is later w =
     ap (λ r. r ++ item_numbers c ds) h ∙ append_assoc old (a ∷ []) (item_numbers c ds)
     ∙ ap₂ (λ x m. old ++ x ∷ item_numbers m ds) is later ∙ w
 
-pub later_by : (old new : List Row) (d : Data) → map row_of new ≡ map row_of old ++ rows_at (length old) d → length new ≡ length old + length (places d)
+pub later_by : (old new : List Laid) (d : Data) → new ≡ old ++ rows_at (length old) d → length new ≡ length old + length (places d)
 later_by old new d h = rows_after old new (length old) d h
 
 -- ---- one member more
 
-pub member_row : (old mid new : List Row) (own : Row) (k : Text) (d : Data) (ms : Members) (whole : List Laid) → mid ≡ old ++ own ∷ [] → row_of own ≡ laid (length old) nothing
-    → map row_of new ≡ map row_of mid ++ rows_at (length mid) d → map row_of old ++ member_rows (length old) (member k d ms) ≡ whole
-    → map row_of new ++ member_rows (length new) ms ≡ whole
-member_row old mid new own k d ms whole m is h w =
-    let one : length mid ≡ length old + 1 = ap length m ∙ length-append old (own ∷ []) in
+pub member_row : (old mid new : List Laid) (k : Text) (d : Data) (ms : Members) (whole : List Laid) → mid ≡ old ++ laid (length old) nothing ∷ []
+    → new ≡ mid ++ rows_at (length mid) d → old ++ member_rows (length old) (member k d ms) ≡ whole
+    → new ++ member_rows (length new) ms ≡ whole
+member_row old mid new k d ms whole m h w =
+    let one : length mid ≡ length old + 1 = ap length m ∙ length-append old (laid (length old) nothing ∷ []) in
     let far : length new ≡ length old + 1 + length (places d) = rows_after mid new (length mid) d h ∙ ap (λ n. n + length (places d)) one in
-    let front : map row_of mid ≡ map row_of old ++ laid (length old) nothing ∷ [] = ap (map row_of) m ∙ map-append row_of old (own ∷ []) ∙ ap (λ (r : Laid). map row_of old ++ r ∷ []) is in
     ap₂ (λ r n. r ++ member_rows n ms) h far
-    ∙ append_assoc (map row_of mid) (rows_at (length mid) d) _
-    ∙ ap₂ (λ r n. r ++ (rows_at n d ++ member_rows (length old + 1 + length (places d)) ms)) front one
-    ∙ append_assoc (map row_of old) (laid (length old) nothing ∷ []) _ ∙ w
+    ∙ append_assoc mid (rows_at (length mid) d) _
+    ∙ ap₂ (λ r n. r ++ (rows_at n d ++ member_rows (length old + 1 + length (places d)) ms)) m one
+    ∙ append_assoc old (laid (length old) nothing ∷ []) _ ∙ w
 
-pub member_number : (old new : List Named) (first : Named) (b c : ℕ) (k : Text) (d : Data) (ms : Members) (whole : List NameNumbers) → new ≡ old ++ first ∷ []
-    → numbered first ≡ (k, b, b + 1) → c ≡ b + 1 + length (places d)
-    → map numbered old ++ member_numbers b (member k d ms) ≡ whole → map numbered new ++ member_numbers c ms ≡ whole
-member_number old new first b c k d ms whole h is later w =
-    ap (λ r. map numbered r ++ member_numbers c ms) h ∙ ap (λ r. r ++ member_numbers c ms) (map-append numbered old (first ∷ []))
-    ∙ append_assoc (map numbered old) (numbered first ∷ []) (member_numbers c ms)
-    ∙ ap₂ (λ (x : NameNumbers) (m : ℕ). map numbered old ++ x ∷ member_numbers m ms) is later ∙ w
+pub member_number : (old mid new : List NameNumbers) (first : NameNumbers) (b c : ℕ) (k : Text) (d : Data) (ms : Members) (whole : List NameNumbers)
+    → mid ≡ old ++ first ∷ [] → new ≡ mid → first ≡ (k, b, b + 1) → c ≡ b + 1 + length (places d)
+    → old ++ member_numbers b (member k d ms) ≡ whole → new ++ member_numbers c ms ≡ whole
+member_number old mid new first b c k d ms whole h same is later w =
+    ap (λ r. r ++ member_numbers c ms) (same ∙ h) ∙ append_assoc old (first ∷ []) (member_numbers c ms)
+    ∙ ap₂ (λ (x : NameNumbers) (m : ℕ). old ++ x ∷ member_numbers m ms) is later ∙ w
 
-pub later_member : (old mid new : List Row) (own : Row) (d : Data) → mid ≡ old ++ own ∷ [] → map row_of new ≡ map row_of mid ++ rows_at (length mid) d → length new ≡ length old + 1 + length (places d)
+pub later_member : (old mid new : List Laid) (own : Laid) (d : Data) → mid ≡ old ++ own ∷ [] → new ≡ mid ++ rows_at (length mid) d → length new ≡ length old + 1 + length (places d)
 later_member old mid new own d m h = rows_after mid new (length mid) d h ∙ ap (λ n. n + length (places d)) (ap length m ∙ length-append old (own ∷ []))
 
 -- ---- the names of an object ascend
@@ -121,18 +108,13 @@ names_step e es h = (other_names e es h.0, h.1)
 
 -- ---- a container is done
 
-own_is : (own : Row) (a b : ℕ) (ks : LaidBelow) → own.last ≡ a → a ≡ b → below_of own.below ≡ ks → row_of own ≡ laid b ks
-own_is own a b ks h e k = ap₂ (λ n l. laid n l) (h ∙ e) k
-
-pub container_done : (old mid all : List Row) (first own : Row) (n last size : ℕ) (ks : ℕ → LaidBelow) (rows : ℕ → List Laid) → mid ≡ old ++ first ∷ [] → n ≡ length old → last ≡ length all
-    → own.last ≡ last - 1 → map row_of all ≡ map row_of mid ++ rows (length mid) → below_of own.below ≡ ks (length mid) → length (rows (length mid)) ≡ size
-    → map row_of (slice_set all n own) ≡ map row_of old ++ laid (length old + size) (ks (length old + 1)) ∷ rows (length old + 1)
-container_done old mid all first own n last size ks rows m is many at h k s =
+pub container_done : (old mid all new : List Laid) (first : Laid) (n size : ℕ) (ks : LaidBelow) (is : ℕ → LaidBelow) (rows : ℕ → List Laid) → mid ≡ old ++ first ∷ [] → n ≡ length old
+    → all ≡ mid ++ rows (length mid) → ks ≡ is (length mid) → length (rows (length mid)) ≡ size → new ≡ slice_set all n (laid (length all - 1) ks)
+    → new ≡ old ++ laid (length old + size) (is (length old + 1)) ∷ rows (length old + 1)
+container_done old mid all new first n size ks is rows m place h k s e =
     let one : length mid ≡ length old + 1 = ap length m ∙ length-append old (first ∷ []) in
-    let laid_so : map row_of all ≡ map row_of (old ++ first ∷ []) ++ rows (length mid) = h ∙ ap (λ r. map row_of r ++ rows (length mid)) m in
-    let count = count_rows old all first (rows (length mid)) laid_so in
-    let end : last - 1 ≡ length old + size = omega (arith, count, s, many) in
-    ap (λ i. map row_of (slice_set all i own)) is
-    ∙ own_row old all first own (rows (length mid)) laid_so
-    ∙ ap₂ (λ r l. map row_of old ++ r ∷ rows l) (own_is own (last - 1) (length old + size) (ks (length mid)) at end k) one
-    ∙ ap (λ l. map row_of old ++ laid (length old + size) (ks l) ∷ rows (length old + 1)) one
+    let count : length all ≡ length mid + length (rows (length mid)) = ap length h ∙ length-append mid (rows (length mid)) in
+    let end : length all - 1 ≡ length old + size = omega (arith, count, s, one) in
+    e ∙ ap₂ (λ (i : ℕ) (r : Laid). slice_set all i r) place (ap₂ laid end k)
+    ∙ own_row old all first (laid (length old + size) (is (length mid))) (rows (length mid)) (h ∙ ap (λ (r : List Laid). r ++ rows (length mid)) m)
+    ∙ ap (λ (l : ℕ). old ++ laid (length old + size) (is l) ∷ rows l) one

@@ -7,5 +7,6 @@ pub mod Numbers
 pub mod Rising
 pub mod Searching
 pub mod Standing
+pub mod Tables
 pub mod Under
 pub mod Walking

@@ -13,7 +13,8 @@ use Rattle.std.proofs.lemmas.List.Sorted.{IsNonDecreasingBy-from_default}
 use Rattle.std.proofs.lemmas.Map.Text.{is_eq-slice_cmp}
 use Rattle.std.proofs.lemmas.Slice.Eq.{bytes_eq-Decides}
 use Rattle.schema_definitions.specs.Instance.{Text, same_step, to_item, to_member, to_name}
-use Rattle.schema_places.specs.Rows.{IsFirst, NameNumbers, Rising, leads_to_items, leads_to_names, led_by, numbered, numbers_of}
+use Rattle.schema_places.specs.Rows.{IsFirst, NameNumbers, Rising, leads_to_items, leads_to_names, led_by, numbers_of}
+use Rattle.schema_places.specs.RowViews.{numbered}
 use Rattle.schema_places.specs.declared.rows.Named.{Named}
 use Rattle.schema_places.proofs.Names.{less_differs}
 use Rattle.schema_places.proofs.Numbers.{items_differ_back, step_itself}

@@ -1,2 +1,4 @@
 pub mod Numbers
 pub mod Rows
+pub mod RowViews
+pub mod Lending

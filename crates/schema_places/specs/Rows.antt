@@ -1,6 +1,6 @@
 -- How places are laid out in rows: the row of each place has the number of the last place at or below it, and the steps to the
 -- places right below it with their numbers.
-use Rattle.std.specs.Prelude.{List, None, Option, Some, [], bytes_eq, if◌then◌else◌, length, map, ℕ, ◌++◌, ◌+◌, ◌∷◌, ◌≡◌, ◌<◌}
+use Rattle.std.specs.Prelude.{List, None, Option, Some, [], bytes_eq, if◌then◌else◌, length, slice_index_or, ℕ, ◌++◌, ◌+◌, ◌∷◌, ◌≡◌}
 use Rattle.std.specs.Cmp.Lexicographic.{slice_cmp}
 use Rattle.std.specs.Ordering.{nat_cmp}
 use Rattle.std.specs.declared.cmp.Ordering.TheVariants.{Less}
@@ -8,13 +8,7 @@ use Rattle.serde_json.specs.Data.{Data, Items, Members, array, boolean, item, me
 use Rattle.serde_json.specs.View.{view}
 use Rattle.serde_json.specs.declared.value.Value.{Value}
 use Rattle.schema_definitions.specs.Instance.{Place, Step, Text, item_places, member_places, places, same_step, to_item, to_member, to_name}
-use Rattle.schema_reports.specs.InstanceViews.{step_of}
-use Rattle.schema_places.specs.Numbers.{place_at}
-use Rattle.schema_places.specs.declared.places.NumberedPlace.{NumberedPlace, Given, Below'}
-use Rattle.schema_places.specs.declared.rows.Below.{Below}
-use Rattle.schema_places.specs.declared.rows.Below.TheVariants as below
-use Rattle.schema_places.specs.declared.rows.Named.{Named}
-use Rattle.schema_places.specs.declared.rows.Row.{Row}
+use Rattle.schema_places.specs.Numbers.{NumbersAll}
 
 -- a step and the number of the place that it leads to
 abbrev pub Led : Type 0
@@ -37,6 +31,10 @@ pub record Laid : Type 0 where
 abbrev pub laid : ℕ → LaidBelow → Laid
 laid n b = record { last = n; below = b }
 
+-- the row of a place
+abbrev pub row_in : List Laid → ℕ → Laid
+row_in rows n = slice_index_or rows n (laid 0 nothing)
+
 -- where a step leads to
 abbrev pub led_by : Step → List Led → Option ℕ
 led_by s [] = None
@@ -56,17 +54,6 @@ abbrev pub leads_of : LaidBelow → List Led
 leads_of nothing = []
 leads_of (items bs) = leads_to_items 0 bs
 leads_of (names ms) = leads_to_names ms
-
-abbrev pub numbered : Named → NameNumbers
-numbered n = (n.name.now, n.name_number, n.member_number)
-
-abbrev pub below_of : Below → LaidBelow
-below_of below.Nothing = nothing
-below_of (below.Items v) = items v.items
-below_of (below.Members v) = names (map numbered v.items)
-
-abbrev pub row_of : Row → Laid
-row_of r = record { last = r.last; below = below_of r.below }
 
 -- the numbers of a name and its member
 abbrev pub numbers_of : Text → List NameNumbers → Option (ℕ × ℕ)
@@ -143,17 +130,11 @@ abbrev mutual
 abbrev pub places_of : Value → List Place
 places_of v = places (view v)
 
+-- these are the places of a value, and one has a number exactly where something stands there
+abbrev pub ArePlacesOf : Value → List Place → Type 0
+ArePlacesOf v ps = (ps ≡ places (view v)) × NumbersAll (view v) ps
+
 -- a value's places are laid out in rows, and in each object the names ascend
-pub record LaidOut (v : Value) (rows : List Row) : Type 0 where
-  pub rows_are : map row_of rows ≡ rows_at 0 (view v)
+pub record LaidOut (v : Value) (rows : List Laid) : Type 0 where
+  pub rows_are : rows ≡ rows_at 0 (view v)
   pub ascend : NamesAscend (view v)
-
--- the place by its number, with each step below it
-abbrev pub steps_to : List Place → NumberedPlace → Place
-steps_to ps (Given n) = place_at ps n
-steps_to ps (Below' pointer above step) = steps_to ps above ++ step_of step ∷ []
-
--- the number that it begins with is that of a place
-abbrev pub BeginsWithin : List Place → NumberedPlace → Type 0
-BeginsWithin ps (Given n) = n < length ps
-BeginsWithin ps (Below' pointer above step) = BeginsWithin ps above

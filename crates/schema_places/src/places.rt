@@ -2,30 +2,23 @@
 ghost use Rattle.std.specs.Prelude.{◌≡◌, ◌<◌, ◌≤◌, ◌&&◌, ◌++◌, ◌∷◌, [], ℕ, IfOk, length, map, nat_le};
 ghost use Rattle.schema_definitions.specs.Instance.{places};
 ghost use Rattle.schema_places.specs.Numbers.{Ascends, Closed, NumbersAll, OwnNumbers, is_under, number_of, place_at};
-ghost use Rattle.schema_places.specs.Rows.{BeginsWithin, steps_to};
 ghost use Rattle.schema_reports.specs.InstanceViews.{step_of};
 ghost use Rattle.serde_json.specs.View.{view};
 
-use crate::rows::{Row, push_value};
+use crate::numbering::lay_out;
+use crate::rows::Table;
 use schema_reports::instance::InstanceStep;
 use schema_reports::location::OutOfMemory;
 use serde_json::Value;
 use std::alloc::Global;
 use std::marker::Model;
 
-/// A place by its number, or the place above a step and the step.
-#[derive(Clone, Copy)]
-pub enum NumberedPlace<'p, 'i> {
-    Given(usize),
-    Below(&'p NumberedPlace<'p, 'i>, InstanceStep<'i>),
-}
-
 /// The places of an instance, each with its number: the root is 0; in an object each name comes before its member, in the order of
 /// the names; the items of an array come by index. Contracts see the list of the places, in the order of their numbers.
 #[derive(Drop)]
 pub struct Places<'i> {
     root: &'i Value,
-    rows: Vec<Row<'i>>,
+    table: Table<'i>,
 }
 
 impl<'i> Model for Places<'i> {
@@ -37,7 +30,7 @@ impl<'i> Model for Places<'i> {
 
     ghost view = { λ p. places_of p.root.now };
 
-    ghost invariant = { λ p. LaidOut p.root.now p.rows.items };
+    ghost invariant = { λ p. LaidOut p.root.now p.table };
 }
 
 impl<'i> Places<'i> {
@@ -49,9 +42,8 @@ impl<'i> Places<'i> {
         ensures own { IfOk result (λ ps. OwnNumbers ps) }
         ensures ascend { IfOk result (λ ps. Ascends ps) }
     {
-        let mut rows = Vec::new(alloc);
-        push_value(alloc, value, &mut rows)?;
-        Ok(Places { root: value, rows })
+        let table = lay_out(alloc, value)?;
+        Ok(Places { root: value, table })
     }
 
     /// Returns how many places there are. It allocates nothing.
@@ -61,7 +53,7 @@ impl<'i> Places<'i> {
         ensures ascend { Ascends self.now }
         ensures closed { Closed self.now }
     {
-        self.rows.len()
+        self.table.len()
     }
 
     /// Returns the greatest number at or below the place with this number: the places at or below it have the numbers from its own
@@ -74,7 +66,7 @@ impl<'i> Places<'i> {
             → is_under (place_at self.now place) (place_at self.now k)
             ≡ (nat_le place k && nat_le k result) }
     {
-        self.rows[place].last()
+        self.table.last(place)
     }
 
     /// Returns the number of the place one step below the place with this number, if there is one. It allocates nothing.
@@ -83,7 +75,7 @@ impl<'i> Places<'i> {
         ensures child { result
             ≡ number_of (place_at self.now place ++ step_of step.entry ∷ []) self.now }
     {
-        self.rows[place].child(step)
+        self.table.child(place, step)
     }
 
     /// Returns the number of the place that the steps lead to from the place with this number, if there is such a place. It
@@ -94,7 +86,7 @@ impl<'i> Places<'i> {
             ≡ number_of (place_at self.now place ++ map step_of steps.now) self.now }
     {
         // Opens the value, so that what its rows say is known below.
-        let _ = &self.rows;
+        let _ = &self.table;
         let mut number = place;
         for step in steps {
             match self.child(number, *step) {
@@ -105,20 +97,12 @@ impl<'i> Places<'i> {
         Some(number)
     }
 
-    /// Returns the number of a place, if there is such a place, by walking down from the one whose number is given. It allocates
-    /// nothing.
-    pub fn find(&self, place: &NumberedPlace<'_, '_>) -> Option<usize>
-        requires given { BeginsWithin self.now place.now }
-        ensures number { result ≡ number_of (steps_to self.now place.now) self.now }
+    /// Returns the number of the place that the steps lead to from the root, if there is such a place. It allocates nothing.
+    pub fn find(&self, steps: &[InstanceStep<'_>]) -> Option<usize>
+        ensures number { result ≡ number_of (map step_of steps.now) self.now }
     {
-        // Opens the value, so that what its rows say is known below.
-        let _ = &self.rows;
-        match place {
-            NumberedPlace::Given(number) => Some(*number),
-            NumberedPlace::Below(above, step) => match self.find(above) {
-                Some(number) => self.child(number, *step),
-                None => None,
-            },
-        }
+        // Opens the value, so that the root's number is known.
+        let _ = &self.table;
+        self.find_from(0, steps)
     }
 }

@@ -1,62 +1,93 @@
 //! A row for each place: the number of the last place at or below it, and the places one step below it.
-ghost use Rattle.std.specs.Prelude.{◌≡◌, ◌++◌, IfOk, length, map};
+ghost use Rattle.std.specs.Prelude.{◌≡◌, ◌<◌, ◌≤◌, ◌-◌, ◌++◌, ◌∷◌, [], OnOk, length, map, slice_range, slice_set};
 ghost use Rattle.std.specs.Cmp.Lexicographic.{slice_cmp};
 ghost use Rattle.std.specs.Ordering.{nat_cmp};
-ghost use Rattle.serde_json.specs.View.{items_view, members_view, view};
 ghost use Rattle.schema_reports.specs.InstanceViews.{step_of};
-ghost use Rattle.schema_places.specs.Rows.{NamesAscend, NamesAscendInItems, NamesAscendInMembers};
-ghost use Rattle.schema_places.specs.Rows.{Rising, RisesBelow, below_of, leads_of, leads_to_items, leads_to_names, led_by};
-ghost use Rattle.schema_places.specs.Rows.{item_numbers, item_rows, member_numbers, member_rows, row_of, rows_at};
-ghost use Rattle.schema_places.specs.Rows.{numbered, numbers_of};
+ghost use Rattle.schema_places.specs.Rows.{Rising, RisesBelow, items, laid, leads_of, leads_to_items, leads_to_names, led_by, names};
+ghost use Rattle.schema_places.specs.Rows.{nothing, numbers_of, row_in};
+ghost use Rattle.schema_places.specs.RowViews.{numbered};
 
 use schema_reports::instance::InstanceStep;
 use schema_reports::location::OutOfMemory;
-use serde_json::{Map, Value};
 use std::alloc::Global;
 use std::cmp::Ordering;
+use std::marker::Model;
 
 /// A member's name, its number, and the member's.
-#[derive(Drop)]
+#[derive(Clone, Copy)]
 pub(crate) struct Named<'i> {
     name: &'i str,
     name_number: usize,
     member_number: usize,
 }
 
-/// The places one step below a place: none, the numbers of items by index, or names and members in the order of the names.
-#[derive(Drop)]
-pub(crate) enum Below<'i> {
+/// The places one step below a place: none, items, or names and members. The numbers of items stand in a table from an index up to
+/// another one, in their order, and so do names.
+#[derive(Clone, Copy)]
+enum Below {
     Nothing,
-    Items(Vec<usize>),
-    Members(Vec<Named<'i>>),
+    Items(usize, usize),
+    Members(usize, usize),
 }
 
 /// The number of the last place at or below one, and the places one step below it.
-#[derive(Drop)]
-pub(crate) struct Row<'i> {
+#[derive(Clone, Copy)]
+struct Row {
     last: usize,
-    below: Below<'i>,
+    below: Below,
 }
 
-impl<'i> Row<'i> {
-    // The number of the last place at or below the row's.
-    pub(crate) fn last(&self) -> usize
-        ensures last { result ≡ self.now.last }
-    {
-        self.last
-    }
+/// The rows of places, in the order of their numbers; the numbers of the items of all arrays, one array after another; and the names of
+/// all objects, one object after another, in each by their bytes. Contracts see what each row says.
+#[derive(Drop)]
+pub(crate) struct Table<'i> {
+    rows: Vec<Row>,
+    numbers: Vec<usize>,
+    names: Vec<Named<'i>>,
+}
 
-    // The number of the place that the step leads to, if there is one.
-    pub(crate) fn child(&self, step: InstanceStep<'_>) -> Option<usize>
-        requires rising { RisesBelow (below_of self.now.below) }
-        ensures child { result ≡ led_by (step_of step.entry) (leads_of (below_of self.now.below)) }
+impl<'i> Model for Table<'i> {
+    ghost use Rattle.std.specs.Prelude.{List, length};
+    ghost use Rattle.schema_places.specs.Rows.{Laid};
+
+    ghost Value = { List Laid };
+
+    ghost use Rattle.schema_places.specs.RowViews.{AllWithin, rows_of};
+
+    ghost view = { λ t. rows_of t.numbers.items t.names.items t.rows.items };
+
+    ghost invariant = { λ t. AllWithin (length t.numbers.items) (length t.names.items) t.rows.items };
+}
+
+impl<'i> Named<'i> {
+    /// Returns a name with its number and that of its member.
+    pub(crate) fn new(name: &'i str, name_number: usize, member_number: usize) -> Named<'i>
+        ensures numbers { numbered result ≡ (name.now, name_number, member_number) }
     {
-        match &self.below {
-            Below::Nothing => None,
-            Below::Items(numbers) => child_of_items(numbers.as_slice(), step),
-            Below::Members(names) => child_of_members(names.as_slice(), step),
+        Named {
+            name,
+            name_number,
+            member_number,
         }
     }
+}
+
+// The numbers from an index up to another one.
+fn numbers_between(numbers: &[usize], from: usize, to: usize) -> &[usize]
+    requires order { from ≤ to }
+    requires end { to ≤ length numbers.now }
+    ensures part { result.now ≡ slice_range numbers.now from to }
+{
+    &numbers[from..to]
+}
+
+// The names from an index up to another one.
+fn names_between<'a, 'i>(names: &'a [Named<'i>], from: usize, to: usize) -> &'a [Named<'i>]
+    requires order { from ≤ to }
+    requires end { to ≤ length names.now }
+    ensures part { result.now ≡ slice_range names.now from to }
+{
+    &names[from..to]
 }
 
 // The number of the item that the step leads to.
@@ -107,81 +138,102 @@ fn numbers_of(names: &[Named<'_>], name: &str) -> Option<(usize, usize)>
     }
 }
 
-// Adds the rows of a value and of all below it.
-#[cycle(number)]
-pub(crate) fn push_value<'i>(
-    alloc: Global,
-    value: &'i Value,
-    rows: &mut Vec<Row<'i>>,
-) -> Result<(), OutOfMemory>
-    ensures rows { IfOk result (λ _. map row_of rows.new.items
-        ≡ map row_of rows.old.items ++ rows_at (length rows.old.items) (view value.now)) }
-    ensures ascend { IfOk result (λ _. NamesAscend (view value.now)) }
-{
-    let number = rows.len();
-    rows.push(Row {
-        last: number,
-        below: Below::Nothing,
-    })?;
-    let below = match value {
-        Value::Array(items) => Below::Items(push_items(alloc, items, rows)?),
-        Value::Object(members) => Below::Members(push_members(alloc, members, rows)?),
-        _ => return Ok(()),
-    };
-    let last = rows.len() - 1;
-    rows[number] = Row { last, below };
-    Ok(())
-}
-
-// Adds those of the items of an array, and returns the numbers of these.
-#[cycle(number)]
-fn push_items<'i>(
-    alloc: Global,
-    items: &'i Vec<Value>,
-    rows: &mut Vec<Row<'i>>,
-) -> Result<Vec<usize>, OutOfMemory>
-    ensures numbers { IfOk result (λ ns. ns.items
-        ≡ item_numbers (length rows.old.items) (items_view items.now.items)) }
-    ensures rows { IfOk result (λ _. map row_of rows.new.items
-        ≡ map row_of rows.old.items
-        ++ item_rows (length rows.old.items) (items_view items.now.items)) }
-    ensures ascend { IfOk result (λ _. NamesAscendInItems (items_view items.now.items)) }
-{
-    let mut numbers = Vec::with_capacity(alloc, items.len())?;
-    for item in items {
-        numbers.push(rows.len())?;
-        push_value(alloc, item, rows)?;
+impl<'i> Table<'i> {
+    /// Returns no rows. It allocates nothing.
+    pub(crate) fn new(alloc: Global) -> Table<'i>
+        ensures empty { result ≡ [] }
+    {
+        Table {
+            rows: Vec::new(alloc),
+            numbers: Vec::new(alloc),
+            names: Vec::new(alloc),
+        }
     }
-    Ok(numbers)
-}
 
-// Adds those of the members of an object and of their names, and returns the numbers of these.
-#[cycle(number)]
-fn push_members<'i>(
-    alloc: Global,
-    members: &'i Map<String, Value>,
-    rows: &mut Vec<Row<'i>>,
-) -> Result<Vec<Named<'i>>, OutOfMemory>
-    ensures numbers { IfOk result (λ ns. map numbered ns.items
-        ≡ member_numbers (length rows.old.items) (members_view members.now.entries)) }
-    ensures rows { IfOk result (λ _. map row_of rows.new.items
-        ≡ map row_of rows.old.items
-        ++ member_rows (length rows.old.items) (members_view members.now.entries)) }
-    ensures ascend { IfOk result (λ _. NamesAscendInMembers (members_view members.now.entries)) }
-{
-    let mut names = Vec::with_capacity(alloc, members.len())?;
-    for (name, member) in members.iter() {
-        let number = rows.len();
-        rows.push(Row {
+    /// Returns how many rows there are. It allocates nothing.
+    pub(crate) fn len(&self) -> usize
+        ensures count { result ≡ length self.now }
+        ensures small { result < 9223372036854775808 }
+    {
+        self.rows.len()
+    }
+
+    /// Returns the number of the last place at or below the one with this number. It allocates nothing.
+    pub(crate) fn last(&self, place: usize) -> usize
+        requires known { place < length self.now }
+        ensures last { result ≡ (row_in self.now place).last }
+    {
+        self.rows[place].last
+    }
+
+    /// Returns the number of the place that the step leads to, if there is one. It allocates nothing.
+    pub(crate) fn child(&self, place: usize, step: InstanceStep<'_>) -> Option<usize>
+        requires known { place < length self.now }
+        requires rising { RisesBelow (row_in self.now place).below }
+        ensures child { result ≡ led_by (step_of step.entry) (leads_of (row_in self.now place).below) }
+    {
+        match self.rows[place].below {
+            Below::Nothing => None,
+            Below::Items(from, to) => {
+                child_of_items(numbers_between(self.numbers.as_slice(), from, to), step)
+            }
+            Below::Members(from, to) => {
+                child_of_members(names_between(self.names.as_slice(), from, to), step)
+            }
+        }
+    }
+
+    /// Makes room for so many rows more.
+    pub(crate) fn reserve(&mut self, rows: usize) -> Result<(), OutOfMemory>
+        ensures same { self.new ≡ self.old }
+    {
+        self.rows.reserve(rows)?;
+        Ok(())
+    }
+
+    /// Adds the row of a place with nothing below it.
+    pub(crate) fn push_row(&mut self) -> Result<(), OutOfMemory>
+        ensures pushed { OnOk result (self.new ≡ self.old ++ laid (length self.old) nothing ∷ []) }
+    {
+        let number = self.rows.len();
+        self.rows.push(Row {
             last: number,
             below: Below::Nothing,
         })?;
-        names.push(Named {
-            name: name.as_str(),
-            name_number: number,
-            member_number: number + 1,
-        })?;
-        push_value(alloc, member, rows)?;
+        Ok(())
     }
-    Ok(names)
+
+    /// Says in the row of a place that it has items of these numbers, and that all rows after it are below it.
+    pub(crate) fn put_items(&mut self, place: usize, numbers: &[usize]) -> Result<(), OutOfMemory>
+        requires known { place < length self.old }
+        ensures put { OnOk result (self.new ≡ slice_set self.old place (laid (length self.old - 1) (items numbers.now))) }
+    {
+        let from = self.numbers.len();
+        self.numbers.extend_from_slice(numbers)?;
+        let below = Below::Items(from, self.numbers.len());
+        let last_item = self.rows.len() - 1;
+        self.rows[place] = Row {
+            last: last_item,
+            below,
+        };
+        Ok(())
+    }
+
+    /// Says in the row of a place that it has these names, with their members, and that all rows after it are below it.
+    pub(crate) fn put_names(
+        &mut self,
+        place: usize,
+        members: &[Named<'i>],
+    ) -> Result<(), OutOfMemory>
+        requires known { place < length self.old }
+        ensures put { OnOk result (self.new
+            ≡ slice_set self.old place (laid (length self.old - 1) (names (map numbered members.now)))) }
+    {
+        let from = self.names.len();
+        self.names.extend_from_slice(members)?;
+        let below = Below::Members(from, self.names.len());
+        let last = self.rows.len() - 1;
+        self.rows[place] = Row { last, below };
+        Ok(())
+    }
 }

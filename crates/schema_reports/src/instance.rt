@@ -216,6 +216,13 @@ impl<'i> Place<'i> {
         self.steps.len()
     }
 
+    /// Returns the steps from the root to the place. It allocates nothing.
+    pub fn as_steps(&self) -> &[InstanceStep<'i>]
+        ensures steps { map step_of result.now ≡ self.now }
+    {
+        self.steps.as_slice()
+    }
+
     /// Returns the place one step below this one. Fails only if memory cannot be allocated.
     pub fn below(&self, step: InstanceStep<'i>) -> Result<Place<'i>, OutOfMemory>
         ensures below { IfOk result (λ p. p ≡ self.now ++ step_of step.entry ∷ []) }

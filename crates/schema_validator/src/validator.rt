@@ -37,6 +37,7 @@ use schema_output::evaluation::Evaluation;
 use schema_parts::keyword::{Mode, Reply, Validate};
 use schema_parts::matcher::Matcher;
 use schema_parts::numbers::SchemaNode;
+use schema_places::on_demand::PlacesOnDemand;
 use schema_reports::evaluation::EvaluationNode;
 use schema_reports::instance::{Instance, Place};
 use schema_reports::location::{Location, OutOfMemory};
@@ -192,7 +193,7 @@ impl<K: Validate, M: Matcher> Validator<K, M> {
     {
         let place = Place::root(alloc);
         let path = Location::new(alloc);
-        let mut context = ValidationContext::assuming(alloc, matches);
+        let mut context = ValidationContext::assuming(alloc, PlacesOnDemand::of(instance), matches);
         let question = FirstQuestion {
             instance: Instance::Value(instance),
             place: &place,
@@ -372,7 +373,7 @@ impl<K: Validate, M: Matcher> Validator<K, M> {
     {
         let place = Place::root(alloc);
         let path = Location::new(alloc);
-        let mut context = ValidationContext::new(alloc);
+        let mut context = ValidationContext::new(alloc, PlacesOnDemand::of(instance));
         let unit = self.nodes.evaluate_instance(
             alloc,
             &self.matcher,

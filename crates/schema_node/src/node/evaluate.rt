@@ -7,7 +7,9 @@ ghost use Rattle.schema_nodes.specs.NodeTable.{numbered, shaped_form, shaped_par
 ghost use Rattle.schema_parts.specs.EdgeViews.{edge_of};
 ghost use Rattle.schema_nodes.specs.NodeViews.{entry_of, form_of};
 ghost use Rattle.schema_node.specs.NodeRuns.{HasForm, HasParts, HasChildren};
+ghost use Rattle.schema_contexts.specs.Progress.{places_in};
 ghost use Rattle.schema_answers.specs.Askings.{asking};
+ghost use Rattle.schema_answers.specs.EvaluationPlaces.{CarriesItsNumber};
 ghost use Rattle.schema_node.specs.RunStates.{form_at_work, setting};
 ghost use Rattle.schema_node.specs.RunStates.{Keeps, StaysRight};
 ghost use Rattle.schema_node.specs.RunStates.{MeetsChild, MeetsEdge, MeetsForm, MeetsNode, MeetsParts};
@@ -16,7 +18,7 @@ ghost use Rattle.schema_node.specs.Visits.{LeadsNowhere};
 
 use crate::node::run::one_below;
 use crate::node::turns::keyword_answer;
-use schema_answers::evaluation_place::EvaluationPlace;
+use schema_answers::guarded::GuardedPair;
 use schema_answers::question::{Engine, NamedKeyword, Question};
 use schema_answers::units::{
     accepting_unit, entries_unit, refusing_unit, unasked_unit, units_of_keyword, units_of_reference,
@@ -41,6 +43,7 @@ pub(crate) fn evaluate_node<'i, K: Validate, M: Matcher>(
 ) -> Result<EvaluationNode, OutOfMemory>
     requires may { MayEvaluate (setting K.words K.is_whole K.shape M.matching engine.now) (asking question.now)
         context.old node.0 }
+    requires carries { CarriesItsNumber (places_in context.old) question.now.place.now }
     ensures keeps { IfOk result (λ _. Keeps context.old context.new) }
     ensures counts { IfOk result (λ _. context.old.visits ≤ context.new.visits) }
     ensures gives { IfOk result (λ u. NodeGives (setting K.words K.is_whole K.shape M.matching engine.now) (asking question.now)
@@ -81,6 +84,7 @@ fn evaluate_entries<'i, K: Validate, M: Matcher>(
 ) -> Result<ChildList, OutOfMemory>
     requires may { MayEvaluate (setting K.words K.is_whole K.shape M.matching engine.now) (asking question.now)
         context.old node.0 }
+    requires carries { CarriesItsNumber (places_in context.old) question.now.place.now }
     requires parts { HasParts (numbered K.shape engine.now.nodes.now) node.0 (map (shaped_part K.shape) (map entry_of entries.now)) }
     ensures keeps { IfOk result (λ _. Keeps context.old context.new) }
     ensures counts { IfOk result (λ _. context.old.visits ≤ context.new.visits) }
@@ -110,6 +114,7 @@ fn evaluate_entry<'i, K: Validate, M: Matcher>(
 ) -> Result<EntryUnits, OutOfMemory>
     requires may { MayEvaluate (setting K.words K.is_whole K.shape M.matching engine.now) (asking question.now)
         context.old node.0 }
+    requires carries { CarriesItsNumber (places_in context.old) question.now.place.now }
     requires form { HasForm (numbered K.shape engine.now.nodes.now) node.0 (shaped_form K.shape (form_of entry.now.form)) }
     ensures keeps { IfOk result (λ _. Keeps context.old context.new) }
     ensures counts { IfOk result (λ _. context.old.visits ≤ context.new.visits) }
@@ -154,6 +159,7 @@ fn evaluate_keyword<'i, K: Validate, M: Matcher>(
 ) -> Result<EntryUnits, OutOfMemory>
     requires may { MayEvaluate (setting K.words K.is_whole K.shape M.matching engine.now) (asking question.now)
         context.old node.0 }
+    requires carries { CarriesItsNumber (places_in context.old) question.now.place.now }
     requires form { HasForm (numbered K.shape engine.now.nodes.now) node.0 (form_at_work K.shape keyword.now) }
     ensures keeps { IfOk result (λ _. Keeps context.old context.new) }
     ensures counts { IfOk result (λ _. context.old.visits ≤ context.new.visits) }
@@ -188,6 +194,7 @@ pub(crate) fn evaluate_child<'i, K: Validate, M: Matcher>(
 ) -> Result<EvaluationNode, OutOfMemory>
     requires may { MayEvaluate (setting K.words K.is_whole K.shape M.matching engine.now) (asking question.now)
         context.old node.0 }
+    requires carries { CarriesItsNumber (places_in context.old) question.now.place.now }
     requires children { HasChildren (numbered K.shape engine.now.nodes.now) node.0 (map (option_map edge_of) children.now) }
     requires present { IsPresent (subject_of question.now.instance) (steps_below (below_of below)) }
     ensures keeps { IfOk result (λ _. Keeps context.old context.new) }
@@ -228,6 +235,7 @@ fn evaluate_edge<'i, K: Validate, M: Matcher>(
 ) -> Result<EvaluationNode, OutOfMemory>
     requires may { MayEvaluate (setting K.words K.is_whole K.shape M.matching engine.now) (asking question.now)
         context.old edge.now.node.0 }
+    requires carries { CarriesItsNumber (places_in context.old) question.now.place.now }
     ensures keeps { IfOk result (λ _. Keeps context.old context.new) }
     ensures counts { IfOk result (λ _. context.old.visits ≤ context.new.visits) }
     ensures gives { IfOk result (λ u. EdgeGives (setting K.words K.is_whole K.shape M.matching engine.now) (asking question.now)
@@ -247,19 +255,19 @@ fn evaluate_edge<'i, K: Validate, M: Matcher>(
         };
         return evaluate_node(engine, edge.node, &asked, context);
     }
-    let shared = question.place.shared(engine.alloc)?;
-    let here = shared.as_place();
-    let place = EvaluationPlace::given(here);
+    let pair = GuardedPair::new(context, edge.node, question.place)?;
+    let place = pair.numbered_place();
     let asked = Question {
         instance: question.instance,
         place: &place,
         path: &whole,
         mode: question.mode,
     };
-    if context.enter_shared(edge.node, &shared)? {
+    if pair.is_in_progress(context) {
         return accepting_unit(engine.alloc, engine.nodes.node(edge.node), &asked);
     }
+    pair.enter(context)?;
     let unit = evaluate_node(engine, edge.node, &asked, context)?;
-    context.exit(edge.node, here);
+    pair.exit(context);
     Ok(unit)
 }

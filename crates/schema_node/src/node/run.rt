@@ -10,7 +10,9 @@ ghost use Rattle.schema_nodes.specs.NodeTable.{numbered, shaped_form, shaped_par
 ghost use Rattle.schema_parts.specs.EdgeViews.{edge_of};
 ghost use Rattle.schema_nodes.specs.NodeViews.{entry_of, form_of};
 ghost use Rattle.schema_node.specs.NodeRuns.{HasForm, HasParts, HasChildren};
+ghost use Rattle.schema_contexts.specs.Progress.{places_in};
 ghost use Rattle.schema_answers.specs.Askings.{asking};
+ghost use Rattle.schema_answers.specs.EvaluationPlaces.{CarriesItsNumber};
 ghost use Rattle.schema_node.specs.RunStates.{form_at_work, setting};
 ghost use Rattle.schema_node.specs.RunStates.{Keeps, MayRun};
 ghost use Rattle.schema_node.specs.RunStates.{ChildSays, EdgeSays, FormSays, NodeSays, PartsSay};
@@ -20,8 +22,8 @@ ghost use Rattle.schema_node.specs.Visits.{LeadsNowhere, NodeCounts};
 
 use crate::node::turns::keyword_answer;
 use crate::node::verdict::{verdict_form, verdict_node};
-use schema_answers::evaluation_place::EvaluationPlace;
 use schema_answers::faults::finished;
+use schema_answers::guarded::GuardedPair;
 use schema_answers::question::{Engine, NamedKeyword, Question};
 use schema_answers::replies::{accepted, is_settled, joined, refused, stamped_reply};
 use schema_answers::spots::{after, step_below};
@@ -60,6 +62,7 @@ pub(crate) fn node_reply<'i, K: Validate, M: Matcher>(
 ) -> Result<Reply<'i>, OutOfMemory>
     requires may { MayRun (setting K.words K.is_whole K.shape M.matching engine.now) (asking question.now)
         context.old node.0 }
+    requires carries { CarriesItsNumber (places_in context.old) question.now.place.now }
     ensures keeps { IfOk result (λ _. Keeps context.old context.new) }
     ensures counts { IfOk result (λ _. context.old.visits ≤ context.new.visits) }
     ensures visits { IfOk result (λ _. NodeCounts (numbered K.shape engine.now.nodes.now)
@@ -94,6 +97,7 @@ fn run_node<'i, K: Validate, M: Matcher>(
 ) -> Result<Reply<'i>, OutOfMemory>
     requires may { MayRun (setting K.words K.is_whole K.shape M.matching engine.now) (asking question.now)
         context.old node.0 }
+    requires carries { CarriesItsNumber (places_in context.old) question.now.place.now }
     requires more { ¬ (mode_of question.now.mode ≡ for_verdict) }
     ensures keeps { IfOk result (λ _. Keeps context.old context.new) }
     ensures counts { IfOk result (λ _. context.old.visits ≤ context.new.visits) }
@@ -134,6 +138,7 @@ fn run_entries<'i, K: Validate, M: Matcher>(
 ) -> Result<Reply<'i>, OutOfMemory>
     requires may { MayRun (setting K.words K.is_whole K.shape M.matching engine.now) (asking question.now)
         context.old node.0 }
+    requires carries { CarriesItsNumber (places_in context.old) question.now.place.now }
     requires more { ¬ (mode_of question.now.mode ≡ for_verdict) }
     requires parts { HasParts (numbered K.shape engine.now.nodes.now) node.0 (map (shaped_part K.shape) (map entry_of entries.now)) }
     ensures keeps { IfOk result (λ _. Keeps context.old context.new) }
@@ -169,6 +174,7 @@ fn run_entry<'i, K: Validate, M: Matcher>(
 ) -> Result<Reply<'i>, OutOfMemory>
     requires may { MayRun (setting K.words K.is_whole K.shape M.matching engine.now) (asking question.now)
         context.old node.0 }
+    requires carries { CarriesItsNumber (places_in context.old) question.now.place.now }
     requires more { ¬ (mode_of question.now.mode ≡ for_verdict) }
     requires form { HasForm (numbered K.shape engine.now.nodes.now) node.0 (shaped_form K.shape (form_of entry.now.form)) }
     ensures keeps { IfOk result (λ _. Keeps context.old context.new) }
@@ -209,6 +215,7 @@ fn run_form<'i, K: Validate, M: Matcher>(
 ) -> Result<Reply<'i>, OutOfMemory>
     requires may { MayRun (setting K.words K.is_whole K.shape M.matching engine.now) (asking question.now)
         context.old node.0 }
+    requires carries { CarriesItsNumber (places_in context.old) question.now.place.now }
     requires more { ¬ (mode_of question.now.mode ≡ for_verdict) }
     requires form { HasForm (numbered K.shape engine.now.nodes.now) node.0 (shaped_form K.shape (form_of entry.now.form)) }
     ensures keeps { IfOk result (λ _. Keeps context.old context.new) }
@@ -256,6 +263,7 @@ fn run_keyword<'i, K: Validate, M: Matcher>(
 ) -> Result<Reply<'i>, OutOfMemory>
     requires may { MayRun (setting K.words K.is_whole K.shape M.matching engine.now) (asking question.now)
         context.old node.0 }
+    requires carries { CarriesItsNumber (places_in context.old) question.now.place.now }
     requires more { ¬ (mode_of question.now.mode ≡ for_verdict) }
     requires form { HasForm (numbered K.shape engine.now.nodes.now) node.0 (form_at_work K.shape keyword.now) }
     ensures keeps { IfOk result (λ _. Keeps context.old context.new) }
@@ -295,6 +303,7 @@ pub(crate) fn run_child<'i, K: Validate, M: Matcher>(
 ) -> Result<Reply<'i>, OutOfMemory>
     requires may { MayRun (setting K.words K.is_whole K.shape M.matching engine.now) (asking question.now)
         context.old node.0 }
+    requires carries { CarriesItsNumber (places_in context.old) question.now.place.now }
     requires more { ¬ (mode_of question.now.mode ≡ for_verdict) }
     requires children { HasChildren (numbered K.shape engine.now.nodes.now) node.0 (map (option_map edge_of) children.now) }
     requires present { IsPresent (subject_of question.now.instance) (steps_below (below_of below)) }
@@ -338,6 +347,7 @@ fn run_edge<'i, K: Validate, M: Matcher>(
 ) -> Result<Reply<'i>, OutOfMemory>
     requires may { MayRun (setting K.words K.is_whole K.shape M.matching engine.now) (asking question.now)
         context.old edge.now.node.0 }
+    requires carries { CarriesItsNumber (places_in context.old) question.now.place.now }
     requires more { ¬ (mode_of question.now.mode ≡ for_verdict) }
     ensures keeps { IfOk result (λ _. Keeps context.old context.new) }
     ensures counts { IfOk result (λ _. context.old.visits ≤ context.new.visits) }
@@ -360,12 +370,12 @@ fn run_edge<'i, K: Validate, M: Matcher>(
         };
         return run_node(engine, edge.node, &asked, context);
     }
-    let shared = question.place.shared(engine.alloc)?;
-    let here = shared.as_place();
-    if context.enter_shared(edge.node, &shared)? {
+    let pair = GuardedPair::new(context, edge.node, question.place)?;
+    if pair.is_in_progress(context) {
         return Ok(accepted(engine.alloc, question.mode));
     }
-    let place = EvaluationPlace::given(here);
+    pair.enter(context)?;
+    let place = pair.numbered_place();
     let asked = Question {
         instance: question.instance,
         place: &place,
@@ -373,6 +383,6 @@ fn run_edge<'i, K: Validate, M: Matcher>(
         mode: question.mode,
     };
     let reply = run_node(engine, edge.node, &asked, context)?;
-    context.exit(edge.node, here);
+    pair.exit(context);
     Ok(reply)
 }

@@ -4,7 +4,9 @@ ghost use Rattle.schema_reports.specs.InstanceViews.{subject_of};
 ghost use Rattle.schema_definitions.specs.Keywords.{for_units};
 ghost use Rattle.schema_parts.specs.KeywordViews.{mode_of};
 ghost use Rattle.schema_nodes.specs.NodeTable.{NodeEntry, numbered};
+ghost use Rattle.serde_json.specs.View.{view};
 ghost use Rattle.schema_contexts.specs.Progress.{NoDeeper};
+ghost use Rattle.schema_answers.specs.Askings.{IsAskedOf};
 ghost use Rattle.schema_node.specs.RunStates.{asking_first, setting_over};
 ghost use Rattle.schema_node.specs.RunStates.{RunBorrows, RunMeets, RunRemembers, RunReplies, RunSpeaks};
 ghost use Rattle.schema_node.specs.RunStates.{GoesOn, NodeRemembers, StaysRight, forgotten};
@@ -56,6 +58,7 @@ pub trait RunNodes<K: Validate> {
     ) -> Result<Reply<'i>, OutOfMemory>
         requires known { node.0 < length (table self.now) }
         requires above { NoDeeper question.now.place.now context.old.in_progress }
+        requires stands { IsAskedOf (view context.old.root) (asking_first question.now) }
         requires wanted { ¬ (mode_of question.now.mode ≡ for_units) }
         ensures kept { IfOk result (λ _. context.new.in_progress ≡ context.old.in_progress) }
         ensures assumes { IfOk result (λ _. context.new.remembered.assumptions ≡ context.old.remembered.assumptions) }
@@ -91,6 +94,7 @@ pub trait RunNodes<K: Validate> {
     ) -> Result<Reply<'i>, OutOfMemory>
         requires known { node.0 < length (table self.now) }
         requires above { NoDeeper question.now.place.now context.old.in_progress }
+        requires stands { IsAskedOf (view context.old.root) (asking_first question.now) }
         requires wanted { ¬ (mode_of question.now.mode ≡ for_units) }
         requires goes_on { GoesOn (setting_over K.words K.is_whole K.shape (table self.now) (M.matching matcher.now))
             (asking_first question.now) context.old }
@@ -131,6 +135,7 @@ pub trait RunNodes<K: Validate> {
     ) -> Result<EvaluationNode, OutOfMemory>
         requires known { node.0 < length (table self.now) }
         requires above { NoDeeper place.now context.old.in_progress }
+        requires stands { IsAskedOf (view context.old.root) (evaluating (subject_of instance) place.now path.now) }
         ensures kept { IfOk result (λ _. context.new.in_progress ≡ context.old.in_progress) }
         ensures assumes { IfOk result (λ _. context.new.remembered.assumptions ≡ context.old.remembered.assumptions) }
         ensures marking { IfOk result (λ _. context.new.marking ≡ context.old.marking) }

@@ -7,7 +7,9 @@ ghost use Rattle.schema_parts.specs.KeywordViews.{below_of};
 ghost use Rattle.schema_nodes.specs.NodeTable.{numbered};
 ghost use Rattle.schema_parts.specs.EdgeViews.{edge_of};
 ghost use Rattle.schema_node.specs.NodeRuns.{HasForm, HasChildren};
+ghost use Rattle.schema_contexts.specs.Progress.{places_in};
 ghost use Rattle.schema_answers.specs.Askings.{asking};
+ghost use Rattle.schema_answers.specs.EvaluationPlaces.{CarriesItsNumber};
 ghost use Rattle.schema_node.specs.RunStates.{form_at_work, setting};
 ghost use Rattle.schema_node.specs.RunStates.{HasBegun, Keeps, PassesItsOwn, RunBorrows, StaysRight};
 ghost use Rattle.schema_node.specs.RunStates.{MeetsChild, MeetsForm};
@@ -38,6 +40,7 @@ pub(crate) fn keyword_answer<'i, K: Validate, M: Matcher>(
 ) -> Result<Answer<'i>, OutOfMemory>
     requires may { MayAsk (setting K.words K.is_whole K.shape M.matching engine.now) (asking question.now)
         context.old node.0 }
+    requires carries { CarriesItsNumber (places_in context.old) question.now.place.now }
     requires form { HasForm (numbered K.shape engine.now.nodes.now) node.0 (form_at_work K.shape keyword.now) }
     ensures keeps { IfOk result (λ _. Keeps context.old context.new) }
     ensures counts { IfOk result (λ _. context.old.visits ≤ context.new.visits) }
@@ -84,11 +87,13 @@ fn run_turns<'i, K: Validate, M: Matcher>(
 ) -> Result<(), OutOfMemory>
     requires may { MayAsk (setting K.words K.is_whole K.shape M.matching engine.now) (asking question.now)
         context.old node.0 }
+    requires carries { CarriesItsNumber (places_in context.old) question.now.place.now }
     requires form { HasForm (numbered K.shape engine.now.nodes.now) node.0 (form_at_work K.shape keyword.now) }
     requires begun { HasBegun (setting K.words K.is_whole K.shape M.matching engine.now) (asking question.now)
         (K.shape keyword.now.keyword.now) run.old answer.old }
     requires no_faults { faults_in answer.old ≡ [] }
     requires no_marks { context.old.marking ≡ [] }
+    ensures root { IfOk result (λ _. context.new.root ≡ context.old.root) }
     ensures kept { IfOk result (λ _. context.new.in_progress ≡ context.old.in_progress) }
     ensures assumes { IfOk result (λ _. context.new.remembered.assumptions ≡ context.old.remembered.assumptions) }
     ensures counts { IfOk result (λ _. context.old.visits ≤ context.new.visits) }
@@ -155,6 +160,7 @@ fn ask_child<'i, K: Validate, M: Matcher>(
 ) -> Result<Reply<'i>, OutOfMemory>
     requires may { MayAsk (setting K.words K.is_whole K.shape M.matching engine.now) (asking question.now)
         context.old node.0 }
+    requires carries { CarriesItsNumber (places_in context.old) question.now.place.now }
     requires children { HasChildren (numbered K.shape engine.now.nodes.now) node.0 (map (option_map edge_of) children.now) }
     requires present { IsPresent (subject_of question.now.instance) (steps_below (below_of below)) }
     ensures keeps { IfOk result (λ _. Keeps context.old context.new) }
@@ -193,6 +199,7 @@ fn ask_unit<'i, K: Validate, M: Matcher>(
 ) -> Result<Reply<'i>, OutOfMemory>
     requires may { MayEvaluate (setting K.words K.is_whole K.shape M.matching engine.now) (asking question.now)
         context.old node.0 }
+    requires carries { CarriesItsNumber (places_in context.old) question.now.place.now }
     requires children { HasChildren (numbered K.shape engine.now.nodes.now) node.0 (map (option_map edge_of) children.now) }
     requires present { IsPresent (subject_of question.now.instance) (steps_below (below_of below)) }
     ensures keeps { IfOk result (λ _. Keeps context.old context.new) }

@@ -9,7 +9,9 @@ ghost use Rattle.schema_nodes.specs.NodeTable.{numbered, shaped_form, shaped_par
 ghost use Rattle.schema_parts.specs.EdgeViews.{edge_of};
 ghost use Rattle.schema_nodes.specs.NodeViews.{entry_of, form_of};
 ghost use Rattle.schema_node.specs.NodeRuns.{HasForm, HasParts, HasChildren};
+ghost use Rattle.schema_contexts.specs.Progress.{places_in};
 ghost use Rattle.schema_answers.specs.Askings.{asking};
+ghost use Rattle.schema_answers.specs.EvaluationPlaces.{CarriesItsNumber};
 ghost use Rattle.schema_node.specs.RunStates.{form_at_work, setting};
 ghost use Rattle.schema_node.specs.RunStates.{Keeps, MayRun};
 ghost use Rattle.schema_node.specs.RunStates.{ChildSays, EdgeSays, FormSays, NodeSays, PartsSay};
@@ -19,8 +21,8 @@ ghost use Rattle.schema_node.specs.Visits.{EdgeCounts, FormCounts, LeadsNowhere,
 
 use crate::node::run::one_below;
 use crate::node::turns::keyword_answer;
-use schema_answers::evaluation_place::EvaluationPlace;
 use schema_answers::faults::is_accepting;
+use schema_answers::guarded::GuardedPair;
 use schema_answers::question::{Engine, NamedKeyword, Question};
 use schema_contexts::marks::child_edge;
 use schema_contexts::validation::ValidationContext;
@@ -40,6 +42,7 @@ pub(crate) fn verdict_node<'i, K: Validate, M: Matcher>(
 ) -> Result<bool, OutOfMemory>
     requires may { MayRun (setting K.words K.is_whole K.shape M.matching engine.now) (asking question.now)
         context.old node.0 }
+    requires carries { CarriesItsNumber (places_in context.old) question.now.place.now }
     requires verdict { mode_of question.now.mode ≡ for_verdict }
     ensures keeps { IfOk result (λ _. Keeps context.old context.new) }
     ensures counts { IfOk result (λ _. context.old.visits ≤ context.new.visits) }
@@ -83,6 +86,7 @@ fn verdict_entries<'i, K: Validate, M: Matcher>(
 ) -> Result<bool, OutOfMemory>
     requires may { MayRun (setting K.words K.is_whole K.shape M.matching engine.now) (asking question.now)
         context.old node.0 }
+    requires carries { CarriesItsNumber (places_in context.old) question.now.place.now }
     requires verdict { mode_of question.now.mode ≡ for_verdict }
     requires parts { HasParts (numbered K.shape engine.now.nodes.now) node.0 (map (shaped_part K.shape) (map entry_of entries.now)) }
     ensures keeps { IfOk result (λ _. Keeps context.old context.new) }
@@ -120,6 +124,7 @@ pub(crate) fn verdict_form<'i, K: Validate, M: Matcher>(
 ) -> Result<bool, OutOfMemory>
     requires may { MayRun (setting K.words K.is_whole K.shape M.matching engine.now) (asking question.now)
         context.old node.0 }
+    requires carries { CarriesItsNumber (places_in context.old) question.now.place.now }
     requires verdict { mode_of question.now.mode ≡ for_verdict }
     requires form { HasForm (numbered K.shape engine.now.nodes.now) node.0 (shaped_form K.shape (form_of entry.now.form)) }
     ensures keeps { IfOk result (λ _. Keeps context.old context.new) }
@@ -175,6 +180,7 @@ fn verdict_keyword<'i, K: Validate, M: Matcher>(
 ) -> Result<bool, OutOfMemory>
     requires may { MayRun (setting K.words K.is_whole K.shape M.matching engine.now) (asking question.now)
         context.old node.0 }
+    requires carries { CarriesItsNumber (places_in context.old) question.now.place.now }
     requires verdict { mode_of question.now.mode ≡ for_verdict }
     requires form { HasForm (numbered K.shape engine.now.nodes.now) node.0 (form_at_work K.shape keyword.now) }
     ensures keeps { IfOk result (λ _. Keeps context.old context.new) }
@@ -207,6 +213,7 @@ pub(crate) fn verdict_child<'i, K: Validate, M: Matcher>(
 ) -> Result<bool, OutOfMemory>
     requires may { MayRun (setting K.words K.is_whole K.shape M.matching engine.now) (asking question.now)
         context.old node.0 }
+    requires carries { CarriesItsNumber (places_in context.old) question.now.place.now }
     requires verdict { mode_of question.now.mode ≡ for_verdict }
     requires children { HasChildren (numbered K.shape engine.now.nodes.now) node.0 (map (option_map edge_of) children.now) }
     requires present { IsPresent (subject_of question.now.instance) (steps_below (below_of below)) }
@@ -251,6 +258,7 @@ fn verdict_edge<'i, K: Validate, M: Matcher>(
 ) -> Result<bool, OutOfMemory>
     requires may { MayRun (setting K.words K.is_whole K.shape M.matching engine.now) (asking question.now)
         context.old edge.now.node.0 }
+    requires carries { CarriesItsNumber (places_in context.old) question.now.place.now }
     requires verdict { mode_of question.now.mode ≡ for_verdict }
     ensures keeps { IfOk result (λ _. Keeps context.old context.new) }
     ensures counts { IfOk result (λ _. context.old.visits ≤ context.new.visits) }
@@ -292,6 +300,7 @@ fn guarded_verdict<'i, K: Validate, M: Matcher>(
 ) -> Result<bool, OutOfMemory>
     requires may { MayRun (setting K.words K.is_whole K.shape M.matching engine.now) (asking question.now)
         context.old edge.now.node.0 }
+    requires carries { CarriesItsNumber (places_in context.old) question.now.place.now }
     requires verdict { mode_of question.now.mode ≡ for_verdict }
     requires guarded { edge.now.guarded ≡ true }
     ensures keeps { IfOk result (λ _. Keeps context.old context.new) }
@@ -309,16 +318,15 @@ fn guarded_verdict<'i, K: Validate, M: Matcher>(
     ensures remembers { IfOk result (λ b. EdgeRemembers (asking question.now) context.old context.new
         (edge_of edge.now) (told.Truth b)) }
 {
-    let shared = question.place.shared(engine.alloc)?;
-    let here = shared.as_place();
-    if context.enter_shared(edge.node, &shared)? {
+    let pair = GuardedPair::new(context, edge.node, question.place)?;
+    if pair.is_in_progress(context) {
         return Ok(true);
     }
-    if let Some(valid) = context.get_cached_result(edge.node, here) {
-        context.exit(edge.node, here);
+    if let Some(valid) = pair.remembered_verdict(context) {
         return Ok(valid);
     }
-    let place = EvaluationPlace::given(here);
+    pair.enter(context)?;
+    let place = pair.numbered_place();
     let whole = question.path.across(&edge.path);
     let asked = Question {
         instance: question.instance,
@@ -328,7 +336,7 @@ fn guarded_verdict<'i, K: Validate, M: Matcher>(
     };
     let mark = context.start_ref_visit();
     let valid = verdict_node(engine, edge.node, &asked, context)?;
-    context.cache_result(edge.node, here, question.instance, valid, mark)?;
-    context.exit(edge.node, here);
+    pair.keep_verdict(context, question.instance, valid, mark)?;
+    pair.exit(context);
     Ok(valid)
 }

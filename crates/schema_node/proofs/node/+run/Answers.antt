@@ -2,11 +2,16 @@ use Rattle.std.proofs.lemmas.List.Elements.{All-nil}
 use Rattle.std.specs.Prelude.{All, option_and_then}
 use Rattle.schema_reports.specs.ReportViews.{BorrowsItsPlace}
 use Rattle.schema_parts.specs.FaultViews.{PassesBorrowed}
-use Rattle.std.proofs.Common.{◌≡◌, ◌∙◌, ◌+◌, ◌*◌, ◌<◌, ◌≤◌, ℕ, Bool, suc, arith, sym, refl, ap, subst, map, option_map, string_bytes, length, Some, false, true, true≢false, List, [], ◌∷◌, ◌++◌, drop}
+use Rattle.std.proofs.Common.{◌≡◌, ◌∙◌, ◌==◌, ◌+◌, ◌*◌, ◌<◌, ◌≤◌, ℕ, Bool, suc, arith, sym, refl, ap, subst, map, option_map, string_bytes, length, Some, false, true, true≢false, List, [], ◌∷◌, ◌++◌, drop}
 use Rattle.schema_reports.specs.InstanceViews.{subject_of, step_of}
-use Rattle.schema_definitions.specs.Instance.{Text}
+use Rattle.schema_definitions.specs.Instance.{Place, Text}
 use Rattle.schema_definitions.specs.Keywords.{Marked, MatchPoint, Mode, Question, ask, done, ecma, for_verdict, mark, match_text, no_reply, truth, unmark}
-use Rattle.schema_answers.specs.EvaluationPlaces.{steps_to}
+use Rattle.schema_answers.specs.EvaluationPlaces.{CarriesItsNumber, steps_to}
+use Rattle.schema_answers.specs.GuardedPairs.{place_of}
+use Rattle.schema_node.proofs.Placing.{carries_on, pair_busy, pair_entered, stands_at, stands_below, stands_on}
+use Rattle.schema_contexts.specs.Progress.{places_in}
+use Rattle.schema_parts.specs.declared.numbers.SchemaNode.{SchemaNode}
+use Rattle.std.specs.List.{list_any}
 use Rattle.schema_contexts.specs.EvaluationPaths.{path_of}
 use Rattle.schema_definitions.specs.Meaning.{Where}
 use Rattle.schema_meaning.specs.Numbered.{left, subject_in}
@@ -28,13 +33,13 @@ use Rattle.schema_contexts.specs.Progress.{Context, NoDeeper, busy_at}
 use Rattle.schema_node.specs.RightVerdicts.{LaysOut}
 use Rattle.schema_answers.specs.Askings.{asking, Asking}
 use Rattle.schema_node.specs.RunStates.{EdgeRemembers, FormRemembers, FormSays, MeetsNode, NodeSays, RemembersRightly, StaysRight, setting}
-use Rattle.schema_contexts.specs.Verdicts.{one_more}
+use Rattle.schema_contexts.specs.Verdicts.{one_more, read_verdict}
 use Rattle.schema_parts.specs.declared.keyword.Reply.TheVariants as told
 use Rattle.schema_node.proofs.GoesOn.{alone_remembers, asked_across, computed_meets, computed_says, computed_stays, ended_remembers, kept_remembers, kept_stays, pairs_back, planned_remembers, read_meets_edge, read_remembers, read_says, reference_remembers, right_matched, right_same}
 use Rattle.schema_node.proofs.RightVerdicts.{laid_below, read_entered}
 use Rattle.schema_node.proofs.Visits.{always_counts, busy_counts, computed_counts, ended_counts, free_counts, keyword_counts, never_counts, next_counts, planned_counts, read_counts}
 use Rattle.schema_node.specs.Visits.{NodeCounts}
-use Rattle.schema_contexts.proofs.Pairs.{busy-below, busy-pushed, deeper-below, deeper-pushed, entered_new, entered_old}
+use Rattle.schema_contexts.proofs.Pairs.{busy-below, busy-pushed, deeper-below, deeper-pushed}
 use Rattle.schema_node.proofs.KeywordTurns.{falls_turned, faults_lie, keyword_says, right_at_once, right_reply, silent, silent_reads, tells_nothing, asked_on, asks_there, begins_on, can_after, ended_on, mark_taken_on, marked_on, matched_on, matches_there, told_pattern_on}
 use Rattle.schema_meaning.proofs.Alike.{asked_alike}
 use Rattle.schema_parts.proofs.Replies.{if_ok_always, if_ok_both, if_ok_mono}
@@ -82,10 +87,6 @@ as_many a b e = omega (arith, e)
 no_fewer : (a b c : ℕ) → a ≤ b → b ≤ c → a ≤ c
 no_fewer a b c h k = omega (arith, h, k)
 
--- a context of the same fields is the same
-same_context : (c c' : Context) → c'.in_progress ≡ c.in_progress → c'.remembered ≡ c.remembered → c'.marking ≡ c.marking → c'.verdicts ≡ c.verdicts → c'.visits ≡ c.visits → c' ≡ c
-same_context c c' e f h k l = λ i. record { in_progress = e i; remembered = f i; marking = h i; verdicts = k i; visits = l i }
-
 -- ---- a turn that asks for something is not the last
 
 ask_goes_on : (q : Question) (wanted : Mode) → ¬ (ask q wanted ≡ done)
@@ -109,7 +110,7 @@ run::run_child-run_edge-requires g t c =
     let e = edge_of c.in-Some.edge.now in
     let k = c.requires.children c.args.child e (sym c.in-Some.ensures.edge) in
     let l = falls_here g.K.Validate.words g.K.Validate.is_whole ns (length c.args.engine.now.nodes.now) (settling (g.M.Matcher.matching c.args.engine.now.matcher.now) c.args.context.now.remembered.assumptions) c.requires.may.ranked c.args.node.0 (subject_of c.args.question.now.instance) (busy_at (steps_to c.args.question.now.place.now) c.args.context.now.in_progress) e c.requires.may.known k in
-    λ κs h. (lower_edge _ _ _ t 0 refl l c.decreases, (h.0, (h.1.0, (h.1.1.0, (h.1.1.1, (record { known = (c.requires.may.ranked c.args.node.0 c.requires.may.known e k).0; ranked = c.requires.may.ranked; above = c.requires.may.above; wanted = c.requires.may.wanted; goes_on = c.requires.may.goes_on }, c.requires.more))))))
+    λ κs h. (lower_edge _ _ _ t 0 refl l c.decreases, (h.0, (h.1.0, (h.1.1.0, (h.1.1.1, (record { known = (c.requires.may.ranked c.args.node.0 c.requires.may.known e k).0; ranked = c.requires.may.ranked; above = c.requires.may.above; wanted = c.requires.may.wanted; stands = c.requires.may.stands; goes_on = c.requires.may.goes_on }, (c.requires.carries, c.requires.more)))))))
 
 pub run::run_child-run_edge-requires-in-Some-one_below : goal.run::run_child-run_edge-requires-in-Some-one_below
 run::run_child-run_edge-requires-in-Some-one_below g t c =
@@ -125,7 +126,7 @@ run::run_child-run_edge-requires-in-Some-one_below g t c =
     let n = ap (edge_needs ns (length c.args.engine.now.nodes.now) e (subject_of c.in-Some-one_below.inner)) none in
     let (layout, laid, right) = c.requires.may.goes_on in
     let below = laid_below layout p (subject_of c.args.question.now.instance) (subject_of c.in-Some-one_below.inner) step (steps_to c.below-lower.result) laid c.below-lower.ensures.below c.in-Some-one_below.ensures.below.1 in
-    λ κs h. (lower_edge _ _ _ t 0 n l c.decreases, (h.0, (h.1.0, (h.1.1.0, (h.1.1.1, (record { known = (c.requires.may.ranked c.args.node.0 c.requires.may.known e k).0; ranked = c.requires.may.ranked; above = deeper; wanted = c.requires.may.wanted; goes_on = (layout, below, right) }, c.requires.more))))))
+    λ κs h. (lower_edge _ _ _ t 0 n l c.decreases, (h.0, (h.1.0, (h.1.1.0, (h.1.1.1, (record { known = (c.requires.may.ranked c.args.node.0 c.requires.may.known e k).0; ranked = c.requires.may.ranked; above = deeper; wanted = c.requires.may.wanted; stands = stands_below (view c.args.context.now.root) p (subject_of c.args.question.now.instance) (subject_of c.in-Some-one_below.inner) step (steps_to c.below-lower.result) c.requires.may.stands c.below-lower.ensures.below c.in-Some-one_below.ensures.below.1; goes_on = (layout, below, right) }, (c.below-lower.ensures.carries (places_in c.args.context.now) c.requires.carries, c.requires.more)))))))
 
 pub run::run_child-returns-in-None-one_below-clause-says : goal.run::run_child-returns-in-None-one_below-clause-says
 run::run_child-returns-in-None-one_below-clause-says g t c =
@@ -154,40 +155,13 @@ run::run_child-returns-in-Some-one_below-clause-says g t c =
     (record { child = c.args.child; below = below_of c.args.below }) r e step (steps_to c.below-lower.result) inner (sym c.in-Some.ensures.edge) c.in-Some-one_below.ensures.below.0
     c.below-lower.ensures.below c.in-Some-one_below.ensures.below.1 l answer) c.run_edge-in-Some-one_below.ensures.says
 
-pub run::run_edge-returns-then-branch-clause-says : goal.run::run_edge-returns-then-branch-clause-says
-run::run_edge-returns-then-branch-clause-says g t c =
-    let p = steps_to c.args.question.now.place.now in
-    let e = edge_of c.args.edge.now in
-    let old = entered_old e.node p c.args.context.now.in_progress c.in_ok-enter_shared.field-0 c.enter_shared.new.self.in_progress (rw c.in_ok-shared.ensures.same at c.in_ok-enter_shared.ensures.enters) c.if-branch.true in
-    edge_busy g.K.Validate.words g.K.Validate.is_whole (numbered g.K.Validate.shape c.args.engine.now.nodes.now) (length c.args.engine.now.nodes.now) (settling (g.M.Matcher.matching c.args.engine.now.matcher.now) c.args.context.now.remembered.assumptions) (subject_of c.args.question.now.instance) (busy_at p c.args.context.now.in_progress) e (mode_of c.args.question.now.mode) (path_of c.args.question.now.path.now) p c.accepted.result
-    c.if-not-edge.false old.0 c.accepted.ensures.accepts c.accepted.ensures.no_errors
-
-pub run::run_edge-run_node-requires-2 : goal.run::run_edge-run_node-requires-2
-run::run_edge-run_node-requires-2 g t c =
-    let ns = numbered g.K.Validate.shape c.args.engine.now.nodes.now in
-    let set = setting g.K.Validate.words g.K.Validate.is_whole g.K.Validate.shape g.M.Matcher.matching c.args.engine.now in
-    let w = settling (g.M.Matcher.matching c.args.engine.now.matcher.now) c.args.context.now.remembered.assumptions in
-    let p = steps_to c.args.question.now.place.now in
-    let s = subject_of c.args.question.now.instance in
-    let e = edge_of c.args.edge.now in
-    let entered = entered_new e.node p c.args.context.now.in_progress c.in_ok-enter_shared.field-0 c.enter_shared.new.self.in_progress (rw c.in_ok-shared.ensures.same at c.in_ok-enter_shared.ensures.enters) c.if-branch.false in
-    let pushed : busy_at p c.enter_shared.new.self.in_progress ≡ e.node ∷ busy_at p c.args.context.now.in_progress = ap (busy_at p) entered.1 ∙ busy-pushed p e.node c.args.context.now.in_progress in
-    let there : steps_to c.given-place.result ≡ p = c.given-place.ensures.same ∙ c.as_place-here.ensures.same ∙ c.in_ok-shared.ensures.same in
-    let needs = needs_of_entered g.K.Validate.words g.K.Validate.is_whole ns (length c.args.engine.now.nodes.now) w s (busy_at p c.args.context.now.in_progress) e c.if-not-edge.false entered.0 in
-    let l = ap (λ q. left ns (length c.args.engine.now.nodes.now) e.node s (busy_at q c.enter_shared.new.self.in_progress)) there ∙ ap (left ns (length c.args.engine.now.nodes.now) e.node s) pushed in
-    let deeper = subst (λ q. NoDeeper q c.enter_shared.new.self.in_progress) (sym there) (subst (NoDeeper p) (sym entered.1) (deeper-pushed p e.node c.args.context.now.in_progress c.requires.may.above)) in
-    let (layout, laid, right) = c.requires.may.goes_on in
-    let laid' = subst (λ q. LaysOut layout q s) (sym there) laid in
-    let right' = right_same set layout c.args.context.now c.enter_shared.new.self c.enter_shared.ensures.remembered c.enter_shared.ensures.verdicts right in
-    λ κs h. (lower_entered _ _ _ t l needs c.decreases, (h.0, (h.1.0, (h.1.1.0, (h.1.1.1, (record { known = c.requires.may.known; ranked = c.requires.may.ranked; above = deeper; wanted = c.requires.may.wanted; goes_on = (layout, laid', right') }, c.requires.more))))))
-
 pub run::run_form-run_edge-requires : goal.run::run_form-run_edge-requires
 run::run_form-run_edge-requires g t c =
     let ns = numbered g.K.Validate.shape c.args.engine.now.nodes.now in
     let e = edge_of c.in-Reference.edge in
     let k = reference_edge ns c.args.node.0 e (rw c.in-Reference.is at c.requires.form) in
     let l = falls_here g.K.Validate.words g.K.Validate.is_whole ns (length c.args.engine.now.nodes.now) (settling (g.M.Matcher.matching c.args.engine.now.matcher.now) c.args.context.now.remembered.assumptions) c.requires.may.ranked c.args.node.0 (subject_of c.args.question.now.instance) (busy_at (steps_to c.args.question.now.place.now) c.args.context.now.in_progress) e c.requires.may.known k in
-    λ κs h. (lower_edge _ _ _ t 6 refl l c.decreases, (h.0, (h.1.0, (h.1.1.0, (h.1.1.1, (record { known = (c.requires.may.ranked c.args.node.0 c.requires.may.known e k).0; ranked = c.requires.may.ranked; above = c.requires.may.above; wanted = c.requires.may.wanted; goes_on = c.requires.may.goes_on }, c.requires.more))))))
+    λ κs h. (lower_edge _ _ _ t 6 refl l c.decreases, (h.0, (h.1.0, (h.1.1.0, (h.1.1.1, (record { known = (c.requires.may.ranked c.args.node.0 c.requires.may.known e k).0; ranked = c.requires.may.ranked; above = c.requires.may.above; wanted = c.requires.may.wanted; stands = c.requires.may.stands; goes_on = c.requires.may.goes_on }, (c.requires.carries, c.requires.more)))))))
 
 pub run::run_form-returns-in-Keyword-clause-says : goal.run::run_form-returns-in-Keyword-clause-says
 run::run_form-returns-in-Keyword-clause-says g t c = rw (c.in-Keyword.is, ← c.as_slice.ensures.value) c.run_keyword.ensures.says
@@ -205,7 +179,7 @@ run::run_form-returns-in_ok-reply-in-Reference-clause-says g t c =
 pub run::run_node-run_entries-requires : goal.run::run_node-run_entries-requires
 run::run_node-run_entries-requires g t c =
     let plan = plan_is g.K.Validate.shape c.args.engine.now.nodes.now c.args.node.0 (node_of c.node-found.result.now) _ c.node-found.ensures.found (ap (option_map plan_of) c.in-Some.is ∙ ap (λ f. Some (plan_of f)) c.in-Keywords.is) in
-    λ κs h. (lower_same _ _ t 9 0 refl c.decreases, (h.0, (h.1.0, (h.1.1.0, (h.1.1.1, (c.requires.may, (c.requires.more, rw c.as_slice.ensures.value (_, plan, λ y k. k))))))))
+    λ κs h. (lower_same _ _ t 9 0 refl c.decreases, (h.0, (h.1.0, (h.1.1.0, (h.1.1.1, (c.requires.may, (c.requires.carries, (c.requires.more, rw c.as_slice.ensures.value (_, plan, λ y k. k)))))))))
 
 pub run::run_node-returns-in-Never-clause-says : goal.run::run_node-returns-in-Never-clause-says
 run::run_node-returns-in-Never-clause-says g t c =
@@ -230,6 +204,7 @@ pub run::run_entries-loop-entry-init : goal.run::run_entries-loop-entry-init
 run::run_entries-loop-entry-init g t c = record {
   stays = λ layout laid right. right;
   marking = refl;
+  root = refl;
   kept = refl;
   assumes = refl;
   unsettled = λ texts. ap refuses (c.accepted-found.ensures.accepts texts) ∙ nothing_refused (mode_of c.args.question.now.mode);
@@ -245,11 +220,12 @@ run::run_entries-run_entry-requires g t c =
     let kept = c.loop-entry.invariant.kept in
     let l = ap (λ es. left ns (length c.args.engine.now.nodes.now) c.args.node.0 (subject_of c.args.question.now.instance) (busy_at p es)) kept in
     let here = part_at entry_of (shaped_part g.K.Validate.shape) c.args.entries.now c.loop-entry.entry-index c.entry-item.result c.loop-entry-test.true c.entry-item.is in
-    λ κs h. (lower_same _ _ t 8 0 l c.decreases, (h.0, (h.1.0, (h.1.1.0, (h.1.1.1, (record { known = c.requires.may.known; ranked = c.requires.may.ranked; above = subst (NoDeeper p) (sym kept) c.requires.may.above; wanted = c.requires.may.wanted; goes_on = (c.requires.may.goes_on.0, c.requires.may.goes_on.1, c.loop-entry.invariant.stays c.requires.may.goes_on.0 c.requires.may.goes_on.1 c.requires.may.goes_on.2) }, (c.requires.more, (c.requires.parts.0, c.requires.parts.1, shaped_part g.K.Validate.shape (entry_of c.entry-item.result), c.requires.parts.2 _ here, refl))))))))
+    λ κs h. (lower_same _ _ t 8 0 l c.decreases, (h.0, (h.1.0, (h.1.1.0, (h.1.1.1, (record { known = c.requires.may.known; ranked = c.requires.may.ranked; above = subst (NoDeeper p) (sym kept) c.requires.may.above; wanted = c.requires.may.wanted; stands = stands_on c.args.context.now.root _ (asking c.args.question.now) c.loop-entry.invariant.root c.requires.may.stands; goes_on = (c.requires.may.goes_on.0, c.requires.may.goes_on.1, c.loop-entry.invariant.stays c.requires.may.goes_on.0 c.requires.may.goes_on.1 c.requires.may.goes_on.2) }, (carries_on c.args.context.now.root _ c.args.question.now.place.now c.loop-entry.invariant.root c.requires.carries, (c.requires.more, (c.requires.parts.0, c.requires.parts.1, shaped_part g.K.Validate.shape (entry_of c.entry-item.result), c.requires.parts.2 _ here, refl)))))))))
 
 pub run::run_entries-loop-entry-preserved : goal.run::run_entries-loop-entry-preserved
 run::run_entries-loop-entry-preserved g t c = record {
   stays = λ layout laid right. c.in_ok-more.ensures.stays layout laid (c.loop-entry.invariant.stays layout laid right);
+  root = c.in_ok-more.ensures.keeps.root ∙ c.loop-entry.invariant.root;
   kept = c.in_ok-more.ensures.keeps.in_progress ∙ c.loop-entry.invariant.kept;
   assumes = c.in_ok-more.ensures.keeps.assumptions ∙ c.loop-entry.invariant.assumes;
   marking = c.in_ok-more.ensures.keeps.marking ∙ c.loop-entry.invariant.marking;
@@ -302,7 +278,7 @@ run::run_entry-returns-then-entry-clause-says g t c = rw (c.in_ok-valid.ensures.
 
 pub run::run_keyword-keyword_answer-requires : goal.run::run_keyword-keyword_answer-requires
 run::run_keyword-keyword_answer-requires g t c =
-    λ κs h. (lower_same _ _ t 5 0 refl c.decreases, (h.0, (h.1.0, (h.1.1.0, (h.1.1.1, (record { known = c.requires.may.known; ranked = c.requires.may.ranked; above = c.requires.may.above; goes_on = c.requires.may.goes_on }, c.requires.form))))))
+    λ κs h. (lower_same _ _ t 5 0 refl c.decreases, (h.0, (h.1.0, (h.1.1.0, (h.1.1.1, (record { known = c.requires.may.known; ranked = c.requires.may.ranked; above = c.requires.may.above; stands = c.requires.may.stands; goes_on = c.requires.may.goes_on }, (c.requires.carries, c.requires.form)))))))
 
 pub turns::keyword_answer-run_turns-requires : goal.turns::keyword_answer-run_turns-requires
 turns::keyword_answer-run_turns-requires g t c =
@@ -312,7 +288,7 @@ turns::keyword_answer-run_turns-requires g t c =
     let s = subject_of c.args.question.now.instance in
     let kept = c.set_aside-aside.ensures.in_progress in
     let l = ap (λ es. left ns (length c.args.engine.now.nodes.now) c.args.node.0 s (busy_at p es)) kept in
-    λ κs h. (lower_same _ _ t 4 0 l c.decreases, (h.0, (h.1.0, (h.1.1.0, (h.1.1.1, (record { known = c.requires.may.known; ranked = c.requires.may.ranked; above = subst (NoDeeper p) (sym kept) c.requires.may.above; goes_on = (c.requires.may.goes_on.0, c.requires.may.goes_on.1, right_same (setting g.K.Validate.words g.K.Validate.is_whole g.K.Validate.shape g.M.Matcher.matching c.args.engine.now) c.requires.may.goes_on.0 c.args.context.now c.set_aside-aside.new.self c.set_aside-aside.ensures.remembered c.set_aside-aside.ensures.verdicts c.requires.may.goes_on.2) }, (c.requires.form, (begun, (c.in_ok-answer.ensures.no_faults, c.set_aside-aside.ensures.none)))))))))
+    λ κs h. (lower_same _ _ t 4 0 l c.decreases, (h.0, (h.1.0, (h.1.1.0, (h.1.1.1, (record { known = c.requires.may.known; ranked = c.requires.may.ranked; above = subst (NoDeeper p) (sym kept) c.requires.may.above; stands = stands_on c.args.context.now.root _ (asking c.args.question.now) c.set_aside-aside.ensures.root c.requires.may.stands; goes_on = (c.requires.may.goes_on.0, c.requires.may.goes_on.1, right_same (setting g.K.Validate.words g.K.Validate.is_whole g.K.Validate.shape g.M.Matcher.matching c.args.engine.now) c.requires.may.goes_on.0 c.args.context.now c.set_aside-aside.new.self c.set_aside-aside.ensures.remembered c.set_aside-aside.ensures.verdicts c.requires.may.goes_on.2) }, (carries_on c.args.context.now.root _ c.args.question.now.place.now c.set_aside-aside.ensures.root c.requires.carries, (c.requires.form, (begun, (c.in_ok-answer.ensures.no_faults, c.set_aside-aside.ensures.none))))))))))
 
 pub turns::keyword_answer-returns-clause-right : goal.turns::keyword_answer-returns-clause-right
 turns::keyword_answer-returns-clause-right g t c =
@@ -357,17 +333,6 @@ run::run_keyword-returns-clause-says g t c =
 
 pub run::run_keyword-returns-clause-meets : goal.run::run_keyword-returns-clause-meets
 run::run_keyword-returns-clause-meets g t c = if_ok_always c.finished.result _ (rw (← c.finished.ensures.stays) at c.in_ok-answer.ensures.meets)
-
-pub run::run_edge-returns-then-branch-clause-meets : goal.run::run_edge-returns-then-branch-clause-meets
-run::run_edge-returns-then-branch-clause-meets g t c =
-    let ns = numbered g.K.Validate.shape c.args.engine.now.nodes.now in
-    let w = settling (g.M.Matcher.matching c.args.engine.now.matcher.now) c.args.context.now.remembered.assumptions in
-    let p = steps_to c.args.question.now.place.now in
-    let s = subject_of c.args.question.now.instance in
-    let busy = busy_at p c.args.context.now.in_progress in
-    let e = edge_of c.args.edge.now in
-    let old = entered_old e.node p c.args.context.now.in_progress c.in_ok-enter_shared.field-0 c.enter_shared.new.self.in_progress (rw c.in_ok-shared.ensures.same at c.in_ok-enter_shared.ensures.enters) c.if-branch.true in
-    meets_busy g.K.Validate.words g.K.Validate.is_whole ns (length c.args.engine.now.nodes.now) w s busy e (mode_of c.args.question.now.mode) (path_of c.args.question.now.path.now) p _ _ c.if-not-edge.false old.0 (sym c.enter_shared.ensures.remembered)
 
 pub run::run_entries-returns-then-is_settled-clause-meets : goal.run::run_entries-returns-then-is_settled-clause-meets
 run::run_entries-returns-then-is_settled-clause-meets g t c = λ texts root depth reads l.
@@ -497,50 +462,6 @@ run::run_entries-returns-clause-meets g t c = λ texts root depth reads l.
     end_met w.matcher (mode_of c.args.question.now.mode) (looked (drop c.loop-entry.entry-index c.args.entries.now)) (plan_met (mode_of c.args.question.now.mode) (looked c.args.entries.now)) c.args.context.now.remembered c.loop-entry.context.remembered
     (ap looked (drop_past c.args.entries.now c.loop-entry.entry-index c.loop-entry-test.false)) (c.loop-entry.invariant.met texts root depth reads l)
 
-pub run::run_edge-returns-clause-says : goal.run::run_edge-returns-clause-says
-run::run_edge-returns-clause-says g t c =
-    let set = setting g.K.Validate.words g.K.Validate.is_whole g.K.Validate.shape g.M.Matcher.matching c.args.engine.now in
-    let q = asking c.args.question.now in
-    let p = steps_to c.args.question.now.place.now in
-    let e = edge_of c.args.edge.now in
-    let c1 = c.enter_shared.new.self in
-    let entered = entered_new e.node p c.args.context.now.in_progress c.in_ok-enter_shared.field-0 c1.in_progress (rw c.in_ok-shared.ensures.same at c.in_ok-enter_shared.ensures.enters) c.if-branch.false in
-    let there : steps_to c.given-place.result ≡ p = c.given-place.ensures.same ∙ c.as_place-here.ensures.same ∙ c.in_ok-shared.ensures.same in
-    let at_asked : (record { subject = q.subject; place = steps_to c.given-place.result; path = path_of c.across-whole.result; mode = q.mode }) ≡ asked_across set q e c.args.context.now c.if-not-edge.false entered.0
-    = λ i. record { subject = q.subject; place = there i; path = c.across-whole.ensures.appended i; mode = q.mode } in
-    computed_says set q e c.args.context.now c.if-not-edge.false entered.0 c1 entered.1 c.enter_shared.ensures.remembered c.in_ok-reply.reply (subst (λ z. NodeSays set z c1 e.node c.in_ok-reply.reply) at_asked c.in_ok-reply.ensures.says)
-
-pub run::run_edge-returns-clause-meets : goal.run::run_edge-returns-clause-meets
-run::run_edge-returns-clause-meets g t c =
-    let set = setting g.K.Validate.words g.K.Validate.is_whole g.K.Validate.shape g.M.Matcher.matching c.args.engine.now in
-    let q = asking c.args.question.now in
-    let p = steps_to c.args.question.now.place.now in
-    let e = edge_of c.args.edge.now in
-    let c1 = c.enter_shared.new.self in
-    let c3 = c.run_node-2.new.context in
-    let entered = entered_new e.node p c.args.context.now.in_progress c.in_ok-enter_shared.field-0 c1.in_progress (rw c.in_ok-shared.ensures.same at c.in_ok-enter_shared.ensures.enters) c.if-branch.false in
-    let there : steps_to c.given-place.result ≡ p = c.given-place.ensures.same ∙ c.as_place-here.ensures.same ∙ c.in_ok-shared.ensures.same in
-    let at_asked : (record { subject = q.subject; place = steps_to c.given-place.result; path = path_of c.across-whole.result; mode = q.mode }) ≡ asked_across set q e c.args.context.now c.if-not-edge.false entered.0
-    = λ i. record { subject = q.subject; place = there i; path = c.across-whole.ensures.appended i; mode = q.mode } in
-    computed_meets set q e c.args.context.now c.if-not-edge.false entered.0 c1 entered.1 c.enter_shared.ensures.remembered c3 c.exit.new.self (subst (λ z. MeetsNode set z c1 c3 e.node) at_asked c.in_ok-reply.ensures.meets) c.exit.ensures.remembered
-
-pub run::run_edge-returns-clause-stays : goal.run::run_edge-returns-clause-stays
-run::run_edge-returns-clause-stays g t c =
-    let set = setting g.K.Validate.words g.K.Validate.is_whole g.K.Validate.shape g.M.Matcher.matching c.args.engine.now in
-    let q = asking c.args.question.now in
-    let p = steps_to c.args.question.now.place.now in
-    let e = edge_of c.args.edge.now in
-    let c1 = c.enter_shared.new.self in
-    let c3 = c.run_node-2.new.context in
-    let entered = entered_new e.node p c.args.context.now.in_progress c.in_ok-enter_shared.field-0 c1.in_progress (rw c.in_ok-shared.ensures.same at c.in_ok-enter_shared.ensures.enters) c.if-branch.false in
-    let there : steps_to c.given-place.result ≡ p = c.given-place.ensures.same ∙ c.as_place-here.ensures.same ∙ c.in_ok-shared.ensures.same in
-    let at_asked : (record { subject = q.subject; place = steps_to c.given-place.result; path = path_of c.across-whole.result; mode = q.mode }) ≡ asked_across set q e c.args.context.now c.if-not-edge.false entered.0
-    = λ i. record { subject = q.subject; place = there i; path = c.across-whole.ensures.appended i; mode = q.mode } in
-    computed_stays set q e c.args.context.now c.if-not-edge.false entered.0 c1 entered.1 c.enter_shared.ensures.remembered c3 c.exit.new.self c.enter_shared.ensures.verdicts (subst (λ z. StaysRight set z c1 c3) at_asked c.in_ok-reply.ensures.stays) c.exit.ensures.remembered c.exit.ensures.verdicts
-
-pub run::run_edge-returns-clause-counts : goal.run::run_edge-returns-clause-counts
-run::run_edge-returns-clause-counts g t c = rw (c.enter_shared.ensures.visits, ← c.exit.ensures.visits) at c.in_ok-reply.ensures.counts
-
 pub run::run_entries-returns-then-is_settled-clause-counts : goal.run::run_entries-returns-then-is_settled-clause-counts
 run::run_entries-returns-then-is_settled-clause-counts g t c = no_fewer c.args.context.now.visits c.loop-entry.context.visits c.run_entry.new.context.visits c.loop-entry.invariant.counted c.in_ok-more.ensures.counts
 
@@ -572,6 +493,7 @@ turns::run_turns-turns-init g t c =
     let es = map (option_map edge_of) c.args.keyword.now.children.now in
     let busy = busy_at p c.args.context.now.in_progress in
     record {
+      root = refl;
       kept = refl;
       assumes = refl;
       stays = λ layout laid right. right;
@@ -602,7 +524,7 @@ turns::run_turns-ask_child-requires g t c =
     let l = ap (λ es. left ns (length c.args.engine.now.nodes.now) c.args.node.0 s (busy_at p es)) kept in
     let q : Question = record { child = c.in-Ask.child; below = below_of c.in-Ask.below } in
     let there = asks_there (g.K.Validate.words false) m (g.K.Validate.absorbed m) (g.K.Validate.remaining m) (g.K.Validate.can_be false m) (g.K.Validate.ends false m) (g.K.Validate.fits false m) (g.met.K.Validate.turn_laws false m) s (c.turns.run, answer_of false c.turns.answer) told q (mode_of c.in-Ask.wanted) c.turns.invariant.can ((g.met.K.Validate.function_laws false m).present s) step in
-    λ κs h. (lower_same _ _ t 3 0 l c.decreases, (h.0, (h.1.0, (h.1.1.0, (h.1.1.1, (record { known = c.requires.may.known; ranked = c.requires.may.ranked; above = subst (NoDeeper p) (sym kept) c.requires.may.above; goes_on = (c.requires.may.goes_on.0, c.requires.may.goes_on.1, c.turns.invariant.stays c.requires.may.goes_on.0 c.requires.may.goes_on.1 c.requires.may.goes_on.2) }, (keyword_children ns c.args.node.0 m es c.requires.form, there)))))))
+    λ κs h. (lower_same _ _ t 3 0 l c.decreases, (h.0, (h.1.0, (h.1.1.0, (h.1.1.1, (record { known = c.requires.may.known; ranked = c.requires.may.ranked; above = subst (NoDeeper p) (sym kept) c.requires.may.above; stands = stands_on c.args.context.now.root _ (asking c.args.question.now) c.turns.invariant.root c.requires.may.stands; goes_on = (c.requires.may.goes_on.0, c.requires.may.goes_on.1, c.turns.invariant.stays c.requires.may.goes_on.0 c.requires.may.goes_on.1 c.requires.may.goes_on.2) }, (carries_on c.args.context.now.root _ c.args.question.now.place.now c.turns.invariant.root c.requires.carries, (keyword_children ns c.args.node.0 m es c.requires.form, there))))))))
 
 pub turns::run_turns-returns-in-Done-clause-right : goal.turns::run_turns-returns-in-Done-clause-right
 turns::run_turns-returns-in-Done-clause-right g t c = λ x reads l.
@@ -652,6 +574,7 @@ turns::run_turns-turns-preserved-in-Ask g t c =
     let q : Question = record { child = c.in-Ask.child; below = below_of c.in-Ask.below } in
     let says = tells_moved (setting g.K.Validate.words g.K.Validate.is_whole g.K.Validate.shape g.M.Matcher.matching c.args.engine.now) (record { subject = s; place = p; path = path_of c.args.question.now.path.now; mode = mode_of c.in-Ask.wanted }) c.args.context.now c.turns.context c.turns.invariant.kept c.turns.invariant.assumes c.args.node.0 es q c.in_ok-reply-in-Ask.reply c.in_ok-reply-in-Ask.ensures.gives in
     record {
+      root = c.in_ok-reply-in-Ask.ensures.keeps.root ∙ c.turns.invariant.root;
       kept = c.in_ok-reply-in-Ask.ensures.keeps.in_progress ∙ c.turns.invariant.kept;
       assumes = c.in_ok-reply-in-Ask.ensures.keeps.assumptions ∙ c.turns.invariant.assumes;
       stays = λ layout laid right. c.in_ok-reply-in-Ask.ensures.stays layout laid (c.turns.invariant.stays layout laid right);
@@ -743,6 +666,7 @@ turns::run_turns-turns-preserved-in-Match g t c =
     let out = rw c.turns.invariant.assumes at (c.in_ok-matches-in-Match.ensures.answer a point asked.2) in
     let met = c.in_ok-matches-in-Match.ensures.met a point asked.2 in
     record {
+      root = c.step_match.ensures.root ∙ c.turns.invariant.root;
       kept = c.step_match.ensures.in_progress ∙ c.turns.invariant.kept;
       assumes = ap (λ (r : Remembered). r.assumptions) met ∙ after_assumes _ _ answer ∙ c.turns.invariant.assumes;
       stays = λ layout laid right. right_matched (setting g.K.Validate.words g.K.Validate.is_whole g.K.Validate.shape g.M.Matcher.matching c.args.engine.now) layout c.turns.context c.step_match.new.context _ answer refl c.step_match.ensures.verdicts met (c.turns.invariant.stays layout laid right);
@@ -783,6 +707,7 @@ turns::run_turns-turns-preserved-in-Ecma g t c =
     let text = c.in-Ecma.text.now in
     let step = rw c.in-Ecma.is at (c.in_ok-step.ensures.steps false (tells_nothing (g.K.Validate.is_whole m) s)) in
     record {
+      root = c.turns.invariant.root;
       kept = c.turns.invariant.kept;
       assumes = c.turns.invariant.assumes;
       stays = c.turns.invariant.stays;
@@ -844,6 +769,7 @@ turns::run_turns-turns-preserved-in-Mark g t c =
     let turn = c.in_ok-step.ensures.turns false (tells_nothing (g.K.Validate.is_whole m) s) in
     let step = rw c.in-Mark.is at (c.in_ok-step.ensures.steps false (tells_nothing (g.K.Validate.is_whole m) s)) in
     record {
+      root = c.enter_marking.ensures.root ∙ c.turns.invariant.root;
       kept = c.enter_marking.ensures.in_progress ∙ c.turns.invariant.kept;
       assumes = ap (λ (r : Remembered). r.assumptions) c.enter_marking.ensures.remembered ∙ c.turns.invariant.assumes;
       stays = λ layout laid right. right_same (setting g.K.Validate.words g.K.Validate.is_whole g.K.Validate.shape g.M.Matcher.matching c.args.engine.now) layout c.turns.context c.enter_marking.new.self c.enter_marking.ensures.remembered c.enter_marking.ensures.verdicts (c.turns.invariant.stays layout laid right);
@@ -888,6 +814,7 @@ turns::run_turns-turns-preserved g t c =
     let turn = c.in_ok-step.ensures.turns false (tells_nothing (g.K.Validate.is_whole m) s) in
     let step = rw c.in-Unmark.is at (c.in_ok-step.ensures.steps false (tells_nothing (g.K.Validate.is_whole m) s)) in
     record {
+      root = c.exit_marking.ensures.root ∙ c.turns.invariant.root;
       kept = c.exit_marking.ensures.in_progress ∙ c.turns.invariant.kept;
       assumes = ap (λ (r : Remembered). r.assumptions) c.exit_marking.ensures.remembered ∙ c.turns.invariant.assumes;
       stays = λ layout laid right. right_same (setting g.K.Validate.words g.K.Validate.is_whole g.K.Validate.shape g.M.Matcher.matching c.args.engine.now) layout c.turns.context c.exit_marking.new.self c.exit_marking.ensures.remembered c.exit_marking.ensures.verdicts (c.turns.invariant.stays layout laid right);
@@ -939,7 +866,7 @@ evaluate::evaluate_child-evaluate_edge-requires g t c =
     let e = edge_of c.in-Some.edge.now in
     let k = c.requires.children c.args.child e (sym c.in-Some.ensures.edge) in
     let l = falls_here g.K.Validate.words g.K.Validate.is_whole ns (length c.args.engine.now.nodes.now) w c.requires.may.ranked c.args.node.0 s busy e c.requires.may.known k in
-    λ κs h. (lower_edge _ _ _ t 0 refl l c.decreases, (h.0, (h.1.0, (h.1.1.0, (h.1.1.1, record { known = (c.requires.may.ranked c.args.node.0 c.requires.may.known e k).0; ranked = c.requires.may.ranked; above = c.requires.may.above; wanted = c.requires.may.wanted; goes_on = c.requires.may.goes_on })))))
+    λ κs h. (lower_edge _ _ _ t 0 refl l c.decreases, (h.0, (h.1.0, (h.1.1.0, (h.1.1.1, (record { known = (c.requires.may.ranked c.args.node.0 c.requires.may.known e k).0; ranked = c.requires.may.ranked; above = c.requires.may.above; wanted = c.requires.may.wanted; stands = c.requires.may.stands; goes_on = c.requires.may.goes_on }, c.requires.carries))))))
 
 pub evaluate::evaluate_child-evaluate_edge-requires-in-Some-one_below : goal.evaluate::evaluate_child-evaluate_edge-requires-in-Some-one_below
 evaluate::evaluate_child-evaluate_edge-requires-in-Some-one_below g t c =
@@ -959,7 +886,7 @@ evaluate::evaluate_child-evaluate_edge-requires-in-Some-one_below g t c =
     let n = ap (edge_needs ns (length c.args.engine.now.nodes.now) e inner) none in
     let (layout, laid, right) = c.requires.may.goes_on in
     let below = laid_below layout p s inner step (steps_to c.below-lower.result) laid c.below-lower.ensures.below c.in-Some-one_below.ensures.below.1 in
-    λ κs h. (lower_edge _ _ _ t 0 n l c.decreases, (h.0, (h.1.0, (h.1.1.0, (h.1.1.1, record { known = (c.requires.may.ranked c.args.node.0 c.requires.may.known e k).0; ranked = c.requires.may.ranked; above = deeper; wanted = c.requires.may.wanted; goes_on = (layout, below, right) })))))
+    λ κs h. (lower_edge _ _ _ t 0 n l c.decreases, (h.0, (h.1.0, (h.1.1.0, (h.1.1.1, (record { known = (c.requires.may.ranked c.args.node.0 c.requires.may.known e k).0; ranked = c.requires.may.ranked; above = deeper; wanted = c.requires.may.wanted; stands = stands_below (view c.args.context.now.root) p (subject_of c.args.question.now.instance) (subject_of c.in-Some-one_below.inner) step (steps_to c.below-lower.result) c.requires.may.stands c.below-lower.ensures.below c.in-Some-one_below.ensures.below.1; goes_on = (layout, below, right) }, c.below-lower.ensures.carries (places_in c.args.context.now) c.requires.carries))))))
 
 pub evaluate::evaluate_child-returns-in-None-one_below-clause-gives : goal.evaluate::evaluate_child-returns-in-None-one_below-clause-gives
 evaluate::evaluate_child-returns-in-None-one_below-clause-gives g t c =
@@ -1028,97 +955,10 @@ evaluate::evaluate_child-returns-in-Some-one_below-clause-meets g t c =
     let met = subst (λ busy'. EdgeMeets g.K.Validate.words g.K.Validate.is_whole ns (length c.args.engine.now.nodes.now) w (mode_of c.args.question.now.mode) (path_of c.args.question.now.path.now) (steps_to c.below-lower.result) busy' inner c.args.context.now.remembered c.evaluate_edge-in-Some-one_below.new.context.remembered e) none meets in
     meets_below g.K.Validate.words g.K.Validate.is_whole ns (length c.args.engine.now.nodes.now) w (mode_of c.args.question.now.mode) (path_of c.args.question.now.path.now) p busy s c.args.node.0 _ asked _ _ e step (steps_to c.below-lower.result) inner (sym c.in-Some.ensures.edge) c.in-Some-one_below.ensures.below.0 c.below-lower.ensures.below c.in-Some-one_below.ensures.below.1 l met) c.evaluate_edge-in-Some-one_below.ensures.meets
 
-pub evaluate::evaluate_edge-returns-then-branch-clause-gives : goal.evaluate::evaluate_edge-returns-then-branch-clause-gives
-evaluate::evaluate_edge-returns-then-branch-clause-gives g t c =
-    let set = setting g.K.Validate.words g.K.Validate.is_whole g.K.Validate.shape g.M.Matcher.matching c.args.engine.now in
-    let q = asking c.args.question.now in
-    let p = steps_to c.args.question.now.place.now in
-    let s = subject_of c.args.question.now.instance in
-    let e = edge_of c.args.edge.now in
-    let old = entered_old e.node p c.args.context.now.in_progress c.in_ok-enter_shared.field-0 c.enter_shared.new.self.in_progress (rw c.in_ok-shared.ensures.same at c.in_ok-enter_shared.ensures.enters) c.if-branch.true in
-    let there : steps_to c.given-place.result ≡ p = c.given-place.ensures.same ∙ c.as_place-here.ensures.same ∙ c.in_ok-shared.ensures.same in
-    let n = node_of c.node.result.now in
-    let at_node = where_is g.K.Validate.shape c.args.engine.now.nodes.now (g.K.Validate.words false) (g.M.Matcher.matching c.args.engine.now.matcher.now) (λ place. s) e.node n (path_of c.args.question.now.path.now ++ e.path) p c.node.ensures.found in
-    if_ok_mono c.accepting_unit.result _ _ (λ u is. gives_busy set q c.args.context.now e u c.if-not-edge.false old.0 (λ texts. is texts
-    ∙ ap (λ path. true_unit (entry_where n path (steps_to c.given-place.result))) c.across-whole.ensures.appended
-    ∙ ap (λ place. true_unit (entry_where n (path_of c.args.question.now.path.now ++ e.path) place)) there
-    ∙ ap true_unit (sym at_node))) c.accepting_unit.ensures.unit
-
-pub evaluate::evaluate_edge-returns-then-branch-clause-meets : goal.evaluate::evaluate_edge-returns-then-branch-clause-meets
-evaluate::evaluate_edge-returns-then-branch-clause-meets g t c =
-    let ns = numbered g.K.Validate.shape c.args.engine.now.nodes.now in
-    let w = settling (g.M.Matcher.matching c.args.engine.now.matcher.now) c.args.context.now.remembered.assumptions in
-    let p = steps_to c.args.question.now.place.now in
-    let s = subject_of c.args.question.now.instance in
-    let busy = busy_at p c.args.context.now.in_progress in
-    let e = edge_of c.args.edge.now in
-    let old = entered_old e.node p c.args.context.now.in_progress c.in_ok-enter_shared.field-0 c.enter_shared.new.self.in_progress (rw c.in_ok-shared.ensures.same at c.in_ok-enter_shared.ensures.enters) c.if-branch.true in
-    if_ok_always c.accepting_unit.result _ (meets_busy g.K.Validate.words g.K.Validate.is_whole ns (length c.args.engine.now.nodes.now) w s busy e (mode_of c.args.question.now.mode) (path_of c.args.question.now.path.now) p _ _ c.if-not-edge.false old.0 (sym c.enter_shared.ensures.remembered))
-
-pub evaluate::evaluate_edge-evaluate_node-requires-2 : goal.evaluate::evaluate_edge-evaluate_node-requires-2
-evaluate::evaluate_edge-evaluate_node-requires-2 g t c =
-    let ns = numbered g.K.Validate.shape c.args.engine.now.nodes.now in
-    let set = setting g.K.Validate.words g.K.Validate.is_whole g.K.Validate.shape g.M.Matcher.matching c.args.engine.now in
-    let w = settling (g.M.Matcher.matching c.args.engine.now.matcher.now) c.args.context.now.remembered.assumptions in
-    let p = steps_to c.args.question.now.place.now in
-    let s = subject_of c.args.question.now.instance in
-    let e = edge_of c.args.edge.now in
-    let entered = entered_new e.node p c.args.context.now.in_progress c.in_ok-enter_shared.field-0 c.enter_shared.new.self.in_progress (rw c.in_ok-shared.ensures.same at c.in_ok-enter_shared.ensures.enters) c.if-branch.false in
-    let pushed : busy_at p c.enter_shared.new.self.in_progress ≡ e.node ∷ busy_at p c.args.context.now.in_progress = ap (busy_at p) entered.1 ∙ busy-pushed p e.node c.args.context.now.in_progress in
-    let there : steps_to c.given-place.result ≡ p = c.given-place.ensures.same ∙ c.as_place-here.ensures.same ∙ c.in_ok-shared.ensures.same in
-    let needs = needs_of_entered g.K.Validate.words g.K.Validate.is_whole ns (length c.args.engine.now.nodes.now) w s (busy_at p c.args.context.now.in_progress) e c.if-not-edge.false entered.0 in
-    let l = ap (λ q. left ns (length c.args.engine.now.nodes.now) e.node s (busy_at q c.enter_shared.new.self.in_progress)) there ∙ ap (left ns (length c.args.engine.now.nodes.now) e.node s) pushed in
-    let deeper = subst (λ q. NoDeeper q c.enter_shared.new.self.in_progress) (sym there) (subst (NoDeeper p) (sym entered.1) (deeper-pushed p e.node c.args.context.now.in_progress c.requires.may.above)) in
-    let (layout, laid, right) = c.requires.may.goes_on in
-    let laid' = subst (λ q. LaysOut layout q s) (sym there) laid in
-    let right' = right_same set layout c.args.context.now c.enter_shared.new.self c.enter_shared.ensures.remembered c.enter_shared.ensures.verdicts right in
-    λ κs h. (lower_entered _ _ _ t l needs c.decreases, (h.0, (h.1.0, (h.1.1.0, (h.1.1.1, record { known = c.requires.may.known; ranked = c.requires.may.ranked; above = deeper; wanted = c.requires.may.wanted; goes_on = (layout, laid', right') })))))
-
-pub evaluate::evaluate_edge-returns-clause-gives : goal.evaluate::evaluate_edge-returns-clause-gives
-evaluate::evaluate_edge-returns-clause-gives g t c =
-    let set = setting g.K.Validate.words g.K.Validate.is_whole g.K.Validate.shape g.M.Matcher.matching c.args.engine.now in
-    let q = asking c.args.question.now in
-    let p = steps_to c.args.question.now.place.now in
-    let e = edge_of c.args.edge.now in
-    let entered = entered_new e.node p c.args.context.now.in_progress c.in_ok-enter_shared.field-0 c.enter_shared.new.self.in_progress (rw c.in_ok-shared.ensures.same at c.in_ok-enter_shared.ensures.enters) c.if-branch.false in
-    let pushed : busy_at p c.enter_shared.new.self.in_progress ≡ e.node ∷ busy_at p c.args.context.now.in_progress = ap (busy_at p) entered.1 ∙ busy-pushed p e.node c.args.context.now.in_progress in
-    let there : steps_to c.given-place.result ≡ p = c.given-place.ensures.same ∙ c.as_place-here.ensures.same ∙ c.in_ok-shared.ensures.same in
-    let asked : Asking = record { subject = q.subject; place = steps_to c.given-place.result; path = path_of c.across-whole.result; mode = q.mode } in
-    let is : asked ≡ record q { path = q.path ++ e.path } = λ i. record { subject = q.subject; place = there i; path = c.across-whole.ensures.appended i; mode = q.mode } in
-    gives_entered set q c.args.context.now e c.in_ok-unit.unit c.if-not-edge.false entered.0 asked c.enter_shared.new.self is pushed c.enter_shared.ensures.remembered c.in_ok-unit.ensures.gives
-
-pub evaluate::evaluate_edge-returns-clause-meets : goal.evaluate::evaluate_edge-returns-clause-meets
-evaluate::evaluate_edge-returns-clause-meets g t c =
-    let ns = numbered g.K.Validate.shape c.args.engine.now.nodes.now in
-    let set = setting g.K.Validate.words g.K.Validate.is_whole g.K.Validate.shape g.M.Matcher.matching c.args.engine.now in
-    let w = settling (g.M.Matcher.matching c.args.engine.now.matcher.now) c.args.context.now.remembered.assumptions in
-    let q = asking c.args.question.now in
-    let p = steps_to c.args.question.now.place.now in
-    let s = subject_of c.args.question.now.instance in
-    let busy = busy_at p c.args.context.now.in_progress in
-    let e = edge_of c.args.edge.now in
-    let entered = entered_new e.node p c.args.context.now.in_progress c.in_ok-enter_shared.field-0 c.enter_shared.new.self.in_progress (rw c.in_ok-shared.ensures.same at c.in_ok-enter_shared.ensures.enters) c.if-branch.false in
-    let pushed : busy_at p c.enter_shared.new.self.in_progress ≡ e.node ∷ busy_at p c.args.context.now.in_progress = ap (busy_at p) entered.1 ∙ busy-pushed p e.node c.args.context.now.in_progress in
-    let there : steps_to c.given-place.result ≡ p = c.given-place.ensures.same ∙ c.as_place-here.ensures.same ∙ c.in_ok-shared.ensures.same in
-    let asked : Asking = record { subject = q.subject; place = steps_to c.given-place.result; path = path_of c.across-whole.result; mode = q.mode } in
-    let is : asked ≡ record q { path = q.path ++ e.path } = λ i. record { subject = q.subject; place = there i; path = c.across-whole.ensures.appended i; mode = q.mode } in
-    let met = entered_meets set q c.args.context.now e c.in_ok-unit.unit c.if-not-edge.false entered.0 asked c.enter_shared.new.self c.evaluate_node-2.new.context is pushed c.enter_shared.ensures.remembered c.in_ok-unit.ensures.meets in
-    subst (λ r. EdgeMeets g.K.Validate.words g.K.Validate.is_whole ns (length c.args.engine.now.nodes.now) w (mode_of c.args.question.now.mode) (path_of c.args.question.now.path.now) p busy s c.args.context.now.remembered r e) (sym c.exit.ensures.remembered) met
-
-pub evaluate::evaluate_edge-returns-clause-stays : goal.evaluate::evaluate_edge-returns-clause-stays
-evaluate::evaluate_edge-returns-clause-stays g t c =
-    let set = setting g.K.Validate.words g.K.Validate.is_whole g.K.Validate.shape g.M.Matcher.matching c.args.engine.now in
-    let p = steps_to c.args.question.now.place.now in
-    let s = subject_of c.args.question.now.instance in
-    let there : steps_to c.given-place.result ≡ p = c.given-place.ensures.same ∙ c.as_place-here.ensures.same ∙ c.in_ok-shared.ensures.same in
-    λ layout laid right.
-    let right1 = right_same set layout c.args.context.now c.enter_shared.new.self c.enter_shared.ensures.remembered c.enter_shared.ensures.verdicts right in
-    let laid' = subst (λ q. LaysOut layout q s) (sym there) laid in
-    right_same set layout c.evaluate_node-2.new.context c.exit.new.self c.exit.ensures.remembered c.exit.ensures.verdicts (c.in_ok-unit.ensures.stays layout laid' right1)
-
 pub evaluate::evaluate_entries-loop-entry-init : goal.evaluate::evaluate_entries-loop-entry-init
 evaluate::evaluate_entries-loop-entry-init g t c =
     record {
+      root = refl;
       kept = refl;
       assumes = refl;
       marking = refl;
@@ -1135,7 +975,7 @@ evaluate::evaluate_entries-evaluate_entry-requires g t c =
     let kept = c.loop-entry.invariant.kept in
     let l = ap (λ es. left ns (length c.args.engine.now.nodes.now) c.args.node.0 (subject_of c.args.question.now.instance) (busy_at p es)) kept in
     let here = part_at entry_of (shaped_part g.K.Validate.shape) c.args.entries.now c.loop-entry.entry-index c.entry-item.result c.loop-entry-test.true c.entry-item.is in
-    λ κs h. (lower_same _ _ t 8 0 l c.decreases, (h.0, (h.1.0, (h.1.1.0, (h.1.1.1, (record { known = c.requires.may.known; ranked = c.requires.may.ranked; above = subst (NoDeeper p) (sym kept) c.requires.may.above; wanted = c.requires.may.wanted; goes_on = (c.requires.may.goes_on.0, c.requires.may.goes_on.1, c.loop-entry.invariant.stays c.requires.may.goes_on.0 c.requires.may.goes_on.1 c.requires.may.goes_on.2) }, (c.requires.parts.0, c.requires.parts.1, shaped_part g.K.Validate.shape (entry_of c.entry-item.result), c.requires.parts.2 _ here, refl)))))))
+    λ κs h. (lower_same _ _ t 8 0 l c.decreases, (h.0, (h.1.0, (h.1.1.0, (h.1.1.1, (record { known = c.requires.may.known; ranked = c.requires.may.ranked; above = subst (NoDeeper p) (sym kept) c.requires.may.above; wanted = c.requires.may.wanted; stands = stands_on c.args.context.now.root _ (asking c.args.question.now) c.loop-entry.invariant.root c.requires.may.stands; goes_on = (c.requires.may.goes_on.0, c.requires.may.goes_on.1, c.loop-entry.invariant.stays c.requires.may.goes_on.0 c.requires.may.goes_on.1 c.requires.may.goes_on.2) }, (carries_on c.args.context.now.root _ c.args.question.now.place.now c.loop-entry.invariant.root c.requires.carries, (c.requires.parts.0, c.requires.parts.1, shaped_part g.K.Validate.shape (entry_of c.entry-item.result), c.requires.parts.2 _ here, refl))))))))
 
 pub evaluate::evaluate_entries-loop-entry-preserved : goal.evaluate::evaluate_entries-loop-entry-preserved
 evaluate::evaluate_entries-loop-entry-preserved g t c =
@@ -1152,6 +992,7 @@ evaluate::evaluate_entries-loop-entry-preserved g t c =
     let mode = mode_of c.args.question.now.mode in
     record {
       stays = λ layout laid right. c.in_ok-given.ensures.stays layout laid (c.loop-entry.invariant.stays layout laid right);
+      root = c.in_ok-given.ensures.keeps.root ∙ c.loop-entry.invariant.root;
       kept = c.in_ok-given.ensures.keeps.in_progress ∙ c.loop-entry.invariant.kept;
       assumes = c.in_ok-given.ensures.keeps.assumptions ∙ c.loop-entry.invariant.assumes;
       marking = c.in_ok-given.ensures.keeps.marking ∙ c.loop-entry.invariant.marking;
@@ -1200,7 +1041,7 @@ evaluate::evaluate_entry-evaluate_edge-requires g t c =
     let e = edge_of c.in-Reference.edge in
     let k = reference_edge ns c.args.node.0 e (rw c.in-Reference.is at c.requires.form) in
     let l = falls_here g.K.Validate.words g.K.Validate.is_whole ns (length c.args.engine.now.nodes.now) w c.requires.may.ranked c.args.node.0 s busy e c.requires.may.known k in
-    λ κs h. (lower_edge _ _ _ t 7 refl l c.decreases, (h.0, (h.1.0, (h.1.1.0, (h.1.1.1, record { known = (c.requires.may.ranked c.args.node.0 c.requires.may.known e k).0; ranked = c.requires.may.ranked; above = c.requires.may.above; wanted = c.requires.may.wanted; goes_on = c.requires.may.goes_on })))))
+    λ κs h. (lower_edge _ _ _ t 7 refl l c.decreases, (h.0, (h.1.0, (h.1.1.0, (h.1.1.1, (record { known = (c.requires.may.ranked c.args.node.0 c.requires.may.known e k).0; ranked = c.requires.may.ranked; above = c.requires.may.above; wanted = c.requires.may.wanted; stands = c.requires.may.stands; goes_on = c.requires.may.goes_on }, c.requires.carries))))))
 
 pub evaluate::evaluate_entry-returns-in-Keyword-clause-meets : goal.evaluate::evaluate_entry-returns-in-Keyword-clause-meets
 evaluate::evaluate_entry-returns-in-Keyword-clause-meets g t c =
@@ -1239,7 +1080,7 @@ evaluate::evaluate_entry-returns-in_ok-unit-in-Reference-clause-meets g t c =
 
 pub evaluate::evaluate_keyword-keyword_answer-requires : goal.evaluate::evaluate_keyword-keyword_answer-requires
 evaluate::evaluate_keyword-keyword_answer-requires g t c =
-    λ κs h. (lower_same _ _ t 5 0 refl c.decreases, (h.0, (h.1.0, (h.1.1.0, (h.1.1.1, (record { known = c.requires.may.known; ranked = c.requires.may.ranked; above = c.requires.may.above; goes_on = c.requires.may.goes_on }, c.requires.form))))))
+    λ κs h. (lower_same _ _ t 5 0 refl c.decreases, (h.0, (h.1.0, (h.1.1.0, (h.1.1.1, (record { known = c.requires.may.known; ranked = c.requires.may.ranked; above = c.requires.may.above; stands = c.requires.may.stands; goes_on = c.requires.may.goes_on }, (c.requires.carries, c.requires.form)))))))
 
 pub evaluate::evaluate_keyword-returns-clause-gives : goal.evaluate::evaluate_keyword-returns-clause-gives
 evaluate::evaluate_keyword-returns-clause-gives g t c =
@@ -1271,7 +1112,7 @@ pub evaluate::evaluate_node-evaluate_entries-requires : goal.evaluate::evaluate_
 evaluate::evaluate_node-evaluate_entries-requires g t c =
     let n = node_of c.node-found.result.now in
     let plan = plan_is g.K.Validate.shape c.args.engine.now.nodes.now c.args.node.0 n _ c.node-found.ensures.found (ap (option_map plan_of) c.in-Some.is ∙ ap (λ f. Some (plan_of f)) c.in-Keywords.is) in
-    λ κs h. (lower_same _ _ t 9 0 refl c.decreases, (h.0, (h.1.0, (h.1.1.0, (h.1.1.1, (c.requires.may, rw c.as_slice.ensures.value (_, plan, λ y k. k)))))))
+    λ κs h. (lower_same _ _ t 9 0 refl c.decreases, (h.0, (h.1.0, (h.1.1.0, (h.1.1.1, (c.requires.may, (c.requires.carries, rw c.as_slice.ensures.value (_, plan, λ y k. k))))))))
 
 pub evaluate::evaluate_node-returns-in-None-clause-gives : goal.evaluate::evaluate_node-returns-in-None-clause-gives
 evaluate::evaluate_node-returns-in-None-clause-gives g t c =
@@ -1361,12 +1202,6 @@ evaluate::evaluate_node-returns-in_ok-children-in-Keywords-clause-meets g t c =
 pub evaluate::evaluate_entries-returns-clause-counts : goal.evaluate::evaluate_entries-returns-clause-counts
 evaluate::evaluate_entries-returns-clause-counts g t c = if_ok_always c.into_children.result _ c.loop-entry.invariant.counted
 
-pub evaluate::evaluate_edge-returns-clause-counts : goal.evaluate::evaluate_edge-returns-clause-counts
-evaluate::evaluate_edge-returns-clause-counts g t c = rw (c.enter_shared.ensures.visits, ← c.exit.ensures.visits) at c.in_ok-unit.ensures.counts
-
-pub evaluate::evaluate_edge-returns-then-branch-clause-counts : goal.evaluate::evaluate_edge-returns-then-branch-clause-counts
-evaluate::evaluate_edge-returns-then-branch-clause-counts g t c = if_ok_always c.accepting_unit.result _ (as_many _ _ c.enter_shared.ensures.visits)
-
 pub evaluate::evaluate_entry-returns-in_ok-unit-in-Reference-clause-counts : goal.evaluate::evaluate_entry-returns-in_ok-unit-in-Reference-clause-counts
 evaluate::evaluate_entry-returns-in_ok-unit-in-Reference-clause-counts g t c = if_ok_always c.units_of_reference.result _ (rw (← c.units_of_reference.ensures.stays) at c.in_ok-unit-in-Reference.ensures.counts)
 
@@ -1391,7 +1226,7 @@ verdict::verdict_child-verdict_edge-requires g t c =
     let e = edge_of c.in-Some.edge.now in
     let k = c.requires.children c.args.child e (sym c.in-Some.ensures.edge) in
     let l = falls_here g.K.Validate.words g.K.Validate.is_whole ns (length c.args.engine.now.nodes.now) (settling (g.M.Matcher.matching c.args.engine.now.matcher.now) c.args.context.now.remembered.assumptions) c.requires.may.ranked c.args.node.0 (subject_of c.args.question.now.instance) (busy_at (steps_to c.args.question.now.place.now) c.args.context.now.in_progress) e c.requires.may.known k in
-    λ κs h. (lower_across _ _ _ t 0 refl l c.decreases, (h.0, (h.1.0, (h.1.1.0, (h.1.1.1, (record { known = (c.requires.may.ranked c.args.node.0 c.requires.may.known e k).0; ranked = c.requires.may.ranked; above = c.requires.may.above; wanted = c.requires.may.wanted; goes_on = c.requires.may.goes_on }, c.requires.verdict))))))
+    λ κs h. (lower_across _ _ _ t 0 refl l c.decreases, (h.0, (h.1.0, (h.1.1.0, (h.1.1.1, (record { known = (c.requires.may.ranked c.args.node.0 c.requires.may.known e k).0; ranked = c.requires.may.ranked; above = c.requires.may.above; wanted = c.requires.may.wanted; stands = c.requires.may.stands; goes_on = c.requires.may.goes_on }, (c.requires.carries, c.requires.verdict)))))))
 
 pub verdict::verdict_child-verdict_edge-requires-in-Some-one_below : goal.verdict::verdict_child-verdict_edge-requires-in-Some-one_below
 verdict::verdict_child-verdict_edge-requires-in-Some-one_below g t c =
@@ -1407,7 +1242,7 @@ verdict::verdict_child-verdict_edge-requires-in-Some-one_below g t c =
     let n = ap (edge_needs ns (length c.args.engine.now.nodes.now) e (subject_of c.in-Some-one_below.inner)) none in
     let (layout, laid, right) = c.requires.may.goes_on in
     let below = laid_below layout p (subject_of c.args.question.now.instance) (subject_of c.in-Some-one_below.inner) step (steps_to c.below-lower.result) laid c.below-lower.ensures.below c.in-Some-one_below.ensures.below.1 in
-    λ κs h. (lower_across _ _ _ t 0 n l c.decreases, (h.0, (h.1.0, (h.1.1.0, (h.1.1.1, (record { known = (c.requires.may.ranked c.args.node.0 c.requires.may.known e k).0; ranked = c.requires.may.ranked; above = deeper; wanted = c.requires.may.wanted; goes_on = (layout, below, right) }, c.requires.verdict))))))
+    λ κs h. (lower_across _ _ _ t 0 n l c.decreases, (h.0, (h.1.0, (h.1.1.0, (h.1.1.1, (record { known = (c.requires.may.ranked c.args.node.0 c.requires.may.known e k).0; ranked = c.requires.may.ranked; above = deeper; wanted = c.requires.may.wanted; stands = stands_below (view c.args.context.now.root) p (subject_of c.args.question.now.instance) (subject_of c.in-Some-one_below.inner) step (steps_to c.below-lower.result) c.requires.may.stands c.below-lower.ensures.below c.in-Some-one_below.ensures.below.1; goes_on = (layout, below, right) }, (c.below-lower.ensures.carries (places_in c.args.context.now) c.requires.carries, c.requires.verdict)))))))
 
 pub verdict::verdict_child-returns-in-None-one_below-clause-says : goal.verdict::verdict_child-returns-in-None-one_below-clause-says
 verdict::verdict_child-returns-in-None-one_below-clause-says g t c =
@@ -1479,7 +1314,7 @@ verdict::verdict_form-verdict_edge-requires g t c =
     let e = edge_of c.in-Reference.edge in
     let k = reference_edge ns c.args.node.0 e (rw c.in-Reference.is at c.requires.form) in
     let l = falls_here g.K.Validate.words g.K.Validate.is_whole ns (length c.args.engine.now.nodes.now) (settling (g.M.Matcher.matching c.args.engine.now.matcher.now) c.args.context.now.remembered.assumptions) c.requires.may.ranked c.args.node.0 (subject_of c.args.question.now.instance) (busy_at (steps_to c.args.question.now.place.now) c.args.context.now.in_progress) e c.requires.may.known k in
-    λ κs h. (lower_across _ _ _ t 5 refl l c.decreases, (h.0, (h.1.0, (h.1.1.0, (h.1.1.1, (record { known = (c.requires.may.ranked c.args.node.0 c.requires.may.known e k).0; ranked = c.requires.may.ranked; above = c.requires.may.above; wanted = c.requires.may.wanted; goes_on = c.requires.may.goes_on }, c.requires.verdict))))))
+    λ κs h. (lower_across _ _ _ t 5 refl l c.decreases, (h.0, (h.1.0, (h.1.1.0, (h.1.1.1, (record { known = (c.requires.may.ranked c.args.node.0 c.requires.may.known e k).0; ranked = c.requires.may.ranked; above = c.requires.may.above; wanted = c.requires.may.wanted; stands = c.requires.may.stands; goes_on = c.requires.may.goes_on }, (c.requires.carries, c.requires.verdict)))))))
 
 pub verdict::verdict_form-returns-in_default-clause-says : goal.verdict::verdict_form-returns-in_default-clause-says
 verdict::verdict_form-returns-in_default-clause-says g t c = rw (c.in-Keyword.is, ← c.as_slice.ensures.value) c.verdict_keyword.ensures.says
@@ -1577,7 +1412,7 @@ verdict::verdict_form-returns-in-Some-clause-visits g t c = rw c.in-Keyword.is (
 
 pub verdict::verdict_keyword-keyword_answer-requires : goal.verdict::verdict_keyword-keyword_answer-requires
 verdict::verdict_keyword-keyword_answer-requires g t c =
-    λ κs h. (lower_same _ _ t 5 0 refl c.decreases, (h.0, (h.1.0, (h.1.1.0, (h.1.1.1, (record { known = c.requires.may.known; ranked = c.requires.may.ranked; above = c.requires.may.above; goes_on = c.requires.may.goes_on }, c.requires.form))))))
+    λ κs h. (lower_same _ _ t 5 0 refl c.decreases, (h.0, (h.1.0, (h.1.1.0, (h.1.1.1, (record { known = c.requires.may.known; ranked = c.requires.may.ranked; above = c.requires.may.above; stands = c.requires.may.stands; goes_on = c.requires.may.goes_on }, (c.requires.carries, c.requires.form)))))))
 
 pub verdict::verdict_keyword-returns-clause-says : goal.verdict::verdict_keyword-returns-clause-says
 verdict::verdict_keyword-returns-clause-says g t c =
@@ -1602,7 +1437,7 @@ verdict::verdict_keyword-returns-clause-visits g t c =
 pub verdict::verdict_node-verdict_entries-requires : goal.verdict::verdict_node-verdict_entries-requires
 verdict::verdict_node-verdict_entries-requires g t c =
     let plan = plan_is g.K.Validate.shape c.args.engine.now.nodes.now c.args.node.0 (node_of c.node.result.now) _ c.node.ensures.found (ap (option_map plan_of) c.in-Some.is ∙ ap (λ f. Some (plan_of f)) c.in-Keywords.is) in
-    λ κs h. (lower_same _ _ t 9 0 refl c.decreases, (h.0, (h.1.0, (h.1.1.0, (h.1.1.1, (c.requires.may, (c.requires.verdict, rw c.as_slice.ensures.value (_, plan, λ y k. k))))))))
+    λ κs h. (lower_same _ _ t 9 0 refl c.decreases, (h.0, (h.1.0, (h.1.1.0, (h.1.1.1, (c.requires.may, (c.requires.carries, (c.requires.verdict, rw c.as_slice.ensures.value (_, plan, λ y k. k)))))))))
 
 pub verdict::verdict_node-returns-in-None-clause-says : goal.verdict::verdict_node-returns-in-None-clause-says
 verdict::verdict_node-returns-in-None-clause-says g t c =
@@ -1726,6 +1561,7 @@ verdict::verdict_entries-loop-entry-init g t c = record {
   remembers = λ l. absurd (omega (arith, l));
   visited = λ l. absurd (omega (arith, l));
   marking = refl;
+  root = refl;
   kept = refl;
   assumes = refl;
   met = λ texts root depth reads l. ([], refl, refl);
@@ -1740,7 +1576,7 @@ verdict::verdict_entries-verdict_form-requires g t c =
     let kept = c.loop-entry.invariant.kept in
     let l = ap (λ es. left ns (length c.args.engine.now.nodes.now) c.args.node.0 (subject_of c.args.question.now.instance) (busy_at p es)) kept in
     let here = part_at entry_of (shaped_part g.K.Validate.shape) c.args.entries.now c.loop-entry.entry-index c.entry-item.result c.loop-entry-test.true c.entry-item.is in
-    λ κs h. (lower_same _ _ t 7 1 l c.decreases, (h.0, (h.1.0, (h.1.1.0, (h.1.1.1, (record { known = c.requires.may.known; ranked = c.requires.may.ranked; above = subst (NoDeeper p) (sym kept) c.requires.may.above; wanted = c.requires.may.wanted; goes_on = (c.requires.may.goes_on.0, c.requires.may.goes_on.1, c.loop-entry.invariant.stays c.requires.may.goes_on.0 c.requires.may.goes_on.1 c.requires.may.goes_on.2) }, (c.requires.verdict, (c.requires.parts.0, c.requires.parts.1, shaped_part g.K.Validate.shape (entry_of c.entry-item.result), c.requires.parts.2 _ here, refl))))))))
+    λ κs h. (lower_same _ _ t 7 1 l c.decreases, (h.0, (h.1.0, (h.1.1.0, (h.1.1.1, (record { known = c.requires.may.known; ranked = c.requires.may.ranked; above = subst (NoDeeper p) (sym kept) c.requires.may.above; wanted = c.requires.may.wanted; stands = stands_on c.args.context.now.root _ (asking c.args.question.now) c.loop-entry.invariant.root c.requires.may.stands; goes_on = (c.requires.may.goes_on.0, c.requires.may.goes_on.1, c.loop-entry.invariant.stays c.requires.may.goes_on.0 c.requires.may.goes_on.1 c.requires.may.goes_on.2) }, (carries_on c.args.context.now.root _ c.args.question.now.place.now c.loop-entry.invariant.root c.requires.carries, (c.requires.verdict, (c.requires.parts.0, c.requires.parts.1, shaped_part g.K.Validate.shape (entry_of c.entry-item.result), c.requires.parts.2 _ here, refl)))))))))
 
 pub verdict::verdict_entries-loop-entry-preserved : goal.verdict::verdict_entries-loop-entry-preserved
 verdict::verdict_entries-loop-entry-preserved g t c = record {
@@ -1748,6 +1584,7 @@ verdict::verdict_entries-loop-entry-preserved g t c = record {
   first = λ e. absurd (omega (arith, e));
   remembers = λ l. alone_remembers (asking c.args.question.now) entry_of (shaped_part g.K.Validate.shape) c.args.entries.now c.loop-entry.entry-index c.entry-item.result c.loop-entry-test.true c.entry-item.is c.args.context.now c.loop-entry.context c.verdict_form.new.context (told.Truth true) c.loop-entry.invariant.first (subst (λ v. FormRemembers (asking c.args.question.now) c.loop-entry.context c.verdict_form.new.context (shaped_form g.K.Validate.shape (form_of c.entry-item.result.form)) (told.Truth v)) c.if-not-valid.false c.in_ok-valid.ensures.remembers);
   visited = λ l. next_counts (numbered g.K.Validate.shape c.args.engine.now.nodes.now) (asking c.args.question.now) entry_of (shaped_part g.K.Validate.shape) c.args.entries.now c.loop-entry.entry-index c.entry-item.result c.loop-entry-test.true c.entry-item.is c.args.context.now c.loop-entry.context c.verdict_form.new.context c.loop-entry.invariant.first c.loop-entry.invariant.visited c.in_ok-valid.ensures.visits;
+  root = c.in_ok-valid.ensures.keeps.root ∙ c.loop-entry.invariant.root;
   kept = c.in_ok-valid.ensures.keeps.in_progress ∙ c.loop-entry.invariant.kept;
   assumes = c.in_ok-valid.ensures.keeps.assumptions ∙ c.loop-entry.invariant.assumes;
   marking = c.in_ok-valid.ensures.keeps.marking ∙ c.loop-entry.invariant.marking;
@@ -1838,38 +1675,228 @@ pub verdict::verdict_entries-returns-clause-visits : goal.verdict::verdict_entri
 verdict::verdict_entries-returns-clause-visits g t c =
     ended_counts (numbered g.K.Validate.shape c.args.engine.now.nodes.now) (asking c.args.question.now) entry_of (shaped_part g.K.Validate.shape) c.args.entries.now c.loop-entry.entry-index c.loop-entry-test.false c.args.context.now c.loop-entry.context c.loop-entry.invariant.first c.loop-entry.invariant.visited
 
-pub verdict::guarded_verdict-returns-then-branch-clause-says : goal.verdict::guarded_verdict-returns-then-branch-clause-says
-verdict::guarded_verdict-returns-then-branch-clause-says g t c =
+pub verdict::verdict_edge-returns-clause-visits : goal.verdict::verdict_edge-returns-clause-visits
+verdict::verdict_edge-returns-clause-visits g t c = if_ok_mono c.verdict_node.result _ _ (λ b counts. free_counts (numbered g.K.Validate.shape c.args.engine.now.nodes.now) (asking c.args.question.now) c.args.context.now (edge_of c.args.edge.now) c.verdict_node.new.context c.if-edge.false counts) c.verdict_node.ensures.visits
+
+pub run::run_edge-returns-then-is_in_progress-clause-says : goal.run::run_edge-returns-then-is_in_progress-clause-says
+run::run_edge-returns-then-is_in_progress-clause-says g t c =
     let p = steps_to c.args.question.now.place.now in
     let e = edge_of c.args.edge.now in
-    let old = entered_old e.node p c.args.context.now.in_progress c.in_ok-enter_shared.field-0 c.enter_shared.new.self.in_progress (rw c.in_ok-shared.ensures.same at c.in_ok-enter_shared.ensures.enters) c.if-branch.true in
-    edge_busy g.K.Validate.words g.K.Validate.is_whole (numbered g.K.Validate.shape c.args.engine.now.nodes.now) (length c.args.engine.now.nodes.now) (settling (g.M.Matcher.matching c.args.engine.now.matcher.now) c.args.context.now.remembered.assumptions) (subject_of c.args.question.now.instance) (busy_at p c.args.context.now.in_progress) e (mode_of c.args.question.now.mode) (path_of c.args.question.now.path.now) p (told.Truth true)
-    c.requires.guarded old.0 (yes_says (mode_of c.args.question.now.mode) c.requires.verdict) refl
+    let old = pair_busy e.node c.in_ok-pair.pair.node.0 p (place_of c.in_ok-pair.pair) c.args.context.now c.new.new.context _ true (ap (λ (n : SchemaNode). n.0) c.in_ok-pair.ensures.node) c.in_ok-pair.ensures.place c.in_ok-pair.ensures.unchanged c.is_in_progress.ensures.found c.if-is_in_progress.true in
+    edge_busy g.K.Validate.words g.K.Validate.is_whole (numbered g.K.Validate.shape c.args.engine.now.nodes.now) (length c.args.engine.now.nodes.now) (settling (g.M.Matcher.matching c.args.engine.now.matcher.now) c.args.context.now.remembered.assumptions) (subject_of c.args.question.now.instance) (busy_at p c.args.context.now.in_progress) e (mode_of c.args.question.now.mode) (path_of c.args.question.now.path.now) p c.accepted.result
+    c.if-not-edge.false old c.accepted.ensures.accepts c.accepted.ensures.no_errors
 
-pub verdict::guarded_verdict-returns-then-branch-clause-meets : goal.verdict::guarded_verdict-returns-then-branch-clause-meets
-verdict::guarded_verdict-returns-then-branch-clause-meets g t c =
+pub run::run_edge-run_node-requires-2 : goal.run::run_edge-run_node-requires-2
+run::run_edge-run_node-requires-2 g t c =
+    let ns = numbered g.K.Validate.shape c.args.engine.now.nodes.now in
+    let set = setting g.K.Validate.words g.K.Validate.is_whole g.K.Validate.shape g.M.Matcher.matching c.args.engine.now in
+    let w = settling (g.M.Matcher.matching c.args.engine.now.matcher.now) c.args.context.now.remembered.assumptions in
+    let p = steps_to c.args.question.now.place.now in
+    let s = subject_of c.args.question.now.instance in
+    let e = edge_of c.args.edge.now in
+    let entered : (list_any (λ i. i == e.node) (busy_at p c.args.context.now.in_progress) ≡ false) × (c.enter.new.context.in_progress ≡ c.args.context.now.in_progress ++ (e.node, p) ∷ []) = (pair_busy e.node c.in_ok-pair.pair.node.0 p (place_of c.in_ok-pair.pair) c.args.context.now c.new.new.context _ false (ap (λ (n : SchemaNode). n.0) c.in_ok-pair.ensures.node) c.in_ok-pair.ensures.place c.in_ok-pair.ensures.unchanged c.is_in_progress.ensures.found c.if-is_in_progress.false,
+        pair_entered e.node c.in_ok-pair.pair.node.0 p (place_of c.in_ok-pair.pair) c.args.context.now c.new.new.context c.enter.new.context.in_progress (ap (λ (n : SchemaNode). n.0) c.in_ok-pair.ensures.node) c.in_ok-pair.ensures.place c.in_ok-pair.ensures.unchanged c.in_ok-enter.ensures.entered) in
+    let pushed : busy_at p c.enter.new.context.in_progress ≡ e.node ∷ busy_at p c.args.context.now.in_progress = ap (busy_at p) entered.1 ∙ busy-pushed p e.node c.args.context.now.in_progress in
+    let there : steps_to c.numbered_place-place.result ≡ p = c.numbered_place-place.ensures.same ∙ c.in_ok-pair.ensures.place in
+    let needs = needs_of_entered g.K.Validate.words g.K.Validate.is_whole ns (length c.args.engine.now.nodes.now) w s (busy_at p c.args.context.now.in_progress) e c.if-not-edge.false entered.0 in
+    let l = ap (λ q. left ns (length c.args.engine.now.nodes.now) e.node s (busy_at q c.enter.new.context.in_progress)) there ∙ ap (left ns (length c.args.engine.now.nodes.now) e.node s) pushed in
+    let deeper = subst (λ q. NoDeeper q c.enter.new.context.in_progress) (sym there) (subst (NoDeeper p) (sym entered.1) (deeper-pushed p e.node c.args.context.now.in_progress c.requires.may.above)) in
+    let (layout, laid, right) = c.requires.may.goes_on in
+    let laid' = subst (λ q. LaysOut layout q s) (sym there) laid in
+    let right' = right_same set layout c.args.context.now c.enter.new.context (c.enter.ensures.remembered ∙ ap (λ (z : Context). z.remembered) c.in_ok-pair.ensures.unchanged) (c.enter.ensures.verdicts ∙ ap (λ (z : Context). z.verdicts) c.in_ok-pair.ensures.unchanged) right in
+    let root = c.enter.ensures.root ∙ ap (λ (z : Context). z.root) c.in_ok-pair.ensures.unchanged in
+    let carries = carries_on c.args.context.now.root c.enter.new.context.root c.numbered_place-place.result root (c.numbered_place-place.ensures.carries c.args.context.now c.in_ok-pair.ensures.numbered) in
+    λ κs h. (lower_entered _ _ _ t l needs c.decreases, (h.0, (h.1.0, (h.1.1.0, (h.1.1.1, (record { known = c.requires.may.known; ranked = c.requires.may.ranked; above = deeper; wanted = c.requires.may.wanted; stands = stands_at c.args.context.now.root _ (asking c.args.question.now) _ root there c.requires.may.stands; goes_on = (layout, laid', right') }, (carries, c.requires.more)))))))
+
+pub run::run_edge-returns-then-is_in_progress-clause-meets : goal.run::run_edge-returns-then-is_in_progress-clause-meets
+run::run_edge-returns-then-is_in_progress-clause-meets g t c =
     let ns = numbered g.K.Validate.shape c.args.engine.now.nodes.now in
     let w = settling (g.M.Matcher.matching c.args.engine.now.matcher.now) c.args.context.now.remembered.assumptions in
     let p = steps_to c.args.question.now.place.now in
     let s = subject_of c.args.question.now.instance in
     let busy = busy_at p c.args.context.now.in_progress in
     let e = edge_of c.args.edge.now in
-    let old = entered_old e.node p c.args.context.now.in_progress c.in_ok-enter_shared.field-0 c.enter_shared.new.self.in_progress (rw c.in_ok-shared.ensures.same at c.in_ok-enter_shared.ensures.enters) c.if-branch.true in
-    meets_busy g.K.Validate.words g.K.Validate.is_whole ns (length c.args.engine.now.nodes.now) w s busy e (mode_of c.args.question.now.mode) (path_of c.args.question.now.path.now) p _ _ c.requires.guarded old.0 (sym c.enter_shared.ensures.remembered)
+    let old = pair_busy e.node c.in_ok-pair.pair.node.0 p (place_of c.in_ok-pair.pair) c.args.context.now c.new.new.context _ true (ap (λ (n : SchemaNode). n.0) c.in_ok-pair.ensures.node) c.in_ok-pair.ensures.place c.in_ok-pair.ensures.unchanged c.is_in_progress.ensures.found c.if-is_in_progress.true in
+    meets_busy g.K.Validate.words g.K.Validate.is_whole ns (length c.args.engine.now.nodes.now) w s busy e (mode_of c.args.question.now.mode) (path_of c.args.question.now.path.now) p _ _ c.if-not-edge.false old (sym (ap (λ (z : Context). z.remembered) c.in_ok-pair.ensures.unchanged))
 
-pub verdict::guarded_verdict-returns-then-branch-clause-remembers : goal.verdict::guarded_verdict-returns-then-branch-clause-remembers
-verdict::guarded_verdict-returns-then-branch-clause-remembers g t c = λ mode guarded free.
+pub run::run_edge-returns-clause-says : goal.run::run_edge-returns-clause-says
+run::run_edge-returns-clause-says g t c =
+    let set = setting g.K.Validate.words g.K.Validate.is_whole g.K.Validate.shape g.M.Matcher.matching c.args.engine.now in
+    let q = asking c.args.question.now in
     let p = steps_to c.args.question.now.place.now in
     let e = edge_of c.args.edge.now in
-    let old = entered_old e.node p c.args.context.now.in_progress c.in_ok-enter_shared.field-0 c.enter_shared.new.self.in_progress (rw c.in_ok-shared.ensures.same at c.in_ok-enter_shared.ensures.enters) c.if-branch.true in
-    absurd (true≢false (sym old.0 ∙ free))
+    let c1 = c.enter.new.context in
+    let entered : (list_any (λ i. i == e.node) (busy_at p c.args.context.now.in_progress) ≡ false) × (c.enter.new.context.in_progress ≡ c.args.context.now.in_progress ++ (e.node, p) ∷ []) = (pair_busy e.node c.in_ok-pair.pair.node.0 p (place_of c.in_ok-pair.pair) c.args.context.now c.new.new.context _ false (ap (λ (n : SchemaNode). n.0) c.in_ok-pair.ensures.node) c.in_ok-pair.ensures.place c.in_ok-pair.ensures.unchanged c.is_in_progress.ensures.found c.if-is_in_progress.false,
+        pair_entered e.node c.in_ok-pair.pair.node.0 p (place_of c.in_ok-pair.pair) c.args.context.now c.new.new.context c.enter.new.context.in_progress (ap (λ (n : SchemaNode). n.0) c.in_ok-pair.ensures.node) c.in_ok-pair.ensures.place c.in_ok-pair.ensures.unchanged c.in_ok-enter.ensures.entered) in
+    let there : steps_to c.numbered_place-place.result ≡ p = c.numbered_place-place.ensures.same ∙ c.in_ok-pair.ensures.place in
+    let at_asked : (record { subject = q.subject; place = steps_to c.numbered_place-place.result; path = path_of c.across-whole.result; mode = q.mode }) ≡ asked_across set q e c.args.context.now c.if-not-edge.false entered.0
+    = λ i. record { subject = q.subject; place = there i; path = c.across-whole.ensures.appended i; mode = q.mode } in
+    computed_says set q e c.args.context.now c.if-not-edge.false entered.0 c1 entered.1 (c.enter.ensures.remembered ∙ ap (λ (z : Context). z.remembered) c.in_ok-pair.ensures.unchanged) c.in_ok-reply.reply (subst (λ z. NodeSays set z c1 e.node c.in_ok-reply.reply) at_asked c.in_ok-reply.ensures.says)
 
-pub verdict::guarded_verdict-returns-then-branch-clause-visits : goal.verdict::guarded_verdict-returns-then-branch-clause-visits
-verdict::guarded_verdict-returns-then-branch-clause-visits g t c =
+pub run::run_edge-returns-clause-meets : goal.run::run_edge-returns-clause-meets
+run::run_edge-returns-clause-meets g t c =
+    let set = setting g.K.Validate.words g.K.Validate.is_whole g.K.Validate.shape g.M.Matcher.matching c.args.engine.now in
+    let q = asking c.args.question.now in
     let p = steps_to c.args.question.now.place.now in
     let e = edge_of c.args.edge.now in
-    let old = entered_old e.node p c.args.context.now.in_progress c.in_ok-enter_shared.field-0 c.enter_shared.new.self.in_progress (rw c.in_ok-shared.ensures.same at c.in_ok-enter_shared.ensures.enters) c.if-branch.true in
-    busy_counts (numbered g.K.Validate.shape c.args.engine.now.nodes.now) (asking c.args.question.now) c.args.context.now e c.enter_shared.new.self c.requires.guarded old.0 c.enter_shared.ensures.visits
+    let c1 = c.enter.new.context in
+    let c3 = c.run_node-2.new.context in
+    let entered : (list_any (λ i. i == e.node) (busy_at p c.args.context.now.in_progress) ≡ false) × (c.enter.new.context.in_progress ≡ c.args.context.now.in_progress ++ (e.node, p) ∷ []) = (pair_busy e.node c.in_ok-pair.pair.node.0 p (place_of c.in_ok-pair.pair) c.args.context.now c.new.new.context _ false (ap (λ (n : SchemaNode). n.0) c.in_ok-pair.ensures.node) c.in_ok-pair.ensures.place c.in_ok-pair.ensures.unchanged c.is_in_progress.ensures.found c.if-is_in_progress.false,
+        pair_entered e.node c.in_ok-pair.pair.node.0 p (place_of c.in_ok-pair.pair) c.args.context.now c.new.new.context c.enter.new.context.in_progress (ap (λ (n : SchemaNode). n.0) c.in_ok-pair.ensures.node) c.in_ok-pair.ensures.place c.in_ok-pair.ensures.unchanged c.in_ok-enter.ensures.entered) in
+    let there : steps_to c.numbered_place-place.result ≡ p = c.numbered_place-place.ensures.same ∙ c.in_ok-pair.ensures.place in
+    let at_asked : (record { subject = q.subject; place = steps_to c.numbered_place-place.result; path = path_of c.across-whole.result; mode = q.mode }) ≡ asked_across set q e c.args.context.now c.if-not-edge.false entered.0
+    = λ i. record { subject = q.subject; place = there i; path = c.across-whole.ensures.appended i; mode = q.mode } in
+    computed_meets set q e c.args.context.now c.if-not-edge.false entered.0 c1 entered.1 (c.enter.ensures.remembered ∙ ap (λ (z : Context). z.remembered) c.in_ok-pair.ensures.unchanged) c3 c.exit.new.context (subst (λ z. MeetsNode set z c1 c3 e.node) at_asked c.in_ok-reply.ensures.meets) c.exit.ensures.remembered
+
+pub run::run_edge-returns-clause-stays : goal.run::run_edge-returns-clause-stays
+run::run_edge-returns-clause-stays g t c =
+    let set = setting g.K.Validate.words g.K.Validate.is_whole g.K.Validate.shape g.M.Matcher.matching c.args.engine.now in
+    let q = asking c.args.question.now in
+    let p = steps_to c.args.question.now.place.now in
+    let e = edge_of c.args.edge.now in
+    let c1 = c.enter.new.context in
+    let c3 = c.run_node-2.new.context in
+    let entered : (list_any (λ i. i == e.node) (busy_at p c.args.context.now.in_progress) ≡ false) × (c.enter.new.context.in_progress ≡ c.args.context.now.in_progress ++ (e.node, p) ∷ []) = (pair_busy e.node c.in_ok-pair.pair.node.0 p (place_of c.in_ok-pair.pair) c.args.context.now c.new.new.context _ false (ap (λ (n : SchemaNode). n.0) c.in_ok-pair.ensures.node) c.in_ok-pair.ensures.place c.in_ok-pair.ensures.unchanged c.is_in_progress.ensures.found c.if-is_in_progress.false,
+        pair_entered e.node c.in_ok-pair.pair.node.0 p (place_of c.in_ok-pair.pair) c.args.context.now c.new.new.context c.enter.new.context.in_progress (ap (λ (n : SchemaNode). n.0) c.in_ok-pair.ensures.node) c.in_ok-pair.ensures.place c.in_ok-pair.ensures.unchanged c.in_ok-enter.ensures.entered) in
+    let there : steps_to c.numbered_place-place.result ≡ p = c.numbered_place-place.ensures.same ∙ c.in_ok-pair.ensures.place in
+    let at_asked : (record { subject = q.subject; place = steps_to c.numbered_place-place.result; path = path_of c.across-whole.result; mode = q.mode }) ≡ asked_across set q e c.args.context.now c.if-not-edge.false entered.0
+    = λ i. record { subject = q.subject; place = there i; path = c.across-whole.ensures.appended i; mode = q.mode } in
+    computed_stays set q e c.args.context.now c.if-not-edge.false entered.0 c1 entered.1 (c.enter.ensures.remembered ∙ ap (λ (z : Context). z.remembered) c.in_ok-pair.ensures.unchanged) c3 c.exit.new.context (c.enter.ensures.verdicts ∙ ap (λ (z : Context). z.verdicts) c.in_ok-pair.ensures.unchanged) (subst (λ z. StaysRight set z c1 c3) at_asked c.in_ok-reply.ensures.stays) c.exit.ensures.remembered c.exit.ensures.verdicts
+
+pub run::run_edge-returns-clause-counts : goal.run::run_edge-returns-clause-counts
+run::run_edge-returns-clause-counts g t c = rw ((c.enter.ensures.visits ∙ ap (λ (z : Context). z.visits) c.in_ok-pair.ensures.unchanged), ← c.exit.ensures.visits) at c.in_ok-reply.ensures.counts
+
+pub evaluate::evaluate_edge-returns-then-is_in_progress-clause-gives : goal.evaluate::evaluate_edge-returns-then-is_in_progress-clause-gives
+evaluate::evaluate_edge-returns-then-is_in_progress-clause-gives g t c =
+    let set = setting g.K.Validate.words g.K.Validate.is_whole g.K.Validate.shape g.M.Matcher.matching c.args.engine.now in
+    let q = asking c.args.question.now in
+    let p = steps_to c.args.question.now.place.now in
+    let s = subject_of c.args.question.now.instance in
+    let e = edge_of c.args.edge.now in
+    let old = pair_busy e.node c.in_ok-pair.pair.node.0 p (place_of c.in_ok-pair.pair) c.args.context.now c.new.new.context _ true (ap (λ (n : SchemaNode). n.0) c.in_ok-pair.ensures.node) c.in_ok-pair.ensures.place c.in_ok-pair.ensures.unchanged c.is_in_progress.ensures.found c.if-is_in_progress.true in
+    let there : steps_to c.numbered_place-place.result ≡ p = c.numbered_place-place.ensures.same ∙ c.in_ok-pair.ensures.place in
+    let n = node_of c.node.result.now in
+    let at_node = where_is g.K.Validate.shape c.args.engine.now.nodes.now (g.K.Validate.words false) (g.M.Matcher.matching c.args.engine.now.matcher.now) (λ place. s) e.node n (path_of c.args.question.now.path.now ++ e.path) p c.node.ensures.found in
+    if_ok_mono c.accepting_unit.result _ _ (λ u is. gives_busy set q c.args.context.now e u c.if-not-edge.false old (λ texts. is texts
+    ∙ ap (λ path. true_unit (entry_where n path (steps_to c.numbered_place-place.result))) c.across-whole.ensures.appended
+    ∙ ap (λ place. true_unit (entry_where n (path_of c.args.question.now.path.now ++ e.path) place)) there
+    ∙ ap true_unit (sym at_node))) c.accepting_unit.ensures.unit
+
+pub evaluate::evaluate_edge-returns-then-is_in_progress-clause-meets : goal.evaluate::evaluate_edge-returns-then-is_in_progress-clause-meets
+evaluate::evaluate_edge-returns-then-is_in_progress-clause-meets g t c =
+    let ns = numbered g.K.Validate.shape c.args.engine.now.nodes.now in
+    let w = settling (g.M.Matcher.matching c.args.engine.now.matcher.now) c.args.context.now.remembered.assumptions in
+    let p = steps_to c.args.question.now.place.now in
+    let s = subject_of c.args.question.now.instance in
+    let busy = busy_at p c.args.context.now.in_progress in
+    let e = edge_of c.args.edge.now in
+    let old = pair_busy e.node c.in_ok-pair.pair.node.0 p (place_of c.in_ok-pair.pair) c.args.context.now c.new.new.context _ true (ap (λ (n : SchemaNode). n.0) c.in_ok-pair.ensures.node) c.in_ok-pair.ensures.place c.in_ok-pair.ensures.unchanged c.is_in_progress.ensures.found c.if-is_in_progress.true in
+    if_ok_always c.accepting_unit.result _ (meets_busy g.K.Validate.words g.K.Validate.is_whole ns (length c.args.engine.now.nodes.now) w s busy e (mode_of c.args.question.now.mode) (path_of c.args.question.now.path.now) p _ _ c.if-not-edge.false old (sym (ap (λ (z : Context). z.remembered) c.in_ok-pair.ensures.unchanged)))
+
+pub evaluate::evaluate_edge-evaluate_node-requires-2 : goal.evaluate::evaluate_edge-evaluate_node-requires-2
+evaluate::evaluate_edge-evaluate_node-requires-2 g t c =
+    let ns = numbered g.K.Validate.shape c.args.engine.now.nodes.now in
+    let set = setting g.K.Validate.words g.K.Validate.is_whole g.K.Validate.shape g.M.Matcher.matching c.args.engine.now in
+    let w = settling (g.M.Matcher.matching c.args.engine.now.matcher.now) c.args.context.now.remembered.assumptions in
+    let p = steps_to c.args.question.now.place.now in
+    let s = subject_of c.args.question.now.instance in
+    let e = edge_of c.args.edge.now in
+    let entered : (list_any (λ i. i == e.node) (busy_at p c.args.context.now.in_progress) ≡ false) × (c.enter.new.context.in_progress ≡ c.args.context.now.in_progress ++ (e.node, p) ∷ []) = (pair_busy e.node c.in_ok-pair.pair.node.0 p (place_of c.in_ok-pair.pair) c.args.context.now c.new.new.context _ false (ap (λ (n : SchemaNode). n.0) c.in_ok-pair.ensures.node) c.in_ok-pair.ensures.place c.in_ok-pair.ensures.unchanged c.is_in_progress.ensures.found c.if-is_in_progress.false,
+        pair_entered e.node c.in_ok-pair.pair.node.0 p (place_of c.in_ok-pair.pair) c.args.context.now c.new.new.context c.enter.new.context.in_progress (ap (λ (n : SchemaNode). n.0) c.in_ok-pair.ensures.node) c.in_ok-pair.ensures.place c.in_ok-pair.ensures.unchanged c.in_ok-enter.ensures.entered) in
+    let pushed : busy_at p c.enter.new.context.in_progress ≡ e.node ∷ busy_at p c.args.context.now.in_progress = ap (busy_at p) entered.1 ∙ busy-pushed p e.node c.args.context.now.in_progress in
+    let there : steps_to c.numbered_place-place.result ≡ p = c.numbered_place-place.ensures.same ∙ c.in_ok-pair.ensures.place in
+    let needs = needs_of_entered g.K.Validate.words g.K.Validate.is_whole ns (length c.args.engine.now.nodes.now) w s (busy_at p c.args.context.now.in_progress) e c.if-not-edge.false entered.0 in
+    let l = ap (λ q. left ns (length c.args.engine.now.nodes.now) e.node s (busy_at q c.enter.new.context.in_progress)) there ∙ ap (left ns (length c.args.engine.now.nodes.now) e.node s) pushed in
+    let deeper = subst (λ q. NoDeeper q c.enter.new.context.in_progress) (sym there) (subst (NoDeeper p) (sym entered.1) (deeper-pushed p e.node c.args.context.now.in_progress c.requires.may.above)) in
+    let (layout, laid, right) = c.requires.may.goes_on in
+    let laid' = subst (λ q. LaysOut layout q s) (sym there) laid in
+    let right' = right_same set layout c.args.context.now c.enter.new.context (c.enter.ensures.remembered ∙ ap (λ (z : Context). z.remembered) c.in_ok-pair.ensures.unchanged) (c.enter.ensures.verdicts ∙ ap (λ (z : Context). z.verdicts) c.in_ok-pair.ensures.unchanged) right in
+    let root = c.enter.ensures.root ∙ ap (λ (z : Context). z.root) c.in_ok-pair.ensures.unchanged in
+    let carries = carries_on c.args.context.now.root c.enter.new.context.root c.numbered_place-place.result root (c.numbered_place-place.ensures.carries c.args.context.now c.in_ok-pair.ensures.numbered) in
+    λ κs h. (lower_entered _ _ _ t l needs c.decreases, (h.0, (h.1.0, (h.1.1.0, (h.1.1.1, (record { known = c.requires.may.known; ranked = c.requires.may.ranked; above = deeper; wanted = c.requires.may.wanted; stands = stands_at c.args.context.now.root _ (asking c.args.question.now) _ root there c.requires.may.stands; goes_on = (layout, laid', right') }, carries))))))
+
+pub evaluate::evaluate_edge-returns-clause-gives : goal.evaluate::evaluate_edge-returns-clause-gives
+evaluate::evaluate_edge-returns-clause-gives g t c =
+    let set = setting g.K.Validate.words g.K.Validate.is_whole g.K.Validate.shape g.M.Matcher.matching c.args.engine.now in
+    let q = asking c.args.question.now in
+    let p = steps_to c.args.question.now.place.now in
+    let e = edge_of c.args.edge.now in
+    let entered : (list_any (λ i. i == e.node) (busy_at p c.args.context.now.in_progress) ≡ false) × (c.enter.new.context.in_progress ≡ c.args.context.now.in_progress ++ (e.node, p) ∷ []) = (pair_busy e.node c.in_ok-pair.pair.node.0 p (place_of c.in_ok-pair.pair) c.args.context.now c.new.new.context _ false (ap (λ (n : SchemaNode). n.0) c.in_ok-pair.ensures.node) c.in_ok-pair.ensures.place c.in_ok-pair.ensures.unchanged c.is_in_progress.ensures.found c.if-is_in_progress.false,
+        pair_entered e.node c.in_ok-pair.pair.node.0 p (place_of c.in_ok-pair.pair) c.args.context.now c.new.new.context c.enter.new.context.in_progress (ap (λ (n : SchemaNode). n.0) c.in_ok-pair.ensures.node) c.in_ok-pair.ensures.place c.in_ok-pair.ensures.unchanged c.in_ok-enter.ensures.entered) in
+    let pushed : busy_at p c.enter.new.context.in_progress ≡ e.node ∷ busy_at p c.args.context.now.in_progress = ap (busy_at p) entered.1 ∙ busy-pushed p e.node c.args.context.now.in_progress in
+    let there : steps_to c.numbered_place-place.result ≡ p = c.numbered_place-place.ensures.same ∙ c.in_ok-pair.ensures.place in
+    let asked : Asking = record { subject = q.subject; place = steps_to c.numbered_place-place.result; path = path_of c.across-whole.result; mode = q.mode } in
+    let is : asked ≡ record q { path = q.path ++ e.path } = λ i. record { subject = q.subject; place = there i; path = c.across-whole.ensures.appended i; mode = q.mode } in
+    gives_entered set q c.args.context.now e c.in_ok-unit.unit c.if-not-edge.false entered.0 asked c.enter.new.context is pushed (c.enter.ensures.remembered ∙ ap (λ (z : Context). z.remembered) c.in_ok-pair.ensures.unchanged) c.in_ok-unit.ensures.gives
+
+pub evaluate::evaluate_edge-returns-clause-meets : goal.evaluate::evaluate_edge-returns-clause-meets
+evaluate::evaluate_edge-returns-clause-meets g t c =
+    let ns = numbered g.K.Validate.shape c.args.engine.now.nodes.now in
+    let set = setting g.K.Validate.words g.K.Validate.is_whole g.K.Validate.shape g.M.Matcher.matching c.args.engine.now in
+    let w = settling (g.M.Matcher.matching c.args.engine.now.matcher.now) c.args.context.now.remembered.assumptions in
+    let q = asking c.args.question.now in
+    let p = steps_to c.args.question.now.place.now in
+    let s = subject_of c.args.question.now.instance in
+    let busy = busy_at p c.args.context.now.in_progress in
+    let e = edge_of c.args.edge.now in
+    let entered : (list_any (λ i. i == e.node) (busy_at p c.args.context.now.in_progress) ≡ false) × (c.enter.new.context.in_progress ≡ c.args.context.now.in_progress ++ (e.node, p) ∷ []) = (pair_busy e.node c.in_ok-pair.pair.node.0 p (place_of c.in_ok-pair.pair) c.args.context.now c.new.new.context _ false (ap (λ (n : SchemaNode). n.0) c.in_ok-pair.ensures.node) c.in_ok-pair.ensures.place c.in_ok-pair.ensures.unchanged c.is_in_progress.ensures.found c.if-is_in_progress.false,
+        pair_entered e.node c.in_ok-pair.pair.node.0 p (place_of c.in_ok-pair.pair) c.args.context.now c.new.new.context c.enter.new.context.in_progress (ap (λ (n : SchemaNode). n.0) c.in_ok-pair.ensures.node) c.in_ok-pair.ensures.place c.in_ok-pair.ensures.unchanged c.in_ok-enter.ensures.entered) in
+    let pushed : busy_at p c.enter.new.context.in_progress ≡ e.node ∷ busy_at p c.args.context.now.in_progress = ap (busy_at p) entered.1 ∙ busy-pushed p e.node c.args.context.now.in_progress in
+    let there : steps_to c.numbered_place-place.result ≡ p = c.numbered_place-place.ensures.same ∙ c.in_ok-pair.ensures.place in
+    let asked : Asking = record { subject = q.subject; place = steps_to c.numbered_place-place.result; path = path_of c.across-whole.result; mode = q.mode } in
+    let is : asked ≡ record q { path = q.path ++ e.path } = λ i. record { subject = q.subject; place = there i; path = c.across-whole.ensures.appended i; mode = q.mode } in
+    let met = entered_meets set q c.args.context.now e c.in_ok-unit.unit c.if-not-edge.false entered.0 asked c.enter.new.context c.evaluate_node-2.new.context is pushed (c.enter.ensures.remembered ∙ ap (λ (z : Context). z.remembered) c.in_ok-pair.ensures.unchanged) c.in_ok-unit.ensures.meets in
+    subst (λ r. EdgeMeets g.K.Validate.words g.K.Validate.is_whole ns (length c.args.engine.now.nodes.now) w (mode_of c.args.question.now.mode) (path_of c.args.question.now.path.now) p busy s c.args.context.now.remembered r e) (sym c.exit.ensures.remembered) met
+
+pub evaluate::evaluate_edge-returns-clause-stays : goal.evaluate::evaluate_edge-returns-clause-stays
+evaluate::evaluate_edge-returns-clause-stays g t c =
+    let set = setting g.K.Validate.words g.K.Validate.is_whole g.K.Validate.shape g.M.Matcher.matching c.args.engine.now in
+    let p = steps_to c.args.question.now.place.now in
+    let s = subject_of c.args.question.now.instance in
+    let there : steps_to c.numbered_place-place.result ≡ p = c.numbered_place-place.ensures.same ∙ c.in_ok-pair.ensures.place in
+    λ layout laid right.
+    let right1 = right_same set layout c.args.context.now c.enter.new.context (c.enter.ensures.remembered ∙ ap (λ (z : Context). z.remembered) c.in_ok-pair.ensures.unchanged) (c.enter.ensures.verdicts ∙ ap (λ (z : Context). z.verdicts) c.in_ok-pair.ensures.unchanged) right in
+    let laid' = subst (λ q. LaysOut layout q s) (sym there) laid in
+    right_same set layout c.evaluate_node-2.new.context c.exit.new.context c.exit.ensures.remembered c.exit.ensures.verdicts (c.in_ok-unit.ensures.stays layout laid' right1)
+
+pub evaluate::evaluate_edge-returns-clause-counts : goal.evaluate::evaluate_edge-returns-clause-counts
+evaluate::evaluate_edge-returns-clause-counts g t c = rw ((c.enter.ensures.visits ∙ ap (λ (z : Context). z.visits) c.in_ok-pair.ensures.unchanged), ← c.exit.ensures.visits) at c.in_ok-unit.ensures.counts
+
+pub evaluate::evaluate_edge-returns-then-is_in_progress-clause-counts : goal.evaluate::evaluate_edge-returns-then-is_in_progress-clause-counts
+evaluate::evaluate_edge-returns-then-is_in_progress-clause-counts g t c = if_ok_always c.accepting_unit.result _ (as_many _ _ (ap (λ (z : Context). z.visits) c.in_ok-pair.ensures.unchanged))
+
+pub verdict::guarded_verdict-returns-then-is_in_progress-clause-says : goal.verdict::guarded_verdict-returns-then-is_in_progress-clause-says
+verdict::guarded_verdict-returns-then-is_in_progress-clause-says g t c =
+    let p = steps_to c.args.question.now.place.now in
+    let e = edge_of c.args.edge.now in
+    let old = pair_busy e.node c.in_ok-pair.pair.node.0 p (place_of c.in_ok-pair.pair) c.args.context.now c.new.new.context _ true (ap (λ (n : SchemaNode). n.0) c.in_ok-pair.ensures.node) c.in_ok-pair.ensures.place c.in_ok-pair.ensures.unchanged c.is_in_progress.ensures.found c.if-is_in_progress.true in
+    edge_busy g.K.Validate.words g.K.Validate.is_whole (numbered g.K.Validate.shape c.args.engine.now.nodes.now) (length c.args.engine.now.nodes.now) (settling (g.M.Matcher.matching c.args.engine.now.matcher.now) c.args.context.now.remembered.assumptions) (subject_of c.args.question.now.instance) (busy_at p c.args.context.now.in_progress) e (mode_of c.args.question.now.mode) (path_of c.args.question.now.path.now) p (told.Truth true)
+    c.requires.guarded old (yes_says (mode_of c.args.question.now.mode) c.requires.verdict) refl
+
+pub verdict::guarded_verdict-returns-then-is_in_progress-clause-meets : goal.verdict::guarded_verdict-returns-then-is_in_progress-clause-meets
+verdict::guarded_verdict-returns-then-is_in_progress-clause-meets g t c =
+    let ns = numbered g.K.Validate.shape c.args.engine.now.nodes.now in
+    let w = settling (g.M.Matcher.matching c.args.engine.now.matcher.now) c.args.context.now.remembered.assumptions in
+    let p = steps_to c.args.question.now.place.now in
+    let s = subject_of c.args.question.now.instance in
+    let busy = busy_at p c.args.context.now.in_progress in
+    let e = edge_of c.args.edge.now in
+    let old = pair_busy e.node c.in_ok-pair.pair.node.0 p (place_of c.in_ok-pair.pair) c.args.context.now c.new.new.context _ true (ap (λ (n : SchemaNode). n.0) c.in_ok-pair.ensures.node) c.in_ok-pair.ensures.place c.in_ok-pair.ensures.unchanged c.is_in_progress.ensures.found c.if-is_in_progress.true in
+    meets_busy g.K.Validate.words g.K.Validate.is_whole ns (length c.args.engine.now.nodes.now) w s busy e (mode_of c.args.question.now.mode) (path_of c.args.question.now.path.now) p _ _ c.requires.guarded old (sym (ap (λ (z : Context). z.remembered) c.in_ok-pair.ensures.unchanged))
+
+pub verdict::guarded_verdict-returns-then-is_in_progress-clause-remembers : goal.verdict::guarded_verdict-returns-then-is_in_progress-clause-remembers
+verdict::guarded_verdict-returns-then-is_in_progress-clause-remembers g t c = λ mode guarded free.
+    let p = steps_to c.args.question.now.place.now in
+    let e = edge_of c.args.edge.now in
+    let old = pair_busy e.node c.in_ok-pair.pair.node.0 p (place_of c.in_ok-pair.pair) c.args.context.now c.new.new.context _ true (ap (λ (n : SchemaNode). n.0) c.in_ok-pair.ensures.node) c.in_ok-pair.ensures.place c.in_ok-pair.ensures.unchanged c.is_in_progress.ensures.found c.if-is_in_progress.true in
+    absurd (true≢false (sym old ∙ free))
+
+pub verdict::guarded_verdict-returns-then-is_in_progress-clause-visits : goal.verdict::guarded_verdict-returns-then-is_in_progress-clause-visits
+verdict::guarded_verdict-returns-then-is_in_progress-clause-visits g t c =
+    let p = steps_to c.args.question.now.place.now in
+    let e = edge_of c.args.edge.now in
+    let old = pair_busy e.node c.in_ok-pair.pair.node.0 p (place_of c.in_ok-pair.pair) c.args.context.now c.new.new.context _ true (ap (λ (n : SchemaNode). n.0) c.in_ok-pair.ensures.node) c.in_ok-pair.ensures.place c.in_ok-pair.ensures.unchanged c.is_in_progress.ensures.found c.if-is_in_progress.true in
+    busy_counts (numbered g.K.Validate.shape c.args.engine.now.nodes.now) (asking c.args.question.now) c.args.context.now e c.new.new.context c.requires.guarded old (ap (λ (z : Context). z.visits) c.in_ok-pair.ensures.unchanged)
 
 pub verdict::guarded_verdict-returns-in-Some-clause-says : goal.verdict::guarded_verdict-returns-in-Some-clause-says
 verdict::guarded_verdict-returns-in-Some-clause-says g t c =
@@ -1877,9 +1904,12 @@ verdict::guarded_verdict-returns-in-Some-clause-says g t c =
     let q = asking c.args.question.now in
     let p = steps_to c.args.question.now.place.now in
     let e = edge_of c.args.edge.now in
-    let entered = entered_new e.node p c.args.context.now.in_progress c.in_ok-enter_shared.field-0 c.enter_shared.new.self.in_progress (rw c.in_ok-shared.ensures.same at c.in_ok-enter_shared.ensures.enters) c.if-branch.false in
-    let found = sym (rw (c.as_place-here.ensures.same ∙ c.in_ok-shared.ensures.same) at c.in-Some.ensures.read) in
-    read_says set q e c.args.context.now c.requires.guarded entered.0 c.requires.verdict c.enter_shared.new.self c.exit.new.self c.in-Some.valid entered.1 c.enter_shared.ensures.verdicts found c.requires.may.goes_on
+    let fresh = pair_busy e.node c.in_ok-pair.pair.node.0 p (place_of c.in_ok-pair.pair) c.args.context.now c.new.new.context _ false (ap (λ (n : SchemaNode). n.0) c.in_ok-pair.ensures.node) c.in_ok-pair.ensures.place c.in_ok-pair.ensures.unchanged c.is_in_progress.ensures.found c.if-is_in_progress.false in
+    let c1 : Context = record c.args.context.now { in_progress = c.args.context.now.in_progress ++ (e.node, p) ∷ [] } in
+    let here = ap (λ (z : Context). read_verdict c.in_ok-pair.pair.node.0 (place_of c.in_ok-pair.pair) z) c.in_ok-pair.ensures.unchanged ∙ ap (λ (k : ℕ). read_verdict k (place_of c.in_ok-pair.pair) c.args.context.now) (ap (λ (n : SchemaNode). n.0) c.in_ok-pair.ensures.node) ∙ ap (λ (z : Place). read_verdict e.node z c.args.context.now) c.in_ok-pair.ensures.place in
+    let was = sym here ∙ sym c.in-Some.ensures.read in
+    let found = read_entered e.node p c.args.context.now c1 refl refl ∙ was in
+    read_says set q e c.args.context.now c.requires.guarded fresh c.requires.verdict c1 c.new.new.context c.in-Some.valid refl refl found c.requires.may.goes_on
 
 pub verdict::guarded_verdict-returns-in-Some-clause-meets : goal.verdict::guarded_verdict-returns-in-Some-clause-meets
 verdict::guarded_verdict-returns-in-Some-clause-meets g t c =
@@ -1887,9 +1917,12 @@ verdict::guarded_verdict-returns-in-Some-clause-meets g t c =
     let q = asking c.args.question.now in
     let p = steps_to c.args.question.now.place.now in
     let e = edge_of c.args.edge.now in
-    let entered = entered_new e.node p c.args.context.now.in_progress c.in_ok-enter_shared.field-0 c.enter_shared.new.self.in_progress (rw c.in_ok-shared.ensures.same at c.in_ok-enter_shared.ensures.enters) c.if-branch.false in
-    let found = sym (rw (c.as_place-here.ensures.same ∙ c.in_ok-shared.ensures.same) at c.in-Some.ensures.read) in
-    read_meets_edge set q e c.args.context.now c.requires.guarded entered.0 c.requires.verdict c.enter_shared.new.self c.exit.new.self c.in-Some.valid entered.1 c.enter_shared.ensures.verdicts found c.requires.may.goes_on (c.exit.ensures.remembered ∙ c.enter_shared.ensures.remembered)
+    let fresh = pair_busy e.node c.in_ok-pair.pair.node.0 p (place_of c.in_ok-pair.pair) c.args.context.now c.new.new.context _ false (ap (λ (n : SchemaNode). n.0) c.in_ok-pair.ensures.node) c.in_ok-pair.ensures.place c.in_ok-pair.ensures.unchanged c.is_in_progress.ensures.found c.if-is_in_progress.false in
+    let c1 : Context = record c.args.context.now { in_progress = c.args.context.now.in_progress ++ (e.node, p) ∷ [] } in
+    let here = ap (λ (z : Context). read_verdict c.in_ok-pair.pair.node.0 (place_of c.in_ok-pair.pair) z) c.in_ok-pair.ensures.unchanged ∙ ap (λ (k : ℕ). read_verdict k (place_of c.in_ok-pair.pair) c.args.context.now) (ap (λ (n : SchemaNode). n.0) c.in_ok-pair.ensures.node) ∙ ap (λ (z : Place). read_verdict e.node z c.args.context.now) c.in_ok-pair.ensures.place in
+    let was = sym here ∙ sym c.in-Some.ensures.read in
+    let found = read_entered e.node p c.args.context.now c1 refl refl ∙ was in
+    read_meets_edge set q e c.args.context.now c.requires.guarded fresh c.requires.verdict c1 c.new.new.context c.in-Some.valid refl refl found c.requires.may.goes_on (ap (λ (z : Context). z.remembered) c.in_ok-pair.ensures.unchanged)
 
 pub verdict::guarded_verdict-returns-in-Some-clause-remembers : goal.verdict::guarded_verdict-returns-in-Some-clause-remembers
 verdict::guarded_verdict-returns-in-Some-clause-remembers g t c =
@@ -1897,24 +1930,25 @@ verdict::guarded_verdict-returns-in-Some-clause-remembers g t c =
     let q = asking c.args.question.now in
     let p = steps_to c.args.question.now.place.now in
     let e = edge_of c.args.edge.now in
-    let c1 = c.enter_shared.new.self in
-    let c5 = c.exit.new.self in
-    let entered = entered_new e.node p c.args.context.now.in_progress c.in_ok-enter_shared.field-0 c1.in_progress (rw c.in_ok-shared.ensures.same at c.in_ok-enter_shared.ensures.enters) c.if-branch.false in
-    let found = sym (rw (c.as_place-here.ensures.same ∙ c.in_ok-shared.ensures.same) at c.in-Some.ensures.read) in
-    let back = pairs_back set q e c.args.context.now c.requires.guarded entered.0 c1 c5 entered.1 (rw (c.as_place-here.ensures.same ∙ c.in_ok-shared.ensures.same) at c.exit.ensures.left) in
-    let same = same_context c.args.context.now c5 back (c.exit.ensures.remembered ∙ c.enter_shared.ensures.remembered) (c.exit.ensures.marking ∙ c.enter_shared.ensures.marking) (c.exit.ensures.verdicts ∙ c.enter_shared.ensures.verdicts) (c.exit.ensures.visits ∙ c.enter_shared.ensures.visits) in
-    read_remembers set q e c.args.context.now c.requires.guarded entered.0 c.requires.verdict c1 c5 c.in-Some.valid entered.1 c.enter_shared.ensures.verdicts found same
+    let fresh = pair_busy e.node c.in_ok-pair.pair.node.0 p (place_of c.in_ok-pair.pair) c.args.context.now c.new.new.context _ false (ap (λ (n : SchemaNode). n.0) c.in_ok-pair.ensures.node) c.in_ok-pair.ensures.place c.in_ok-pair.ensures.unchanged c.is_in_progress.ensures.found c.if-is_in_progress.false in
+    let c1 : Context = record c.args.context.now { in_progress = c.args.context.now.in_progress ++ (e.node, p) ∷ [] } in
+    let here = ap (λ (z : Context). read_verdict c.in_ok-pair.pair.node.0 (place_of c.in_ok-pair.pair) z) c.in_ok-pair.ensures.unchanged ∙ ap (λ (k : ℕ). read_verdict k (place_of c.in_ok-pair.pair) c.args.context.now) (ap (λ (n : SchemaNode). n.0) c.in_ok-pair.ensures.node) ∙ ap (λ (z : Place). read_verdict e.node z c.args.context.now) c.in_ok-pair.ensures.place in
+    let was = sym here ∙ sym c.in-Some.ensures.read in
+    let found = read_entered e.node p c.args.context.now c1 refl refl ∙ was in
+    let same = c.in_ok-pair.ensures.unchanged in
+    read_remembers set q e c.args.context.now c.requires.guarded fresh c.requires.verdict c1 c.new.new.context c.in-Some.valid refl refl found same
 
 pub verdict::guarded_verdict-returns-in-Some-clause-visits : goal.verdict::guarded_verdict-returns-in-Some-clause-visits
 verdict::guarded_verdict-returns-in-Some-clause-visits g t c =
     let q = asking c.args.question.now in
     let p = steps_to c.args.question.now.place.now in
     let e = edge_of c.args.edge.now in
-    let c1 = c.enter_shared.new.self in
-    let entered = entered_new e.node p c.args.context.now.in_progress c.in_ok-enter_shared.field-0 c1.in_progress (rw c.in_ok-shared.ensures.same at c.in_ok-enter_shared.ensures.enters) c.if-branch.false in
-    let found = sym (rw (c.as_place-here.ensures.same ∙ c.in_ok-shared.ensures.same) at c.in-Some.ensures.read) in
-    let read = sym (read_entered e.node p c.args.context.now c1 entered.1 c.enter_shared.ensures.verdicts) ∙ found in
-    read_counts (numbered g.K.Validate.shape c.args.engine.now.nodes.now) q c.args.context.now e c.exit.new.self c.in-Some.valid c.requires.guarded entered.0 read (c.exit.ensures.visits ∙ c.enter_shared.ensures.visits)
+    let fresh = pair_busy e.node c.in_ok-pair.pair.node.0 p (place_of c.in_ok-pair.pair) c.args.context.now c.new.new.context _ false (ap (λ (n : SchemaNode). n.0) c.in_ok-pair.ensures.node) c.in_ok-pair.ensures.place c.in_ok-pair.ensures.unchanged c.is_in_progress.ensures.found c.if-is_in_progress.false in
+    let c1 : Context = record c.args.context.now { in_progress = c.args.context.now.in_progress ++ (e.node, p) ∷ [] } in
+    let here = ap (λ (z : Context). read_verdict c.in_ok-pair.pair.node.0 (place_of c.in_ok-pair.pair) z) c.in_ok-pair.ensures.unchanged ∙ ap (λ (k : ℕ). read_verdict k (place_of c.in_ok-pair.pair) c.args.context.now) (ap (λ (n : SchemaNode). n.0) c.in_ok-pair.ensures.node) ∙ ap (λ (z : Place). read_verdict e.node z c.args.context.now) c.in_ok-pair.ensures.place in
+    let was = sym here ∙ sym c.in-Some.ensures.read in
+    let found = read_entered e.node p c.args.context.now c1 refl refl ∙ was in
+    read_counts (numbered g.K.Validate.shape c.args.engine.now.nodes.now) q c.args.context.now e c.new.new.context c.in-Some.valid c.requires.guarded fresh was (ap (λ (z : Context). z.visits) c.in_ok-pair.ensures.unchanged)
 
 pub verdict::guarded_verdict-returns-clause-says : goal.verdict::guarded_verdict-returns-clause-says
 verdict::guarded_verdict-returns-clause-says g t c =
@@ -1922,12 +1956,13 @@ verdict::guarded_verdict-returns-clause-says g t c =
     let q = asking c.args.question.now in
     let p = steps_to c.args.question.now.place.now in
     let e = edge_of c.args.edge.now in
-    let entered = entered_new e.node p c.args.context.now.in_progress c.in_ok-enter_shared.field-0 c.enter_shared.new.self.in_progress (rw c.in_ok-shared.ensures.same at c.in_ok-enter_shared.ensures.enters) c.if-branch.false in
+    let entered : (list_any (λ i. i == e.node) (busy_at p c.args.context.now.in_progress) ≡ false) × (c.enter.new.context.in_progress ≡ c.args.context.now.in_progress ++ (e.node, p) ∷ []) = (pair_busy e.node c.in_ok-pair.pair.node.0 p (place_of c.in_ok-pair.pair) c.args.context.now c.new.new.context _ false (ap (λ (n : SchemaNode). n.0) c.in_ok-pair.ensures.node) c.in_ok-pair.ensures.place c.in_ok-pair.ensures.unchanged c.is_in_progress.ensures.found c.if-is_in_progress.false,
+        pair_entered e.node c.in_ok-pair.pair.node.0 p (place_of c.in_ok-pair.pair) c.args.context.now c.new.new.context c.enter.new.context.in_progress (ap (λ (n : SchemaNode). n.0) c.in_ok-pair.ensures.node) c.in_ok-pair.ensures.place c.in_ok-pair.ensures.unchanged c.in_ok-enter.ensures.entered) in
     let c2 = c.start_ref_visit-mark.new.self in
     let pairs : c2.in_progress ≡ c.args.context.now.in_progress ++ (e.node, p) ∷ [] = ap (λ (z : Context). z.in_progress) c.start_ref_visit-mark.ensures.counted ∙ entered.1 in
-    let met : c2.remembered ≡ c.args.context.now.remembered = ap (λ (z : Context). z.remembered) c.start_ref_visit-mark.ensures.counted ∙ c.enter_shared.ensures.remembered in
-    let there : steps_to c.given-place.result ≡ p = c.given-place.ensures.same ∙ c.as_place-here.ensures.same ∙ c.in_ok-shared.ensures.same in
-    let at_asked : (record { subject = q.subject; place = steps_to c.given-place.result; path = path_of c.across-whole.result; mode = q.mode }) ≡ asked_across set q e c.args.context.now c.requires.guarded entered.0
+    let met : c2.remembered ≡ c.args.context.now.remembered = ap (λ (z : Context). z.remembered) c.start_ref_visit-mark.ensures.counted ∙ (c.enter.ensures.remembered ∙ ap (λ (z : Context). z.remembered) c.in_ok-pair.ensures.unchanged) in
+    let there : steps_to c.numbered_place-place.result ≡ p = c.numbered_place-place.ensures.same ∙ c.in_ok-pair.ensures.place in
+    let at_asked : (record { subject = q.subject; place = steps_to c.numbered_place-place.result; path = path_of c.across-whole.result; mode = q.mode }) ≡ asked_across set q e c.args.context.now c.requires.guarded entered.0
     = λ i. record { subject = q.subject; place = there i; path = c.across-whole.ensures.appended i; mode = q.mode } in
     let says = subst (λ z. NodeSays set z c2 e.node (told.Truth c.in_ok-valid.valid)) at_asked c.in_ok-valid.ensures.says in
     computed_says set q e c.args.context.now c.requires.guarded entered.0 c2 pairs met (told.Truth c.in_ok-valid.valid) says
@@ -1938,17 +1973,18 @@ verdict::guarded_verdict-returns-clause-meets g t c =
     let q = asking c.args.question.now in
     let p = steps_to c.args.question.now.place.now in
     let e = edge_of c.args.edge.now in
-    let entered = entered_new e.node p c.args.context.now.in_progress c.in_ok-enter_shared.field-0 c.enter_shared.new.self.in_progress (rw c.in_ok-shared.ensures.same at c.in_ok-enter_shared.ensures.enters) c.if-branch.false in
+    let entered : (list_any (λ i. i == e.node) (busy_at p c.args.context.now.in_progress) ≡ false) × (c.enter.new.context.in_progress ≡ c.args.context.now.in_progress ++ (e.node, p) ∷ []) = (pair_busy e.node c.in_ok-pair.pair.node.0 p (place_of c.in_ok-pair.pair) c.args.context.now c.new.new.context _ false (ap (λ (n : SchemaNode). n.0) c.in_ok-pair.ensures.node) c.in_ok-pair.ensures.place c.in_ok-pair.ensures.unchanged c.is_in_progress.ensures.found c.if-is_in_progress.false,
+        pair_entered e.node c.in_ok-pair.pair.node.0 p (place_of c.in_ok-pair.pair) c.args.context.now c.new.new.context c.enter.new.context.in_progress (ap (λ (n : SchemaNode). n.0) c.in_ok-pair.ensures.node) c.in_ok-pair.ensures.place c.in_ok-pair.ensures.unchanged c.in_ok-enter.ensures.entered) in
     let c2 = c.start_ref_visit-mark.new.self in
     let c3 = c.verdict_node.new.context in
     let pairs : c2.in_progress ≡ c.args.context.now.in_progress ++ (e.node, p) ∷ [] = ap (λ (z : Context). z.in_progress) c.start_ref_visit-mark.ensures.counted ∙ entered.1 in
-    let met : c2.remembered ≡ c.args.context.now.remembered = ap (λ (z : Context). z.remembered) c.start_ref_visit-mark.ensures.counted ∙ c.enter_shared.ensures.remembered in
-    let there : steps_to c.given-place.result ≡ p = c.given-place.ensures.same ∙ c.as_place-here.ensures.same ∙ c.in_ok-shared.ensures.same in
-    let at_asked : (record { subject = q.subject; place = steps_to c.given-place.result; path = path_of c.across-whole.result; mode = q.mode }) ≡ asked_across set q e c.args.context.now c.requires.guarded entered.0
+    let met : c2.remembered ≡ c.args.context.now.remembered = ap (λ (z : Context). z.remembered) c.start_ref_visit-mark.ensures.counted ∙ (c.enter.ensures.remembered ∙ ap (λ (z : Context). z.remembered) c.in_ok-pair.ensures.unchanged) in
+    let there : steps_to c.numbered_place-place.result ≡ p = c.numbered_place-place.ensures.same ∙ c.in_ok-pair.ensures.place in
+    let at_asked : (record { subject = q.subject; place = steps_to c.numbered_place-place.result; path = path_of c.across-whole.result; mode = q.mode }) ≡ asked_across set q e c.args.context.now c.requires.guarded entered.0
     = λ i. record { subject = q.subject; place = there i; path = c.across-whole.ensures.appended i; mode = q.mode } in
     let meets = subst (λ z. MeetsNode set z c2 c3 e.node) at_asked c.in_ok-valid.ensures.meets in
-    let met5 = c.exit-2.ensures.remembered ∙ ap (λ (z : Context). z.remembered) c.cache_result.ensures.frame in
-    computed_meets set q e c.args.context.now c.requires.guarded entered.0 c2 pairs met c3 c.exit-2.new.self meets met5
+    let met5 = c.exit.ensures.remembered ∙ ap (λ (z : Context). z.remembered) c.keep_verdict.ensures.frame in
+    computed_meets set q e c.args.context.now c.requires.guarded entered.0 c2 pairs met c3 c.exit.new.context meets met5
 
 pub verdict::guarded_verdict-returns-clause-stays : goal.verdict::guarded_verdict-returns-clause-stays
 verdict::guarded_verdict-returns-clause-stays g t c =
@@ -1956,23 +1992,24 @@ verdict::guarded_verdict-returns-clause-stays g t c =
     let q = asking c.args.question.now in
     let p = steps_to c.args.question.now.place.now in
     let e = edge_of c.args.edge.now in
-    let entered = entered_new e.node p c.args.context.now.in_progress c.in_ok-enter_shared.field-0 c.enter_shared.new.self.in_progress (rw c.in_ok-shared.ensures.same at c.in_ok-enter_shared.ensures.enters) c.if-branch.false in
+    let entered : (list_any (λ i. i == e.node) (busy_at p c.args.context.now.in_progress) ≡ false) × (c.enter.new.context.in_progress ≡ c.args.context.now.in_progress ++ (e.node, p) ∷ []) = (pair_busy e.node c.in_ok-pair.pair.node.0 p (place_of c.in_ok-pair.pair) c.args.context.now c.new.new.context _ false (ap (λ (n : SchemaNode). n.0) c.in_ok-pair.ensures.node) c.in_ok-pair.ensures.place c.in_ok-pair.ensures.unchanged c.is_in_progress.ensures.found c.if-is_in_progress.false,
+        pair_entered e.node c.in_ok-pair.pair.node.0 p (place_of c.in_ok-pair.pair) c.args.context.now c.new.new.context c.enter.new.context.in_progress (ap (λ (n : SchemaNode). n.0) c.in_ok-pair.ensures.node) c.in_ok-pair.ensures.place c.in_ok-pair.ensures.unchanged c.in_ok-enter.ensures.entered) in
     let c2 = c.start_ref_visit-mark.new.self in
     let c3 = c.verdict_node.new.context in
     let pairs : c2.in_progress ≡ c.args.context.now.in_progress ++ (e.node, p) ∷ [] = ap (λ (z : Context). z.in_progress) c.start_ref_visit-mark.ensures.counted ∙ entered.1 in
-    let met : c2.remembered ≡ c.args.context.now.remembered = ap (λ (z : Context). z.remembered) c.start_ref_visit-mark.ensures.counted ∙ c.enter_shared.ensures.remembered in
-    let there : steps_to c.given-place.result ≡ p = c.given-place.ensures.same ∙ c.as_place-here.ensures.same ∙ c.in_ok-shared.ensures.same in
-    let at_asked : (record { subject = q.subject; place = steps_to c.given-place.result; path = path_of c.across-whole.result; mode = q.mode }) ≡ asked_across set q e c.args.context.now c.requires.guarded entered.0
+    let met : c2.remembered ≡ c.args.context.now.remembered = ap (λ (z : Context). z.remembered) c.start_ref_visit-mark.ensures.counted ∙ (c.enter.ensures.remembered ∙ ap (λ (z : Context). z.remembered) c.in_ok-pair.ensures.unchanged) in
+    let there : steps_to c.numbered_place-place.result ≡ p = c.numbered_place-place.ensures.same ∙ c.in_ok-pair.ensures.place in
+    let at_asked : (record { subject = q.subject; place = steps_to c.numbered_place-place.result; path = path_of c.across-whole.result; mode = q.mode }) ≡ asked_across set q e c.args.context.now c.requires.guarded entered.0
     = λ i. record { subject = q.subject; place = there i; path = c.across-whole.ensures.appended i; mode = q.mode } in
     let says = subst (λ z. NodeSays set z c2 e.node (told.Truth c.in_ok-valid.valid)) at_asked c.in_ok-valid.ensures.says in
     let meets = subst (λ z. MeetsNode set z c2 c3 e.node) at_asked c.in_ok-valid.ensures.meets in
     let keeps = c.in_ok-valid.ensures.keeps in
-    let read = ap (λ (z : Context). z.verdicts) c.start_ref_visit-mark.ensures.counted ∙ c.enter_shared.ensures.verdicts in
+    let read = ap (λ (z : Context). z.verdicts) c.start_ref_visit-mark.ensures.counted ∙ (c.enter.ensures.verdicts ∙ ap (λ (z : Context). z.verdicts) c.in_ok-pair.ensures.unchanged) in
     let stays = subst (λ z. StaysRight set z c2 c3) at_asked c.in_ok-valid.ensures.stays in
-    let kept = rw (c.as_place-here.ensures.same ∙ c.in_ok-shared.ensures.same) at c.in_ok-cache_result.ensures.kept in
-    let few = rw (c.as_place-here.ensures.same ∙ c.in_ok-shared.ensures.same) at c.in_ok-cache_result.ensures.others in
-    kept_stays set q e c.args.context.now c.requires.guarded entered.0 c.requires.verdict c.enter_shared.new.self c2 c3 c.cache_result.new.self c.exit-2.new.self c.start_ref_visit-mark.result c.in_ok-valid.valid pairs met says meets keeps
-    g.met.K.Validate.asks_verdicts kept read stays few (ap (λ (z : Context). z.remembered) c.cache_result.ensures.frame) c.exit-2.ensures.remembered c.exit-2.ensures.verdicts
+    let kept = rw (ap (λ (n : SchemaNode). n.0) c.in_ok-pair.ensures.node, c.in_ok-pair.ensures.place) at c.in_ok-keep_verdict.ensures.kept in
+    let few = rw (ap (λ (n : SchemaNode). n.0) c.in_ok-pair.ensures.node, c.in_ok-pair.ensures.place) at c.in_ok-keep_verdict.ensures.others in
+    kept_stays set q e c.args.context.now c.requires.guarded entered.0 c.requires.verdict c.enter.new.context c2 c3 c.keep_verdict.new.context c.exit.new.context c.start_ref_visit-mark.result c.in_ok-valid.valid pairs met says meets keeps
+    g.met.K.Validate.asks_verdicts kept read stays few (ap (λ (z : Context). z.remembered) c.keep_verdict.ensures.frame) c.exit.ensures.remembered c.exit.ensures.verdicts
 
 pub verdict::guarded_verdict-returns-clause-remembers : goal.verdict::guarded_verdict-returns-clause-remembers
 verdict::guarded_verdict-returns-clause-remembers g t c =
@@ -1980,33 +2017,35 @@ verdict::guarded_verdict-returns-clause-remembers g t c =
     let q = asking c.args.question.now in
     let p = steps_to c.args.question.now.place.now in
     let e = edge_of c.args.edge.now in
-    let entered = entered_new e.node p c.args.context.now.in_progress c.in_ok-enter_shared.field-0 c.enter_shared.new.self.in_progress (rw c.in_ok-shared.ensures.same at c.in_ok-enter_shared.ensures.enters) c.if-branch.false in
+    let entered : (list_any (λ i. i == e.node) (busy_at p c.args.context.now.in_progress) ≡ false) × (c.enter.new.context.in_progress ≡ c.args.context.now.in_progress ++ (e.node, p) ∷ []) = (pair_busy e.node c.in_ok-pair.pair.node.0 p (place_of c.in_ok-pair.pair) c.args.context.now c.new.new.context _ false (ap (λ (n : SchemaNode). n.0) c.in_ok-pair.ensures.node) c.in_ok-pair.ensures.place c.in_ok-pair.ensures.unchanged c.is_in_progress.ensures.found c.if-is_in_progress.false,
+        pair_entered e.node c.in_ok-pair.pair.node.0 p (place_of c.in_ok-pair.pair) c.args.context.now c.new.new.context c.enter.new.context.in_progress (ap (λ (n : SchemaNode). n.0) c.in_ok-pair.ensures.node) c.in_ok-pair.ensures.place c.in_ok-pair.ensures.unchanged c.in_ok-enter.ensures.entered) in
     let c2 = c.start_ref_visit-mark.new.self in
     let c3 = c.verdict_node.new.context in
     let pairs : c2.in_progress ≡ c.args.context.now.in_progress ++ (e.node, p) ∷ [] = ap (λ (z : Context). z.in_progress) c.start_ref_visit-mark.ensures.counted ∙ entered.1 in
-    let met : c2.remembered ≡ c.args.context.now.remembered = ap (λ (z : Context). z.remembered) c.start_ref_visit-mark.ensures.counted ∙ c.enter_shared.ensures.remembered in
-    let there : steps_to c.given-place.result ≡ p = c.given-place.ensures.same ∙ c.as_place-here.ensures.same ∙ c.in_ok-shared.ensures.same in
-    let at_asked : (record { subject = q.subject; place = steps_to c.given-place.result; path = path_of c.across-whole.result; mode = q.mode }) ≡ asked_across set q e c.args.context.now c.requires.guarded entered.0
+    let met : c2.remembered ≡ c.args.context.now.remembered = ap (λ (z : Context). z.remembered) c.start_ref_visit-mark.ensures.counted ∙ (c.enter.ensures.remembered ∙ ap (λ (z : Context). z.remembered) c.in_ok-pair.ensures.unchanged) in
+    let there : steps_to c.numbered_place-place.result ≡ p = c.numbered_place-place.ensures.same ∙ c.in_ok-pair.ensures.place in
+    let at_asked : (record { subject = q.subject; place = steps_to c.numbered_place-place.result; path = path_of c.across-whole.result; mode = q.mode }) ≡ asked_across set q e c.args.context.now c.requires.guarded entered.0
     = λ i. record { subject = q.subject; place = there i; path = c.across-whole.ensures.appended i; mode = q.mode } in
     let says = subst (λ z. NodeSays set z c2 e.node (told.Truth c.in_ok-valid.valid)) at_asked c.in_ok-valid.ensures.says in
     let meets = subst (λ z. MeetsNode set z c2 c3 e.node) at_asked c.in_ok-valid.ensures.meets in
     let keeps = c.in_ok-valid.ensures.keeps in
-    let kept = rw (c.as_place-here.ensures.same ∙ c.in_ok-shared.ensures.same) at c.in_ok-cache_result.ensures.kept in
-    let none = sym (rw (c.as_place-here.ensures.same ∙ c.in_ok-shared.ensures.same) at c.in_default.ensures.read) in
-    let left = ap (λ (z : Context). z.in_progress) c.cache_result.ensures.frame ∙ keeps.in_progress in
-    let back = pairs_back set q e c.args.context.now c.requires.guarded entered.0 c2 c.exit-2.new.self pairs (sym left ∙ rw (c.as_place-here.ensures.same ∙ c.in_ok-shared.ensures.same) at c.exit-2.ensures.left) in
-    let visits = c.exit-2.ensures.visits ∙ ap (λ (z : Context). z.visits) c.cache_result.ensures.frame in
-    let counted = ap (λ (z : Context). z.visits) c.start_ref_visit-mark.ensures.counted ∙ ap one_more c.enter_shared.ensures.visits in
+    let kept = rw (ap (λ (n : SchemaNode). n.0) c.in_ok-pair.ensures.node, c.in_ok-pair.ensures.place) at c.in_ok-keep_verdict.ensures.kept in
+    let here = ap (λ (z : Context). read_verdict c.in_ok-pair.pair.node.0 (place_of c.in_ok-pair.pair) z) c.in_ok-pair.ensures.unchanged ∙ ap (λ (k : ℕ). read_verdict k (place_of c.in_ok-pair.pair) c.args.context.now) (ap (λ (n : SchemaNode). n.0) c.in_ok-pair.ensures.node) ∙ ap (λ (z : Place). read_verdict e.node z c.args.context.now) c.in_ok-pair.ensures.place in
+    let none = read_entered e.node p c.args.context.now c.enter.new.context entered.1 (c.enter.ensures.verdicts ∙ ap (λ (z : Context). z.verdicts) c.in_ok-pair.ensures.unchanged) ∙ sym here ∙ sym c.in_default.ensures.read in
+    let left = ap (λ (z : Context). z.in_progress) c.keep_verdict.ensures.frame ∙ keeps.in_progress in
+    let back = pairs_back set q e c.args.context.now c.requires.guarded entered.0 c2 c.exit.new.context pairs (sym left ∙ rw (ap (λ (n : SchemaNode). n.0) c.in_ok-pair.ensures.node, c.in_ok-pair.ensures.place) at c.exit.ensures.left) in
+    let visits = c.exit.ensures.visits ∙ ap (λ (z : Context). z.visits) c.keep_verdict.ensures.frame in
+    let counted = ap (λ (z : Context). z.visits) c.start_ref_visit-mark.ensures.counted ∙ ap one_more (c.enter.ensures.visits ∙ ap (λ (z : Context). z.visits) c.in_ok-pair.ensures.unchanged) in
     let more = subst (λ z. z ≤ c3.visits) counted c.in_ok-valid.ensures.counts in
-    kept_remembers set q e c.args.context.now c.requires.guarded entered.0 c.requires.verdict c.enter_shared.new.self c2 c3 c.cache_result.new.self c.exit-2.new.self c.start_ref_visit-mark.result c.in_ok-valid.valid pairs met says meets keeps
-    g.met.K.Validate.asks_verdicts kept entered.1 c.enter_shared.ensures.verdicts none (c.start_ref_visit-mark.ensures.mark ∙ c.enter_shared.ensures.visits) back visits more c.exit-2.ensures.verdicts
+    kept_remembers set q e c.args.context.now c.requires.guarded entered.0 c.requires.verdict c.enter.new.context c2 c3 c.keep_verdict.new.context c.exit.new.context c.start_ref_visit-mark.result c.in_ok-valid.valid pairs met says meets keeps
+    g.met.K.Validate.asks_verdicts kept entered.1 (c.enter.ensures.verdicts ∙ ap (λ (z : Context). z.verdicts) c.in_ok-pair.ensures.unchanged) none (c.start_ref_visit-mark.ensures.mark ∙ (c.enter.ensures.visits ∙ ap (λ (z : Context). z.visits) c.in_ok-pair.ensures.unchanged)) back visits more c.exit.ensures.verdicts
 
 pub verdict::guarded_verdict-returns-clause-counts : goal.verdict::guarded_verdict-returns-clause-counts
 verdict::guarded_verdict-returns-clause-counts g t c =
-    let visits = c.exit-2.ensures.visits ∙ ap (λ (z : Context). z.visits) c.cache_result.ensures.frame in
-    let before = subst (λ z. z ≤ c.start_ref_visit-mark.new.self.visits) c.enter_shared.ensures.visits c.start_ref_visit-mark.ensures.more in
+    let visits = c.exit.ensures.visits ∙ ap (λ (z : Context). z.visits) c.keep_verdict.ensures.frame in
+    let before = subst (λ z. z ≤ c.start_ref_visit-mark.new.self.visits) (c.enter.ensures.visits ∙ ap (λ (z : Context). z.visits) c.in_ok-pair.ensures.unchanged) c.start_ref_visit-mark.ensures.more in
     let after = subst (λ z. c.start_ref_visit-mark.new.self.visits ≤ z) (sym visits) c.in_ok-valid.ensures.counts in
-    no_fewer c.args.context.now.visits c.start_ref_visit-mark.new.self.visits c.exit-2.new.self.visits before after
+    no_fewer c.args.context.now.visits c.start_ref_visit-mark.new.self.visits c.exit.new.context.visits before after
 
 pub verdict::guarded_verdict-returns-clause-visits : goal.verdict::guarded_verdict-returns-clause-visits
 verdict::guarded_verdict-returns-clause-visits g t c =
@@ -2014,19 +2053,21 @@ verdict::guarded_verdict-returns-clause-visits g t c =
     let q = asking c.args.question.now in
     let p = steps_to c.args.question.now.place.now in
     let e = edge_of c.args.edge.now in
-    let c1 = c.enter_shared.new.self in
+    let c1 = c.enter.new.context in
     let c2 = c.start_ref_visit-mark.new.self in
     let c3 = c.verdict_node.new.context in
-    let entered = entered_new e.node p c.args.context.now.in_progress c.in_ok-enter_shared.field-0 c1.in_progress (rw c.in_ok-shared.ensures.same at c.in_ok-enter_shared.ensures.enters) c.if-branch.false in
+    let entered : (list_any (λ i. i == e.node) (busy_at p c.args.context.now.in_progress) ≡ false) × (c.enter.new.context.in_progress ≡ c.args.context.now.in_progress ++ (e.node, p) ∷ []) = (pair_busy e.node c.in_ok-pair.pair.node.0 p (place_of c.in_ok-pair.pair) c.args.context.now c.new.new.context _ false (ap (λ (n : SchemaNode). n.0) c.in_ok-pair.ensures.node) c.in_ok-pair.ensures.place c.in_ok-pair.ensures.unchanged c.is_in_progress.ensures.found c.if-is_in_progress.false,
+        pair_entered e.node c.in_ok-pair.pair.node.0 p (place_of c.in_ok-pair.pair) c.args.context.now c.new.new.context c.enter.new.context.in_progress (ap (λ (n : SchemaNode). n.0) c.in_ok-pair.ensures.node) c.in_ok-pair.ensures.place c.in_ok-pair.ensures.unchanged c.in_ok-enter.ensures.entered) in
     let pairs : c2.in_progress ≡ c.args.context.now.in_progress ++ (e.node, p) ∷ [] = ap (λ (z : Context). z.in_progress) c.start_ref_visit-mark.ensures.counted ∙ entered.1 in
-    let read = ap (λ (z : Context). z.verdicts) c.start_ref_visit-mark.ensures.counted ∙ c.enter_shared.ensures.verdicts in
-    let counted = ap (λ (z : Context). z.visits) c.start_ref_visit-mark.ensures.counted ∙ ap one_more c.enter_shared.ensures.visits in
-    let there : steps_to c.given-place.result ≡ p = c.given-place.ensures.same ∙ c.as_place-here.ensures.same ∙ c.in_ok-shared.ensures.same in
-    let none = sym (rw (c.as_place-here.ensures.same ∙ c.in_ok-shared.ensures.same) at c.in_default.ensures.read) in
+    let read = ap (λ (z : Context). z.verdicts) c.start_ref_visit-mark.ensures.counted ∙ (c.enter.ensures.verdicts ∙ ap (λ (z : Context). z.verdicts) c.in_ok-pair.ensures.unchanged) in
+    let counted = ap (λ (z : Context). z.visits) c.start_ref_visit-mark.ensures.counted ∙ ap one_more (c.enter.ensures.visits ∙ ap (λ (z : Context). z.visits) c.in_ok-pair.ensures.unchanged) in
+    let there : steps_to c.numbered_place-place.result ≡ p = c.numbered_place-place.ensures.same ∙ c.in_ok-pair.ensures.place in
+    let here = ap (λ (z : Context). read_verdict c.in_ok-pair.pair.node.0 (place_of c.in_ok-pair.pair) z) c.in_ok-pair.ensures.unchanged ∙ ap (λ (k : ℕ). read_verdict k (place_of c.in_ok-pair.pair) c.args.context.now) (ap (λ (n : SchemaNode). n.0) c.in_ok-pair.ensures.node) ∙ ap (λ (z : Place). read_verdict e.node z c.args.context.now) c.in_ok-pair.ensures.place in
+    let none = read_entered e.node p c.args.context.now c.enter.new.context entered.1 (c.enter.ensures.verdicts ∙ ap (λ (z : Context). z.verdicts) c.in_ok-pair.ensures.unchanged) ∙ sym here ∙ sym c.in_default.ensures.read in
     let node_counts = subst (λ z. NodeCounts ns (record { subject = q.subject; place = z; path = path_of c.across-whole.result; mode = q.mode }) c2 c3 e.node) there c.in_ok-valid.ensures.visits in
-    let visits = c.exit-2.ensures.visits ∙ ap (λ (z : Context). z.visits) c.cache_result.ensures.frame in
-    computed_counts ns q c.args.context.now e c2 c3 c.exit-2.new.self c.requires.guarded entered.0
-    (sym (read_entered e.node p c.args.context.now c1 entered.1 c.enter_shared.ensures.verdicts) ∙ none) pairs read counted node_counts visits
+    let visits = c.exit.ensures.visits ∙ ap (λ (z : Context). z.visits) c.keep_verdict.ensures.frame in
+    computed_counts ns q c.args.context.now e c2 c3 c.exit.new.context c.requires.guarded entered.0
+    (sym (read_entered e.node p c.args.context.now c1 entered.1 (c.enter.ensures.verdicts ∙ ap (λ (z : Context). z.verdicts) c.in_ok-pair.ensures.unchanged)) ∙ none) pairs read counted node_counts visits
 
 pub verdict::guarded_verdict-verdict_node-requires : goal.verdict::guarded_verdict-verdict_node-requires
 verdict::guarded_verdict-verdict_node-requires g t c =
@@ -2034,21 +2075,21 @@ verdict::guarded_verdict-verdict_node-requires g t c =
     let p = steps_to c.args.question.now.place.now in
     let e = edge_of c.args.edge.now in
     let s = subject_of c.args.question.now.instance in
-    let entered = entered_new e.node p c.args.context.now.in_progress c.in_ok-enter_shared.field-0 c.enter_shared.new.self.in_progress (rw c.in_ok-shared.ensures.same at c.in_ok-enter_shared.ensures.enters) c.if-branch.false in
+    let entered : (list_any (λ i. i == e.node) (busy_at p c.args.context.now.in_progress) ≡ false) × (c.enter.new.context.in_progress ≡ c.args.context.now.in_progress ++ (e.node, p) ∷ []) = (pair_busy e.node c.in_ok-pair.pair.node.0 p (place_of c.in_ok-pair.pair) c.args.context.now c.new.new.context _ false (ap (λ (n : SchemaNode). n.0) c.in_ok-pair.ensures.node) c.in_ok-pair.ensures.place c.in_ok-pair.ensures.unchanged c.is_in_progress.ensures.found c.if-is_in_progress.false,
+        pair_entered e.node c.in_ok-pair.pair.node.0 p (place_of c.in_ok-pair.pair) c.args.context.now c.new.new.context c.enter.new.context.in_progress (ap (λ (n : SchemaNode). n.0) c.in_ok-pair.ensures.node) c.in_ok-pair.ensures.place c.in_ok-pair.ensures.unchanged c.in_ok-enter.ensures.entered) in
     let pairs = ap (λ (z : Context). z.in_progress) c.start_ref_visit-mark.ensures.counted in
     let new : c.start_ref_visit-mark.new.self.in_progress ≡ c.args.context.now.in_progress ++ (e.node, p) ∷ [] = pairs ∙ entered.1 in
     let busy : busy_at p c.start_ref_visit-mark.new.self.in_progress ≡ e.node ∷ busy_at p c.args.context.now.in_progress = ap (busy_at p) new ∙ busy-pushed p e.node c.args.context.now.in_progress in
     let needs = needs_of_entered g.K.Validate.words g.K.Validate.is_whole ns (length c.args.engine.now.nodes.now) (settling (g.M.Matcher.matching c.args.engine.now.matcher.now) c.args.context.now.remembered.assumptions) s (busy_at p c.args.context.now.in_progress) e c.requires.guarded entered.0 in
-    let there : steps_to c.given-place.result ≡ p = c.given-place.ensures.same ∙ c.as_place-here.ensures.same ∙ c.in_ok-shared.ensures.same in
+    let there : steps_to c.numbered_place-place.result ≡ p = c.numbered_place-place.ensures.same ∙ c.in_ok-pair.ensures.place in
     let l = ap (λ q. left ns (length c.args.engine.now.nodes.now) e.node s (busy_at q c.start_ref_visit-mark.new.self.in_progress)) there ∙ ap (left ns (length c.args.engine.now.nodes.now) e.node s) busy in
     let deeper = subst (λ q. NoDeeper q c.start_ref_visit-mark.new.self.in_progress) (sym there) (subst (NoDeeper p) (sym new) (deeper-pushed p e.node c.args.context.now.in_progress c.requires.may.above)) in
     let (layout, laid, right) = c.requires.may.goes_on in
     let set = setting g.K.Validate.words g.K.Validate.is_whole g.K.Validate.shape g.M.Matcher.matching c.args.engine.now in
-    let met = ap (λ (z : Context). z.remembered) c.start_ref_visit-mark.ensures.counted ∙ c.enter_shared.ensures.remembered in
-    let read = ap (λ (z : Context). z.verdicts) c.start_ref_visit-mark.ensures.counted ∙ c.enter_shared.ensures.verdicts in
+    let met = ap (λ (z : Context). z.remembered) c.start_ref_visit-mark.ensures.counted ∙ (c.enter.ensures.remembered ∙ ap (λ (z : Context). z.remembered) c.in_ok-pair.ensures.unchanged) in
+    let read = ap (λ (z : Context). z.verdicts) c.start_ref_visit-mark.ensures.counted ∙ (c.enter.ensures.verdicts ∙ ap (λ (z : Context). z.verdicts) c.in_ok-pair.ensures.unchanged) in
     let laid' = subst (λ q. LaysOut layout q s) (sym there) laid in
     let right' = right_same set layout c.args.context.now c.start_ref_visit-mark.new.self met read right in
-    λ κs h. (lower_entered _ _ _ t l needs c.decreases, (h.0, (h.1.0, (h.1.1.0, (h.1.1.1, (record { known = c.requires.may.known; ranked = c.requires.may.ranked; above = deeper; wanted = c.requires.may.wanted; goes_on = (layout, laid', right') }, c.requires.verdict))))))
-
-pub verdict::verdict_edge-returns-clause-visits : goal.verdict::verdict_edge-returns-clause-visits
-verdict::verdict_edge-returns-clause-visits g t c = if_ok_mono c.verdict_node.result _ _ (λ b counts. free_counts (numbered g.K.Validate.shape c.args.engine.now.nodes.now) (asking c.args.question.now) c.args.context.now (edge_of c.args.edge.now) c.verdict_node.new.context c.if-edge.false counts) c.verdict_node.ensures.visits
+    let root = ap (λ (z : Context). z.root) c.start_ref_visit-mark.ensures.counted ∙ c.enter.ensures.root ∙ ap (λ (z : Context). z.root) c.in_ok-pair.ensures.unchanged in
+    let carries = carries_on c.args.context.now.root c.start_ref_visit-mark.new.self.root c.numbered_place-place.result root (c.numbered_place-place.ensures.carries c.args.context.now c.in_ok-pair.ensures.numbered) in
+    λ κs h. (lower_entered _ _ _ t l needs c.decreases, (h.0, (h.1.0, (h.1.1.0, (h.1.1.1, (record { known = c.requires.may.known; ranked = c.requires.may.ranked; above = deeper; wanted = c.requires.may.wanted; stands = stands_at c.args.context.now.root _ (asking c.args.question.now) _ root there c.requires.may.stands; goes_on = (layout, laid', right') }, (carries, c.requires.verdict)))))))

@@ -66,6 +66,7 @@ invariant-run::run_entries-loop-entry g l =
     let s = subject_of l.question.instance in
     let w = settling (g.M.Matcher.matching l.engine.matcher.now) l.initial.context.remembered.assumptions in
     record {
+      root : l.context.root ≡ l.initial.context.root;
       kept : l.context.in_progress ≡ l.initial.context.in_progress;
       assumes : l.context.remembered.assumptions ≡ l.initial.context.remembered.assumptions;
       marking : l.context.marking ≡ l.initial.context.marking;
@@ -91,6 +92,7 @@ invariant-turns::run_turns-turns g l =
     let w = settling (g.M.Matcher.matching l.engine.matcher.now) l.initial.context.remembered.assumptions in
     let es = map (option_map edge_of) l.keyword.children.now in
     record {
+      root : l.context.root ≡ l.initial.context.root;
       kept : l.context.in_progress ≡ l.initial.context.in_progress;
       assumes : l.context.remembered.assumptions ≡ l.initial.context.remembered.assumptions;
       counted : l.initial.context.visits ≤ l.context.visits;
@@ -138,6 +140,7 @@ invariant-evaluate::evaluate_entries-loop-entry g l =
     let s = subject_of l.question.instance in
     let w = settling (g.M.Matcher.matching l.engine.matcher.now) l.initial.context.remembered.assumptions in
     record {
+      root : l.context.root ≡ l.initial.context.root;
       kept : l.context.in_progress ≡ l.initial.context.in_progress;
       assumes : l.context.remembered.assumptions ≡ l.initial.context.remembered.assumptions;
       marking : l.context.marking ≡ l.initial.context.marking;
@@ -183,6 +186,7 @@ invariant-verdict::verdict_entries-loop-entry g l =
     let s = subject_of l.question.instance in
     let w = settling (g.M.Matcher.matching l.engine.matcher.now) l.initial.context.remembered.assumptions in
     record {
+      root : l.context.root ≡ l.initial.context.root;
       kept : l.context.in_progress ≡ l.initial.context.in_progress;
       assumes : l.context.remembered.assumptions ≡ l.initial.context.remembered.assumptions;
       marking : l.context.marking ≡ l.initial.context.marking;

@@ -2,7 +2,8 @@ use Rattle.std.proofs.Common.{◌∙◌, ap, map, sym, ℕ}
 use Rattle.std.specs.Prelude.{Option, option_map}
 use Rattle.schema_reports.specs.InstanceViews.{step_of}
 use Rattle.schema_reports.specs.declared.instance.InstanceStep.{InstanceStep}
-use Rattle.schema_places.specs.Rows.{leads_to_names, led_by, numbered}
+use Rattle.schema_places.specs.Rows.{leads_to_names, led_by}
+use Rattle.schema_places.specs.RowViews.{numbered}
 use Rattle.schema_places.proofs.Searching.{item_no_member, member_leads, name_leads}
 use Rattle.schema_places.proofs.rows.child_of_members.Goals as goal
 

@@ -1,42 +1,42 @@
-use Rattle.std.proofs.Common.{◌≡◌, ◌-◌, ◌&&◌, ◌==◌, false, not, ap, sym, ◌∙◌, arith}
-use Rattle.schema_definitions.specs.Instance.{same_place}
-use Rattle.schema_contexts.specs.Progress.{Pairs}
+use Rattle.std.proofs.Common.{◌≡◌, ◌∙◌, ◌==◌, ◌&&◌, ◌<◌, ℕ, Bool, ap, ap₂, arith, get_or, length, map, subst, sym}
+use Rattle.std.specs.Prelude.{◌||◌}
+use Rattle.schema_places.specs.Numbers.{place_at}
+use Rattle.schema_contexts.specs.ProgressViews.{pair_of}
+use Rattle.schema_contexts.specs.Progress.{Context}
+use Rattle.schema_contexts.specs.Rows.{has_bit, row_in}
 use Rattle.schema_contexts.specs.Verdicts.{is_alone}
-use Rattle.schema_contexts.proofs.Alone.{alone_as_deep, alone_before, not_alone}
-use Rattle.schema_contexts.proofs.Depths.{both_agree, first_differs, pair_left, second_differs}
+use Rattle.schema_contexts.proofs.Guarding.{alone_if}
+use Rattle.schema_contexts.proofs.RowsChanged.{other_test}
+use Rattle.schema_contexts.specs.Progress.{places_in, root_places}
 use Rattle.schema_contexts.proofs.validation.ValidationContext.is_alone.Goals as goal
-use Rattle.schema_contexts.proofs.validation.ValidationContext.is_alone.Goals.{else-ne-via-then-ne+else-eq, else-ne-via-else-ne}
 
-pub loop-left-preserved : goal.loop-left-preserved
-loop-left-preserved c =
-    let items = c.self.inside.pairs.items in
-    let e = c.index-pair.result.now in
-    let m = c.loop-left.left in
-    let k = m - 1 in
-    let here = pair_left m k items e e (omega arith) (omega (arith, c.loop-left.invariant.0)) (sym c.index-pair.ensures) in
-    let its_own : (not (e.node.0 == c.args.node.0) && same_place e.place c.args.place.now) ≡ false = elim c.else-ne.branch [
-      | else-ne-via-then-ne+else-eq w ↦ second_differs (not (e.node.0 == c.args.node.0)) (same_place e.place c.args.place.now) (rw w.as_place.ensures.same at w.if-eq.ensures)
-      | else-ne-via-else-ne w ↦ first_differs (not (e.node.0 == c.args.node.0)) (same_place e.place c.args.place.now) w.if-ne.ensures
-    ] in
-    (omega (arith, c.loop-left.invariant.0), c.loop-left.invariant.1 ∙ alone_before c.args.node.0 c.args.place.now m k items e here its_own)
+pub returns-then-count-ne1 : goal.returns-then-count-ne1
+returns-then-count-ne1 c =
+    let i = c.self.inside in
+    let known = subst (λ (x : Context). c.args.place < length (places_in x)) (sym c.self.view_is) c.requires.known in
+    let count : c.count_at-count.result ≡ get_or i.counts.items c.args.place 0 = c.count_at-count.ensures.count ∙ ap (λ xs. get_or xs c.args.place 0) c.as_slice.ensures.value in
+    let n = c.count_at-count.result in
+    let bit = has_bit (row_in i.guard c.args.node.0) c.args.place in
+    record {
+      alone = sym (
+          ap (λ (x : Context). is_alone c.args.node.0 (place_at (places_in x) c.args.place) x.in_progress) (sym c.self.view_is)
+          ∙ alone_if (root_places i.places) (map (pair_of (root_places i.places)) i.pairs.items) i.counts.items i.guard c.args.node.0 c.args.place c.self.invariant.guards c.self.invariant.distinct known
+          ∙ ap (λ (x : ℕ). (x == 0) || ((x == 1) && bit)) (sym count)
+          ∙ ap₂ (λ (x y : Bool). x || (y && bit)) (other_test n 0 (λ e. omega arith)) (other_test n 1 (λ e. omega arith))
+          );
+    }
 
-pub returns-then-pair-depth : goal.returns-then-pair-depth
-returns-then-pair-depth c =
-    let items = c.self.inside.pairs.items in
-    let e = c.index-pair.result.now in
-    let m = c.loop-left.left in
-    let k = m - 1 in
-    let here = pair_left m k items e e (omega arith) (omega (arith, c.loop-left.invariant.0)) (sym c.index-pair.ensures) in
-    let none = alone_as_deep c.args.node.0 c.args.place.now m k items e here c.self.invariant.1 (omega (arith, c.len-depth.ensures.count, c.if-pair-depth.true)) in
-    record { alone = sym (ap (λ (x : Pairs). is_alone c.args.node.0 c.args.place.now x) (sym (ap (λ x. x.in_progress) c.self.view_is)) ∙ c.loop-left.invariant.1 ∙ none) }
-
-pub returns-then-eq : goal.returns-then-eq
-returns-then-eq c =
-    let items = c.self.inside.pairs.items in
-    let e = c.index-pair.result.now in
-    let m = c.loop-left.left in
-    let k = m - 1 in
-    let here = pair_left m k items e e (omega arith) (omega (arith, c.loop-left.invariant.0)) (sym c.index-pair.ensures) in
-    let another = both_agree (not (e.node.0 == c.args.node.0)) (same_place e.place c.args.place.now) c.if-ne.ensures (rw c.as_place.ensures.same at c.if-eq.ensures) in
-    let found = not_alone c.args.node.0 c.args.place.now m k items e here another in
-    record { alone = sym (ap (λ (x : Pairs). is_alone c.args.node.0 c.args.place.now x) (sym (ap (λ x. x.in_progress) c.self.view_is)) ∙ c.loop-left.invariant.1 ∙ found) }
+pub returns : goal.returns
+returns c =
+    let i = c.self.inside in
+    let known = subst (λ (x : Context). c.args.place < length (places_in x)) (sym c.self.view_is) c.requires.known in
+    let count : c.count_at-count.result ≡ get_or i.counts.items c.args.place 0 = c.count_at-count.ensures.count ∙ ap (λ xs. get_or xs c.args.place 0) c.as_slice.ensures.value in
+    let one : c.count_at-count.result ≡ 1 = omega arith in
+    let bit = has_bit (row_in i.guard c.args.node.0) c.args.place in
+    record {
+      alone = c.has_bit.ensures.bit ∙ sym (
+          ap (λ (x : Context). is_alone c.args.node.0 (place_at (places_in x) c.args.place) x.in_progress) (sym c.self.view_is)
+          ∙ alone_if (root_places i.places) (map (pair_of (root_places i.places)) i.pairs.items) i.counts.items i.guard c.args.node.0 c.args.place c.self.invariant.guards c.self.invariant.distinct known
+          ∙ ap (λ (x : ℕ). (x == 0) || ((x == 1) && bit)) (sym count ∙ one)
+          );
+    }

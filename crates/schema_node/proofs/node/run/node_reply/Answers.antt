@@ -13,7 +13,7 @@ wants_more code.TheVariants.All h e = cc e
 wants_more code.TheVariants.Evaluate h e = cc e
 
 pub run_node-requires : goal.run_node-requires
-run_node-requires g c = record { may = c.requires.may; more = wants_more c.args.question.now.mode c.in_default.not-Verdict }
+run_node-requires g c = record { may = c.requires.may; carries = c.requires.carries; more = wants_more c.args.question.now.mode c.in_default.not-Verdict }
 
 pub returns-in_default-clause-visits : goal.returns-in_default-clause-visits
 returns-in_default-clause-visits g c = if_ok_always c.run_node.result _ (λ mode. absurd (wants_more c.args.question.now.mode c.in_default.not-Verdict mode))

@@ -40,7 +40,7 @@ returns c =
     let i = c.loop-step.step-index in
     let here = place_at ps c.loop-step.number in
     record {
-      number = found_given c.self.inside.root.now ps c.self.inside.rows.items c.loop-step.number c.self.invariant c.self.view_is c.loop-step.invariant.0
+      number = found_given c.self.inside.root.now ps c.self.inside.table c.loop-step.number c.self.invariant c.self.view_is c.loop-step.invariant.0
           ∙ ap (λ (x : Place). number_of x ps) (sym (append-nil here))
           ∙ ap (λ (xs : List InstanceStep). number_of (here ++ map step_of xs) ps) (sym (drop_all i steps c.loop-step-test.false))
           ∙ c.loop-step.invariant.1;

@@ -5,11 +5,13 @@ use Rattle.schema_meaning.proofs.NodeRuns.{runs_say_outcomes}
 use Rattle.schema_contexts.specs.Matches.{settling}
 use Rattle.schema_node.specs.NodeMeets.{reading}
 use Rattle.schema_nodes.specs.NodeTable.{numbered}
-use Rattle.schema_contexts.specs.Progress.{Context, NoDeeper, busy_at}
+use Rattle.schema_contexts.specs.Progress.{Context, NoDeeper, busy_at, places_in}
 use Rattle.schema_contexts.proofs.Matches.{completes_once}
 use Rattle.schema_nodes.proofs.RankedTable.{ranked_table}
 use Rattle.schema_parts.proofs.Replies.{if_ok_mono}
 use Rattle.schema_node.proofs.RightVerdicts.{layout_from, lays_out_from, none_right, root_lays_out}
+use Rattle.schema_node.specs.UnitStates.{evaluating}
+use Rattle.schema_node.proofs.Placing.{stands_on}
 use Rattle.schema_node.proofs.node.runs.NodesRunNodes.evaluate_instance.Goals as goal
 
 pub evaluate_node-requires : goal.evaluate_node-requires
@@ -24,8 +26,10 @@ evaluate_node-requires g c =
         ranked = ranked_table g.K.Validate.shape c.args.self.now c.len-count.ensures.ordered.0 c.len-count.ensures.ordered.1;
         above = rw c.given-place.ensures.same (subst (NoDeeper p) (sym (ap (λ (z : Context). z.in_progress) c.forget_verdicts.ensures.forgotten)) c.requires.above);
         wanted = refl;
+        stands = rw c.given-place.ensures.same (stands_on c.args.context.now.root c1.root (evaluating s p c.args.path.now) (ap (λ (z : Context). z.root) c.forget_verdicts.ensures.forgotten) c.requires.stands);
         goes_on = rw c.given-place.ensures.same (layout_from p s, lays_out_from p s, none_right g.K.Validate.words g.K.Validate.is_whole ns (length c.args.self.now) (g.M.Matcher.matching c.args.matcher.now) c1.remembered.assumptions c1.remembered (layout_from p s) c1.verdicts (ap (λ (z : Context). z.verdicts) c.forget_verdicts.ensures.forgotten));
       };
+      carries = c.given-place.ensures.carries (places_in c1);
     }
 
 pub returns-clause-kept : goal.returns-clause-kept

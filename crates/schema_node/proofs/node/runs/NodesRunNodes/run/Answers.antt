@@ -5,6 +5,8 @@ use Rattle.schema_nodes.specs.NodeTable.{numbered}
 use Rattle.schema_contexts.specs.Progress.{Context, NoDeeper}
 use Rattle.schema_parts.proofs.Replies.{if_ok_mono}
 use Rattle.schema_node.proofs.RightVerdicts.{layout_from, lays_out_from, none_right, root_lays_out}
+use Rattle.schema_node.specs.RunStates.{asking_first}
+use Rattle.schema_node.proofs.Placing.{stands_on}
 use Rattle.schema_node.proofs.node.runs.NodesRunNodes.run.Goals as goal
 
 pub run_further-requires : goal.run_further-requires
@@ -16,6 +18,7 @@ run_further-requires g c =
     record {
       known = c.requires.known;
       above = subst (NoDeeper p) (sym (ap (λ (z : Context). z.in_progress) c.forget_verdicts.ensures.forgotten)) c.requires.above;
+      stands = stands_on c.args.context.now.root c1.root (asking_first c.args.question.now) (ap (λ (z : Context). z.root) c.forget_verdicts.ensures.forgotten) c.requires.stands;
       wanted = c.requires.wanted;
       goes_on = (layout_from p s, lays_out_from p s, none_right g.K.Validate.words g.K.Validate.is_whole ns (length c.args.self.now) (g.M.Matcher.matching c.args.matcher.now) c1.remembered.assumptions c1.remembered (layout_from p s) c1.verdicts (ap (λ (z : Context). z.verdicts) c.forget_verdicts.ensures.forgotten));
     }

@@ -5,7 +5,7 @@ use Rattle.schema_parts.specs.KeywordViews.{mode_of}
 use Rattle.schema_contexts.specs.Matches.{settling}
 use Rattle.schema_node.specs.NodeMeets.{reading}
 use Rattle.schema_nodes.specs.NodeTable.{numbered}
-use Rattle.schema_contexts.specs.Progress.{busy_at}
+use Rattle.schema_contexts.specs.Progress.{busy_at, places_in}
 use Rattle.schema_node.proofs.KeywordTurns.{silent, silent_reads}
 use Rattle.schema_contexts.proofs.Matches.{completes_once}
 use Rattle.schema_node.proofs.NodeOutcomes.{reply_is}
@@ -20,8 +20,10 @@ node_reply-requires g c = record {
     ranked = ranked_table g.K.Validate.shape c.args.self.now c.len-count.ensures.ordered.0 c.len-count.ensures.ordered.1;
     above = rw c.given-place.ensures.same c.requires.above;
     wanted = c.requires.wanted;
+    stands = rw c.given-place.ensures.same c.requires.stands;
     goes_on = rw c.given-place.ensures.same c.requires.goes_on;
   };
+  carries = c.given-place.ensures.carries (places_in c.args.context.now);
 }
 
 pub returns-clause-replies : goal.returns-clause-replies

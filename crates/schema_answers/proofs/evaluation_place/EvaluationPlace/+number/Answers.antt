@@ -1,0 +1,28 @@
+use Rattle.std.proofs.Common.{◌∙◌, ◌++◌, ◌∷◌, [], ap, subst, sym}
+use Rattle.schema_definitions.specs.Instance.{Place}
+use Rattle.schema_places.specs.Numbers.{number_of}
+use Rattle.schema_places.proofs.Closing.{none_below, stands}
+use Rattle.schema_reports.specs.InstanceViews.{step_of}
+use Rattle.schema_answers.specs.EvaluationPlaces.{CarriesItsNumber, steps_to}
+use Rattle.schema_answers.specs.declared.evaluation_place.EvaluationPlace.{EvaluationPlace}
+use Rattle.schema_answers.proofs.evaluation_place.EvaluationPlace.+number.Goals as goal
+
+pub child-requires : goal.child-requires
+child-requires t c = record { known = (stands (steps_to c.in-Below.above.now) c.args.places.now c.in-Some.number (sym c.in-Some.ensures.number)).0 }
+
+pub returns-in-Some : goal.returns-in-Some
+returns-in-Some t c =
+    let ps = c.args.places.now in
+    let at = stands (steps_to c.in-Below.above.now) ps c.in-Some.number (sym c.in-Some.ensures.number) in
+    record {
+      number = c.child.ensures.child ∙ ap (λ (q : Place). number_of (q ++ step_of c.in-Below.step ∷ []) ps) at.1
+          ∙ ap (λ (p : EvaluationPlace). number_of (steps_to p) ps) (sym c.in-Below.is);
+    }
+
+pub returns-in-None : goal.returns-in-None
+returns-in-None t c =
+    let ps = c.args.places.now in
+    record {
+      number = sym (none_below (steps_to c.in-Below.above.now) (step_of c.in-Below.step) ps c.len-count.ensures.closed (sym c.in-None.ensures.number))
+          ∙ ap (λ (p : EvaluationPlace). number_of (steps_to p) ps) (sym c.in-Below.is);
+    }
