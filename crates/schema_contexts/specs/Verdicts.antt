@@ -3,7 +3,6 @@ use Rattle.std.specs.Prelude.{ℕ, ◌≡◌, ◌≤◌, ◌==◌, ◌+◌, ◌&
 use Rattle.std.specs.List.{list_all}
 use Rattle.serde_json.specs.Data.{array, object}
 use Rattle.schema_definitions.specs.Instance.{Place, Subject, a_value, same_place}
-use Rattle.schema_definitions.specs.Keywords.{Mode, for_all, for_first, for_units, for_verdict}
 use Rattle.schema_contexts.specs.Progress.{Context, Pairs, Verdicts, busy_at}
 
 -- the pair is this one
@@ -48,16 +47,3 @@ pub record MayKeep (i : ℕ) (p : Place) (s : Subject) (mark : ℕ) (c : Context
 -- the verdict that is read of a pair
 abbrev pub read_verdict : ℕ → Place → Context → Option Bool
 read_verdict i p c = if is_alone i p c.in_progress then verdict_of i p c.verdicts else None
-
--- it is read only where the question is for the verdict, and only then is the question a visit
-abbrev pub read_in_mode : Mode → ℕ → Place → Context → Option Bool
-read_in_mode for_verdict i p c = read_verdict i p c
-read_in_mode for_first i p c = None
-read_in_mode for_all i p c = None
-read_in_mode for_units i p c = None
-
-abbrev pub visited_in_mode : Mode → ℕ → ℕ
-visited_in_mode for_verdict n = one_more n
-visited_in_mode for_first n = n
-visited_in_mode for_all n = n
-visited_in_mode for_units n = n

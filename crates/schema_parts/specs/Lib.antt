@@ -6,3 +6,4 @@ pub mod MakerViews
 pub mod UnitQuestions
 pub mod FaultViews
 pub mod EdgeViews
+pub mod MatcherViews

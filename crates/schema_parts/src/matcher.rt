@@ -1,7 +1,8 @@
 //! The matcher, which says whether a text matches a pattern.
-ghost use Rattle.std.specs.Prelude.{◌≡◌, IfOk};
+ghost use Rattle.std.specs.Prelude.{◌≡◌, IfOk, true};
 ghost use Rattle.schema_definitions.specs.Matching as spec;
 ghost use Rattle.schema_matches.specs.MatchViews.{match_of};
+ghost use Rattle.schema_parts.specs.MatcherViews.{FinishesEach};
 
 use schema_matches::site::Match;
 use schema_reports::location::OutOfMemory;
@@ -18,6 +19,15 @@ pub trait Matcher: Clone + Drop {
     /// Whether the text is a pattern of ECMA-262.
     fn is_valid_ecma_regex(&self, alloc: Global, pattern: &str) -> Result<bool, OutOfMemory>
         ensures valid { IfOk result (λ b. b ≡ (matching self.now).is_ecma pattern.now) };
+
+    /// Returns whether it finishes every match, as an engine that never goes back does. `false` says nothing, and is always right.
+    /// Where it says so, the calls that give errors ask for the verdict first, which costs less where an instance is valid. It
+    /// allocates nothing.
+    fn finishes(&self) -> bool
+        ensures finishes { result ≡ true → FinishesEach (matching self.now) }
+    {
+        false
+    }
 
     ghost cloned: { (m n : Self) → Self.is_clone m n → matching n ≡ matching m };
 }
