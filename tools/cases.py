@@ -80,6 +80,14 @@ def deep(size):
     return Case({"properties": {"n": {"$ref": "#"}}}, instance, {})
 
 
+def tree(size):
+    """A schema that refers to itself, and so many nodes, each with a list of at most three of them."""
+    nodes = [{} for _ in range(size)]
+    for k in range(1, size):
+        nodes[(k - 1) // 3].setdefault("nodes", []).append(nodes[k])
+    return Case({"type": "object", "properties": {"nodes": {"type": "array", "items": {"$ref": "#"}}}}, nodes[0], {})
+
+
 def refusing(size):
     """An instance with an array of 200 numbers that so many alternatives, one inside another, refuse."""
     schema = {"type": "string"}
@@ -121,6 +129,7 @@ CASES = {
     "wide": (wide, (250, 500, 1000)),
     "names": (names, (500, 1000, 2000)),
     "deep": (deep, (30, 60, 120)),
+    "tree": (tree, (1000, 2000, 4000)),
     "refusing": (refusing, (10, 20, 40)),
     "unfinished": (unfinished, (100, 200, 400)),
     "chain": (chain, (100, 200, 400)),

@@ -123,5 +123,9 @@ impl Matcher for BenchMatcher {
         Ok(true)
     }
 
+    fn finishes(&self) -> bool {
+        self.unfinished.is_empty()
+    }
+
     ghost cloned = { λ m n same. ap bench_matcher same };
 }
