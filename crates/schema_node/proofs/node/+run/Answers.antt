@@ -1694,8 +1694,10 @@ run::run_edge-run_node-requires-2 g t c =
     let p = steps_to c.args.question.now.place.now in
     let s = subject_of c.args.question.now.instance in
     let e = edge_of c.args.edge.now in
-    let entered : (list_any (λ i. i == e.node) (busy_at p c.args.context.now.in_progress) ≡ false) × (c.enter.new.context.in_progress ≡ c.args.context.now.in_progress ++ (e.node, p) ∷ []) = (pair_busy e.node c.in_ok-pair.pair.node.0 p (place_of c.in_ok-pair.pair) c.args.context.now c.new.new.context _ false (ap (λ (n : SchemaNode). n.0) c.in_ok-pair.ensures.node) c.in_ok-pair.ensures.place c.in_ok-pair.ensures.unchanged c.is_in_progress.ensures.found c.if-is_in_progress.false,
-        pair_entered e.node c.in_ok-pair.pair.node.0 p (place_of c.in_ok-pair.pair) c.args.context.now c.new.new.context c.enter.new.context.in_progress (ap (λ (n : SchemaNode). n.0) c.in_ok-pair.ensures.node) c.in_ok-pair.ensures.place c.in_ok-pair.ensures.unchanged c.in_ok-enter.ensures.entered) in
+    let entered : (list_any (λ i. i == e.node) (busy_at p c.args.context.now.in_progress) ≡ false) × (c.enter.new.context.in_progress ≡ c.args.context.now.in_progress ++ (e.node, p) ∷ []) = (
+      pair_busy e.node c.in_ok-pair.pair.node.0 p (place_of c.in_ok-pair.pair) c.args.context.now c.new.new.context _ false (ap (λ (n : SchemaNode). n.0) c.in_ok-pair.ensures.node) c.in_ok-pair.ensures.place c.in_ok-pair.ensures.unchanged c.is_in_progress.ensures.found c.if-is_in_progress.false,
+      pair_entered e.node c.in_ok-pair.pair.node.0 p (place_of c.in_ok-pair.pair) c.args.context.now c.new.new.context c.enter.new.context.in_progress (ap (λ (n : SchemaNode). n.0) c.in_ok-pair.ensures.node) c.in_ok-pair.ensures.place c.in_ok-pair.ensures.unchanged c.in_ok-enter.ensures.entered,
+    ) in
     let pushed : busy_at p c.enter.new.context.in_progress ≡ e.node ∷ busy_at p c.args.context.now.in_progress = ap (busy_at p) entered.1 ∙ busy-pushed p e.node c.args.context.now.in_progress in
     let there : steps_to c.numbered_place-place.result ≡ p = c.numbered_place-place.ensures.same ∙ c.in_ok-pair.ensures.place in
     let needs = needs_of_entered g.K.Validate.words g.K.Validate.is_whole ns (length c.args.engine.now.nodes.now) w s (busy_at p c.args.context.now.in_progress) e c.if-not-edge.false entered.0 in
@@ -1726,8 +1728,10 @@ run::run_edge-returns-clause-says g t c =
     let p = steps_to c.args.question.now.place.now in
     let e = edge_of c.args.edge.now in
     let c1 = c.enter.new.context in
-    let entered : (list_any (λ i. i == e.node) (busy_at p c.args.context.now.in_progress) ≡ false) × (c.enter.new.context.in_progress ≡ c.args.context.now.in_progress ++ (e.node, p) ∷ []) = (pair_busy e.node c.in_ok-pair.pair.node.0 p (place_of c.in_ok-pair.pair) c.args.context.now c.new.new.context _ false (ap (λ (n : SchemaNode). n.0) c.in_ok-pair.ensures.node) c.in_ok-pair.ensures.place c.in_ok-pair.ensures.unchanged c.is_in_progress.ensures.found c.if-is_in_progress.false,
-        pair_entered e.node c.in_ok-pair.pair.node.0 p (place_of c.in_ok-pair.pair) c.args.context.now c.new.new.context c.enter.new.context.in_progress (ap (λ (n : SchemaNode). n.0) c.in_ok-pair.ensures.node) c.in_ok-pair.ensures.place c.in_ok-pair.ensures.unchanged c.in_ok-enter.ensures.entered) in
+    let entered : (list_any (λ i. i == e.node) (busy_at p c.args.context.now.in_progress) ≡ false) × (c.enter.new.context.in_progress ≡ c.args.context.now.in_progress ++ (e.node, p) ∷ []) = (
+      pair_busy e.node c.in_ok-pair.pair.node.0 p (place_of c.in_ok-pair.pair) c.args.context.now c.new.new.context _ false (ap (λ (n : SchemaNode). n.0) c.in_ok-pair.ensures.node) c.in_ok-pair.ensures.place c.in_ok-pair.ensures.unchanged c.is_in_progress.ensures.found c.if-is_in_progress.false,
+      pair_entered e.node c.in_ok-pair.pair.node.0 p (place_of c.in_ok-pair.pair) c.args.context.now c.new.new.context c.enter.new.context.in_progress (ap (λ (n : SchemaNode). n.0) c.in_ok-pair.ensures.node) c.in_ok-pair.ensures.place c.in_ok-pair.ensures.unchanged c.in_ok-enter.ensures.entered,
+    ) in
     let there : steps_to c.numbered_place-place.result ≡ p = c.numbered_place-place.ensures.same ∙ c.in_ok-pair.ensures.place in
     let at_asked : (record { subject = q.subject; place = steps_to c.numbered_place-place.result; path = path_of c.across-whole.result; mode = q.mode }) ≡ asked_across set q e c.args.context.now c.if-not-edge.false entered.0
     = λ i. record { subject = q.subject; place = there i; path = c.across-whole.ensures.appended i; mode = q.mode } in
@@ -1741,8 +1745,10 @@ run::run_edge-returns-clause-meets g t c =
     let e = edge_of c.args.edge.now in
     let c1 = c.enter.new.context in
     let c3 = c.run_node-2.new.context in
-    let entered : (list_any (λ i. i == e.node) (busy_at p c.args.context.now.in_progress) ≡ false) × (c.enter.new.context.in_progress ≡ c.args.context.now.in_progress ++ (e.node, p) ∷ []) = (pair_busy e.node c.in_ok-pair.pair.node.0 p (place_of c.in_ok-pair.pair) c.args.context.now c.new.new.context _ false (ap (λ (n : SchemaNode). n.0) c.in_ok-pair.ensures.node) c.in_ok-pair.ensures.place c.in_ok-pair.ensures.unchanged c.is_in_progress.ensures.found c.if-is_in_progress.false,
-        pair_entered e.node c.in_ok-pair.pair.node.0 p (place_of c.in_ok-pair.pair) c.args.context.now c.new.new.context c.enter.new.context.in_progress (ap (λ (n : SchemaNode). n.0) c.in_ok-pair.ensures.node) c.in_ok-pair.ensures.place c.in_ok-pair.ensures.unchanged c.in_ok-enter.ensures.entered) in
+    let entered : (list_any (λ i. i == e.node) (busy_at p c.args.context.now.in_progress) ≡ false) × (c.enter.new.context.in_progress ≡ c.args.context.now.in_progress ++ (e.node, p) ∷ []) = (
+      pair_busy e.node c.in_ok-pair.pair.node.0 p (place_of c.in_ok-pair.pair) c.args.context.now c.new.new.context _ false (ap (λ (n : SchemaNode). n.0) c.in_ok-pair.ensures.node) c.in_ok-pair.ensures.place c.in_ok-pair.ensures.unchanged c.is_in_progress.ensures.found c.if-is_in_progress.false,
+      pair_entered e.node c.in_ok-pair.pair.node.0 p (place_of c.in_ok-pair.pair) c.args.context.now c.new.new.context c.enter.new.context.in_progress (ap (λ (n : SchemaNode). n.0) c.in_ok-pair.ensures.node) c.in_ok-pair.ensures.place c.in_ok-pair.ensures.unchanged c.in_ok-enter.ensures.entered,
+    ) in
     let there : steps_to c.numbered_place-place.result ≡ p = c.numbered_place-place.ensures.same ∙ c.in_ok-pair.ensures.place in
     let at_asked : (record { subject = q.subject; place = steps_to c.numbered_place-place.result; path = path_of c.across-whole.result; mode = q.mode }) ≡ asked_across set q e c.args.context.now c.if-not-edge.false entered.0
     = λ i. record { subject = q.subject; place = there i; path = c.across-whole.ensures.appended i; mode = q.mode } in
@@ -1756,8 +1762,10 @@ run::run_edge-returns-clause-stays g t c =
     let e = edge_of c.args.edge.now in
     let c1 = c.enter.new.context in
     let c3 = c.run_node-2.new.context in
-    let entered : (list_any (λ i. i == e.node) (busy_at p c.args.context.now.in_progress) ≡ false) × (c.enter.new.context.in_progress ≡ c.args.context.now.in_progress ++ (e.node, p) ∷ []) = (pair_busy e.node c.in_ok-pair.pair.node.0 p (place_of c.in_ok-pair.pair) c.args.context.now c.new.new.context _ false (ap (λ (n : SchemaNode). n.0) c.in_ok-pair.ensures.node) c.in_ok-pair.ensures.place c.in_ok-pair.ensures.unchanged c.is_in_progress.ensures.found c.if-is_in_progress.false,
-        pair_entered e.node c.in_ok-pair.pair.node.0 p (place_of c.in_ok-pair.pair) c.args.context.now c.new.new.context c.enter.new.context.in_progress (ap (λ (n : SchemaNode). n.0) c.in_ok-pair.ensures.node) c.in_ok-pair.ensures.place c.in_ok-pair.ensures.unchanged c.in_ok-enter.ensures.entered) in
+    let entered : (list_any (λ i. i == e.node) (busy_at p c.args.context.now.in_progress) ≡ false) × (c.enter.new.context.in_progress ≡ c.args.context.now.in_progress ++ (e.node, p) ∷ []) = (
+      pair_busy e.node c.in_ok-pair.pair.node.0 p (place_of c.in_ok-pair.pair) c.args.context.now c.new.new.context _ false (ap (λ (n : SchemaNode). n.0) c.in_ok-pair.ensures.node) c.in_ok-pair.ensures.place c.in_ok-pair.ensures.unchanged c.is_in_progress.ensures.found c.if-is_in_progress.false,
+      pair_entered e.node c.in_ok-pair.pair.node.0 p (place_of c.in_ok-pair.pair) c.args.context.now c.new.new.context c.enter.new.context.in_progress (ap (λ (n : SchemaNode). n.0) c.in_ok-pair.ensures.node) c.in_ok-pair.ensures.place c.in_ok-pair.ensures.unchanged c.in_ok-enter.ensures.entered,
+    ) in
     let there : steps_to c.numbered_place-place.result ≡ p = c.numbered_place-place.ensures.same ∙ c.in_ok-pair.ensures.place in
     let at_asked : (record { subject = q.subject; place = steps_to c.numbered_place-place.result; path = path_of c.across-whole.result; mode = q.mode }) ≡ asked_across set q e c.args.context.now c.if-not-edge.false entered.0
     = λ i. record { subject = q.subject; place = there i; path = c.across-whole.ensures.appended i; mode = q.mode } in
@@ -1801,8 +1809,10 @@ evaluate::evaluate_edge-evaluate_node-requires-2 g t c =
     let p = steps_to c.args.question.now.place.now in
     let s = subject_of c.args.question.now.instance in
     let e = edge_of c.args.edge.now in
-    let entered : (list_any (λ i. i == e.node) (busy_at p c.args.context.now.in_progress) ≡ false) × (c.enter.new.context.in_progress ≡ c.args.context.now.in_progress ++ (e.node, p) ∷ []) = (pair_busy e.node c.in_ok-pair.pair.node.0 p (place_of c.in_ok-pair.pair) c.args.context.now c.new.new.context _ false (ap (λ (n : SchemaNode). n.0) c.in_ok-pair.ensures.node) c.in_ok-pair.ensures.place c.in_ok-pair.ensures.unchanged c.is_in_progress.ensures.found c.if-is_in_progress.false,
-        pair_entered e.node c.in_ok-pair.pair.node.0 p (place_of c.in_ok-pair.pair) c.args.context.now c.new.new.context c.enter.new.context.in_progress (ap (λ (n : SchemaNode). n.0) c.in_ok-pair.ensures.node) c.in_ok-pair.ensures.place c.in_ok-pair.ensures.unchanged c.in_ok-enter.ensures.entered) in
+    let entered : (list_any (λ i. i == e.node) (busy_at p c.args.context.now.in_progress) ≡ false) × (c.enter.new.context.in_progress ≡ c.args.context.now.in_progress ++ (e.node, p) ∷ []) = (
+      pair_busy e.node c.in_ok-pair.pair.node.0 p (place_of c.in_ok-pair.pair) c.args.context.now c.new.new.context _ false (ap (λ (n : SchemaNode). n.0) c.in_ok-pair.ensures.node) c.in_ok-pair.ensures.place c.in_ok-pair.ensures.unchanged c.is_in_progress.ensures.found c.if-is_in_progress.false,
+      pair_entered e.node c.in_ok-pair.pair.node.0 p (place_of c.in_ok-pair.pair) c.args.context.now c.new.new.context c.enter.new.context.in_progress (ap (λ (n : SchemaNode). n.0) c.in_ok-pair.ensures.node) c.in_ok-pair.ensures.place c.in_ok-pair.ensures.unchanged c.in_ok-enter.ensures.entered,
+    ) in
     let pushed : busy_at p c.enter.new.context.in_progress ≡ e.node ∷ busy_at p c.args.context.now.in_progress = ap (busy_at p) entered.1 ∙ busy-pushed p e.node c.args.context.now.in_progress in
     let there : steps_to c.numbered_place-place.result ≡ p = c.numbered_place-place.ensures.same ∙ c.in_ok-pair.ensures.place in
     let needs = needs_of_entered g.K.Validate.words g.K.Validate.is_whole ns (length c.args.engine.now.nodes.now) w s (busy_at p c.args.context.now.in_progress) e c.if-not-edge.false entered.0 in
@@ -1821,8 +1831,10 @@ evaluate::evaluate_edge-returns-clause-gives g t c =
     let q = asking c.args.question.now in
     let p = steps_to c.args.question.now.place.now in
     let e = edge_of c.args.edge.now in
-    let entered : (list_any (λ i. i == e.node) (busy_at p c.args.context.now.in_progress) ≡ false) × (c.enter.new.context.in_progress ≡ c.args.context.now.in_progress ++ (e.node, p) ∷ []) = (pair_busy e.node c.in_ok-pair.pair.node.0 p (place_of c.in_ok-pair.pair) c.args.context.now c.new.new.context _ false (ap (λ (n : SchemaNode). n.0) c.in_ok-pair.ensures.node) c.in_ok-pair.ensures.place c.in_ok-pair.ensures.unchanged c.is_in_progress.ensures.found c.if-is_in_progress.false,
-        pair_entered e.node c.in_ok-pair.pair.node.0 p (place_of c.in_ok-pair.pair) c.args.context.now c.new.new.context c.enter.new.context.in_progress (ap (λ (n : SchemaNode). n.0) c.in_ok-pair.ensures.node) c.in_ok-pair.ensures.place c.in_ok-pair.ensures.unchanged c.in_ok-enter.ensures.entered) in
+    let entered : (list_any (λ i. i == e.node) (busy_at p c.args.context.now.in_progress) ≡ false) × (c.enter.new.context.in_progress ≡ c.args.context.now.in_progress ++ (e.node, p) ∷ []) = (
+      pair_busy e.node c.in_ok-pair.pair.node.0 p (place_of c.in_ok-pair.pair) c.args.context.now c.new.new.context _ false (ap (λ (n : SchemaNode). n.0) c.in_ok-pair.ensures.node) c.in_ok-pair.ensures.place c.in_ok-pair.ensures.unchanged c.is_in_progress.ensures.found c.if-is_in_progress.false,
+      pair_entered e.node c.in_ok-pair.pair.node.0 p (place_of c.in_ok-pair.pair) c.args.context.now c.new.new.context c.enter.new.context.in_progress (ap (λ (n : SchemaNode). n.0) c.in_ok-pair.ensures.node) c.in_ok-pair.ensures.place c.in_ok-pair.ensures.unchanged c.in_ok-enter.ensures.entered,
+    ) in
     let pushed : busy_at p c.enter.new.context.in_progress ≡ e.node ∷ busy_at p c.args.context.now.in_progress = ap (busy_at p) entered.1 ∙ busy-pushed p e.node c.args.context.now.in_progress in
     let there : steps_to c.numbered_place-place.result ≡ p = c.numbered_place-place.ensures.same ∙ c.in_ok-pair.ensures.place in
     let asked : Asking = record { subject = q.subject; place = steps_to c.numbered_place-place.result; path = path_of c.across-whole.result; mode = q.mode } in
@@ -1839,8 +1851,10 @@ evaluate::evaluate_edge-returns-clause-meets g t c =
     let s = subject_of c.args.question.now.instance in
     let busy = busy_at p c.args.context.now.in_progress in
     let e = edge_of c.args.edge.now in
-    let entered : (list_any (λ i. i == e.node) (busy_at p c.args.context.now.in_progress) ≡ false) × (c.enter.new.context.in_progress ≡ c.args.context.now.in_progress ++ (e.node, p) ∷ []) = (pair_busy e.node c.in_ok-pair.pair.node.0 p (place_of c.in_ok-pair.pair) c.args.context.now c.new.new.context _ false (ap (λ (n : SchemaNode). n.0) c.in_ok-pair.ensures.node) c.in_ok-pair.ensures.place c.in_ok-pair.ensures.unchanged c.is_in_progress.ensures.found c.if-is_in_progress.false,
-        pair_entered e.node c.in_ok-pair.pair.node.0 p (place_of c.in_ok-pair.pair) c.args.context.now c.new.new.context c.enter.new.context.in_progress (ap (λ (n : SchemaNode). n.0) c.in_ok-pair.ensures.node) c.in_ok-pair.ensures.place c.in_ok-pair.ensures.unchanged c.in_ok-enter.ensures.entered) in
+    let entered : (list_any (λ i. i == e.node) (busy_at p c.args.context.now.in_progress) ≡ false) × (c.enter.new.context.in_progress ≡ c.args.context.now.in_progress ++ (e.node, p) ∷ []) = (
+      pair_busy e.node c.in_ok-pair.pair.node.0 p (place_of c.in_ok-pair.pair) c.args.context.now c.new.new.context _ false (ap (λ (n : SchemaNode). n.0) c.in_ok-pair.ensures.node) c.in_ok-pair.ensures.place c.in_ok-pair.ensures.unchanged c.is_in_progress.ensures.found c.if-is_in_progress.false,
+      pair_entered e.node c.in_ok-pair.pair.node.0 p (place_of c.in_ok-pair.pair) c.args.context.now c.new.new.context c.enter.new.context.in_progress (ap (λ (n : SchemaNode). n.0) c.in_ok-pair.ensures.node) c.in_ok-pair.ensures.place c.in_ok-pair.ensures.unchanged c.in_ok-enter.ensures.entered,
+    ) in
     let pushed : busy_at p c.enter.new.context.in_progress ≡ e.node ∷ busy_at p c.args.context.now.in_progress = ap (busy_at p) entered.1 ∙ busy-pushed p e.node c.args.context.now.in_progress in
     let there : steps_to c.numbered_place-place.result ≡ p = c.numbered_place-place.ensures.same ∙ c.in_ok-pair.ensures.place in
     let asked : Asking = record { subject = q.subject; place = steps_to c.numbered_place-place.result; path = path_of c.across-whole.result; mode = q.mode } in
@@ -1956,8 +1970,10 @@ verdict::guarded_verdict-returns-clause-says g t c =
     let q = asking c.args.question.now in
     let p = steps_to c.args.question.now.place.now in
     let e = edge_of c.args.edge.now in
-    let entered : (list_any (λ i. i == e.node) (busy_at p c.args.context.now.in_progress) ≡ false) × (c.enter.new.context.in_progress ≡ c.args.context.now.in_progress ++ (e.node, p) ∷ []) = (pair_busy e.node c.in_ok-pair.pair.node.0 p (place_of c.in_ok-pair.pair) c.args.context.now c.new.new.context _ false (ap (λ (n : SchemaNode). n.0) c.in_ok-pair.ensures.node) c.in_ok-pair.ensures.place c.in_ok-pair.ensures.unchanged c.is_in_progress.ensures.found c.if-is_in_progress.false,
-        pair_entered e.node c.in_ok-pair.pair.node.0 p (place_of c.in_ok-pair.pair) c.args.context.now c.new.new.context c.enter.new.context.in_progress (ap (λ (n : SchemaNode). n.0) c.in_ok-pair.ensures.node) c.in_ok-pair.ensures.place c.in_ok-pair.ensures.unchanged c.in_ok-enter.ensures.entered) in
+    let entered : (list_any (λ i. i == e.node) (busy_at p c.args.context.now.in_progress) ≡ false) × (c.enter.new.context.in_progress ≡ c.args.context.now.in_progress ++ (e.node, p) ∷ []) = (
+      pair_busy e.node c.in_ok-pair.pair.node.0 p (place_of c.in_ok-pair.pair) c.args.context.now c.new.new.context _ false (ap (λ (n : SchemaNode). n.0) c.in_ok-pair.ensures.node) c.in_ok-pair.ensures.place c.in_ok-pair.ensures.unchanged c.is_in_progress.ensures.found c.if-is_in_progress.false,
+      pair_entered e.node c.in_ok-pair.pair.node.0 p (place_of c.in_ok-pair.pair) c.args.context.now c.new.new.context c.enter.new.context.in_progress (ap (λ (n : SchemaNode). n.0) c.in_ok-pair.ensures.node) c.in_ok-pair.ensures.place c.in_ok-pair.ensures.unchanged c.in_ok-enter.ensures.entered,
+    ) in
     let c2 = c.start_ref_visit-mark.new.self in
     let pairs : c2.in_progress ≡ c.args.context.now.in_progress ++ (e.node, p) ∷ [] = ap (λ (z : Context). z.in_progress) c.start_ref_visit-mark.ensures.counted ∙ entered.1 in
     let met : c2.remembered ≡ c.args.context.now.remembered = ap (λ (z : Context). z.remembered) c.start_ref_visit-mark.ensures.counted ∙ (c.enter.ensures.remembered ∙ ap (λ (z : Context). z.remembered) c.in_ok-pair.ensures.unchanged) in
@@ -1973,8 +1989,10 @@ verdict::guarded_verdict-returns-clause-meets g t c =
     let q = asking c.args.question.now in
     let p = steps_to c.args.question.now.place.now in
     let e = edge_of c.args.edge.now in
-    let entered : (list_any (λ i. i == e.node) (busy_at p c.args.context.now.in_progress) ≡ false) × (c.enter.new.context.in_progress ≡ c.args.context.now.in_progress ++ (e.node, p) ∷ []) = (pair_busy e.node c.in_ok-pair.pair.node.0 p (place_of c.in_ok-pair.pair) c.args.context.now c.new.new.context _ false (ap (λ (n : SchemaNode). n.0) c.in_ok-pair.ensures.node) c.in_ok-pair.ensures.place c.in_ok-pair.ensures.unchanged c.is_in_progress.ensures.found c.if-is_in_progress.false,
-        pair_entered e.node c.in_ok-pair.pair.node.0 p (place_of c.in_ok-pair.pair) c.args.context.now c.new.new.context c.enter.new.context.in_progress (ap (λ (n : SchemaNode). n.0) c.in_ok-pair.ensures.node) c.in_ok-pair.ensures.place c.in_ok-pair.ensures.unchanged c.in_ok-enter.ensures.entered) in
+    let entered : (list_any (λ i. i == e.node) (busy_at p c.args.context.now.in_progress) ≡ false) × (c.enter.new.context.in_progress ≡ c.args.context.now.in_progress ++ (e.node, p) ∷ []) = (
+      pair_busy e.node c.in_ok-pair.pair.node.0 p (place_of c.in_ok-pair.pair) c.args.context.now c.new.new.context _ false (ap (λ (n : SchemaNode). n.0) c.in_ok-pair.ensures.node) c.in_ok-pair.ensures.place c.in_ok-pair.ensures.unchanged c.is_in_progress.ensures.found c.if-is_in_progress.false,
+      pair_entered e.node c.in_ok-pair.pair.node.0 p (place_of c.in_ok-pair.pair) c.args.context.now c.new.new.context c.enter.new.context.in_progress (ap (λ (n : SchemaNode). n.0) c.in_ok-pair.ensures.node) c.in_ok-pair.ensures.place c.in_ok-pair.ensures.unchanged c.in_ok-enter.ensures.entered,
+    ) in
     let c2 = c.start_ref_visit-mark.new.self in
     let c3 = c.verdict_node.new.context in
     let pairs : c2.in_progress ≡ c.args.context.now.in_progress ++ (e.node, p) ∷ [] = ap (λ (z : Context). z.in_progress) c.start_ref_visit-mark.ensures.counted ∙ entered.1 in
@@ -1992,8 +2010,10 @@ verdict::guarded_verdict-returns-clause-stays g t c =
     let q = asking c.args.question.now in
     let p = steps_to c.args.question.now.place.now in
     let e = edge_of c.args.edge.now in
-    let entered : (list_any (λ i. i == e.node) (busy_at p c.args.context.now.in_progress) ≡ false) × (c.enter.new.context.in_progress ≡ c.args.context.now.in_progress ++ (e.node, p) ∷ []) = (pair_busy e.node c.in_ok-pair.pair.node.0 p (place_of c.in_ok-pair.pair) c.args.context.now c.new.new.context _ false (ap (λ (n : SchemaNode). n.0) c.in_ok-pair.ensures.node) c.in_ok-pair.ensures.place c.in_ok-pair.ensures.unchanged c.is_in_progress.ensures.found c.if-is_in_progress.false,
-        pair_entered e.node c.in_ok-pair.pair.node.0 p (place_of c.in_ok-pair.pair) c.args.context.now c.new.new.context c.enter.new.context.in_progress (ap (λ (n : SchemaNode). n.0) c.in_ok-pair.ensures.node) c.in_ok-pair.ensures.place c.in_ok-pair.ensures.unchanged c.in_ok-enter.ensures.entered) in
+    let entered : (list_any (λ i. i == e.node) (busy_at p c.args.context.now.in_progress) ≡ false) × (c.enter.new.context.in_progress ≡ c.args.context.now.in_progress ++ (e.node, p) ∷ []) = (
+      pair_busy e.node c.in_ok-pair.pair.node.0 p (place_of c.in_ok-pair.pair) c.args.context.now c.new.new.context _ false (ap (λ (n : SchemaNode). n.0) c.in_ok-pair.ensures.node) c.in_ok-pair.ensures.place c.in_ok-pair.ensures.unchanged c.is_in_progress.ensures.found c.if-is_in_progress.false,
+      pair_entered e.node c.in_ok-pair.pair.node.0 p (place_of c.in_ok-pair.pair) c.args.context.now c.new.new.context c.enter.new.context.in_progress (ap (λ (n : SchemaNode). n.0) c.in_ok-pair.ensures.node) c.in_ok-pair.ensures.place c.in_ok-pair.ensures.unchanged c.in_ok-enter.ensures.entered,
+    ) in
     let c2 = c.start_ref_visit-mark.new.self in
     let c3 = c.verdict_node.new.context in
     let pairs : c2.in_progress ≡ c.args.context.now.in_progress ++ (e.node, p) ∷ [] = ap (λ (z : Context). z.in_progress) c.start_ref_visit-mark.ensures.counted ∙ entered.1 in
@@ -2017,8 +2037,10 @@ verdict::guarded_verdict-returns-clause-remembers g t c =
     let q = asking c.args.question.now in
     let p = steps_to c.args.question.now.place.now in
     let e = edge_of c.args.edge.now in
-    let entered : (list_any (λ i. i == e.node) (busy_at p c.args.context.now.in_progress) ≡ false) × (c.enter.new.context.in_progress ≡ c.args.context.now.in_progress ++ (e.node, p) ∷ []) = (pair_busy e.node c.in_ok-pair.pair.node.0 p (place_of c.in_ok-pair.pair) c.args.context.now c.new.new.context _ false (ap (λ (n : SchemaNode). n.0) c.in_ok-pair.ensures.node) c.in_ok-pair.ensures.place c.in_ok-pair.ensures.unchanged c.is_in_progress.ensures.found c.if-is_in_progress.false,
-        pair_entered e.node c.in_ok-pair.pair.node.0 p (place_of c.in_ok-pair.pair) c.args.context.now c.new.new.context c.enter.new.context.in_progress (ap (λ (n : SchemaNode). n.0) c.in_ok-pair.ensures.node) c.in_ok-pair.ensures.place c.in_ok-pair.ensures.unchanged c.in_ok-enter.ensures.entered) in
+    let entered : (list_any (λ i. i == e.node) (busy_at p c.args.context.now.in_progress) ≡ false) × (c.enter.new.context.in_progress ≡ c.args.context.now.in_progress ++ (e.node, p) ∷ []) = (
+      pair_busy e.node c.in_ok-pair.pair.node.0 p (place_of c.in_ok-pair.pair) c.args.context.now c.new.new.context _ false (ap (λ (n : SchemaNode). n.0) c.in_ok-pair.ensures.node) c.in_ok-pair.ensures.place c.in_ok-pair.ensures.unchanged c.is_in_progress.ensures.found c.if-is_in_progress.false,
+      pair_entered e.node c.in_ok-pair.pair.node.0 p (place_of c.in_ok-pair.pair) c.args.context.now c.new.new.context c.enter.new.context.in_progress (ap (λ (n : SchemaNode). n.0) c.in_ok-pair.ensures.node) c.in_ok-pair.ensures.place c.in_ok-pair.ensures.unchanged c.in_ok-enter.ensures.entered,
+    ) in
     let c2 = c.start_ref_visit-mark.new.self in
     let c3 = c.verdict_node.new.context in
     let pairs : c2.in_progress ≡ c.args.context.now.in_progress ++ (e.node, p) ∷ [] = ap (λ (z : Context). z.in_progress) c.start_ref_visit-mark.ensures.counted ∙ entered.1 in
@@ -2056,8 +2078,10 @@ verdict::guarded_verdict-returns-clause-visits g t c =
     let c1 = c.enter.new.context in
     let c2 = c.start_ref_visit-mark.new.self in
     let c3 = c.verdict_node.new.context in
-    let entered : (list_any (λ i. i == e.node) (busy_at p c.args.context.now.in_progress) ≡ false) × (c.enter.new.context.in_progress ≡ c.args.context.now.in_progress ++ (e.node, p) ∷ []) = (pair_busy e.node c.in_ok-pair.pair.node.0 p (place_of c.in_ok-pair.pair) c.args.context.now c.new.new.context _ false (ap (λ (n : SchemaNode). n.0) c.in_ok-pair.ensures.node) c.in_ok-pair.ensures.place c.in_ok-pair.ensures.unchanged c.is_in_progress.ensures.found c.if-is_in_progress.false,
-        pair_entered e.node c.in_ok-pair.pair.node.0 p (place_of c.in_ok-pair.pair) c.args.context.now c.new.new.context c.enter.new.context.in_progress (ap (λ (n : SchemaNode). n.0) c.in_ok-pair.ensures.node) c.in_ok-pair.ensures.place c.in_ok-pair.ensures.unchanged c.in_ok-enter.ensures.entered) in
+    let entered : (list_any (λ i. i == e.node) (busy_at p c.args.context.now.in_progress) ≡ false) × (c.enter.new.context.in_progress ≡ c.args.context.now.in_progress ++ (e.node, p) ∷ []) = (
+      pair_busy e.node c.in_ok-pair.pair.node.0 p (place_of c.in_ok-pair.pair) c.args.context.now c.new.new.context _ false (ap (λ (n : SchemaNode). n.0) c.in_ok-pair.ensures.node) c.in_ok-pair.ensures.place c.in_ok-pair.ensures.unchanged c.is_in_progress.ensures.found c.if-is_in_progress.false,
+      pair_entered e.node c.in_ok-pair.pair.node.0 p (place_of c.in_ok-pair.pair) c.args.context.now c.new.new.context c.enter.new.context.in_progress (ap (λ (n : SchemaNode). n.0) c.in_ok-pair.ensures.node) c.in_ok-pair.ensures.place c.in_ok-pair.ensures.unchanged c.in_ok-enter.ensures.entered,
+    ) in
     let pairs : c2.in_progress ≡ c.args.context.now.in_progress ++ (e.node, p) ∷ [] = ap (λ (z : Context). z.in_progress) c.start_ref_visit-mark.ensures.counted ∙ entered.1 in
     let read = ap (λ (z : Context). z.verdicts) c.start_ref_visit-mark.ensures.counted ∙ (c.enter.ensures.verdicts ∙ ap (λ (z : Context). z.verdicts) c.in_ok-pair.ensures.unchanged) in
     let counted = ap (λ (z : Context). z.visits) c.start_ref_visit-mark.ensures.counted ∙ ap one_more (c.enter.ensures.visits ∙ ap (λ (z : Context). z.visits) c.in_ok-pair.ensures.unchanged) in
@@ -2075,8 +2099,10 @@ verdict::guarded_verdict-verdict_node-requires g t c =
     let p = steps_to c.args.question.now.place.now in
     let e = edge_of c.args.edge.now in
     let s = subject_of c.args.question.now.instance in
-    let entered : (list_any (λ i. i == e.node) (busy_at p c.args.context.now.in_progress) ≡ false) × (c.enter.new.context.in_progress ≡ c.args.context.now.in_progress ++ (e.node, p) ∷ []) = (pair_busy e.node c.in_ok-pair.pair.node.0 p (place_of c.in_ok-pair.pair) c.args.context.now c.new.new.context _ false (ap (λ (n : SchemaNode). n.0) c.in_ok-pair.ensures.node) c.in_ok-pair.ensures.place c.in_ok-pair.ensures.unchanged c.is_in_progress.ensures.found c.if-is_in_progress.false,
-        pair_entered e.node c.in_ok-pair.pair.node.0 p (place_of c.in_ok-pair.pair) c.args.context.now c.new.new.context c.enter.new.context.in_progress (ap (λ (n : SchemaNode). n.0) c.in_ok-pair.ensures.node) c.in_ok-pair.ensures.place c.in_ok-pair.ensures.unchanged c.in_ok-enter.ensures.entered) in
+    let entered : (list_any (λ i. i == e.node) (busy_at p c.args.context.now.in_progress) ≡ false) × (c.enter.new.context.in_progress ≡ c.args.context.now.in_progress ++ (e.node, p) ∷ []) = (
+      pair_busy e.node c.in_ok-pair.pair.node.0 p (place_of c.in_ok-pair.pair) c.args.context.now c.new.new.context _ false (ap (λ (n : SchemaNode). n.0) c.in_ok-pair.ensures.node) c.in_ok-pair.ensures.place c.in_ok-pair.ensures.unchanged c.is_in_progress.ensures.found c.if-is_in_progress.false,
+      pair_entered e.node c.in_ok-pair.pair.node.0 p (place_of c.in_ok-pair.pair) c.args.context.now c.new.new.context c.enter.new.context.in_progress (ap (λ (n : SchemaNode). n.0) c.in_ok-pair.ensures.node) c.in_ok-pair.ensures.place c.in_ok-pair.ensures.unchanged c.in_ok-enter.ensures.entered,
+    ) in
     let pairs = ap (λ (z : Context). z.in_progress) c.start_ref_visit-mark.ensures.counted in
     let new : c.start_ref_visit-mark.new.self.in_progress ≡ c.args.context.now.in_progress ++ (e.node, p) ∷ [] = pairs ∙ entered.1 in
     let busy : busy_at p c.start_ref_visit-mark.new.self.in_progress ≡ e.node ∷ busy_at p c.args.context.now.in_progress = ap (busy_at p) new ∙ busy-pushed p e.node c.args.context.now.in_progress in
