@@ -1,20 +1,20 @@
 -- What a search over the nodes' errors answers, is what is said of the calls.
 use Rattle.std.proofs.Common.{◌≤◌, ◌≡◌, ◌∙◌, ◌&&◌, ◌⊎◌, inl, inr, ℕ, zero, Bool, true, false, List, [], ◌∷◌, refl, sym, ap, subst, arith, map, Some, None}
-use Rattle.std.specs.Prelude.{All, Contains, IfSome, Option, is_none, is_some, option_map, slice_get, unwrap_or}
+use Rattle.std.specs.Prelude.{All, Contains, IfSome, Option, find, is_none, is_some, not, option_map, slice_get, unwrap_or}
 use Rattle.std.specs.Global.{Vec}
 use Rattle.std.proofs.lemmas.List.Elements.{All-cons, All-contains, All-contains_itself, All-head, All-nil, All-tail, All-weaker}
 use Rattle.serde_json.specs.Data.{Data}
 use Rattle.schema_definitions.specs.Instance.{Place, Subject, Text, a_value, subject_at}
 use Rattle.schema_reports.specs.InstanceViews.{subject_of}
 use Rattle.schema_definitions.specs.Reports.{Error, Outcome, report_of}
-use Rattle.schema_definitions.specs.Matching.{Assumptions, Completion, Extends, Matcher, completion_of}
+use Rattle.schema_definitions.specs.Matching.{Assumptions, Completion, Extends, Matcher, assumed, completion_of}
 use Rattle.schema_definitions.specs.Keywords.{Keywords, for_all, for_first, for_units}
 use Rattle.schema_definitions.specs.Runs.{Met, Run, first_error}
 use Rattle.schema_definitions.specs.Unfinished.{Failure, Remembered, starting}
 use Rattle.schema_definitions.specs.Cover.{Call, Cover, Decides, Sense, branch_at, evaluate, iter_errors, mode_of, validate, whole}
 use Rattle.schema_meaning.specs.Headline.{ErrorsOf, ErrorsSay, FirstSays, IsFailure, OneFailure, VerdictSays, shown_at}
 use Rattle.schema_definitions.specs.Laws.{Agrees, EachKeeps}
-use Rattle.schema_meaning.specs.Members.{Follows, Speaks, is_nil, verdict_of}
+use Rattle.schema_meaning.specs.Members.{Finishes, Follows, Speaks, is_nil, verdict_of}
 use Rattle.schema_meaning.specs.Shared.{errors_of}
 use Rattle.schema_search.specs.SharedResults.{is_empty}
 use Rattle.schema_search.specs.Outcomes.{errors_in, none_in}
@@ -31,6 +31,7 @@ use Rattle.schema_reports.specs.ReportViews.{BorrowsItsPlace, error_of}
 use Rattle.schema_reports.specs.declared.reports.ValidationError.{ValidationError}
 use Rattle.schema_meaning.proofs.CoverCounts.{pairs_differ}
 use Rattle.schema_meaning.proofs.ErrorsLead.{Stands}
+use Rattle.schema_meaning.proofs.Finishing.{nodes_decide}
 use Rattle.schema_meaning.proofs.ShownPlaces.{shown_stands}
 use Rattle.schema_meaning.proofs.Sentences.{errors_say, evaluate_later, first_says, listed_alone, validate_later, verdict_says}
 use Rattle.schema_meaning.proofs.SitesInside.{MetInside, sites_inside}
@@ -144,23 +145,18 @@ module _ {K R : Type 0} (keywords : Keywords K R) (each : EachKeeps keywords) (m
   first_alone : branch_at v validate [] ≡ None → (o : Option Error) → o ≡ first_error (errors_of v []) → FirstSays v most o
   first_alone none o e = subst (FirstSays v most) (ap first_error (listed_alone v [] any_error) ∙ sym e) (first_says v follows_it [] [] any_error most ([] ∷ []) (alone validate none) refl (omega arith) (no_failure validate none))
 
-  pub errors_first : (texts : Bool) (es : List ValidationError) (r : Remembered) → map (error_of texts) es ≡ ((run_under []).outcome tt).errors → MeetsEach matcher (starting []) ((run_under []).met for_all) r → r.unassumed ≡ None → ErrorsAnswered v most texts es
-  errors_first true es r says met none = errors_alone (no_branch iter_errors r met none) (map (error_of true) es) (told [] _ says)
-  errors_first false es r says met none =
-      let branch = no_branch iter_errors r met none in
-      record {
-        verdict = verdict_alone iter_errors branch (is_empty es) (nil_told false es ∙ nil_is (map (error_of false) es) (told [] _ says));
-        given = inl (given_of v false es (completion_of []) (told [] _ says));
-        undecided = λ not. absurd (not (decides iter_errors branch));
-        alone = λ e. errors_alone branch (map (error_of false) es) (told [] _ says);
-      }
+  errors_whole : (texts : Bool) (es : List ValidationError) → map (error_of texts) es ≡ ((run_under []).outcome tt).errors → branch_at v iter_errors [] ≡ None → ErrorsAnswered v most texts es
+  errors_whole true es says branch = errors_alone branch (map (error_of true) es) (told [] _ says)
+  errors_whole false es says branch = record {
+    verdict = verdict_alone iter_errors branch (is_empty es) (nil_told false es ∙ nil_is (map (error_of false) es) (told [] _ says));
+    given = inl (given_of v false es (completion_of []) (told [] _ says));
+    undecided = λ not. absurd (not (decides iter_errors branch));
+    alone = λ e. errors_alone branch (map (error_of false) es) (told [] _ says);
+  }
 
-  pub first_first : (texts : Bool) (o : Option ValidationError) (r : Remembered) → option_map (error_of texts) o ≡ first_error ((run_under []).outcome tt).errors → MeetsEach matcher (starting []) ((run_under []).met for_first) r → r.unassumed ≡ None → FirstAnswered v most texts o
-  first_first texts o r says met none = go texts o (says ∙ ap (λ (o : Outcome). first_error o.errors) (outcome keywords each matcher nodes instance root n []))
+  first_whole : (texts : Bool) (o : Option ValidationError) → option_map (error_of texts) o ≡ first_error ((run_under []).outcome tt).errors → branch_at v validate [] ≡ None → FirstAnswered v most texts o
+  first_whole texts o says branch = go texts o (says ∙ ap (λ (o : Outcome). first_error o.errors) (outcome keywords each matcher nodes instance root n []))
     where
-      branch : branch_at v validate [] ≡ None
-      branch = no_branch validate r met none
-
       given : (o : Option ValidationError) → option_map (error_of false) o ≡ first_error (errors_of v []) → IfSome o (λ e. IsGiven v false e ⊎ IsFailure v validate (error_of true e))
       given None e = tt
       given (Some x) e = inl (completion_of [], in_first (errors_of v []) (error_of false x) e)
@@ -173,6 +169,29 @@ module _ {K R : Type 0} (keywords : Keywords K R) (each : EachKeeps keywords) (m
         undecided = λ not. absurd (not (decides validate branch));
         alone = λ k. first_alone branch (option_map (error_of false) o) e;
       }
+
+  pub errors_first : (texts : Bool) (es : List ValidationError) (r : Remembered) → map (error_of texts) es ≡ ((run_under []).outcome tt).errors → MeetsEach matcher (starting []) ((run_under []).met for_all) r → r.unassumed ≡ None → ErrorsAnswered v most texts es
+  errors_first texts es r says met none = errors_whole texts es says (no_branch iter_errors r met none)
+
+  pub first_first : (texts : Bool) (o : Option ValidationError) (r : Remembered) → option_map (error_of texts) o ≡ first_error ((run_under []).outcome tt).errors → MeetsEach matcher (starting []) ((run_under []).met for_first) r → r.unassumed ≡ None → FirstAnswered v most texts o
+  first_first texts o r says met none = first_whole texts o says (no_branch validate r met none)
+
+  -- ---- a matcher that finishes every match: no run meets one, so that a yes says that there is no error
+
+  module _ (finishes : Finishes matcher) where
+    none_met : (call : Call) → branch_at v call [] ≡ None
+    none_met call = ap (find (λ (m : Met). not (is_some (assumed [] m.pair)))) ((nodes_decide keywords matcher finishes nodes (subject_in instance) n root).meets_none call [])
+
+    no_error : true ≡ ((run_under []).outcome tt).verdict → [] ≡ ((run_under []).outcome tt).errors
+    no_error accepts =
+        let agrees : Agrees ((run_under []).outcome tt) = subst Agrees (sym (outcome keywords each matcher nodes instance root n [])) (follows_it.agrees (completion_of [])) in
+        sym (agrees.0 (sym accepts))
+
+    pub errors_at_once : (texts : Bool) → true ≡ ((run_under []).outcome tt).verdict → ErrorsAnswered v most texts []
+    errors_at_once texts accepts = errors_whole texts [] (no_error accepts) (none_met iter_errors)
+
+    pub first_at_once : (texts : Bool) → true ≡ ((run_under []).outcome tt).verdict → FirstAnswered v most texts None
+    first_at_once texts accepts = first_whole texts None (ap first_error (no_error accepts)) (none_met validate)
 
   -- ---- an evaluation whose first run meets no unfinished match
 

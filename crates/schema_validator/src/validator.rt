@@ -1,5 +1,5 @@
 //! A validator: what it answers of instances.
-ghost use Rattle.std.specs.Prelude.{◌≡◌, ◌↔◌, [], false, true, Bool, Option, IfOk, All, IfSome, IsSome, length, slice_get, ◌<◌, ◌≤◌};
+ghost use Rattle.std.specs.Prelude.{◌≡◌, ◌↔◌, [], false, true, Bool, None, Option, IfOk, All, IfSome, IsSome, length, slice_get, ◌<◌, ◌≤◌};
 ghost use Rattle.serde_json.specs.View.{view};
 ghost use Rattle.schema_keywords.specs.KeywordViews.{draft_of};
 ghost use Rattle.schema_definitions.specs.Unfinished.{starting};
@@ -252,6 +252,21 @@ impl<K: Validate, M: Matcher> Validator<K, M> {
         )
     }
 
+    // Whether the matcher finishes every match, and the root's node accepts the instance: then it has no error. `false` says nothing.
+    fn accepts_at_once(&self, alloc: Global, instance: &Value) -> Result<bool, OutOfMemory>
+        ensures first { IfOk result (λ accepts. accepts ≡ true → FirstFromSomeDepth
+            K.Validate M.Matcher.own self.now (view instance.now) None) }
+        ensures errors { IfOk result (λ accepts. accepts ≡ true → ErrorsFromSomeDepth
+            K.Validate M.Matcher.own self.now (view instance.now) []) }
+    {
+        if !self.matcher.finishes() {
+            return Ok(false);
+        }
+        let (met, accepts) = self.verdict(alloc, instance, MatchAssumptions::new(alloc))?;
+        drop(met);
+        Ok(accepts)
+    }
+
     // The first error of the root's node, where nothing is assumed.
     fn first<'i>(
         &self,
@@ -319,8 +334,8 @@ impl<K: Validate, M: Matcher> Validator<K, M> {
         Ok(shared)
     }
 
-    // The first of the errors that every outcome of the unfinished matches gives. Where the first run meets such a match, the
-    // further runs want all errors.
+    // The first of the errors that every outcome of the unfinished matches gives. Where the matcher finishes every match, the
+    // verdict is asked first. Where the first run meets an unfinished one, the further runs want all errors.
     fn first_under_each<'i>(
         &self,
         alloc: Global,
@@ -330,6 +345,10 @@ impl<K: Validate, M: Matcher> Validator<K, M> {
             K.Validate M.Matcher.own self.now (view instance.now) e) }
         ensures borrows { IfOk result (λ e. IfSome e (BorrowsItsPlace (view instance.now))) }
     {
+        let accepts = self.accepts_at_once(alloc, instance)?;
+        if accepts {
+            return Ok(None);
+        }
         let (met, error) = self.first(alloc, instance)?;
         if !met.met_unassumed() {
             drop(met);
@@ -340,7 +359,8 @@ impl<K: Validate, M: Matcher> Validator<K, M> {
         Ok(first_of(shared))
     }
 
-    // The errors that every outcome of the unfinished matches gives.
+    // The errors that every outcome of the unfinished matches gives. Where the matcher finishes every match, the verdict is asked
+    // first.
     fn all_under_each<'i>(
         &self,
         alloc: Global,
@@ -350,6 +370,10 @@ impl<K: Validate, M: Matcher> Validator<K, M> {
             K.Validate M.Matcher.own self.now (view instance.now) es.items) }
         ensures borrows { IfOk result (λ es. All (BorrowsItsPlace (view instance.now)) es.items) }
     {
+        let accepts = self.accepts_at_once(alloc, instance)?;
+        if accepts {
+            return Ok(Vec::new(alloc));
+        }
         let (met, errors) = self.errors(alloc, instance, MatchAssumptions::new(alloc))?;
         if !met.met_unassumed() {
             drop(met);
@@ -438,7 +462,8 @@ impl<K: Validate, M: Matcher> Validator<K, M> {
     /// unfinished, the error is the first that all outcomes of them share. It tells of such a match instead if some outcome
     /// refuses and they share no error, or if that takes more runs than a call makes. Any other error is one that the nodes give
     /// under some outcome, so it points at keyword and value as the build promises of these. Where each keyword is monotone, there
-    /// is no error exactly if the greatest solution of the nodes accepts.
+    /// is no error exactly if the greatest solution of the nodes accepts. Where the matcher says that it finishes every match, the
+    /// verdict is asked first, and the error only where the verdict is no.
     ///
     /// # Errors
     ///
@@ -466,7 +491,8 @@ impl<K: Validate, M: Matcher> Validator<K, M> {
     /// errors that all outcomes of them share. There is one error, which tells of such a match, if some outcome refuses and
     /// they share no error, or if that takes more runs than a call makes. Any other error is one that the nodes give under some
     /// outcome, so it points at keyword and value as the build promises of these. Where each keyword is monotone, there is no error
-    /// exactly if the greatest solution of the nodes accepts.
+    /// exactly if the greatest solution of the nodes accepts. Where the matcher says that it finishes every match, the verdict is
+    /// asked first, and the errors only where the verdict is no.
     ///
     /// # Errors
     ///
