@@ -1,0 +1,13 @@
+use Rattle.std.proofs.Common.{◌≡◌, ◌∙◌, ◌==◌, [], ◌∷◌, ℕ, Bool, Global, List, String, ap, arith, length, map, string_bytes, subst, suc, sym, true}
+use Rattle.std.proofs.lemmas.Bool.{eqb-true}
+use Rattle.schema_parts.specs.MatcherViews.{FinishesEach}
+use Rattle.bench_parts.specs.BenchMatching.{bench_matcher}
+use Rattle.bench_parts.proofs.matcher.BenchMatcherMatcher.finishes.Goals as goal
+
+-- where no pattern is left unfinished, no match is
+finishes_each : (b : Bool) (texts : List (String Global)) → b ≡ (length texts == 0) → b ≡ true → FinishesEach (bench_matcher (map string_bytes texts))
+finishes_each b [] e h = λ pattern subject reason left. absurd (cc left)
+finishes_each b (x ∷ texts) e h = absurd (let none : suc (length texts) ≡ 0 = eqb-true (suc (length texts)) 0 (sym e ∙ h) in omega arith)
+
+pub returns : goal.returns
+returns c = record { finishes = λ says. subst (λ ps. FinishesEach (bench_matcher ps)) c.self.view_is (finishes_each c.is_empty.result c.self.inside.unfinished.items (c.is_empty.ensures ∙ ap (λ (n : ℕ). n == 0) c.self.inside.unfinished.ok.0) says) }
