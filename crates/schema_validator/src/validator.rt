@@ -259,12 +259,12 @@ impl<K: Validate, M: Matcher> Validator<K, M> {
         ensures errors { IfOk result (λ accepts. accepts ≡ true → ErrorsFromSomeDepth
             K.Validate M.Matcher.own self.now (view instance.now) []) }
     {
-        if !self.matcher.finishes() {
-            return Ok(false);
+        if self.matcher.finishes() {
+            let (met, accepts) = self.verdict(alloc, instance, MatchAssumptions::new(alloc))?;
+            drop(met);
+            return Ok(accepts);
         }
-        let (met, accepts) = self.verdict(alloc, instance, MatchAssumptions::new(alloc))?;
-        drop(met);
-        Ok(accepts)
+        Ok(false)
     }
 
     // The first error of the root's node, where nothing is assumed.

@@ -22,8 +22,8 @@ finishes_of matcher each pattern text = go (matcher.is_match pattern text) refl
     go (finished b) e = (b, e)
     go (unfinished reason) e = absurd (each pattern text reason e)
 
-pub returns-clause-first : goal.returns-clause-first
-returns-clause-first g c = λ accepts texts speaks.
+pub returns-then-finishes-clause-first : goal.returns-then-finishes-clause-first
+returns-then-finishes-clause-first g c = λ accepts texts speaks.
     let w = g.K.Validate in
     let p = c.args.self.now in
     let d = view c.args.instance.now in
@@ -31,14 +31,14 @@ returns-clause-first g c = λ accepts texts speaks.
     let deep = left nodes (length p.nodes) p.root (subject_in d []) [] in
     let each : EachKeeps (w.words texts) = λ m. (w.absorbed m, keeps_of_turns (w.words texts) m (w.absorbed m) (w.remaining m) (w.can_be texts m) (w.ends texts m) (w.fits texts m) (g.met.K.Validate.turn_laws texts m) (g.met.K.Validate.function_laws texts m)) in
     let says = subst (λ (r : Remembered). SaysVerdict w.shape w.words w.is_whole g.M.Matcher.matching p d r.assumptions c.in_ok-met.accepts) c.new.ensures.starts c.in_ok-met.ensures.says in
-    let none_left = subst (λ (p : Program g.row.K.Denot g.row.M.Denot). FinishesEach (g.M.Matcher.matching p.matcher)) c.self.view_is (c.finishes.ensures.finishes c.if-not-finishes.false) in
+    let none_left = subst (λ (p : Program g.row.K.Denot g.row.M.Denot). FinishesEach (g.M.Matcher.matching p.matcher)) c.self.view_is (c.finishes.ensures.finishes c.if-finishes.true) in
     let finishes = finishes_of (g.M.Matcher.matching p.matcher) none_left in (
       suc deep,
       λ n more. first_at_once (w.words texts) each (g.M.Matcher.matching p.matcher) nodes d p.root n p.runs c.in_ok-met.ensures.makes_one finishes texts (sym accepts ∙ says texts speaks nothing_twice n (omega (arith, more))),
     )
 
-pub returns-clause-errors : goal.returns-clause-errors
-returns-clause-errors g c = λ accepts texts speaks.
+pub returns-then-finishes-clause-errors : goal.returns-then-finishes-clause-errors
+returns-then-finishes-clause-errors g c = λ accepts texts speaks.
     let w = g.K.Validate in
     let p = c.args.self.now in
     let d = view c.args.instance.now in
@@ -46,7 +46,7 @@ returns-clause-errors g c = λ accepts texts speaks.
     let deep = left nodes (length p.nodes) p.root (subject_in d []) [] in
     let each : EachKeeps (w.words texts) = λ m. (w.absorbed m, keeps_of_turns (w.words texts) m (w.absorbed m) (w.remaining m) (w.can_be texts m) (w.ends texts m) (w.fits texts m) (g.met.K.Validate.turn_laws texts m) (g.met.K.Validate.function_laws texts m)) in
     let says = subst (λ (r : Remembered). SaysVerdict w.shape w.words w.is_whole g.M.Matcher.matching p d r.assumptions c.in_ok-met.accepts) c.new.ensures.starts c.in_ok-met.ensures.says in
-    let none_left = subst (λ (p : Program g.row.K.Denot g.row.M.Denot). FinishesEach (g.M.Matcher.matching p.matcher)) c.self.view_is (c.finishes.ensures.finishes c.if-not-finishes.false) in
+    let none_left = subst (λ (p : Program g.row.K.Denot g.row.M.Denot). FinishesEach (g.M.Matcher.matching p.matcher)) c.self.view_is (c.finishes.ensures.finishes c.if-finishes.true) in
     let finishes = finishes_of (g.M.Matcher.matching p.matcher) none_left in (
       suc deep,
       λ n more. errors_at_once (w.words texts) each (g.M.Matcher.matching p.matcher) nodes d p.root n p.runs c.in_ok-met.ensures.makes_one finishes texts (sym accepts ∙ says texts speaks nothing_twice n (omega (arith, more))),
