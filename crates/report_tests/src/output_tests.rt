@@ -192,12 +192,21 @@ fn list_again(rt: &impl Abort, alloc: Global, evaluation: &Evaluation) -> Value 
     }
 }
 
-/// Whether the list of an evaluation has this text.
+/// The text of an evaluation's list, asked for in the same way.
+fn list_text_again(rt: &impl Abort, alloc: Global, evaluation: &Evaluation) -> String {
+    match evaluation.list_text(alloc) {
+        Ok(text) => text,
+        Err(_) => evaluation.list_text(alloc).expect(rt, "memory"),
+    }
+}
+
+/// Whether the list of an evaluation has this text, as a value and written at once.
 fn is_listed(rt: &impl Abort, alloc: Global, evaluation: &Evaluation, want: &str) -> bool {
     let list = list_again(rt, alloc, evaluation);
     let text = list.to_string(alloc);
     drop(list);
-    is_text(text.expect(rt, "memory"), want)
+    let written = list_text_again(rt, alloc, evaluation);
+    is_text(text.expect(rt, "memory"), want) && is_text(written, want)
 }
 
 /// Whether the evaluation with a row's unit outermost shows what the row says.

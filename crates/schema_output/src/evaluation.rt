@@ -1,6 +1,11 @@
 //! An evaluation of an instance: its units, and what is shown of them. (Core 2020-12, 12.4)
-ghost use Rattle.std.specs.Prelude.{◌≡◌, Bool, IfOk, map, true};
+ghost use Rattle.std.specs.Prelude.{◌≡◌, ◌≤◌, Bool, IfOk, Some, false, map, string_bytes, true};
+ghost use Rattle.json.specs.Lex.{tokens};
+ghost use Rattle.json.specs.Print.{print};
+ghost use Rattle.serde_json.specs.Data.{depth};
+ghost use Rattle.serde_json.specs.Read.{max_depth, read};
 ghost use Rattle.serde_json.specs.View.{view};
+ghost use Rattle.serde_json.specs.Written.{IsInOrder, compact_text, has_float};
 ghost use Rattle.schema_definitions.specs.Reports.{report_of};
 ghost use Rattle.schema_reports.specs.UnitViews.{unit_of};
 ghost use Rattle.schema_output.specs.EntryViews.{shown_of};
@@ -8,6 +13,7 @@ ghost use Rattle.schema_output.specs.Output.{output_list, shown_in};
 
 use crate::errors::{EvaluationErrors, push_errors};
 use crate::list::output_list;
+use crate::text::output_text;
 use schema_reports::evaluation::EvaluationNode;
 use schema_reports::location::OutOfMemory;
 use serde_json::Value;
@@ -55,6 +61,19 @@ impl Evaluation {
         ensures list { IfOk result (λ v. view v ≡ output_list (unit_of true self.now)) }
     {
         output_list(alloc, &self.root)
+    }
+
+    /// Returns the text of `list` as JSON with no space. It makes no value of the whole list, so it is cheaper than the text of
+    /// that value. Fails only if memory cannot be allocated.
+    pub fn list_text(&self, alloc: Global) -> Result<String, OutOfMemory>
+        ensures text { IfOk result (λ s. has_float (output_list (unit_of true self.now)) ≡ false
+            → string_bytes s ≡ compact_text (output_list (unit_of true self.now))) }
+        ensures compact { IfOk result (λ s. string_bytes s ≡ print (tokens (string_bytes s))) }
+        ensures order { IfOk result (λ s. IsInOrder (string_bytes s) (output_list (unit_of true self.now))) }
+        ensures reads_back { IfOk result (λ s. depth (output_list (unit_of true self.now)) ≤ max_depth
+            → read (string_bytes s) ≡ Some (output_list (unit_of true self.now))) }
+    {
+        output_text(alloc, &self.root)
     }
 
     /// Returns an iterator over the errors of the units, each with its unit: a unit's errors in their order, and before those of

@@ -6,3 +6,4 @@ pub mod errors;
 pub mod evaluation;
 pub mod list;
 pub mod rows;
+mod text;

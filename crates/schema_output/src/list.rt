@@ -98,8 +98,8 @@ fn put_annotations(
     }
 }
 
-// The URI of a unit's place in the schema where it has one, else that place as a pointer.
-fn schema_location(report: &UnitReport) -> &str
+/// The URI of a unit's place in the schema where it has one, else that place as a pointer.
+pub(crate) fn schema_location(report: &UnitReport) -> &str
     ensures location { result.now ≡ schema_location (report_in true report.now) }
 {
     match &report.absolute_keyword_location {
@@ -108,8 +108,8 @@ fn schema_location(report: &UnitReport) -> &str
     }
 }
 
-// What a unit says of itself, as an object.
-fn unit_object(alloc: Global, report: &UnitReport) -> Result<Value, OutOfMemory>
+/// What a unit says of itself, as an object.
+pub(crate) fn unit_object(alloc: Global, report: &UnitReport) -> Result<Value, OutOfMemory>
     ensures object { IfOk result (λ v. view v ≡ unit_object (report_in true report.now)) }
 {
     let mut object = Map::new(alloc);

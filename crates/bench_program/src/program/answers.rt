@@ -5,7 +5,9 @@ ghost use Rattle.serde_json.specs.View.{view};
 ghost use Rattle.schema_definitions.specs.Making.{Table};
 ghost use Rattle.schema_definitions.specs.Matching.{Matcher};
 ghost use Rattle.schema_definitions.specs.Resolving.{Resolver};
+ghost use Rattle.schema_output.specs.Output.{output_list};
 ghost use Rattle.schema_reports.specs.ReportViews.{error_of};
+ghost use Rattle.schema_reports.specs.UnitViews.{unit_of};
 ghost use Rattle.schema_validator.specs.Handed.{Options};
 ghost use Rattle.bench_resolver.specs.BenchStates.{Point};
 ghost use Rattle.bench_keywords.specs.BenchShape.{BenchShape};
@@ -19,6 +21,7 @@ use crate::program::requests::Call;
 use bench_keywords::keyword::BenchKeyword;
 use bench_parts::matcher::BenchMatcher;
 use schema_engine::validator::Validator;
+use schema_output::evaluation::Evaluation;
 use schema_reports::location::OutOfMemory;
 use schema_reports::reports::ValidationError;
 use serde_json::Value;
@@ -146,15 +149,15 @@ fn evaluation(
 {
     let evaluation = validator.evaluate(alloc, instance)?;
     let accepted = evaluation.is_valid();
-    let text = json_line(alloc, &evaluation.list(alloc)?)?;
+    let text = list_line(alloc, &evaluation)?;
     Ok(Answer { accepted, text })
 }
 
-/// A value as JSON on one line, with a line feed.
-fn json_line(alloc: Global, value: &Value) -> Result<String, OutOfMemory>
-    ensures line { IfOk result (λ text. IsJsonLine (view value.now) (string_bytes text)) }
+/// The list of an evaluation as JSON on one line, with a line feed.
+fn list_line(alloc: Global, evaluation: &Evaluation) -> Result<String, OutOfMemory>
+    ensures line { IfOk result (λ text. IsJsonLine (output_list (unit_of true evaluation.now)) (string_bytes text)) }
 {
-    let mut text = value.to_string(alloc)?;
+    let mut text = evaluation.list_text(alloc)?;
     text.push_str("\n")?;
     Ok(text)
 }

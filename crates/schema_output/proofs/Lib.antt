@@ -1,0 +1,6 @@
+mod PlainBytes
+mod Pushes
+mod Printing
+mod Opened
+mod Following
+mod Shorts

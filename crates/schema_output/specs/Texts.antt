@@ -1,0 +1,62 @@
+-- What the text of the list format is, and what its parts are while it is written.
+use Rattle.std.specs.Prelude.{Bool, List, Some, [], codes, false, map, ◌++◌, ◌∷◌, ◌≡◌, ◌≤◌}
+use Rattle.json.specs.Json as json
+use Rattle.json.specs.Lex.{tokens}
+use Rattle.json.specs.Print.{print, quoted}
+use Rattle.json.specs.Tree.{HasNumbers, json_tokens}
+use Rattle.serde_json.specs.Data.{Data, boolean, depth}
+use Rattle.serde_json.specs.Read.{max_depth, of_json, read}
+use Rattle.serde_json.specs.Written.{IsInOrder, blank, compact_text, has_float, outline}
+use Rattle.schema_definitions.specs.Instance.{Text}
+use Rattle.schema_definitions.specs.Reports.{Described, Report, Unit_, children_of}
+use Rattle.schema_output.specs.Output.{reports_in_each, schema_location, unit_object}
+
+-- a value as JSON: the compact text of a value that holds no fraction. The digits of a fraction are not said; of any value, the
+-- text has no space, has its items and members in their order, members in the byte order of their names, and is read as the value
+-- where that nests no deeper than a reader goes
+pub record IsJsonText (d : Data) (text : Text) : Type 0 where
+  pub compact : has_float d ≡ false → text ≡ compact_text d
+  pub spaceless : text ≡ print (tokens text)
+  pub ordered : IsInOrder text d
+  pub reads_back : depth d ≤ max_depth → read text ≡ Some d
+
+-- ---- for private clauses
+
+-- the text is that of some JSON, which says what the value does
+pub record Prints (d : Data) (text : Text) : Type 0 where
+  pub json : json.Json
+  pub printed : text ≡ print (json_tokens json)
+  pub numbers : HasNumbers json
+  pub same : blank json ≡ outline d
+  pub reads : depth d ≤ max_depth → of_json json ≡ Some d
+
+-- texts of these values, each after a comma, stand behind what was there
+abbrev pub Follow : List Data → Text → Text → Type 0
+Follow [] old new = new ≡ old
+Follow (d ∷ ds) old new = (text : Text) × Prints d text × Follow ds (old ++ 44 ∷ text) new
+
+-- the objects of the units inside a unit, one by one
+abbrev pub objects_below : Unit_ → List Data
+objects_below u = map unit_object (reports_in_each (children_of u))
+
+-- the last member that every unit has, and the end of its object
+abbrev pub valid_text : Bool → Text
+valid_text valid = codes ",\"valid\":" ++ (compact_text (boolean valid) ++ 125 ∷ [])
+
+-- the members that every unit has, and the end of its object
+abbrev pub places_text : Report → Text
+places_text r =
+    codes "\"evaluationPath\":" ++ (quoted r.evaluation_path
+    ++ (codes ",\"instanceLocation\":" ++ (quoted r.instance_location
+    ++ (codes ",\"schemaLocation\":" ++ (quoted (schema_location r) ++ valid_text r.valid)))))
+
+-- the member of one error, with a comma behind it
+abbrev pub error_text : Described → Text
+error_text d = codes "\"errors\":{" ++ (quoted d.name ++ (codes ":" ++ (quoted d.text ++ codes "},")))
+
+-- what stands before the first unit, and what behind the last
+abbrev pub opening : Text
+opening = codes "{\"details\":["
+
+abbrev pub closing : Bool → Text
+closing valid = codes "],\"valid\":" ++ (compact_text (boolean valid) ++ 125 ∷ [])

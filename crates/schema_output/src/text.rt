@@ -1,0 +1,153 @@
+//! The text of the list format, written unit by unit. (Core 2020-12, 12.4.2)
+ghost use Rattle.std.specs.Prelude.{◌≡◌, ◌++◌, ◌∷◌, ◌≤◌, [], IfOk, None, length, string_bytes, true};
+ghost use Rattle.json.specs.Print.{escape, escape_byte, quoted};
+ghost use Rattle.serde_json.specs.Written.{compact_text};
+ghost use Rattle.schema_definitions.specs.Instance.{Text};
+ghost use Rattle.schema_reports.specs.UnitViews.{described_of, report_in, unit_of};
+ghost use Rattle.schema_output.specs.Output.{output_list, unit_object};
+ghost use Rattle.schema_output.specs.Texts.{Follow, IsJsonText, Prints, closing, error_text, objects_below, places_text, valid_text};
+
+use crate::list::{schema_location, unit_object};
+use schema_reports::evaluation::{ErrorDescription, EvaluationNode, UnitReport};
+use schema_reports::location::OutOfMemory;
+use serde_json::Value;
+use std::alloc::Global;
+
+// Whether a byte stands for itself between quotes: it is no quote, no backslash and no control character.
+#[tactic(auto, using(crate::proofs::PlainBytes::plain_byte))]
+fn is_plain_byte(byte: u8) -> bool
+    ensures plain { result ≡ true → escape_byte byte ≡ byte ∷ [] }
+{
+    if byte < 0x20 || byte == b'"' || byte == b'\\' {
+        return false;
+    }
+    true
+}
+
+// Whether a text stands for itself between quotes.
+fn is_plain(text: &[u8]) -> bool
+    ensures plain { result ≡ true → escape text.now ≡ text.now }
+{
+    for byte in text {
+        if !is_plain_byte(*byte) {
+            return false;
+        }
+    }
+    true
+}
+
+// Adds a text in quotes.
+fn push_quoted(alloc: Global, out: &mut String, text: &str) -> Result<(), OutOfMemory>
+    ensures quoted { IfOk result (λ _. string_bytes out.new ≡ string_bytes out.old ++ quoted text.now) }
+{
+    if is_plain(text.as_bytes()) {
+        out.push_str("\"")?;
+        out.push_str(text)?;
+        return out.push_str("\"");
+    }
+    let value = Value::String(String::from_str(alloc, text)?);
+    out.push_str(value.to_string(alloc)?.as_str())
+}
+
+// The last member that every unit has, and the end of its object.
+fn valid_text(valid: bool) -> &'static str
+    ensures text { result.now ≡ valid_text valid }
+{
+    if valid {
+        ",\"valid\":true}"
+    } else {
+        ",\"valid\":false}"
+    }
+}
+
+// Adds the members that every unit has, and closes its object.
+fn push_places(alloc: Global, out: &mut String, report: &UnitReport) -> Result<(), OutOfMemory>
+    ensures places { IfOk result (λ _. string_bytes out.new ≡ string_bytes out.old ++ places_text (report_in true report.now)) }
+{
+    out.push_str("\"evaluationPath\":")?;
+    push_quoted(alloc, out, report.evaluation_path.as_str())?;
+    out.push_str(",\"instanceLocation\":")?;
+    push_quoted(alloc, out, report.instance_location.as_str())?;
+    out.push_str(",\"schemaLocation\":")?;
+    push_quoted(alloc, out, schema_location(report))?;
+    out.push_str(valid_text(report.valid))
+}
+
+// Adds the member of a unit's one error.
+fn push_error(alloc: Global, out: &mut String, error: &ErrorDescription) -> Result<(), OutOfMemory>
+    ensures error { IfOk result (λ _. string_bytes out.new ≡ string_bytes out.old ++ error_text (described_of true error.now)) }
+{
+    out.push_str("\"errors\":{")?;
+    push_quoted(alloc, out, error.keyword.as_str())?;
+    out.push_str(":")?;
+    push_quoted(alloc, out, error.text.as_str())?;
+    out.push_str("},")
+}
+
+// Adds the object of a unit that has no annotations and one error at most.
+fn push_short(alloc: Global, out: &mut String, report: &UnitReport) -> Result<(), OutOfMemory>
+    requires short { (report.now.annotations ≡ None) × (length report.now.errors.items ≤ 1) }
+    ensures pushed { IfOk result (λ _. string_bytes out.new
+        ≡ string_bytes out.old ++ compact_text (unit_object (report_in true report.now))) }
+{
+    out.push_str("{")?;
+    if let Some(error) = report.errors.first() {
+        push_error(alloc, out, error)?;
+    }
+    push_places(alloc, out, report)
+}
+
+// Adds the object of a unit, by way of a value.
+fn push_value(alloc: Global, out: &mut String, report: &UnitReport) -> Result<(), OutOfMemory>
+    ensures pushed { IfOk result (λ _. (text : Text) × Prints (unit_object (report_in true report.now)) text
+        × (string_bytes out.new ≡ string_bytes out.old ++ text)) }
+{
+    let text = unit_object(alloc, report)?.to_string(alloc)?;
+    out.push_str(text.as_str())
+}
+
+// Adds the object of a unit.
+fn push_unit(alloc: Global, out: &mut String, report: &UnitReport) -> Result<(), OutOfMemory>
+    ensures pushed { IfOk result (λ _. (text : Text) × Prints (unit_object (report_in true report.now)) text
+        × (string_bytes out.new ≡ string_bytes out.old ++ text)) }
+{
+    if report.annotations.is_none() && report.errors.len() <= 1 {
+        push_short(alloc, out, report)
+    } else {
+        push_value(alloc, out, report)
+    }
+}
+
+// Adds the objects of the units inside a unit, each after a comma.
+fn push_below(alloc: Global, out: &mut String, node: &EvaluationNode) -> Result<(), OutOfMemory>
+    ensures pushed { IfOk result (λ _. Follow (objects_below (unit_of true node.now)) (string_bytes out.old) (string_bytes out.new)) }
+{
+    for child in &node.children {
+        out.push_str(",")?;
+        push_unit(alloc, out, &child.report)?;
+        push_below(alloc, out, child)?;
+    }
+    Ok(())
+}
+
+// What stands behind the last unit.
+fn closing(valid: bool) -> &'static str
+    ensures text { result.now ≡ closing valid }
+{
+    if valid {
+        "],\"valid\":true}"
+    } else {
+        "],\"valid\":false}"
+    }
+}
+
+/// The text of the output of an evaluation with this unit outermost.
+pub(crate) fn output_text(alloc: Global, root: &EvaluationNode) -> Result<String, OutOfMemory>
+    ensures text { IfOk result (λ text. IsJsonText (output_list (unit_of true root.now)) (string_bytes text)) }
+{
+    let mut out = String::from_str(alloc, "{\"details\":[")?;
+    push_unit(alloc, &mut out, &root.report)?;
+    push_below(alloc, &mut out, root)?;
+    out.push_str(closing(root.report.valid))?;
+    Ok(out)
+}
