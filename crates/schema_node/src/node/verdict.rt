@@ -12,7 +12,7 @@ ghost use Rattle.schema_node.specs.NodeRuns.{HasForm, HasParts, HasChildren};
 ghost use Rattle.schema_contexts.specs.Progress.{places_in};
 ghost use Rattle.schema_answers.specs.Askings.{asking};
 ghost use Rattle.schema_answers.specs.EvaluationPlaces.{CarriesItsNumber};
-ghost use Rattle.schema_node.specs.RunStates.{form_at_work, setting};
+ghost use Rattle.schema_node.specs.RunStates.{setting};
 ghost use Rattle.schema_node.specs.RunStates.{Keeps, MayRun};
 ghost use Rattle.schema_node.specs.RunStates.{ChildSays, EdgeSays, FormSays, NodeSays, PartsSay};
 ghost use Rattle.schema_node.specs.RunStates.{MeetsChild, MeetsEdge, MeetsForm, MeetsNode, MeetsParts};
@@ -143,38 +143,24 @@ pub(crate) fn verdict_form<'i, K: Validate, M: Matcher>(
         (shaped_form K.shape (form_of entry.now.form)) (told.Truth b)) }
 {
     match &entry.form {
-        EntryForm::Keyword(keyword, children) => {
+        EntryForm::Keyword(keyword, _) => {
             if let Some(valid) = keyword.is_valid_at_once(question.instance) {
                 return Ok(valid);
             }
-            let named = NamedKeyword {
-                name: &entry.name,
-                keyword,
-                children: children.as_slice(),
-            };
-            verdict_keyword(engine, node, &named, question, context)
+            verdict_keyword(engine, node, entry, question, context)
         }
-        EntryForm::Reference(edge) => {
-            let path = question.path.under_reference();
-            let asked = Question {
-                instance: question.instance,
-                place: question.place,
-                path: &path,
-                mode: question.mode,
-            };
-            verdict_edge(engine, edge, &asked, context)
-        }
+        EntryForm::Reference(edge) => verdict_reference(engine, edge, question, context),
     }
 }
 
-// The verdict of a keyword's run. Its room on the stack is its own, so that a keyword that tells its verdict at once pays nothing for
-// it.
+// The verdict of an entry by a run. Its room on the stack is its own, so that a keyword that tells its verdict at once pays nothing
+// for it, and the call is the last that the caller makes, so that the caller's room is given back before.
 #[cycle(run)]
 #[inline(never)]
 fn verdict_keyword<'i, K: Validate, M: Matcher>(
     engine: &Engine<'_, K, M>,
     node: SchemaNode,
-    keyword: &NamedKeyword<'_, K>,
+    entry: &Entry<K>,
     question: &Question<'_, 'i>,
     context: &mut ValidationContext<'i>,
 ) -> Result<bool, OutOfMemory>
@@ -182,22 +168,70 @@ fn verdict_keyword<'i, K: Validate, M: Matcher>(
         context.old node.0 }
     requires carries { CarriesItsNumber (places_in context.old) question.now.place.now }
     requires verdict { mode_of question.now.mode ≡ for_verdict }
-    requires form { HasForm (numbered K.shape engine.now.nodes.now) node.0 (form_at_work K.shape keyword.now) }
+    requires form { HasForm (numbered K.shape engine.now.nodes.now) node.0 (shaped_form K.shape (form_of entry.now.form)) }
     ensures keeps { IfOk result (λ _. Keeps context.old context.new) }
     ensures counts { IfOk result (λ _. context.old.visits ≤ context.new.visits) }
     ensures visits { IfOk result (λ _. FormCounts (numbered K.shape engine.now.nodes.now)
-        (asking question.now) context.old context.new (form_at_work K.shape keyword.now)) }
+        (asking question.now) context.old context.new (shaped_form K.shape (form_of entry.now.form))) }
     ensures says { IfOk result (λ b. FormSays
         (setting K.words K.is_whole K.shape M.matching engine.now) (asking question.now)
-        context.old node.0 (string_bytes keyword.now.name.now) (form_at_work K.shape keyword.now) (told.Truth b)) }
+        context.old node.0 (string_bytes entry.now.name) (shaped_form K.shape (form_of entry.now.form)) (told.Truth b)) }
     ensures meets { IfOk result (λ _. MeetsForm
         (setting K.words K.is_whole K.shape M.matching engine.now) (asking question.now)
-        context.old context.new node.0 (string_bytes keyword.now.name.now) (form_at_work K.shape keyword.now)) }
+        context.old context.new node.0 (string_bytes entry.now.name) (shaped_form K.shape (form_of entry.now.form))) }
     ensures stays { IfOk result (λ _. StaysRight
         (setting K.words K.is_whole K.shape M.matching engine.now) (asking question.now) context.old context.new) }
 {
-    let answer = keyword_answer(engine, node, keyword, question, context)?;
-    Ok(is_accepting(answer))
+    match &entry.form {
+        EntryForm::Keyword(keyword, children) => {
+            let named = NamedKeyword {
+                name: &entry.name,
+                keyword,
+                children: children.as_slice(),
+            };
+            let answer = keyword_answer(engine, node, &named, question, context)?;
+            Ok(is_accepting(answer))
+        }
+        EntryForm::Reference(edge) => verdict_reference(engine, edge, question, context),
+    }
+}
+
+// The verdict of the node that a reference leads to. Its room on the stack is its own, too.
+#[cycle(run)]
+#[inline(never)]
+fn verdict_reference<'i, K: Validate, M: Matcher>(
+    engine: &Engine<'_, K, M>,
+    edge: &Edge,
+    question: &Question<'_, 'i>,
+    context: &mut ValidationContext<'i>,
+) -> Result<bool, OutOfMemory>
+    requires may { MayRun (setting K.words K.is_whole K.shape M.matching engine.now) (asking question.now)
+        context.old edge.now.node.0 }
+    requires carries { CarriesItsNumber (places_in context.old) question.now.place.now }
+    requires verdict { mode_of question.now.mode ≡ for_verdict }
+    ensures keeps { IfOk result (λ _. Keeps context.old context.new) }
+    ensures counts { IfOk result (λ _. context.old.visits ≤ context.new.visits) }
+    ensures visits { IfOk result (λ _. EdgeCounts (numbered K.shape engine.now.nodes.now)
+        (asking question.now) context.old context.new (edge_of edge.now)) }
+    ensures says { IfOk result (λ b. EdgeSays
+        (setting K.words K.is_whole K.shape M.matching engine.now) (asking question.now)
+        context.old (edge_of edge.now) (told.Truth b)) }
+    ensures meets { IfOk result (λ _. MeetsEdge
+        (setting K.words K.is_whole K.shape M.matching engine.now) (asking question.now)
+        context.old context.new (edge_of edge.now)) }
+    ensures stays { IfOk result (λ _. StaysRight
+        (setting K.words K.is_whole K.shape M.matching engine.now) (asking question.now) context.old context.new) }
+    ensures remembers { IfOk result (λ b. EdgeRemembers (asking question.now) context.old context.new
+        (edge_of edge.now) (told.Truth b)) }
+{
+    let path = question.path.under_reference();
+    let asked = Question {
+        instance: question.instance,
+        place: question.place,
+        path: &path,
+        mode: question.mode,
+    };
+    verdict_edge(engine, edge, &asked, context)
 }
 
 // The verdict of a keyword's child, here or one step below; yes where its request got none.

@@ -73,6 +73,9 @@ lower_edge a b c t d n l e = omega (arith, n, l, e)
 lower_across : (a b c t d : ℕ) → a ≡ b → b ≤ c → 20 * c + suc (suc d) ≡ t → 20 * a + 1 < t
 lower_across a b c t d n l e = omega (arith, n, l, e)
 
+lower_reference : (a b c t d : ℕ) → a ≡ b → b ≤ c → 20 * c + suc (suc (suc d)) ≡ t → 20 * a + 2 < t
+lower_reference a b c t d n l e = omega (arith, n, l, e)
+
 lower_entered : (a b c t : ℕ) → a ≡ b → c ≡ suc b → 20 * c ≡ t → 20 * a + 10 < t
 lower_entered a b c t l n e = omega (arith, l, n, e)
 
@@ -1308,66 +1311,6 @@ verdict::verdict_child-returns-in-None-one_below-clause-quiet g t c = if_ok_alwa
 pub verdict::verdict_child-returns-in-Some-one_below-clause-quiet : goal.verdict::verdict_child-returns-in-Some-one_below-clause-quiet
 verdict::verdict_child-returns-in-Some-one_below-clause-quiet g t c = if_ok_always c.verdict_edge-in-Some-one_below.result _ (λ none. absurd (none c.args.child (edge_of c.in-Some.edge.now) (sym c.in-Some.ensures.edge)))
 
-pub verdict::verdict_form-verdict_edge-requires : goal.verdict::verdict_form-verdict_edge-requires
-verdict::verdict_form-verdict_edge-requires g t c =
-    let ns = numbered g.K.Validate.shape c.args.engine.now.nodes.now in
-    let e = edge_of c.in-Reference.edge in
-    let k = reference_edge ns c.args.node.0 e (rw c.in-Reference.is at c.requires.form) in
-    let l = falls_here g.K.Validate.words g.K.Validate.is_whole ns (length c.args.engine.now.nodes.now) (settling (g.M.Matcher.matching c.args.engine.now.matcher.now) c.args.context.now.remembered.assumptions) c.requires.may.ranked c.args.node.0 (subject_of c.args.question.now.instance) (busy_at (steps_to c.args.question.now.place.now) c.args.context.now.in_progress) e c.requires.may.known k in
-    λ κs h. (lower_across _ _ _ t 5 refl l c.decreases, (h.0, (h.1.0, (h.1.1.0, (h.1.1.1, (record { known = (c.requires.may.ranked c.args.node.0 c.requires.may.known e k).0; ranked = c.requires.may.ranked; above = c.requires.may.above; wanted = c.requires.may.wanted; stands = c.requires.may.stands; goes_on = c.requires.may.goes_on }, (c.requires.carries, c.requires.verdict)))))))
-
-pub verdict::verdict_form-returns-in_default-clause-says : goal.verdict::verdict_form-returns-in_default-clause-says
-verdict::verdict_form-returns-in_default-clause-says g t c = rw (c.in-Keyword.is, ← c.as_slice.ensures.value) c.verdict_keyword.ensures.says
-
-pub verdict::verdict_form-returns-in_default-clause-meets : goal.verdict::verdict_form-returns-in_default-clause-meets
-verdict::verdict_form-returns-in_default-clause-meets g t c = rw (c.in-Keyword.is, ← c.as_slice.ensures.value) c.verdict_keyword.ensures.meets
-
-pub verdict::verdict_form-returns-in_default-clause-visits : goal.verdict::verdict_form-returns-in_default-clause-visits
-verdict::verdict_form-returns-in_default-clause-visits g t c = rw (c.in-Keyword.is, ← c.as_slice.ensures.value) c.verdict_keyword.ensures.visits
-
-pub verdict::verdict_form-returns-in-Reference-clause-says : goal.verdict::verdict_form-returns-in-Reference-clause-says
-verdict::verdict_form-returns-in-Reference-clause-says g t c =
-    let ns = numbered g.K.Validate.shape c.args.engine.now.nodes.now in
-    let w = settling (g.M.Matcher.matching c.args.engine.now.matcher.now) c.args.context.now.remembered.assumptions in
-    let p = steps_to c.args.question.now.place.now in
-    let s = subject_of c.args.question.now.instance in
-    let busy = busy_at p c.args.context.now.in_progress in
-    let mode = mode_of c.args.question.now.mode in
-    let path = path_of c.args.question.now.path.now in
-    let e = edge_of c.in-Reference.edge in
-    let k = reference_edge ns c.args.node.0 e (rw c.in-Reference.is at c.requires.form) in
-    let l = falls_here g.K.Validate.words g.K.Validate.is_whole ns (length c.args.engine.now.nodes.now) w c.requires.may.ranked c.args.node.0 s busy e c.requires.may.known k in
-    rw c.in-Reference.is (if_ok_mono c.verdict_edge.result _ _ (λ b says.
-    form_reference g.K.Validate.words g.K.Validate.is_whole ns (length c.args.engine.now.nodes.now) w mode path p busy s c.args.node.0 (string_bytes c.args.entry.now.name) e (told.Truth b) (told.Truth b) _ refl l (stamps_verdict _ b) (λ root h. h)
-    (subst (λ path. EdgeReplies g.K.Validate.words g.K.Validate.is_whole ns (length c.args.engine.now.nodes.now) w mode path p busy s e (told.Truth b)) c.under_reference-path.ensures.same says)) c.verdict_edge.ensures.says)
-
-pub verdict::verdict_form-returns-in-Reference-clause-meets : goal.verdict::verdict_form-returns-in-Reference-clause-meets
-verdict::verdict_form-returns-in-Reference-clause-meets g t c =
-    let ns = numbered g.K.Validate.shape c.args.engine.now.nodes.now in
-    let w = settling (g.M.Matcher.matching c.args.engine.now.matcher.now) c.args.context.now.remembered.assumptions in
-    let p = steps_to c.args.question.now.place.now in
-    let s = subject_of c.args.question.now.instance in
-    let busy = busy_at p c.args.context.now.in_progress in
-    let mode = mode_of c.args.question.now.mode in
-    let path = path_of c.args.question.now.path.now in
-    let e = edge_of c.in-Reference.edge in
-    let k = reference_edge ns c.args.node.0 e (rw c.in-Reference.is at c.requires.form) in
-    let l = falls_here g.K.Validate.words g.K.Validate.is_whole ns (length c.args.engine.now.nodes.now) w c.requires.may.ranked c.args.node.0 s busy e c.requires.may.known k in
-    rw c.in-Reference.is (if_ok_mono c.verdict_edge.result _ _ (λ b meets.
-    let met = subst (λ path. EdgeMeets g.K.Validate.words g.K.Validate.is_whole ns (length c.args.engine.now.nodes.now) w mode path p busy s c.args.context.now.remembered c.verdict_edge.new.context.remembered e) c.under_reference-path.ensures.same meets in
-    meets_reference g.K.Validate.words g.K.Validate.is_whole ns (length c.args.engine.now.nodes.now) w mode path p busy s c.args.node.0 (string_bytes c.args.entry.now.name) e _ _ l met) c.verdict_edge.ensures.meets)
-
-pub verdict::verdict_form-returns-in-Reference-clause-visits : goal.verdict::verdict_form-returns-in-Reference-clause-visits
-verdict::verdict_form-returns-in-Reference-clause-visits g t c = rw c.in-Reference.is c.verdict_edge.ensures.visits
-
-pub verdict::verdict_form-returns-in-Reference-clause-remembers : goal.verdict::verdict_form-returns-in-Reference-clause-remembers
-verdict::verdict_form-returns-in-Reference-clause-remembers g t c =
-    let q = asking c.args.question.now in
-    let e = edge_of c.in-Reference.edge in
-    if_ok_mono c.verdict_edge.result _ _ (λ b remembers.
-    let there = subst (λ path. EdgeRemembers (record { subject = q.subject; place = q.place; path = path; mode = q.mode }) c.args.context.now c.verdict_edge.new.context e (told.Truth b)) c.under_reference-path.ensures.same remembers in
-    reference_remembers q c.args.context.now c.verdict_edge.new.context e _ (told.Truth b) (ap (λ z. shaped_form g.K.Validate.shape (form_of z)) c.in-Reference.is) there) c.verdict_edge.ensures.remembers
-
 pub verdict::verdict_form-returns-in-Some-clause-says : goal.verdict::verdict_form-returns-in-Some-clause-says
 verdict::verdict_form-returns-in-Some-clause-says g t c =
     let ns = numbered g.K.Validate.shape c.args.engine.now.nodes.now in
@@ -1378,7 +1321,7 @@ verdict::verdict_form-returns-in-Some-clause-says g t c =
     let mode = mode_of c.args.question.now.mode in
     let path = path_of c.args.question.now.path.now in
     let m = g.K.Validate.shape c.in-Keyword.keyword in
-    let es = map (option_map edge_of) c.in-Keyword.children.items in
+    let es = map (option_map edge_of) c.in-Keyword.field-1.items in
     let form = rw c.in-Keyword.is at c.requires.form in
     rw c.in-Keyword.is (keyword_replies mode c.requires.verdict g.K.Validate.words g.K.Validate.is_whole ns (length c.args.engine.now.nodes.now) w path p busy s c.args.node.0 (string_bytes c.args.entry.now.name) m es c.in-Some.valid (λ x reads l.
     let tells = tells_keyword g.K.Validate.is_whole ns (length c.args.engine.now.nodes.now) w p s x c.args.node.0 m es c.requires.may.known reads form in
@@ -1397,7 +1340,7 @@ verdict::verdict_form-returns-in-Some-clause-meets g t c = rw c.in-Keyword.is (�
     let mode = mode_of c.args.question.now.mode in
     let path = path_of c.args.question.now.path.now in
     let m = g.K.Validate.shape c.in-Keyword.keyword in
-    let es = map (option_map edge_of) c.in-Keyword.children.items in
+    let es = map (option_map edge_of) c.in-Keyword.field-1.items in
     let form = rw c.in-Keyword.is at c.requires.form in
     let name = string_bytes c.args.entry.now.name in
     let at_node = node_at (g.K.Validate.words texts) w.matcher ns (subject_in root) c.args.node.0 path p in
@@ -1408,14 +1351,18 @@ verdict::verdict_form-returns-in-Some-clause-meets g t c = rw c.in-Keyword.is (�
     ∙ ap (λ v. keyword_met (g.K.Validate.words texts) w.matcher w.assumptions at_node v runs (same_edge es) name m mode) (sym (stands_in root p s reads.stands))) all)
 
 pub verdict::verdict_form-returns-in-Some-clause-visits : goal.verdict::verdict_form-returns-in-Some-clause-visits
-verdict::verdict_form-returns-in-Some-clause-visits g t c = rw c.in-Keyword.is (keyword_counts (numbered g.K.Validate.shape c.args.engine.now.nodes.now) (asking c.args.question.now) c.args.context.now c.args.context.now (g.K.Validate.shape c.in-Keyword.keyword) (map (option_map edge_of) c.in-Keyword.children.items) (λ none. refl))
+verdict::verdict_form-returns-in-Some-clause-visits g t c = rw c.in-Keyword.is (keyword_counts (numbered g.K.Validate.shape c.args.engine.now.nodes.now) (asking c.args.question.now) c.args.context.now c.args.context.now (g.K.Validate.shape c.in-Keyword.keyword) (map (option_map edge_of) c.in-Keyword.field-1.items) (λ none. refl))
 
-pub verdict::verdict_keyword-keyword_answer-requires : goal.verdict::verdict_keyword-keyword_answer-requires
-verdict::verdict_keyword-keyword_answer-requires g t c =
-    λ κs h. (lower_same _ _ t 5 0 refl c.decreases, (h.0, (h.1.0, (h.1.1.0, (h.1.1.1, (record { known = c.requires.may.known; ranked = c.requires.may.ranked; above = c.requires.may.above; stands = c.requires.may.stands; goes_on = c.requires.may.goes_on }, (c.requires.carries, c.requires.form)))))))
+pub verdict::verdict_form-verdict_reference-requires : goal.verdict::verdict_form-verdict_reference-requires
+verdict::verdict_form-verdict_reference-requires g t c =
+    let ns = numbered g.K.Validate.shape c.args.engine.now.nodes.now in
+    let e = edge_of c.in-Reference.edge in
+    let k = reference_edge ns c.args.node.0 e (rw c.in-Reference.is at c.requires.form) in
+    let l = falls_here g.K.Validate.words g.K.Validate.is_whole ns (length c.args.engine.now.nodes.now) (settling (g.M.Matcher.matching c.args.engine.now.matcher.now) c.args.context.now.remembered.assumptions) c.requires.may.ranked c.args.node.0 (subject_of c.args.question.now.instance) (busy_at (steps_to c.args.question.now.place.now) c.args.context.now.in_progress) e c.requires.may.known k in
+    λ κs h. (lower_reference _ _ _ t 4 refl l c.decreases, (h.0, (h.1.0, (h.1.1.0, (h.1.1.1, (record { known = (c.requires.may.ranked c.args.node.0 c.requires.may.known e k).0; ranked = c.requires.may.ranked; above = c.requires.may.above; wanted = c.requires.may.wanted; stands = c.requires.may.stands; goes_on = c.requires.may.goes_on }, (c.requires.carries, c.requires.verdict)))))))
 
-pub verdict::verdict_keyword-returns-clause-says : goal.verdict::verdict_keyword-returns-clause-says
-verdict::verdict_keyword-returns-clause-says g t c =
+pub verdict::verdict_form-returns-in-Reference-clause-says : goal.verdict::verdict_form-returns-in-Reference-clause-says
+verdict::verdict_form-returns-in-Reference-clause-says g t c =
     let ns = numbered g.K.Validate.shape c.args.engine.now.nodes.now in
     let w = settling (g.M.Matcher.matching c.args.engine.now.matcher.now) c.args.context.now.remembered.assumptions in
     let p = steps_to c.args.question.now.place.now in
@@ -1423,16 +1370,118 @@ verdict::verdict_keyword-returns-clause-says g t c =
     let busy = busy_at p c.args.context.now.in_progress in
     let mode = mode_of c.args.question.now.mode in
     let path = path_of c.args.question.now.path.now in
-    let m = g.K.Validate.shape c.args.keyword.now.keyword.now in
-    let es = map (option_map edge_of) c.args.keyword.now.children.now in
-    keyword_replies mode c.requires.verdict g.K.Validate.words g.K.Validate.is_whole ns (length c.args.engine.now.nodes.now) w path p busy s c.args.node.0 (string_bytes c.args.keyword.now.name.now) m es c.is_accepting.result (λ x reads l.
+    let e = edge_of c.in-Reference.edge in
+    let k = reference_edge ns c.args.node.0 e (rw c.in-Reference.is at c.requires.form) in
+    let l = falls_here g.K.Validate.words g.K.Validate.is_whole ns (length c.args.engine.now.nodes.now) w c.requires.may.ranked c.args.node.0 s busy e c.requires.may.known k in
+    rw c.in-Reference.is (if_ok_mono c.verdict_reference.result _ _ (λ b says.
+    form_reference g.K.Validate.words g.K.Validate.is_whole ns (length c.args.engine.now.nodes.now) w mode path p busy s c.args.node.0 (string_bytes c.args.entry.now.name) e (told.Truth b) (told.Truth b) _ refl l (stamps_verdict _ b) (λ root h. h)
+    says) c.verdict_reference.ensures.says)
+
+pub verdict::verdict_form-returns-in-Reference-clause-meets : goal.verdict::verdict_form-returns-in-Reference-clause-meets
+verdict::verdict_form-returns-in-Reference-clause-meets g t c =
+    let ns = numbered g.K.Validate.shape c.args.engine.now.nodes.now in
+    let w = settling (g.M.Matcher.matching c.args.engine.now.matcher.now) c.args.context.now.remembered.assumptions in
+    let p = steps_to c.args.question.now.place.now in
+    let s = subject_of c.args.question.now.instance in
+    let busy = busy_at p c.args.context.now.in_progress in
+    let mode = mode_of c.args.question.now.mode in
+    let path = path_of c.args.question.now.path.now in
+    let e = edge_of c.in-Reference.edge in
+    let k = reference_edge ns c.args.node.0 e (rw c.in-Reference.is at c.requires.form) in
+    let l = falls_here g.K.Validate.words g.K.Validate.is_whole ns (length c.args.engine.now.nodes.now) w c.requires.may.ranked c.args.node.0 s busy e c.requires.may.known k in
+    rw c.in-Reference.is (if_ok_mono c.verdict_reference.result _ _ (λ b meets.
+    meets_reference g.K.Validate.words g.K.Validate.is_whole ns (length c.args.engine.now.nodes.now) w mode path p busy s c.args.node.0 (string_bytes c.args.entry.now.name) e _ _ l meets) c.verdict_reference.ensures.meets)
+
+pub verdict::verdict_form-returns-in-Reference-clause-visits : goal.verdict::verdict_form-returns-in-Reference-clause-visits
+verdict::verdict_form-returns-in-Reference-clause-visits g t c = rw c.in-Reference.is c.verdict_reference.ensures.visits
+
+pub verdict::verdict_form-returns-in-Reference-clause-remembers : goal.verdict::verdict_form-returns-in-Reference-clause-remembers
+verdict::verdict_form-returns-in-Reference-clause-remembers g t c =
+    let q = asking c.args.question.now in
+    let e = edge_of c.in-Reference.edge in
+    if_ok_mono c.verdict_reference.result _ _ (λ b remembers.
+    reference_remembers q c.args.context.now c.verdict_reference.new.context e _ (told.Truth b) (ap (λ z. shaped_form g.K.Validate.shape (form_of z)) c.in-Reference.is) remembers) c.verdict_reference.ensures.remembers
+
+pub verdict::verdict_keyword-verdict_reference-requires : goal.verdict::verdict_keyword-verdict_reference-requires
+verdict::verdict_keyword-verdict_reference-requires g t c =
+    let ns = numbered g.K.Validate.shape c.args.engine.now.nodes.now in
+    let e = edge_of c.in-Reference.edge in
+    let k = reference_edge ns c.args.node.0 e (rw c.in-Reference.is at c.requires.form) in
+    let l = falls_here g.K.Validate.words g.K.Validate.is_whole ns (length c.args.engine.now.nodes.now) (settling (g.M.Matcher.matching c.args.engine.now.matcher.now) c.args.context.now.remembered.assumptions) c.requires.may.ranked c.args.node.0 (subject_of c.args.question.now.instance) (busy_at (steps_to c.args.question.now.place.now) c.args.context.now.in_progress) e c.requires.may.known k in
+    λ κs h. (lower_reference _ _ _ t 3 refl l c.decreases, (h.0, (h.1.0, (h.1.1.0, (h.1.1.1, (record { known = (c.requires.may.ranked c.args.node.0 c.requires.may.known e k).0; ranked = c.requires.may.ranked; above = c.requires.may.above; wanted = c.requires.may.wanted; stands = c.requires.may.stands; goes_on = c.requires.may.goes_on }, (c.requires.carries, c.requires.verdict)))))))
+
+pub verdict::verdict_keyword-returns-in-Reference-clause-says : goal.verdict::verdict_keyword-returns-in-Reference-clause-says
+verdict::verdict_keyword-returns-in-Reference-clause-says g t c =
+    let ns = numbered g.K.Validate.shape c.args.engine.now.nodes.now in
+    let w = settling (g.M.Matcher.matching c.args.engine.now.matcher.now) c.args.context.now.remembered.assumptions in
+    let p = steps_to c.args.question.now.place.now in
+    let s = subject_of c.args.question.now.instance in
+    let busy = busy_at p c.args.context.now.in_progress in
+    let mode = mode_of c.args.question.now.mode in
+    let path = path_of c.args.question.now.path.now in
+    let e = edge_of c.in-Reference.edge in
+    let k = reference_edge ns c.args.node.0 e (rw c.in-Reference.is at c.requires.form) in
+    let l = falls_here g.K.Validate.words g.K.Validate.is_whole ns (length c.args.engine.now.nodes.now) w c.requires.may.ranked c.args.node.0 s busy e c.requires.may.known k in
+    rw c.in-Reference.is (if_ok_mono c.verdict_reference.result _ _ (λ b says.
+    form_reference g.K.Validate.words g.K.Validate.is_whole ns (length c.args.engine.now.nodes.now) w mode path p busy s c.args.node.0 (string_bytes c.args.entry.now.name) e (told.Truth b) (told.Truth b) _ refl l (stamps_verdict _ b) (λ root h. h)
+    says) c.verdict_reference.ensures.says)
+
+pub verdict::verdict_keyword-returns-in-Reference-clause-meets : goal.verdict::verdict_keyword-returns-in-Reference-clause-meets
+verdict::verdict_keyword-returns-in-Reference-clause-meets g t c =
+    let ns = numbered g.K.Validate.shape c.args.engine.now.nodes.now in
+    let w = settling (g.M.Matcher.matching c.args.engine.now.matcher.now) c.args.context.now.remembered.assumptions in
+    let p = steps_to c.args.question.now.place.now in
+    let s = subject_of c.args.question.now.instance in
+    let busy = busy_at p c.args.context.now.in_progress in
+    let mode = mode_of c.args.question.now.mode in
+    let path = path_of c.args.question.now.path.now in
+    let e = edge_of c.in-Reference.edge in
+    let k = reference_edge ns c.args.node.0 e (rw c.in-Reference.is at c.requires.form) in
+    let l = falls_here g.K.Validate.words g.K.Validate.is_whole ns (length c.args.engine.now.nodes.now) w c.requires.may.ranked c.args.node.0 s busy e c.requires.may.known k in
+    rw c.in-Reference.is (if_ok_mono c.verdict_reference.result _ _ (λ b meets.
+    meets_reference g.K.Validate.words g.K.Validate.is_whole ns (length c.args.engine.now.nodes.now) w mode path p busy s c.args.node.0 (string_bytes c.args.entry.now.name) e _ _ l meets) c.verdict_reference.ensures.meets)
+
+pub verdict::verdict_keyword-returns-in-Reference-clause-visits : goal.verdict::verdict_keyword-returns-in-Reference-clause-visits
+verdict::verdict_keyword-returns-in-Reference-clause-visits g t c = rw c.in-Reference.is c.verdict_reference.ensures.visits
+
+pub verdict::verdict_keyword-keyword_answer-requires : goal.verdict::verdict_keyword-keyword_answer-requires
+verdict::verdict_keyword-keyword_answer-requires g t c =
+    λ κs h. (lower_same _ _ t 5 0 refl c.decreases, (h.0, (h.1.0, (h.1.1.0, (h.1.1.1, (record { known = c.requires.may.known; ranked = c.requires.may.ranked; above = c.requires.may.above; stands = c.requires.may.stands; goes_on = c.requires.may.goes_on }, (c.requires.carries, rw (c.in-Keyword.is, ← c.as_slice.ensures.value) at c.requires.form)))))))
+
+pub verdict::verdict_keyword-returns-in_ok-answer-in-Keyword-clause-says : goal.verdict::verdict_keyword-returns-in_ok-answer-in-Keyword-clause-says
+verdict::verdict_keyword-returns-in_ok-answer-in-Keyword-clause-says g t c =
+    let ns = numbered g.K.Validate.shape c.args.engine.now.nodes.now in
+    let w = settling (g.M.Matcher.matching c.args.engine.now.matcher.now) c.args.context.now.remembered.assumptions in
+    let p = steps_to c.args.question.now.place.now in
+    let s = subject_of c.args.question.now.instance in
+    let busy = busy_at p c.args.context.now.in_progress in
+    let mode = mode_of c.args.question.now.mode in
+    let path = path_of c.args.question.now.path.now in
+    let m = g.K.Validate.shape c.in-Keyword.keyword in
+    let es = map (option_map edge_of) c.as_slice.result.now in
+    rw (c.in-Keyword.is, ← c.as_slice.ensures.value) (keyword_replies mode c.requires.verdict g.K.Validate.words g.K.Validate.is_whole ns (length c.args.engine.now.nodes.now) w path p busy s c.args.node.0 (string_bytes c.args.entry.now.name) m es c.is_accepting.result (λ x reads l.
     let answers = child_says g.K.Validate.words ns x path p busy es in
     let units = child_unit g.K.Validate.words ns x path p busy es in
-    c.is_accepting.ensures.verdict x.texts ∙ subst (λ z. IsRight (g.K.Validate.words x.texts) m s (matching x.matcher x.completion) answers units (same_edge es) z (answer_of x.texts c.in_ok-answer.answer)) c.requires.verdict (c.in_ok-answer.ensures.right x reads l))
+    c.is_accepting.ensures.verdict x.texts ∙ subst (λ z. IsRight (g.K.Validate.words x.texts) m s (matching x.matcher x.completion) answers units (same_edge es) z (answer_of x.texts c.in_ok-answer-in-Keyword.answer)) c.requires.verdict (c.in_ok-answer-in-Keyword.ensures.right x reads l)))
 
-pub verdict::verdict_keyword-returns-clause-visits : goal.verdict::verdict_keyword-returns-clause-visits
-verdict::verdict_keyword-returns-clause-visits g t c =
-    keyword_counts (numbered g.K.Validate.shape c.args.engine.now.nodes.now) (asking c.args.question.now) c.args.context.now c.keyword_answer.new.context (g.K.Validate.shape c.args.keyword.now.keyword.now) (map (option_map edge_of) c.args.keyword.now.children.now) c.in_ok-answer.ensures.quiet
+pub verdict::verdict_keyword-returns-in_ok-answer-in-Keyword-clause-visits : goal.verdict::verdict_keyword-returns-in_ok-answer-in-Keyword-clause-visits
+verdict::verdict_keyword-returns-in_ok-answer-in-Keyword-clause-visits g t c =
+    rw (c.in-Keyword.is, ← c.as_slice.ensures.value) (keyword_counts (numbered g.K.Validate.shape c.args.engine.now.nodes.now) (asking c.args.question.now) c.args.context.now c.keyword_answer.new.context (g.K.Validate.shape c.in-Keyword.keyword) (map (option_map edge_of) c.as_slice.result.now) c.in_ok-answer-in-Keyword.ensures.quiet)
+
+pub verdict::verdict_keyword-returns-in_ok-answer-in-Keyword-clause-meets : goal.verdict::verdict_keyword-returns-in_ok-answer-in-Keyword-clause-meets
+verdict::verdict_keyword-returns-in_ok-answer-in-Keyword-clause-meets g t c = rw (c.in-Keyword.is, ← c.as_slice.ensures.value) c.in_ok-answer-in-Keyword.ensures.meets
+
+pub verdict::verdict_reference-returns-clause-meets : goal.verdict::verdict_reference-returns-clause-meets
+verdict::verdict_reference-returns-clause-meets g t c =
+    let ns = numbered g.K.Validate.shape c.args.engine.now.nodes.now in
+    let w = settling (g.M.Matcher.matching c.args.engine.now.matcher.now) c.args.context.now.remembered.assumptions in
+    let p = steps_to c.args.question.now.place.now in
+    let s = subject_of c.args.question.now.instance in
+    let busy = busy_at p c.args.context.now.in_progress in
+    let mode = mode_of c.args.question.now.mode in
+    let e = edge_of c.args.edge.now in
+    if_ok_mono c.verdict_edge.result _ _ (λ b meets.
+    subst (λ path. EdgeMeets g.K.Validate.words g.K.Validate.is_whole ns (length c.args.engine.now.nodes.now) w mode path p busy s c.args.context.now.remembered c.verdict_edge.new.context.remembered e) c.under_reference-path.ensures.same meets) c.verdict_edge.ensures.meets
 
 pub verdict::verdict_node-verdict_entries-requires : goal.verdict::verdict_node-verdict_entries-requires
 verdict::verdict_node-verdict_entries-requires g t c =

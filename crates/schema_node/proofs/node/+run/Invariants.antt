@@ -173,6 +173,9 @@ decreases-verdict::verdict_keyword g l = 20 * left (numbered g.K.Validate.shape 
 abbrev pub decreases-verdict::verdict_child : goal.decreases-verdict::verdict_child
 decreases-verdict::verdict_child g l = 20 * left (numbered g.K.Validate.shape l.engine.now.nodes.now) (length l.engine.now.nodes.now) l.node.0 (subject_of l.question.now.instance) (busy_at (steps_to l.question.now.place.now) l.context.now.in_progress) + 2
 
+abbrev pub decreases-verdict::verdict_reference : goal.decreases-verdict::verdict_reference
+decreases-verdict::verdict_reference g l = 20 * edge_needs (numbered g.K.Validate.shape l.engine.now.nodes.now) (length l.engine.now.nodes.now) (edge_of l.edge.now) (subject_of l.question.now.instance) (busy_at (steps_to l.question.now.place.now) l.context.now.in_progress) + 2
+
 abbrev pub decreases-verdict::verdict_edge : goal.decreases-verdict::verdict_edge
 decreases-verdict::verdict_edge g l = 20 * edge_needs (numbered g.K.Validate.shape l.engine.now.nodes.now) (length l.engine.now.nodes.now) (edge_of l.edge.now) (subject_of l.question.now.instance) (busy_at (steps_to l.question.now.place.now) l.context.now.in_progress) + 1
 
