@@ -1,2 +1,4 @@
 pub mod Under
 pub mod Between
+pub mod Pairs
+pub mod Steps
