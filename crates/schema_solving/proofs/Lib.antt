@@ -2,3 +2,4 @@ pub mod Under
 pub mod Between
 pub mod Pairs
 pub mod Steps
+pub mod Solved

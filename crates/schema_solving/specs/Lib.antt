@@ -1,2 +1,3 @@
 pub mod Under
 pub mod Found
+pub mod Solved
