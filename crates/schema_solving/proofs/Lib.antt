@@ -3,3 +3,5 @@ pub mod Between
 pub mod Pairs
 pub mod Steps
 pub mod Solved
+pub mod Says
+pub mod Turning

@@ -1,3 +1,5 @@
 pub mod Under
 pub mod Found
 pub mod Solved
+pub mod Says
+pub mod Turning

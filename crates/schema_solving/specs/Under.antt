@@ -24,12 +24,14 @@ pub record Solving (K R : Type 0) : Type 0 where
   pub completion : Completion
   pub cut : NodeEdge → Bool
 
--- each keyword keeps its laws and is monotone, unguarded edges fall in rank, and every guarded edge is answered by a set
+-- each keyword keeps its laws and is monotone, unguarded edges fall in rank, and every guarded edge is answered by a set; so are both or
+-- neither of two edges to one number that are guarded alike
 pub record IsSolvable {K R : Type 0} (w : Solving K R) : Type 0 where
   pub laws : EachKeeps w.keywords
   pub ranked : Ranked w.nodes w.count
   pub monotone : AreMonotone w.keywords w.nodes w.count
   pub cuts : (e : NodeEdge) → e.guarded ≡ true → w.cut e ≡ true
+  pub alike : (a b : NodeEdge) → a.node ≡ b.node → a.guarded ≡ b.guarded → w.cut a ≡ w.cut b
 
 module _ {K R : Type 0} (w : Solving K R) where
   -- what an edge answers: by a set, or by what another says of its number
