@@ -5,3 +5,4 @@ pub mod Steps
 pub mod Solved
 pub mod Says
 pub mod Turning
+pub mod Work

@@ -13,13 +13,13 @@ use Rattle.schema_solving.proofs.Between.{accepted_cases, assumed_unknown, betwe
 
 -- ---- by a test
 
-if_true : {A : Type 0} (b : Bool) (x y : A) → b ≡ true → (if b then x else y) ≡ x
+pub if_true : {A : Type 0} (b : Bool) (x y : A) → b ≡ true → (if b then x else y) ≡ x
 if_true b x y is = ap (λ c. if c then x else y) is
 
-if_false : {A : Type 0} (b : Bool) (x y : A) → b ≡ false → (if b then x else y) ≡ y
+pub if_false : {A : Type 0} (b : Bool) (x y : A) → b ≡ false → (if b then x else y) ≡ y
 if_false b x y is = ap (λ c. if c then x else y) is
 
-by_test : {P : Type 0} (b : Bool) → (b ≡ true → P) → (b ≡ false → P) → P
+pub by_test : {P : Type 0} (b : Bool) → (b ≡ true → P) → (b ≡ false → P) → P
 by_test true f g = f refl
 by_test false f g = g refl
 
@@ -48,10 +48,10 @@ module _ {K R : Type 0} (w : Solving K R) (solvable : IsSolvable w) where
   }
 
   module _ (old f : Found) (i : ℕ) (p : Place) (l : i < w.count) (before : IsSound w old) (sound : IsSound w f) (grew : Grows p (entered old i p) f) where
-    in_progress : f.busy i p ≡ true
+    pub in_progress : f.busy i p ≡ true
     in_progress = grew.busy i p ∙ with_self old.busy i p
 
-    unknown : f.known i p ≡ None
+    pub unknown : f.known i p ≡ None
     unknown = busy_unknown w f sound i p in_progress
 
     -- what is not the pair and is known stays
@@ -162,6 +162,19 @@ module _ {K R : Type 0} (w : Solving K R) (solvable : IsSolvable w) where
     abbrev pub since : PairSet
     since j q = f.assumed j q && not (old.assumed j q)
 
+    -- what was assumed since lies at the place
+    pub since_here : NoneDeeper p old → (j : ℕ) (q : Place) → since j q ≡ true → q ≡ p
+    since_here none_deeper j q is =
+        let both = and_parts (f.assumed j q) (not (old.assumed j q)) is in
+        let other = sound.placed j q both.0 in
+        with_cases old.busy i p other.0 q
+        (λ this. sym (this_place i p other.0 q this))
+        (λ was. elim (grew.here j q both.0) [
+          | inl had ↦ absurd (true≢false (sym both.1 ∙ ap not had))
+          | inr there ↦ there.1 ∙ no_longer p there.0 (subst (λ q. length q ≤ length p) there.1 (none_deeper other.0 q was))
+        ])
+        (sym (grew.busy other.0 q) ∙ other.1)
+
     module _ (none_at : NoneAt p old) (none_deeper : NoneDeeper p old) where
       -- no pair that was in progress before lies at the place or below it
       none_from : (j : ℕ) (r : Place) → old.busy j (p ++ r) ≡ true → ⊥
@@ -172,26 +185,13 @@ module _ {K R : Type 0} (w : Solving K R) (solvable : IsSolvable w) where
       none_assumed : (j : ℕ) (r : Place) → old.assumed j (p ++ r) ≡ true → ⊥
       none_assumed j r is = let other = before.placed j (p ++ r) is in none_from other.0 r other.1
 
-      -- what was assumed since lies at the place
-      since_here : (j : ℕ) (q : Place) → since j q ≡ true → q ≡ p
-      since_here j q is =
-          let both = and_parts (f.assumed j q) (not (old.assumed j q)) is in
-          let other = sound.placed j q both.0 in
-          with_cases old.busy i p other.0 q
-          (λ this. sym (this_place i p other.0 q this))
-          (λ was. elim (grew.here j q both.0) [
-            | inl had ↦ absurd (true≢false (sym both.1 ∙ ap not had))
-            | inr there ↦ there.1 ∙ no_longer p there.0 (subst (λ q. length q ≤ length p) there.1 (none_deeper other.0 q was))
-          ])
-          (sym (grew.busy other.0 q) ∙ other.1)
-
       abbrev pub new : PairSet
       new j q = is_this i p j q || since j q
 
       new_here : (j : ℕ) (q : Place) → new j q ≡ true → q ≡ p
-      new_here j q = in_either (is_this i p j q) (since j q) (λ this. sym (this_place i p j q this)) (since_here j q)
+      new_here j q = in_either (is_this i p j q) (since j q) (λ this. sym (this_place i p j q this)) (since_here none_deeper j q)
 
-      new_unknown : (j : ℕ) (q : Place) → new j q ≡ true → f.known j q ≡ None
+      pub new_unknown : (j : ℕ) (q : Place) → new j q ≡ true → f.known j q ≡ None
       new_unknown j q = in_either (is_this i p j q) (since j q)
           (λ this. of_this (λ m r. f.known m r ≡ None) i p j q this unknown)
           (λ is. assumed_unknown w f sound j q (and_parts (f.assumed j q) (not (old.assumed j q)) is).0)

@@ -3,3 +3,4 @@ pub mod Found
 pub mod Solved
 pub mod Says
 pub mod Turning
+pub mod Work
