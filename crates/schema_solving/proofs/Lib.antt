@@ -6,3 +6,4 @@ pub mod Solved
 pub mod Says
 pub mod Turning
 pub mod Work
+pub mod Bounds

@@ -101,3 +101,10 @@ module _ {K R : Type 0} (w : Solving K R) (solvable : IsSolvable w) (p : Place) 
       let was : EndsUnder w p m end_of Fits es marks r reply inside = way inside between in
       let k = laws.stands (stands_under w p inside es marks r reply) was.fits is in
       sym (ap (λ (a : Answer). a.verdict) k ∙ was.right ∙ ap (w.keywords.holds m (subject_here w p) (matches_here w p)) (λ j q. answer_verdict w p inside es q j))
+
+  -- a run that is done at its first turn
+  pub at_once_under : (f : Found) (valid : Bool) → w.keywords.step m (subject_here w p) (w.keywords.begin m (subject_here w p) for_verdict) no_reply ≡ done
+      → (w.keywords.answer (w.keywords.turn m (subject_here w p) (w.keywords.begin m (subject_here w p) for_verdict) no_reply)).verdict ≡ valid
+      → FormSays w p f (node_keyword m es) valid
+  at_once_under f valid asks_nothing says inside between =
+      ended_under f [] (w.keywords.begin m (subject_here w p) for_verdict) no_reply asks_nothing (begins_under f) inside between ∙ says

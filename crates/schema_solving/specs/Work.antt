@@ -1,6 +1,6 @@
 -- How much a solver does: how many pairs it begins, against the pairs that there are.
 use Rattle.std.specs.List.{list_any}
-use Rattle.std.specs.Prelude.{Bool, List, None, Option, Some, [], false, if◌then◌else◌, length, true, ℕ, ◌*◌, ◌+◌, ◌||◌, ◌∷◌, ◌≡◌, ◌≤◌}
+use Rattle.std.specs.Prelude.{Bool, List, None, Option, Some, [], false, if◌then◌else◌, length, map, true, ℕ, ◌*◌, ◌++◌, ◌+◌, ◌==◌, ◌||◌, ◌∷◌, ◌≡◌, ◌≤◌}
 use Rattle.schema_definitions.specs.Instance.{Place, same_place}
 use Rattle.schema_solving.specs.Found.{Found, is_this}
 
@@ -39,3 +39,21 @@ IsCounted all most f begun = begun ≤ sum_over (weight most f) all
 -- so no more than this, ever
 abbrev pub IsBounded : Pairs → ℕ → ℕ → Type 0
 IsBounded all most begun = begun ≤ length all * most
+
+-- ---- the pairs of some numbers and places
+
+abbrev pub pairs_of : List ℕ → List Place → Pairs
+pairs_of [] ps = []
+pairs_of (n ∷ ns) ps = map (λ p. (n, p)) ps ++ pairs_of ns ps
+
+abbrev pub how_often : Place → List Place → ℕ
+how_often p [] = 0
+how_often p (q ∷ qs) = one_if (same_place p q) + how_often p qs
+
+-- no place stands twice
+abbrev pub EachOnce : List Place → Type 0
+EachOnce ps = (p : Place) → how_often p ps ≤ 1
+
+-- so of g numbers and p places no more than g * p * g pairs are begun
+abbrev pub IsBoundedBy : List ℕ → List Place → ℕ → Type 0
+IsBoundedBy ns ps begun = begun ≤ length ns * length ps * length ns
