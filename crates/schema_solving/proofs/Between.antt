@@ -1,12 +1,12 @@
 -- The sets between what is answered yes and what is not refused; and how what is said is kept as more is found.
-use Rattle.std.proofs.Common.{◌≡◌, ◌∙◌, ℕ, zero, suc, ◌<◌, ◌≤◌, ◌++◌, ◌||◌, ◌&&◌, ◌==◌, not, Bool, true, false, List, [], ◌∷◌, refl, sym, subst, ap, arith, append_assoc, true≢false, inl, inr}
-use Rattle.std.specs.Prelude.{None, Option, Some, bytes_eq, ◌⊎◌}
-use Rattle.std.proofs.lemmas.Bool.{eqb-true, false_from_ne_true, or_left, or_right}
-use Rattle.schema_definitions.specs.Instance.{Place, Step, same_place, same_step, to_item, to_member, to_name}
+use Rattle.std.proofs.Common.{◌≡◌, ◌∙◌, ℕ, ◌<◌, ◌++◌, ◌||◌, not, Bool, true, false, refl, sym, ap, append_assoc, true≢false, inl, inr}
+use Rattle.std.specs.Prelude.{None, Option, Some}
+use Rattle.std.proofs.lemmas.Bool.{false_from_ne_true, or_left, or_right}
+use Rattle.schema_definitions.specs.Instance.{Place}
 use Rattle.schema_definitions.specs.Keywords.{Below}
 use Rattle.schema_definitions.specs.Meaning.{place_below}
 use Rattle.schema_definitions.proofs.Products.{in_either}
-use Rattle.schema_solving.specs.Under.{FailsUnderEach, PairSet, Solving, IsSolvable, Stands, under}
+use Rattle.schema_solving.specs.Under.{FailsUnderEach, PairSet, Solving, IsSolvable, Stands}
 use Rattle.schema_solving.specs.Found.{Between, Found, Grows, IsSound, SaysPair, SaysUnder, accepted_now, refused, settled}
 use Rattle.schema_solving.proofs.Under.{below_begins, under_more}
 

@@ -1,7 +1,6 @@
 -- The pairs of some numbers and places: how many there are, at a place and in all.
-use Rattle.std.proofs.Common.{◌≡◌, ◌∙◌, ℕ, zero, suc, ◌+◌, ◌*◌, ◌<◌, ◌≤◌, ◌++◌, ◌||◌, ◌==◌, Bool, true, false, List, [], ◌∷◌, length, map, refl, sym, ap, arith, true≢false, length-append}
+use Rattle.std.proofs.Common.{◌≡◌, ℕ, ◌+◌, ◌*◌, ◌≤◌, ◌++◌, ◌||◌, ◌==◌, Bool, true, List, [], ◌∷◌, length, map, refl, sym, ap, arith, true≢false, length-append}
 use Rattle.std.specs.List.{list_any}
-use Rattle.std.proofs.Math.Nat.{mul-le-mul_left}
 use Rattle.std.proofs.lemmas.Bool.{or_left, or_right}
 use Rattle.std.proofs.lemmas.List.{length-map}
 use Rattle.schema_definitions.specs.Instance.{Place, same_place}
@@ -47,8 +46,10 @@ pairs_among (n ∷ ns) ps i p known there = any_append (λ (e : ℕ × Place). i
     (λ later. or_right (list_any (λ (e : ℕ × Place). is_this i p e.0 e.1) (map (λ q. (n, q)) ps)) _ (pairs_among ns ps i p later there)) known)
 
 -- of g numbers and p places, g * p * g at most
-pub bounded_by : (ns : List ℕ) (ps : List Place) (f : Found) (begun : ℕ) → 1 ≤ length ns → IsCounted (pairs_of ns ps) (length ns) f begun → IsBoundedBy ns ps begun
-bounded_by ns ps f begun some counted =
-    let most : begun ≤ length (pairs_of ns ps) * length ns = bounded (pairs_of ns ps) (length ns) f begun some counted in
-    let same : length (pairs_of ns ps) * length ns ≡ length ns * length ps * length ns = ap (λ n. n * length ns) (pairs_count ns ps) in
+pub bounded_by : (ns : List ℕ) (ps : List Place) (f : Found) (begun : ℕ) → IsCounted (pairs_of ns ps) (length ns) f begun → IsBoundedBy ns ps begun
+bounded_by [] ps f begun counted = omega (arith, counted)
+bounded_by (n ∷ ns) ps f begun counted =
+    let all : Pairs = pairs_of (n ∷ ns) ps in
+    let most : begun ≤ length all * length (n ∷ ns) = bounded all (length (n ∷ ns)) f begun (omega arith) counted in
+    let same : length all * length (n ∷ ns) ≡ length (n ∷ ns) * length ps * length (n ∷ ns) = ap (λ k. k * length (n ∷ ns)) (pairs_count (n ∷ ns) ps) in
     omega (arith, most, same)

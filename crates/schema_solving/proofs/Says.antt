@@ -1,14 +1,13 @@
 -- How what the functions of a solver say follows from what those say that they call.
-use Rattle.std.proofs.Common.{◌≡◌, ◌∙◌, ℕ, ◌<◌, ◌&&◌, Bool, true, false, List, [], ◌∷◌, refl, sym, ap, ap₂}
+use Rattle.std.proofs.Common.{◌≡◌, ◌∙◌, ℕ, ◌<◌, ◌&&◌, Bool, true, false, List, [], ◌∷◌, refl, ap, ap₂}
 use Rattle.std.specs.Prelude.{None, Option, Some}
-use Rattle.std.specs.List.{list_all}
 use Rattle.schema_definitions.specs.Instance.{Place, Step}
 use Rattle.schema_definitions.specs.Keywords.{Below, Question, down, here}
 use Rattle.schema_definitions.specs.Meaning.{place_below}
 use Rattle.schema_definitions.specs.Guarded.{Children, NodeEdge, NodeForm, NodePart, NodePlan, node_always, node_child, node_never, node_reference, node_these}
 use Rattle.schema_solving.specs.Under.{PairSet, Solving, IsSolvable, under}
-use Rattle.schema_solving.specs.Found.{Between, Found, Grows, SaysPair, SaysUnder}
-use Rattle.schema_solving.specs.Says.{ChildSays, EdgeSays, FormSays, PartsSay, child_under, edges_under, form_under, parts_under}
+use Rattle.schema_solving.specs.Found.{Found, Grows, SaysPair, SaysUnder}
+use Rattle.schema_solving.specs.Says.{ChildSays, EdgeSays, FormSays, PartsSay, edges_under, parts_under}
 use Rattle.schema_solving.proofs.Under.{under_is}
 use Rattle.schema_solving.proofs.Between.{grows_between}
 

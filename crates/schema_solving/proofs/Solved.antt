@@ -1,15 +1,13 @@
 -- With no pair in progress, a solver says the greatest solution.
-use Rattle.std.proofs.Common.{◌≡◌, ◌∙◌, ℕ, ◌<◌, Bool, true, false, [], refl, sym, ap, true≢false}
-use Rattle.std.specs.Prelude.{None, ◌↔◌}
+use Rattle.std.proofs.Common.{◌≡◌, ◌∙◌, ℕ, ◌<◌, Bool, true, refl, sym, true≢false}
 use Rattle.std.proofs.lemmas.Bool.{or_left}
-use Rattle.schema_definitions.specs.Instance.{Place, Text}
-use Rattle.schema_definitions.specs.Guarded.{guarded_within, node_outcome, yes_outcome}
-use Rattle.schema_meaning.specs.Numbered.{left, subject_in}
+use Rattle.schema_definitions.specs.Instance.{Place}
+use Rattle.schema_meaning.specs.Numbered.{subject_in}
 use Rattle.schema_greatest.specs.NodesSay.{NodeAcceptsGreatest}
 use Rattle.schema_greatest.proofs.NodesSay.{nodes_say_greatest}
 use Rattle.schema_solving.specs.Under.{PairSet, Solving, IsSolvable, Stands, under}
 use Rattle.schema_solving.specs.Found.{Found, IsSound, SaysUnder, accepted_now, settled}
-use Rattle.schema_solving.specs.Solved.{IsIdle, SolverSays, SolverSaysGreatest, SolverSaysGuarded, nothing_found}
+use Rattle.schema_solving.specs.Solved.{IsIdle, SolverSaysGreatest, SolverSaysGuarded, nothing_found}
 use Rattle.schema_solving.proofs.Under.{same_bool, solution_of, solution_stands, under_more}
 use Rattle.schema_solving.proofs.Between.{accepted_cases, between_now, between_with, both_sets, by_settled}
 

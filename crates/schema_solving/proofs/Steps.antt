@@ -1,15 +1,15 @@
 -- A pair is begun, refused, assumed or settled: what is found stays sound, it grows, and the pair says what was answered of it.
-use Rattle.std.proofs.Common.{◌≡◌, ◌∙◌, ℕ, ◌<◌, ◌≤◌, ◌++◌, ◌||◌, ◌&&◌, cond, not, Bool, true, false, List, [], length, refl, sym, subst, ap, true≢false, inl, inr}
-use Rattle.std.specs.Prelude.{None, Option, Some, if◌then◌else◌, ◌⊎◌}
+use Rattle.std.proofs.Common.{◌≡◌, ◌∙◌, ℕ, ◌<◌, ◌≤◌, ◌++◌, ◌||◌, ◌&&◌, not, Bool, true, false, [], length, refl, sym, subst, ap, true≢false, inl, inr}
+use Rattle.std.specs.Prelude.{None, Option, Some, if◌then◌else◌}
 use Rattle.std.proofs.lemmas.Bool.{and_parts, false_from_ne_true, or_left, or_right}
 use Rattle.std.proofs.lemmas.List.{append-nil}
 use Rattle.schema_definitions.specs.Instance.{Place}
 use Rattle.schema_definitions.proofs.Products.{both_true, in_either}
-use Rattle.schema_solving.specs.Under.{FailsUnderEach, PairSet, Solving, IsSolvable, Stands, under}
-use Rattle.schema_solving.specs.Found.{Between, Found, Grows, IsSound, NoneAt, NoneDeeper, SaysPair, SaysUnder, accepted_now, after_no, after_yes, after_yes_alone, entered, is_this, refused, settled, with_pair}
+use Rattle.schema_solving.specs.Under.{FailsUnderEach, PairSet, Solving, IsSolvable, under}
+use Rattle.schema_solving.specs.Found.{Found, Grows, IsSound, NoneAt, NoneDeeper, SaysPair, SaysUnder, accepted_now, after_no, after_yes, after_yes_alone, entered, is_this, settled, with_pair}
 use Rattle.schema_solving.proofs.Under.{under_more, under_more_below}
-use Rattle.schema_solving.proofs.Pairs.{no_longer, of_this, this_number, this_place, this_self, with_cases, with_others, with_self}
-use Rattle.schema_solving.proofs.Between.{accepted_cases, assumed_unknown, between_now, busy_unknown, by_assumed, by_busy, by_settled, fails_under_each, is_refused, is_settled, refused_by, settled_by, unknown_not_refused, unknown_not_settled}
+use Rattle.schema_solving.proofs.Pairs.{no_longer, of_this, this_place, this_self, with_cases, with_others, with_self}
+use Rattle.schema_solving.proofs.Between.{accepted_cases, assumed_unknown, between_now, busy_unknown, by_assumed, by_busy, by_settled, fails_under_each, is_refused, is_settled, refused_by, settled_by}
 
 -- ---- by a test
 

@@ -1,20 +1,19 @@
 -- A keyword's run for the verdict whose questions a solver answers: how it begins, goes on after each turn, and ends.
-use Rattle.std.proofs.Common.{◌≡◌, ◌∙◌, ℕ, Bool, true, false, List, [], ◌∷◌, refl, sym, subst, ap, true≢false}
+use Rattle.std.proofs.Common.{◌≡◌, ◌∙◌, ℕ, Bool, true, false, List, [], refl, sym, subst, ap, true≢false}
 use Rattle.std.specs.Prelude.{None, Option, Some}
-use Rattle.std.specs.List.{list_any}
 use Rattle.schema_definitions.specs.Instance.{Place, Subject, Text}
-use Rattle.schema_definitions.specs.Reports.{Error, Outcome, accepted}
-use Rattle.schema_definitions.specs.Keywords.{Answer, Answers, Below, Keywords, Marked, Question, Reply, Turn, ask, done, for_verdict, no_reply, truth}
+use Rattle.schema_definitions.specs.Reports.{Outcome, accepted}
+use Rattle.schema_definitions.specs.Keywords.{Answer, Below, Marked, Question, Reply, Turn, ask, done, for_verdict, no_reply, truth}
 use Rattle.schema_definitions.specs.Meaning.{place_below}
 use Rattle.schema_definitions.specs.Laws.{Agrees, AnsweredAlike, IsRight}
-use Rattle.schema_definitions.specs.Turns.{Standing, TurnLaws, marks_after, next, reply_to, step_at, turned}
-use Rattle.schema_definitions.specs.Guarded.{Children, NodeEdge, node_asked, node_child, node_keyword, same_edge}
+use Rattle.schema_definitions.specs.Turns.{Standing, TurnLaws, marks_after, next, reply_to}
+use Rattle.schema_definitions.specs.Guarded.{Children, NodeEdge, node_child, node_keyword, same_edge}
 use Rattle.schema_meaning.specs.Numbered.{subject_in}
 use Rattle.schema_meaning.proofs.Alike.{EdgesAlike, children_alike}
-use Rattle.schema_solving.specs.Under.{PairSet, Solving, IsSolvable, across_under, under}
+use Rattle.schema_solving.specs.Under.{PairSet, Solving, IsSolvable, under}
 use Rattle.schema_solving.specs.Found.{Between, Found, Grows}
 use Rattle.schema_solving.specs.Says.{ChildSays, FormSays, child_under, edges_under}
-use Rattle.schema_solving.specs.Turning.{EndsUnder, TurnsUnder, answers_under, matches_here, outcome_with, some_error, stands_under, subject_here, units_under}
+use Rattle.schema_solving.specs.Turning.{EndsUnder, TurnsUnder, answers_under, matches_here, outcome_with, stands_under, subject_here, units_under}
 use Rattle.schema_solving.proofs.Between.{grows_between}
 
 outcome_verdict : (b : Bool) → (outcome_with b).verdict ≡ b

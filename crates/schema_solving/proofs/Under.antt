@@ -1,13 +1,10 @@
 -- A number under a set: at every depth that is enough, and more of it under more pairs.
-use Rattle.std.proofs.Common.{◌≡◌, ◌∙◌, ℕ, zero, suc, ◌<◌, ◌++◌, Bool, true, false, List, [], ◌∷◌, refl, sym, subst, ap, arith, append_assoc, true≢false}
-use Rattle.std.specs.Prelude.{Contains}
+use Rattle.std.proofs.Common.{◌≡◌, ◌∙◌, ℕ, zero, suc, ◌<◌, ◌++◌, Bool, true, false, [], ◌∷◌, refl, sym, subst, ap, arith, append_assoc, true≢false}
 use Rattle.std.proofs.lemmas.List.{append-nil}
 use Rattle.schema_definitions.specs.Instance.{Place}
 use Rattle.schema_definitions.specs.Keywords.{Below, here, down}
 use Rattle.schema_definitions.specs.Meaning.{place_below}
 use Rattle.schema_definitions.specs.Guarded.{NodeEdge}
-use Rattle.schema_meaning.specs.Fractions.{node_words}
-use Rattle.schema_meaning.specs.Greatest.{IsMonotone}
 use Rattle.schema_meaning.specs.Numbered.{left, subject_in}
 use Rattle.schema_meaning.proofs.Reading.{Reads, reads_of}
 use Rattle.schema_meaning.proofs.Settles.{NodeAsks, free_falls}

@@ -1,5 +1,5 @@
 -- Each step of a solver begins no more than what the pairs may have cost.
-use Rattle.std.proofs.Common.{◌≡◌, ◌∙◌, ℕ, zero, suc, ◌+◌, ◌*◌, ◌<◌, ◌≤◌, ◌++◌, ◌||◌, ◌&&◌, cond, not, Bool, true, false, List, [], ◌∷◌, length, refl, sym, subst, ap, ap₂, arith, rules, true≢false}
+use Rattle.std.proofs.Common.{◌≡◌, ◌∙◌, ℕ, ◌+◌, ◌*◌, ◌<◌, ◌≤◌, ◌||◌, ◌&&◌, not, Bool, true, false, [], ◌∷◌, length, refl, sym, subst, ap, ap₂, arith, true≢false}
 use Rattle.std.specs.Prelude.{None, Option, Some, if◌then◌else◌}
 use Rattle.std.specs.List.{list_any}
 use Rattle.std.proofs.lemmas.Bool.{and_parts, false_from_ne_true, or_left, or_right}
@@ -8,8 +8,8 @@ use Rattle.schema_definitions.proofs.Products.{both_true, in_either}
 use Rattle.schema_solving.specs.Under.{Solving, IsSolvable}
 use Rattle.schema_solving.specs.Found.{Found, Grows, IsSound, NoneAt, NoneDeeper, after_no, after_yes, after_yes_alone, entered, is_this}
 use Rattle.schema_solving.specs.Work.{AtMostAt, IsAmong, IsBounded, IsCounted, Pairs, one_if, sum_over, weight, weight_of}
-use Rattle.schema_solving.proofs.Pairs.{of_this, this_place, this_self, with_cases, with_others}
-use Rattle.schema_solving.proofs.Between.{assumed_unknown, busy_unknown}
+use Rattle.schema_solving.proofs.Pairs.{of_this, this_self, with_cases, with_others}
+use Rattle.schema_solving.proofs.Between.{assumed_unknown}
 use Rattle.schema_solving.proofs.Steps.{by_test, if_false, if_true, new_unknown, since_here, unknown}
 
 -- ---- sums

@@ -3,7 +3,7 @@ use Rattle.std.specs.Prelude.{Bool, List, None, [], false, true, ◌∷◌}
 use Rattle.schema_definitions.specs.Instance.{Place, Subject}
 use Rattle.schema_definitions.specs.Reports.{Error, Outcome, Unit_, accepted, no_units, unit}
 use Rattle.schema_definitions.specs.Matching.{Matching, matching}
-use Rattle.schema_definitions.specs.Keywords.{Answer, Answers, Keywords, Marked, Question, Reply, for_verdict}
+use Rattle.schema_definitions.specs.Keywords.{Answer, Answers, Marked, Question, Reply, for_verdict}
 use Rattle.schema_definitions.specs.Laws.{IsRight}
 use Rattle.schema_definitions.specs.Turns.{Standing}
 use Rattle.schema_definitions.specs.Guarded.{Children, node_asked, same_edge}
