@@ -1,0 +1,88 @@
+-- What each function of a solver's cycle is asked, what it does to the context, and what it says.
+use Rattle.std.specs.List.{list_any}
+use Rattle.std.specs.Prelude.{All, Bool, List, Some, [], false, length, not, true, ℕ, ◌++◌, ◌<◌, ◌==◌, ◌||◌, ◌≡◌}
+use Rattle.serde_json.specs.Data.{Data}
+use Rattle.serde_json.specs.View.{view}
+use Rattle.serde_json.specs.Written.{has_float}
+use Rattle.schema_definitions.specs.Instance.{Place, Subject, places, subject_at}
+use Rattle.schema_definitions.specs.Keywords.{Keywords}
+use Rattle.schema_definitions.specs.Matching.{Matcher, completion_of}
+use Rattle.schema_definitions.specs.Guarded.{NodeEdge, Nodes, node_edges}
+use Rattle.schema_meaning.specs.Fractions.{AreWhole}
+use Rattle.schema_meaning.specs.Numbered.{Ranked}
+use Rattle.schema_greatest.specs.NodesSay.{AreMonotone}
+use Rattle.schema_parts.specs.MatcherViews.{FinishesEach}
+use Rattle.schema_contexts.specs.Progress.{NoDeeper, Pairs}
+use Rattle.schema_solving.specs.Under.{Solving}
+use Rattle.schema_solving.specs.Found.{Grows, IsSound}
+use Rattle.schema_solving.specs.Work.{IsCounted, pairs_of}
+use Rattle.schema_solver.specs.Contexts.{Solver, found_of, has_pair, solver_places}
+
+-- what a solver is made with: the keywords as they are read, the numbered nodes, how many there are, which of them are settled, and the
+-- matcher
+pub record Setting (K R : Type 0) : Type 0 where
+  pub words : Bool → Keywords K R
+  pub is_whole : K → Bool
+  pub nodes : Nodes K
+  pub count : ℕ
+  pub is_settled : ℕ → Bool
+  pub matcher : Matcher
+
+-- texts are spoken of only where neither the root value nor a keyword of the table holds a fraction
+pub record TellsAll {K : Type 0} (texts : Bool) (root : Data) (is_whole : K → Bool) (nodes : Nodes K) (count : ℕ) : Type 0 where
+  pub keywords : texts ≡ true → AreWhole is_whole nodes count
+  pub instance : texts ≡ true → has_float root ≡ false
+
+-- an edge whose pair is answered by what is found: a guarded one, and one that leads to a number that is not settled
+abbrev pub is_cut : (ℕ → Bool) → NodeEdge → Bool
+is_cut is_settled e = e.guarded || not (is_settled e.node)
+
+module _ {K R : Type 0} (g : Setting K R) where
+  -- what is solved in a reading of texts; no match stays unfinished, so one completion is as good as another
+  abbrev pub solving_in : Data → Bool → Solving K R
+  solving_in root texts = record {
+    keywords = g.words texts;
+    matcher = g.matcher;
+    nodes = g.nodes;
+    count = g.count;
+    instance = root;
+    completion = completion_of [];
+    cut = is_cut g.is_settled;
+  }
+
+  -- a fact in each reading
+  abbrev pub InEach : Data → (Bool → Solving K R → Type 0) → Type 0
+  InEach root fact = (texts : Bool) → TellsAll texts root g.is_whole g.nodes g.count → fact texts (solving_in root texts)
+
+  abbrev pub IsSoundIn : Solver → Type 0
+  IsSoundIn c = InEach (view c.root) (λ texts w. IsSound w (found_of c))
+
+  -- each number that an edge leads to whose pair is answered by what is found
+  abbrev pub HasEachCut : List ℕ → Type 0
+  HasEachCut ns = (i : ℕ) → i < g.count → All (λ e. is_cut g.is_settled e ≡ true → list_any (λ n. e.node == n) ns ≡ true) (node_edges (g.nodes.entries i))
+
+  -- no more pairs were begun than what the pairs may have cost, before and so after
+  abbrev pub StaysCounted : Solver → Solver → Type 0
+  StaysCounted c c' = (ns : List ℕ) → HasEachCut ns → IsCounted (pairs_of ns (solver_places c)) (length ns) (found_of c) c.begun
+      → IsCounted (pairs_of ns (solver_places c)) (length ns) (found_of c') c'.begun
+
+  -- a number of the table may be asked of a subject at a place
+  pub record MaySolve (c : Solver) (s : Subject) (p : Place) (i : ℕ) : Type 0 where
+    pub known : i < g.count
+    pub ranked : Ranked g.nodes g.count
+    pub monotone : (texts : Bool) → AreMonotone (g.words texts) g.nodes g.count
+    pub finishes : FinishesEach g.matcher
+    pub above : NoDeeper p c.in_progress
+    pub stands : subject_at (view c.root) p ≡ Some s
+    pub sound : IsSoundIn c
+
+  -- what is in progress stays, more is assumed that was not, what is known stays known, what is found stays sound, and the count right
+  pub record Goes (p : Place) (c c' : Solver) : Type 0 where
+    pub root : c'.root ≡ c.root
+    pub in_progress : c'.in_progress ≡ c.in_progress
+    pub more : Pairs
+    pub assumed : c'.assumed ≡ c.assumed ++ more
+    pub apart : (i : ℕ) (q : Place) → has_pair more i q ≡ true → has_pair c.assumed i q ≡ false
+    pub grew : Grows p (found_of c) (found_of c')
+    pub sound : IsSoundIn c'
+    pub counted : StaysCounted c c'
