@@ -28,7 +28,7 @@ has_append [] fs i p = refl
 has_append (e ∷ es) fs i p = ap (λ b. is_pair i p e || b) (has_append es fs i p) ∙ or_joined (is_pair i p e) (has_pair es i p) (has_pair fs i p)
 
 -- a list with one more
-has_pushed : (es : Pairs) (i : ℕ) (p : Place) (j : ℕ) (q : Place) → has_pair (es ++ (i, p) ∷ []) j q ≡ (is_this i p j q || has_pair es j q)
+pub has_pushed : (es : Pairs) (i : ℕ) (p : Place) (j : ℕ) (q : Place) → has_pair (es ++ (i, p) ∷ []) j q ≡ (is_this i p j q || has_pair es j q)
 has_pushed es i p j q = has_append es ((i, p) ∷ []) j q ∙ or_over (has_pair es j q) (is_this i p j q) false ∙ ap (λ b. is_this i p j q || b) (or_none (has_pair es j q))
 
 -- a pair that is not this one, said the other way round

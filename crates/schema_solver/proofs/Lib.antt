@@ -1,1 +1,2 @@
 pub mod FoundOf
+pub mod PairSteps

@@ -1,10 +1,10 @@
 -- What each function of a solver's cycle is asked, what it does to the context, and what it says.
 use Rattle.std.specs.List.{list_any}
-use Rattle.std.specs.Prelude.{All, Bool, List, Some, [], false, length, not, true, ℕ, ◌++◌, ◌<◌, ◌==◌, ◌||◌, ◌≡◌}
+use Rattle.std.specs.Prelude.{All, Bool, List, None, Some, [], false, length, not, true, ℕ, ◌++◌, ◌+◌, ◌<◌, ◌==◌, ◌||◌, ◌∷◌, ◌≡◌, ◌≤◌}
 use Rattle.serde_json.specs.Data.{Data}
 use Rattle.serde_json.specs.View.{view}
 use Rattle.serde_json.specs.Written.{has_float}
-use Rattle.schema_definitions.specs.Instance.{Place, Subject, places, subject_at}
+use Rattle.schema_definitions.specs.Instance.{Place, Subject, same_place, subject_at}
 use Rattle.schema_definitions.specs.Keywords.{Keywords}
 use Rattle.schema_definitions.specs.Matching.{Matcher, completion_of}
 use Rattle.schema_definitions.specs.Guarded.{NodeEdge, Nodes, node_edges}
@@ -13,9 +13,10 @@ use Rattle.schema_meaning.specs.Numbered.{Ranked}
 use Rattle.schema_greatest.specs.NodesSay.{AreMonotone}
 use Rattle.schema_parts.specs.MatcherViews.{FinishesEach}
 use Rattle.schema_contexts.specs.Progress.{NoDeeper, Pairs}
+use Rattle.schema_contexts.specs.Verdicts.{verdict_of}
 use Rattle.schema_solving.specs.Under.{Solving}
 use Rattle.schema_solving.specs.Found.{Grows, IsSound}
-use Rattle.schema_solving.specs.Work.{IsCounted, pairs_of}
+use Rattle.schema_solving.specs.Work.{EachOnce, IsCounted, pairs_of}
 use Rattle.schema_solver.specs.Contexts.{Solver, found_of, has_pair, solver_places}
 
 -- what a solver is made with: the keywords as they are read, the numbered nodes, how many there are, which of them are settled, and the
@@ -86,3 +87,30 @@ module _ {K R : Type 0} (g : Setting K R) where
     pub grew : Grows p (found_of c) (found_of c')
     pub sound : IsSoundIn c'
     pub counted : StaysCounted c c'
+
+-- ---- the steps of a pair
+
+-- it is begun: it goes last among those in progress
+pub record Begins (i : ℕ) (p : Place) (old new : Solver) : Type 0 where
+  pub root : new.root ≡ old.root
+  pub in_progress : new.in_progress ≡ old.in_progress ++ (i, p) ∷ []
+  pub assumed : new.assumed ≡ old.assumed
+  pub verdicts : new.verdicts ≡ old.verdicts
+  pub marking : new.marking ≡ old.marking
+  pub begun : new.begun ≤ old.begun + 1
+
+-- it is left, and no pair is begun
+pub record Leaves (old end new : Solver) : Type 0 where
+  pub root : new.root ≡ end.root
+  pub in_progress : new.in_progress ≡ old.in_progress
+  pub marking : new.marking ≡ end.marking
+  pub begun : new.begun ≡ end.begun
+
+-- nothing is found of the pair, it may be begun, and no place of the instance stands twice among its places
+pub record IsNew {K R : Type 0} (g : Setting K R) (c : Solver) (p : Place) (i : ℕ) : Type 0 where
+  pub unknown : verdict_of i p c.verdicts ≡ None
+  pub idle : has_pair c.in_progress i p ≡ false
+  pub free : has_pair c.assumed i p ≡ false
+  pub among : (ns : List ℕ) → HasEachCut g ns → list_any (λ n. i == n) ns ≡ true
+  pub there : list_any (same_place p) (solver_places c) ≡ true
+  pub once : EachOnce (solver_places c)
