@@ -23,7 +23,7 @@ or_joined : (a b c : Bool) → (a || (b || c)) ≡ ((a || b) || c)
 or_joined true b c = refl
 or_joined false b c = refl
 
-has_append : (es fs : Pairs) (i : ℕ) (p : Place) → has_pair (es ++ fs) i p ≡ (has_pair es i p || has_pair fs i p)
+pub has_append : (es fs : Pairs) (i : ℕ) (p : Place) → has_pair (es ++ fs) i p ≡ (has_pair es i p || has_pair fs i p)
 has_append [] fs i p = refl
 has_append (e ∷ es) fs i p = ap (λ b. is_pair i p e || b) (has_append es fs i p) ∙ or_joined (is_pair i p e) (has_pair es i p) (has_pair fs i p)
 

@@ -1,2 +1,3 @@
 pub mod FoundOf
 pub mod PairSteps
+pub mod Going

@@ -3,20 +3,21 @@ use Rattle.std.specs.List.{list_any}
 use Rattle.std.specs.Prelude.{All, Bool, List, None, Some, [], false, length, not, true, ℕ, ◌++◌, ◌+◌, ◌<◌, ◌==◌, ◌||◌, ◌∷◌, ◌≡◌, ◌≤◌}
 use Rattle.serde_json.specs.Data.{Data}
 use Rattle.serde_json.specs.View.{view}
+use Rattle.serde_json.specs.declared.value.Value.{Value}
 use Rattle.serde_json.specs.Written.{has_float}
-use Rattle.schema_definitions.specs.Instance.{Place, Subject, same_place, subject_at}
+use Rattle.schema_definitions.specs.Instance.{Place, Subject, Text, same_place, subject_at}
 use Rattle.schema_definitions.specs.Keywords.{Keywords}
 use Rattle.schema_definitions.specs.Matching.{Matcher, completion_of}
-use Rattle.schema_definitions.specs.Guarded.{NodeEdge, Nodes, node_edges}
+use Rattle.schema_definitions.specs.Guarded.{NodeEdge, Nodes, guarded_within, node_edges, node_outcome, yes_outcome}
 use Rattle.schema_meaning.specs.Fractions.{AreWhole}
-use Rattle.schema_meaning.specs.Numbered.{Ranked}
+use Rattle.schema_meaning.specs.Numbered.{Ranked, left, subject_in}
 use Rattle.schema_greatest.specs.NodesSay.{AreMonotone}
 use Rattle.schema_parts.specs.MatcherViews.{FinishesEach}
-use Rattle.schema_contexts.specs.Progress.{NoDeeper, Pairs}
+use Rattle.schema_contexts.specs.Progress.{NoDeeper, Pairs, root_places}
 use Rattle.schema_contexts.specs.Verdicts.{verdict_of}
 use Rattle.schema_solving.specs.Under.{Solving}
 use Rattle.schema_solving.specs.Found.{Grows, IsSound}
-use Rattle.schema_solving.specs.Work.{EachOnce, IsCounted, pairs_of}
+use Rattle.schema_solving.specs.Work.{EachOnce, IsBoundedBy, IsCounted, pairs_of}
 use Rattle.schema_solver.specs.Contexts.{Solver, found_of, has_pair, solver_places}
 
 -- what a solver is made with: the keywords as they are read, the numbered nodes, how many there are, which of them are settled, and the
@@ -114,3 +115,19 @@ pub record IsNew {K R : Type 0} (g : Setting K R) (c : Solver) (p : Place) (i : 
   pub among : (ns : List ℕ) → HasEachCut g ns → list_any (λ n. i == n) ns ≡ true
   pub there : list_any (same_place p) (solver_places c) ≡ true
   pub once : EachOnce (solver_places c)
+
+-- ---- how it begins and ends
+
+-- nothing is in progress, assumed, known or marked, and no pair was begun
+abbrev pub fresh : Value → Solver
+fresh v = record { root = v; in_progress = []; assumed = []; verdicts = []; marking = []; begun = 0 }
+
+-- what is said of a number of an instance at its root place: what nodes say under guards with no pair in progress, in each reading of
+-- texts, by any path and at every depth that is enough, where no match stays unfinished
+abbrev pub SaysAsNodes : {K R : Type 0} → Setting K R → Data → ℕ → Bool → Type 0
+SaysAsNodes g root i b = InEach g root (λ texts w. (path : Text) (n : ℕ) → left g.nodes g.count i (subject_in root []) [] < n
+    → (guarded_within yes_outcome (node_outcome w.keywords w.matcher w.nodes (subject_in root) w.completion) n i path [] []).verdict ≡ b)
+
+-- so many pairs are begun at most: of the numbers that an edge leads to whose pair is answered by what is found, and of the places
+abbrev pub BeginsFew : {K R : Type 0} → Setting K R → Value → ℕ → Type 0
+BeginsFew g v begun = (ns : List ℕ) → HasEachCut g ns → IsBoundedBy ns (root_places v) begun
