@@ -1,3 +1,4 @@
 pub mod FoundOf
 pub mod PairSteps
 pub mod Going
+pub mod PlacesOnce
