@@ -51,7 +51,7 @@ module _ {K R : Type 0} (g : Setting K R) where
     apart = λ i q is. in_either (has_pair first.more i q) (has_pair second.more i q)
         (first.apart i q)
         (λ later. false_from_ne_true (has_pair a.assumed i q) (λ had. true≢false
-            (sym (ap (λ es. has_pair es i q) first.assumed ∙ has_append a.assumed first.more i q ∙ or_left (has_pair a.assumed i q) _ had) ∙ second.apart i q later)))
+        (sym (ap (λ es. has_pair es i q) first.assumed ∙ has_append a.assumed first.more i q ∙ or_left (has_pair a.assumed i q) _ had) ∙ second.apart i q later)))
         (sym (has_append first.more second.more i q) ∙ is);
     grew = grows_on p (found_of a) (found_of b) (found_of c) first.grew second.grew;
     sound = second.sound;

@@ -145,11 +145,11 @@ module _ {K R : Type 0} (w : Solving K R) (solvable : IsSolvable w) where
       placed = λ j q. with_cases f.assumed i p j q
           (λ this. (k, subst (λ r. old.busy k r ≡ true) (this_place i p j q this) beside))
           (λ now.
-              let other = sound.placed j q now in
-              with_cases old.busy i p other.0 q
-              (λ this. (k, subst (λ r. old.busy k r ≡ true) (this_place i p other.0 q this) beside))
-              (λ was. (other.0, was))
-              (sym (grew.busy other.0 q) ∙ other.1));
+          let other = sound.placed j q now in
+          with_cases old.busy i p other.0 q
+          (λ this. (k, subst (λ r. old.busy k r ≡ true) (this_place i p other.0 q this) beside))
+          (λ was. (other.0, was))
+          (sym (grew.busy other.0 q) ∙ other.1));
       stands = sound.stands;
       fails = sound.fails;
     }
@@ -224,7 +224,7 @@ module _ {K R : Type 0} (w : Solving K R) (solvable : IsSolvable w) where
           (λ was. absurd (none_from j r was))
           (sym (grew.busy j (p ++ r)) ∙ now))
           (λ now. new_settled j (p ++ r) (or_right (is_this i p j (p ++ r)) _
-              (both_true _ _ now (ap not (false_from_ne_true (old.assumed j (p ++ r)) (none_assumed j r))))))
+          (both_true _ _ now (ap not (false_from_ne_true (old.assumed j (p ++ r)) (none_assumed j r))))))
           (λ now. alone_settled j (p ++ r) now)
 
       new_stands : SaysUnder w f i p true → (j : ℕ) (q : Place) → j < w.count → new j q ≡ true → under w (settled alone) j q ≡ true
@@ -256,7 +256,7 @@ module _ {K R : Type 0} (w : Solving K R) (solvable : IsSolvable w) where
         stands = λ j q k is. by_test (new j q)
             (new_stands says j q k)
             (λ other. under_more w solvable (settled f) (settled alone) j q k alone_settled
-                (sound.stands j q k (settled_by f j q (sym (if_false (new j q) _ _ other) ∙ is_settled alone j q is))));
+            (sound.stands j q k (settled_by f j q (sym (if_false (new j q) _ _ other) ∙ is_settled alone j q is))));
         fails = λ j q is. by_test (new j q)
             (λ fresh. absurd (let f : ⊥ = let both : Some true ≡ Some false = sym (if_true (new j q) (Some true) (f.known j q) fresh) ∙ is_refused alone j q is in cc both in f))
             (λ other. sound.fails j q (refused_by f j q (sym (if_false (new j q) _ _ other) ∙ is_refused alone j q is)));

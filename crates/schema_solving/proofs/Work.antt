@@ -70,17 +70,17 @@ entered_counts all most f i p begun among unseen idle free counted = omega (arit
     each : (j : ℕ) (q : Place) → weight most f j q + (if is_this i p j q then 1 else 0) ≤ weight most (entered f i p) j q + 0
     each j q = by_test (is_this i p j q)
         (λ this.
-            let o : f.known j q ≡ None = of_this (λ k r. f.known k r ≡ None) i p j q this unseen in
-            let b : (f.busy j q || f.assumed j q) ≡ false = of_this (λ k r. (f.busy k r || f.assumed k r) ≡ false) i p j q this (ap (λ b. b || f.assumed i p) idle ∙ free) in
-            let was : weight most f j q ≡ 0 = ap₂ (weight_of most) o b in
-            let one : ◌≡◌ {A = ℕ} (if is_this i p j q then 1 else 0) 1 = if_true (is_this i p j q) 1 0 this in
-            let now : weight most (entered f i p) j q ≡ 1 = ap₂ (weight_of most) o (or_left ((entered f i p).busy j q) _ (or_left (is_this i p j q) _ this)) in
-            omega (arith, was, one, now))
+        let o : f.known j q ≡ None = of_this (λ k r. f.known k r ≡ None) i p j q this unseen in
+        let b : (f.busy j q || f.assumed j q) ≡ false = of_this (λ k r. (f.busy k r || f.assumed k r) ≡ false) i p j q this (ap (λ b. b || f.assumed i p) idle ∙ free) in
+        let was : weight most f j q ≡ 0 = ap₂ (weight_of most) o b in
+        let one : ◌≡◌ {A = ℕ} (if is_this i p j q then 1 else 0) 1 = if_true (is_this i p j q) 1 0 this in
+        let now : weight most (entered f i p) j q ≡ 1 = ap₂ (weight_of most) o (or_left ((entered f i p).busy j q) _ (or_left (is_this i p j q) _ this)) in
+        omega (arith, was, one, now))
         (λ other.
-            let none : ◌≡◌ {A = ℕ} (if is_this i p j q then 1 else 0) 0 = if_false (is_this i p j q) 1 0 other in
-            let more = weight_more most (f.known j q) (f.busy j q || f.assumed j q) ((entered f i p).busy j q || f.assumed j q)
-            (in_either (f.busy j q) (f.assumed j q) (λ now. or_left ((entered f i p).busy j q) _ (with_others f.busy i p j q now)) (λ now. or_right ((entered f i p).busy j q) _ now)) in
-            omega (arith, none, more))
+        let none : ◌≡◌ {A = ℕ} (if is_this i p j q then 1 else 0) 0 = if_false (is_this i p j q) 1 0 other in
+        let more = weight_more most (f.known j q) (f.busy j q || f.assumed j q) ((entered f i p).busy j q || f.assumed j q)
+        (in_either (f.busy j q) (f.assumed j q) (λ now. or_left ((entered f i p).busy j q) _ (with_others f.busy i p j q now)) (λ now. or_right ((entered f i p).busy j q) _ now)) in
+        omega (arith, none, more))
 
 module _ {K R : Type 0} (w : Solving K R) (solvable : IsSolvable w) (old f : Found) (i : ℕ) (p : Place) (l : i < w.count) (before : IsSound w old) (sound : IsSound w f) (grew : Grows p (entered old i p) f) (all : Pairs) (most begun : ℕ) where
   -- what is answered yes and was neither assumed since nor is the pair was so before
@@ -88,8 +88,8 @@ module _ {K R : Type 0} (w : Solving K R) (solvable : IsSolvable w) (old f : Fou
   was_so j q other earlier = in_either (f.busy j q) (f.assumed j q)
       (λ now. with_cases old.busy i p j q (λ this. absurd (true≢false (sym this ∙ other))) (λ was. or_left (old.busy j q) _ was) (sym (grew.busy j q) ∙ now))
       (λ now. by_test (old.assumed j q)
-          (λ had. or_right (old.busy j q) _ had)
-          (λ lacked. absurd (true≢false (sym (both_true _ _ now (ap not lacked)) ∙ earlier))))
+      (λ had. or_right (old.busy j q) _ had)
+      (λ lacked. absurd (true≢false (sym (both_true _ _ now (ap not lacked)) ∙ earlier))))
 
   -- ---- after a yes
 
@@ -110,42 +110,47 @@ module _ {K R : Type 0} (w : Solving K R) (solvable : IsSolvable w) (old f : Fou
       each : (j : ℕ) (q : Place) → weight most f j q ≤ weight most (after_yes_alone old f i p) j q
       each j q = by_test (fresh j q)
           (λ is.
-              let o : f.known j q ≡ None = new_unknown w solvable old f i p l before sound grew none_at none_deeper j q is in
-              let was : weight most f j q ≡ one_if (f.busy j q || f.assumed j q) = ap (λ o. weight_of most o (f.busy j q || f.assumed j q)) o in
-              let now : weight most (after_yes_alone old f i p) j q ≡ 1 = ap (λ o. weight_of most o (old.busy j q || old.assumed j q)) (if_true (fresh j q) (Some true) (f.known j q) is) in
-              omega (arith, was, now, one_at_most (f.busy j q || f.assumed j q)))
+          let o : f.known j q ≡ None = new_unknown w solvable old f i p l before sound grew none_at none_deeper j q is in
+          let was : weight most f j q ≡ one_if (f.busy j q || f.assumed j q) = ap (λ o. weight_of most o (f.busy j q || f.assumed j q)) o in
+          let now : weight most (after_yes_alone old f i p) j q ≡ 1 = ap (λ o. weight_of most o (old.busy j q || old.assumed j q)) (if_true (fresh j q) (Some true) (f.known j q) is) in
+          omega (arith, was, now, one_at_most (f.busy j q || f.assumed j q)))
           (λ is.
-              let other : is_this i p j q ≡ false = false_from_ne_true (is_this i p j q) (λ this. true≢false (sym (or_left (is_this i p j q) _ this) ∙ is)) in
-              let earlier : (f.assumed j q && not (old.assumed j q)) ≡ false = false_from_ne_true _ (λ since. true≢false (sym (or_right (is_this i p j q) _ since) ∙ is)) in
-              let now : weight most (after_yes_alone old f i p) j q ≡ weight_of most (f.known j q) (old.busy j q || old.assumed j q) = ap (λ o. weight_of most o (old.busy j q || old.assumed j q)) (if_false (fresh j q) (Some true) (f.known j q) is) in
-              let more = weight_more most (f.known j q) (f.busy j q || f.assumed j q) (old.busy j q || old.assumed j q) (was_so j q other earlier) in
-              omega (arith, now, more))
+          let other : is_this i p j q ≡ false = false_from_ne_true (is_this i p j q) (λ this. true≢false (sym (or_left (is_this i p j q) _ this) ∙ is)) in
+          let earlier : (f.assumed j q && not (old.assumed j q)) ≡ false = false_from_ne_true _ (λ since. true≢false (sym (or_right (is_this i p j q) _ since) ∙ is)) in
+          let now : weight most (after_yes_alone old f i p) j q ≡ weight_of most (f.known j q) (old.busy j q || old.assumed j q) = ap (λ o. weight_of most o (old.busy j q || old.assumed j q)) (if_false (fresh j q) (Some true) (f.known j q) is) in
+          let more = weight_more most (f.known j q) (f.busy j q || f.assumed j q) (old.busy j q || old.assumed j q) (was_so j q other earlier) in
+          omega (arith, now, more))
 
   -- ---- after a no: what was assumed since is dropped, at this place alone
 
   pub refused_counts : IsAmong all i p → AtMostAt all most → NoneDeeper p old → IsCounted all most f begun → IsCounted all most (after_no old f i p) begun
-  refused_counts among few none_deeper counted = omega (arith, counted, few p, among_counts most i p all among,
-      sums_le (weight most f) (λ j q. if is_this i p j q then most else 0) (weight most (after_no old f i p)) (λ j q. one_if (same_place p q)) each all)
+  refused_counts among few none_deeper counted = omega (
+    arith,
+    counted,
+    few p,
+    among_counts most i p all among,
+    sums_le (weight most f) (λ j q. if is_this i p j q then most else 0) (weight most (after_no old f i p)) (λ j q. one_if (same_place p q)) each all,
+  )
     where
       each : (j : ℕ) (q : Place) → weight most f j q + (if is_this i p j q then most else 0) ≤ weight most (after_no old f i p) j q + one_if (same_place p q)
       each j q = by_test (is_this i p j q)
           (λ this.
-              let o : f.known j q ≡ None = of_this (λ k r. f.known k r ≡ None) i p j q this (unknown w solvable old f i p l before sound grew) in
-              let was : weight most f j q ≡ one_if (f.busy j q || f.assumed j q) = ap (λ o. weight_of most o (f.busy j q || f.assumed j q)) o in
-              let one : (if is_this i p j q then most else 0) ≡ most = if_true (is_this i p j q) most 0 this in
-              let now : weight most (after_no old f i p) j q ≡ most = ap (λ o. weight_of most o (old.busy j q || old.assumed j q)) (if_true (is_this i p j q) (Some false) (f.known j q) this) in
-              let here : one_if (same_place p q) ≡ 1 = ap one_if (and_parts _ (same_place p q) this).1 in
-              omega (arith, was, one, now, here, one_at_most (f.busy j q || f.assumed j q)))
+          let o : f.known j q ≡ None = of_this (λ k r. f.known k r ≡ None) i p j q this (unknown w solvable old f i p l before sound grew) in
+          let was : weight most f j q ≡ one_if (f.busy j q || f.assumed j q) = ap (λ o. weight_of most o (f.busy j q || f.assumed j q)) o in
+          let one : (if is_this i p j q then most else 0) ≡ most = if_true (is_this i p j q) most 0 this in
+          let now : weight most (after_no old f i p) j q ≡ most = ap (λ o. weight_of most o (old.busy j q || old.assumed j q)) (if_true (is_this i p j q) (Some false) (f.known j q) this) in
+          let here : one_if (same_place p q) ≡ 1 = ap one_if (and_parts _ (same_place p q) this).1 in
+          omega (arith, was, one, now, here, one_at_most (f.busy j q || f.assumed j q)))
           (λ other.
-              let none : (if is_this i p j q then most else 0) ≡ 0 = if_false (is_this i p j q) most 0 other in
-              let now : weight most (after_no old f i p) j q ≡ weight_of most (f.known j q) (old.busy j q || old.assumed j q) = ap (λ o. weight_of most o (old.busy j q || old.assumed j q)) (if_false (is_this i p j q) (Some false) (f.known j q) other) in
-              by_test (f.assumed j q && not (old.assumed j q))
-              (λ later.
-                  let o : f.known j q ≡ None = assumed_unknown w f sound j q (and_parts (f.assumed j q) _ later).0 in
-                  let was : weight most f j q ≡ one_if (f.busy j q || f.assumed j q) = ap (λ o. weight_of most o (f.busy j q || f.assumed j q)) o in
-                  let at_place : q ≡ p = since_here w solvable old f i p l before sound grew none_deeper j q later in
-                  let here : one_if (same_place p q) ≡ 1 = ap one_if (subst (λ r. same_place p r ≡ true) (sym at_place) (and_parts _ (same_place p p) (this_self i p)).1) in
-                  omega (arith, none, was, here, one_at_most (f.busy j q || f.assumed j q)))
-              (λ earlier.
-                  let more = weight_more most (f.known j q) (f.busy j q || f.assumed j q) (old.busy j q || old.assumed j q) (was_so j q other earlier) in
-                  omega (arith, none, now, more)))
+          let none : (if is_this i p j q then most else 0) ≡ 0 = if_false (is_this i p j q) most 0 other in
+          let now : weight most (after_no old f i p) j q ≡ weight_of most (f.known j q) (old.busy j q || old.assumed j q) = ap (λ o. weight_of most o (old.busy j q || old.assumed j q)) (if_false (is_this i p j q) (Some false) (f.known j q) other) in
+          by_test (f.assumed j q && not (old.assumed j q))
+          (λ later.
+          let o : f.known j q ≡ None = assumed_unknown w f sound j q (and_parts (f.assumed j q) _ later).0 in
+          let was : weight most f j q ≡ one_if (f.busy j q || f.assumed j q) = ap (λ o. weight_of most o (f.busy j q || f.assumed j q)) o in
+          let at_place : q ≡ p = since_here w solvable old f i p l before sound grew none_deeper j q later in
+          let here : one_if (same_place p q) ≡ 1 = ap one_if (subst (λ r. same_place p r ≡ true) (sym at_place) (and_parts _ (same_place p p) (this_self i p)).1) in
+          omega (arith, none, was, here, one_at_most (f.busy j q || f.assumed j q)))
+          (λ earlier.
+          let more = weight_more most (f.known j q) (f.busy j q || f.assumed j q) (old.busy j q || old.assumed j q) (was_so j q other earlier) in
+          omega (arith, none, now, more)))
