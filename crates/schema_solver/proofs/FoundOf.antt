@@ -1,12 +1,11 @@
 -- What is found by the lists of a solver, as a pair is begun, refused, assumed or settled.
-use Rattle.std.proofs.Common.{◌≡◌, ◌∙◌, ℕ, ◌++◌, ◌||◌, ◌&&◌, ◌==◌, not, Bool, true, false, List, [], ◌∷◌, refl, sym, subst, ap, ap₂, true≢false}
-use Rattle.std.specs.Prelude.{Option, Some, if◌then◌else◌}
-use Rattle.std.specs.List.{list_any}
+use Rattle.std.proofs.Common.{◌≡◌, ◌∙◌, ℕ, ◌++◌, ◌||◌, ◌&&◌, not, Bool, true, false, [], ◌∷◌, refl, sym, ap, true≢false}
+use Rattle.std.specs.Prelude.{Some, if◌then◌else◌}
 use Rattle.std.proofs.lemmas.Bool.{false_from_ne_true}
 use Rattle.schema_definitions.specs.Instance.{Place}
 use Rattle.schema_contexts.specs.Progress.{Pairs}
 use Rattle.schema_contexts.specs.Verdicts.{Remembers, is_pair, verdict_of}
-use Rattle.schema_solving.specs.Found.{Found, after_no, after_yes, after_yes_alone, entered, is_this}
+use Rattle.schema_solving.specs.Found.{after_no, after_yes, after_yes_alone, entered, is_this}
 use Rattle.schema_solving.proofs.Pairs.{of_this, this_self}
 use Rattle.schema_solver.specs.Contexts.{SettlesAll, Solver, found_of, has_pair}
 

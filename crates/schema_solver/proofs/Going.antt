@@ -1,8 +1,7 @@
 -- Steps of a solver one after another, how it begins, and what it says at the end.
-use Rattle.std.proofs.Common.{◌≡◌, ◌∙◌, ℕ, ◌++◌, ◌<◌, ◌||◌, not, Bool, true, false, List, [], ◌∷◌, length, refl, sym, subst, ap, ap₂, append_assoc, arith, true≢false}
+use Rattle.std.proofs.Common.{◌≡◌, ◌∙◌, ℕ, ◌++◌, ◌<◌, ◌||◌, not, Bool, [], length, refl, sym, subst, ap, ap₂, append_assoc, arith, true≢false}
 use Rattle.std.proofs.lemmas.Bool.{false_from_ne_true, or_left}
 use Rattle.std.proofs.lemmas.List.{append-nil}
-use Rattle.serde_json.specs.Data.{Data}
 use Rattle.serde_json.specs.View.{view}
 use Rattle.serde_json.specs.declared.value.Value.{Value}
 use Rattle.schema_definitions.specs.Instance.{Place, Subject, subject_at}
@@ -10,18 +9,17 @@ use Rattle.schema_definitions.specs.Keywords.{Below}
 use Rattle.schema_definitions.specs.Laws.{EachKeeps}
 use Rattle.schema_definitions.specs.Meaning.{place_below}
 use Rattle.schema_definitions.proofs.Products.{in_either}
-use Rattle.schema_contexts.specs.Progress.{NoDeeper, Pairs, root_places}
+use Rattle.schema_contexts.specs.Progress.{NoDeeper, root_places}
 use Rattle.schema_meaning.specs.Numbered.{Ranked}
 use Rattle.schema_greatest.specs.NodesSay.{AreMonotone}
 use Rattle.schema_solving.specs.Under.{Solving, IsSolvable}
-use Rattle.schema_solving.specs.Found.{Found, Grows, IsSound, SaysUnder}
-use Rattle.schema_solving.specs.Work.{IsBoundedBy, IsCounted, pairs_of}
-use Rattle.schema_solving.specs.Solved.{nothing_found}
+use Rattle.schema_solving.specs.Found.{IsSound, SaysUnder}
+use Rattle.schema_solving.specs.Work.{IsCounted, pairs_of}
 use Rattle.schema_solving.proofs.Between.{grows_below, grows_none, grows_on}
 use Rattle.schema_solving.proofs.Solved.{nothing_sound, solver_says_guarded}
 use Rattle.schema_solving.proofs.Bounds.{bounded_by}
-use Rattle.schema_solver.specs.Contexts.{Solver, found_of, has_pair, solver_places}
-use Rattle.schema_solver.specs.Solving.{BeginsFew, Goes, HasEachCut, InEach, IsSoundIn, MaySolve, SaysAsNodes, Setting, StaysCounted, fresh, solving_in}
+use Rattle.schema_solver.specs.Contexts.{Solver, found_of, has_pair}
+use Rattle.schema_solver.specs.Solving.{BeginsFew, Goes, InEach, IsSoundIn, MaySolve, SaysAsNodes, Setting, StaysCounted, fresh, solving_in}
 use Rattle.schema_solver.proofs.FoundOf.{has_append}
 
 module _ {K R : Type 0} (g : Setting K R) where

@@ -2,3 +2,4 @@ pub mod FoundOf
 pub mod PairSteps
 pub mod Going
 pub mod PlacesOnce
+pub mod Asking

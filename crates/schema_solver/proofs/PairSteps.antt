@@ -1,7 +1,5 @@
 -- What a pair's function does and says, by what the run of its node does and says.
-use Rattle.std.proofs.Common.{◌≡◌, ◌∙◌, ℕ, ◌++◌, ◌+◌, ◌<◌, ◌≤◌, ◌||◌, ◌==◌, not, Bool, true, false, List, [], ◌∷◌, length, refl, sym, subst, ap, ap₂, append_assoc, arith, true≢false}
-use Rattle.std.specs.Prelude.{All, None}
-use Rattle.std.specs.List.{list_any}
+use Rattle.std.proofs.Common.{◌≡◌, ◌∙◌, ℕ, ◌++◌, ◌≤◌, ◌||◌, not, Bool, true, false, List, [], ◌∷◌, length, sym, subst, ap, ap₂, append_assoc, arith, true≢false}
 use Rattle.std.proofs.lemmas.Bool.{or_left}
 use Rattle.std.proofs.lemmas.List.{append-nil}
 use Rattle.std.proofs.lemmas.List.Elements.{All-append, All-cons, All-head, All-nil, All-tail}
@@ -12,16 +10,16 @@ use Rattle.schema_definitions.specs.Instance.{Place, Subject, subject_at}
 use Rattle.schema_definitions.specs.Laws.{EachKeeps}
 use Rattle.schema_definitions.proofs.Products.{in_either}
 use Rattle.schema_contexts.specs.Progress.{NoDeeper, Pairs, root_places}
-use Rattle.schema_contexts.specs.Verdicts.{Remembers, is_pair, verdict_of}
+use Rattle.schema_contexts.specs.Verdicts.{Remembers, is_pair}
 use Rattle.schema_solving.specs.Under.{Solving, IsSolvable}
-use Rattle.schema_solving.specs.Found.{Found, Grows, IsSound, NoneAt, NoneDeeper, SaysPair, SaysUnder, after_no, after_yes, after_yes_alone, entered, is_this}
-use Rattle.schema_solving.specs.Work.{IsCounted, Pairs as AllPairs, pairs_of, sum_over, weight}
+use Rattle.schema_solving.specs.Found.{Grows, IsSound, NoneAt, NoneDeeper, SaysPair, SaysUnder, after_no, after_yes, after_yes_alone, entered, is_this}
+use Rattle.schema_solving.specs.Work.{IsCounted, Pairs as AllPairs, pairs_of}
 use Rattle.schema_solving.proofs.Pairs.{of_this, this_place}
 use Rattle.schema_solving.proofs.Steps.{alone_grows, alone_says, alone_sound, assumes_grows, assumes_says, assumes_sound, entered_sound, no_grows, no_says, no_sound}
 use Rattle.schema_solving.proofs.Work.{assumed_counts, entered_counts, refused_counts, settled_counts}
 use Rattle.schema_solving.proofs.Bounds.{pairs_among, pairs_few}
 use Rattle.schema_solver.specs.Contexts.{SettlesAll, Solver, found_of, has_pair, solver_places}
-use Rattle.schema_solver.specs.Solving.{Begins, Goes, HasEachCut, InEach, IsNew, IsSoundIn, Leaves, MaySolve, Setting, StaysCounted, TellsAll, is_cut, solving_in}
+use Rattle.schema_solver.specs.Solving.{Begins, Goes, HasEachCut, InEach, IsNew, Leaves, MaySolve, Setting, TellsAll, solving_in}
 use Rattle.schema_solver.proofs.FoundOf.{has_pushed, found_assumed, found_entered, found_refused, found_settled}
 
 -- what no pair in progress lies deeper than is so of what is found

@@ -1,15 +1,13 @@
 -- Places that have their own numbers stand once each.
-use Rattle.std.proofs.Common.{◌≡◌, ◌∙◌, ℕ, zero, suc, ◌+◌, ◌<◌, ◌≤◌, ◌||◌, ◌==◌, Bool, true, false, List, [], ◌∷◌, length, refl, sym, subst, ap, arith, true≢false}
+use Rattle.std.proofs.Common.{◌≡◌, ◌∙◌, ℕ, suc, ◌+◌, ◌<◌, ◌≤◌, ◌||◌, ◌==◌, Bool, true, false, List, [], ◌∷◌, length, refl, sym, subst, ap, arith, true≢false}
 use Rattle.std.specs.Prelude.{None, Option, Some, if◌then◌else◌, option_map}
 use Rattle.std.specs.List.{list_any}
 use Rattle.std.proofs.lemmas.Bool.{false_from_ne_true, or_left, or_right}
 use Rattle.schema_definitions.specs.Instance.{Place, same_place}
 use Rattle.schema_places.specs.Numbers.{OwnNumbers, number_of, place_at}
-use Rattle.schema_solving.specs.Found.{is_this}
 use Rattle.schema_solving.specs.Work.{EachOnce, how_often, one_if}
 use Rattle.schema_solving.proofs.Pairs.{this_place, this_self}
 use Rattle.std.proofs.lemmas.Bool.{and_parts}
-use Rattle.schema_definitions.proofs.Products.{both_true}
 
 -- equal places are one, and a place is itself
 one_place : (p q : Place) → same_place p q ≡ true → p ≡ q

@@ -1,6 +1,6 @@
 -- What each function of a solver's cycle is asked, what it does to the context, and what it says.
 use Rattle.std.specs.List.{list_any}
-use Rattle.std.specs.Prelude.{All, Bool, List, None, Some, [], false, length, not, true, ℕ, ◌++◌, ◌+◌, ◌<◌, ◌==◌, ◌||◌, ◌∷◌, ◌≡◌, ◌≤◌}
+use Rattle.std.specs.Prelude.{All, Bool, Contains, List, None, Some, [], false, length, not, true, ℕ, ◌++◌, ◌+◌, ◌<◌, ◌==◌, ◌||◌, ◌∷◌, ◌≡◌, ◌≤◌}
 use Rattle.serde_json.specs.Data.{Data}
 use Rattle.serde_json.specs.View.{view}
 use Rattle.serde_json.specs.declared.value.Value.{Value}
@@ -131,3 +131,7 @@ SaysAsNodes g root i b = InEach g root (λ texts w. (path : Text) (n : ℕ) → 
 -- so many pairs are begun at most: of the numbers that an edge leads to whose pair is answered by what is found, and of the places
 abbrev pub BeginsFew : {K R : Type 0} → Setting K R → Value → ℕ → Type 0
 BeginsFew g v begun = (ns : List ℕ) → HasEachCut g ns → IsBoundedBy ns (root_places v) begun
+
+-- the edge is one of a number of the table
+abbrev pub IsEdge : {K R : Type 0} → Setting K R → NodeEdge → Type 0
+IsEdge g e = (i : ℕ) × (i < g.count) × Contains (node_edges (g.nodes.entries i)) e
