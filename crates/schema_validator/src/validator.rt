@@ -46,6 +46,7 @@ use schema_search::unfinished_matches::{MAX_ASSUMED_RUNS, errors_under_each, val
 use serde_json::Value;
 use std::alloc::Global;
 use std::marker::Model;
+use std::mem;
 
 /// A compiled schema. It validates any number of instances, and no call changes it.
 #[derive(Drop)]
@@ -173,15 +174,19 @@ impl<K: Validate, M: Matcher> Validator<K, M> {
         self.nodes.len()
     }
 
-    // What the root's node says of an instance, under what is assumed of unfinished matches.
+    // What the root's node says of an instance, under what is assumed of unfinished matches. Places that the run numbers stay
+    // numbered.
     fn asked<'i>(
         &self,
         alloc: Global,
         instance: &'i Value,
+        places: &mut PlacesOnDemand<'i>,
         mode: Mode,
         matches: MatchAssumptions<'i>,
     ) -> Result<(MatchAssumptions<'i>, Reply<'i>), OutOfMemory>
+        requires root { places.old ≡ instance.now }
         requires wanted { ¬ (mode_of mode ≡ for_units) }
+        ensures root { places.new ≡ instance.now }
         ensures says { IfOk result (λ r. RunReplies
             K.Validate M.Matcher.own self.now (view instance.now) mode matches.entry.assumptions r.1) }
         ensures meets { IfOk result (λ r. RunMeets
@@ -193,7 +198,8 @@ impl<K: Validate, M: Matcher> Validator<K, M> {
     {
         let place = Place::root(alloc);
         let path = Location::new(alloc);
-        let mut context = ValidationContext::assuming(alloc, PlacesOnDemand::of(instance), matches);
+        let lent = mem::replace(places, PlacesOnDemand::of(instance));
+        let mut context = ValidationContext::assuming(alloc, lent, matches);
         let question = FirstQuestion {
             instance: Instance::Value(instance),
             place: &place,
@@ -203,23 +209,30 @@ impl<K: Validate, M: Matcher> Validator<K, M> {
         let reply = self
             .nodes
             .run(alloc, &self.matcher, self.root, &question, &mut context);
-        let met = context.into_matches();
+        let (numbered, met) = context.into_parts();
         match reply {
-            Ok(reply) => Ok((met, reply)),
+            Ok(reply) => {
+                *places = numbered;
+                Ok((met, reply))
+            }
             Err(refused) => {
+                drop(numbered);
                 drop(met);
                 Err(refused)
             }
         }
     }
 
-    // The verdict of the root's node, under what is assumed of unfinished matches.
+    // The verdict of the root's node, under what is assumed of unfinished matches. Places that the run numbers stay numbered.
     fn verdict<'i>(
         &self,
         alloc: Global,
         instance: &'i Value,
+        places: &mut PlacesOnDemand<'i>,
         matches: MatchAssumptions<'i>,
     ) -> Result<(MatchAssumptions<'i>, bool), OutOfMemory>
+        requires root { places.old ≡ instance.now }
+        ensures root { places.new ≡ instance.now }
         ensures says { IfOk result (λ r. RunDecides
             K.Validate M.Matcher.own self.now (view instance.now) matches.entry.assumptions r.1) }
         ensures meets { IfOk result (λ r. RunMeets
@@ -227,52 +240,89 @@ impl<K: Validate, M: Matcher> Validator<K, M> {
         ensures assumes { IfOk result (λ r. r.0.assumptions ≡ matches.entry.assumptions) }
         ensures makes_one { IfOk result (λ _. 1 ≤ self.now.runs) }
     {
-        let (met, reply) = self.asked(alloc, instance, Mode::Verdict, matches)?;
+        let (met, reply) = self.asked(alloc, instance, places, Mode::Verdict, matches)?;
         match reply {
             Reply::Truth(valid) => Ok((met, valid)),
             _ => unreachable!(),
         }
     }
 
+    // The verdict of a further run, over the same places.
+    fn verdict_again<'i>(
+        &self,
+        alloc: Global,
+        instance: &'i Value,
+        places: &PlacesOnDemand<'i>,
+        matches: MatchAssumptions<'i>,
+    ) -> Result<(MatchAssumptions<'i>, bool), OutOfMemory>
+        requires root { places.now ≡ instance.now }
+        ensures says { IfOk result (λ r. RunDecides
+            K.Validate M.Matcher.own self.now (view instance.now) matches.entry.assumptions r.1) }
+        ensures meets { IfOk result (λ r. RunMeets
+            K.Validate M.Matcher.own self.now (view instance.now) for_verdict matches.entry r.0) }
+        ensures assumes { IfOk result (λ r. r.0.assumptions ≡ matches.entry.assumptions) }
+    {
+        let mut places = places.share()?;
+        self.verdict(alloc, instance, &mut places, matches)
+    }
+
     // Whether every outcome of the unfinished matches accepts.
-    fn valid_under_each(&self, alloc: Global, instance: &Value) -> Result<bool, OutOfMemory>
+    fn valid_under_each<'i>(&self, alloc: Global, instance: &'i Value) -> Result<bool, OutOfMemory>
         ensures depth { IfOk result (λ valid. DecidesFromSomeDepth
             K.Validate M.Matcher.own self.now (view instance.now) valid) }
     {
-        let first = self.verdict(alloc, instance, MatchAssumptions::new(alloc))?;
+        let mut places = PlacesOnDemand::of(instance);
+        let first = self.verdict(alloc, instance, &mut places, MatchAssumptions::new(alloc))?;
         if !first.0.met_unassumed() {
             drop(first.0);
             return Ok(first.1);
         }
+        let places = &places;
         validity_under_each(
             alloc,
-            |matches| self.verdict(alloc, instance, matches),
+            |matches| self.verdict_again(alloc, instance, places, matches),
             first,
             self.run_limit,
         )
     }
 
     // Whether the matcher finishes every match, and the root's node accepts the instance: then it has no error. `false` says nothing.
-    fn accepts_at_once(&self, alloc: Global, instance: &Value) -> Result<bool, OutOfMemory>
+    // Places that the run numbers stay numbered.
+    fn accepts_at_once<'i>(
+        &self,
+        alloc: Global,
+        instance: &'i Value,
+        places: &mut PlacesOnDemand<'i>,
+    ) -> Result<bool, OutOfMemory>
+        requires root { places.old ≡ instance.now }
+        ensures root { places.new ≡ instance.now }
         ensures first { IfOk result (λ accepts. accepts ≡ true → FirstFromSomeDepth
             K.Validate M.Matcher.own self.now (view instance.now) None) }
         ensures errors { IfOk result (λ accepts. accepts ≡ true → ErrorsFromSomeDepth
             K.Validate M.Matcher.own self.now (view instance.now) []) }
     {
         if self.matcher.finishes() {
-            let (met, accepts) = self.verdict(alloc, instance, MatchAssumptions::new(alloc))?;
+            let (met, accepts) = self.verdict(
+                alloc,
+                instance,
+                places,
+                MatchAssumptions::new(alloc),
+            )?;
             drop(met);
             return Ok(accepts);
         }
         Ok(false)
     }
 
-    // The first error of the root's node, where nothing is assumed.
+    // The first error of the root's node, where nothing is assumed. Places that the run numbers stay numbered.
     fn first<'i>(
         &self,
         alloc: Global,
         instance: &'i Value,
+        places: &mut PlacesOnDemand<'i>,
     ) -> Result<(MatchAssumptions<'i>, Option<ValidationError<'i>>), OutOfMemory>
+        requires root { places.old ≡ instance.now }
+        ensures root { places.new ≡ instance.now }
         ensures says { IfOk result (λ r. RunFindsFirst
             K.Validate M.Matcher.own self.now (view instance.now) [] r.1) }
         ensures meets { IfOk result (λ r. RunMeets
@@ -281,7 +331,13 @@ impl<K: Validate, M: Matcher> Validator<K, M> {
         ensures makes_one { IfOk result (λ _. 1 ≤ self.now.runs) }
         ensures borrows { IfOk result (λ r. IfSome r.1 (BorrowsItsPlace (view instance.now))) }
     {
-        let (met, reply) = self.asked(alloc, instance, Mode::First, MatchAssumptions::new(alloc))?;
+        let (met, reply) = self.asked(
+            alloc,
+            instance,
+            places,
+            Mode::First,
+            MatchAssumptions::new(alloc),
+        )?;
         match reply {
             Reply::First(Some(error)) => Ok((met, Some(Box::into_inner(error)))),
             Reply::First(None) => Ok((met, None)),
@@ -289,13 +345,16 @@ impl<K: Validate, M: Matcher> Validator<K, M> {
         }
     }
 
-    // All errors of the root's node, under what is assumed of unfinished matches.
+    // All errors of the root's node, under what is assumed of unfinished matches. Places that the run numbers stay numbered.
     fn errors<'i>(
         &self,
         alloc: Global,
         instance: &'i Value,
+        places: &mut PlacesOnDemand<'i>,
         matches: MatchAssumptions<'i>,
     ) -> Result<(MatchAssumptions<'i>, Vec<ValidationError<'i>>), OutOfMemory>
+        requires root { places.old ≡ instance.now }
+        ensures root { places.new ≡ instance.now }
         ensures says { IfOk result (λ r. RunListsErrors
             K.Validate M.Matcher.own self.now (view instance.now) matches.entry.assumptions r.1.items) }
         ensures meets { IfOk result (λ r. RunMeets
@@ -304,21 +363,43 @@ impl<K: Validate, M: Matcher> Validator<K, M> {
         ensures makes_one { IfOk result (λ _. 1 ≤ self.now.runs) }
         ensures borrows { IfOk result (λ r. All (BorrowsItsPlace (view instance.now)) r.1.items) }
     {
-        let (met, reply) = self.asked(alloc, instance, Mode::All, matches)?;
+        let (met, reply) = self.asked(alloc, instance, places, Mode::All, matches)?;
         match reply {
             Reply::All(errors) => Ok((met, errors)),
             _ => unreachable!(),
         }
     }
 
+    // All errors of a further run, over the same places.
+    fn errors_again<'i>(
+        &self,
+        alloc: Global,
+        instance: &'i Value,
+        places: &PlacesOnDemand<'i>,
+        matches: MatchAssumptions<'i>,
+    ) -> Result<(MatchAssumptions<'i>, Vec<ValidationError<'i>>), OutOfMemory>
+        requires root { places.now ≡ instance.now }
+        ensures says { IfOk result (λ r. RunListsErrors
+            K.Validate M.Matcher.own self.now (view instance.now) matches.entry.assumptions r.1.items) }
+        ensures meets { IfOk result (λ r. RunMeets
+            K.Validate M.Matcher.own self.now (view instance.now) for_all matches.entry r.0) }
+        ensures assumes { IfOk result (λ r. r.0.assumptions ≡ matches.entry.assumptions) }
+        ensures borrows { IfOk result (λ r. All (BorrowsItsPlace (view instance.now)) r.1.items) }
+    {
+        let mut places = places.share()?;
+        self.errors(alloc, instance, &mut places, matches)
+    }
+
     // The errors that every outcome of the unfinished matches gives, after a first run that met such a match. The further runs
-    // want all errors, whatever the first one wanted.
+    // want all errors, whatever the first one wanted, and go over the places that it numbered.
     fn shared_errors<'i>(
         &self,
         alloc: Global,
         instance: &'i Value,
+        places: &PlacesOnDemand<'i>,
         first: (MatchAssumptions<'i>, Vec<ValidationError<'i>>),
     ) -> Result<Vec<ValidationError<'i>>, OutOfMemory>
+        requires root { places.now ≡ instance.now }
         requires none { first.0.assumptions ≡ [] }
         requires met { IsSome first.0.unassumed }
         ensures shares { IfOk result (λ es. AreShared
@@ -326,7 +407,7 @@ impl<K: Validate, M: Matcher> Validator<K, M> {
     {
         let shared = errors_under_each(
             alloc,
-            |matches| self.errors(alloc, instance, matches),
+            |matches| self.errors_again(alloc, instance, places, matches),
             first,
             self.run_limit,
             instance,
@@ -345,17 +426,18 @@ impl<K: Validate, M: Matcher> Validator<K, M> {
             K.Validate M.Matcher.own self.now (view instance.now) e) }
         ensures borrows { IfOk result (λ e. IfSome e (BorrowsItsPlace (view instance.now))) }
     {
-        let accepts = self.accepts_at_once(alloc, instance)?;
+        let mut places = PlacesOnDemand::of(instance);
+        let accepts = self.accepts_at_once(alloc, instance, &mut places)?;
         if accepts {
             return Ok(None);
         }
-        let (met, error) = self.first(alloc, instance)?;
+        let (met, error) = self.first(alloc, instance, &mut places)?;
         if !met.met_unassumed() {
             drop(met);
             return Ok(error);
         }
         drop(error);
-        let shared = self.shared_errors(alloc, instance, (met, Vec::new(alloc)))?;
+        let shared = self.shared_errors(alloc, instance, &places, (met, Vec::new(alloc)))?;
         Ok(first_of(shared))
     }
 
@@ -370,24 +452,33 @@ impl<K: Validate, M: Matcher> Validator<K, M> {
             K.Validate M.Matcher.own self.now (view instance.now) es.items) }
         ensures borrows { IfOk result (λ es. All (BorrowsItsPlace (view instance.now)) es.items) }
     {
-        let accepts = self.accepts_at_once(alloc, instance)?;
+        let mut places = PlacesOnDemand::of(instance);
+        let accepts = self.accepts_at_once(alloc, instance, &mut places)?;
         if accepts {
             return Ok(Vec::new(alloc));
         }
-        let (met, errors) = self.errors(alloc, instance, MatchAssumptions::new(alloc))?;
+        let (met, errors) = self.errors(
+            alloc,
+            instance,
+            &mut places,
+            MatchAssumptions::new(alloc),
+        )?;
         if !met.met_unassumed() {
             drop(met);
             return Ok(errors);
         }
-        self.shared_errors(alloc, instance, (met, errors))
+        self.shared_errors(alloc, instance, &places, (met, errors))
     }
 
-    // The unit of the root's node, where nothing is assumed.
+    // The unit of the root's node, where nothing is assumed. Places that the run numbers stay numbered.
     fn unit<'i>(
         &self,
         alloc: Global,
         instance: &'i Value,
+        places: &mut PlacesOnDemand<'i>,
     ) -> Result<(MatchAssumptions<'i>, EvaluationNode), OutOfMemory>
+        requires root { places.old ≡ instance.now }
+        ensures root { places.new ≡ instance.now }
         ensures says { IfOk result (λ r. RunGivesUnit
             K.Validate M.Matcher.own self.now (view instance.now) [] r.1) }
         ensures meets { IfOk result (λ r. RunMeets
@@ -397,7 +488,8 @@ impl<K: Validate, M: Matcher> Validator<K, M> {
     {
         let place = Place::root(alloc);
         let path = Location::new(alloc);
-        let mut context = ValidationContext::new(alloc, PlacesOnDemand::of(instance));
+        let lent = mem::replace(places, PlacesOnDemand::of(instance));
+        let mut context = ValidationContext::new(alloc, lent);
         let unit = self.nodes.evaluate_instance(
             alloc,
             &self.matcher,
@@ -407,10 +499,14 @@ impl<K: Validate, M: Matcher> Validator<K, M> {
             &path,
             &mut context,
         );
-        let met = context.into_matches();
+        let (numbered, met) = context.into_parts();
         match unit {
-            Ok(unit) => Ok((met, unit)),
+            Ok(unit) => {
+                *places = numbered;
+                Ok((met, unit))
+            }
             Err(refused) => {
+                drop(numbered);
                 drop(met);
                 Err(refused)
             }
@@ -429,13 +525,14 @@ impl<K: Validate, M: Matcher> Validator<K, M> {
         ensures units { IfOk result (λ u. UnitsFromSomeDepth
             K.Validate M.Matcher.own self.now (view instance.now) u) }
     {
-        let (met, unit) = self.unit(alloc, instance)?;
+        let mut places = PlacesOnDemand::of(instance);
+        let (met, unit) = self.unit(alloc, instance, &mut places)?;
         if !met.met_unassumed() {
             drop(met);
             return Ok(unit);
         }
         drop(unit);
-        let shared = self.shared_errors(alloc, instance, (met, Vec::new(alloc)))?;
+        let shared = self.shared_errors(alloc, instance, &places, (met, Vec::new(alloc)))?;
         unit_of_errors(alloc, shared)
     }
 

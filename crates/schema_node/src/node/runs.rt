@@ -63,6 +63,7 @@ pub trait RunNodes<K: Validate> {
         ensures kept { IfOk result (λ _. context.new.in_progress ≡ context.old.in_progress) }
         ensures assumes { IfOk result (λ _. context.new.remembered.assumptions ≡ context.old.remembered.assumptions) }
         ensures marking { IfOk result (λ _. context.new.marking ≡ context.old.marking) }
+        ensures root { IfOk result (λ _. context.new.root ≡ context.old.root) }
         ensures replies { IfOk result (λ r. RunReplies
             (setting_over K.words K.is_whole K.shape (table self.now) (M.matching matcher.now)) (asking_first question.now)
             context.old node.0 r) }
@@ -101,6 +102,7 @@ pub trait RunNodes<K: Validate> {
         ensures kept { IfOk result (λ _. context.new.in_progress ≡ context.old.in_progress) }
         ensures assumes { IfOk result (λ _. context.new.remembered.assumptions ≡ context.old.remembered.assumptions) }
         ensures marking { IfOk result (λ _. context.new.marking ≡ context.old.marking) }
+        ensures root { IfOk result (λ _. context.new.root ≡ context.old.root) }
         ensures counts { IfOk result (λ _. context.old.visits ≤ context.new.visits) }
         ensures replies { IfOk result (λ r. RunReplies
             (setting_over K.words K.is_whole K.shape (table self.now) (M.matching matcher.now)) (asking_first question.now)
@@ -139,6 +141,7 @@ pub trait RunNodes<K: Validate> {
         ensures kept { IfOk result (λ _. context.new.in_progress ≡ context.old.in_progress) }
         ensures assumes { IfOk result (λ _. context.new.remembered.assumptions ≡ context.old.remembered.assumptions) }
         ensures marking { IfOk result (λ _. context.new.marking ≡ context.old.marking) }
+        ensures root { IfOk result (λ _. context.new.root ≡ context.old.root) }
         ensures gives { IfOk result (λ u. RunGives
             (setting_over K.words K.is_whole K.shape (table self.now) (M.matching matcher.now))
             (evaluating (subject_of instance.entry) place.now path.now) context.old node.0 u) }

@@ -1,10 +1,15 @@
-use Rattle.std.proofs.Common.{◌≤◌, ap, subst}
+use Rattle.std.proofs.Common.{◌≤◌, ◌∙◌, ap, subst}
 use Rattle.serde_json.specs.View.{view}
 use Rattle.schema_definitions.specs.Instance.{Place, subject_at}
 use Rattle.schema_parts.specs.KeywordViews.{mode_of}
+use Rattle.schema_contexts.specs.Progress.{Context}
 use Rattle.schema_validator.specs.Answers.{MeetsMatches, SaysReply}
 use Rattle.schema_validator.specs.Program.{Program}
 use Rattle.schema_validator.proofs.validator.Validator.asked.Goals as goal
+
+pub returns-in-Ok-clause-root : goal.returns-in-Ok-clause-root
+returns-in-Ok-clause-root g c =
+    c.into_parts-numbered.ensures.root ∙ c.in-Ok.ensures.root ∙ ap (λ (z : Context). z.root) c.assuming-context.ensures.assumes ∙ c.replace-lent.ensures.value ∙ c.requires.root
 
 pub returns-in-Ok-clause-says : goal.returns-in-Ok-clause-says
 returns-in-Ok-clause-says g c =
@@ -17,9 +22,9 @@ returns-in-Ok-clause-says g c =
 pub returns-in-Ok-clause-meets : goal.returns-in-Ok-clause-meets
 returns-in-Ok-clause-meets g c =
     let d = view c.args.instance.now in
-    subst (λ p. MeetsMatches g.K.Validate.shape g.K.Validate.words g.K.Validate.is_whole g.M.Matcher.matching p d (mode_of c.args.mode) c.args.matches c.into_matches-met.result) c.self.view_is
+    subst (λ p. MeetsMatches g.K.Validate.shape g.K.Validate.words g.K.Validate.is_whole g.M.Matcher.matching p d (mode_of c.args.mode) c.args.matches c.into_parts-numbered.result.1) c.self.view_is
     (λ texts speaks once n more.
-    rw c.into_matches-met.ensures.remembered ((rw (c.new-path.ensures.empty, c.assuming-context.ensures.assumes, c.root-place.ensures.root) at
+    rw c.into_parts-numbered.ensures.remembered ((rw (c.new-path.ensures.empty, c.assuming-context.ensures.assumes, c.root-place.ensures.root) at
     (c.in-Ok.ensures.meets d texts (ap (λ (p : Place). subject_at d p) c.root-place.ensures.root) (record { keywords = λ t. (speaks t).1; instance = λ t. (speaks t).0 }))) once n more))
 
 pub returns-in-Ok-clause-speaks : goal.returns-in-Ok-clause-speaks
