@@ -18,13 +18,15 @@ def text_of(value):
 
 
 class Case:
-    """A schema, an instance, an instance of its kind with nothing in it, and the words that engine_bench takes after an instance."""
+    """A schema, an instance, an instance of its kind with nothing in it, and the words that engine_bench takes after an instance.
+    `apart` names the modes that it is not counted in."""
 
-    def __init__(self, schema, instance, empty, more=()):
+    def __init__(self, schema, instance, empty, more=(), apart=()):
         self.schema = text_of(schema)
         self.instance = text_of(instance)
         self.empty = text_of(empty)
         self.more = list(more)
+        self.apart = frozenset(apart)
 
     def words(self):
         return [self.schema, self.instance, *self.more]
@@ -122,6 +124,56 @@ def records(size):
     return Case(schema, [{"value": "no"}] * size, [])
 
 
+# where every way through the definitions shows, a list has one for each; and no instance makes them cost nothing
+ONE_VERDICT = ("list", "run-allocations")
+ONE_REFUSAL = ("errors", *ONE_VERDICT)
+
+
+def around(size, keyword, beside=(), also=()):
+    """So many definitions, each with references to all of them under a keyword, the first of which is referred to."""
+    each = {keyword: [{"$ref": f"#/$defs/d{k}"} for k in range(size)] + list(also), **dict(beside)}
+    return {"$ref": "#/$defs/d0", "$defs": {f"d{k}": each for k in range(size)}}
+
+
+def cycles(size):
+    """So many definitions, each of which is all of them; they accept."""
+    return Case(around(size, "allOf"), "x", "", apart=ONE_VERDICT)
+
+
+def cycles_object(size):
+    """The same, with an object without members."""
+    return Case(around(size, "allOf"), {}, {}, apart=ONE_VERDICT)
+
+
+def cycles_typed(size):
+    """The same, each with a type that refuses beside."""
+    return Case(around(size, "allOf", {"type": "integer"}), "x", "", apart=ONE_REFUSAL)
+
+
+def cycles_last(size):
+    """The same, with the type in the last one alone."""
+    schema = around(size, "allOf")
+    schema["$defs"][f"d{size - 1}"] = {**schema["$defs"]["d0"], "type": "integer"}
+    return Case(schema, "x", "", apart=ONE_REFUSAL)
+
+
+def cycles_items(size):
+    """A hundred texts, each asked of so many definitions, each of which is all of them."""
+    schema = around(size, "allOf")
+    schema["items"] = {"$ref": schema.pop("$ref")}
+    return Case(schema, [f"t{k}" for k in range(100)], [], apart=("list",))
+
+
+def cycles_any(size):
+    """So many definitions, each of which is any of them or a string, with an object, which they accept."""
+    return Case(around(size, "anyOf", also=[{"type": "string"}]), {}, {}, apart=ONE_VERDICT)
+
+
+def cycles_any_typed(size):
+    """The same, each with a type that refuses beside."""
+    return Case(around(size, "anyOf", {"type": "integer"}), "x", "", apart=ONE_REFUSAL)
+
+
 # what makes a case of a size, and the sizes that are counted
 CASES = {
     "objects": (objects, (500, 1000, 2000)),
@@ -134,6 +186,13 @@ CASES = {
     "unfinished": (unfinished, (100, 200, 400)),
     "chain": (chain, (100, 200, 400)),
     "records": (records, (1250, 2500, 5000)),
+    "cycles": (cycles, (8, 16, 32)),
+    "cycles-object": (cycles_object, (8, 16, 32)),
+    "cycles-typed": (cycles_typed, (8, 16, 32)),
+    "cycles-last": (cycles_last, (8, 16, 32)),
+    "cycles-items": (cycles_items, (8, 16, 32)),
+    "cycles-any": (cycles_any, (8, 16, 32)),
+    "cycles-any-typed": (cycles_any_typed, (8, 16, 32)),
 }
 
 

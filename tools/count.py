@@ -10,7 +10,7 @@ mode count`:
   set aside. This is what the run takes.
 
 What the program takes for the same instance with the schema `true` is subtracted in each, so the reading of the instance is set aside;
-the reading and the building of the schema are counted.
+the reading and the building of the schema are counted. A mode that a case is not counted in has no line.
 
 BEFORE is what an earlier run printed; the ratio to it is noted. Notes go to standard error: the ratio to the size before and to BEFORE.
 The program ends with 1 where `objects` of 1,000 and of 2,000 records make different numbers of requests for memory. --only and --mode may
@@ -131,6 +131,8 @@ def main():
                 sys.exit(f"{name} {size}: a word of more than {LONGEST_WORD} bytes")
             counter = Counter(given.program, case)
             for mode in given.mode or MODES:
+                if mode in case.apart:
+                    continue
                 count = counter.count(mode)
                 key = f"{name} {size} {mode}"
                 print(key, count, flush=True)

@@ -148,6 +148,7 @@ fn begin_at_names(
 }
 
 /// Takes a turn of a run that holds these names.
+#[inline(always)]
 fn turn_at<'s, 'i: 's>(
     keyword: &'s BenchKeyword,
     alloc: Global,
@@ -240,6 +241,7 @@ impl Validate for BenchKeyword {
         }
     }
 
+    #[inline(always)]
     fn turn<'s, 'i: 's>(
         &'s self,
         alloc: Global,
@@ -259,6 +261,7 @@ impl Validate for BenchKeyword {
         )
     }
 
+    #[inline(always)]
     fn is_valid_at_once(&self, instance: Instance<'_>) -> Option<bool> {
         match self {
             BenchKeyword::Type(name) => Some(name.fits(instance)),

@@ -21,6 +21,7 @@ use schema_reports::location::OutOfMemory;
 use std::alloc::Global;
 
 /// Asks each child whose name is a member of the instance there.
+#[inline(always)]
 pub fn turn_properties<'s, 'i>(
     alloc: Global,
     names: &'s [String],
@@ -45,6 +46,7 @@ pub fn turn_properties<'s, 'i>(
 }
 
 /// Asks at the first name from this number on that is a member of the instance, if there is one, and ends the run else.
+#[inline(always)]
 fn ask_member<'s>(
     names: &'s [String],
     start: Option<usize>,

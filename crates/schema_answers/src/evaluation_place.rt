@@ -53,13 +53,17 @@ impl<'p, 'i> EvaluationPlace<'p, 'i> {
     {
         match self {
             EvaluationPlace::Given(place) => places.find(place.as_steps()),
-            EvaluationPlace::Below(above, step) => match above.number(places) {
-                Some(number) => places.child(number, *step),
-                None => {
-                    // (the call says that below a place that is not there is none)
-                    let _count = places.len();
-                    None
-                }
+            // (most are a few steps below a place that carries its number, so this asks for it without a call)
+            EvaluationPlace::Below(above, step) => match above {
+                EvaluationPlace::Numbered(_, number) => places.child(*number, *step),
+                _ => match above.number(places) {
+                    Some(number) => places.child(number, *step),
+                    None => {
+                        // (the call says that below a place that is not there is none)
+                        let _count = places.len();
+                        None
+                    }
+                },
             },
             EvaluationPlace::Numbered(_, number) => Some(*number),
         }

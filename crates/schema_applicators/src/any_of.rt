@@ -44,6 +44,7 @@ fn tell_any_of<'i>(
 }
 
 /// `anyOf`: asks whether one child accepts; where units are wanted, asks each child for its own.
+#[inline(always)]
 pub fn turn_any_of<'s, 'i>(
     alloc: Global,
     count: usize,

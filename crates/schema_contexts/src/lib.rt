@@ -4,5 +4,5 @@
 pub mod evaluation_path;
 pub mod kept_paths;
 pub mod marks;
-mod rows;
+pub mod rows;
 pub mod validation;

@@ -13,7 +13,7 @@ use std::marker::Model;
 /// Rows of bits by the numbers of nodes, in words of 64 bits. A number with no row has one of no words: below the greatest number that
 /// has a row, each such number takes the memory of three words. Contracts see the list of the rows.
 #[derive(Drop)]
-pub(crate) struct Rows {
+pub struct Rows {
     rows: Vec<Vec<u64>>,
 }
 
@@ -27,7 +27,7 @@ impl Model for Rows {
 }
 
 /// Returns how many words a row takes that has a bit for each of so many places.
-pub(crate) fn row_words(places: usize) -> usize
+pub fn row_words(places: usize) -> usize
     ensures words { result ≡ row_words places }
 {
     places.div_ceil(64)
@@ -84,7 +84,7 @@ fn with_bit(word: u64, bit: usize, on: bool) -> u64
 
 impl Rows {
     /// Returns no rows. It allocates nothing.
-    pub(crate) fn new(alloc: Global) -> Rows
+    pub fn new(alloc: Global) -> Rows
         ensures empty { result ≡ [] }
     {
         Rows {
@@ -93,14 +93,14 @@ impl Rows {
     }
 
     /// Removes all rows. It allocates nothing.
-    pub(crate) fn clear(&mut self)
+    pub fn clear(&mut self)
         ensures empty { self.new ≡ [] }
     {
         self.rows.clear();
     }
 
     /// Returns the bit of a place in the row of a number; a number with no row has no bit. It allocates nothing.
-    pub(crate) fn has_bit(&self, node: usize, place: usize) -> bool
+    pub fn has_bit(&self, node: usize, place: usize) -> bool
         ensures bit { result ≡ has_bit (row_in self.now node) place }
     {
         match self.rows.get(node) {
@@ -111,7 +111,7 @@ impl Rows {
 
     /// Returns the verdict at a place in the row of a number, whose first half says which places are known, and whose second half says
     /// the verdicts there. It allocates nothing.
-    pub(crate) fn verdict_in(&self, node: usize, place: usize) -> Option<bool>
+    pub fn verdict_in(&self, node: usize, place: usize) -> Option<bool>
         ensures verdict { result ≡ verdict_in (row_in self.now node) place }
     {
         match self.rows.get(node) {
@@ -131,12 +131,7 @@ impl Rows {
     }
 
     /// Makes a row of so many words for a number that has none. Fails only if memory cannot be allocated, and then nothing has changed.
-    pub(crate) fn make_row(
-        &mut self,
-        alloc: Global,
-        node: usize,
-        words: usize,
-    ) -> Result<(), OutOfMemory>
+    pub fn make_row(&mut self, alloc: Global, node: usize, words: usize) -> Result<(), OutOfMemory>
         requires some { 0 < words }
         ensures made { OnOk result (MakesRow node words self.old self.new) }
         ensures unchanged { OnErr result (self.new ≡ self.old) }
@@ -151,7 +146,7 @@ impl Rows {
     }
 
     /// Sets or clears the bit of a place in the row of a number, or in the part of it that begins at a word. It allocates nothing.
-    pub(crate) fn put_bit(&mut self, node: usize, from: usize, place: usize, on: bool)
+    pub fn put_bit(&mut self, node: usize, from: usize, place: usize, on: bool)
         requires there { from + place / 64 < length (row_in self.old node) }
         ensures put { PutsBit node (64 * from + place) on self.old self.new }
     {

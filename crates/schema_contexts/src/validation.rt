@@ -104,7 +104,8 @@ impl<'i> Model for ValidationContext<'i> {
       words = words_in c.guard + words_in c.known;
     } };
 
-    ghost invariant = { λ c. Holds (root_places c.places) (map (pair_of (root_places c.places)) c.pairs.items) c.counts.items c.guard c.known };
+    ghost invariant = { λ c. Holds (root_places c.places) (map (pair_of (root_places c.places)) c.pairs.items)
+        c.counts.items c.guard c.known };
 }
 
 // Adds a pair where there is room.
@@ -221,7 +222,8 @@ impl<'i> ValidationContext<'i> {
     /// Returns `true` if the pair is already in progress; otherwise records it and returns `false`. On `Err` nothing has changed.
     pub fn enter(&mut self, node: SchemaNode, place: usize) -> Result<bool, OutOfMemory>
         requires known { place < length (places_in self.old) }
-        ensures enters { IfOk result (λ b. Enters node.0 (place_at (places_in self.old) place) self.old.in_progress b self.new.in_progress) }
+        ensures enters { IfOk result (λ b.
+            Enters node.0 (place_at (places_in self.old) place) self.old.in_progress b self.new.in_progress) }
         ensures unchanged { IfErr result (λ _. self.new ≡ self.old) }
         ensures distinct { Distinct self.new.in_progress }
         ensures entered { OnOk result (Adds node.0 self.old.entered self.new.entered) }

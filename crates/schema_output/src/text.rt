@@ -18,22 +18,18 @@ use std::alloc::Global;
 fn is_plain_byte(byte: u8) -> bool
     ensures plain { result ≡ true → escape_byte byte ≡ byte ∷ [] }
 {
-    if byte < 0x20 || byte == b'"' || byte == b'\\' {
-        return false;
-    }
-    true
+    byte >= 0x20 && byte != b'"' && byte != b'\\'
 }
 
-// Whether a text stands for itself between quotes.
+// Whether a text stands for itself between quotes. No byte ends the walk, so that many bytes are looked at in one step.
 fn is_plain(text: &[u8]) -> bool
     ensures plain { result ≡ true → escape text.now ≡ text.now }
 {
+    let mut plain = true;
     for byte in text {
-        if !is_plain_byte(*byte) {
-            return false;
-        }
+        plain &= is_plain_byte(*byte);
     }
-    true
+    plain
 }
 
 // Adds a text in quotes.

@@ -11,6 +11,7 @@ use Rattle.schema_places.proofs.Ascending.{places_ascend}
 use Rattle.schema_places.proofs.Names.{names_apart}
 use Rattle.schema_places.proofs.Rising.{rows_rise}
 use Rattle.schema_places.proofs.Laying.{length_rows}
+use Rattle.schema_places.proofs.Sitting.{sits_self}
 use Rattle.schema_places.proofs.Under.{last_bounds, last_of, under_at}
 use Rattle.schema_places.proofs.Numbers.{led_at, more_none, stands_at}
 
@@ -27,12 +28,12 @@ row_there : (v : Value) (rows : List Laid) (i : ℕ) → LaidOut v rows → row_
 row_there v rows i l = ap (λ xs. row_in xs i) (sym l.rows_are)
 
 pub row_leads : (v : Value) (rows : List Laid) (ps : List Place) (i : ℕ) (s : Step) → LaidOut v rows → places_of v ≡ ps → i < length ps
-    → led_by s (leads_of (row_in rows i).below) ≡ number_of (place_at ps i ++ s ∷ []) ps
+    → led_by s (leads_of rows (row_in rows i).below) ≡ number_of (place_at ps i ++ s ∷ []) ps
 row_leads v rows ps i s l e w =
     let many = count v rows ps l e in
     let all : i < length (places (view v)) = omega (arith, ap length e) in
-    ap (λ (x : Laid). led_by s (leads_of x.below)) (sym (row_there v rows i l))
-    ∙ led_at s 0 (view v) i (names_apart (view v) l.ascend) all ∙ more_none (number_of (place_at (places (view v)) i ++ s ∷ []) (places (view v)))
+    ap (λ (r : List Laid). led_by s (leads_of r (row_in r i).below)) l.rows_are
+    ∙ led_at s (rows_at 0 (view v)) 0 (view v) i (sits_self (rows_at 0 (view v))) (names_apart (view v) l.ascend) all ∙ more_none (number_of (place_at (places (view v)) i ++ s ∷ []) (places (view v)))
     ∙ ap (λ (qs : List Place). number_of (place_at qs i ++ s ∷ []) qs) e
 
 pub row_last : (v : Value) (rows : List Laid) (ps : List Place) (i : ℕ) → LaidOut v rows → places_of v ≡ ps → i < length ps
@@ -58,5 +59,5 @@ row_last v rows ps i l e w =
 pub found_given : (v : Value) (ps : List Place) (rows : List Laid) (n : ℕ) → LaidOut v rows → places_of v ≡ ps → n < length ps → Some n ≡ number_of (place_at ps n) ps
 found_given v ps rows n l e w = sym (subst (λ (qs : List Place). n < length qs → number_of (place_at qs n) qs ≡ Some n) e (λ m. stands_at (view v) n (names_apart (view v) l.ascend) m) w)
 
-pub row_rises : (v : Value) (rows : List Laid) (i : ℕ) → LaidOut v rows → RisesBelow (row_in rows i).below
-row_rises v rows i l = subst (λ (x : Laid). RisesBelow x.below) (row_there v rows i l) (rows_rise 0 (view v) i l.ascend)
+pub row_rises : (v : Value) (rows : List Laid) (i : ℕ) → LaidOut v rows → RisesBelow rows (row_in rows i).below
+row_rises v rows i l = subst (λ (r : List Laid). RisesBelow r (row_in r i).below) (sym l.rows_are) (rows_rise (rows_at 0 (view v)) 0 (view v) i (sits_self (rows_at 0 (view v))) l.ascend)

@@ -9,7 +9,7 @@ use Rattle.serde_json.specs.Data.{Data, Items, Members, array, boolean, item, me
 use Rattle.serde_json.specs.View.{members_view}
 use Rattle.serde_json.proofs.Views.{Entry}
 use Rattle.schema_definitions.specs.Instance.{Text, to_item, to_member, item_places, member_places, places}
-use Rattle.schema_places.specs.Rows.{ComesFirst, Laid, LaidBelow, NameNumbers, item_numbers, item_rows, laid, member_numbers, member_rows, nothing, rows_at}
+use Rattle.schema_places.specs.Rows.{ComesFirst, Laid, LaidBelow, item_rows, laid, member_rows, own_name, rows_at}
 
 -- ---- how many rows there are
 
@@ -64,37 +64,18 @@ pub item_row : (old new : List Laid) (d : Data) (ds : Items) (whole : List Laid)
 item_row old new d ds whole h w =
     ap₂ (λ r n. r ++ item_rows n ds) h (rows_after old new (length old) d h) ∙ append_assoc old (rows_at (length old) d) _ ∙ w
 
-pub item_number : (old new : List ℕ) (a b c : ℕ) (d : Data) (ds : Items) (whole : List ℕ) → new ≡ old ++ a ∷ [] → a ≡ b → c ≡ b + length (places d)
-    → old ++ item_numbers b (item d ds) ≡ whole → new ++ item_numbers c ds ≡ whole
-item_number old new a b c d ds whole h is later w =
-    ap (λ r. r ++ item_numbers c ds) h ∙ append_assoc old (a ∷ []) (item_numbers c ds)
-    ∙ ap₂ (λ x m. old ++ x ∷ item_numbers m ds) is later ∙ w
-
-pub later_by : (old new : List Laid) (d : Data) → new ≡ old ++ rows_at (length old) d → length new ≡ length old + length (places d)
-later_by old new d h = rows_after old new (length old) d h
-
 -- ---- one member more
 
-pub member_row : (old mid new : List Laid) (k : Text) (d : Data) (ms : Members) (whole : List Laid) → mid ≡ old ++ laid (length old) nothing ∷ []
+pub member_row : (old mid new : List Laid) (k : Text) (d : Data) (ms : Members) (whole : List Laid) → mid ≡ old ++ laid (length old) (own_name k) ∷ []
     → new ≡ mid ++ rows_at (length mid) d → old ++ member_rows (length old) (member k d ms) ≡ whole
     → new ++ member_rows (length new) ms ≡ whole
 member_row old mid new k d ms whole m h w =
-    let one : length mid ≡ length old + 1 = ap length m ∙ length-append old (laid (length old) nothing ∷ []) in
+    let one : length mid ≡ length old + 1 = ap length m ∙ length-append old (laid (length old) (own_name k) ∷ []) in
     let far : length new ≡ length old + 1 + length (places d) = rows_after mid new (length mid) d h ∙ ap (λ n. n + length (places d)) one in
     ap₂ (λ r n. r ++ member_rows n ms) h far
     ∙ append_assoc mid (rows_at (length mid) d) _
     ∙ ap₂ (λ r n. r ++ (rows_at n d ++ member_rows (length old + 1 + length (places d)) ms)) m one
-    ∙ append_assoc old (laid (length old) nothing ∷ []) _ ∙ w
-
-pub member_number : (old mid new : List NameNumbers) (first : NameNumbers) (b c : ℕ) (k : Text) (d : Data) (ms : Members) (whole : List NameNumbers)
-    → mid ≡ old ++ first ∷ [] → new ≡ mid → first ≡ (k, b, b + 1) → c ≡ b + 1 + length (places d)
-    → old ++ member_numbers b (member k d ms) ≡ whole → new ++ member_numbers c ms ≡ whole
-member_number old mid new first b c k d ms whole h same is later w =
-    ap (λ r. r ++ member_numbers c ms) (same ∙ h) ∙ append_assoc old (first ∷ []) (member_numbers c ms)
-    ∙ ap₂ (λ (x : NameNumbers) (m : ℕ). old ++ x ∷ member_numbers m ms) is later ∙ w
-
-pub later_member : (old mid new : List Laid) (own : Laid) (d : Data) → mid ≡ old ++ own ∷ [] → new ≡ mid ++ rows_at (length mid) d → length new ≡ length old + 1 + length (places d)
-later_member old mid new own d m h = rows_after mid new (length mid) d h ∙ ap (λ n. n + length (places d)) (ap length m ∙ length-append old (own ∷ []))
+    ∙ append_assoc old (laid (length old) (own_name k) ∷ []) _ ∙ w
 
 -- ---- the names of an object ascend
 

@@ -6,6 +6,7 @@ pub mod Names
 pub mod Numbers
 pub mod Rising
 pub mod Searching
+pub mod Sitting
 pub mod Standing
 pub mod Tables
 pub mod Under

@@ -7,9 +7,10 @@ use Rattle.std.proofs.lemmas.Slice.Eq.{bytes_eq-Decides}
 use Rattle.serde_json.specs.Data.{Data, Items, Members, array, boolean, item, member, no_items, no_members, null, number, object, string}
 use Rattle.schema_definitions.specs.Instance.{Place, Step, Text, item_places, member_places, places, same_place, same_step, to_item, to_member, to_name}
 use Rattle.schema_places.specs.Numbers.{number_of}
-use Rattle.schema_places.specs.Rows.{Laid, leads_of, nothing, item_numbers, leads_to_items, leads_to_names, member_numbers, item_rows, laid, led_by, member_rows, rows_at}
+use Rattle.schema_places.specs.Rows.{Laid, leads_of, nothing, item_numbers, items_below, leads_to_items, leads_to_names, item_rows, laid, led_by, member_rows, members_below, name_in, name_numbers, named_by, own_name, rows_at}
 use Rattle.schema_places.proofs.Names.{NamesApart, NamesApartInItems, NamesApartInMembers, has_name}
 use Rattle.schema_places.proofs.Laying.{length_rows}
+use Rattle.schema_places.proofs.Sitting.{Sits, item_rest, member_numbers, member_rest, names_told, sits_left, sits_rest}
 
 -- ---- steps
 
@@ -222,34 +223,44 @@ member_led s b (member k d ms) =
     ∙ ap (more b) (sym (ap₂ (λ (x : Bool) (o : Option ℕ). cond x (Some 0) (option_map (λ n. n + 1) o)) (and_true (same_step s (to_name k))) (step_block s (to_member k) d (member_places ms))))
 
 -- what a row leads to by a step, and the number of the place there
-abbrev leads : Step → List Laid → ℕ → Option ℕ
-leads s rows i = led_by s (leads_of (get_or rows i no_row).below)
+abbrev leads : Step → List Laid → List Laid → ℕ → Option ℕ
+leads s all rows i = led_by s (leads_of all (get_or rows i no_row).below)
+
+leads_items : (all : List Laid) (bs : List ℕ) → leads_of all (items_below bs) ≡ leads_to_items 0 bs
+leads_items all [] = refl
+leads_items all (b ∷ bs) = refl
+
+leads_members : (all : List Laid) (bs : List ℕ) → leads_of all (members_below bs) ≡ leads_to_names (named_by (name_in all) bs)
+leads_members all [] = refl
+leads_members all (b ∷ bs) = refl
 
 abbrev below : Step → List Place → ℕ → Option ℕ
 below s ps i = number_of (get_or ps i [] ++ s ∷ []) ps
 
 mutual
-  pub led_at : (s : Step) (b : ℕ) (d : Data) (i : ℕ) → NamesApart d → i < length (places d) → leads s (rows_at b d) i ≡ more b (below s (places d) i)
-  led_at s b null zero a l = refl
-  led_at s b null (suc i) a l = absurd (omega arith)
-  led_at s b (boolean x) zero a l = refl
-  led_at s b (boolean x) (suc i) a l = absurd (omega arith)
-  led_at s b (number n) zero a l = refl
-  led_at s b (number n) (suc i) a l = absurd (omega arith)
-  led_at s b (string t) zero a l = refl
-  led_at s b (string t) (suc i) a l = absurd (omega arith)
-  led_at s b (array ds) zero a l = item_led s (b + 1) 0 ds ∙ more_one b (b + 1) (number_of (s ∷ []) (item_places 0 ds)) refl
-  led_at s b (array ds) (suc i) a l =
-      led_at_item s (b + 1) 0 ds i a (omega arith) ∙ more_one b (b + 1) (below s (item_places 0 ds) i) refl
+  pub led_at : (s : Step) (all : List Laid) (b : ℕ) (d : Data) (i : ℕ) → Sits all b (rows_at b d) → NamesApart d → i < length (places d) → leads s all (rows_at b d) i ≡ more b (below s (places d) i)
+  led_at s all b null zero t a l = refl
+  led_at s all b null (suc i) t a l = absurd (omega arith)
+  led_at s all b (boolean x) zero t a l = refl
+  led_at s all b (boolean x) (suc i) t a l = absurd (omega arith)
+  led_at s all b (number n) zero t a l = refl
+  led_at s all b (number n) (suc i) t a l = absurd (omega arith)
+  led_at s all b (string x) zero t a l = refl
+  led_at s all b (string x) (suc i) t a l = absurd (omega arith)
+  led_at s all b (array ds) zero t a l = ap (led_by s) (leads_items all (item_numbers (b + 1) ds)) ∙ item_led s (b + 1) 0 ds ∙ more_one b (b + 1) (number_of (s ∷ []) (item_places 0 ds)) refl
+  led_at s all b (array ds) (suc i) t a l =
+      led_at_item s all (b + 1) 0 ds i (sits_rest all b _ (item_rows (b + 1) ds) t) a (omega arith) ∙ more_one b (b + 1) (below s (item_places 0 ds) i) refl
       ∙ ap (λ x. more b (cond x (Some 0) (option_map (λ n. n + 1) (below s (item_places 0 ds) i)))) (sym (no_end (get_or (item_places 0 ds) i []) s))
-  led_at s b (object ms) zero a l = member_led s (b + 1) ms ∙ more_one b (b + 1) (number_of (s ∷ []) (member_places ms)) refl
-  led_at s b (object ms) (suc i) a l =
-      led_at_member s (b + 1) ms i a (omega arith) ∙ more_one b (b + 1) (below s (member_places ms) i) refl
+  led_at s all b (object ms) zero t a l =
+      ap (led_by s) (leads_members all (name_numbers (b + 1) ms) ∙ ap leads_to_names (names_told all (b + 1) ms (sits_rest all b _ (member_rows (b + 1) ms) t)))
+      ∙ member_led s (b + 1) ms ∙ more_one b (b + 1) (number_of (s ∷ []) (member_places ms)) refl
+  led_at s all b (object ms) (suc i) t a l =
+      led_at_member s all (b + 1) ms i (sits_rest all b _ (member_rows (b + 1) ms) t) a (omega arith) ∙ more_one b (b + 1) (below s (member_places ms) i) refl
       ∙ ap (λ x. more b (cond x (Some 0) (option_map (λ n. n + 1) (below s (member_places ms) i)))) (sym (no_end (get_or (member_places ms) i []) s))
 
-  led_at_item : (s : Step) (b n : ℕ) (ds : Items) (i : ℕ) → NamesApartInItems ds → i < length (item_places n ds) → leads s (item_rows b ds) i ≡ more b (below s (item_places n ds) i)
-  led_at_item s b n no_items i a l = absurd (omega arith)
-  led_at_item s b n (item d ds) i a l =
+  led_at_item : (s : Step) (all : List Laid) (b n : ℕ) (ds : Items) (i : ℕ) → Sits all b (item_rows b ds) → NamesApartInItems ds → i < length (item_places n ds) → leads s all (item_rows b ds) i ≡ more b (below s (item_places n ds) i)
+  led_at_item s all b n no_items i t a l = absurd (omega arith)
+  led_at_item s all b n (item d ds) i t a l =
       let qs = places d in
       let ys = item_places (n + 1) ds in
       let h = to_item n in
@@ -258,8 +269,8 @@ mutual
       let block = length-map qs (λ p. h ∷ p) in
       ⊎_elim
       (λ (w : i < length qs).
-      ap (λ (r : Laid). led_by s (leads_of r.below)) (get_or_append_left (rows_at b d) (item_rows (b + length qs) ds) no_row i (omega (arith, own)))
-      ∙ led_at s b d i a.0 w
+      ap (λ (r : Laid). led_by s (leads_of all r.below)) (get_or_append_left (rows_at b d) (item_rows (b + length qs) ds) no_row i (omega (arith, own)))
+      ∙ led_at s all b d i (sits_left all b (rows_at b d) _ t) a.0 w
       ∙ ap (more b) (sym (
       ap (λ (p : Place). number_of (p ++ s ∷ []) (map (λ q. h ∷ q) qs ++ ys)) (at_block h qs ys i w)
       ∙ in_block h (get_or qs i [] ++ s ∷ []) qs ys (no_item n (n + 1) (get_or qs i [] ++ s ∷ []) ds (omega arith))
@@ -267,8 +278,8 @@ mutual
       (λ (w : length qs ≤ i).
       let j = i - length qs in
       let there : j < length ys = omega (arith, size, block) in
-      ap (λ (r : Laid). led_by s (leads_of r.below)) (get_or-append_right (rows_at b d) (item_rows (b + length qs) ds) (length qs) i no_row own w)
-      ∙ led_at_item s (b + length qs) (n + 1) ds j a.1 there
+      ap (λ (r : Laid). led_by s (leads_of all r.below)) (get_or-append_right (rows_at b d) (item_rows (b + length qs) ds) (length qs) i no_row own w)
+      ∙ led_at_item s all (b + length qs) (n + 1) ds j (item_rest all b d ds t) a.1 there
       ∙ more_twice b (length qs) (b + length qs) (below s ys j) refl
       ∙ ap (more b) (sym (
       ap (λ (p : Place). number_of (p ++ s ∷ []) (map (λ q. h ∷ q) qs ++ ys)) (past_block h qs ys i w)
@@ -276,36 +287,36 @@ mutual
       )))
       (cases_lt i (length qs))
 
-  led_at_member : (s : Step) (b : ℕ) (ms : Members) (i : ℕ) → NamesApartInMembers ms → i < length (member_places ms) → leads s (member_rows b ms) i ≡ more b (below s (member_places ms) i)
-  led_at_member s b no_members i a l = absurd (omega arith)
-  led_at_member s b (member k d ms) zero a l = ap (more b) (sym (no_below_name k s [] (member k d ms)))
-  led_at_member s b (member k d ms) (suc i) a l =
+  led_at_member : (s : Step) (all : List Laid) (b : ℕ) (ms : Members) (i : ℕ) → Sits all b (member_rows b ms) → NamesApartInMembers ms → i < length (member_places ms) → leads s all (member_rows b ms) i ≡ more b (below s (member_places ms) i)
+  led_at_member s all b no_members i t a l = absurd (omega arith)
+  led_at_member s all b (member k d ms) zero t a l = ap (more b) (sym (no_below_name k s [] (member k d ms)))
+  led_at_member s all b (member k d ms) (suc i) t a l =
       let qs = places d in
       let ys = member_places ms in
       let h = to_member k in
       let own = length_rows (b + 1) d in
       let size = length-append (map (λ p. h ∷ p) qs) ys in
       let block = length-map qs (λ p. h ∷ p) in
-      let all = map (λ q. h ∷ q) qs ++ ys in
+      let whole = map (λ q. h ∷ q) qs ++ ys in
       ⊎_elim
       (λ (w : i < length qs).
-      ap (λ (r : Laid). led_by s (leads_of r.below)) (get_or_append_left (rows_at (b + 1) d) (member_rows (b + 1 + length qs) ms) no_row i (omega (arith, own)))
-      ∙ led_at s (b + 1) d i a.1 w
+      ap (λ (r : Laid). led_by s (leads_of all r.below)) (get_or_append_left (rows_at (b + 1) d) (member_rows (b + 1 + length qs) ms) no_row i (omega (arith, own)))
+      ∙ led_at s all (b + 1) d i (sits_left all (b + 1) (rows_at (b + 1) d) _ (sits_rest all b (laid b (own_name k)) _ t)) a.1 w
       ∙ more_one b (b + 1) (below s qs i) refl
       ∙ ap (more b) (sym (
-      ap (λ (p : Place). number_of (p ++ s ∷ []) ((to_name k ∷ []) ∷ all)) (at_block h qs ys i w)
+      ap (λ (p : Place). number_of (p ++ s ∷ []) ((to_name k ∷ []) ∷ whole)) (at_block h qs ys i w)
       ∙ ap (option_map (λ n. n + 1)) (in_block h (get_or qs i [] ++ s ∷ []) qs ys (no_member k (get_or qs i [] ++ s ∷ []) ms a.0))
       )))
       (λ (w : length qs ≤ i).
       let j = i - length qs in
       let there : j < length ys = omega (arith, size, block) in
       let begins = member_begins k ms j a.0 there in
-      ap (λ (r : Laid). led_by s (leads_of r.below)) (get_or-append_right (rows_at (b + 1) d) (member_rows (b + 1 + length qs) ms) (length qs) i no_row own w)
-      ∙ led_at_member s (b + 1 + length qs) ms j a.2 there
+      ap (λ (r : Laid). led_by s (leads_of all r.below)) (get_or-append_right (rows_at (b + 1) d) (member_rows (b + 1 + length qs) ms) (length qs) i no_row own w)
+      ∙ led_at_member s all (b + 1 + length qs) ms j (member_rest all b k d ms t) a.2 there
       ∙ more_twice (b + 1) (length qs) (b + 1 + length qs) (below s ys j) refl
       ∙ more_one b (b + 1) (more (length qs) (below s ys j)) refl
       ∙ ap (more b) (sym (
-      ap (λ (p : Place). number_of (p ++ s ∷ []) ((to_name k ∷ []) ∷ all)) (past_block h qs ys i w)
+      ap (λ (p : Place). number_of (p ++ s ∷ []) ((to_name k ∷ []) ∷ whole)) (past_block h qs ys i w)
       ∙ ap₂ (λ (x : Bool) (o : Option ℕ). cond x (Some 0) (option_map (λ n. n + 1) o))
       (differs (to_name k) (get_or ys j []) (s ∷ []) [] begins.name)
       (after_block h (get_or ys j [] ++ s ∷ []) qs ys (λ q. differs h (get_or ys j []) (s ∷ []) q begins.value))

@@ -1,6 +1,6 @@
 -- How places are laid out in rows: the row of each place has the number of the last place at or below it, and the steps to the
 -- places right below it with their numbers.
-use Rattle.std.specs.Prelude.{List, None, Option, Some, [], bytes_eq, if◌then◌else◌, length, slice_index_or, ℕ, ◌++◌, ◌+◌, ◌∷◌, ◌≡◌}
+use Rattle.std.specs.Prelude.{List, None, Option, Some, [], bytes_eq, if◌then◌else◌, length, slice_index_or, suc, zero, ℕ, ◌++◌, ◌+◌, ◌∷◌, ◌<◌, ◌≡◌}
 use Rattle.std.specs.Cmp.Lexicographic.{slice_cmp}
 use Rattle.std.specs.Ordering.{nat_cmp}
 use Rattle.std.specs.declared.cmp.Ordering.TheVariants.{Less}
@@ -18,11 +18,28 @@ Led = Step × ℕ
 abbrev pub NameNumbers : Type 0
 NameNumbers = Text × ℕ × ℕ
 
--- what is right below a place: nothing, items with these numbers, or names and members with theirs
+-- what is right below a place: nothing, items with these numbers, or names with these and after each its member; the row of a name keeps it
 pub data LaidBelow : Type 0 where
   nothing : LaidBelow
   items : List ℕ → LaidBelow
-  names : List NameNumbers → LaidBelow
+  members : List ℕ → LaidBelow
+  own_name : Text → LaidBelow
+
+-- items with these numbers, if there are some
+abbrev pub items_below : List ℕ → LaidBelow
+items_below [] = nothing
+items_below (b ∷ bs) = items (b ∷ bs)
+
+-- names with these numbers, if there are some
+abbrev pub members_below : List ℕ → LaidBelow
+members_below [] = nothing
+members_below (b ∷ bs) = members (b ∷ bs)
+
+abbrev pub name_of : LaidBelow → Text
+name_of nothing = []
+name_of (items bs) = []
+name_of (members bs) = []
+name_of (own_name k) = k
 
 pub record Laid : Type 0 where
   pub last : ℕ
@@ -34,6 +51,18 @@ laid n b = record { last = n; below = b }
 -- the row of a place
 abbrev pub row_in : List Laid → ℕ → Laid
 row_in rows n = slice_index_or rows n (laid 0 nothing)
+
+abbrev pub last_in : List Laid → ℕ → ℕ
+last_in rows n = (row_in rows n).last
+
+-- the name that a row keeps
+abbrev pub name_in : List Laid → ℕ → Text
+name_in rows n = name_of (row_in rows n).below
+
+-- names that stand at these numbers
+abbrev pub named_by : (ℕ → Text) → List ℕ → List NameNumbers
+named_by f [] = []
+named_by f (b ∷ bs) = (f b, b, b + 1) ∷ named_by f bs
 
 -- where a step leads to
 abbrev pub led_by : Step → List Led → Option ℕ
@@ -50,24 +79,36 @@ abbrev pub leads_to_names : List NameNumbers → List Led
 leads_to_names [] = []
 leads_to_names (m ∷ ms) = (to_name m.0, m.1) ∷ (to_member m.0, m.2) ∷ leads_to_names ms
 
-abbrev pub leads_of : LaidBelow → List Led
-leads_of nothing = []
-leads_of (items bs) = leads_to_items 0 bs
-leads_of (names ms) = leads_to_names ms
+abbrev pub leads_of : List Laid → LaidBelow → List Led
+leads_of rows nothing = []
+leads_of rows (items bs) = leads_to_items 0 bs
+leads_of rows (members bs) = leads_to_names (named_by (name_in rows) bs)
+leads_of rows (own_name k) = []
 
--- the numbers of a name and its member
-abbrev pub numbers_of : Text → List NameNumbers → Option (ℕ × ℕ)
-numbers_of k [] = None
-numbers_of k (m ∷ ms) = if bytes_eq k m.0 then Some (m.1, m.2) else numbers_of k ms
+-- the number of a name
+abbrev pub number_of_name : Text → List NameNumbers → Option ℕ
+number_of_name k [] = None
+number_of_name k (m ∷ ms) = if bytes_eq k m.0 then Some m.1 else number_of_name k ms
 
--- the numbers of the items of an array, and of the members of an object and their names, from a number on
+-- the numbers of places that follow one another below a place, from the first one on, where the last number at or below each is known:
+-- of items, and by 1 of names, each of which stands before its member
+abbrev pub numbers_from : (ℕ → ℕ) → ℕ → ℕ → ℕ → List ℕ
+numbers_from last gap n zero = []
+numbers_from last gap n (suc count) = n ∷ numbers_from last gap (last (n + gap) + 1) count
+
+-- so many follow one another among so many places
+abbrev pub Walks : (ℕ → ℕ) → ℕ → ℕ → ℕ → ℕ → Type 0
+Walks last size gap n zero = Unit {0}
+Walks last size gap n (suc count) = (n + gap < size) × (last (n + gap) < size) × Walks last size gap (last (n + gap) + 1) count
+
+-- the numbers of the items of an array, and of the names of an object, from a number on
 abbrev pub item_numbers : ℕ → Items → List ℕ
 item_numbers b no_items = []
 item_numbers b (item d ds) = b ∷ item_numbers (b + length (places d)) ds
 
-abbrev pub member_numbers : ℕ → Members → List NameNumbers
-member_numbers b no_members = []
-member_numbers b (member k d ms) = (k, b, b + 1) ∷ member_numbers (b + 1 + length (places d)) ms
+abbrev pub name_numbers : ℕ → Members → List ℕ
+name_numbers b no_members = []
+name_numbers b (member k d ms) = b ∷ name_numbers (b + 1 + length (places d)) ms
 
 -- the rows of all places, from a number on
 abbrev mutual
@@ -76,8 +117,8 @@ abbrev mutual
   rows_at b (boolean x) = laid b nothing ∷ []
   rows_at b (number n) = laid b nothing ∷ []
   rows_at b (string s) = laid b nothing ∷ []
-  rows_at b (array ds) = laid (b + length (item_places 0 ds)) (items (item_numbers (b + 1) ds)) ∷ item_rows (b + 1) ds
-  rows_at b (object ms) = laid (b + length (member_places ms)) (names (member_numbers (b + 1) ms)) ∷ member_rows (b + 1) ms
+  rows_at b (array ds) = laid (b + length (item_places 0 ds)) (items_below (item_numbers (b + 1) ds)) ∷ item_rows (b + 1) ds
+  rows_at b (object ms) = laid (b + length (member_places ms)) (members_below (name_numbers (b + 1) ms)) ∷ member_rows (b + 1) ms
 
   pub item_rows : ℕ → Items → List Laid
   item_rows b no_items = []
@@ -85,7 +126,7 @@ abbrev mutual
 
   pub member_rows : ℕ → Members → List Laid
   member_rows b no_members = []
-  member_rows b (member k d ms) = laid b nothing ∷ (rows_at (b + 1) d ++ member_rows (b + 1 + length (places d)) ms)
+  member_rows b (member k d ms) = laid b (own_name k) ∷ (rows_at (b + 1) d ++ member_rows (b + 1 + length (places d)) ms)
 
 -- a name comes before all these
 abbrev pub IsFirst : Text → List NameNumbers → Type 0
@@ -98,10 +139,11 @@ Rising [] = Unit {0}
 Rising (m ∷ ms) = IsFirst m.0 ms × Rising ms
 
 -- so it is where names are below a place
-abbrev pub RisesBelow : LaidBelow → Type 0
-RisesBelow nothing = Unit {0}
-RisesBelow (items bs) = Unit {0}
-RisesBelow (names ms) = Rising ms
+abbrev pub RisesBelow : List Laid → LaidBelow → Type 0
+RisesBelow rows nothing = Unit {0}
+RisesBelow rows (items bs) = Unit {0}
+RisesBelow rows (members bs) = Rising (named_by (name_in rows) bs)
+RisesBelow rows (own_name k) = Unit {0}
 
 -- a name comes before all those of an object
 abbrev pub ComesFirst : Text → Members → Type 0

@@ -1,5 +1,5 @@
 //! The places of an instance, numbered when they are first asked for.
-ghost use Rattle.std.specs.Prelude.{◌≡◌, IfOk, ⊤};
+ghost use Rattle.std.specs.Prelude.{◌≡◌, IfOk, OnErr, OnOk, Some, ⊤};
 ghost use Rattle.std.specs.Borrow.{sem};
 ghost use Rattle.schema_definitions.specs.Instance.{places};
 ghost use Rattle.schema_places.specs.Numbers.{NumbersAll};
@@ -10,14 +10,13 @@ use schema_reports::location::OutOfMemory;
 use serde_json::Value;
 use std::alloc::Global;
 use std::marker::Model;
-use std::rc::Rc;
 
 /// The places of an instance, which are numbered when their numbers are first asked for: a run that never asks for one pays
 /// nothing. Contracts see the instance, whether its places are numbered or not.
 #[derive(Drop)]
 pub struct PlacesOnDemand<'i> {
     root: &'i Value,
-    numbered: Option<Rc<Places<'i>>>,
+    numbered: Option<Places<'i>>,
 }
 
 impl<'i> Model for PlacesOnDemand<'i> {
@@ -33,7 +32,7 @@ impl<'i> Model for PlacesOnDemand<'i> {
 
     ghost view = { λ p. p.root.now };
 
-    ghost invariant = { λ p. IfSome p.numbered (λ ps. ArePlacesOf p.root.now ps.value) };
+    ghost invariant = { λ p. IfSome p.numbered (λ ps. ArePlacesOf p.root.now ps) };
 }
 
 impl<'i> PlacesOnDemand<'i> {
@@ -57,27 +56,27 @@ impl<'i> PlacesOnDemand<'i> {
         ensures* unchanged { sem 𝓛 (EndsAs self.entry self.old) }
     {
         if self.numbered.is_none() {
-            let places = Places::number(alloc, self.root)?;
-            self.numbered = Some(Rc::new(alloc, places)?);
+            number_root(&mut self.numbered, alloc, self.root)?;
         }
         match &self.numbered {
-            Some(places) => Ok(places.as_ref()),
+            Some(places) => Ok(places),
             None => unreachable!(),
         }
     }
+}
 
-    /// Returns the places once more, for a further run: where they are numbered, both have the same numbered ones. Fails only if
-    /// there is no room for a further owner.
-    pub fn share(&self) -> Result<PlacesOnDemand<'i>, OutOfMemory>
-        ensures root { IfOk result (λ p. p ≡ self.now) }
-    {
-        let numbered = match &self.numbered {
-            Some(places) => Some(places.clone()?),
-            None => None,
-        };
-        Ok(PlacesOnDemand {
-            root: self.root,
-            numbered,
-        })
-    }
+// Numbers the places of a root. It stands apart, so that what asks for numbered places stays small.
+#[inline(never)]
+fn number_root<'i>(
+    numbered: &mut Option<Places<'i>>,
+    alloc: Global,
+    root: &'i Value,
+) -> Result<(), OutOfMemory>
+    ensures places { OnOk result (numbered.new ≡ Some (places (view root.now))) }
+    ensures there { OnOk result (NumbersAll (view root.now) (places (view root.now))) }
+    ensures unchanged { OnErr result (numbered.new ≡ numbered.old) }
+{
+    let places = Places::number(alloc, root)?;
+    *numbered = Some(places);
+    Ok(())
 }

@@ -70,6 +70,7 @@ impl<'i> Places<'i> {
     }
 
     /// Returns the number of the place one step below the place with this number, if there is one. It allocates nothing.
+    #[inline(always)]
     pub fn child(&self, place: usize, step: InstanceStep<'_>) -> Option<usize>
         requires known { place < length self.now }
         ensures child { result

@@ -1,11 +1,11 @@
 //! A row for each place: the number of the last place at or below it, and the places one step below it.
-ghost use Rattle.std.specs.Prelude.{◌≡◌, ◌<◌, ◌≤◌, ◌-◌, ◌++◌, ◌∷◌, [], OnOk, length, map, slice_range, slice_set};
+ghost use Rattle.std.specs.Prelude.{◌≡◌, ◌<◌, ◌≤◌, ◌-◌, ◌+◌, ◌++◌, ◌∷◌, [], OnErr, OnOk, bytes_eq, length, option_map, slice_range, slice_set};
 ghost use Rattle.std.specs.Cmp.Lexicographic.{slice_cmp};
 ghost use Rattle.std.specs.Ordering.{nat_cmp};
 ghost use Rattle.schema_reports.specs.InstanceViews.{step_of};
-ghost use Rattle.schema_places.specs.Rows.{Rising, RisesBelow, items, laid, leads_of, leads_to_items, leads_to_names, led_by, names};
-ghost use Rattle.schema_places.specs.Rows.{nothing, numbers_of, row_in};
-ghost use Rattle.schema_places.specs.RowViews.{numbered};
+ghost use Rattle.schema_places.specs.Rows.{Rising, RisesBelow, Walks, items_below, laid, last_in, leads_of, leads_to_items};
+ghost use Rattle.schema_places.specs.Rows.{leads_to_names, led_by, members_below, named_by, nothing, number_of_name, numbers_from, own_name, row_in};
+ghost use Rattle.schema_places.specs.RowViews.{AllSmall, last_at, text_at};
 
 use schema_reports::instance::InstanceStep;
 use schema_reports::location::OutOfMemory;
@@ -13,64 +13,50 @@ use std::alloc::Global;
 use std::cmp::Ordering;
 use std::marker::Model;
 
-/// A member's name, its number, and the member's.
-#[derive(Clone, Copy)]
-pub(crate) struct Named<'i> {
-    name: &'i str,
-    name_number: usize,
-    member_number: usize,
-}
-
 /// The places one step below a place: none, items, or names and members. The numbers of items stand in a table from an index up to
-/// another one, in their order, and so do names.
+/// another one, in their order, and so do the numbers of names; each member has the number after its name's. Below a name is none, and
+/// its row keeps it.
 #[derive(Clone, Copy)]
-enum Below {
+enum Below<'i> {
     Nothing,
     Items(usize, usize),
     Members(usize, usize),
+    Name(&'i str),
 }
 
 /// The number of the last place at or below one, and the places one step below it.
 #[derive(Clone, Copy)]
-struct Row {
+struct Row<'i> {
     last: usize,
-    below: Below,
+    below: Below<'i>,
 }
 
-/// The rows of places, in the order of their numbers; the numbers of the items of all arrays, one array after another; and the names of
-/// all objects, one object after another, in each by their bytes. Contracts see what each row says.
+/// The rows of places, in the order of their numbers; and the numbers of the items of all arrays and of the names of all objects, one
+/// array or object after another, those of names by the bytes of the names. Contracts see what each row says.
 #[derive(Drop)]
 pub(crate) struct Table<'i> {
-    rows: Vec<Row>,
+    rows: Vec<Row<'i>>,
     numbers: Vec<usize>,
-    names: Vec<Named<'i>>,
 }
 
 impl<'i> Model for Table<'i> {
-    ghost use Rattle.std.specs.Prelude.{List, length};
+    ghost use Rattle.std.specs.Prelude.{List};
     ghost use Rattle.schema_places.specs.Rows.{Laid};
 
     ghost Value = { List Laid };
 
-    ghost use Rattle.schema_places.specs.RowViews.{AllWithin, rows_of};
+    ghost use Rattle.schema_places.specs.RowViews.{AreRows, rows_of};
 
-    ghost view = { λ t. rows_of t.numbers.items t.names.items t.rows.items };
+    ghost view = { λ t. rows_of t.numbers.items t.rows.items };
 
-    ghost invariant = { λ t. AllWithin (length t.numbers.items) (length t.names.items) t.rows.items };
+    ghost invariant = { λ t. AreRows t.numbers.items t.rows.items };
 }
 
-impl<'i> Named<'i> {
-    /// Returns a name with its number and that of its member.
-    pub(crate) fn new(name: &'i str, name_number: usize, member_number: usize) -> Named<'i>
-        ensures numbers { numbered result ≡ (name.now, name_number, member_number) }
-    {
-        Named {
-            name,
-            name_number,
-            member_number,
-        }
-    }
-}
+// So many names are asked one after another; more are halved.
+const FEW_NAMES: usize = 8;
+
+// A name of so many bytes is compared byte by byte, a longer one by words.
+const SHORT_NAME: usize = 7;
 
 // The numbers from an index up to another one.
 fn numbers_between(numbers: &[usize], from: usize, to: usize) -> &[usize]
@@ -79,15 +65,6 @@ fn numbers_between(numbers: &[usize], from: usize, to: usize) -> &[usize]
     ensures part { result.now ≡ slice_range numbers.now from to }
 {
     &numbers[from..to]
-}
-
-// The names from an index up to another one.
-fn names_between<'a, 'i>(names: &'a [Named<'i>], from: usize, to: usize) -> &'a [Named<'i>]
-    requires order { from ≤ to }
-    requires end { to ≤ length names.now }
-    ensures part { result.now ≡ slice_range names.now from to }
-{
-    &names[from..to]
 }
 
 // The number of the item that the step leads to.
@@ -102,40 +79,124 @@ fn child_of_items(numbers: &[usize], step: InstanceStep<'_>) -> Option<usize>
 }
 
 // The number of the name or the member that the step leads to.
-fn child_of_members(names: &[Named<'_>], step: InstanceStep<'_>) -> Option<usize>
-    requires rising { Rising (map numbered names.now) }
-    ensures child { result ≡ led_by (step_of step.entry) (leads_to_names (map numbered names.now)) }
+fn child_of_members(rows: &[Row<'_>], numbers: &[usize], step: InstanceStep<'_>) -> Option<usize>
+    requires rising { Rising (named_by (text_at rows.now) numbers.now) }
+    requires small { AllSmall numbers.now }
+    ensures child { result ≡ led_by (step_of step.entry) (leads_to_names (named_by (text_at rows.now) numbers.now)) }
 {
     match step {
         InstanceStep::Item(_) => None,
-        InstanceStep::Member(name) => match numbers_of(names, name) {
-            Some((_, number)) => Some(number),
+        InstanceStep::Member(name) => match number_of(rows, numbers, name) {
+            Some(number) => Some(number + 1),
             None => None,
         },
-        InstanceStep::NameOf(name) => match numbers_of(names, name) {
-            Some((number, _)) => Some(number),
-            None => None,
-        },
+        InstanceStep::NameOf(name) => number_of(rows, numbers, name),
     }
 }
 
-// The number of a name and that of its member, found by halves.
-fn numbers_of(names: &[Named<'_>], name: &str) -> Option<(usize, usize)>
-    requires rising { Rising (map numbered names.now) }
-    ensures numbers { result ≡ numbers_of name.now (map numbered names.now) }
+// The name in the row with a number; the empty one where no name is.
+fn name_in<'i>(rows: &[Row<'i>], number: usize) -> &'i str
+    ensures name { result.now ≡ text_at rows.now number }
 {
-    let found = names.binary_search_by(
-        |named: &Named<'_>| -> Ordering
-            ensures { result ≡ slice_cmp nat_cmp named.now.name.now name.entry.now }
-        { named.name.cmp(name) },
+    match rows.get(number) {
+        Some(row) => match row.below {
+            Below::Name(name) => name,
+            _ => "",
+        },
+        None => "",
+    }
+}
+
+// Whether two short names are the same, byte by byte.
+fn is_same(one: &str, other: &str) -> bool
+    ensures same { result ≡ bytes_eq one.now other.now }
+{
+    one.len() == other.len() && are_same_bytes(one.as_bytes(), other.as_bytes())
+}
+
+// Whether so many bytes are the same.
+fn are_same_bytes(one: &[u8], other: &[u8]) -> bool
+    requires long { length one.now ≡ length other.now }
+    ensures same { result ≡ bytes_eq one.now other.now }
+{
+    for index in 0..one.len() {
+        if one[index] != other[index] {
+            return false;
+        }
+    }
+    true
+}
+
+// The number of a name.
+fn number_of(rows: &[Row<'_>], numbers: &[usize], name: &str) -> Option<usize>
+    requires rising { Rising (named_by (text_at rows.now) numbers.now) }
+    ensures number { result ≡ number_of_name name.now (named_by (text_at rows.now) numbers.now) }
+{
+    if numbers.len() > FEW_NAMES {
+        return number_by_halves(rows, numbers, name);
+    }
+    if name.len() > SHORT_NAME {
+        return number_by_turns(rows, numbers, name);
+    }
+    for number in numbers {
+        if is_same(name, name_in(rows, *number)) {
+            return Some(*number);
+        }
+    }
+    None
+}
+
+// The same of a name that is long. It stands apart, so that a short one takes no stack.
+#[inline(never)]
+fn number_by_turns(rows: &[Row<'_>], numbers: &[usize], name: &str) -> Option<usize>
+    ensures number { result ≡ number_of_name name.now (named_by (text_at rows.now) numbers.now) }
+{
+    for number in numbers {
+        if name == name_in(rows, *number) {
+            return Some(*number);
+        }
+    }
+    None
+}
+
+// The same, found by halves.
+#[inline(never)]
+fn number_by_halves(rows: &[Row<'_>], numbers: &[usize], name: &str) -> Option<usize>
+    requires rising { Rising (named_by (text_at rows.now) numbers.now) }
+    ensures number { result ≡ number_of_name name.now (named_by (text_at rows.now) numbers.now) }
+{
+    let found = numbers.binary_search_by(
+        |number: &usize| -> Ordering
+            ensures { result ≡ slice_cmp nat_cmp (text_at rows.entry.now number.now) name.entry.now }
+        { name_in(rows, *number).cmp(name) },
     );
     match found {
-        Ok(index) => {
-            let named = &names[index];
-            Some((named.name_number, named.member_number))
-        }
+        Ok(index) => Some(numbers[index]),
         Err(_) => None,
     }
+}
+
+// Adds the numbers of so many places that follow one another below a place, from the first one's on: of items, and with a gap of 1 of
+// names, since after each comes its member.
+fn push_numbers(
+    rows: &[Row<'_>],
+    numbers: &mut Vec<usize>,
+    first: usize,
+    count: usize,
+    gap: usize,
+) -> Result<(), OutOfMemory>
+    requires walk { Walks (last_at rows.now) (length rows.now) gap first count }
+    requires small { length rows.now < 9223372036854775808 }
+    ensures pushed { OnOk result (numbers.new.items ≡ numbers.old.items ++ numbers_from (last_at rows.now) gap first count) }
+    ensures unchanged { OnErr result (numbers.new.items ≡ numbers.old.items) }
+{
+    numbers.reserve(count)?;
+    let mut number = first;
+    for _ in 0..count {
+        numbers.push_reserved(number);
+        number = rows[number + gap].last + 1;
+    }
+    Ok(())
 }
 
 impl<'i> Table<'i> {
@@ -146,7 +207,6 @@ impl<'i> Table<'i> {
         Table {
             rows: Vec::new(alloc),
             numbers: Vec::new(alloc),
-            names: Vec::new(alloc),
         }
     }
 
@@ -167,19 +227,23 @@ impl<'i> Table<'i> {
     }
 
     /// Returns the number of the place that the step leads to, if there is one. It allocates nothing.
+    #[inline(always)]
     pub(crate) fn child(&self, place: usize, step: InstanceStep<'_>) -> Option<usize>
         requires known { place < length self.now }
-        requires rising { RisesBelow (row_in self.now place).below }
-        ensures child { result ≡ led_by (step_of step.entry) (leads_of (row_in self.now place).below) }
+        requires rising { RisesBelow self.now (row_in self.now place).below }
+        ensures child { result ≡ led_by (step_of step.entry) (leads_of self.now (row_in self.now place).below) }
     {
         match self.rows[place].below {
             Below::Nothing => None,
             Below::Items(from, to) => {
                 child_of_items(numbers_between(self.numbers.as_slice(), from, to), step)
             }
-            Below::Members(from, to) => {
-                child_of_members(names_between(self.names.as_slice(), from, to), step)
-            }
+            Below::Members(from, to) => child_of_members(
+                self.rows.as_slice(),
+                numbers_between(self.numbers.as_slice(), from, to),
+                step,
+            ),
+            Below::Name(_) => None,
         }
     }
 
@@ -203,13 +267,27 @@ impl<'i> Table<'i> {
         Ok(())
     }
 
-    /// Says in the row of a place that it has items of these numbers, and that all rows after it are below it.
-    pub(crate) fn put_items(&mut self, place: usize, numbers: &[usize]) -> Result<(), OutOfMemory>
+    /// Adds the row of a name.
+    pub(crate) fn push_name(&mut self, name: &'i str) -> Result<(), OutOfMemory>
+        ensures pushed { OnOk result (self.new ≡ self.old ++ laid (length self.old) (own_name name.now) ∷ []) }
+    {
+        let number = self.rows.len();
+        self.rows.push(Row {
+            last: number,
+            below: Below::Name(name),
+        })?;
+        Ok(())
+    }
+
+    /// Says in the row of a place that so many items are below it, and that all rows after it are below it.
+    pub(crate) fn put_items(&mut self, place: usize, count: usize) -> Result<(), OutOfMemory>
         requires known { place < length self.old }
-        ensures put { OnOk result (self.new ≡ slice_set self.old place (laid (length self.old - 1) (items numbers.now))) }
+        requires walk { Walks (last_in self.old) (length self.old) 0 (place + 1) count }
+        ensures put { OnOk result (self.new ≡ slice_set self.old place
+            (laid (length self.old - 1) (items_below (numbers_from (last_in self.old) 0 (place + 1) count)))) }
     {
         let from = self.numbers.len();
-        self.numbers.extend_from_slice(numbers)?;
+        push_numbers(self.rows.as_slice(), &mut self.numbers, place + 1, count, 0)?;
         let below = Below::Items(from, self.numbers.len());
         let last_item = self.rows.len() - 1;
         self.rows[place] = Row {
@@ -219,19 +297,16 @@ impl<'i> Table<'i> {
         Ok(())
     }
 
-    /// Says in the row of a place that it has these names, with their members, and that all rows after it are below it.
-    pub(crate) fn put_names(
-        &mut self,
-        place: usize,
-        members: &[Named<'i>],
-    ) -> Result<(), OutOfMemory>
+    /// Says in the row of a place that so many names with their members are below it, and that all rows after it are below it.
+    pub(crate) fn put_members(&mut self, place: usize, count: usize) -> Result<(), OutOfMemory>
         requires known { place < length self.old }
-        ensures put { OnOk result (self.new
-            ≡ slice_set self.old place (laid (length self.old - 1) (names (map numbered members.now)))) }
+        requires walk { Walks (last_in self.old) (length self.old) 1 (place + 1) count }
+        ensures put { OnOk result (self.new ≡ slice_set self.old place
+            (laid (length self.old - 1) (members_below (numbers_from (last_in self.old) 1 (place + 1) count)))) }
     {
-        let from = self.names.len();
-        self.names.extend_from_slice(members)?;
-        let below = Below::Members(from, self.names.len());
+        let first_name = self.numbers.len();
+        push_numbers(self.rows.as_slice(), &mut self.numbers, place + 1, count, 1)?;
+        let below = Below::Members(first_name, self.numbers.len());
         let last = self.rows.len() - 1;
         self.rows[place] = Row { last, below };
         Ok(())

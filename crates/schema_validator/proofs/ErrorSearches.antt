@@ -11,7 +11,7 @@ use Rattle.schema_definitions.specs.Matching.{Assumptions, Completion, Extends, 
 use Rattle.schema_definitions.specs.Keywords.{Keywords, for_all, for_first, for_units}
 use Rattle.schema_definitions.specs.Runs.{Met, Run, first_error}
 use Rattle.schema_definitions.specs.Unfinished.{Failure, Remembered, starting}
-use Rattle.schema_definitions.specs.Cover.{Call, Cover, Decides, Sense, branch_at, evaluate, iter_errors, mode_of, validate, whole}
+use Rattle.schema_definitions.specs.Cover.{Call, Cover, Decides, Sense, branch_at, evaluate, is_valid, iter_errors, mode_of, validate, whole}
 use Rattle.schema_meaning.specs.Headline.{ErrorsOf, ErrorsSay, FirstSays, IsFailure, OneFailure, VerdictSays, shown_at}
 use Rattle.schema_definitions.specs.Laws.{Agrees, EachKeeps}
 use Rattle.schema_meaning.specs.Members.{Finishes, Follows, Speaks, is_nil, verdict_of}
@@ -186,6 +186,9 @@ module _ {K R : Type 0} (keywords : Keywords K R) (each : EachKeeps keywords) (m
     no_error accepts =
         let agrees : Agrees ((run_under []).outcome tt) = subst Agrees (sym (outcome keywords each matcher nodes instance root n [])) (follows_it.agrees (completion_of [])) in
         sym (agrees.0 (sym accepts))
+
+    pub verdict_at_once : (valid : Bool) → valid ≡ ((run_under []).outcome tt).verdict → VerdictSays v most is_valid valid
+    verdict_at_once valid says = verdict_alone is_valid (none_met is_valid) valid (says ∙ ap (λ (o : Outcome). o.verdict) (outcome keywords each matcher nodes instance root n []))
 
     pub errors_at_once : (texts : Bool) → true ≡ ((run_under []).outcome tt).verdict → ErrorsAnswered v most texts []
     errors_at_once texts accepts = errors_whole texts [] (no_error accepts) (none_met iter_errors)

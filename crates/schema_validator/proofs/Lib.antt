@@ -7,6 +7,7 @@ pub mod FirstCauses
 pub mod OtherParts
 pub mod Remembers
 pub mod Searches
+pub mod Solved
 pub mod ErrorSearches
 mod SharedErrors
 pub mod Built

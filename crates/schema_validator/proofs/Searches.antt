@@ -3,13 +3,13 @@ use Rattle.std.proofs.Common.{◌≡◌, ◌≤◌, ◌∙◌, ℕ, Bool, true, 
 use Rattle.std.specs.Prelude.{Option, Some, None, is_some, option_map}
 use Rattle.serde_json.specs.Data.{Data}
 use Rattle.schema_definitions.specs.Reports.{Error, Outcome}
-use Rattle.schema_definitions.specs.Matching.{Assumptions, Extends, Matcher, completion_of}
+use Rattle.schema_definitions.specs.Matching.{Assumptions, Extends, Match, Matcher, completion_of, finished, unfinished}
 use Rattle.schema_definitions.specs.Keywords.{Keywords, Mode, all_of_it, first_of_it, for_verdict, truth}
 use Rattle.schema_definitions.specs.Runs.{Run}
 use Rattle.schema_definitions.specs.Unfinished.{Failure, Remembered, starting}
 use Rattle.schema_definitions.specs.Cover.{Call, Cover, Sense, branch_at, is_valid, mode_of, whole}
 use Rattle.schema_meaning.specs.Headline.{VerdictSays}
-use Rattle.schema_meaning.specs.Members.{Follows, verdict_of}
+use Rattle.schema_meaning.specs.Members.{Finishes, Follows, verdict_of}
 use Rattle.schema_meaning.specs.Searched.{IsRunOf, Reaches, here, next}
 use Rattle.schema_definitions.specs.Laws.{EachKeeps}
 use Rattle.schema_definitions.specs.Guarded.{Nodes, guarded_node, guarded_sense, guarded_within, yes_run}
@@ -19,6 +19,7 @@ use Rattle.schema_meaning.proofs.GuardedSense.{all_nodes_follow}
 use Rattle.schema_meaning.proofs.NodeRuns.{runs_say_outcomes}
 use Rattle.schema_meaning.proofs.Sentences.{verdict_says}
 use Rattle.schema_contexts.specs.Matches.{MeetsEach}
+use Rattle.schema_parts.specs.MatcherViews.{FinishesEach}
 use Rattle.schema_validator.proofs.Remembers.{remembers_of}
 
 module _ {K R : Type 0} (keywords : Keywords K R) (each : EachKeeps keywords) (matcher : Matcher) (nodes : Nodes K) (instance : Data) (root n : ℕ) where
@@ -75,6 +76,15 @@ module _ {K R : Type 0} (keywords : Keywords K R) (each : EachKeeps keywords) (m
         → IsRunOf sense is_valid Step first start view (verdict_of sense)
     verdict_runs view first none met h = search_runs is_valid for_verdict (λ as' some. refl) view (verdict_of sense) first none met
         (λ as' r b end step once. let told = h as' r b end step once in (told.0 ∙ ap (λ (o : Outcome). o.verdict) (outcome as'), told.1))
+
+-- ---- a matcher that leaves no match unfinished finishes each
+
+pub finishes_of : (matcher : Matcher) → FinishesEach matcher → Finishes matcher
+finishes_of matcher each pattern text = go (matcher.is_match pattern text) refl
+  where
+    go : (m : Match) → matcher.is_match pattern text ≡ m → (b : Bool) × (matcher.is_match pattern text ≡ finished b)
+    go (finished b) e = (b, e)
+    go (unfinished reason) e = absurd (each pattern text reason e)
 
 -- ---- what is said of a result that is there
 

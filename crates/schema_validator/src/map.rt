@@ -8,6 +8,7 @@ ghost use Rattle.schema_validator.specs.MapViews.{EachOnce, at_pointer};
 pub(crate) mod schemas;
 
 use crate::validator::Validator;
+use schema_parts::keyword::Validate;
 use schema_reports::location::OutOfMemory;
 use std::alloc::Global;
 use std::collections::BTreeMap;
@@ -17,11 +18,11 @@ use std::marker::Model;
 /// Validators by pointers. Contracts see the list of the pointers, each with what its validator is made of. A look-up
 /// compares the pointer with about as many others as the logarithm of their number.
 #[derive(Drop)]
-pub struct ValidatorMap<K, M> {
+pub struct ValidatorMap<K: Validate, M> {
     entries: BTreeMap<String, Validator<K, M>>,
 }
 
-impl<K, M> Model for ValidatorMap<K, M> {
+impl<K: Validate, M> Model for ValidatorMap<K, M> {
     ghost use Rattle.schema_validator.specs.Program.{Program};
     ghost use Rattle.schema_validator.specs.MapViews.{Entries, entries_of};
     ghost use Rattle.serde_json.specs.contracts.value.Value as value;
@@ -34,7 +35,7 @@ impl<K, M> Model for ValidatorMap<K, M> {
     ghost view = { λ m. entries_of m.entries };
 }
 
-impl<K: Drop, M: Drop> ValidatorMap<K, M> {
+impl<K: Validate, M: Drop> ValidatorMap<K, M> {
     /// Returns the map with no pointer. It allocates nothing.
     pub(crate) fn new(alloc: Global) -> ValidatorMap<K, M>
         ensures empty { result ≡ [] }

@@ -6,6 +6,7 @@ ghost use Rattle.schema_definitions.specs.Unfinished.{starting};
 ghost use Rattle.schema_reports.specs.ReportViews.{BorrowsItsPlace};
 ghost use Rattle.schema_parts.specs.FaultViews.{errors_in};
 ghost use Rattle.schema_parts.specs.KeywordViews.{mode_of, reply_of};
+ghost use Rattle.schema_parts.specs.MatcherViews.{FinishesEach};
 ghost use Rattle.schema_answers.specs.ReplyModes.{reply_by};
 ghost use Rattle.schema_definitions.specs.Reports.{Outcome};
 ghost use Rattle.schema_definitions.specs.Keywords.{for_all, for_first, for_units, for_verdict};
@@ -21,9 +22,11 @@ ghost use Rattle.schema_validator.specs.SharedErrors.{AreShared};
 ghost use Rattle.schema_validator.specs.Asked.{RunDecides, RunFindsFirst, RunListsErrors, RunMeets, RunReplies};
 ghost use Rattle.schema_meaning.specs.Numbered.{Ranked};
 ghost use Rattle.schema_monotone.specs.Saying.{EachSays};
+ghost use Rattle.schema_greatest.specs.NodesSay.{AreMonotone};
 ghost use Rattle.schema_nodes.specs.NodeTable.{numbered};
 
 mod cloning;
+pub(crate) mod solvable;
 
 use schema_contexts::validation::ValidationContext;
 use schema_keywords::keywords::Draft;
@@ -43,24 +46,30 @@ use schema_reports::instance::{Instance, Place};
 use schema_reports::location::{Location, OutOfMemory};
 use schema_reports::reports::{ErrorIterator, ValidationError};
 use schema_search::unfinished_matches::{MAX_ASSUMED_RUNS, errors_under_each, validity_under_each};
+use schema_solver::followed::Followed;
+use schema_solver::solve::solve;
 use serde_json::Value;
 use std::alloc::Global;
 use std::marker::Model;
 
 /// A compiled schema. It validates any number of instances, and no call changes it.
 #[derive(Drop)]
-pub struct Validator<K, M> {
+pub struct Validator<K: Validate, M> {
     nodes: Nodes<K>,
     root: SchemaNode,
     draft: Draft,
     matcher: M,
     run_limit: u32,
+    // what a solver follows, where each keyword says that it is monotone
+    followed: Option<Followed>,
 }
 
-impl<K, M> Model for Validator<K, M> {
+impl<K: Validate, M> Model for Validator<K, M> {
     ghost use Rattle.schema_keywords.specs.KeywordViews.{draft_of};
     ghost use Rattle.schema_validator.specs.Program.{Program};
-    ghost use Rattle.std.specs.Prelude.{◌<◌, ◌≤◌, length};
+    ghost use Rattle.schema_greatest.specs.NodesSay.{AreMonotone};
+    ghost use Rattle.schema_nodes.specs.NodeTable.{numbered};
+    ghost use Rattle.std.specs.Prelude.{◌<◌, ◌≤◌, Bool, IfSome, length};
     ghost use Rattle.serde_json.specs.contracts.value.Value as value;
     ghost use Rattle.std.specs.Coded.{codes};
 
@@ -70,7 +79,8 @@ impl<K, M> Model for Validator<K, M> {
 
     ghost view = { λ v. record { nodes = v.nodes; root = v.root.0; draft = draft_of v.draft; matcher = v.matcher; runs = v.run_limit } };
 
-    ghost invariant = { λ v. (v.root.0 < length v.nodes) × (1 ≤ v.run_limit) };
+    ghost invariant = { λ v. (v.root.0 < length v.nodes) × (1 ≤ v.run_limit)
+        × IfSome v.followed (λ _. (texts : Bool) → AreMonotone (K.words texts) (numbered K.shape v.nodes) (length v.nodes)) };
 }
 
 // The first of these errors.
@@ -102,7 +112,7 @@ impl<K: Validate, M: Matcher> Validator<K, M> {
         requires inside { root.0 < length nodes }
         ensures made { result ≡ record { nodes = nodes; root = root.0; draft = draft_of draft; matcher = matcher; runs = default_runs } }
     {
-        Validator::of_nodes_within(nodes, root, draft, matcher, MAX_ASSUMED_RUNS)
+        Validator::of_nodes_within(nodes, root, draft, matcher, MAX_ASSUMED_RUNS, None)
     }
 
     // Makes a validator of compiled nodes, whose calls make so many runs at most.
@@ -112,9 +122,12 @@ impl<K: Validate, M: Matcher> Validator<K, M> {
         draft: Draft,
         matcher: M,
         run_limit: u32,
+        followed: Option<Followed>,
     ) -> Validator<K, M>
         requires inside { root.0 < length nodes }
         requires limit { 1 ≤ run_limit }
+        requires monotone { IfSome followed (λ _. (texts : Bool)
+            → AreMonotone (K.words texts) (numbered K.shape nodes) (length nodes)) }
         ensures made { result ≡ record { nodes = nodes; root = root.0; draft = draft_of draft; matcher = matcher; runs = run_limit } }
     {
         Validator {
@@ -123,6 +136,7 @@ impl<K: Validate, M: Matcher> Validator<K, M> {
             draft,
             matcher,
             run_limit,
+            followed,
         }
     }
 
@@ -234,11 +248,39 @@ impl<K: Validate, M: Matcher> Validator<K, M> {
         }
     }
 
+    // The verdict of the root's node, where nothing is assumed, by a solver: chains of references that return take polynomial time.
+    fn solved(
+        &self,
+        alloc: Global,
+        followed: &Followed,
+        instance: &Value,
+    ) -> Result<bool, OutOfMemory>
+        requires monotone { (texts : Bool) → NodesAreMonotone K.shape K.words self.now texts }
+        requires finishes { FinishesEach (M.matching self.now.matcher) }
+        ensures says { IfOk result (λ valid. RunDecides
+            K.Validate M.Matcher.own self.now (view instance.now) [] valid) }
+    {
+        let solved = solve(
+            alloc,
+            &self.nodes,
+            &self.matcher,
+            followed,
+            self.root,
+            instance,
+        )?;
+        Ok(solved.valid)
+    }
+
     // Whether every outcome of the unfinished matches accepts.
     fn valid_under_each(&self, alloc: Global, instance: &Value) -> Result<bool, OutOfMemory>
         ensures depth { IfOk result (λ valid. DecidesFromSomeDepth
             K.Validate M.Matcher.own self.now (view instance.now) valid) }
     {
+        if let Some(followed) = &self.followed {
+            if self.matcher.finishes() {
+                return self.solved(alloc, followed, instance);
+            }
+        }
         let first = self.verdict(alloc, instance, MatchAssumptions::new(alloc))?;
         if !first.0.met_unassumed() {
             drop(first.0);
@@ -260,6 +302,9 @@ impl<K: Validate, M: Matcher> Validator<K, M> {
             K.Validate M.Matcher.own self.now (view instance.now) []) }
     {
         if self.matcher.finishes() {
+            if let Some(followed) = &self.followed {
+                return self.solved(alloc, followed, instance);
+            }
             let (met, accepts) = self.verdict(alloc, instance, MatchAssumptions::new(alloc))?;
             drop(met);
             return Ok(accepts);

@@ -14,6 +14,7 @@ use crate::compiled::of_compiled_within;
 use crate::options::ValidationOptions;
 use crate::options::root::root_key;
 use crate::validator::Validator;
+use crate::validator::solvable::solver_numbers;
 use schema_check::check::validate_schema;
 use schema_compiler::compiler::compile;
 use schema_keys::error::BuildError;
@@ -149,6 +150,7 @@ impl ValidationOptions {
         drop(compiled.keys);
         drop(compiled.reservations);
         let runs = self.run_limit;
+        let followed = solver_numbers(alloc, &nodes)?;
         let validator = of_compiled_within(
             table,
             resolver,
@@ -157,6 +159,7 @@ impl ValidationOptions {
             SchemaNode(0),
             draft,
             runs,
+            followed,
         )?;
         Ok(validator)
     }

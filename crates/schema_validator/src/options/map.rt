@@ -20,6 +20,7 @@ use crate::map::schemas::schemas_in;
 use crate::options::ValidationOptions;
 use crate::options::root::root_key;
 use crate::validator::Validator;
+use crate::validator::solvable::solver_numbers;
 use schema_check::check::validate_schema;
 use schema_compiler::compiler::{check_vocabularies, compile_subschema};
 use schema_keys::context::Context;
@@ -219,6 +220,7 @@ impl<'p, S: Resolver, T, M: Matcher> MapBuilding<'p, S, T, M> {
         let nodes = compiled.nodes;
         drop(compiled.keys);
         drop(compiled.reservations);
+        let followed = solver_numbers(self.alloc, &nodes)?;
         let validator = of_compiled_within(
             self.table,
             self.resolver,
@@ -227,6 +229,7 @@ impl<'p, S: Resolver, T, M: Matcher> MapBuilding<'p, S, T, M> {
             SchemaNode(0),
             draft,
             options.run_limit,
+            followed,
         )?;
         Ok(validator)
     }

@@ -1,7 +1,7 @@
-use Rattle.std.proofs.Common.{◌≡◌, drop}
+use Rattle.std.proofs.Common.{◌≡◌, drop, true}
 use Rattle.json.specs.Print.{escape}
 use Rattle.schema_output.proofs.text.is_plain.Given as goal
 
 -- where what is still to come stands for itself, all does
 abbrev pub invariant-loop-byte : goal.invariant-loop-byte
-invariant-loop-byte l = escape (drop l.byte-index l.text) ≡ drop l.byte-index l.text → escape l.text ≡ l.text
+invariant-loop-byte l = l.plain ≡ true → escape (drop l.byte-index l.text) ≡ drop l.byte-index l.text → escape l.text ≡ l.text

@@ -1,45 +1,44 @@
-use Rattle.std.proofs.Common.{◌∙◌, ap, map, sym, ℕ}
+use Rattle.std.proofs.Common.{◌∙◌, ◌+◌, ap, arith, sym, ℕ}
 use Rattle.std.specs.Prelude.{Option, option_map}
 use Rattle.schema_reports.specs.InstanceViews.{step_of}
 use Rattle.schema_reports.specs.declared.instance.InstanceStep.{InstanceStep}
-use Rattle.schema_places.specs.Rows.{leads_to_names, led_by}
-use Rattle.schema_places.specs.RowViews.{numbered}
-use Rattle.schema_places.proofs.Searching.{item_no_member, member_leads, name_leads}
+use Rattle.schema_places.specs.Rows.{leads_to_names, led_by, named_by}
+use Rattle.schema_places.specs.RowViews.{text_at}
+use Rattle.schema_places.proofs.Searching.{found_small, item_no_member, member_leads, name_leads}
 use Rattle.schema_places.proofs.rows.child_of_members.Goals as goal
+
+pub overflow_add-result : goal.overflow_add-result
+overflow_add-result c =
+    let small = found_small (text_at c.args.rows.now) c.in-Member.name.now c.args.numbers.now c.in-Some.number c.requires.small c.in-Some.ensures.number in
+    omega (arith, small)
 
 pub returns-in-Item : goal.returns-in-Item
 returns-in-Item c =
-    let names = map numbered c.args.names.now in
+    let names = named_by (text_at c.args.rows.now) c.args.numbers.now in
     record { child = sym (ap (λ (s : InstanceStep). led_by (step_of s) (leads_to_names names)) c.in-Item.is ∙ item_no_member _ names) }
 
 pub returns-in-Some : goal.returns-in-Some
 returns-in-Some c =
-    let names = map numbered c.args.names.now in
+    let f = text_at c.args.rows.now in
+    let names = named_by f c.args.numbers.now in
     record {
-      child = ap (λ (o : Option (ℕ × ℕ)). option_map (λ n. n.1) o) c.in-Some.ensures.numbers ∙ member_leads c.in-Member.name.now names
+      child = ap (λ (o : Option ℕ). option_map (λ n. n + 1) o) c.in-Some.ensures.number ∙ member_leads f c.in-Member.name.now c.args.numbers.now
           ∙ sym (ap (λ (s : InstanceStep). led_by (step_of s) (leads_to_names names)) c.in-Member.is);
     }
 
 pub returns-in-None : goal.returns-in-None
 returns-in-None c =
-    let names = map numbered c.args.names.now in
+    let f = text_at c.args.rows.now in
+    let names = named_by f c.args.numbers.now in
     record {
-      child = ap (λ (o : Option (ℕ × ℕ)). option_map (λ n. n.1) o) c.in-None.ensures.numbers ∙ member_leads c.in-Member.name.now names
+      child = ap (λ (o : Option ℕ). option_map (λ n. n + 1) o) c.in-None.ensures.number ∙ member_leads f c.in-Member.name.now c.args.numbers.now
           ∙ sym (ap (λ (s : InstanceStep). led_by (step_of s) (leads_to_names names)) c.in-Member.is);
     }
 
-pub returns-in-Some-numbers_of : goal.returns-in-Some-numbers_of
-returns-in-Some-numbers_of c =
-    let names = map numbered c.args.names.now in
+pub returns-in-NameOf : goal.returns-in-NameOf
+returns-in-NameOf c =
+    let names = named_by (text_at c.args.rows.now) c.args.numbers.now in
     record {
-      child = ap (λ (o : Option (ℕ × ℕ)). option_map (λ n. n.0) o) c.in-Some-numbers_of.ensures.numbers ∙ name_leads c.in-NameOf.name.now names
-          ∙ sym (ap (λ (s : InstanceStep). led_by (step_of s) (leads_to_names names)) c.in-NameOf.is);
-    }
-
-pub returns-in-None-numbers_of : goal.returns-in-None-numbers_of
-returns-in-None-numbers_of c =
-    let names = map numbered c.args.names.now in
-    record {
-      child = ap (λ (o : Option (ℕ × ℕ)). option_map (λ n. n.0) o) c.in-None-numbers_of.ensures.numbers ∙ name_leads c.in-NameOf.name.now names
+      child = c.number_of-in-NameOf.ensures.number ∙ name_leads c.in-NameOf.name.now names
           ∙ sym (ap (λ (s : InstanceStep). led_by (step_of s) (leads_to_names names)) c.in-NameOf.is);
     }

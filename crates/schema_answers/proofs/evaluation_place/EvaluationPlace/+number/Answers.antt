@@ -8,14 +8,33 @@ use Rattle.schema_answers.specs.declared.evaluation_place.EvaluationPlace.{Evalu
 use Rattle.schema_answers.proofs.evaluation_place.EvaluationPlace.+number.Goals as goal
 
 pub child-requires : goal.child-requires
-child-requires t c = record { known = (stands (steps_to c.in-Below.above.now) c.args.places.now c.in-Some.number (sym c.in-Some.ensures.number)).0 }
+child-requires t c =
+    let ps = c.args.places.now in
+    let above = subst (λ (p : EvaluationPlace). CarriesItsNumber ps p) c.in-Below.is c.requires.carries in
+    let own = subst (λ (p : EvaluationPlace). CarriesItsNumber ps p) c.in-Numbered-above.is above in
+    record { known = (stands _ ps _ own).0 }
+
+pub returns-in-Numbered-above : goal.returns-in-Numbered-above
+returns-in-Numbered-above t c =
+    let ps = c.args.places.now in
+    let above = subst (λ (p : EvaluationPlace). CarriesItsNumber ps p) c.in-Below.is c.requires.carries in
+    let own = subst (λ (p : EvaluationPlace). CarriesItsNumber ps p) c.in-Numbered-above.is above in
+    let at = stands _ ps _ own in
+    record {
+      number = c.child.ensures.child ∙ ap (λ (q : Place). number_of (q ++ step_of c.in-Below.step ∷ []) ps) at.1
+          ∙ ap (λ (p : EvaluationPlace). number_of (steps_to p ++ step_of c.in-Below.step ∷ []) ps) (sym c.in-Numbered-above.is)
+          ∙ ap (λ (p : EvaluationPlace). number_of (steps_to p) ps) (sym c.in-Below.is);
+    }
+
+pub child-requires-in-Some : goal.child-requires-in-Some
+child-requires-in-Some t c = record { known = (stands (steps_to c.in-Below.above.now) c.args.places.now c.in-Some.number (sym c.in-Some.ensures.number)).0 }
 
 pub returns-in-Some : goal.returns-in-Some
 returns-in-Some t c =
     let ps = c.args.places.now in
     let at = stands (steps_to c.in-Below.above.now) ps c.in-Some.number (sym c.in-Some.ensures.number) in
     record {
-      number = c.child.ensures.child ∙ ap (λ (q : Place). number_of (q ++ step_of c.in-Below.step ∷ []) ps) at.1
+      number = c.child-in-Some.ensures.child ∙ ap (λ (q : Place). number_of (q ++ step_of c.in-Below.step ∷ []) ps) at.1
           ∙ ap (λ (p : EvaluationPlace). number_of (steps_to p) ps) (sym c.in-Below.is);
     }
 

@@ -7,5 +7,7 @@ use Rattle.schema_places.proofs.rows.Table.push_row.Goals as goal
 pub invariant_of-self-2 : goal.invariant_of-self-2
 invariant_of-self-2 c =
     let t = c.self.inside in
-    subst (λ (rs : List Row). AllWithin (length t.numbers.items) (length t.names.items) rs) (sym c.in_ok-push.ensures.items)
-    (within_pushed (length t.numbers.items) (length t.names.items) t.rows.items _ c.self.invariant tt)
+    record {
+      within = subst (λ (rs : List Row). AllWithin (length t.numbers.items) rs) (sym c.in_ok-push.ensures.items) (within_pushed (length t.numbers.items) t.rows.items _ c.self.invariant.within tt);
+      small = c.self.invariant.small;
+    }

@@ -1,31 +1,55 @@
-use Rattle.std.proofs.Common.{◌≡◌, ◌∙◌, ◌+◌, ◌-◌, ◌++◌, ℕ, List, ap, ap₂, arith, length, length-append}
-use Rattle.std.specs.Prelude.{slice_set}
-use Rattle.schema_places.specs.Rows.{Laid, items, laid}
-use Rattle.schema_places.proofs.Tables.{items_within, items_put, rows_length}
+use Rattle.std.proofs.Common.{◌≡◌, ◌∙◌, ◌+◌, ◌-◌, ◌<◌, ◌++◌, ℕ, List, ap, ap₂, arith, length, length-append, subst, sym}
+use Rattle.std.specs.Prelude.{slice_range, slice_set}
+use Rattle.schema_places.specs.Rows.{Laid, Walks, items_below, laid, last_in, numbers_from}
+use Rattle.schema_places.specs.RowViews.{last_at}
+use Rattle.schema_places.specs.declared.rows.Below.TheVariants as below
+use Rattle.schema_places.specs.declared.rows.Row.{Row}
+use Rattle.schema_places.proofs.Tables.{numbers_found, put_within, range_added, row_put, rows_length, small_more, walks_found}
 use Rattle.schema_places.proofs.rows.Table.put_items.Goals as goal
+
+pub push_numbers-requires-clause-walk : goal.push_numbers-requires-clause-walk
+push_numbers-requires-clause-walk c =
+    let t = c.self.inside in
+    let known = subst (λ (xs : List Laid). Walks (last_in xs) (length xs) 0 (c.args.place + 1) c.args.count) (sym c.self.view_is) c.requires.walk in
+    subst (λ (xs : List Row). Walks (last_at xs) (length xs) 0 (c.args.place + 1) c.args.count) (sym c.as_slice.ensures.value)
+    (walks_found t.numbers.items t.rows.items 0 (c.args.place + 1) c.args.count known)
 
 pub invariant_of-self-2 : goal.invariant_of-self-2
 invariant_of-self-2 c =
     let t = c.self.inside in
-    let all = c.extend_from_slice.new.self.items in
-    let grown : all ≡ t.numbers.items ++ c.args.numbers.now = c.in_ok-extend_from_slice.ensures.items in
-    let size = ap length grown ∙ length-append t.numbers.items c.args.numbers.now in
-    let from : c.len-from.result ≡ length t.numbers.items = omega (arith, c.len-from.ensures, t.numbers.ok.0) in
-    let to : c.len.result ≡ length t.numbers.items + length c.args.numbers.now = omega (arith, c.len.ensures, c.extend_from_slice.new.self.ok.0, size) in
-    items_within t.numbers.items c.args.numbers.now all t.names.items t.rows.items c.args.place (c.len-last_item.result - 1) c.len-from.result c.len.result c.self.invariant grown from to
+    let bs = t.numbers.items in
+    let rs = t.rows.items in
+    let all = c.push_numbers.new.numbers.items in
+    let first = c.args.place + 1 in
+    let cs = numbers_from (last_at rs) 0 first c.args.count in
+    let grown : all ≡ bs ++ cs = c.in_ok-push_numbers.ensures.pushed ∙ ap (λ (xs : List Row). bs ++ numbers_from (last_at xs) 0 first c.args.count) c.as_slice.ensures.value in
+    let known = subst (λ (xs : List Laid). Walks (last_in xs) (length xs) 0 first c.args.count) (sym c.self.view_is) c.requires.walk in
+    let size = ap length grown ∙ length-append bs cs in
+    let from : c.len-from.result ≡ length bs = omega (arith, c.len-from.ensures, t.numbers.ok.0) in
+    let to : c.len.result ≡ length all = omega (arith, c.len.ensures, c.push_numbers.new.numbers.ok.0) in
+    let few : length rs < 9223372036854775808 = omega (arith, t.rows.ok.0, t.rows.ok.1, t.rows.small) in record {
+      within = put_within bs cs all rs c.args.place _ c.self.invariant.within grown (omega (arith, from, to, size), omega (arith, to));
+      small = small_more (last_at rs) (length rs) 0 first c.args.count bs all few (walks_found bs rs 0 first c.args.count known) grown c.self.invariant.small;
+    }
 
 pub returns : goal.returns
 returns c =
     let t = c.self.inside in
-    let all = c.extend_from_slice.new.self.items in
-    let grown : all ≡ t.numbers.items ++ c.args.numbers.now = c.in_ok-extend_from_slice.ensures.items in
-    let size = ap length grown ∙ length-append t.numbers.items c.args.numbers.now in
-    let from : c.len-from.result ≡ length t.numbers.items = omega (arith, c.len-from.ensures, t.numbers.ok.0) in
-    let to : c.len.result ≡ length t.numbers.items + length c.args.numbers.now = omega (arith, c.len.ensures, c.extend_from_slice.new.self.ok.0, size) in
-    let many = rows_length t.numbers.items t.names.items t.rows.items in
+    let bs = t.numbers.items in
+    let rs = t.rows.items in
+    let all = c.push_numbers.new.numbers.items in
+    let first = c.args.place + 1 in
+    let cs = numbers_from (last_at rs) 0 first c.args.count in
+    let grown : all ≡ bs ++ cs = c.in_ok-push_numbers.ensures.pushed ∙ ap (λ (xs : List Row). bs ++ numbers_from (last_at xs) 0 first c.args.count) c.as_slice.ensures.value in
+    let size = ap length grown ∙ length-append bs cs in
+    let from : c.len-from.result ≡ length bs = omega (arith, c.len-from.ensures, t.numbers.ok.0) in
+    let to : c.len.result ≡ length bs + length cs = omega (arith, c.len.ensures, c.push_numbers.new.numbers.ok.0, size) in
+    let range = ap (λ (xs : List ℕ). slice_range xs c.len-from.result c.len.result) grown ∙ range_added bs cs c.len-from.result c.len.result from to in
     let seen = ap (λ (xs : List Laid). length xs) c.self.view_is in
-    let last : c.len-last_item.result - 1 ≡ length c.args.self.now - 1 = omega (arith, c.len-last_item.ensures, t.rows.ok.0, many, seen) in
+    let last : c.len-last_item.result - 1 ≡ length c.args.self.now - 1 = omega (arith, c.len-last_item.ensures, t.rows.ok.0, rows_length bs rs, seen) in
+    let told = numbers_found bs rs 0 first c.args.count ∙ ap (λ (xs : List Laid). numbers_from (last_in xs) 0 first c.args.count) c.self.view_is in
     record {
-      put = items_put t.numbers.items c.args.numbers.now all t.names.items t.rows.items c.args.place (c.len-last_item.result - 1) c.len-from.result c.len.result c.self.invariant grown from to
-          ∙ ap₂ (λ (n : ℕ) (xs : List Laid). slice_set xs c.args.place (laid n (items c.args.numbers.now))) last c.self.view_is;
+      put = row_put bs cs all rs c.args.place (c.len-last_item.result - 1) (below.Items c.len-from.result c.len.result) (items_below cs) c.self.invariant.within grown (ap items_below range)
+          ∙ ap₂ (λ (n : ℕ) (xs : List Laid). slice_set xs c.args.place (laid n (items_below cs))) last c.self.view_is
+          ∙ ap (λ (ks : List ℕ). slice_set c.args.self.now c.args.place (laid (length c.args.self.now - 1) (items_below ks))) told;
     }

@@ -1,0 +1,269 @@
+-- What falls with each question of a solver, and what the functions of edges and of pairs are asked and say.
+use Rattle.std.proofs.Common.{◌≡◌, ◌∙◌, ℕ, suc, ◌<◌, ◌≤◌, ◌==◌, ◌++◌, ◌||◌, ◌&&◌, not, Bool, true, false, inl, inr, List, [], ◌∷◌, length, refl, sym, subst, ap, ap₂, arith, true≢false}
+use Rattle.std.specs.Prelude.{Contains, None, Option, Some, drop, slice_get, take, ◌⊎◌}
+use Rattle.std.specs.List.{list_any}
+use Rattle.std.proofs.lemmas.Bool.{false_from_ne_true, or_left}
+use Rattle.std.proofs.lemmas.List.{drop_at, take_at}
+use Rattle.serde_json.specs.Data.{Data}
+use Rattle.serde_json.specs.View.{view}
+use Rattle.schema_definitions.specs.Instance.{Place, Step, Subject, Text, after_step, same_place}
+use Rattle.schema_definitions.specs.Guarded.{Children, NodeEdge, NodePart, Nodes, node_edges, node_keyword}
+use Rattle.schema_definitions.specs.Keywords.{Answer}
+use Rattle.schema_definitions.specs.Matching.{completion_of}
+use Rattle.schema_definitions.specs.Turns.{Standing, TurnLaws}
+use Rattle.schema_definitions.specs.Laws.{EachKeeps}
+use Rattle.schema_definitions.proofs.Products.{in_either}
+use Rattle.schema_meaning.specs.Numbered.{Ranked, left, subject_in}
+use Rattle.schema_meaning.proofs.Falls.{left_below, left_entered, left_lower, step_falls}
+use Rattle.schema_places.specs.Numbers.{OwnNumbers, number_of}
+use Rattle.schema_parts.specs.AtOnce.{EndsAtOnce}
+use Rattle.schema_parts.specs.KeywordViews.{Tells}
+use Rattle.schema_contexts.specs.Matches.{settling}
+use Rattle.schema_contexts.specs.Progress.{Pairs, busy_at}
+use Rattle.schema_contexts.specs.Verdicts.{Remembers, is_pair, verdict_of}
+use Rattle.schema_contexts.proofs.Pairs.{among-pair, busy-pushed, snoc_first}
+use Rattle.schema_node.specs.NodeRuns.{HasForm}
+use Rattle.schema_node.proofs.NodeParts.{tells_keyword}
+use Rattle.schema_node.proofs.NodeRuns.{stands_in}
+use Rattle.schema_solving.specs.Under.{IsSolvable}
+use Rattle.schema_solving.specs.Found.{NoneAt, SaysPair, SaysUnder}
+use Rattle.schema_solving.specs.Says.{FormSays, PartsSay, parts_under}
+use Rattle.schema_solving.proofs.Between.{grows_between, says_assumed, says_busy, says_known}
+use Rattle.schema_solving.proofs.Turning.{at_once_under}
+use Rattle.schema_solver.specs.Contexts.{SettlesAll, Solver, found_of, has_pair, solver_places}
+use Rattle.schema_solver.specs.Solving.{Begins, Goes, HasEachCut, InEach, IsNew, Leaves, MaySolve, Setting, TellsAll, is_cut, solving_in}
+use Rattle.schema_solver.specs.Needs.{PairRan, SaysTheRest, edge_needs, pair_needs}
+use Rattle.schema_solver.proofs.PairSteps.{assumed_goes, assumed_says, refused_goes, refused_says, settled_goes, settled_says}
+use Rattle.schema_solver.proofs.PlacesOnce.{once_from_own, there_from_number}
+
+-- ---- what falls
+
+module _ {K : Type 0} (nodes : Nodes K) (count : ℕ) where
+  pair_case : (b : Bool) (n : ℕ) → b ≡ false → ◌≡◌ {A = ℕ} (elim b [ true ↦ 0 | false ↦ suc n ]) (suc n)
+  pair_case true n h = absurd (true≢false h)
+  pair_case false n h = refl
+
+  pub needs_of_new : (i : ℕ) (s : Subject) (busy : List ℕ) → list_any (λ k. k == i) busy ≡ false → pair_needs nodes count i s busy ≡ suc (left nodes count i s (i ∷ busy))
+  needs_of_new i s busy is = pair_case (list_any (λ k. k == i) busy) _ is
+
+  cut_case : (b : Bool) (m n : ℕ) → b ≡ true → ◌≡◌ {A = ℕ} (elim b [ true ↦ m | false ↦ n ]) m
+  cut_case true m n h = refl
+  cut_case false m n h = absurd (true≢false (sym h))
+
+  free_case : (b : Bool) (m n : ℕ) → b ≡ false → ◌≡◌ {A = ℕ} (elim b [ true ↦ m | false ↦ n ]) n
+  free_case true m n h = absurd (true≢false h)
+  free_case false m n h = refl
+
+  module _ (cut : NodeEdge → Bool) (e : NodeEdge) (s : Subject) (busy : List ℕ) where
+    pub needs_of_cut : cut e ≡ true → edge_needs cut nodes count e s busy ≡ pair_needs nodes count e.node s busy
+    needs_of_cut is = cut_case (cut e) _ _ is
+
+    pub needs_of_free : cut e ≡ false → edge_needs cut nodes count e s busy ≡ suc (left nodes count e.node s busy)
+    needs_of_free is = free_case (cut e) _ _ is
+
+    by_cut : (n : ℕ) → (cut e ≡ false → left nodes count e.node s busy < n) → (list_any (λ k. k == e.node) busy ≡ false → left nodes count e.node s (e.node ∷ busy) < n)
+        → edge_needs cut nodes count e s busy ≤ n
+    by_cut n f h = go (cut e) (list_any (λ k. k == e.node) busy) f h
+      where
+        go : (b t : Bool) → (b ≡ false → left nodes count e.node s busy < n) → (t ≡ false → left nodes count e.node s (e.node ∷ busy) < n)
+            → (elim b [ true ↦ elim t [ true ↦ 0 | false ↦ suc (left nodes count e.node s (e.node ∷ busy)) ] | false ↦ suc (left nodes count e.node s busy) ]) ≤ n
+        go false t f h = f refl
+        go true true f h = omega arith
+        go true false f h = h refl
+
+  module _ (cut : NodeEdge → Bool) (cuts : (e : NodeEdge) → cut e ≡ false → e.guarded ≡ false) (ranked : Ranked nodes count) (i : ℕ) (s : Subject) (busy : List ℕ) (e : NodeEdge) (k : i < count) (h : Contains (node_edges (nodes.entries i)) e) where
+    pub falls_across : edge_needs cut nodes count e s busy ≤ left nodes count i s busy
+    falls_across = by_cut cut e s busy (left nodes count i s busy)
+        (λ free. left_lower nodes count i e.node s busy ((ranked i k e h).1 (cuts e free)))
+        (λ idle. left_entered nodes count i e.node s busy (ranked i k e h).0 idle)
+
+    pub falls_across_below : (t : Subject) (step : Step) (busy' : List ℕ) → busy' ≡ [] → after_step step s ≡ Some t → edge_needs cut nodes count e t busy' ≤ left nodes count i s busy
+    falls_across_below t step busy' none a =
+        let lower = step_falls step s t a in
+        by_cut cut e t busy' (left nodes count i s busy)
+        (λ free. left_below nodes count i e.node s t busy busy' (ranked i k e h).0 lower)
+        (λ idle. left_below nodes count i e.node s t busy (e.node ∷ busy') (ranked i k e h).0 lower)
+
+-- every guarded edge is answered by what is found
+pub cut_guards : (is_followed : ℕ → Bool) (e : NodeEdge) → is_cut is_followed e ≡ false → e.guarded ≡ false
+cut_guards is_followed e free = false_from_ne_true e.guarded (λ is. true≢false (sym (or_left e.guarded (not (is_followed e.node)) is) ∙ free))
+
+-- ---- a pair is in progress where its number is at its place
+
+turned : (a b : Bool) → (a && b) ≡ (b && a)
+turned true true = refl
+turned true false = refl
+turned false true = refl
+turned false false = refl
+
+pub busy_has : (i : ℕ) (p : Place) (es : Pairs) → list_any (λ k. k == i) (busy_at p es) ≡ has_pair es i p
+busy_has i p [] = refl
+busy_has i p (e ∷ es) = among-pair i p e es ∙ ap (λ b. b || list_any (λ k. k == i) (busy_at p es)) (turned (same_place e.1 p) (e.0 == i)) ∙ ap (λ b. is_pair i p e || b) (busy_has i p es)
+
+-- ---- what is so of a pair, by its node and its place
+
+pub at_pair : {m i : ℕ} {q p : Place} {d c : Solver} → (F : ℕ → Place → Solver → Type 0) → m ≡ i → q ≡ p → d ≡ c → F m q d → F i p c
+at_pair {m = m} {i = i} {q = q} {p = p} {d = d} {c = c} F node place same h = subst (λ k. F k p c) node (subst (λ r. F m r c) place (subst (λ z. F m q z) same h))
+
+-- ---- what the function of a pair is asked and does
+
+module _ {K R : Type 0} (g : Setting K R) (old : Solver) (s : Subject) (p : Place) (i : ℕ) (may : MaySolve g old s p i) where
+  -- what is found of a pair is what it says
+  pub found_says : (b : Bool) → (verdict_of i p old.verdicts ≡ Some b) ⊎ ((b ≡ true) × ((has_pair old.in_progress i p || has_pair old.assumed i p) ≡ true)) → SaysPair (found_of old) i p b
+  found_says b found = elim found [
+    | inl known ↦ says_known (found_of old) i p b known
+    | inr (is, held) ↦ subst (SaysPair (found_of old) i p) (sym is) (in_either (has_pair old.in_progress i p) (has_pair old.assumed i p)
+        (says_busy (found_of old) i p) (says_assumed (found_of old) i p) held)
+  ]
+
+  -- the measure falls when it is entered
+  pub falls_entered : (b : Solver) → Begins i p old b → has_pair old.in_progress i p ≡ false
+      → pair_needs g.nodes g.count i s (busy_at p old.in_progress) ≡ suc (left g.nodes g.count i s (busy_at p b.in_progress))
+  falls_entered b begins idle =
+      needs_of_new g.nodes g.count i s (busy_at p old.in_progress) (busy_has i p old.in_progress ∙ idle)
+      ∙ ap (λ busy. suc (left g.nodes g.count i s busy)) (sym (ap (busy_at p) begins.in_progress ∙ busy-pushed p i old.in_progress))
+
+module _ {K R : Type 0} (g : Setting K R) (old : Solver) (p : Place) (i : ℕ) where
+  -- the pair is asked for by its own node and place, over a context that is the same
+  pub pair_new : (m : ℕ) (q : Place) (c : Solver) → m ≡ i → q ≡ p → c ≡ old
+      → verdict_of m q c.verdicts ≡ None → has_pair c.in_progress m q ≡ false → has_pair c.assumed m q ≡ false
+      → (n : ℕ) → number_of q (solver_places old) ≡ Some n → OwnNumbers (solver_places old) → ((ns : List ℕ) → HasEachCut g ns → list_any (λ k. i == k) ns ≡ true)
+      → IsNew g old p i
+  pair_new m q c node place same unknown idle free n numbered own among = record {
+    unknown = at_pair (λ k z c. verdict_of k z c.verdicts ≡ None) node place same unknown;
+    idle = at_pair (λ k z c. has_pair c.in_progress k z ≡ false) node place same idle;
+    free = at_pair (λ k z c. has_pair c.assumed k z ≡ false) node place same free;
+    among = among;
+    there = there_from_number p (solver_places old) n (subst (λ z. number_of z (solver_places old) ≡ Some n) place numbered);
+    once = once_from_own (solver_places old) own;
+  }
+
+  pub pair_ran : (m : ℕ) (q r : Place) (c b e x : Solver) (mark : ℕ) (v : Bool) → m ≡ i → q ≡ p → c ≡ old → r ≡ q
+      → verdict_of m q c.verdicts ≡ None → has_pair c.in_progress m q ≡ false → has_pair c.assumed m q ≡ false
+      → (n : ℕ) → number_of q (solver_places old) ≡ Some n → OwnNumbers (solver_places old) → ((ns : List ℕ) → HasEachCut g ns → list_any (λ k. i == k) ns ≡ true)
+      → Begins m q c b → Goes g r b e → InEach g (view e.root) (λ texts w. SaysUnder w (found_of e) i r v) → mark ≡ length c.assumed
+      → e.in_progress ≡ x.in_progress ++ (m, q) ∷ [] → x.root ≡ e.root → x.assumed ≡ e.assumed → x.verdicts ≡ e.verdicts → x.marking ≡ e.marking → x.begun ≡ e.begun
+      → PairRan g old b e x p i mark v
+  pair_ran m q r c b e x mark v node place same at_q unknown idle free n numbered own among begins went says at_mark left root assumed verdicts marking begun = record {
+    is_new = pair_new m q c node place same unknown idle free n numbered own among;
+    begins = at_pair (λ k z c. Begins k z c b) node place same begins;
+    went = subst (λ z. Goes g z b e) (at_q ∙ place) went;
+    says = subst (λ z. InEach g (view e.root) (λ texts w. SaysUnder w (found_of e) i z v)) (at_q ∙ place) says;
+    at_mark = at_mark ∙ ap (λ (c : Solver). length c.assumed) same;
+    in_progress = at_pair (λ k z c. e.in_progress ≡ x.in_progress ++ (k, z) ∷ []) node place same left;
+    root = root;
+    assumed = assumed;
+    verdicts = verdicts;
+    marking = marking;
+    begun_still = begun;
+  }
+
+  module _ (b e x : Solver) (mark : ℕ) (v : Bool) (ran : PairRan g old b e x p i mark v) where
+    in_progress_then : e.in_progress ≡ old.in_progress ++ (i, p) ∷ []
+    in_progress_then = ran.went.in_progress ∙ ran.begins.in_progress
+
+    in_progress_back : x.in_progress ≡ old.in_progress
+    in_progress_back = (snoc_first x.in_progress old.in_progress (i, p) (i, p) (sym ran.in_progress ∙ in_progress_then)).0
+
+    grown : x.assumed ≡ old.assumed ++ ran.went.more
+    grown = ran.assumed ∙ ran.went.assumed ∙ ap (λ es. es ++ ran.went.more) ran.begins.assumed
+
+    -- what was assumed before the mark, and since
+    pub before_mark : take mark x.assumed ≡ old.assumed
+    before_mark = ap (take mark) grown ∙ take_at old.assumed ran.went.more mark (sym ran.at_mark)
+
+    since_mark : drop mark x.assumed ≡ ran.went.more
+    since_mark = ap (drop mark) grown ∙ drop_at old.assumed ran.went.more mark (sym ran.at_mark)
+
+    pub apart_mark : (j : ℕ) (q : Place) → has_pair (drop mark x.assumed) j q ≡ true → has_pair (take mark x.assumed) j q ≡ false
+    apart_mark j q is = ap (λ es. has_pair es j q) (before_mark ∙ sym ran.begins.assumed) ∙ ran.went.apart j q (ap (λ es. has_pair es j q) (sym since_mark) ∙ is)
+
+    module _ (n : Solver) (root : n.root ≡ x.root) (still : n.in_progress ≡ x.in_progress) (marking : n.marking ≡ x.marking) (begun : n.begun ≡ x.begun) where
+      pub ran_leaves : Leaves old e n
+      ran_leaves = record { root = root ∙ ran.root; in_progress = still ∙ in_progress_back; marking = marking ∙ ran.marking; begun = begun ∙ ran.begun_still }
+
+      pub ran_settles : SettlesAll ((i, p) ∷ drop mark x.assumed) x.verdicts n.verdicts → SettlesAll ((i, p) ∷ ran.went.more) e.verdicts n.verdicts
+      ran_settles settles = subst (λ es. SettlesAll ((i, p) ∷ es) e.verdicts n.verdicts) since_mark (subst (λ vs. SettlesAll ((i, p) ∷ drop mark x.assumed) vs n.verdicts) ran.verdicts settles)
+
+module _ {K R : Type 0} (g : Setting K R) (laws : (texts : Bool) → EachKeeps (g.words texts)) (old : Solver) (s : Subject) (p : Place) (i : ℕ) (may : MaySolve g old s p i)
+    (b e x : Solver) (mark : ℕ) (v : Bool) (ran : PairRan g old b e x p i mark v)
+    (n : Solver) (root : n.root ≡ x.root) (still : n.in_progress ≡ x.in_progress) (marking : n.marking ≡ x.marking) (begun : n.begun ≡ x.begun) where
+  leaves : Leaves old e n
+  leaves = ran_leaves g old p i b e x mark v ran n root still marking begun
+
+  ran_says : (c : Bool) → v ≡ c → InEach g (view e.root) (λ texts w. SaysUnder w (found_of e) i p c)
+  ran_says c is = subst (λ c. InEach g (view e.root) (λ texts w. SaysUnder w (found_of e) i p c)) is ran.says
+
+  module _ (is_no : v ≡ false) (dropped : n.assumed ≡ take mark x.assumed) (refused : Remembers i p false x.verdicts n.verdicts) where
+    pub ran_refused_goes : Goes g p old n
+    ran_refused_goes = refused_goes g laws old b s p i may ran.is_new ran.begins e n ran.went leaves (ran_says false is_no)
+        (dropped ∙ before_mark g old p i b e x mark v ran) (subst (λ vs. Remembers i p false vs n.verdicts) ran.verdicts refused)
+
+    pub ran_refused_says : SaysPair (found_of n) i p false
+    ran_refused_says = refused_says g laws old b s p i may ran.is_new ran.begins e n ran.went leaves (ran_says false is_no)
+        (dropped ∙ before_mark g old p i b e x mark v ran) (subst (λ vs. Remembers i p false vs n.verdicts) ran.verdicts refused)
+
+  module _ (is_yes : v ≡ true) (k : ℕ) (beside : has_pair x.in_progress k p ≡ true) (pushed : n.assumed ≡ x.assumed ++ (i, p) ∷ []) (verdicts : n.verdicts ≡ x.verdicts) where
+    beside_old : has_pair old.in_progress k p ≡ true
+    beside_old = ap (λ es. has_pair es k p) (sym (sym still ∙ leaves.in_progress)) ∙ beside
+
+    pub ran_assumed_goes : Goes g p old n
+    ran_assumed_goes = assumed_goes g laws old b s p i may ran.is_new ran.begins e n ran.went leaves (ran_says true is_yes) k beside_old
+        (pushed ∙ ap (λ es. es ++ (i, p) ∷ []) ran.assumed) (verdicts ∙ ran.verdicts)
+
+    pub ran_assumed_says : SaysPair (found_of n) i p true
+    ran_assumed_says = assumed_says g laws old b s p i may ran.is_new ran.begins e n ran.went leaves (ran_says true is_yes) k beside_old
+        (pushed ∙ ap (λ es. es ++ (i, p) ∷ []) ran.assumed) (verdicts ∙ ran.verdicts)
+
+  module _ (is_yes : v ≡ true) (none : (k : ℕ) → has_pair x.in_progress k p ≡ false) (dropped : n.assumed ≡ take mark x.assumed) (settles : SettlesAll ((i, p) ∷ drop mark x.assumed) x.verdicts n.verdicts) where
+    none_old : NoneAt p (found_of old)
+    none_old k = ap (λ es. has_pair es k p) (sym (sym still ∙ leaves.in_progress)) ∙ none k
+
+    pub ran_settled_goes : Goes g p old n
+    ran_settled_goes = settled_goes g laws old b s p i may ran.is_new ran.begins e n ran.went leaves (ran_says true is_yes) none_old
+        (dropped ∙ before_mark g old p i b e x mark v ran) (ran_settles g old p i b e x mark v ran n root still marking begun settles)
+
+    pub ran_settled_says : SaysPair (found_of n) i p true
+    ran_settled_says = settled_says g laws old b s p i may ran.is_new ran.begins e n ran.went leaves (ran_says true is_yes) none_old
+        (dropped ∙ before_mark g old p i b e x mark v ran) (ran_settles g old p i b e x mark v ran n root still marking begun settles)
+
+-- ---- the entries of a node, one after another
+
+module _ {K R : Type 0} (g : Setting K R) (p : Place) (c d : Solver) (went : Goes g p c d) (all : List (NodePart K)) (x : NodePart K) (rest : List (NodePart K))
+    (so_far : InEach g (view c.root) (λ texts w. SaysTheRest w p (found_of c) all (x ∷ rest))) where
+  said_before : InEach g (view d.root) (λ texts w. SaysTheRest w p (found_of d) all (x ∷ rest))
+  said_before = subst (λ u. InEach g (view u) (λ texts w. SaysTheRest w p (found_of d) all (x ∷ rest))) (sym went.root)
+      (λ texts tells inside between. so_far texts tells inside (grows_between p (found_of c) (found_of d) went.grew inside between))
+
+  pub entry_accepts : InEach g (view d.root) (λ texts w. FormSays w p (found_of d) x.form true) → InEach g (view d.root) (λ texts w. SaysTheRest w p (found_of d) all rest)
+  entry_accepts says texts tells inside between = said_before texts tells inside between ∙ ap (λ b. b && parts_under (solving_in g (view d.root) texts) p inside rest) (says texts tells inside between)
+
+  pub entry_refuses : InEach g (view d.root) (λ texts w. FormSays w p (found_of d) x.form false) → InEach g (view d.root) (λ texts w. PartsSay w p (found_of d) all false)
+  entry_refuses says texts tells inside between = said_before texts tells inside between ∙ ap (λ b. b && parts_under (solving_in g (view d.root) texts) p inside rest) (says texts tells inside between)
+
+-- ---- a keyword that tells its verdict at once
+
+module _ {K R : Type 0} (g : Setting K R) (laws : (texts : Bool) → EachKeeps (g.words texts)) (c : Solver) (s : Subject) (p : Place) (i : ℕ) (may : MaySolve g c s p i) where
+  pub solvable_here : (root : Data) (texts : Bool) → IsSolvable (solving_in g root texts)
+  solvable_here root texts = record {
+    laws = laws texts;
+    ranked = may.ranked;
+    monotone = may.monotone texts;
+    cuts = λ e guarded. or_left _ _ guarded;
+    alike = λ d e same guards. ap₂ (λ x y. x || not (g.is_followed y)) guards same;
+  }
+
+  module _ (m : K) (es : Children) (form : HasForm g.nodes i (node_keyword m es)) where
+    -- a reading in which texts are spoken of lets the keyword speak of them
+    pub tells_here : (texts : Bool) → TellsAll texts (view c.root) g.is_whole g.nodes g.count → Tells texts (g.is_whole m) s
+    tells_here texts tells = tells_keyword g.is_whole g.nodes g.count (settling g.matcher []) p s
+        (record { texts = texts; root = view c.root; matcher = g.matcher; completion = completion_of []; depth = 0 }) i m es may.known
+        (record { stands = may.stands; tells = record { keywords = tells.keywords; instance = tells.instance }; matcher = refl; completes = λ a. refl }) form
+
+    pub says_at_once : (absorbed : List Text) (remaining : Subject → R → ℕ) (can_be : Bool → Subject → R → Type 0) (end_of : Bool → Standing R → Answer) (Fits : Bool → Standing R → Type 0)
+        → ((texts : Bool) → TurnLaws (g.words texts) m absorbed remaining (can_be texts) (end_of texts) (Fits texts)) → (valid : Bool)
+        → ((texts : Bool) → Tells texts (g.is_whole m) s → EndsAtOnce (g.words texts) m s valid)
+        → InEach g (view c.root) (λ texts w. FormSays w p (found_of c) (node_keyword m es) valid)
+    says_at_once absorbed remaining can_be end_of Fits turn_laws valid at_once texts tells =
+        let ends : EndsAtOnce (g.words texts) m (subject_in (view c.root) p) valid = subst (λ z. EndsAtOnce (g.words texts) m z valid) (sym (stands_in (view c.root) p s may.stands)) (at_once texts (tells_here texts tells)) in
+        at_once_under (solving_in g (view c.root) texts) (solvable_here (view c.root) texts) p m absorbed remaining (can_be texts) (end_of texts) (Fits texts) (turn_laws texts) es (found_of c) valid ends.asks_nothing ends.says

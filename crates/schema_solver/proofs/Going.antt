@@ -1,0 +1,124 @@
+-- Steps of a solver one after another, how it begins, and what it says at the end.
+use Rattle.std.proofs.Common.{◌≡◌, ◌∙◌, ℕ, ◌++◌, ◌<◌, ◌≤◌, ◌||◌, not, Bool, [], length, refl, sym, subst, ap, ap₂, append_assoc, arith, true≢false}
+use Rattle.std.proofs.lemmas.Bool.{false_from_ne_true, or_left}
+use Rattle.std.proofs.lemmas.List.{append-nil}
+use Rattle.std.proofs.lemmas.List.Elements.{All-nil}
+use Rattle.serde_json.specs.View.{view}
+use Rattle.serde_json.specs.declared.value.Value.{Value}
+use Rattle.schema_definitions.specs.Instance.{Place, Subject, a_value, subject_at}
+use Rattle.schema_definitions.specs.Keywords.{Below}
+use Rattle.schema_definitions.specs.Laws.{EachKeeps}
+use Rattle.schema_definitions.specs.Meaning.{place_below}
+use Rattle.schema_definitions.proofs.Products.{in_either}
+use Rattle.schema_parts.specs.MatcherViews.{FinishesEach}
+use Rattle.schema_contexts.specs.Progress.{NoDeeper, root_places}
+use Rattle.schema_meaning.specs.Numbered.{Ranked}
+use Rattle.schema_greatest.specs.NodesSay.{AreMonotone}
+use Rattle.schema_solving.specs.Under.{Solving, IsSolvable}
+use Rattle.schema_solving.specs.Found.{IsSound, SaysUnder}
+use Rattle.schema_solving.specs.Work.{IsCounted, pairs_of}
+use Rattle.schema_solving.proofs.Between.{grows_below, grows_none, grows_on}
+use Rattle.schema_solving.proofs.Solved.{nothing_sound, solver_says_guarded}
+use Rattle.schema_solving.proofs.Bounds.{bounded_by}
+use Rattle.schema_solver.specs.Contexts.{Solver, found_of, has_pair}
+use Rattle.schema_solver.specs.Solving.{BeginsFew, Goes, InEach, IsSoundIn, MaySolve, SaysAsNodes, Setting, StaysCounted, fresh, solving_in}
+use Rattle.schema_solver.proofs.FoundOf.{has_append}
+
+module _ {K R : Type 0} (g : Setting K R) where
+  pub counted_on : (a b c : Solver) → b.root ≡ a.root → StaysCounted g a b → StaysCounted g b c → StaysCounted g a c
+  counted_on a b c root first second ns each counted =
+      subst (λ v. IsCounted (pairs_of ns (root_places v)) (length ns) (found_of b) b.begun → IsCounted (pairs_of ns (root_places v)) (length ns) (found_of c) c.begun) root (second ns each) (first ns each counted)
+
+  -- no step, and two
+  pub goes_none : (p : Place) (c : Solver) → IsSoundIn g c → Goes g p c c
+  goes_none p c sound = record {
+    root = refl;
+    in_progress = refl;
+    more = [];
+    assumed = sym (append-nil c.assumed);
+    apart = λ i q is. absurd (true≢false (sym is));
+    grew = grows_none p (found_of c);
+    sound = sound;
+    counted = λ ns each counted. counted;
+  }
+
+  pub goes_on : (p : Place) (a b c : Solver) → Goes g p a b → Goes g p b c → Goes g p a c
+  goes_on p a b c first second = record {
+    root = second.root ∙ first.root;
+    in_progress = second.in_progress ∙ first.in_progress;
+    more = first.more ++ second.more;
+    assumed = second.assumed ∙ ap (λ es. es ++ second.more) first.assumed ∙ append_assoc a.assumed first.more second.more;
+    apart = λ i q is. in_either (has_pair first.more i q) (has_pair second.more i q)
+        (first.apart i q)
+        (λ later. false_from_ne_true (has_pair a.assumed i q) (λ had. true≢false
+        (sym (ap (λ es. has_pair es i q) first.assumed ∙ has_append a.assumed first.more i q ∙ or_left (has_pair a.assumed i q) _ had) ∙ second.apart i q later)))
+        (sym (has_append first.more second.more i q) ∙ is);
+    grew = grows_on p (found_of a) (found_of b) (found_of c) first.grew second.grew;
+    sound = second.sound;
+    counted = counted_on a b c first.root first.counted second.counted;
+  }
+
+  -- a step at a place below is one of what is asked there
+  pub goes_below : (p : Place) (b : Below) (c c' : Solver) → Goes g (place_below p b) c c' → Goes g p c c'
+  goes_below p b c c' went = record {
+    root = went.root;
+    in_progress = went.in_progress;
+    more = went.more;
+    assumed = went.assumed;
+    apart = went.apart;
+    grew = grows_below p b (found_of c) (found_of c') went.grew;
+    sound = went.sound;
+    counted = went.counted;
+  }
+
+  -- what may be asked may be asked after a step
+  pub may_after : (p : Place) (c c' : Solver) (s : Subject) (i : ℕ) → MaySolve g c s p i → Goes g p c c' → MaySolve g c' s p i
+  may_after p c c' s i may went = record {
+    known = may.known;
+    ranked = may.ranked;
+    monotone = may.monotone;
+    finishes = may.finishes;
+    above = subst (NoDeeper p) (sym went.in_progress) may.above;
+    stands = ap (λ v. subject_at (view v) p) went.root ∙ may.stands;
+    sound = went.sound;
+  }
+
+  -- ---- as it begins
+
+  pub fresh_sound : (v : Value) → IsSoundIn g (fresh v)
+  fresh_sound v texts tells = nothing_sound (solving_in g (view v) texts)
+
+  -- so any number of the table may be asked of the root place
+  pub fresh_may : (v : Value) (i : ℕ) → i < g.count → Ranked g.nodes g.count → ((texts : Bool) → AreMonotone (g.words texts) g.nodes g.count) → FinishesEach g.matcher → MaySolve g (fresh v) (a_value (view v)) [] i
+  fresh_may v i known ranked monotone finishes = record {
+    known = known;
+    ranked = ranked;
+    monotone = monotone;
+    finishes = finishes;
+    above = All-nil (λ (e : ℕ × Place). length e.1 ≤ 0);
+    stands = refl;
+    sound = fresh_sound v;
+  }
+
+  -- ---- at the end
+
+  module _ (laws : (texts : Bool) → EachKeeps (g.words texts)) (ranked : Ranked g.nodes g.count) (monotone : (texts : Bool) → AreMonotone (g.words texts) g.nodes g.count)
+      (v : Value) (i : ℕ) (l : i < g.count) (c : Solver) (went : Goes g [] (fresh v) c) where
+    -- what is said of the number is what its nodes say under guards
+    pub end_says : (b : Bool) → InEach g (view c.root) (λ texts w. SaysUnder w (found_of c) i [] b) → SaysAsNodes g (view v) i b
+    end_says b says texts tells path n low =
+        let w : Solving K R = solving_in g (view v) texts in
+        let solvable : IsSolvable w = record {
+          laws = laws texts;
+          ranked = ranked;
+          monotone = monotone texts;
+          cuts = λ e guarded. or_left _ _ guarded;
+          alike = λ d e same guards. ap₂ (λ x y. x || not (g.is_followed y)) guards same;
+        } in
+        let sound : InEach g (view v) (λ texts w. IsSound w (found_of c)) = subst (λ u. InEach g (view u) (λ texts w. IsSound w (found_of c))) went.root went.sound in
+        let said : InEach g (view v) (λ texts w. SaysUnder w (found_of c) i [] b) = subst (λ u. InEach g (view u) (λ texts w. SaysUnder w (found_of c) i [] b)) went.root says in
+        solver_says_guarded w solvable i [] b l (found_of c, sound texts tells, (λ j q. ap (λ es. has_pair es j q) went.in_progress), said texts tells) path n low
+
+    -- and few pairs were begun
+    pub end_few : BeginsFew g v c.begun
+    end_few ns each = bounded_by ns (root_places v) (found_of c) c.begun (went.counted ns each (omega arith))

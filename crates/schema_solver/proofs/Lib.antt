@@ -1,0 +1,9 @@
+pub mod FoundOf
+pub mod PairSteps
+pub mod Going
+pub mod PlacesOnce
+pub mod Asking
+pub mod Crossing
+pub mod Turned
+pub mod Assuming
+pub mod Dropping

@@ -1,0 +1,190 @@
+-- What a pair's function does and says, by what the run of its node does and says.
+use Rattle.std.proofs.Common.{◌≡◌, ◌∙◌, ℕ, ◌++◌, ◌≤◌, ◌||◌, not, Bool, true, false, List, [], ◌∷◌, length, sym, subst, ap, ap₂, append_assoc, arith, true≢false}
+use Rattle.std.proofs.lemmas.Bool.{or_left}
+use Rattle.std.proofs.lemmas.List.{append-nil}
+use Rattle.std.proofs.lemmas.List.Elements.{All-append, All-cons, All-head, All-nil, All-tail}
+use Rattle.serde_json.specs.View.{view}
+use Rattle.serde_json.specs.Data.{Data}
+use Rattle.serde_json.specs.declared.value.Value.{Value}
+use Rattle.schema_definitions.specs.Instance.{Place, Subject, subject_at}
+use Rattle.schema_definitions.specs.Laws.{EachKeeps}
+use Rattle.schema_definitions.proofs.Products.{in_either}
+use Rattle.schema_contexts.specs.Progress.{NoDeeper, Pairs, root_places}
+use Rattle.schema_contexts.specs.Verdicts.{Remembers, is_pair}
+use Rattle.schema_solving.specs.Under.{Solving, IsSolvable}
+use Rattle.schema_solving.specs.Found.{Grows, IsSound, NoneAt, NoneDeeper, SaysPair, SaysUnder, after_no, after_yes, after_yes_alone, entered, is_this}
+use Rattle.schema_solving.specs.Work.{IsCounted, Pairs as AllPairs, pairs_of}
+use Rattle.schema_solving.proofs.Pairs.{of_this, this_place}
+use Rattle.schema_solving.proofs.Steps.{alone_grows, alone_says, alone_sound, assumes_grows, assumes_says, assumes_sound, entered_sound, no_grows, no_says, no_sound}
+use Rattle.schema_solving.proofs.Work.{assumed_counts, entered_counts, refused_counts, settled_counts}
+use Rattle.schema_solving.proofs.Bounds.{pairs_among, pairs_few}
+use Rattle.schema_solver.specs.Contexts.{SettlesAll, Solver, found_of, has_pair, solver_places}
+use Rattle.schema_solver.specs.Solving.{Begins, Goes, HasEachCut, InEach, IsNew, Leaves, MaySolve, Setting, TellsAll, solving_in}
+use Rattle.schema_solver.proofs.FoundOf.{has_pushed, found_assumed, found_entered, found_refused, found_settled}
+
+-- what no pair in progress lies deeper than is so of what is found
+deeper : (p : Place) (es : Pairs) → NoDeeper p es → (j : ℕ) (q : Place) → has_pair es j q ≡ true → length q ≤ length p
+deeper p [] above j q is = absurd (true≢false (sym is))
+deeper p (e ∷ es) above j q is = in_either (is_pair j q e) (has_pair es j q)
+    (λ here. subst (λ r. length r ≤ length p) (this_place e.0 e.1 j q here) (All-head (λ (x : ℕ × Place). length x.1 ≤ length p) e es above))
+    (λ later. deeper p es (All-tail (λ (x : ℕ × Place). length x.1 ≤ length p) e es above) j q later) is
+
+-- where a pair is not among some, and none of others is, none of the others and the pair is
+pushed_apart : (i : ℕ) (p : Place) (old more : Pairs) → has_pair old i p ≡ false → ((j : ℕ) (q : Place) → has_pair more j q ≡ true → has_pair old j q ≡ false)
+    → (j : ℕ) (q : Place) → has_pair (more ++ (i, p) ∷ []) j q ≡ true → has_pair old j q ≡ false
+pushed_apart i p old more free apart j q is = in_either (is_this i p j q) (has_pair more j q)
+    (λ this. of_this (λ m r. has_pair old m r ≡ false) i p j q this free) (apart j q) (sym (has_pushed more i p j q) ∙ is)
+
+module _ {K R : Type 0} (g : Setting K R) (laws : (texts : Bool) → EachKeeps (g.words texts)) where
+  -- a fact in each reading of a root value
+  at_root : (fact : Bool → Solving K R → Type 0) (v u : Value) → v ≡ u → InEach g (view v) fact → InEach g (view u) fact
+  at_root fact v u same = subst (λ r. InEach g (view r) fact) same
+
+  module _ (old b : Solver) (s : Subject) (p : Place) (i : ℕ) (may : MaySolve g old s p i) (is_new : IsNew g old p i) (begins : Begins i p old b) where
+    pub solvable : (root : Data) (texts : Bool) → IsSolvable (solving_in g root texts)
+    solvable root texts = record {
+      laws = laws texts;
+      ranked = may.ranked;
+      monotone = may.monotone texts;
+      cuts = λ e guarded. or_left _ _ guarded;
+      alike = λ c d same guards. ap₂ (λ x y. x || not (g.is_followed y)) guards same;
+    }
+
+    found_b : found_of b ≡ entered (found_of old) i p
+    found_b = found_entered i p old b begins.in_progress begins.assumed begins.verdicts
+
+    -- the node may be run then
+    pub begun_may : MaySolve g b s p i
+    begun_may = record {
+      known = may.known;
+      ranked = may.ranked;
+      monotone = may.monotone;
+      finishes = may.finishes;
+      above = subst (NoDeeper p) (sym begins.in_progress) (All-append (λ (e : ℕ × Place). length e.1 ≤ length p) old.in_progress ((i, p) ∷ []) may.above (All-cons (λ (e : ℕ × Place). length e.1 ≤ length p) (i, p) [] (omega arith) (All-nil (λ (e : ℕ × Place). length e.1 ≤ length p))));
+      stands = ap (λ v. subject_at (view v) p) begins.root ∙ may.stands;
+      sound = at_root (λ texts w. IsSound w (found_of b)) old.root b.root (sym begins.root)
+          (λ texts tells. subst (IsSound (solving_in g (view old.root) texts)) (sym found_b)
+          (entered_sound (solving_in g (view old.root) texts) (solvable (view old.root) texts) (found_of old) i p (may.sound texts tells) is_new.unknown));
+    }
+
+    module _ (e n : Solver) (went : Goes g p b e) (leaves : Leaves old e n) where
+      root_e : e.root ≡ old.root
+      root_e = went.root ∙ begins.root
+
+      root_n : n.root ≡ old.root
+      root_n = leaves.root ∙ root_e
+
+      abbrev In : Bool → Solving K R
+      In texts = solving_in g (view old.root) texts
+
+      abbrev Says : Bool → Type 0
+      Says v = InEach g (view e.root) (λ texts w. SaysUnder w (found_of e) i p v)
+
+      says_old : (v : Bool) → Says v → InEach g (view old.root) (λ texts w. SaysUnder w (found_of e) i p v)
+      says_old v = at_root (λ texts w. SaysUnder w (found_of e) i p v) e.root old.root root_e
+
+      sound_e : InEach g (view old.root) (λ texts w. IsSound w (found_of e))
+      sound_e = at_root (λ texts w. IsSound w (found_of e)) e.root old.root root_e went.sound
+
+      grew_e : Grows p (entered (found_of old) i p) (found_of e)
+      grew_e = subst (λ f. Grows p f (found_of e)) found_b went.grew
+
+      grown : e.assumed ≡ old.assumed ++ went.more
+      grown = went.assumed ∙ ap (λ es. es ++ went.more) begins.assumed
+
+      apart_old : (j : ℕ) (q : Place) → has_pair went.more j q ≡ true → has_pair old.assumed j q ≡ false
+      apart_old j q is = ap (λ es. has_pair es j q) (sym begins.assumed) ∙ went.apart j q is
+
+      none_deeper : NoneDeeper p (found_of old)
+      none_deeper = deeper p old.in_progress may.above
+
+      -- a reading in which texts are not spoken of
+      silent : TellsAll false (view old.root) g.is_whole g.nodes g.count
+      silent = record { keywords = λ is. absurd (true≢false (sym is)); instance = λ is. absurd (true≢false (sym is)) }
+
+      silent_w : IsSolvable (In false)
+      silent_w = solvable (view old.root) false
+
+      -- ---- the count, at the end of the node's run
+
+      abbrev All_ : List ℕ → AllPairs
+      All_ ns = pairs_of ns (solver_places old)
+
+      counted_b : (ns : List ℕ) → HasEachCut g ns → IsCounted (All_ ns) (length ns) (found_of old) old.begun → IsCounted (All_ ns) (length ns) (found_of b) b.begun
+      counted_b ns each counted = subst (λ f. IsCounted (All_ ns) (length ns) f b.begun) (sym found_b)
+          (let more = entered_counts (All_ ns) (length ns) (found_of old) i p old.begun (pairs_among ns (solver_places old) i p (is_new.among ns each) is_new.there) is_new.unknown is_new.idle is_new.free counted in
+          omega (arith, begins.begun, more))
+
+      counted_e : (ns : List ℕ) → HasEachCut g ns → IsCounted (All_ ns) (length ns) (found_of old) old.begun → IsCounted (All_ ns) (length ns) (found_of e) n.begun
+      counted_e ns each counted = subst (λ k. IsCounted (All_ ns) (length ns) (found_of e) k) (sym leaves.begun)
+          (subst (λ v. IsCounted (pairs_of ns (root_places v)) (length ns) (found_of b) b.begun → IsCounted (pairs_of ns (root_places v)) (length ns) (found_of e) e.begun) begins.root (went.counted ns each) (counted_b ns each counted))
+
+      -- ---- after a no
+
+      module _ (says : Says false) (dropped : n.assumed ≡ old.assumed) (refused : Remembers i p false e.verdicts n.verdicts) where
+        found_no : found_of n ≡ after_no (found_of old) (found_of e) i p
+        found_no = found_refused i p old e n leaves.in_progress dropped refused
+
+        pub refused_goes : Goes g p old n
+        refused_goes = record {
+          root = root_n;
+          in_progress = leaves.in_progress;
+          more = [];
+          assumed = dropped ∙ sym (append-nil old.assumed);
+          apart = λ j q is. absurd (true≢false (sym is));
+          grew = subst (Grows p (found_of old)) (sym found_no) (no_grows (In false) silent_w (found_of old) (found_of e) i p may.known (may.sound false silent) (sound_e false silent) grew_e);
+          sound = at_root (λ texts w. IsSound w (found_of n)) old.root n.root (sym root_n) (λ texts tells. subst (IsSound (In texts)) (sym found_no)
+              (no_sound (In texts) (solvable (view old.root) texts) (found_of old) (found_of e) i p may.known (may.sound texts tells) (sound_e texts tells) grew_e is_new.idle is_new.free (says_old false says texts tells)));
+          counted = λ ns each counted. subst (λ f. IsCounted (All_ ns) (length ns) f n.begun) (sym found_no)
+              (refused_counts (In false) silent_w (found_of old) (found_of e) i p may.known (may.sound false silent) (sound_e false silent) grew_e (All_ ns) (length ns) n.begun
+              (pairs_among ns (solver_places old) i p (is_new.among ns each) is_new.there) (pairs_few ns (solver_places old) is_new.once) none_deeper (counted_e ns each counted));
+        }
+
+        pub refused_says : SaysPair (found_of n) i p false
+        refused_says = subst (λ f. SaysPair f i p false) (sym found_no) (no_says (In false) silent_w (found_of old) (found_of e) i p may.known (may.sound false silent) (sound_e false silent) grew_e)
+
+      -- ---- after a yes beside another pair in progress at its place
+
+      module _ (says : Says true) (k : ℕ) (beside : has_pair old.in_progress k p ≡ true) (pushed : n.assumed ≡ e.assumed ++ (i, p) ∷ []) (verdicts : n.verdicts ≡ e.verdicts) where
+        found_assumes : found_of n ≡ after_yes (found_of old) (found_of e) i p
+        found_assumes = found_assumed i p old e n leaves.in_progress pushed verdicts
+
+        pub assumed_says : SaysPair (found_of n) i p true
+        assumed_says = subst (λ f. SaysPair f i p true) (sym found_assumes) (assumes_says (In false) silent_w (found_of old) (found_of e) i p may.known (may.sound false silent) (sound_e false silent) grew_e)
+
+        pub assumed_goes : Goes g p old n
+        assumed_goes = record {
+          root = root_n;
+          in_progress = leaves.in_progress;
+          more = went.more ++ (i, p) ∷ [];
+          assumed = pushed ∙ ap (λ es. es ++ (i, p) ∷ []) grown ∙ append_assoc old.assumed went.more ((i, p) ∷ []);
+          apart = λ j q is. pushed_apart i p old.assumed went.more is_new.free apart_old j q is;
+          grew = subst (Grows p (found_of old)) (sym found_assumes) (assumes_grows (In false) silent_w (found_of old) (found_of e) i p may.known (may.sound false silent) (sound_e false silent) grew_e);
+          sound = at_root (λ texts w. IsSound w (found_of n)) old.root n.root (sym root_n) (λ texts tells. subst (IsSound (In texts)) (sym found_assumes)
+              (assumes_sound (In texts) (solvable (view old.root) texts) (found_of old) (found_of e) i p may.known (may.sound texts tells) (sound_e texts tells) grew_e (says_old true says texts tells) k beside));
+          counted = λ ns each counted. subst (λ f. IsCounted (All_ ns) (length ns) f n.begun) (sym found_assumes)
+              (assumed_counts (In false) silent_w (found_of old) (found_of e) i p may.known (may.sound false silent) (sound_e false silent) grew_e (All_ ns) (length ns) n.begun (counted_e ns each counted));
+        }
+
+      -- ---- after a yes of the only pair in progress at its place
+
+      module _ (says : Says true) (none_at : NoneAt p (found_of old)) (dropped : n.assumed ≡ old.assumed) (settles : SettlesAll ((i, p) ∷ went.more) e.verdicts n.verdicts) where
+        found_alone : found_of n ≡ after_yes_alone (found_of old) (found_of e) i p
+        found_alone = found_settled i p old e n went.more leaves.in_progress dropped grown apart_old settles
+
+        pub settled_says : SaysPair (found_of n) i p true
+        settled_says = subst (λ f. SaysPair f i p true) (sym found_alone) (alone_says (In false) silent_w (found_of old) (found_of e) i p may.known (may.sound false silent) (sound_e false silent) grew_e none_at none_deeper)
+
+        pub settled_goes : Goes g p old n
+        settled_goes = record {
+          root = root_n;
+          in_progress = leaves.in_progress;
+          more = [];
+          assumed = dropped ∙ sym (append-nil old.assumed);
+          apart = λ j q is. absurd (true≢false (sym is));
+          grew = subst (Grows p (found_of old)) (sym found_alone) (alone_grows (In false) silent_w (found_of old) (found_of e) i p may.known (may.sound false silent) (sound_e false silent) grew_e none_at none_deeper);
+          sound = at_root (λ texts w. IsSound w (found_of n)) old.root n.root (sym root_n) (λ texts tells. subst (IsSound (In texts)) (sym found_alone)
+              (alone_sound (In texts) (solvable (view old.root) texts) (found_of old) (found_of e) i p may.known (may.sound texts tells) (sound_e texts tells) grew_e none_at none_deeper (says_old true says texts tells)));
+          counted = λ ns each counted. subst (λ f. IsCounted (All_ ns) (length ns) f n.begun) (sym found_alone)
+              (settled_counts (In false) silent_w (found_of old) (found_of e) i p may.known (may.sound false silent) (sound_e false silent) grew_e (All_ ns) (length ns) n.begun none_at none_deeper (counted_e ns each counted));
+        }

@@ -1,0 +1,71 @@
+use Rattle.std.proofs.Common.{◌≡◌, ◌+◌, ◌*◌, drop, length, map, false, option_map}
+use Rattle.serde_json.specs.View.{view}
+use Rattle.schema_meaning.specs.Numbered.{left}
+use Rattle.schema_reports.specs.InstanceViews.{subject_of}
+use Rattle.schema_parts.specs.EdgeViews.{edge_of}
+use Rattle.schema_contexts.specs.Progress.{busy_at}
+use Rattle.schema_nodes.specs.NodeTable.{numbered, shaped_part}
+use Rattle.schema_nodes.specs.NodeViews.{entry_of}
+use Rattle.schema_answers.specs.EvaluationPlaces.{steps_to}
+use Rattle.schema_solver.specs.Asked.{is_followed_in, solver_of}
+use Rattle.schema_solver.specs.Contexts.{found_of}
+use Rattle.schema_solver.specs.Needs.{SaysTheRest, edge_needs, pair_needs}
+use Rattle.schema_solver.specs.Solving.{Goes, InEach, is_cut}
+use Rattle.schema_parts.specs.KeywordViews.{answer_of}
+use Rattle.schema_solver.specs.TurningOn.{AsksOn, TurnsOn, told_reply}
+use Rattle.schema_solver.proofs.solve.+verdict.Given as goal
+
+abbrev pub decreases-edges::solve_child : goal.decreases-edges::solve_child
+decreases-edges::solve_child g l = 20 * left (numbered g.K.Validate.shape l.engine.now.nodes.now) (length l.engine.now.nodes.now) l.node.0 (subject_of l.question.now.instance) (busy_at (steps_to l.question.now.place.now) l.context.now.in_progress) + 2
+
+abbrev pub decreases-edges::solve_edge : goal.decreases-edges::solve_edge
+decreases-edges::solve_edge g l = 20 * edge_needs (is_cut (is_followed_in l.engine.now.followed.now)) (numbered g.K.Validate.shape l.engine.now.nodes.now) (length l.engine.now.nodes.now) (edge_of l.edge.now) (subject_of l.question.now.instance) (busy_at (steps_to l.question.now.place.now) l.context.now.in_progress) + 1
+
+abbrev pub decreases-edges::solve_pair : goal.decreases-edges::solve_pair
+decreases-edges::solve_pair g l = 20 * pair_needs (numbered g.K.Validate.shape l.engine.now.nodes.now) (length l.engine.now.nodes.now) l.node.0 (subject_of l.question.now.instance) (busy_at (steps_to l.question.now.place.now) l.context.now.in_progress)
+
+abbrev pub decreases-entries::solve_entries : goal.decreases-entries::solve_entries
+decreases-entries::solve_entries g l = 20 * left (numbered g.K.Validate.shape l.engine.now.nodes.now) (length l.engine.now.nodes.now) l.node.0 (subject_of l.question.now.instance) (busy_at (steps_to l.question.now.place.now) l.context.now.in_progress) + 9
+
+abbrev pub decreases-entries::solve_form : goal.decreases-entries::solve_form
+decreases-entries::solve_form g l = 20 * left (numbered g.K.Validate.shape l.engine.now.nodes.now) (length l.engine.now.nodes.now) l.node.0 (subject_of l.question.now.instance) (busy_at (steps_to l.question.now.place.now) l.context.now.in_progress) + 7
+
+abbrev pub decreases-entries::solve_keyword : goal.decreases-entries::solve_keyword
+decreases-entries::solve_keyword g l = 20 * left (numbered g.K.Validate.shape l.engine.now.nodes.now) (length l.engine.now.nodes.now) l.node.0 (subject_of l.question.now.instance) (busy_at (steps_to l.question.now.place.now) l.context.now.in_progress) + 6
+
+abbrev pub decreases-entries::solve_node : goal.decreases-entries::solve_node
+decreases-entries::solve_node g l = 20 * left (numbered g.K.Validate.shape l.engine.now.nodes.now) (length l.engine.now.nodes.now) l.node.0 (subject_of l.question.now.instance) (busy_at (steps_to l.question.now.place.now) l.context.now.in_progress) + 10
+
+abbrev pub decreases-turns::solver_answer : goal.decreases-turns::solver_answer
+decreases-turns::solver_answer g l = 20 * left (numbered g.K.Validate.shape l.engine.now.nodes.now) (length l.engine.now.nodes.now) l.node.0 (subject_of l.question.now.instance) (busy_at (steps_to l.question.now.place.now) l.context.now.in_progress) + 5
+
+abbrev pub decreases-turns::solver_turns : goal.decreases-turns::solver_turns
+decreases-turns::solver_turns g l = 20 * left (numbered g.K.Validate.shape l.engine.now.nodes.now) (length l.engine.now.nodes.now) l.node.0 (subject_of l.question.now.instance) (busy_at (steps_to l.question.now.place.now) l.context.now.in_progress) + 4
+
+abbrev pub invariant-entries::solve_entries-loop-entry :
+    goal.invariant-entries::solve_entries-loop-entry
+invariant-entries::solve_entries-loop-entry g l =
+    let set = solver_of g.K.Validate.words g.K.Validate.is_whole g.K.Validate.shape g.M.Matcher.matching l.engine in
+    let p = steps_to l.question.place.now in
+    record {
+      goes : Goes set p l.initial.context l.context;
+      marking : l.context.marking ≡ l.initial.context.marking;
+      leads : InEach set (view l.context.root) (λ texts w. SaysTheRest w p (found_of l.context) (map (shaped_part g.K.Validate.shape) (map entry_of l.entries)) (map (shaped_part g.K.Validate.shape) (map entry_of (drop l.entry-index l.entries))));
+    }
+
+abbrev pub invariant-turns::solver_turns-turns : goal.invariant-turns::solver_turns-turns
+invariant-turns::solver_turns-turns g l =
+    let set = solver_of g.K.Validate.words g.K.Validate.is_whole g.K.Validate.shape g.M.Matcher.matching l.engine in
+    let p = steps_to l.question.place.now in
+    let s = subject_of l.question.instance in
+    let m = g.K.Validate.shape l.keyword.keyword.now in
+    let es = map (option_map edge_of) l.keyword.children.now in
+    record {
+      goes : Goes set p l.initial.context l.context;
+      can : g.K.Validate.can_be false m s (l.run, answer_of false l.answer);
+      asks : AsksOn set m s (g.K.Validate.remaining m s (l.run, answer_of false l.answer)) (l.run, answer_of false l.answer) (told_reply l.told);
+      leads : TurnsOn set m (view l.initial.context.root) p (λ texts. g.K.Validate.ends texts m) (λ texts. g.K.Validate.fits texts m) es l.context l.context.marking (λ texts. (l.run, answer_of texts l.answer)) (λ texts. told_reply l.told);
+    }
+
+abbrev pub decreases-turns::solver_turns-turns : goal.decreases-turns::solver_turns-turns
+decreases-turns::solver_turns-turns g l = g.K.Validate.remaining (g.K.Validate.shape l.keyword.keyword.now) (subject_of l.question.instance) (l.run, answer_of false l.answer)

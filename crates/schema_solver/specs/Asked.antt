@@ -1,0 +1,24 @@
+-- What a solver is made with and asked, as data.
+use Rattle.std.specs.Prelude.{Bool, List, false, length, slice_index_or, ℕ}
+use Rattle.schema_definitions.specs.Keywords.{Keywords}
+use Rattle.schema_definitions.specs.Matching.{Matcher}
+use Rattle.schema_nodes.specs.NodeTable.{NodeEntry, numbered}
+use Rattle.schema_solver.specs.declared.question.SolverEngine.{SolverEngine}
+use Rattle.schema_solver.specs.Solving.{Setting}
+
+-- whether a number is one that is followed
+abbrev pub is_followed_in : List Bool → ℕ → Bool
+is_followed_in followed i = slice_index_or followed i false
+
+abbrev pub solver_over : {K R C : Type 0} → (Bool → Keywords K R) → (K → Bool) → (C → K) → List (NodeEntry C) → List Bool → Matcher → Setting K R
+solver_over words is_whole shape ns followed matcher = record {
+  words = words;
+  is_whole = is_whole;
+  nodes = numbered shape ns;
+  count = length ns;
+  is_followed = is_followed_in followed;
+  matcher = matcher;
+}
+
+abbrev pub solver_of : {K R C M : Type 0} → (Bool → Keywords K R) → (K → Bool) → (C → K) → (M → Matcher) → SolverEngine C M → Setting K R
+solver_of words is_whole shape matching e = solver_over words is_whole shape e.nodes.now e.followed.now (matching e.matcher.now)

@@ -1,0 +1,137 @@
+-- What each function of a solver's cycle is asked, what it does to the context, and what it says.
+use Rattle.std.specs.List.{list_any}
+use Rattle.std.specs.Prelude.{All, Bool, Contains, List, None, Some, [], false, length, not, true, ℕ, ◌++◌, ◌+◌, ◌<◌, ◌==◌, ◌||◌, ◌∷◌, ◌≡◌, ◌≤◌}
+use Rattle.serde_json.specs.Data.{Data}
+use Rattle.serde_json.specs.View.{view}
+use Rattle.serde_json.specs.declared.value.Value.{Value}
+use Rattle.serde_json.specs.Written.{has_float}
+use Rattle.schema_definitions.specs.Instance.{Place, Subject, Text, same_place, subject_at}
+use Rattle.schema_definitions.specs.Keywords.{Keywords}
+use Rattle.schema_definitions.specs.Matching.{Matcher, completion_of}
+use Rattle.schema_definitions.specs.Guarded.{NodeEdge, Nodes, guarded_within, node_edges, node_outcome, yes_outcome}
+use Rattle.schema_meaning.specs.Fractions.{AreWhole}
+use Rattle.schema_meaning.specs.Numbered.{Ranked, left, subject_in}
+use Rattle.schema_greatest.specs.NodesSay.{AreMonotone}
+use Rattle.schema_parts.specs.MatcherViews.{FinishesEach}
+use Rattle.schema_contexts.specs.Progress.{NoDeeper, Pairs, root_places}
+use Rattle.schema_contexts.specs.Verdicts.{verdict_of}
+use Rattle.schema_solving.specs.Under.{Solving}
+use Rattle.schema_solving.specs.Found.{Grows, IsSound}
+use Rattle.schema_solving.specs.Work.{EachOnce, IsBoundedBy, IsCounted, pairs_of}
+use Rattle.schema_solver.specs.Contexts.{Solver, found_of, has_pair, solver_places}
+
+-- what a solver is made with: the keywords as they are read, the numbered nodes, how many there are, which of them are followed, and the
+-- matcher
+pub record Setting (K R : Type 0) : Type 0 where
+  pub words : Bool → Keywords K R
+  pub is_whole : K → Bool
+  pub nodes : Nodes K
+  pub count : ℕ
+  pub is_followed : ℕ → Bool
+  pub matcher : Matcher
+
+-- texts are spoken of only where neither the root value nor a keyword of the table holds a fraction
+pub record TellsAll {K : Type 0} (texts : Bool) (root : Data) (is_whole : K → Bool) (nodes : Nodes K) (count : ℕ) : Type 0 where
+  pub keywords : texts ≡ true → AreWhole is_whole nodes count
+  pub instance : texts ≡ true → has_float root ≡ false
+
+-- an edge whose pair is answered by what is found: a guarded one, and one that leads to a number that is not followed
+abbrev pub is_cut : (ℕ → Bool) → NodeEdge → Bool
+is_cut is_followed e = e.guarded || not (is_followed e.node)
+
+module _ {K R : Type 0} (g : Setting K R) where
+  -- what is solved in a reading of texts; no match stays unfinished, so one completion is as good as another
+  abbrev pub solving_in : Data → Bool → Solving K R
+  solving_in root texts = record {
+    keywords = g.words texts;
+    matcher = g.matcher;
+    nodes = g.nodes;
+    count = g.count;
+    instance = root;
+    completion = completion_of [];
+    cut = is_cut g.is_followed;
+  }
+
+  -- a fact in each reading
+  abbrev pub InEach : Data → (Bool → Solving K R → Type 0) → Type 0
+  InEach root fact = (texts : Bool) → TellsAll texts root g.is_whole g.nodes g.count → fact texts (solving_in root texts)
+
+  abbrev pub IsSoundIn : Solver → Type 0
+  IsSoundIn c = InEach (view c.root) (λ texts w. IsSound w (found_of c))
+
+  -- each number that an edge leads to whose pair is answered by what is found
+  abbrev pub HasEachCut : List ℕ → Type 0
+  HasEachCut ns = (i : ℕ) → i < g.count → All (λ e. is_cut g.is_followed e ≡ true → list_any (λ n. e.node == n) ns ≡ true) (node_edges (g.nodes.entries i))
+
+  -- no more pairs were begun than what the pairs may have cost, before and so after
+  abbrev pub StaysCounted : Solver → Solver → Type 0
+  StaysCounted c c' = (ns : List ℕ) → HasEachCut ns → IsCounted (pairs_of ns (solver_places c)) (length ns) (found_of c) c.begun
+      → IsCounted (pairs_of ns (solver_places c)) (length ns) (found_of c') c'.begun
+
+  -- a number of the table may be asked of a subject at a place
+  pub record MaySolve (c : Solver) (s : Subject) (p : Place) (i : ℕ) : Type 0 where
+    pub known : i < g.count
+    pub ranked : Ranked g.nodes g.count
+    pub monotone : (texts : Bool) → AreMonotone (g.words texts) g.nodes g.count
+    pub finishes : FinishesEach g.matcher
+    pub above : NoDeeper p c.in_progress
+    pub stands : subject_at (view c.root) p ≡ Some s
+    pub sound : IsSoundIn c
+
+  -- what is in progress stays, more is assumed that was not, what is known stays known, what is found stays sound, and the count right
+  pub record Goes (p : Place) (c c' : Solver) : Type 0 where
+    pub root : c'.root ≡ c.root
+    pub in_progress : c'.in_progress ≡ c.in_progress
+    pub more : Pairs
+    pub assumed : c'.assumed ≡ c.assumed ++ more
+    pub apart : (i : ℕ) (q : Place) → has_pair more i q ≡ true → has_pair c.assumed i q ≡ false
+    pub grew : Grows p (found_of c) (found_of c')
+    pub sound : IsSoundIn c'
+    pub counted : StaysCounted c c'
+
+-- ---- the steps of a pair
+
+-- it is begun: it goes last among those in progress
+pub record Begins (i : ℕ) (p : Place) (old new : Solver) : Type 0 where
+  pub root : new.root ≡ old.root
+  pub in_progress : new.in_progress ≡ old.in_progress ++ (i, p) ∷ []
+  pub assumed : new.assumed ≡ old.assumed
+  pub verdicts : new.verdicts ≡ old.verdicts
+  pub marking : new.marking ≡ old.marking
+  pub begun : new.begun ≤ old.begun + 1
+
+-- it is left, and no pair is begun
+pub record Leaves (old end new : Solver) : Type 0 where
+  pub root : new.root ≡ end.root
+  pub in_progress : new.in_progress ≡ old.in_progress
+  pub marking : new.marking ≡ end.marking
+  pub begun : new.begun ≡ end.begun
+
+-- nothing is found of the pair, it may be begun, and no place of the instance stands twice among its places
+pub record IsNew {K R : Type 0} (g : Setting K R) (c : Solver) (p : Place) (i : ℕ) : Type 0 where
+  pub unknown : verdict_of i p c.verdicts ≡ None
+  pub idle : has_pair c.in_progress i p ≡ false
+  pub free : has_pair c.assumed i p ≡ false
+  pub among : (ns : List ℕ) → HasEachCut g ns → list_any (λ n. i == n) ns ≡ true
+  pub there : list_any (same_place p) (solver_places c) ≡ true
+  pub once : EachOnce (solver_places c)
+
+-- ---- how it begins and ends
+
+-- nothing is in progress, assumed, known or marked, and no pair was begun
+abbrev pub fresh : Value → Solver
+fresh v = record { root = v; in_progress = []; assumed = []; verdicts = []; marking = []; begun = 0 }
+
+-- what is said of a number of an instance at its root place: what nodes say under guards with no pair in progress, in each reading of
+-- texts, by any path and at every depth that is enough, where no match stays unfinished
+abbrev pub SaysAsNodes : {K R : Type 0} → Setting K R → Data → ℕ → Bool → Type 0
+SaysAsNodes g root i b = InEach g root (λ texts w. (path : Text) (n : ℕ) → left g.nodes g.count i (subject_in root []) [] < n
+    → (guarded_within yes_outcome (node_outcome w.keywords w.matcher w.nodes (subject_in root) w.completion) n i path [] []).verdict ≡ b)
+
+-- so many pairs are begun at most: of the numbers that an edge leads to whose pair is answered by what is found, and of the places
+abbrev pub BeginsFew : {K R : Type 0} → Setting K R → Value → ℕ → Type 0
+BeginsFew g v begun = (ns : List ℕ) → HasEachCut g ns → IsBoundedBy ns (root_places v) begun
+
+-- the edge is one of a number of the table
+abbrev pub IsEdge : {K R : Type 0} → Setting K R → NodeEdge → Type 0
+IsEdge g e = (i : ℕ) × (i < g.count) × Contains (node_edges (g.nodes.entries i)) e

@@ -1,0 +1,23 @@
+//! What a solver is made with, and what it is asked.
+
+use crate::followed::Followed;
+use schema_answers::evaluation_place::EvaluationPlace;
+use schema_nodes::node::Nodes;
+use schema_reports::instance::Instance;
+use std::alloc::Global;
+
+/// What a solver is made with, and does not change.
+#[derive_where(Clone, Copy)]
+pub struct SolverEngine<'r, K, M> {
+    pub nodes: &'r Nodes<K>,
+    pub alloc: Global,
+    pub matcher: &'r M,
+    pub followed: &'r Followed,
+}
+
+/// What is asked, and where. A verdict shows no path.
+#[derive(Clone, Copy)]
+pub struct Asked<'q, 'i> {
+    pub instance: Instance<'i>,
+    pub place: &'q EvaluationPlace<'q, 'i>,
+}

@@ -1,0 +1,208 @@
+//! The turns of a keyword's run for its verdict, by a solver.
+ghost use Rattle.std.specs.Prelude.{◌≡◌, [], Bool, IfOk};
+ghost use Rattle.serde_json.specs.View.{view};
+ghost use Rattle.schema_reports.specs.InstanceViews.{subject_of};
+ghost use Rattle.schema_definitions.specs.Keywords.{for_verdict};
+ghost use Rattle.schema_definitions.specs.Matching.{finished};
+ghost use Rattle.schema_parts.specs.KeywordViews.{answer_of, fresh, reply_of};
+ghost use Rattle.schema_parts.specs.MatcherViews.{FinishesEach};
+ghost use Rattle.schema_nodes.specs.NodeTable.{numbered};
+ghost use Rattle.schema_node.specs.NodeRuns.{HasForm};
+ghost use Rattle.schema_node.specs.RunStates.{form_at_work};
+ghost use Rattle.schema_answers.specs.EvaluationPlaces.{CarriesItsNumber, steps_to};
+ghost use Rattle.schema_solving.specs.Says.{FormSays};
+ghost use Rattle.schema_solver.specs.Asked.{solver_of};
+ghost use Rattle.schema_solver.specs.Contexts.{found_of, solver_places};
+ghost use Rattle.schema_solver.specs.Solving.{Goes, InEach, MaySolve};
+ghost use Rattle.schema_solver.specs.TurningOn.{HasBegun, told_reply};
+
+use crate::context::SolverContext;
+use crate::question::{Asked, SolverEngine};
+use crate::solve::edges::solve_child;
+use schema_answers::faults::{begun, is_accepting};
+use schema_answers::question::NamedKeyword;
+use schema_matches::site::Match;
+use schema_parts::keyword::{Answer, Mode, Reply, Step, Validate};
+use schema_parts::matcher::Matcher;
+use schema_parts::numbers::SchemaNode;
+use schema_reports::instance::Instance;
+use schema_reports::location::OutOfMemory;
+use std::alloc::Global;
+
+// The verdict of a keyword by its run. The run begins with no marks; those of the run that asks are set aside until it has ended. What the
+// answer is dropped in has room on the stack of its own, as this room is taken once for each level of an instance.
+#[cycle(verdict)]
+pub(crate) fn solver_answer<'i, K: Validate, M: Matcher>(
+    engine: &SolverEngine<'_, K, M>,
+    node: SchemaNode,
+    keyword: &NamedKeyword<'_, K>,
+    question: &Asked<'_, 'i>,
+    context: &mut SolverContext<'i>,
+) -> Result<bool, OutOfMemory>
+    requires may { MaySolve (solver_of K.words K.is_whole K.shape M.matching engine.now) context.old
+        (subject_of question.now.instance) (steps_to question.now.place.now) node.0 }
+    requires carries { CarriesItsNumber (solver_places context.old) question.now.place.now }
+    requires form { HasForm (numbered K.shape engine.now.nodes.now) node.0 (form_at_work K.shape keyword.now) }
+    ensures goes { IfOk result (λ _. Goes (solver_of K.words K.is_whole K.shape M.matching engine.now)
+        (steps_to question.now.place.now) context.old context.new) }
+    ensures marking { IfOk result (λ _. context.new.marking ≡ context.old.marking) }
+    ensures says { IfOk result (λ b. InEach (solver_of K.words K.is_whole K.shape M.matching engine.now) (view context.new.root)
+        (λ texts w. FormSays w (steps_to question.now.place.now) (found_of context.new) (form_at_work K.shape keyword.now) b)) }
+{
+    let mut run = begun_run(engine.alloc, keyword.keyword, question.instance)?;
+    let mut answer = begun(engine.alloc, Mode::Verdict)?;
+    let aside = context.set_aside(engine.alloc);
+    let turned = solver_turns(
+        engine,
+        node,
+        keyword,
+        question,
+        &mut run,
+        &mut answer,
+        context,
+    );
+    context.put_back(aside);
+    match turned {
+        Ok(_) => Ok(verdict_of(answer)),
+        Err(refused) => {
+            dropped(answer);
+            Err(refused)
+        }
+    }
+}
+
+// A run for the verdict that has begun. Its room on the stack is its own.
+#[inline(never)]
+fn begun_run<K: Validate>(
+    alloc: Global,
+    keyword: &K,
+    instance: Instance<'_>,
+) -> Result<K::Run, OutOfMemory>
+    ensures begins { IfOk result (λ run. (texts : Bool)
+        → (K.words texts).begin (K.shape keyword.now) (subject_of instance.entry) for_verdict ≡ (run, fresh for_verdict)) }
+{
+    keyword.begin(alloc, instance, Mode::Verdict)
+}
+
+// The verdict of an answer.
+fn verdict_of(answer: Answer<'_>) -> bool
+    ensures verdict { (texts : Bool) → result ≡ (answer_of texts answer.entry).verdict }
+{
+    match answer {
+        Answer::Verdict(valid) => valid,
+        other => other_verdict(other),
+    }
+}
+
+// That of an answer of another mode. Its room on the stack is its own.
+#[inline(never)]
+fn other_verdict(answer: Answer<'_>) -> bool
+    ensures verdict { (texts : Bool) → result ≡ (answer_of texts answer.entry).verdict }
+{
+    is_accepting(answer)
+}
+
+// Drops an answer. Its room on the stack is its own.
+#[inline(never)]
+fn dropped(answer: Answer<'_>) {
+    drop(answer);
+}
+
+// What a turn is told, as a reply.
+fn reply_with<'i>(told: Option<bool>) -> Reply<'i>
+    ensures told { (texts : Bool) → reply_of texts result ≡ told_reply told }
+{
+    match told {
+        None => Reply::Nothing,
+        Some(truth) => Reply::Truth(truth),
+    }
+}
+
+// The turns of a run that has begun, and its answer once they are done.
+#[cycle(verdict)]
+fn solver_turns<'i, K: Validate, M: Matcher>(
+    engine: &SolverEngine<'_, K, M>,
+    node: SchemaNode,
+    keyword: &NamedKeyword<'_, K>,
+    question: &Asked<'_, 'i>,
+    run: &mut K::Run,
+    answer: &mut Answer<'i>,
+    context: &mut SolverContext<'i>,
+) -> Result<(), OutOfMemory>
+    requires may { MaySolve (solver_of K.words K.is_whole K.shape M.matching engine.now) context.old
+        (subject_of question.now.instance) (steps_to question.now.place.now) node.0 }
+    requires carries { CarriesItsNumber (solver_places context.old) question.now.place.now }
+    requires form { HasForm (numbered K.shape engine.now.nodes.now) node.0 (form_at_work K.shape keyword.now) }
+    requires begun { HasBegun (solver_of K.words K.is_whole K.shape M.matching engine.now) (subject_of question.now.instance)
+        (K.shape keyword.now.keyword.now) run.old answer.old }
+    requires no_marks { context.old.marking ≡ [] }
+    ensures goes { IfOk result (λ _. Goes (solver_of K.words K.is_whole K.shape M.matching engine.now)
+        (steps_to question.now.place.now) context.old context.new) }
+    ensures says { IfOk result (λ _. InEach (solver_of K.words K.is_whole K.shape M.matching engine.now) (view context.new.root)
+        (λ texts w. FormSays w (steps_to question.now.place.now) (found_of context.new) (form_at_work K.shape keyword.now)
+        (answer_of texts answer.new).verdict)) }
+{
+    let children = keyword.children;
+    let mut told: Option<bool> = None;
+    'turns: loop {
+        let reply = reply_with(told);
+        let step = keyword
+            .keyword
+            .turn(engine.alloc, run, question.instance, reply, answer)?;
+        match step {
+            Step::Ask(child, below, wanted) => {
+                let valid = solve_child(engine, node, children, child, below, question, context)?;
+                told = Some(valid);
+            }
+            Step::Done => return Ok(()),
+            Step::Match(pattern, subject, located) => {
+                let matches = finished_match(engine, pattern, subject)?;
+                told = Some(matches);
+            }
+            Step::MatchAt(at, subject, below) => {
+                let pattern = at.pattern.as_str();
+                let matches = finished_match(engine, pattern, subject)?;
+                told = Some(matches);
+            }
+            Step::Ecma(text) => {
+                let valid = is_pattern(engine, text)?;
+                told = Some(valid);
+            }
+            Step::Mark(marked) => {
+                let held = context.enter_marking(children, marked)?;
+                told = Some(held);
+            }
+            Step::Unmark => {
+                context.exit_marking();
+                told = None;
+            }
+        }
+    }
+}
+
+// How a match comes out, of a matcher that finishes each. Its room on the stack is its own, so that a turn that asks for none pays nothing.
+#[inline(never)]
+fn finished_match<K, M: Matcher>(
+    engine: &SolverEngine<'_, K, M>,
+    pattern: &str,
+    subject: &str,
+) -> Result<bool, OutOfMemory>
+    requires finishes { FinishesEach (M.matching engine.now.matcher.now) }
+    ensures answer { IfOk result (λ b. (M.matching engine.now.matcher.now).is_match pattern.now subject.now ≡ finished b) }
+{
+    match engine.matcher.is_match(engine.alloc, pattern, subject)? {
+        Match::Finished(matches) => Ok(matches),
+        Match::Unfinished(_) => unreachable!(),
+    }
+}
+
+// Whether a text is a pattern of ECMA-262. Its room on the stack is its own too.
+#[inline(never)]
+fn is_pattern<K, M: Matcher>(
+    engine: &SolverEngine<'_, K, M>,
+    text: &str,
+) -> Result<bool, OutOfMemory>
+    ensures valid { IfOk result (λ b. b ≡ (M.matching engine.now.matcher.now).is_ecma text.now) }
+{
+    engine.matcher.is_valid_ecma_regex(engine.alloc, text)
+}

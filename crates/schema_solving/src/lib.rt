@@ -1,0 +1,3 @@
+//! The verdict of numbered nodes by a solver: a pair of a number and a place that is in progress or assumed is answered yes, one that was
+//! refused no. Where every keyword is monotone, what it answers is the greatest solution. Each function states laws, and does nothing.
+#![tactic(auto)]
