@@ -4,3 +4,5 @@ pub mod Askings
 pub mod AnswerModes
 pub mod ReplyModes
 pub mod NodeUnits
+pub mod NodeRuns
+pub mod Turning

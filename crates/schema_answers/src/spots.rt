@@ -3,7 +3,7 @@ ghost use Rattle.std.specs.Prelude.{◌≡◌, ◌++◌, IfOk, IfSome, MatchOpti
 ghost use Rattle.schema_definitions.specs.Instance.{after_step};
 ghost use Rattle.schema_reports.specs.InstanceViews.{step_of, subject_of};
 ghost use Rattle.schema_definitions.specs.Keywords.{down, here};
-ghost use Rattle.schema_definitions.specs.Laws.{IsPresent};
+ghost use Rattle.schema_definitions.specs.Laws.{IsPresent, steps_below};
 ghost use Rattle.schema_parts.specs.KeywordViews.{below_of};
 ghost use Rattle.schema_answers.specs.EvaluationPlaces.{steps_to};
 
@@ -37,6 +37,23 @@ pub fn after<'i>(
         InstanceStep::Member(name) => instance.member(name),
         InstanceStep::Item(index) => instance.item(index),
         InstanceStep::NameOf(name) => instance.name_of(name),
+    }
+}
+
+/// What stands one step below, and the step; none where the question is asked here.
+pub fn one_below<'i>(
+    instance: Instance<'i>,
+    below: Below<'_>,
+) -> Option<(Instance<'i>, InstanceStep<'i>)>
+    requires present { IsPresent (subject_of instance) (steps_below (below_of below)) }
+    ensures below { MatchOption result (below_of below.entry ≡ here)
+        (λ r. (below_of below.entry ≡ down (step_of r.1))
+        × (after_step (step_of r.1) (subject_of instance.entry) ≡ Some (subject_of r.0))) }
+{
+    let step = step_below(below)?;
+    match after(instance, step) {
+        Some(lower) => Some(lower),
+        None => unreachable!(),
     }
 }
 
